@@ -1,0 +1,46 @@
+//! The config that a table is opened with. It is handed to the table once and never changes.
+
+/// How many owners a port may have. The kernel's counterparts are `rhashtable` and `rhltable`.
+#[derive(Clone, Copy, Debug, PartialEq, Eq)]
+pub enum Kind {
+    /// At most one owner for each port.
+    Single,
+    /// A list of owners for each port; the owner that came last is the first.
+    Listed,
+}
+
+/// Which hash picks the bucket of a port.
+#[derive(Clone, Copy, Debug, PartialEq, Eq)]
+pub enum Hash {
+    /// The final mix of the kernel's `jhash` over port, net and the table's seed.
+    Mix,
+    /// The port itself, so that a script can choose the buckets.
+    Low,
+}
+
+/// What a table is opened with. The kernel's counterpart is `rhashtable_params`.
+#[derive(Clone, Copy, Debug, PartialEq, Eq)]
+pub struct Config {
+    /// How many owners a port may have.
+    pub kind: Kind,
+    /// The objects that can be bound at one time, from 1 to 65,536.
+    pub nodes: u32,
+    /// The pages of 64 words that buckets are kept in, from 4 to 4,096.
+    pub pages: u32,
+    /// The callers that can use the table at one time, from 1 to 16.
+    pub callers: u32,
+    /// The ports that are expected, from 1 to 65,536; 0 where nothing is said.
+    pub hint: u32,
+    /// The least size in buckets, a power of two from 4 to 65,536.
+    pub min: u32,
+    /// The greatest size in buckets, a power of two from 4 to 131,072; 0 where there is none.
+    pub max: u32,
+    /// The seed of the first table's hash.
+    pub seed: u32,
+    /// How often a look-up walks one bucket again, from 0 to 255.
+    pub rewalks: u32,
+    /// Which hash picks the bucket of a port.
+    pub hash: Hash,
+    /// Whether the table gets smaller when it is nearly empty.
+    pub shrink: bool,
+}
