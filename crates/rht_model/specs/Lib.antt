@@ -1,0 +1,12 @@
+-- what ports are bound to, as every claim speaks of it
+pub mod Multimap
+-- bindings as a list of pairs, and what `Bindings` keeps
+pub mod Listing
+-- how the flat vectors of `Bindings` stand for its pairs
+pub mod Heads
+-- what a call answers on bindings, and what it changes
+pub mod Answers
+-- which lists of entries are legal histories
+pub mod Histories
+-- what follows from the definitions alone
+pub mod Laws

@@ -1,0 +1,18 @@
+//! Calls, their replies, and the bindings that they speak of.
+//!
+//! Stands on `rht_words`. Every crate above names these types; what they mean is said here once,
+//! in terms that know no bucket, no chain and no table.
+//! Read `specs/Answers.antt` first, and `specs/Histories.antt` after it; `proofs/WorkedHistories.antt` has
+//! examples of both.
+#![tactic(auto)]
+
+mod bindings;
+mod history;
+pub mod laws;
+mod owners;
+#[cfg(test)]
+mod tests;
+
+pub use bindings::{Bindings, Closed};
+pub use history::{Call, Cursor, Entry, Reply};
+pub use owners::Owners;
