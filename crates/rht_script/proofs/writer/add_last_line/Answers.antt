@@ -1,0 +1,21 @@
+use Rattle.std.proofs.Common.{ap, codes}
+use Rattle.rht_script.specs.Text.{named}
+use Rattle.rht_script.proofs.AddedPieces.{Adds-then, Adds-same, Adds-longer, Adds-passed_on}
+use Rattle.rht_script.proofs.writer.add_last_line.Goals as goal
+
+pub returns-in_err-add_named : goal.returns-in_err-add_named
+returns-in_err-add_named g c =
+    let size = Adds-same c.in_err-add_named.ensures (ap (named (codes "size")) c.into.ensures) in
+    Adds-passed_on (Adds-longer _ (Adds-longer _ size)) c.from_residual.ensures.0
+
+pub returns-in_err-add_named-2 : goal.returns-in_err-add_named-2
+returns-in_err-add_named-2 g c =
+    let size = Adds-same c.in_ok-add_named.ensures (ap (named (codes "size")) c.into.ensures) in
+    let keys = Adds-same c.in_err-add_named-2.ensures (ap (named (codes " keys")) c.into-2.ensures) in
+    Adds-passed_on (Adds-longer _ (Adds-then size keys)) c.from_residual-in_err-add_named-2.ensures.0
+
+pub returns : goal.returns
+returns g c =
+    let size = Adds-same c.in_ok-add_named.ensures (ap (named (codes "size")) c.into.ensures) in
+    let keys = Adds-same c.in_ok-add_named-2.ensures (ap (named (codes " keys")) c.into-2.ensures) in
+    Adds-then (Adds-then size keys) c.end_line.ensures

@@ -1,0 +1,90 @@
+-- The text of replies and of last bindings, byte by byte. Every line ends with a line feed.
+use Rattle.std.specs.Prelude.{ℕ, Bool, ◌&&◌, ◌==◌, if◌then◌else◌, Option, None, Some, List, [], ◌++◌, codes, decimal}
+use Rattle.std.specs.List.{flat_map}
+use Rattle.rht_model.specs.declared.history.Cursor.{Cursor}
+use Rattle.rht_model.specs.declared.bindings.Closed.{Closed}
+use Rattle.rht_script.specs.declared.script.ScriptFault.{ScriptFault}
+use Rattle.rht_model.specs.declared.history.Reply.{Reply}
+use Rattle.rht_model.specs.declared.history.Reply.TheVariants.{Bound, Exists, Found, Missing, Listed, Released, Absent, Rebound, TooBig, Again, Busy, NoTable, NoNode, Pending, Elsewhere, Walked, Moved, Idle, Clear, Counted}
+
+-- a number after a space
+abbrev pub spaced : ℕ → List ℕ
+spaced number = codes " " ++ decimal number
+
+-- a name and its number
+abbrev pub named : List ℕ → ℕ → List ℕ
+named name number = name ++ spaced number
+
+-- each owner after a space
+abbrev pub owners_text : List ℕ → List ℕ
+owners_text owners = flat_map spaced owners
+
+-- a port and its first owner, after a space
+abbrev pub pair_text : ℕ × ℕ → List ℕ
+pair_text pair = spaced pair.0 ++ codes "=" ++ decimal pair.1
+
+-- a word that is there only in some cases
+abbrev pub only_if : Bool → List ℕ → List ℕ
+only_if case text = if case then text else []
+
+-- how a walk ends: with a cursor there is more
+abbrev pub walk_end : Option Cursor → List ℕ
+walk_end None = codes " end"
+walk_end (Some next) = codes " more"
+
+-- a reply without its worker; a kick is shown only where kicks are
+abbrev pub reply_text : Reply → List ℕ → List (ℕ × ℕ) → Bool → List ℕ
+reply_text (Bound kick) owners pairs kicks = codes "bound" ++ only_if (kick && kicks) (codes " kick")
+reply_text (Exists owner) owners pairs kicks = codes "exists" ++ spaced owner
+reply_text (Found owner) owners pairs kicks = codes "found" ++ spaced owner
+reply_text Missing owners pairs kicks = codes "missing"
+reply_text (Listed len) owners pairs kicks = codes "list" ++ owners_text owners
+reply_text (Released kick) owners pairs kicks = codes "released" ++ only_if (kick && kicks) (codes " kick")
+reply_text Absent owners pairs kicks = codes "absent"
+reply_text Rebound owners pairs kicks = codes "rebound"
+reply_text (TooBig count) owners pairs kicks = codes "toobig" ++ spaced count
+reply_text (Again table) owners pairs kicks = codes "walk again" ++ spaced table
+reply_text (Busy root last) owners pairs kicks = codes "busy" ++ spaced root ++ spaced last
+reply_text (NoTable size) owners pairs kicks = codes "notable" ++ spaced size
+reply_text NoNode owners pairs kicks = codes "nonode"
+reply_text (Pending caller section) owners pairs kicks = codes "pending" ++ spaced caller ++ spaced section
+reply_text Elsewhere owners pairs kicks = codes "elsewhere"
+reply_text (Walked len next) owners pairs kicks = codes "walk" ++ flat_map pair_text pairs ++ walk_end next
+reply_text (Moved again) owners pairs kicks = codes "moved" ++ only_if again (codes " again")
+reply_text Idle owners pairs kicks = codes "idle"
+reply_text (Clear returned) owners pairs kicks = codes "clear" ++ spaced returned
+reply_text (Counted count) owners pairs kicks = codes "count" ++ spaced count
+
+-- a reply line: the worker, and the reply
+abbrev pub reply_line : ℕ → Reply → List ℕ → List (ℕ × ℕ) → Bool → List ℕ
+reply_line worker reply owners pairs kicks =
+    decimal worker ++ codes ": " ++ reply_text reply owners pairs kicks ++ codes "\n"
+
+-- the line of a bound port: its owners, the first one first
+abbrev pub port_line : ℕ × List ℕ → List ℕ
+port_line pair = codes "port" ++ spaced pair.0 ++ codes ":" ++ owners_text pair.1 ++ codes "\n"
+
+-- the last line: the size in buckets, and the number of bound ports
+abbrev pub last_line : ℕ → ℕ → List ℕ
+last_line size keys = named (codes "size") size ++ named (codes " keys") keys ++ codes "\n"
+
+-- the lines of the last bindings: a line for each port, and the last line
+abbrev pub closed_text : Closed → List ℕ
+closed_text closed = flat_map port_line closed.bindings.pairs ++ last_line closed.size closed.keys
+
+-- what is wrong, by the number of the cause
+abbrev pub cause_text : ℕ → List ℕ
+cause_text cause =
+    if cause == 1 then codes "no table line"
+    else if cause == 2 then codes "unknown or missing word"
+    else if cause == 3 then codes "bad number"
+    else if cause == 4 then codes "number out of range"
+    else if cause == 5 then codes "too many lines"
+    else if cause == 6 then codes "line too long"
+    else if cause == 7 then codes "wrong kind of table"
+    else if cause == 8 then codes "options do not agree"
+    else codes "script too long"
+
+-- the line of a script's first fault
+abbrev pub fault_line : ScriptFault → List ℕ
+fault_line fault = named (codes "rht: line") fault.line ++ codes ": " ++ cause_text fault.cause ++ codes "\n"
