@@ -1,0 +1,26 @@
+-- Which bytes are read of an input: all of them, or one more than a script can have.
+use Rattle.std.specs.Prelude.{◌≡◌, ℕ, ◌+◌, ◌<◌, ◌≤◌, ◌⊎◌, ◌++◌, Bool, Option, List, [], length, MatchBool}
+use Rattle.std.specs.Io.KnownBytes.{Consumes, IsAtEnd}
+use Rattle.rht_io.specs.Told.{Rose}
+use Rattle.rht_script.specs.Grammar.{most_bytes}
+use Rattle.rht_cli.specs.declared.ending.Ending.{Ending}
+use Rattle.rht_cli.specs.declared.ending.Ending.TheVariants.{ReadFailed, Memory}
+
+-- These bytes were read: the whole input, or one byte more than the longest script has.
+pub record IsRead (left left_after : Option (List ℕ)) (bytes : List ℕ) : Type 0 where
+  pub taken : Consumes left left_after bytes
+  pub enough : (IsAtEnd left_after × (length bytes ≤ most_bytes)) ⊎ (length bytes ≡ most_bytes + 1)
+
+-- A piece of at most this length was read behind the other bytes; it is empty only at the end of the input.
+pub record IsMore (left left_after : Option (List ℕ)) (bytes bytes_after : List ℕ) (room : ℕ) (more : Bool) : Type 0 where
+  pub piece : List ℕ
+  pub taken : Consumes left left_after piece
+  pub behind : bytes_after ≡ bytes ++ piece
+  pub within : length piece ≤ room
+  pub ends : MatchBool more (0 < length piece) ((piece ≡ []) × IsAtEnd left_after)
+
+-- why reading stopped: the source's faults rose, or memory ran out
+abbrev pub IsReadFault : ℕ → ℕ → Ending → Type 0
+IsReadFault before after ReadFailed = Rose before after
+IsReadFault before after Memory = Unit {0}
+IsReadFault before after _ = ⊥

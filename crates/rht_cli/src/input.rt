@@ -1,0 +1,56 @@
+//! Reading the whole input, and no more of it than a script can have.
+
+ghost use Rattle.std.specs.Prelude.{◌≡◌, ◌<◌, ◌≤◌, ◌++◌, length, vec_len, IfOk, IfErr, MatchBool};
+ghost use Rattle.rht_cli.specs.Input.{IsRead, IsMore, IsReadFault};
+
+use crate::ending::Ending;
+use rht_io::Source;
+use rht_script::MOST_BYTES;
+use std::alloc::{AllocError, Global};
+
+/// How many bytes are asked of the source at one time.
+const PIECE: usize = 65_536;
+
+/// Reads the input to its end, or until it has one byte more than a script can have.
+pub fn read_all<S: Source>(alloc: Global, source: &mut S) -> Result<Vec<u8>, Ending>
+    ensures read { IfOk result (λ bytes. IsRead (S.left source.old) (S.left source.new) bytes.items) }
+    ensures fault { IfErr result (λ ending. IsReadFault (S.faults source.old) (S.faults source.new) ending) }
+{
+    let mut room = empty_room(alloc, PIECE)?;
+    let mut bytes = Vec::new(alloc);
+    while bytes.len() <= MOST_BYTES {
+        let wanted = PIECE.min(MOST_BYTES + 1 - bytes.len());
+        if !read_more(source, &mut room[..wanted], &mut bytes)? {
+            return Ok(bytes);
+        }
+    }
+    Ok(bytes)
+}
+
+/// Puts the next bytes behind the others, at most as many as have room. False at the end of the
+/// input.
+fn read_more<S: Source>(
+    source: &mut S,
+    room: &mut [u8],
+    bytes: &mut Vec<u8>,
+) -> Result<bool, Ending>
+    requires { 0 < length room.old }
+    ensures more { IfOk result (λ more. IsMore (S.left source.old) (S.left source.new) bytes.old.items bytes.new.items (length room.old) more) }
+    ensures fault { IfErr result (λ ending. IsReadFault (S.faults source.old) (S.faults source.new) ending) }
+    ensures kept { S.faults source.old ≤ S.faults source.new }
+{
+    match source.take(room) {
+        Err(_) => Err(Ending::ReadFailed),
+        Ok(count) => {
+            bytes.extend_from_slice(&room[..count])?;
+            Ok(count > 0)
+        }
+    }
+}
+
+/// Room for so many bytes.
+fn empty_room(alloc: Global, bytes: usize) -> Result<Vec<u8>, AllocError>
+    ensures { IfOk result (λ room. vec_len room ≡ bytes) }
+{
+    vec![in alloc; 0u8; bytes]
+}

@@ -1,0 +1,33 @@
+//! What follows for a run over a source and sinks that never fail.
+
+ghost use Rattle.std.specs.Prelude.{◌≡◌, ◌↔◌, ◌⊎◌, None, Some, List, ℕ, string_bytes, map};
+ghost use Rattle.rht_model.specs.declared.history.Call.{Call};
+ghost use Rattle.rht_script.specs.Grammar.{commands_in};
+ghost use Rattle.rht_cli.specs.Endings.{IsRun};
+
+use crate::program::run;
+use rht_io::{Gate, SureSink, SureSource};
+use std::alloc::Global;
+use std::sync::Wait;
+use std::thread::Threads;
+
+/// The status of a run on these bytes where nothing outside can fail: 0 for a script and 2 for
+/// other bytes, or 5 where memory ran out; and 1 where the words are no command form.
+pub fn complete<R: Threads + Wait + Sync, G: Gate + Sync>(
+    rt: &R,
+    alloc: Global,
+    words: &Vec<String>,
+    bytes: Vec<u8>,
+    gate: &G,
+) -> u8
+    ensures usage { (result ≡ 1) ↔ ¬ IsRun (map string_bytes words.now.items) }
+    ensures served { (commands : List (ℕ × Call)) → IsRun (map string_bytes words.now.items)
+        → commands_in bytes.items ≡ Some commands → (result ≡ 0) ⊎ (result ≡ 5) }
+    ensures refused { IsRun (map string_bytes words.now.items)
+        → commands_in bytes.items ≡ None → (result ≡ 2) ⊎ (result ≡ 5) }
+{
+    let mut source = SureSource::new(bytes);
+    let mut out = SureSink::new();
+    let mut err = SureSink::new();
+    run(rt, alloc, words, &mut source, &mut out, &mut err, gate)
+}

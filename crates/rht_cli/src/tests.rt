@@ -1,0 +1,177 @@
+//! What no clause says: that scripts are served at all, and the very bytes that are printed, by
+//! hand from the rules of the printed text.
+
+use crate::program::run;
+use rht_io::{MemSink, MemSource, NoGate};
+use std::alloc::Global;
+use std::process::Abort;
+use std::sync::Wait;
+use std::test::Fail;
+use std::thread::Threads;
+
+const USAGE: &str = "rht: usage: rht run | rht replay | rht gen NUMBER\n";
+
+const NO_SCRIPT: &str = "rht: line 0: unknown or missing word\n";
+
+/// Five lines of 64 bytes.
+const SCRIPT: &str = "table single\n1 bind 80 100\n1 find 80\n1 release 80 100\n1 find 80\n";
+
+/// How the outside behaves: how many bytes a take gives, and which take, put to `out` and put to
+/// `err` fails, counted from 1; 0 for none.
+#[derive(Clone, Copy)]
+struct Outside {
+    piece: usize,
+    take: u64,
+    put: u64,
+    err: u64,
+}
+
+/// What a run left.
+#[derive(Drop)]
+struct Left {
+    status: u8,
+    out: MemSink,
+    err: MemSink,
+}
+
+fn run_on<R: Threads + Wait + Sync>(
+    rt: &R,
+    alloc: Global,
+    words: &str,
+    script: &str,
+    outside: Outside,
+) -> Result<Left, Fail> {
+    let mut list = Vec::new(alloc);
+    for word in words.split_whitespace() {
+        list.push(String::from_str(alloc, word)?)?;
+    }
+    let bytes = script.as_bytes().to_vec(alloc)?;
+    let mut source = MemSource::new(bytes, outside.piece.max(1), vec![in alloc; outside.take]?);
+    let mut out = MemSink::new(alloc, 16_384, vec![in alloc; outside.put]?)?;
+    let mut err = MemSink::new(alloc, 4096, vec![in alloc; outside.err]?)?;
+    let status = run(rt, alloc, &list, &mut source, &mut out, &mut err, &NoGate);
+    Ok(Left { status, out, err })
+}
+
+fn assert_left(rt: &impl Abort, left: &Left, status: u8, out: &str, err: &str, case: &str) {
+    assert_eq!(rt; left.status, status, "{case}");
+    assert_eq!(rt; left.out.bytes(), out.as_bytes(), "{case}");
+    assert_eq!(rt; left.err.bytes(), err.as_bytes(), "{case}");
+}
+
+#[test]
+fn scripts_are_served_and_others_refused(rt: HostRuntime) -> Result<(), Fail> {
+    let cases = [
+        ("run", "table single\n", 0, "size 64 keys 0\n", ""),
+        (
+            "run",
+            SCRIPT,
+            0,
+            "1: bound\n1: found 100\n1: released\n1: missing\nsize 64 keys 0\n",
+            "",
+        ),
+        (
+            "run",
+            "table single\n1 bind 4294967295 8\n1 bind 0 7\n",
+            0,
+            "1: bound\n1: bound\nport 0: 7\nport 4294967295: 8\nsize 64 keys 2\n",
+            "",
+        ),
+        (
+            "run",
+            "table single\n1 bind 80 100\n1 bind 80 7\n1 release 80 7\n1 find 080\n",
+            0,
+            "1: bound\n1: exists 100\n1: absent\n1: found 100\nport 80: 100\nsize 64 keys 1\n",
+            "",
+        ),
+        ("run", "", 2, "", NO_SCRIPT),
+        ("run", "table single\n1 find 80", 2, "", NO_SCRIPT),
+        ("run", "table single\n1 find 4294967296\n", 2, "", NO_SCRIPT),
+        ("run x", "table single\n", 1, "", USAGE),
+        ("gen", "table single\n", 1, "", USAGE),
+        ("gen -1", "table single\n", 1, "", USAGE),
+        ("run --", "table single\n", 1, "", USAGE),
+        ("", "table single\n", 1, "", USAGE),
+    ];
+    for (words, script, status, out, err) in cases {
+        for piece in [1, 4096] {
+            let outside = Outside {
+                piece,
+                take: 0,
+                put: 0,
+                err: 0,
+            };
+            let left = run_on(&rt, rt.alloc(), words, script, outside)?;
+            assert_left(&rt, &left, status, out, err, script);
+        }
+    }
+    Ok(())
+}
+
+#[test]
+fn a_failed_take_leaves_nothing_written(rt: HostRuntime) -> Result<(), Fail> {
+    // Four takes of 16 bytes and one that finds the end.
+    for take in 1..=6 {
+        let outside = Outside {
+            piece: 16,
+            take,
+            put: 0,
+            err: 0,
+        };
+        let left = run_on(&rt, rt.alloc(), "run", SCRIPT, outside)?;
+        if take < 6 {
+            assert_left(&rt, &left, 3, "", "rht: read failed\n", "a take fails");
+        } else {
+            assert_eq!(rt; left.status, 0);
+        }
+    }
+    Ok(())
+}
+
+#[test]
+fn a_failed_put_leaves_a_prefix(rt: HostRuntime) -> Result<(), Fail> {
+    // 1,000 look-ups print 11 bytes each, and the last line has 15: three buffers of 4,096 bytes.
+    let mut script = String::from_str(rt.alloc(), "table single\n")?;
+    let mut text = String::new(rt.alloc());
+    for _ in 0..1000 {
+        script.push_str("1 find 80\n")?;
+        text.push_str("1: missing\n")?;
+    }
+    text.push_str("size 64 keys 0\n")?;
+    for put in 1..=4 {
+        let outside = Outside {
+            piece: 4096,
+            take: 0,
+            put,
+            err: 0,
+        };
+        let left = run_on(&rt, rt.alloc(), "run", script.as_str(), outside)?;
+        let (status, line) = if put < 4 {
+            (4, "rht: write failed\n")
+        } else {
+            (0, "")
+        };
+        assert_eq!(rt; left.status, status, "put {put}");
+        assert_eq!(rt; left.err.bytes(), line.as_bytes(), "put {put}");
+        let out = left.out.bytes();
+        assert!(rt; text.as_bytes().starts_with(out), "put {put}");
+        assert_eq!(rt; out.is_empty(), put == 1, "put {put}");
+        assert_eq!(rt; out.len() == text.len(), put == 4, "put {put}");
+    }
+    Ok(())
+}
+
+#[test]
+fn a_failing_err_changes_no_status(rt: HostRuntime) -> Result<(), Fail> {
+    for (words, script, status) in [("x", "", 1), ("run", "", 2)] {
+        let outside = Outside {
+            piece: 1,
+            take: 0,
+            put: 0,
+            err: 1,
+        };
+        let left = run_on(&rt, rt.alloc(), words, script, outside)?;
+        assert_left(&rt, &left, status, "", "", words);
+    }
+    Ok(())
+}
