@@ -1,5 +1,8 @@
 //! The config that a table is opened with. It is handed to the table once and never changes.
 
+use crate::geometry::Geometry;
+use crate::sizes::{is_greatest_size, is_least_size, starting_size};
+
 /// How many owners a port may have. The kernel's counterparts are `rhashtable` and `rhltable`.
 #[derive(Clone, Copy, Debug, PartialEq, Eq)]
 pub enum Kind {
@@ -43,4 +46,23 @@ pub struct Config {
     pub hash: Hash,
     /// Whether the table gets smaller when it is nearly empty.
     pub shrink: bool,
+}
+
+impl Config {
+    ghost use Rattle.std.specs.Prelude.{◌↔◌, IsTrue};
+    ghost use Rattle.rht_words.specs.Settled.{IsSettled};
+
+    /// Whether a table can be opened with the config: each number is within its limits, `min` and
+    /// `max` are rounded and agree, and the first table fits the pages.
+    pub fn is_settled(&self) -> bool
+        ensures { IsTrue result ↔ IsSettled self.now }
+    {
+        Geometry::new(self.nodes, self.pages, self.callers).is_some()
+            && self.hint <= 65_536
+            && is_least_size(self.min)
+            && is_greatest_size(self.max)
+            && (self.max == 0 || self.min <= self.max)
+            && self.rewalks <= 255
+            && starting_size(self.hint, self.min, self.max) <= 64 * self.pages
+    }
 }

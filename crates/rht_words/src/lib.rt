@@ -1,9 +1,33 @@
-//! What a table is configured by: the kind of its bindings, its hash and its sizes.
+//! The words of a table: its numbers, its config, where each word stands, what it says, and the
+//! operations on one word.
 //!
-//! Stands on nothing. Every other crate names these types, so they are plain data.
-//! Begin with `Config`.
+//! Stands on nothing. Every other crate stands on this one, so its types are plain data.
+//! Begin with `Config` and `Geometry`; then read `specs/Places.antt`, which is the layout, and
+//! `specs/Laws.antt`, which is what the other crates rely on.
 #![tactic(auto)]
 
 mod config;
+mod geometry;
+pub mod laws;
+mod links;
+mod op;
+pub mod places;
+mod port;
+mod shape;
+mod sizes;
+mod words;
 
 pub use config::{Config, Hash, Kind};
+pub use geometry::Geometry;
+pub use links::{
+    entry_of, future_of, head_of, is_locked, link_of, marker_of, node_of, page_of, plain_of,
+    slot_of, unlocked,
+};
+pub use op::Op;
+pub use port::{Port, port_of, word_of};
+pub use shape::Shape;
+pub use sizes::{rounded_down, rounded_up, starting_size};
+pub use words::apply;
+
+#[cfg(test)]
+mod tests;

@@ -1,0 +1,8 @@
+-- rounding gives the power of two that lies next
+pub mod Rounding
+-- the places of different things are different, and all are below the number of words
+pub mod PlacesApart
+-- the first table of a settled config has a size that tables may have
+pub mod StartingSizes
+-- an operation changes the word of its address alone
+pub mod WordChanges

@@ -1,0 +1,85 @@
+-- What follows from the definitions alone.
+use Rattle.std.specs.Prelude.{◌≡◌, ◌≢◌, ℕ, ◌%◌, ◌^◌, ◌<◌, ◌≤◌, List, length, Some, None}
+use Rattle.std.specs.Int.{IsPowerOfTwo}
+use Rattle.rht_words.specs.Ports.{word_of, port_of}
+use Rattle.rht_words.specs.Limits.{IsWithin}
+use Rattle.rht_words.specs.Sizes.{rounded_up, rounded_down, starting_size, IsLeastPower, IsGreatestPower}
+use Rattle.rht_words.specs.Settled.{IsSettled}
+use Rattle.rht_words.specs.Operations.{op_place, word_after, applied}
+use Rattle.rht_words.specs.Places.{Address, IsAddress, place_of, address_at, words_in, word_at}
+use Rattle.rht_words.specs.Links.{link_of, marker_of, node_of, unlocked, head_of, plain_of, future_of, slot_of, entry_of, page_of}
+use Rattle.rht_words.specs.Shapes.{packed, unpacked, IsPackable}
+use Rattle.rht_words.specs.declared.config.Config.{Config}
+use Rattle.rht_words.specs.declared.op.Op.{Op}
+use Rattle.rht_words.specs.declared.geometry.Geometry.{Geometry}
+use Rattle.rht_words.specs.declared.shape.Shape.{Shape}
+
+-- a port comes back from its key word
+abbrev pub PortsComeBack : Type 0
+PortsComeBack = (port : ℕ) → port < 2 ^ 32 → port_of (word_of port) ≡ port
+
+-- rounding gives the power of two that lies next, up or down
+pub record RoundsToNext : Type 0 where
+  pub up : (n : ℕ) → n ≤ 2 ^ 32 → IsLeastPower n (rounded_up n)
+  pub down : (n : ℕ) → 1 ≤ n → n < 2 ^ 32 → IsGreatestPower n (rounded_down n)
+
+-- the first table's size is a power of two from 4 to 131,072
+pub record StartsWithin (size : ℕ) : Type 0 where
+  pub power : IsPowerOfTwo size
+  pub within : IsWithin 4 131072 size
+
+-- each settled config has such a first table
+abbrev pub TablesStartWithin : Type 0
+TablesStartWithin = (config : Config) → IsSettled config → StartsWithin (starting_size config.hint config.min config.max)
+
+-- the places of different things are different, all are below the number of words, and no place is without a thing
+pub record PlacesStandApart (g : Geometry) : Type 0 where
+  pub apart : (a b : Address) → IsAddress g a → IsAddress g b → place_of g a ≡ place_of g b → a ≡ b
+  pub within : (a : Address) → IsAddress g a → place_of g a < words_in g
+  pub found : (a : Address) → IsAddress g a → address_at g (place_of g a) ≡ a
+  pub each : (place : ℕ) → place < words_in g → IsAddress g (address_at g place) × (place_of g (address_at g place) ≡ place)
+  pub few : words_in g ≤ 525656
+
+-- in no geometry do two things share a place
+abbrev pub PlacesNeverMeet : Type 0
+PlacesNeverMeet = (g : Geometry) → PlacesStandApart g
+
+-- the operation on the word of an address changes that word alone, and keeps the number of words
+pub record ChangesOneWord (g : Geometry) (words : List ℕ) (address : Address) (op : Op) : Type 0 where
+  pub count : length (applied words op) ≡ length words
+  pub changed : word_at g (applied words op) address ≡ word_after (word_at g words address) op
+  pub others : (other : Address) → IsAddress g other → other ≢ address → word_at g (applied words op) other ≡ word_at g words other
+
+-- each operation changes one word alone
+abbrev pub OperationsChangeOneWord : Type 0
+OperationsChangeOneWord =
+    (g : Geometry) (words : List ℕ) (address : Address) (op : Op)
+    → length words ≡ words_in g → IsAddress g address → op_place op ≡ place_of g address → ChangesOneWord g words address op
+
+-- a link names its node and a marker its place, and neither is taken for the other
+pub record LinksTellApart : Type 0 where
+  pub link_even : (node : ℕ) → link_of node % 2 ≡ 0
+  pub marker_odd : (place : ℕ) → marker_of place % 2 ≡ 1
+  pub never_meet : (node place : ℕ) → link_of node ≢ marker_of place
+  pub link_names : (nodes node : ℕ) → node < nodes → node_of nodes (link_of node) ≡ Some node
+  pub marker_names_no_node : (nodes place : ℕ) → node_of nodes (marker_of place) ≡ None
+  pub named_by_link : (nodes link node : ℕ) → node_of nodes link ≡ Some node → (link ≡ link_of node) × (node < nodes)
+  pub marker_names : (place other : ℕ) → place < 2 ^ 63 → other < 2 ^ 63 → marker_of place ≡ marker_of other → place ≡ other
+
+-- `plain_of` undoes `head_of`, but for the lock, and `head_of` undoes `plain_of`
+pub record HeadsComeBack : Type 0 where
+  pub plain_head : (place word : ℕ) → plain_of place (head_of place word) ≡ unlocked word
+  pub head_link : (place node : ℕ) → head_of place (plain_of place (link_of node)) ≡ link_of node
+  pub head_marker : (place : ℕ) → head_of place (plain_of place (marker_of place)) ≡ marker_of place
+
+-- a future word names its slot and an entry its page, and 0 names neither
+pub record EntriesComeBack : Type 0 where
+  pub future_names : (slot : ℕ) → slot < 8 → slot_of (future_of slot) ≡ Some slot
+  pub no_future : slot_of 0 ≡ None
+  pub entry_names : (pages page : ℕ) → page < pages → page_of pages (entry_of page) ≡ Some page
+  pub no_entry : (pages : ℕ) → page_of pages 0 ≡ None
+
+-- a shape comes back from its word, and a word from its shape
+pub record ShapesComeBack : Type 0 where
+  pub unpacked_packed : (shape : Shape) → IsPackable shape → unpacked (packed shape) ≡ shape
+  pub packed_unpacked : (word : ℕ) → word < 2 ^ 42 → packed (unpacked word) ≡ word

@@ -1,0 +1,18 @@
+-- a port, and the word that stands for it in a node
+pub mod Ports
+-- rounding to powers of two, and the size of the first table
+pub mod Sizes
+-- within which limits the numbers of a geometry lie
+pub mod Limits
+-- which configs a table can be opened with
+pub mod Settled
+-- the seven operations on one word
+pub mod Operations
+-- where each thing stands in the list of words
+pub mod Places
+-- what the links in words say, and what a bucket's word says
+pub mod Links
+-- how a table's shape is packed into a word
+pub mod Shapes
+-- what follows from the definitions alone
+pub mod Laws

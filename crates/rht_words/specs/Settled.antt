@@ -1,0 +1,15 @@
+-- Which configs a table can be opened with.
+use Rattle.std.specs.Prelude.{◌≢◌, ◌*◌, ◌≤◌}
+use Rattle.rht_words.specs.Limits.{IsGeometry}
+use Rattle.rht_words.specs.Sizes.{IsLeastSize, IsGreatestSize, starting_size}
+use Rattle.rht_words.specs.declared.config.Config.{Config}
+
+-- each number is within its limits, sizes are rounded and agree, and the first table fits the pages
+pub record IsSettled (config : Config) : Type 0 where
+  pub geometry : IsGeometry config.nodes config.pages config.callers
+  pub hint : config.hint ≤ 65536
+  pub least : IsLeastSize config.min
+  pub greatest : IsGreatestSize config.max
+  pub agree : config.max ≢ 0 → config.min ≤ config.max
+  pub rewalks : config.rewalks ≤ 255
+  pub starts : starting_size config.hint config.min config.max ≤ 64 * config.pages

@@ -1,0 +1,48 @@
+//! What follows from the definitions alone. Each function is empty, and its clause is the law.
+
+ghost use Rattle.rht_words.specs.Laws.{PortsComeBack, RoundsToNext, TablesStartWithin, PlacesNeverMeet, OperationsChangeOneWord, LinksTellApart, HeadsComeBack, EntriesComeBack, ShapesComeBack};
+
+/// A port comes back from its key word.
+pub fn ports_come_back()
+    ensures { PortsComeBack }
+{}
+
+/// Rounding gives the power of two that lies next.
+pub fn rounds_to_next()
+    ensures { RoundsToNext }
+{}
+
+/// The first table of a settled config has a size that tables may have.
+pub fn tables_start_within()
+    ensures { TablesStartWithin }
+{}
+
+/// The places of different things are different, and all are below the number of words.
+pub fn places_never_meet()
+    ensures { PlacesNeverMeet }
+{}
+
+/// An operation changes one word alone.
+pub fn operations_change_one_word()
+    ensures { OperationsChangeOneWord }
+{}
+
+/// A link names its node and a marker its place, and neither is taken for the other.
+pub fn links_tell_apart()
+    ensures { LinksTellApart }
+{}
+
+/// The word of a bucket and the first link of its chain come back from one another.
+pub fn heads_come_back()
+    ensures { HeadsComeBack }
+{}
+
+/// Future words and entries name a slot or a page.
+pub fn entries_come_back()
+    ensures { EntriesComeBack }
+{}
+
+/// A shape comes back from its word.
+pub fn shapes_come_back()
+    ensures { ShapesComeBack }
+{}

@@ -1,0 +1,368 @@
+//! Numbers worked out by hand from the layout and the formulas.
+
+use super::{
+    Config, Geometry, Hash, Kind, Op, Shape, apply, entry_of, future_of, head_of, is_locked,
+    link_of, marker_of, node_of, page_of, places, plain_of, port_of, rounded_down, rounded_up,
+    slot_of, starting_size, unlocked, word_of,
+};
+use std::test::Fail;
+
+#[test]
+fn a_geometry_is_within_its_limits(rt: HostRuntime) {
+    let cases = [
+        (1, 4, 1, true),
+        (65_536, 4_096, 16, true),
+        (0, 4, 1, false),
+        (65_537, 4, 1, false),
+        (1, 3, 1, false),
+        (1, 4_097, 1, false),
+        (1, 4, 0, false),
+        (1, 4, 17, false),
+    ];
+    for (nodes, pages, callers, want) in cases {
+        let geometry = Geometry::new(nodes, pages, callers);
+        assert_eq!(rt; geometry.is_some(), want, "at {nodes} {pages} {callers}");
+    }
+}
+
+#[test]
+fn places_of_the_smallest_geometry(rt: HostRuntime) -> Result<(), Fail> {
+    let g = Geometry::new(1, 4, 1).ok_or("within limits")?;
+    assert_eq!(rt; (g.nodes, g.pages, g.callers), (1, 4, 1));
+    assert_eq!(rt; (g.node_map_words(), g.page_map_words()), (1, 1));
+    assert_eq!(rt; (g.node_map(0), g.page_map(0)), (280, 281));
+    assert_eq!(rt;
+        (g.chain_link(0), g.key(0), g.owner(0), g.list_link(0)),
+        (282, 283, 284, 285)
+    );
+    assert_eq!(rt;
+        (g.page_word(0, 0), g.page_word(1, 5), g.page_word(3, 63)),
+        (286, 355, 541)
+    );
+    assert_eq!(rt; g.words(), 542);
+    Ok(())
+}
+
+#[test]
+fn places_of_the_greatest_geometry(rt: HostRuntime) -> Result<(), Fail> {
+    let g = Geometry::new(65_536, 4_096, 16).ok_or("within limits")?;
+    assert_eq!(rt; (g.node_map_words(), g.page_map_words()), (1_024, 64));
+    assert_eq!(rt;
+        (g.node_map(1_023), g.page_map(0), g.page_map(63)),
+        (1_303, 1_304, 1_367)
+    );
+    assert_eq!(rt; (g.chain_link(0), g.list_link(65_535)), (1_368, 263_511));
+    assert_eq!(rt;
+        (g.page_word(0, 0), g.page_word(4_095, 63)),
+        (263_512, 525_655)
+    );
+    assert_eq!(rt; g.words(), 525_656);
+    Ok(())
+}
+
+#[test]
+fn maps_take_a_word_for_each_64_bits_begun(rt: HostRuntime) -> Result<(), Fail> {
+    let cases = [
+        (64, 64, 1, 1, 282),
+        (65, 64, 2, 1, 283),
+        (128, 129, 2, 3, 285),
+    ];
+    for (nodes, pages, node_words, page_words, first_node) in cases {
+        let g = Geometry::new(nodes, pages, 1).ok_or("within limits")?;
+        assert_eq!(rt; g.node_map_words(), node_words, "at {nodes}");
+        assert_eq!(rt; g.page_map_words(), page_words, "at {pages}");
+        assert_eq!(rt; g.chain_link(0), first_node, "at {nodes} {pages}");
+    }
+    Ok(())
+}
+
+#[test]
+fn places_that_no_geometry_moves(rt: HostRuntime) {
+    assert_eq!(rt;
+        (
+            places::current_table(),
+            places::work_lock(),
+            places::port_count()
+        ),
+        (0, 1, 2)
+    );
+    assert_eq!(rt; (places::next_serial(), places::enrolled_callers()), (3, 4));
+    assert_eq!(rt; (places::section(0), places::section(15)), (8, 23));
+    assert_eq!(rt;
+        (places::shape(0), places::seed(0), places::future(0)),
+        (24, 25, 26)
+    );
+    assert_eq!(rt; (places::serial(0), places::state(0)), (27, 28));
+    assert_eq!(rt; (places::shape(7), places::future(7)), (248, 250));
+    assert_eq!(rt;
+        (places::loaded_section(0, 0), places::loaded_section(7, 15)),
+        (32, 271)
+    );
+}
+
+#[test]
+fn each_operation_answers_the_word_before(rt: HostRuntime) {
+    let top = 18_446_744_073_709_551_615;
+    let cases = [
+        (12, Op::Load { place: 1 }, 12),
+        (12, Op::Store { place: 1, value: 5 }, 5),
+        (
+            12,
+            Op::Exchange {
+                place: 1,
+                old: 12,
+                new: 5,
+            },
+            5,
+        ),
+        (
+            12,
+            Op::Exchange {
+                place: 1,
+                old: 11,
+                new: 5,
+            },
+            12,
+        ),
+        (12, Op::Add { place: 1, by: 3 }, 15),
+        (top, Op::Add { place: 1, by: 3 }, 2),
+        (12, Op::Sub { place: 1, by: 3 }, 9),
+        (2, Op::Sub { place: 1, by: 3 }, top),
+        (12, Op::Sub { place: 1, by: 0 }, 12),
+        (12, Op::And { place: 1, mask: 10 }, 8),
+        (12, Op::Or { place: 1, mask: 10 }, 14),
+    ];
+    for (before, op, after) in cases {
+        let mut words = [70, before, 90];
+        assert_eq!(rt; op.place(), 1, "at {op:?}");
+        assert_eq!(rt; apply(&mut words, op), before, "at {op:?}");
+        assert_eq!(rt; words, [70, after, 90], "at {op:?}");
+    }
+}
+
+#[test]
+fn links_name_nodes_and_markers_name_none(rt: HostRuntime) {
+    assert_eq!(rt; (link_of(0), link_of(1), link_of(65_535)), (2, 4, 131_072));
+    assert_eq!(rt;
+        (marker_of(0), marker_of(319), marker_of(525_655)),
+        (1, 639, 1_051_311)
+    );
+    let cases = [
+        (0, None),
+        (1, None),
+        (2, Some(0)),
+        (3, None),
+        (4, Some(1)),
+        (16, Some(7)),
+        (18, None),
+        (639, None),
+        (18_446_744_073_709_551_614, None),
+        (18_446_744_073_709_551_615, None),
+    ];
+    for (link, want) in cases {
+        assert_eq!(rt; node_of(8, link), want, "at {link}");
+    }
+}
+
+#[test]
+fn bucket_words_and_heads_come_back(rt: HostRuntime) {
+    // the word of the bucket at place 319, whether it is locked, the word without its lock, and
+    // the first link of the chain
+    let cases = [
+        (0, false, 0, 639),
+        (1, true, 0, 639),
+        (6, false, 6, 6),
+        (7, true, 6, 6),
+    ];
+    for (word, locked, plain, head) in cases {
+        assert_eq!(rt; is_locked(word), locked, "at {word}");
+        assert_eq!(rt; unlocked(word), plain, "at {word}");
+        assert_eq!(rt; head_of(319, word), head, "at {word}");
+        assert_eq!(rt; plain_of(319, head), plain, "at {word}");
+    }
+    assert_eq!(rt; plain_of(319, 641), 641);
+}
+
+#[test]
+fn futures_name_slots_and_entries_name_pages(rt: HostRuntime) {
+    assert_eq!(rt;
+        (future_of(0), future_of(7), entry_of(0), entry_of(4_095)),
+        (1, 8, 1, 4_096)
+    );
+    for (future, want) in [(0, None), (1, Some(0)), (8, Some(7)), (9, None)] {
+        assert_eq!(rt; slot_of(future), want, "at {future}");
+    }
+    for (entry, want) in [(0, None), (1, Some(0)), (4, Some(3)), (5, None)] {
+        assert_eq!(rt; page_of(4, entry), want, "at {entry}");
+    }
+}
+
+#[test]
+fn shapes_come_back_from_their_words(rt: HostRuntime) {
+    let cases = [
+        (2, 0, 0, 2, 4),
+        (6, 0, 0, 6, 64),
+        (7, 1, 5, 5_159, 128),
+        (17, 5, 4_095, 4_193_457, 131_072),
+    ];
+    for (exponent, nest, page, word, size) in cases {
+        let shape = Shape {
+            exponent,
+            nest,
+            page,
+        };
+        assert_eq!(rt; u64::from(shape), word);
+        assert_eq!(rt; Shape::from(word), shape, "at {word}");
+        assert_eq!(rt; shape.size(), size, "at {word}");
+    }
+    // exponents that no table has
+    assert_eq!(rt;
+        (Shape::from(0).size(), Shape::from(31).size()),
+        (4, 262_144)
+    );
+}
+
+#[test]
+fn ports_come_back_from_their_words(rt: HostRuntime) {
+    for port in [0, 1, 8_080, 4_294_967_295] {
+        assert_eq!(rt; port_of(word_of(port)), port);
+    }
+    assert_eq!(rt; word_of(8_080), 8_080);
+}
+
+#[test]
+fn numbers_round_to_powers_of_two(rt: HostRuntime) {
+    let cases = [
+        (0, 1, 0),
+        (1, 1, 1),
+        (2, 2, 2),
+        (3, 4, 2),
+        (4, 4, 4),
+        (5, 8, 4),
+        (127, 128, 64),
+        (128, 128, 128),
+        (129, 256, 128),
+        (65_535, 65_536, 32_768),
+        (65_537, 131_072, 65_536),
+        (2_147_483_648, 2_147_483_648, 2_147_483_648),
+    ];
+    for (number, up, down) in cases {
+        assert!(rt; number <= 2_147_483_648);
+        assert_eq!(rt; rounded_up(number), up, "at {number}");
+        assert_eq!(rt; rounded_down(number), down, "at {number}");
+    }
+    assert_eq!(rt; rounded_down(4_294_967_295), 2_147_483_648);
+}
+
+#[test]
+fn a_table_starts_so_large(rt: HostRuntime) {
+    // the hint, the least size, the greatest size, and the size
+    let cases = [
+        (0, 4, 0, 64),
+        (0, 64, 0, 64),
+        (0, 128, 0, 128),
+        (0, 4, 4, 4),
+        (0, 4, 32, 32),
+        (0, 4, 128, 64),
+        (1, 4, 0, 4),
+        (4, 4, 0, 8),
+        (96, 4, 0, 128),
+        (97, 4, 0, 256),
+        (192, 4, 0, 256),
+        (193, 4, 0, 512),
+        (300, 4, 0, 512),
+        (300, 1_024, 0, 1_024),
+        (300, 4, 256, 256),
+        (65_536, 4, 0, 131_072),
+        (65_536, 4, 65_536, 65_536),
+    ];
+    for (hint, least, greatest, want) in cases {
+        assert!(rt; hint <= 65_536);
+        let size = starting_size(hint, least, greatest);
+        assert_eq!(rt; size, want, "at {hint} {least} {greatest}");
+    }
+}
+
+const SMALLEST: Config = Config {
+    kind: Kind::Single,
+    nodes: 1,
+    pages: 4,
+    callers: 1,
+    hint: 0,
+    min: 4,
+    max: 0,
+    seed: 1,
+    rewalks: 8,
+    hash: Hash::Mix,
+    shrink: false,
+};
+
+#[test]
+fn configs_are_settled_within_their_limits(rt: HostRuntime) {
+    // nodes, pages, callers and repeated walks
+    let cases = [
+        (1, 4, 1, 0, true),
+        (65_536, 4_096, 16, 255, true),
+        (0, 4, 1, 0, false),
+        (65_537, 4, 1, 0, false),
+        (1, 3, 1, 0, false),
+        (1, 4_097, 1, 0, false),
+        (1, 4, 0, 0, false),
+        (1, 4, 17, 0, false),
+        (1, 4, 1, 256, false),
+    ];
+    for (nodes, pages, callers, rewalks, want) in cases {
+        let config = Config {
+            nodes,
+            pages,
+            callers,
+            rewalks,
+            ..SMALLEST
+        };
+        assert_eq!(rt; config.is_settled(), want, "at {config:?}");
+    }
+}
+
+#[test]
+fn configs_are_settled_with_rounded_sizes(rt: HostRuntime) {
+    // pages, the hint, the least size and the greatest size
+    let cases = [
+        (4, 0, 3, 0, false),
+        (4, 0, 4, 0, true),
+        (4, 0, 5, 0, false),
+        (4, 0, 2, 0, false),
+        (4, 0, 8, 0, true),
+        (1_024, 0, 65_536, 0, true),
+        (4_096, 0, 65_535, 0, false),
+        (4_096, 0, 131_072, 0, false),
+        (4, 0, 4, 2, false),
+        (4, 0, 4, 3, false),
+        (4, 0, 4, 4, true),
+        (4, 0, 4, 5, false),
+        (4, 0, 4, 131_072, true),
+        (4, 0, 4, 262_144, false),
+        (4, 0, 8, 8, true),
+        (4, 0, 8, 4, false),
+        (4, 1, 4, 0, true),
+        (4, 192, 4, 0, true),
+        (4, 193, 4, 0, false),
+        (7, 193, 4, 0, false),
+        (8, 193, 4, 0, true),
+        (4, 193, 4, 256, true),
+        (4, 0, 512, 0, false),
+        (2_047, 65_536, 4, 0, false),
+        (2_048, 65_536, 4, 0, true),
+        (4_096, 65_537, 4, 0, false),
+        (1_024, 65_536, 4, 65_536, true),
+    ];
+    for (pages, hint, min, max, want) in cases {
+        let config = Config {
+            pages,
+            hint,
+            min,
+            max,
+            ..SMALLEST
+        };
+        assert_eq!(rt; config.is_settled(), want, "at {config:?}");
+    }
+}
