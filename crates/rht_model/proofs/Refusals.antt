@@ -90,3 +90,12 @@ left_by-IsAnswered kind bindings entry answered =
 pub left_by-IsRefused : (kind : Kind) (bindings : Multimap) (entry : Entry) → IsRefused entry
     → left_by kind bindings entry ≡ bindings
 left_by-IsRefused kind bindings entry refused = rw (is_refusal-MayRefuse entry.call entry.reply refused.0) refl
+
+-- An answered entry is no refused one.
+pub IsAnswered-not_refused : (kind : Kind) (bindings : Multimap) (entry : Entry) → IsAnswered kind bindings entry
+    → IsRefused entry → ⊥
+IsAnswered-not_refused kind bindings entry answered refused =
+    let no_refusal = sym (ap answers_refusal answered) ∙ answers_refusal-answer_of kind bindings entry.call in
+    let answers : is_refusal entry.reply ≡ false = sym (is_refusal-without_kick entry.reply) ∙ no_refusal in
+    let refuses = is_refusal-MayRefuse entry.call entry.reply refused.0 in
+    cc

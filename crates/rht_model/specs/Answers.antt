@@ -93,6 +93,13 @@ is_refusal (Pending caller section) = true
 is_refusal Elsewhere = true
 is_refusal _ = false
 
+-- only these replies say that a call has changed bindings
+abbrev pub is_change : Reply → Bool
+is_change (Bound kick) = true
+is_change (Released kick) = true
+is_change Rebound = true
+is_change _ = false
+
 -- the refusals of a bind
 abbrev pub IsBindRefusal : Reply → Type 0
 IsBindRefusal (TooBig count) = Unit {0}

@@ -22,15 +22,19 @@ IsAnswered kind bindings entry =
 abbrev pub IsRefused : Entry → Type 0
 IsRefused entry = MayRefuse entry.call entry.reply × (entry.owners ≡ [])
 
+-- the entry is answered or refused on these bindings
+abbrev pub IsLegalAt : Kind → Multimap → Entry → Type 0
+IsLegalAt kind bindings entry = IsAnswered kind bindings entry ⊎ IsRefused entry
+
 -- the bindings that an entry leaves
 abbrev pub left_by : Kind → Multimap → Entry → Multimap
 left_by kind bindings entry = if is_refusal entry.reply then bindings else bindings_after kind bindings entry.call
 
--- from these bindings on, each entry is answered or refused where it stands
+-- from these bindings on, each entry is legal where it stands
 abbrev pub IsLegalFrom : Kind → Multimap → List Entry → Type 0
 IsLegalFrom kind bindings [] = Unit {0}
 IsLegalFrom kind bindings (entry ∷ history) =
-    (IsAnswered kind bindings entry ⊎ IsRefused entry) × IsLegalFrom kind (left_by kind bindings entry) history
+    IsLegalAt kind bindings entry × IsLegalFrom kind (left_by kind bindings entry) history
 
 -- a legal history begins with nothing bound
 abbrev pub IsLegal : Kind → List Entry → Type 0

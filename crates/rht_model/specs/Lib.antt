@@ -4,6 +4,8 @@ pub mod Multimap
 pub mod Listing
 -- how the flat vectors of `Bindings` stand for its pairs
 pub mod Heads
+-- bindings as a plain list of pairs, each a port and one owner
+pub mod Pairs
 -- what a call answers on bindings, and what it changes
 pub mod Answers
 -- which lists of entries are legal histories

@@ -4,6 +4,7 @@ ghost use Rattle.std.specs.Prelude.{◌≡◌, ◌+◌, ◌<◌, ◌≤◌, ◌�
 ghost use Rattle.rht_model.specs.Listing.{added, ports_of, owners_of};
 ghost use Rattle.rht_model.specs.Heads.{begun, first_start, last_port, IsInOrder};
 
+use rht_words::Port;
 use std::alloc::{AllocError, Global};
 use std::marker::Model;
 use std::ops::Range;
@@ -11,7 +12,7 @@ use std::ops::Range;
 /// The head of a pair: its port, and the place at which its owners begin.
 #[derive(Clone, Copy, Debug)]
 struct Head {
-    port: u32,
+    port: Port,
     start: usize,
 }
 
@@ -57,7 +58,7 @@ impl Bindings {
 
     /// One owner more: of the last pair where that has this port, and otherwise of a new pair.
     /// It takes no memory and can't be refused.
-    pub fn add(&mut self, port: u32, owner: u32)
+    pub fn add(&mut self, port: Port, owner: u32)
         requires { 0 < self.old.room }
         ensures pairs { self.new.pairs ≡ added self.old.pairs port owner }
         ensures room { self.new.room + 1 ≡ self.old.room }
@@ -82,7 +83,7 @@ impl Bindings {
     }
 
     /// The port of the pair at this place, counted from 0.
-    pub fn port(&self, i: usize) -> u32
+    pub fn port(&self, i: usize) -> Port
         requires { i < length self.now.pairs }
         ensures { slice_get (ports_of self.now.pairs) i ≡ Some result }
     {
@@ -100,7 +101,7 @@ impl Bindings {
 }
 
 /// Begins a pair at this place, unless the last one has the port.
-fn begin(heads: &mut Vec<Head>, port: u32, start: usize)
+fn begin(heads: &mut Vec<Head>, port: Port, start: usize)
     requires { vec_len heads.old < vec_capacity heads.old }
     ensures heads { heads.new.items ≡ begun heads.old.items port start }
     ensures len { vec_len heads.new ≤ vec_len heads.old + 1 }
@@ -112,7 +113,7 @@ fn begin(heads: &mut Vec<Head>, port: u32, start: usize)
 }
 
 /// The port of the last pair, if there is one.
-fn last_port(heads: &[Head]) -> Option<u32>
+fn last_port(heads: &[Head]) -> Option<Port>
     ensures { result ≡ last_port heads.now }
 {
     heads.last().map(|head| head.port)

@@ -1,6 +1,7 @@
 //! Calls, replies, and the entries of a history, as plain data.
 
 use crate::owners::Owners;
+use rht_words::Port;
 
 /// Where a walk goes on. The kernel's counterpart is `rhashtable_iter`.
 #[derive(Clone, Copy, Debug, PartialEq, Eq)]
@@ -16,15 +17,15 @@ pub struct Cursor {
 pub enum Call {
     /// Binds a port to an owner, as `rhashtable_lookup_insert_key` and `rhltable_insert_key` do.
     /// Where `once` is set, it is tried once alone and may answer `Again`.
-    Bind { port: u32, owner: u32, once: bool },
+    Bind { port: Port, owner: u32, once: bool },
     /// Looks a port up, as `rhashtable_lookup` does.
-    Find { port: u32 },
+    Find { port: Port },
     /// Lists all owners of a port, as `rhltable_lookup` does.
-    All { port: u32 },
+    All { port: Port },
     /// Takes one binding of a port to this owner out, as `rhashtable_remove_fast` does.
-    Release { port: u32, owner: u32 },
+    Release { port: Port, owner: u32 },
     /// Puts a new owner in the only one's place, as `rhashtable_replace_fast` does.
-    Rebind { port: u32, owner: u32, new: u32 },
+    Rebind { port: Port, owner: u32, new: u32 },
     /// Shows ports with their first owners, bucket by bucket, as `rhashtable_walk_next` does,
     /// until a bucket ends with `limit` of them shown.
     Walk { from: Option<Cursor>, limit: u32 },

@@ -9,10 +9,13 @@
 mod bindings;
 mod history;
 pub mod laws;
+mod legal;
 mod owners;
+mod pair_list;
 #[cfg(test)]
 mod tests;
 
 pub use bindings::{Bindings, Closed};
 pub use history::{Call, Cursor, Entry, Reply};
+pub use legal::is_legal;
 pub use owners::Owners;
