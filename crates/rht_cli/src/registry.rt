@@ -8,6 +8,7 @@ ghost use Rattle.rht_model.specs.Multimap.{with_owners};
 ghost use Rattle.rht_cli.specs.Pairs.{bindings_in, listed, IsRising, IsServed, IsPlace, IsFoundAt};
 
 use rht_model::{Bindings, Call, Closed, Reply};
+use rht_words::Port;
 use std::alloc::{AllocError, Global};
 use std::marker::Model;
 
@@ -17,7 +18,7 @@ const SIZE: u32 = 64;
 /// The ports that are bound, each with its one owner.
 #[derive(Drop)]
 pub struct Registry {
-    pairs: Vec<(u32, u32)>,
+    pairs: Vec<(Port, u32)>,
 }
 
 impl Model for Registry {
@@ -61,7 +62,7 @@ impl Registry {
         }
     }
 
-    fn bind(&mut self, port: u32, owner: u32) -> Result<Reply, AllocError>
+    fn bind(&mut self, port: Port, owner: u32) -> Result<Reply, AllocError>
         ensures reply { IfOk result (λ reply. reply ≡ bind_reply Single (bindings_in self.old port)) }
         ensures bindings { OnOk result (bindings_in self.new ≡ with_owners (bindings_in self.old) port (owners_bound Single owner (bindings_in self.old port))) }
         ensures length { length self.new ≤ length self.old + 1 }
@@ -77,7 +78,7 @@ impl Registry {
         }
     }
 
-    fn find(&self, port: u32) -> Reply
+    fn find(&self, port: Port) -> Reply
         ensures { result ≡ find_reply (bindings_in self.now port) }
     {
         match self.search(port).1 {
@@ -86,7 +87,7 @@ impl Registry {
         }
     }
 
-    fn release(&mut self, port: u32, owner: u32) -> Reply
+    fn release(&mut self, port: Port, owner: u32) -> Reply
         ensures reply { result ≡ release_reply owner (bindings_in self.old port) }
         ensures bindings { bindings_in self.new ≡ with_owners (bindings_in self.old) port (owners_released owner (bindings_in self.old port)) }
         ensures length { length self.new ≤ length self.old }
@@ -122,7 +123,7 @@ impl Registry {
     }
 
     /// The place of the port's pair, or where it would go, and the port's owner.
-    fn search(&self, port: u32) -> (usize, Option<u32>)
+    fn search(&self, port: Port) -> (usize, Option<u32>)
         ensures { IsFoundAt self.now port result.0 result.1 }
     {
         let place = place_of(&self.pairs, port);
@@ -131,7 +132,7 @@ impl Registry {
 }
 
 /// The first place from which on no port is lower.
-fn place_of(pairs: &[(u32, u32)], port: u32) -> usize
+fn place_of(pairs: &[(Port, u32)], port: Port) -> usize
     requires { IsRising pairs.now }
     ensures { IsPlace pairs.now port result }
 {
@@ -139,7 +140,7 @@ fn place_of(pairs: &[(u32, u32)], port: u32) -> usize
 }
 
 /// The owner of the port, where the pair at this place is the port's.
-fn owner_at(pairs: &[(u32, u32)], place: usize, port: u32) -> Option<u32>
+fn owner_at(pairs: &[(Port, u32)], place: usize, port: Port) -> Option<u32>
     requires rising { IsRising pairs.now }
     requires place { IsPlace pairs.now port place }
     ensures { IsFoundAt pairs.now port place result }

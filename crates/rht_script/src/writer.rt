@@ -16,6 +16,7 @@ pub use self::buffer::TextBuffer;
 use crate::script::ScriptFault;
 use rht_io::{Failed, Sink};
 use rht_model::{Bindings, Closed, Cursor, Reply};
+use rht_words::Port;
 
 /// Writes a reply line: the worker, counted from 1, and the reply with the list that comes beside
 /// it. A kick is shown only where `kicks` is set, as in a replay.
@@ -26,7 +27,7 @@ pub fn write_reply<O: Sink>(
     worker: u32,
     reply: Reply,
     owners: &[u32],
-    pairs: &[(u32, u32)],
+    pairs: &[(Port, u32)],
     kicks: bool,
 ) -> Result<(), Failed>
     ensures { Puts O.held O.faults out.old out.new result
@@ -45,7 +46,7 @@ pub fn add_reply<O: Sink>(
     worker: u32,
     reply: Reply,
     owners: &[u32],
-    pairs: &[(u32, u32)],
+    pairs: &[(Port, u32)],
     kicks: bool,
 ) -> Result<(), Failed>
     ensures { Adds O.held O.faults out.old out.new result text.old text.new
@@ -63,7 +64,7 @@ fn add_answer<O: Sink>(
     out: &mut O,
     reply: Reply,
     owners: &[u32],
-    pairs: &[(u32, u32)],
+    pairs: &[(Port, u32)],
     kicks: bool,
 ) -> Result<(), Failed>
     ensures { Adds O.held O.faults out.old out.new result text.old text.new
@@ -109,7 +110,7 @@ fn add_list<O: Sink>(text: &mut TextBuffer, out: &mut O, owners: &[u32]) -> Resu
 fn add_walk<O: Sink>(
     text: &mut TextBuffer,
     out: &mut O,
-    pairs: &[(u32, u32)],
+    pairs: &[(Port, u32)],
     next: Option<Cursor>,
 ) -> Result<(), Failed>
     ensures { Adds O.held O.faults out.old out.new result text.old text.new
@@ -160,7 +161,7 @@ fn add_ports<O: Sink>(text: &mut TextBuffer, out: &mut O, bindings: &Bindings) -
 fn add_port<O: Sink>(
     text: &mut TextBuffer,
     out: &mut O,
-    port: u32,
+    port: Port,
     owners: &[u32],
 ) -> Result<(), Failed>
     ensures { Adds O.held O.faults out.old out.new result text.old text.new
