@@ -6,3 +6,5 @@ pub mod PlacesApart
 pub mod StartingSizes
 -- an operation changes the word of its address alone
 pub mod WordChanges
+-- what links, bucket words and entries say comes back from the words that are made of it
+pub mod LinksRead
