@@ -70,15 +70,18 @@ fn each_reply_has_its_text(rt: HostRuntime) -> Result<(), Fail> {
 }
 
 #[test]
-fn empty_lists_leave_no_space(rt: HostRuntime) -> Result<(), Fail> {
-    let mut sink = MemSink::new(rt.alloc(), 64, Vec::new(rt.alloc()))?;
+fn short_lists_have_no_space_too_many(rt: HostRuntime) -> Result<(), Fail> {
+    let empty = Reply::Listed { len: 0 };
+    let one = Reply::Listed { len: 1 };
     let walked = Reply::Walked { len: 0, next: None };
-    assert_eq!(rt;
-        write_reply(&mut sink, 1, Reply::Listed { len: 0 }, &[], &[], false),
-        Ok(())
-    );
+    let mut sink = MemSink::new(rt.alloc(), 64, Vec::new(rt.alloc()))?;
+    assert_eq!(rt; write_reply(&mut sink, 1, empty, &[], &[], false), Ok(()));
+    assert_eq!(rt; write_reply(&mut sink, 1, one, &[2], &[], false), Ok(()));
     assert_eq!(rt; write_reply(&mut sink, 1, walked, &[], &[], false), Ok(()));
-    assert_eq!(rt; sink.bytes(), b"1: list\n1: walk end\n".as_slice());
+    assert_eq!(rt;
+        sink.bytes(),
+        b"1: list\n1: list 2\n1: walk end\n".as_slice()
+    );
     Ok(())
 }
 
