@@ -16,3 +16,5 @@ pub mod Links
 pub mod Shapes
 -- what follows from the definitions alone
 pub mod Laws
+-- the bits of the maps of nodes and pages
+pub mod Maps

@@ -1,8 +1,9 @@
 -- Which configs a table can be opened with.
-use Rattle.std.specs.Prelude.{◌≢◌, ◌*◌, ◌≤◌}
+use Rattle.std.specs.Prelude.{◌≡◌, ◌≢◌, ◌*◌, ◌≤◌}
 use Rattle.rht_words.specs.Limits.{IsGeometry}
 use Rattle.rht_words.specs.Sizes.{IsLeastSize, IsGreatestSize, starting_size}
 use Rattle.rht_words.specs.declared.config.Config.{Config}
+use Rattle.rht_words.specs.declared.geometry.Geometry.{Geometry}
 
 -- each number is within its limits, sizes are rounded and agree, and the first table fits the pages
 pub record IsSettled (config : Config) : Type 0 where
@@ -13,3 +14,9 @@ pub record IsSettled (config : Config) : Type 0 where
   pub agree : config.max ≢ 0 → config.min ≤ config.max
   pub rewalks : config.rewalks ≤ 255
   pub starts : starting_size config.hint config.min config.max ≤ 64 * config.pages
+
+-- the geometry has the config's numbers
+pub record IsGeometryOf (config : Config) (g : Geometry) : Type 0 where
+  pub nodes_same : g.nodes ≡ config.nodes
+  pub pages_same : g.pages ≡ config.pages
+  pub callers_same : g.callers ≡ config.callers

@@ -1,5 +1,6 @@
 -- How a table's shape is packed into a word.
 use Rattle.std.specs.Prelude.{ℕ, ◌+◌, ◌*◌, ◌/◌, ◌%◌, ◌^◌, ◌<◌, min, max}
+use Rattle.std.specs.Int.{trailing_zeros, w32}
 use Rattle.rht_words.specs.declared.shape.Shape.{Shape}
 
 -- the word of a shape
@@ -19,3 +20,7 @@ pub record IsPackable (shape : Shape) : Type 0 where
 -- how many buckets a table of this shape has, which is read as at least 4 and at most 2^18
 abbrev pub size_of : Shape → ℕ
 size_of shape = 2 ^ max 2 (min shape.exponent 18)
+
+-- the binary exponent of a size, which is a power of two
+abbrev pub exponent_of : ℕ → ℕ
+exponent_of size = trailing_zeros w32 size

@@ -7,9 +7,12 @@
 #![tactic(auto)]
 
 mod config;
+mod env;
 mod geometry;
 pub mod laws;
 mod links;
+mod machine;
+mod maps;
 mod op;
 pub mod places;
 mod port;
@@ -18,11 +21,14 @@ mod sizes;
 mod words;
 
 pub use config::{Config, Hash, Kind};
+pub use env::Env;
 pub use geometry::Geometry;
 pub use links::{
     entry_of, future_of, head_of, is_locked, link_of, marker_of, node_of, page_of, plain_of,
     slot_of, unlocked,
 };
+pub use machine::{Next, Start};
+pub use maps::{bit_of, bits_above, map_bits};
 pub use op::Op;
 pub use port::{Port, port_of, word_of};
 pub use shape::Shape;
