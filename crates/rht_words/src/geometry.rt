@@ -100,7 +100,8 @@ impl Geometry {
     /// A word of the node map. A node's bit is set where it is free.
     #[inline(always)]
     pub fn node_map(self, index: u32) -> usize
-        ensures { result ≡ place_of self (NodeMap index) }
+        ensures place { result ≡ place_of self (NodeMap index) }
+        ensures within { index < map_words self.nodes → result < words_in self }
     {
         280 + index as usize
     }
@@ -108,7 +109,8 @@ impl Geometry {
     /// A word of the page map. A page's bit is set where it is free.
     #[inline(always)]
     pub fn page_map(self, index: u32) -> usize
-        ensures { result ≡ place_of self (PageMap index) }
+        ensures place { result ≡ place_of self (PageMap index) }
+        ensures within { index < map_words self.pages → result < words_in self }
     {
         self.page_map_start() + index as usize
     }
@@ -125,7 +127,8 @@ impl Geometry {
     /// The link to the node behind this one in its bucket's chain.
     #[inline(always)]
     pub fn chain_link(self, node: u32) -> usize
-        ensures { result ≡ place_of self (Node node ChainLink) }
+        ensures place { result ≡ place_of self (Node node ChainLink) }
+        ensures within { node < self.nodes → result < words_in self }
     {
         self.node_start(node)
     }
@@ -133,7 +136,8 @@ impl Geometry {
     /// The key word of a node, which stands for its port.
     #[inline(always)]
     pub fn key(self, node: u32) -> usize
-        ensures { result ≡ place_of self (Node node KeyWord) }
+        ensures place { result ≡ place_of self (Node node KeyWord) }
+        ensures within { node < self.nodes → result < words_in self }
     {
         self.node_start(node) + 1
     }
@@ -141,7 +145,8 @@ impl Geometry {
     /// The owner to which a node binds its port.
     #[inline(always)]
     pub fn owner(self, node: u32) -> usize
-        ensures { result ≡ place_of self (Node node OwnerWord) }
+        ensures place { result ≡ place_of self (Node node OwnerWord) }
+        ensures within { node < self.nodes → result < words_in self }
     {
         self.node_start(node) + 2
     }
@@ -149,7 +154,8 @@ impl Geometry {
     /// The link to the next node of the same port in a table of lists; 0 at the list's end.
     #[inline(always)]
     pub fn list_link(self, node: u32) -> usize
-        ensures { result ≡ place_of self (Node node ListLink) }
+        ensures place { result ≡ place_of self (Node node ListLink) }
+        ensures within { node < self.nodes → result < words_in self }
     {
         self.node_start(node) + 3
     }
@@ -158,7 +164,8 @@ impl Geometry {
     /// the words from its first page on, also past that page's end.
     #[inline(always)]
     pub fn page_word(self, page: u32, index: u32) -> usize
-        ensures { result ≡ place_of self (PageWord (64 * page + index)) }
+        ensures place { result ≡ place_of self (PageWord (64 * page + index)) }
+        ensures within { 64 * page + index < 64 * self.pages → result < words_in self }
     {
         self.pages_start() + 64 * page as usize + index as usize
     }

@@ -1,8 +1,8 @@
 //! The places of the words that no geometry moves: the single words, the section words and the
 //! slots. The places of the maps, the nodes and the pages are methods of `Geometry`.
 
-ghost use Rattle.std.specs.Prelude.{◌≡◌};
-ghost use Rattle.rht_words.specs.Places.{CurrentTable, WorkLock, PortCount, NextSerial, EnrolledCallers, Section, Slot, ShapeWord, SeedWord, FutureWord, SerialWord, StateWord, LoadedSection, section_place, slot_place, place_of};
+ghost use Rattle.std.specs.Prelude.{◌≡◌, ◌<◌};
+ghost use Rattle.rht_words.specs.Places.{CurrentTable, WorkLock, PortCount, NextSerial, EnrolledCallers, Section, Slot, ShapeWord, SeedWord, FutureWord, SerialWord, StateWord, LoadedSection, section_place, slot_place, place_of, words_in};
 ghost use Rattle.rht_words.specs.declared.geometry.Geometry.{Geometry};
 
 /// The slot number of the current table.
@@ -10,6 +10,7 @@ ghost use Rattle.rht_words.specs.declared.geometry.Geometry.{Geometry};
 pub fn current_table() -> usize
     ensures place { result ≡ 0 }
     ensures named { (g : Geometry) → result ≡ place_of g CurrentTable }
+    ensures within { (g : Geometry) → result < words_in g }
 {
     0
 }
@@ -19,6 +20,7 @@ pub fn current_table() -> usize
 pub fn work_lock() -> usize
     ensures place { result ≡ 1 }
     ensures named { (g : Geometry) → result ≡ place_of g WorkLock }
+    ensures within { (g : Geometry) → result < words_in g }
 {
     1
 }
@@ -28,6 +30,7 @@ pub fn work_lock() -> usize
 pub fn port_count() -> usize
     ensures place { result ≡ 2 }
     ensures named { (g : Geometry) → result ≡ place_of g PortCount }
+    ensures within { (g : Geometry) → result < words_in g }
 {
     2
 }
@@ -37,6 +40,7 @@ pub fn port_count() -> usize
 pub fn next_serial() -> usize
     ensures place { result ≡ 3 }
     ensures named { (g : Geometry) → result ≡ place_of g NextSerial }
+    ensures within { (g : Geometry) → result < words_in g }
 {
     3
 }
@@ -46,6 +50,7 @@ pub fn next_serial() -> usize
 pub fn enrolled_callers() -> usize
     ensures place { result ≡ 4 }
     ensures named { (g : Geometry) → result ≡ place_of g EnrolledCallers }
+    ensures within { (g : Geometry) → result < words_in g }
 {
     4
 }
@@ -55,6 +60,7 @@ pub fn enrolled_callers() -> usize
 pub fn section(caller: u32) -> usize
     ensures place { result ≡ section_place caller }
     ensures named { (g : Geometry) → result ≡ place_of g (Section caller) }
+    ensures within { (g : Geometry) → caller < 16 → result < words_in g }
 {
     8 + caller as usize
 }
@@ -72,6 +78,7 @@ fn slot_start(slot: u32) -> usize
 pub fn shape(slot: u32) -> usize
     ensures place { result ≡ slot_place slot ShapeWord }
     ensures named { (g : Geometry) → result ≡ place_of g (Slot slot ShapeWord) }
+    ensures within { (g : Geometry) → slot < 8 → result < words_in g }
 {
     slot_start(slot)
 }
@@ -81,6 +88,7 @@ pub fn shape(slot: u32) -> usize
 pub fn seed(slot: u32) -> usize
     ensures place { result ≡ slot_place slot SeedWord }
     ensures named { (g : Geometry) → result ≡ place_of g (Slot slot SeedWord) }
+    ensures within { (g : Geometry) → slot < 8 → result < words_in g }
 {
     slot_start(slot) + 1
 }
@@ -90,6 +98,7 @@ pub fn seed(slot: u32) -> usize
 pub fn future(slot: u32) -> usize
     ensures place { result ≡ slot_place slot FutureWord }
     ensures named { (g : Geometry) → result ≡ place_of g (Slot slot FutureWord) }
+    ensures within { (g : Geometry) → slot < 8 → result < words_in g }
 {
     slot_start(slot) + 2
 }
@@ -99,6 +108,7 @@ pub fn future(slot: u32) -> usize
 pub fn serial(slot: u32) -> usize
     ensures place { result ≡ slot_place slot SerialWord }
     ensures named { (g : Geometry) → result ≡ place_of g (Slot slot SerialWord) }
+    ensures within { (g : Geometry) → slot < 8 → result < words_in g }
 {
     slot_start(slot) + 3
 }
@@ -108,6 +118,7 @@ pub fn serial(slot: u32) -> usize
 pub fn state(slot: u32) -> usize
     ensures place { result ≡ slot_place slot StateWord }
     ensures named { (g : Geometry) → result ≡ place_of g (Slot slot StateWord) }
+    ensures within { (g : Geometry) → slot < 8 → result < words_in g }
 {
     slot_start(slot) + 4
 }
@@ -117,6 +128,7 @@ pub fn state(slot: u32) -> usize
 pub fn loaded_section(slot: u32, caller: u32) -> usize
     ensures place { result ≡ slot_place slot (LoadedSection caller) }
     ensures named { (g : Geometry) → result ≡ place_of g (Slot slot (LoadedSection caller)) }
+    ensures within { (g : Geometry) → slot < 8 → caller < 16 → result < words_in g }
 {
     slot_start(slot) + 8 + caller as usize
 }

@@ -1,0 +1,64 @@
+-- How a free node is taken: what each state performs, and what comes after it.
+use Rattle.std.specs.Prelude.{ℕ, ◌+◌, ◌*◌, ◌<◌, ◌==◌, nat_lt, bit_and, Option, None, Some, if◌then◌else◌}
+use Rattle.std.specs.Int.{trailing_zeros, bit_at, bit_not, w64}
+use Rattle.rht_words.specs.declared.op.Op.{Op}
+use Rattle.rht_words.specs.declared.op.Op.TheVariants.{Load, And}
+use Rattle.rht_words.specs.declared.machine.Next.{Next}
+use Rattle.rht_words.specs.declared.machine.Next.TheVariants.{Go, Done}
+use Rattle.rht_words.specs.declared.geometry.Geometry.{Geometry}
+use Rattle.rht_words.specs.Maps.{map_bits, bit_of, bits_above}
+use Rattle.rht_words.specs.Places.{NodeMap, map_words, place_of}
+use Rattle.rht_arena.specs.declared.take_node.TakeNodeAt.{TakeNodeAt}
+use Rattle.rht_arena.specs.declared.take_node.TakeNodeAt.TheVariants.{MapWord, Claim}
+
+-- what contracts see of the machine
+pub record TakeNodeModel : Type 0 where
+  pub geometry : Geometry
+  pub at : TakeNodeAt
+
+-- it begins with the map's first word
+abbrev pub take_node_new : Geometry → TakeNodeModel
+take_node_new g = record { geometry = g; at = MapWord 0 }
+
+-- the state's one operation
+abbrev pub plan_at : Geometry → TakeNodeAt → Op
+plan_at g (MapWord index) = Load (place_of g (NodeMap index))
+plan_at g (Claim index bit) = And (place_of g (NodeMap index)) (bit_not w64 (bit_of bit))
+
+abbrev pub take_node_plan : TakeNodeModel → Op
+take_node_plan m = plan_at m.geometry m.at
+
+-- behind this word comes the next one; where there is none, no node was free
+abbrev pub next_word : TakeNodeModel → ℕ → TakeNodeModel × Next (Option ℕ)
+next_word m index =
+    if nat_lt (index + 1) (map_words m.geometry.nodes) then (record m { at = MapWord (index + 1) }, Go) else (m, Done None)
+
+-- the lowest node of this word whose bit is among these is claimed next; where there is none, the next word is looked at
+abbrev pub claim_among : TakeNodeModel → ℕ → ℕ → TakeNodeModel × Next (Option ℕ)
+claim_among m index free =
+    if free == 0 then next_word m index else (record m { at = Claim index (trailing_zeros w64 free) }, Go)
+
+-- those of the bits that stand for nodes
+abbrev pub node_bits : Geometry → ℕ → ℕ → ℕ
+node_bits g index word = bit_and word (map_bits g.nodes index)
+
+-- what comes after a state that found this value
+abbrev pub after_at : TakeNodeModel → TakeNodeAt → ℕ → TakeNodeModel × Next (Option ℕ)
+after_at m (MapWord index) word = claim_among m index (node_bits m.geometry index word)
+after_at m (Claim index bit) word =
+    if bit_at word bit == 1 then (m, Done (Some (64 * index + bit)))
+    else claim_among m index (node_bits m.geometry index (bit_and word (bits_above bit)))
+
+abbrev pub take_node_after : TakeNodeModel → ℕ → TakeNodeModel × Next (Option ℕ)
+take_node_after m old = after_at m m.at old
+
+-- the word of the map is one of those that there are, and the claimed node is one of the nodes
+abbrev pub IsInRange : Geometry → TakeNodeAt → Type 0
+IsInRange g (MapWord index) = index < map_words g.nodes
+IsInRange g (Claim index bit) = (bit < 64) × (64 * index + bit < g.nodes)
+
+-- a node that is answered is one of the nodes
+abbrev pub IsNodeIn : Geometry → Next (Option ℕ) → Type 0
+IsNodeIn g Go = Unit {0}
+IsNodeIn g (Done None) = Unit {0}
+IsNodeIn g (Done (Some node)) = node < g.nodes
