@@ -1,12 +1,12 @@
 -- How a free node is taken: what each state performs, and what comes after it.
 use Rattle.std.specs.Prelude.{ℕ, ◌+◌, ◌*◌, ◌<◌, ◌==◌, nat_lt, bit_and, Option, None, Some, if◌then◌else◌}
-use Rattle.std.specs.Int.{trailing_zeros, bit_at, bit_not, w64}
+use Rattle.std.specs.Int.{bit_at, bit_not, w64}
 use Rattle.rht_words.specs.declared.op.Op.{Op}
 use Rattle.rht_words.specs.declared.op.Op.TheVariants.{Load, And}
 use Rattle.rht_words.specs.declared.machine.Next.{Next}
 use Rattle.rht_words.specs.declared.machine.Next.TheVariants.{Go, Done}
 use Rattle.rht_words.specs.declared.geometry.Geometry.{Geometry}
-use Rattle.rht_words.specs.Maps.{map_bits, bit_of, bits_above}
+use Rattle.rht_words.specs.Maps.{bit_of, bits_above, lowest_free, IsBitIn}
 use Rattle.rht_words.specs.Places.{NodeMap, map_words, place_of}
 use Rattle.rht_arena.specs.declared.take_node.TakeNodeAt.{TakeNodeAt}
 use Rattle.rht_arena.specs.declared.take_node.TakeNodeAt.TheVariants.{MapWord, Claim}
@@ -33,21 +33,20 @@ abbrev pub next_word : TakeNodeModel → ℕ → TakeNodeModel × Next (Option �
 next_word m index =
     if nat_lt (index + 1) (map_words m.geometry.nodes) then (record m { at = MapWord (index + 1) }, Go) else (m, Done None)
 
--- the lowest node of this word whose bit is among these is claimed next; where there is none, the next word is looked at
-abbrev pub claim_among : TakeNodeModel → ℕ → ℕ → TakeNodeModel × Next (Option ℕ)
-claim_among m index free =
-    if free == 0 then next_word m index else (record m { at = Claim index (trailing_zeros w64 free) }, Go)
+-- the lowest node of the map's word that is free there is claimed; where there is none, the next word is looked at
+abbrev pub claim_in : TakeNodeModel → ℕ → Option ℕ → TakeNodeModel × Next (Option ℕ)
+claim_in m index None = next_word m index
+claim_in m index (Some bit) = (record m { at = Claim index bit }, Go)
 
--- those of the bits that stand for nodes
-abbrev pub node_bits : Geometry → ℕ → ℕ → ℕ
-node_bits g index word = bit_and word (map_bits g.nodes index)
+abbrev pub claim_among : TakeNodeModel → ℕ → ℕ → TakeNodeModel × Next (Option ℕ)
+claim_among m index word = claim_in m index (lowest_free m.geometry.nodes index word)
 
 -- what comes after a state that found this value
 abbrev pub after_at : TakeNodeModel → TakeNodeAt → ℕ → TakeNodeModel × Next (Option ℕ)
-after_at m (MapWord index) word = claim_among m index (node_bits m.geometry index word)
+after_at m (MapWord index) word = claim_among m index word
 after_at m (Claim index bit) word =
     if bit_at word bit == 1 then (m, Done (Some (64 * index + bit)))
-    else claim_among m index (node_bits m.geometry index (bit_and word (bits_above bit)))
+    else claim_among m index (bit_and word (bits_above bit))
 
 abbrev pub take_node_after : TakeNodeModel → ℕ → TakeNodeModel × Next (Option ℕ)
 take_node_after m old = after_at m m.at old
@@ -55,7 +54,7 @@ take_node_after m old = after_at m m.at old
 -- the word of the map is one of those that there are, and the claimed node is one of the nodes
 abbrev pub IsInRange : Geometry → TakeNodeAt → Type 0
 IsInRange g (MapWord index) = index < map_words g.nodes
-IsInRange g (Claim index bit) = (bit < 64) × (64 * index + bit < g.nodes)
+IsInRange g (Claim index bit) = IsBitIn g.nodes index bit
 
 -- a node that is answered is one of the nodes
 abbrev pub IsNodeIn : Geometry → Next (Option ℕ) → Type 0

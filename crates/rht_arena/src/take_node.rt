@@ -4,9 +4,9 @@
 ghost use Rattle.std.specs.Prelude.{◌≡◌, ◌<◌, IfSome};
 ghost use Rattle.rht_words.specs.Operations.{op_place};
 ghost use Rattle.rht_words.specs.Places.{words_in, map_words};
-ghost use Rattle.rht_arena.specs.TakeNode.{take_node_new, take_node_plan, take_node_after, claim_among, node_bits, IsNodeIn};
+ghost use Rattle.rht_arena.specs.TakeNode.{take_node_new, take_node_plan, take_node_after, claim_among, IsNodeIn};
 
-use rht_words::{Geometry, Next, Op, bit_of, bits_above, map_bits};
+use rht_words::{Geometry, Next, Op, bit_of, bits_above, lowest_free};
 use std::marker::Model;
 
 /// Where the taking of a node stands. Each state has one operation.
@@ -86,21 +86,19 @@ impl TakeNode {
     #[inline(always)]
     fn claim_among(&mut self, index: u32, word: u64) -> Next<Option<u32>>
         requires { index < map_words self.old.geometry.nodes }
-        ensures machine { self.new ≡ (claim_among self.old index (node_bits self.old.geometry index word)).0 }
-        ensures next { result ≡ (claim_among self.old index (node_bits self.old.geometry index word)).1 }
+        ensures machine { self.new ≡ (claim_among self.old index word).0 }
+        ensures next { result ≡ (claim_among self.old index word).1 }
     {
-        let free = word & map_bits(self.geometry.nodes, index);
-        if free != 0 {
-            self.at = TakeNodeAt::Claim {
-                index,
-                bit: free.trailing_zeros(),
-            };
-            Next::Go
-        } else if index + 1 < self.geometry.node_map_words() {
-            self.at = TakeNodeAt::MapWord { index: index + 1 };
-            Next::Go
-        } else {
-            Next::Done(None)
+        match lowest_free(self.geometry.nodes, index, word) {
+            Some(bit) => {
+                self.at = TakeNodeAt::Claim { index, bit };
+                Next::Go
+            }
+            None if index + 1 < self.geometry.node_map_words() => {
+                self.at = TakeNodeAt::MapWord { index: index + 1 };
+                Next::Go
+            }
+            None => Next::Done(None),
         }
     }
 }

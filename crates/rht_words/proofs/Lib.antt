@@ -8,3 +8,5 @@ pub mod StartingSizes
 pub mod WordChanges
 -- what links, bucket words and entries say comes back from the words that are made of it
 pub mod LinksRead
+-- the lowest set bit of a map's word stands for one of so many
+pub mod LowestBits

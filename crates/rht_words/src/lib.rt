@@ -28,7 +28,7 @@ pub use links::{
     slot_of, unlocked,
 };
 pub use machine::{Next, Start};
-pub use maps::{bit_of, bits_above, map_bits};
+pub use maps::{bit_of, bits_above, lowest_free, map_bits};
 pub use op::Op;
 pub use port::{Port, port_of, word_of};
 pub use shape::Shape;
