@@ -1,0 +1,19 @@
+//! A bucket's chain under its lock: taking the lock, walking the chain, changing one link, and
+//! letting go.
+//!
+//! Stands on `rht_words`. The machines that insert, remove and move hold these pieces in their
+//! states.
+//! Read `specs/Lock.antt` first, then `specs/LockedWalk.antt`.
+#![tactic(auto)]
+
+mod lock;
+mod locked;
+mod locked_walk;
+mod relink;
+mod unlock;
+
+pub use lock::{Lock, LockAt};
+pub use locked::{Locked, Then};
+pub use locked_walk::{LockedWalk, LockedWalkAt, Seen};
+pub use relink::{Relink, RelinkAt};
+pub use unlock::Unlock;

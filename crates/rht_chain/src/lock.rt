@@ -1,0 +1,86 @@
+//! Taking the lock of a bucket, which is the lowest bit of its word.
+
+ghost use Rattle.std.specs.Prelude.{◌≡◌};
+ghost use Rattle.rht_chain.specs.Lock.{lock_new, lock_plan, lock_after, IsLocking};
+
+use rht_words::{Next, Op, is_locked};
+use std::marker::Model;
+
+/// Where the taking of a lock stands. Each state has one operation.
+#[derive(Clone, Copy, Debug, PartialEq, Eq)]
+pub enum LockAt {
+    /// Loads the bucket's word, until it is found unlocked.
+    Word,
+    /// Locks the bucket, where its word is still the one that was found. Others may have changed
+    /// it or locked it meanwhile.
+    Exchange { word: u64 },
+}
+
+/// Takes the lock of a bucket. The answer is the word before, which is even. The kernel's
+/// counterpart is `rht_lock`.
+#[derive(Clone, Copy, Debug, PartialEq, Eq)]
+pub struct Lock {
+    place: usize,
+    at: LockAt,
+}
+
+impl Model for Lock {
+    ghost use Rattle.rht_chain.specs.Lock.{LockModel, IsEven};
+
+    ghost Value = { LockModel };
+
+    ghost view = { λ m. record { place = m.place; at = m.at } };
+
+    ghost inverse = { λ m. record { place = m.place; at = m.at } };
+
+    ghost invariant = { λ m. IsEven m.at };
+}
+
+impl Lock {
+    /// Before the word at this place is loaded.
+    #[inline(always)]
+    pub fn new(place: usize) -> Lock
+        ensures { result ≡ lock_new place }
+    {
+        Lock {
+            place,
+            at: LockAt::Word,
+        }
+    }
+
+    /// The next operation. It locks only a word that was found unlocked.
+    #[inline(always)]
+    pub fn plan(&self) -> Op
+        ensures plan { result ≡ lock_plan self.now }
+        ensures locks { IsLocking self.now.place result }
+    {
+        match self.at {
+            LockAt::Word => Op::Load { place: self.place },
+            LockAt::Exchange { word } => Op::Exchange {
+                place: self.place,
+                old: word,
+                new: word + 1,
+            },
+        }
+    }
+
+    /// Takes in the word's old value.
+    #[inline(always)]
+    pub fn take(&mut self, old: u64) -> Next<u64>
+        ensures machine { self.new ≡ (lock_after self.old old).0 }
+        ensures next { result ≡ (lock_after self.old old).1 }
+    {
+        match self.at {
+            LockAt::Word if is_locked(old) => Next::Go,
+            LockAt::Word => {
+                self.at = LockAt::Exchange { word: old };
+                Next::Go
+            }
+            LockAt::Exchange { word } if old == word => Next::Done(word),
+            LockAt::Exchange { .. } => {
+                self.at = LockAt::Word;
+                Next::Go
+            }
+        }
+    }
+}

@@ -1,0 +1,103 @@
+//! Giving the place before a node another link, and letting go of the lock.
+
+ghost use Rattle.std.specs.Prelude.{◌≡◌};
+ghost use Rattle.rht_chain.specs.LockedWalk.{IsNodeOrNone};
+ghost use Rattle.rht_chain.specs.Relink.{relink_new, relink_plan, relink_after, IsRelinkPlace};
+
+use rht_words::{Geometry, Next, Op, plain_of};
+use std::marker::Model;
+
+/// Where a change of one link stands. Each state has one operation.
+#[derive(Clone, Copy, Debug, PartialEq, Eq)]
+pub enum RelinkAt {
+    /// Stores the link into the node before. Look-ups see it from here on.
+    ChainLink { before: u32 },
+    /// Stores the bucket's word, which unlocks it. Where no node is before, look-ups see the link
+    /// from here on.
+    Word { word: u64 },
+}
+
+/// Gives the place before a node another link, in a locked bucket, and unlocks it. The kernel's
+/// counterparts are `rcu_assign_pointer` with `rht_unlock`, and `rht_assign_unlock`.
+#[derive(Clone, Copy, Debug, PartialEq, Eq)]
+pub struct Relink {
+    geometry: Geometry,
+    place: usize,
+    word: u64,
+    link: u64,
+    at: RelinkAt,
+}
+
+impl Model for Relink {
+    ghost use Rattle.rht_chain.specs.Relink.{RelinkModel, IsInRange};
+
+    ghost Value = { RelinkModel };
+
+    ghost view = { λ m. record { geometry = m.geometry; place = m.place; word = m.word; link = m.link; at = m.at } };
+
+    ghost inverse = { λ m. record { geometry = m.geometry; place = m.place; word = m.word; link = m.link; at = m.at } };
+
+    ghost invariant = { λ m. IsInRange m.geometry m.at };
+}
+
+impl Relink {
+    /// Before the first store, in the bucket whose word, at this place, was this one when it was
+    /// locked. With no node before, the link becomes the bucket's first.
+    #[inline(always)]
+    pub fn new(
+        geometry: Geometry,
+        place: usize,
+        word: u64,
+        before: Option<u32>,
+        link: u64,
+    ) -> Relink
+        requires { IsNodeOrNone geometry before }
+        ensures { result ≡ relink_new geometry place word before link }
+    {
+        Relink {
+            geometry,
+            place,
+            word,
+            link,
+            at: match before {
+                Some(before) => RelinkAt::ChainLink { before },
+                None => RelinkAt::Word {
+                    word: plain_of(place, link),
+                },
+            },
+        }
+    }
+
+    /// The next operation.
+    #[inline(always)]
+    pub fn plan(&self) -> Op
+        ensures plan { result ≡ relink_plan self.now }
+        ensures place { IsRelinkPlace self.now.geometry self.now.place result }
+    {
+        match self.at {
+            RelinkAt::ChainLink { before } => Op::Store {
+                place: self.geometry.chain_link(before),
+                value: self.link,
+            },
+            RelinkAt::Word { word } => Op::Store {
+                place: self.place,
+                value: word,
+            },
+        }
+    }
+
+    /// Whatever the word was before.
+    #[inline(always)]
+    pub fn take(&mut self, _old: u64) -> Next<()>
+        ensures machine { self.new ≡ (relink_after self.old).0 }
+        ensures next { result ≡ (relink_after self.old).1 }
+    {
+        match self.at {
+            RelinkAt::ChainLink { .. } => {
+                self.at = RelinkAt::Word { word: self.word };
+                Next::Go
+            }
+            RelinkAt::Word { .. } => Next::Done(()),
+        }
+    }
+}
