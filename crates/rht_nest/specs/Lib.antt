@@ -1,0 +1,2 @@
+-- where the word of a bucket is
+pub mod Place
