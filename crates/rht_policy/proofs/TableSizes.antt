@@ -4,24 +4,11 @@
 use Rattle.std.proofs.Common.{◌≡◌, ◌≢◌, ℕ, ◌*◌, ◌/◌, ◌≤◌, min, max, inl, inr, refl, ap, ◌∙◌, subst, arith}
 use Rattle.std.specs.Int.{IsPowerOfTwo}
 use Rattle.std.proofs.lemmas.Bool.{cases_lt, cases_eq, eq-eqb, ne_eqb}
-use Rattle.rht_words.specs.Shapes.{size_of}
-use Rattle.rht_words.specs.declared.shape.Shape.{Shape}
-use Rattle.rht_words.specs.Sizes.{rounded_up, starting_size, wished_size, cut_size, powers, IsLeastSize, IsGreatestSize}
+use Rattle.rht_words.specs.Sizes.{rounded_up, starting_size, wished_size, cut_size, powers, IsLeastSize, IsGreatestSize, IsSizeUpTo}
 use Rattle.rht_words.proofs.Rounding.{powers-rise, rounded_up-least, rounded_down-greatest}
-use Rattle.rht_policy.specs.Conditions.{IsSizeUpTo, IsSize}
 use Rattle.rht_policy.specs.Sizes.{shrunk_size}
 
 -- ---- sizes that callers have
-
--- what a shape is read as is a size
-pub IsSize-size_of : (shape : Shape) → IsSize (size_of shape)
-IsSize-size_of shape =
-    let exponent = max 2 (min shape.exponent 18) in
-    record {
-      power = (exponent, refl);
-      least = powers-rise 2 exponent (omega arith);
-      greatest = powers-rise exponent 18 (omega arith);
-    }
 
 pub IsSizeUpTo-least : (size : ℕ) → IsLeastSize size → IsSizeUpTo 65536 size
 IsSizeUpTo-least size least =

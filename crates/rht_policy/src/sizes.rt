@@ -1,7 +1,7 @@
 //! The size of a smaller table, the size of the first one, and how many ports a table may hold.
 
 ghost use Rattle.std.specs.Prelude.{◌≡◌, ◌≤◌, ◌^◌};
-ghost use Rattle.rht_policy.specs.Conditions.{IsSizeUpTo};
+ghost use Rattle.rht_words.specs.Sizes.{IsSizeUpTo};
 ghost use Rattle.rht_policy.specs.Sizes.{most_ports, shrunk_size};
 ghost use Rattle.rht_words.specs.Sizes.{IsLeastSize, IsGreatestSize, starting_size};
 

@@ -2,7 +2,7 @@
 //! from outside.
 
 ghost use Rattle.rht_words.specs.Sizes.{IsLeastSize, IsGreatestSize};
-ghost use Rattle.rht_policy.specs.Conditions.{IsSizeUpTo};
+ghost use Rattle.rht_words.specs.Sizes.{IsSizeUpTo};
 
 use super::*;
 use crate::mix::round;

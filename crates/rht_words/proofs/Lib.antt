@@ -10,3 +10,5 @@ pub mod WordChanges
 pub mod LinksRead
 -- the lowest set bit of a map's word stands for one of so many
 pub mod LowestBits
+-- what a shape is read as is a size
+pub mod ShapeSizes

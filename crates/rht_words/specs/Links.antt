@@ -1,6 +1,6 @@
 -- What the links in words say, and what a bucket's word says. Reading is total: a word that no run
 -- gives says nothing.
-use Rattle.std.specs.Prelude.{ℕ, ◌+◌, ◌-◌, ◌*◌, ◌/◌, ◌%◌, ◌^◌, ◌==◌, ◌&&◌, nat_lt, nat_le, Option, Some, None, if◌then◌else◌}
+use Rattle.std.specs.Prelude.{ℕ, ◌+◌, ◌-◌, ◌*◌, ◌/◌, ◌%◌, ◌^◌, ◌==◌, ◌&&◌, nat_lt, nat_le, min, Option, Some, None, if◌then◌else◌}
 
 -- the link to a node
 abbrev pub link_of : ℕ → ℕ
@@ -25,6 +25,10 @@ head_of place word = if unlocked word == 0 then marker_of place else unlocked wo
 -- the unlocked word of a bucket whose chain has this first link
 abbrev pub plain_of : ℕ → ℕ → ℕ
 plain_of place head = if head == marker_of place then 0 else head
+
+-- the slot that the word of the current table names
+abbrev pub table_of : ℕ → ℕ
+table_of word = min word 7
 
 -- the future word that leads to a slot, and the slot to which a future word leads
 abbrev pub future_of : ℕ → ℕ

@@ -16,6 +16,12 @@ rounded_up n = unwrap_or (find (λ power. nat_le n power) powers) 0
 abbrev pub rounded_down : ℕ → ℕ
 rounded_down n = rounded_up (n + 1) / 2
 
+-- a power of two from 4 to this bound
+pub record IsSizeUpTo (bound size : ℕ) : Type 0 where
+  pub power : IsPowerOfTwo size
+  pub least : 4 ≤ size
+  pub greatest : size ≤ bound
+
 -- the number can be the least size of a table, which is rounded up
 pub record IsLeastSize (number : ℕ) : Type 0 where
   pub within : IsWithin 4 65536 number

@@ -25,12 +25,12 @@ pub use env::Env;
 pub use geometry::Geometry;
 pub use links::{
     entry_of, future_of, head_of, is_locked, link_of, marker_of, node_of, page_of, plain_of,
-    slot_of, unlocked,
+    slot_of, table_of, unlocked,
 };
 pub use machine::{Next, Start};
 pub use maps::{bit_of, bits_above, lowest_free, map_bits};
 pub use op::Op;
-pub use port::{Port, port_of, word_of};
+pub use port::{Port, owner_of, port_of, word_of};
 pub use shape::Shape;
 pub use sizes::{rounded_down, rounded_up, starting_size};
 pub use words::apply;

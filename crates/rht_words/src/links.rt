@@ -2,8 +2,8 @@
 //! bucket, and the words that lead to a table or a page. Reading is total: a word that no run of
 //! the table gives leads nowhere.
 
-ghost use Rattle.std.specs.Prelude.{◌≡◌, ◌%◌, ◌↔◌, IsTrue};
-ghost use Rattle.rht_words.specs.Links.{link_of, marker_of, node_of, unlocked, head_of, plain_of, future_of, slot_of, entry_of, page_of};
+ghost use Rattle.std.specs.Prelude.{◌≡◌, ◌<◌, ◌%◌, ◌↔◌, IsTrue, IfSome};
+ghost use Rattle.rht_words.specs.Links.{link_of, marker_of, node_of, unlocked, head_of, plain_of, table_of, future_of, slot_of, entry_of, page_of};
 
 /// The link to a node, which is even and not 0. The kernel's links are addresses.
 #[inline(always)]
@@ -26,7 +26,8 @@ pub fn marker_of(place: usize) -> u64
 /// for a link to a node past the last.
 #[inline(always)]
 pub fn node_of(nodes: u32, link: u64) -> Option<u32>
-    ensures { result ≡ node_of nodes link }
+    ensures node { result ≡ node_of nodes link }
+    ensures within { IfSome result (λ node. node < nodes) }
 {
     if link % 2 != 0 || link < 2 {
         return None;
@@ -74,6 +75,16 @@ pub fn plain_of(place: usize, head: u64) -> u64
     if head == marker_of(place) { 0 } else { head }
 }
 
+/// The slot that the word of the current table names. A word past the eighth slot is read as the
+/// eighth.
+#[inline(always)]
+pub fn table_of(word: u64) -> u32
+    ensures table { result ≡ table_of word }
+    ensures slot { result < 8 }
+{
+    word.min(7) as u32
+}
+
 /// The future word that leads to the table in a slot.
 #[inline(always)]
 pub fn future_of(slot: u32) -> u64
@@ -85,7 +96,8 @@ pub fn future_of(slot: u32) -> u64
 /// The slot to which a future word leads. None for 0, and for a slot past the eighth.
 #[inline(always)]
 pub fn slot_of(future: u64) -> Option<u32>
-    ensures { result ≡ slot_of future }
+    ensures table { result ≡ slot_of future }
+    ensures slot { IfSome result (λ slot. slot < 8) }
 {
     if 1 <= future && future <= 8 {
         Some((future - 1) as u32)

@@ -1,6 +1,6 @@
 //! The shape of a table, and the one word into which it is packed.
 
-ghost use Rattle.std.specs.Prelude.{◌≡◌};
+ghost use Rattle.std.specs.Prelude.{◌≡◌, ◌^◌};
 
 /// What a slot says of its table, in one word.
 #[derive(Clone, Copy, Debug, PartialEq, Eq)]
@@ -16,12 +16,14 @@ pub struct Shape {
 
 impl Shape {
     ghost use Rattle.rht_words.specs.Shapes.{size_of};
+    ghost use Rattle.rht_words.specs.Sizes.{IsSizeUpTo};
 
     /// How many buckets the table has. An exponent that no table has is read as the nearest one
     /// from 2 to 18.
     #[inline(always)]
     pub fn size(self) -> u32
-        ensures { result ≡ size_of self }
+        ensures size { result ≡ size_of self }
+        ensures within { IsSizeUpTo (2 ^ 18) result }
     {
         1 << self.exponent.min(18).max(2)
     }

@@ -1,6 +1,6 @@
 -- The code rounds also where there are no ports, and the least size hides that.
 use Rattle.std.proofs.Common.{max, ap, ◌∙◌, sym, subst}
-use Rattle.rht_policy.specs.Conditions.{IsSizeUpTo}
+use Rattle.rht_words.specs.Sizes.{IsSizeUpTo}
 use Rattle.rht_policy.proofs.TableSizes.{rounded-shrunk_size, IsSizeUpTo-shrunk_size}
 use Rattle.rht_policy.proofs.sizes.shrunk.Goals as goal
 

@@ -1,6 +1,6 @@
 -- The size of the first table is one.
 use Rattle.std.proofs.Common.{sym, subst}
-use Rattle.rht_policy.specs.Conditions.{IsSizeUpTo}
+use Rattle.rht_words.specs.Sizes.{IsSizeUpTo}
 use Rattle.rht_policy.proofs.TableSizes.{IsSizeUpTo-starting_size}
 use Rattle.rht_policy.proofs.sizes.starting.Goals as goal
 
