@@ -69,14 +69,25 @@ impl TakeNode {
     /// Takes in the word's old value.
     #[inline(always)]
     pub fn take(&mut self, old: u64) -> Next<Option<u32>>
-        ensures machine { self.new ≡ (take_node_after self.old old).0 }
-        ensures next { result ≡ (take_node_after self.old old).1 }
+        ensures taken { (self.new, result) ≡ take_node_after self.old old }
         ensures node { IsNodeIn self.old.geometry result }
+    {
+        let (machine, next) = self.after(old);
+        *self = machine;
+        next
+    }
+
+    /// As `take`, but by value: for a machine that has this one in a state.
+    #[inline(always)]
+    pub fn after(self, old: u64) -> (TakeNode, Next<Option<u32>>)
+        ensures after { result ≡ take_node_after self old }
+        ensures geometry { result.0.geometry ≡ self.geometry }
+        ensures node { IsNodeIn self.geometry result.1 }
     {
         match self.at {
             TakeNodeAt::MapWord { index } => self.claim_among(index, old),
             TakeNodeAt::Claim { index, bit } if (old >> bit) % 2 == 1 => {
-                Next::Done(Some(64 * index + bit))
+                (self, Next::Done(Some(64 * index + bit)))
             }
             TakeNodeAt::Claim { index, bit } => self.claim_among(index, old & bits_above(bit)),
         }
@@ -84,21 +95,19 @@ impl TakeNode {
 
     /// Goes to the lowest node whose bit is set in this word, or else to the next word.
     #[inline(always)]
-    fn claim_among(&mut self, index: u32, word: u64) -> Next<Option<u32>>
-        requires { index < map_words self.old.geometry.nodes }
-        ensures machine { self.new ≡ (claim_among self.old index word).0 }
-        ensures next { result ≡ (claim_among self.old index word).1 }
+    fn claim_among(self, index: u32, word: u64) -> (TakeNode, Next<Option<u32>>)
+        requires { index < map_words self.geometry.nodes }
+        ensures after { result ≡ claim_among self index word }
+        ensures node { IsNodeIn self.geometry result.1 }
     {
-        match lowest_free(self.geometry.nodes, index, word) {
-            Some(bit) => {
-                self.at = TakeNodeAt::Claim { index, bit };
-                Next::Go
-            }
-            None if index + 1 < self.geometry.node_map_words() => {
-                self.at = TakeNodeAt::MapWord { index: index + 1 };
-                Next::Go
-            }
-            None => Next::Done(None),
+        let mut machine = self;
+        if let Some(bit) = lowest_free(machine.geometry.nodes, index, word) {
+            machine.at = TakeNodeAt::Claim { index, bit };
+        } else if index + 1 < machine.geometry.node_map_words() {
+            machine.at = TakeNodeAt::MapWord { index: index + 1 };
+        } else {
+            return (machine, Next::Done(None));
         }
+        (machine, Next::Go)
     }
 }

@@ -53,6 +53,10 @@ counted m = record m { length = one_more m.length }
 abbrev pub found_at : LockedWalkModel → ℕ → Seen
 found_at m node = record { found = Some node; before = m.before; length = m.length; end = link_of node }
 
+-- where the node has the key the walk ends, and else its link is loaded
+abbrev pub compared : LockedWalkModel → ℕ → ℕ → LockedWalkModel × Next Seen
+compared m node key = if key == m.key then (m, Done (found_at m node)) else (record m { at = at.ChainLink node }, Go)
+
 -- behind this node the walk goes on with the next one, where the link leads to one
 abbrev pub followed : LockedWalkModel → ℕ → ℕ → Option ℕ → LockedWalkModel × Next Seen
 followed m node link None = (record m { before = Some node }, Done (not_found (Some node) m.length link))
@@ -60,8 +64,7 @@ followed m node link (Some next) = (record m { before = Some node; at = at.Key n
 
 -- what comes after a state that found this word
 abbrev pub walk_after_at : LockedWalkModel → LockedWalkAt → ℕ → LockedWalkModel × Next Seen
-walk_after_at m (at.Key node) key =
-    if key == m.key then (counted m, Done (found_at (counted m) node)) else (record (counted m) { at = at.ChainLink node }, Go)
+walk_after_at m (at.Key node) key = compared (counted m) node key
 walk_after_at m (at.ChainLink node) link = followed m node link (node_of m.geometry.nodes link)
 
 abbrev pub locked_walk_after : LockedWalkModel → ℕ → LockedWalkModel × Next Seen

@@ -1,7 +1,7 @@
 //! Taking the lock of a bucket, which is the lowest bit of its word.
 
 ghost use Rattle.std.specs.Prelude.{◌≡◌};
-ghost use Rattle.rht_chain.specs.Lock.{lock_new, lock_plan, lock_after, IsLocking};
+ghost use Rattle.rht_chain.specs.Lock.{lock_new, lock_plan, lock_after, IsLocking, IsEven};
 
 use rht_words::{Next, Op, is_locked};
 use std::marker::Model;
@@ -48,6 +48,14 @@ impl Lock {
         }
     }
 
+    /// The place of the bucket's word.
+    #[inline(always)]
+    pub fn place(&self) -> usize
+        ensures { result ≡ self.now.place }
+    {
+        self.place
+    }
+
     /// The next operation. It locks only a word that was found unlocked.
     #[inline(always)]
     pub fn plan(&self) -> Op
@@ -67,20 +75,35 @@ impl Lock {
     /// Takes in the word's old value.
     #[inline(always)]
     pub fn take(&mut self, old: u64) -> Next<u64>
-        ensures machine { self.new ≡ (lock_after self.old old).0 }
-        ensures next { result ≡ (lock_after self.old old).1 }
+        ensures { (self.new, result) ≡ lock_after self.old old }
+    {
+        let (machine, next) = self.after(old);
+        *self = machine;
+        next
+    }
+
+    /// As `take`, but by value: for a machine that has this one in a state.
+    #[inline(always)]
+    pub fn after(self, old: u64) -> (Lock, Next<u64>)
+        ensures { result ≡ lock_after self old }
     {
         match self.at {
-            LockAt::Word if is_locked(old) => Next::Go,
-            LockAt::Word => {
-                self.at = LockAt::Exchange { word: old };
-                Next::Go
-            }
-            LockAt::Exchange { word } if old == word => Next::Done(word),
-            LockAt::Exchange { .. } => {
-                self.at = LockAt::Word;
-                Next::Go
-            }
+            LockAt::Word if is_locked(old) => (self, Next::Go),
+            LockAt::Word => (self.at(LockAt::Exchange { word: old }), Next::Go),
+            LockAt::Exchange { word } if old == word => (self, Next::Done(word)),
+            LockAt::Exchange { .. } => (self.at(LockAt::Word), Next::Go),
+        }
+    }
+
+    /// The machine in another state.
+    #[inline(always)]
+    fn at(self, at: LockAt) -> Lock
+        requires { IsEven at }
+        ensures { result ≡ record self { at = at } }
+    {
+        Lock {
+            place: self.place,
+            at,
         }
     }
 }

@@ -2,8 +2,9 @@
 
 ghost use Rattle.std.specs.Prelude.{◌≡◌, ◌<◌};
 ghost use Rattle.rht_words.specs.Operations.{op_place};
+ghost use Rattle.rht_words.specs.Links.{node_of};
 ghost use Rattle.rht_words.specs.Places.{words_in};
-ghost use Rattle.rht_chain.specs.LockedWalk.{locked_walk_new, locked_walk_plan, locked_walk_after, IsSeenIn, IsStartIn, IsNextIn, followed};
+ghost use Rattle.rht_chain.specs.LockedWalk.{locked_walk_new, locked_walk_plan, locked_walk_after, counted, compared, followed, IsStartIn, IsNextIn};
 
 use rht_words::{Geometry, Next, Op, Start, head_of, link_of, node_of};
 use std::marker::Model;
@@ -98,38 +99,68 @@ impl LockedWalk {
     /// Takes in the word's old value. A link that leads to no node ends the chain.
     #[inline(always)]
     pub fn take(&mut self, old: u64) -> Next<Seen>
-        ensures machine { self.new ≡ (locked_walk_after self.old old).0 }
-        ensures next { result ≡ (locked_walk_after self.old old).1 }
+        ensures taken { (self.new, result) ≡ locked_walk_after self.old old }
         ensures seen { IsNextIn self.old.geometry result }
     {
+        let (machine, next) = self.after(old);
+        *self = machine;
+        next
+    }
+
+    /// As `take`, but by value: for a machine that has this one in a state.
+    #[inline(always)]
+    pub fn after(self, old: u64) -> (LockedWalk, Next<Seen>)
+        ensures after { result ≡ locked_walk_after self old }
+        ensures geometry { result.0.geometry ≡ self.geometry }
+        ensures seen { IsNextIn self.geometry result.1 }
+    {
         match self.at {
-            LockedWalkAt::Key { node } => {
-                self.length = self.length.saturating_add(1);
-                if old == self.key {
-                    return Next::Done(Seen {
-                        found: Some(node),
-                        before: self.before,
-                        length: self.length,
-                        end: link_of(node),
-                    });
-                }
-                self.at = LockedWalkAt::ChainLink { node };
-            }
-            LockedWalkAt::ChainLink { node } => {
-                self.before = Some(node);
-                match node_of(self.geometry.nodes, old) {
-                    Some(next) => self.at = LockedWalkAt::Key { node: next },
-                    None => {
-                        return Next::Done(Seen {
-                            found: None,
-                            before: self.before,
-                            length: self.length,
-                            end: old,
-                        });
-                    }
-                }
-            }
+            LockedWalkAt::Key { node } => self.compared(node, old),
+            LockedWalkAt::ChainLink { node } => self.followed(node, old),
         }
-        Next::Go
+    }
+
+    /// After the key of a node was loaded.
+    #[inline(always)]
+    fn compared(self, node: u32, key: u64) -> (LockedWalk, Next<Seen>)
+        requires { node < self.geometry.nodes }
+        ensures after { result ≡ compared (counted self) node key }
+        ensures seen { IsNextIn self.geometry result.1 }
+    {
+        let mut walk = self;
+        walk.length = walk.length.saturating_add(1);
+        if key != walk.key {
+            walk.at = LockedWalkAt::ChainLink { node };
+            return (walk, Next::Go);
+        }
+        let seen = Seen {
+            found: Some(node),
+            before: walk.before,
+            length: walk.length,
+            end: link_of(node),
+        };
+        (walk, Next::Done(seen))
+    }
+
+    /// After the link behind a node was loaded.
+    #[inline(always)]
+    fn followed(self, node: u32, link: u64) -> (LockedWalk, Next<Seen>)
+        requires { node < self.geometry.nodes }
+        ensures after { result ≡ followed self node link (node_of self.geometry.nodes link) }
+        ensures seen { IsNextIn self.geometry result.1 }
+    {
+        let mut walk = self;
+        walk.before = Some(node);
+        if let Some(next) = node_of(walk.geometry.nodes, link) {
+            walk.at = LockedWalkAt::Key { node: next };
+            return (walk, Next::Go);
+        }
+        let seen = Seen {
+            found: None,
+            before: walk.before,
+            length: walk.length,
+            end: link,
+        };
+        (walk, Next::Done(seen))
     }
 }

@@ -89,15 +89,26 @@ impl Relink {
     /// Whatever the word was before.
     #[inline(always)]
     pub fn take(&mut self, _old: u64) -> Next<()>
-        ensures machine { self.new ≡ (relink_after self.old).0 }
-        ensures next { result ≡ (relink_after self.old).1 }
+        ensures { (self.new, result) ≡ relink_after self.old }
+    {
+        let (machine, next) = self.after();
+        *self = machine;
+        next
+    }
+
+    /// As `take`, but by value: for a machine that has this one in a state.
+    #[inline(always)]
+    pub fn after(self) -> (Relink, Next<()>)
+        ensures after { result ≡ relink_after self }
+        ensures same { (result.0.geometry ≡ self.geometry) × (result.0.place ≡ self.place) }
     {
         match self.at {
             RelinkAt::ChainLink { .. } => {
-                self.at = RelinkAt::Word { word: self.word };
-                Next::Go
+                let mut relink = self;
+                relink.at = RelinkAt::Word { word: self.word };
+                (relink, Next::Go)
             }
-            RelinkAt::Word { .. } => Next::Done(()),
+            RelinkAt::Word { .. } => (self, Next::Done(())),
         }
     }
 }

@@ -1,5 +1,6 @@
 -- The mix of three words of 32 bits: seven rounds, each of which changes one word by another.
 use Rattle.std.specs.Prelude.{ℕ, ◌+◌, ◌-◌, ◌*◌, ◌/◌, ◌%◌, ◌^◌, bit_xor}
+use Rattle.rht_words.specs.Shapes.{size_of, unpacked}
 
 -- the difference of two words, which wraps
 abbrev pub wrapping_difference : ℕ → ℕ → ℕ
@@ -23,3 +24,7 @@ final_mix a b c =
     let a2 = after_round a1 c2 4 in
     let b2 = after_round b1 a2 14 in
     after_round c2 b2 24
+
+-- the bucket of a port in a table whose slot has these words for its shape and its seed
+abbrev pub bucket_of : (ℕ → ℕ → ℕ → ℕ) → ℕ → ℕ → ℕ → ℕ
+bucket_of mix port shape seed = mix port 0 (seed % 2 ^ 32) % size_of (unpacked shape)

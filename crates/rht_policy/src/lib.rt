@@ -9,7 +9,7 @@ mod mix;
 mod sizes;
 mod thresholds;
 
-pub use mix::{Lookup3, Low, Mix, hash_of};
+pub use mix::{Lookup3, Low, Mix, bucket_of, hash_of};
 pub use sizes::{max_elems, shrunk, starting};
 pub use thresholds::{above_75, above_100, above_max, below_30};
 

@@ -1,9 +1,9 @@
 //! The mixes of a port, a net and a seed, of which a hash is made.
 
 ghost use Rattle.std.specs.Prelude.{◌≡◌, ℕ, ◌<◌};
-ghost use Rattle.rht_policy.specs.Mix.{after_round, final_mix};
+ghost use Rattle.rht_policy.specs.Mix.{after_round, final_mix, bucket_of};
 
-use rht_words::Port;
+use rht_words::{Port, Shape};
 
 /// A way to mix three numbers into one. Its meaning is `mix_of`, a function of the three.
 pub trait Mix {
@@ -65,4 +65,13 @@ pub fn hash_of<M: Mix>(port: Port, seed: u32) -> u32
     ensures { result ≡ M.mix_of port 0 seed }
 {
     M::mix(port, 0, seed)
+}
+
+/// The bucket of a port in a table whose slot has these words for its shape and its seed. Any
+/// words give one of the table's buckets. The kernel's counterpart is `rht_bucket_index`.
+#[inline(always)]
+pub fn bucket_of<M: Mix>(port: Port, shape: u64, seed: u64) -> u32
+    ensures { result ≡ bucket_of M.mix_of port shape seed }
+{
+    hash_of::<M>(port, (seed % (1 << 32)) as u32) % Shape::from(shape).size()
 }

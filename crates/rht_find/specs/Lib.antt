@@ -1,0 +1,2 @@
+-- the look-up, state by state
+pub mod Find

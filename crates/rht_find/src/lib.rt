@@ -1,0 +1,10 @@
+//! Looking a port up. A look-up still takes the lock of the port's bucket.
+//!
+//! Stands on `rht_words`, `rht_policy`, `rht_model`, and the pieces of `rht_nest` and `rht_chain`.
+//! `rht_core` runs this machine among the others.
+//! Read `specs/Find.antt` first: it is the machine as a table.
+#![tactic(auto)]
+
+mod find;
+
+pub use find::{Find, FindAt};
