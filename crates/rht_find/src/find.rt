@@ -142,8 +142,7 @@ impl<M: Mix> Find<M> {
     /// Takes in the word's old value.
     #[inline(always)]
     pub fn take(&mut self, old: u64) -> Next<Reply>
-        ensures machine { self.new ≡ (find_after M.mix_of self.old old).0 }
-        ensures next { result ≡ (find_after M.mix_of self.old old).1 }
+        ensures { (self.new, result) ≡ find_after M.mix_of self.old old }
     {
         let (at, next) = after::<M>(self.env, self.port, &self.at, old);
         self.at = at;

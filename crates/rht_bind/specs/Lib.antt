@@ -1,0 +1,2 @@
+-- the insertion, state by state
+pub mod Bind

@@ -1,0 +1,10 @@
+//! Binding a port to an owner, in a table of one owner for each port.
+//!
+//! Stands on `rht_words`, `rht_policy`, `rht_model`, and the pieces of `rht_arena`, `rht_nest` and
+//! `rht_chain`. `rht_core` runs this machine among the others.
+//! Read `specs/Bind.antt` first: it is the machine as a table.
+#![tactic(auto)]
+
+mod bind;
+
+pub use bind::{Bind, BindAt, Claimed};
