@@ -1,0 +1,2 @@
+-- what a caller is doing
+pub mod Locals
