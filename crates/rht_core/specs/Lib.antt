@@ -1,2 +1,8 @@
 -- what a caller is doing
 pub mod Locals
+-- what events make of words and callers
+pub mod Runs
+-- each call's operations, with the numbers of their events
+pub mod Traces
+-- what the words stand for
+pub mod StandsFor

@@ -8,7 +8,9 @@
 mod book;
 mod event;
 mod local;
+mod state;
 
 pub use book::{Book, Finished};
 pub use event::{Event, Stepped};
 pub use local::Local;
+pub use state::State;

@@ -1,0 +1,195 @@
+-- A run: the words, what each caller is doing, and what is known of its calls, from the opening on by a list of events.
+use Rattle.std.specs.Prelude.{◌≡◌, ℕ, ◌+◌, ◌^◌, ◌<◌, ◌≤◌, ◌==◌, ◌&&◌, nat_lt, max, if◌then◌else◌, Bool, Option, Some, None, List, [], ◌∷◌, ◌++◌, length, replicate, slice_index_or, slice_set}
+use Rattle.std.specs.List.{AllByRecursion}
+use Rattle.rht_words.specs.declared.op.Op.{Op}
+use Rattle.rht_words.specs.declared.op.Op.TheVariants.{Add}
+use Rattle.rht_words.specs.declared.env.Env.{Env}
+use Rattle.rht_words.specs.Operations.{old_of, applied}
+use Rattle.rht_words.specs.Places.{EnrolledCallers, place_of, words_in}
+use Rattle.rht_words.specs.Opening.{opening_words}
+use Rattle.rht_words.specs.declared.config.Kind.{Kind}
+use Rattle.rht_words.specs.declared.config.Kind.TheVariants.{Listed}
+use Rattle.rht_model.specs.declared.history.Call.{Call}
+use Rattle.rht_model.specs.declared.history.Call.TheVariants.{Bind, Find, All, Release, Rebind, Walk}
+use Rattle.rht_model.specs.declared.history.Reply.{Reply}
+use Rattle.rht_core.specs.declared.event.Event.{Event}
+use Rattle.rht_core.specs.declared.event.Event.TheVariants.{Enroll, Begin, Step}
+use Rattle.rht_core.specs.declared.event.Stepped.{Stepped}
+use Rattle.rht_core.specs.declared.book.Finished.{Finished}
+use Rattle.rht_core.specs.declared.book.Book.{Book}
+use Rattle.rht_core.specs.declared.local.Local.{Local}
+use Rattle.rht_core.specs.declared.local.Local.TheVariants.{Idle}
+use Rattle.rht_core.specs.Locals.{is_idle, machine_of, plan_of, local_after, IsLocalOf}
+
+-- what the program keeps of a run: the words, how many callers have enrolled, and what each is doing
+pub record Core (M : Type 0) : Type 0 where
+  pub env : Env
+  pub words : List ℕ
+  pub enrolled : ℕ
+  pub locals : List (Local M)
+
+-- an event that does nothing
+abbrev pub nothing_done : Stepped
+nothing_done = record { did = None; reply = None }
+
+-- what an operation found, and the reply where it ended a call
+abbrev pub has_done : Op → ℕ → Option Reply → Stepped
+has_done op old reply = record { did = Some (op, old); reply = reply }
+
+-- an enrolling raises the word of enrolled callers
+abbrev pub enrolling : Env → Op
+enrolling env = Add (place_of env.geometry EnrolledCallers) 1
+
+-- how many callers there are after it found this word: the word's value is a further caller, where it is below their greatest number
+abbrev pub enrolled_after : Env → ℕ → ℕ → ℕ
+enrolled_after env enrolled old = if nat_lt old env.geometry.callers then max enrolled (old + 1) else enrolled
+
+module _ {M : Type 0} where
+  -- what a caller is doing; one that isn't there is idle
+  abbrev pub local_in : List (Local M) → ℕ → Local M
+  local_in locals c = slice_index_or locals c Idle
+
+  abbrev pub local_of : Core M → ℕ → Local M
+  local_of core c = local_in core.locals c
+
+  -- what a caller does that is given this call; none where it isn't enrolled, is in a call, or has no machine for it
+  abbrev pub beginning : Env → ℕ → List (Local M) → ℕ → Call → Option (Local M)
+  beginning env enrolled locals c call =
+      if nat_lt c enrolled && is_idle (local_in locals c) then machine_of env c call else None
+
+  -- what the callers are doing after one of them was given what it does
+  abbrev pub with_machine : List (Local M) → ℕ → Option (Local M) → List (Local M)
+  with_machine locals c None = locals
+  with_machine locals c (Some machine) = slice_set locals c machine
+
+  abbrev pub begun : Env → ℕ → List (Local M) → ℕ → Call → List (Local M)
+  begun env enrolled locals c call = with_machine locals c (beginning env enrolled locals c call)
+
+  -- the operation that a caller performs next; none where it isn't enrolled or is idle
+  abbrev pub planned : ℕ → List (Local M) → ℕ → Option Op
+  planned enrolled locals c = if nat_lt c enrolled then plan_of (local_in locals c) else None
+
+  module _ (mix : ℕ → ℕ → ℕ → ℕ) where
+    -- a caller has performed this operation, and is told the word's old value
+    abbrev pub performed : Core M → ℕ → Op → Core M × Stepped
+    performed core c op =
+        let next = local_after mix (local_of core c) (old_of core.words op) in
+        (record core { words = applied core.words op; locals = slice_set core.locals c next.0 }, has_done op (old_of core.words op) next.1)
+
+    abbrev pub with_step : Core M → ℕ → Option Op → Core M × Stepped
+    with_step core c None = (core, nothing_done)
+    with_step core c (Some op) = performed core c op
+
+    -- what an event makes of it
+    abbrev pub core_step : Core M → Event → Core M × Stepped
+    core_step core Enroll =
+        let op = enrolling core.env in
+        let old = old_of core.words op in
+        (record core { words = applied core.words op; enrolled = enrolled_after core.env core.enrolled old }, has_done op old None)
+    core_step core (Begin c call) = (record core { locals = begun core.env core.enrolled core.locals c call }, nothing_done)
+    core_step core (Step c) = with_step core c (planned core.enrolled core.locals c)
+
+  -- what always holds of it
+  pub record IsSound (core : Core M) : Type 0 where
+    pub all_words : length core.words ≡ words_in core.env.geometry
+    pub all_locals : length core.locals ≡ core.env.geometry.callers
+    pub few_enrolled : core.enrolled ≤ core.env.geometry.callers
+    pub same_env : AllByRecursion (IsLocalOf core.env) core.locals
+
+-- ---- what is known of the calls
+
+-- no call yet
+abbrev pub new_book : Book
+new_book = record { call = None; steps = 0; finished = [] }
+
+-- a call has begun
+abbrev pub book_begun : Call → Book → Book
+book_begun call book = record { call = Some call; steps = 0; finished = book.finished }
+
+-- the call in progress has ended; no call in progress ends in none
+abbrev pub finished_with : Option Call → Reply → List Finished
+finished_with None reply = []
+finished_with (Some call) reply = record { call = call; reply = reply; owners = []; pairs = [] } ∷ []
+
+-- an operation was made, and may have ended the call
+abbrev pub book_after : Option Reply → Book → Book
+book_after None book = record { call = book.call; steps = book.steps + 1; finished = book.finished }
+book_after (Some reply) book = record { call = None; steps = 0; finished = book.finished ++ finished_with book.call reply }
+
+-- the books with another one for this caller
+abbrev pub book_at : (ℕ → Book) → ℕ → Book → ℕ → Book
+book_at books c book = λ other. if other == c then book else books other
+
+-- what a caller's operation makes of the books
+abbrev pub books_stepped : (ℕ → Book) → ℕ → Option Op → Option Reply → ℕ → Book
+books_stepped books c None reply = books
+books_stepped books c (Some op) reply = book_at books c (book_after reply (books c))
+
+-- ---- runs
+
+-- what one caller knows of itself
+pub record Seen (M : Type 0) : Type 0 where
+  pub local : Local M
+  pub book : Book
+
+-- the words, what each caller is doing, and each caller's calls
+pub record World (M : Type 0) : Type 0 where
+  pub core : Core M
+  pub books : ℕ → Book
+
+-- each number lies in the range of its type
+abbrev pub IsAdmittedCall : Call → Type 0
+IsAdmittedCall (Bind port owner once) = (port < 2 ^ 32) × (owner < 2 ^ 32)
+IsAdmittedCall (Find port) = port < 2 ^ 32
+IsAdmittedCall (All port) = port < 2 ^ 32
+IsAdmittedCall (Release port owner) = (port < 2 ^ 32) × (owner < 2 ^ 32)
+IsAdmittedCall (Rebind port owner new) = (port < 2 ^ 32) × (owner < 2 ^ 32) × (new < 2 ^ 32)
+IsAdmittedCall (Walk None limit) = limit < 2 ^ 32
+IsAdmittedCall (Walk (Some cursor) limit) = (cursor.serial < 2 ^ 64) × (cursor.bucket < 2 ^ 32) × (limit < 2 ^ 32)
+IsAdmittedCall _ = Unit {0}
+
+-- in a table of lists nothing is rebound
+abbrev pub IsBuiltFor : Kind → Call → Type 0
+IsBuiltFor Listed (Rebind port owner new) = ⊥
+IsBuiltFor _ _ = Unit {0}
+
+abbrev pub IsAdmittedEvent : Kind → Event → Type 0
+IsAdmittedEvent kind Enroll = Unit {0}
+IsAdmittedEvent kind (Begin c call) = (c < 2 ^ 32) × IsAdmittedCall call × IsBuiltFor kind call
+IsAdmittedEvent kind (Step c) = c < 2 ^ 32
+
+abbrev pub IsAdmitted : Kind → List Event → Type 0
+IsAdmitted kind events = AllByRecursion (IsAdmittedEvent kind) events
+
+module _ {M : Type 0} where
+  -- at opening nobody has enrolled
+  abbrev pub opening_core : Env → Core M
+  opening_core env = record { env = env; words = opening_words env; enrolled = 0; locals = replicate env.geometry.callers Idle }
+
+  abbrev pub opening : Env → World M
+  opening env = record { core = opening_core env; books = λ _. new_book }
+
+  -- what a caller's beginning makes of the books
+  abbrev pub books_begun : (ℕ → Book) → ℕ → Call → Option (Local M) → ℕ → Book
+  books_begun books c call None = books
+  books_begun books c call (Some machine) = book_at books c (book_begun call (books c))
+
+  module _ (mix : ℕ → ℕ → ℕ → ℕ) where
+    abbrev pub books_after : World M → Event → ℕ → Book
+    books_after w Enroll = w.books
+    books_after w (Begin c call) = books_begun w.books c call (beginning w.core.env w.core.enrolled w.core.locals c call)
+    books_after w (Step c) = books_stepped w.books c (planned w.core.enrolled w.core.locals c) (core_step mix w.core (Step c)).1.reply
+
+    abbrev pub world_step : World M → Event → World M
+    world_step w event = record { core = (core_step mix w.core event).0; books = books_after w event }
+
+    abbrev pub run_from : World M → List Event → World M
+    run_from w [] = w
+    run_from w (event ∷ events) = run_from (world_step w event) events
+
+    -- the run of these events, from the opening on
+    abbrev pub run_of : Env → List Event → World M
+    run_of env events = run_from (opening env) events
+
+  abbrev pub seen : World M → ℕ → Seen M
+  seen w c = record { local = local_of w.core c; book = w.books c }

@@ -1,0 +1,56 @@
+-- What the words of a table stand for: which owners each port has, first owner first.
+-- It is said of any words. At most eight tables are in force, and no chain and no list has more nodes than there are.
+use Rattle.std.specs.Prelude.{ℕ, zero, suc, ◌==◌, Bool, Option, None, Some, List, [], ◌∷◌, slice_index}
+use Rattle.std.specs.List.{find, flat_map, range_with_len}
+use Rattle.rht_words.specs.declared.geometry.Geometry.{Geometry}
+use Rattle.rht_words.specs.Links.{node_of, table_of, slot_of, head_of}
+use Rattle.rht_words.specs.Ports.{word_of, owner_of}
+use Rattle.rht_words.specs.Shapes.{size_of, unpacked}
+use Rattle.rht_words.specs.Places.{CurrentTable, Slot, ShapeWord, FutureWord, Node, ChainLink, KeyWord, OwnerWord, ListLink, word_at}
+use Rattle.rht_nest.specs.Place.{bucket_place}
+use Rattle.rht_model.specs.Multimap.{Multimap}
+
+module _ (g : Geometry) (words : List ℕ) where
+  -- the current table and those to which futures lead from it
+  abbrev pub tables_from : ℕ → Option ℕ → List ℕ
+  tables_from zero _ = []
+  tables_from (suc left) None = []
+  tables_from (suc left) (Some table) = table ∷ tables_from left (slot_of (word_at g words (Slot table FutureWord)))
+
+  abbrev pub in_force : List ℕ
+  in_force = tables_from 8 (Some (table_of (word_at g words CurrentTable)))
+
+  -- the nodes along chain links, up to the first link that leads to none
+  abbrev pub chain_from : ℕ → Option ℕ → List ℕ
+  chain_from zero _ = []
+  chain_from (suc left) None = []
+  chain_from (suc left) (Some node) = node ∷ chain_from left (node_of g.nodes (word_at g words (Node node ChainLink)))
+
+  -- the nodes of a bucket; a bucket whose first link leads to none is empty
+  abbrev pub bucket_nodes : ℕ → List ℕ
+  bucket_nodes place = chain_from g.nodes (node_of g.nodes (head_of place (slice_index words place)))
+
+  -- the nodes of a table, with its buckets in rising order
+  abbrev pub shape_of : ℕ → ℕ
+  shape_of table = word_at g words (Slot table ShapeWord)
+
+  abbrev pub table_nodes : ℕ → List ℕ
+  table_nodes table = flat_map (λ bucket. bucket_nodes (bucket_place g (shape_of table) bucket)) (range_with_len 0 (size_of (unpacked (shape_of table))))
+
+  -- the first node with the port's key, with the tables in the order of their futures
+  abbrev pub has_key : ℕ → ℕ → Bool
+  has_key key node = word_at g words (Node node KeyWord) == key
+
+  abbrev pub first_node : ℕ → Option ℕ
+  first_node port = find (has_key (word_of port)) (flat_map table_nodes in_force)
+
+  -- the owners along list links, up to the first link that leads to none
+  abbrev pub owners_from : ℕ → Option ℕ → List ℕ
+  owners_from zero _ = []
+  owners_from (suc left) None = []
+  owners_from (suc left) (Some node) =
+      owner_of (word_at g words (Node node OwnerWord)) ∷ owners_from left (node_of g.nodes (word_at g words (Node node ListLink)))
+
+  -- the owners of each port
+  abbrev pub stands_for : Multimap
+  stands_for port = owners_from g.nodes (first_node port)

@@ -1,0 +1,83 @@
+-- The steps of each call of a run, with the numbers of their events. Nothing that a caller does depends on them.
+use Rattle.std.specs.Prelude.{◌≡◌, ℕ, ◌+◌, ◌<◌, ◌==◌, if◌then◌else◌, Option, Some, None, List, [], ◌∷◌, ◌++◌, length, map, take}
+use Rattle.std.specs.List.{AllByRecursion}
+use Rattle.rht_words.specs.declared.op.Op.{Op}
+use Rattle.rht_words.specs.declared.env.Env.{Env}
+use Rattle.rht_words.specs.Operations.{old_of}
+use Rattle.rht_model.specs.declared.history.Call.{Call}
+use Rattle.rht_model.specs.declared.history.Reply.{Reply}
+use Rattle.rht_core.specs.declared.event.Event.{Event}
+use Rattle.rht_core.specs.declared.event.Event.TheVariants.{Enroll, Begin, Step}
+use Rattle.rht_core.specs.declared.book.Finished.{Finished}
+use Rattle.rht_core.specs.declared.local.Local.{Local}
+use Rattle.rht_core.specs.Runs.{World, opening, world_step, run_of, beginning, planned, core_step, finished_with, IsAdmitted}
+
+-- an operation of a run: the number of its event, counted from 0, and the word before it
+pub record Did : Type 0 where
+  pub index : ℕ
+  pub op : Op
+  pub old : ℕ
+
+-- a call that has ended: the number of the event at which it began, and its operations
+pub record Past : Type 0 where
+  pub done : Finished
+  pub begin : ℕ
+  pub steps : List Did
+
+-- the calls of a caller: when the one in progress began, its operations so far, and the calls that have ended
+pub record Trace : Type 0 where
+  pub begin : ℕ
+  pub steps : List Did
+  pub past : List Past
+
+-- a run with its traces: the world, how many events there were, and each caller's calls
+pub record Traced (M : Type 0) : Type 0 where
+  pub world : World M
+  pub count : ℕ
+  pub traces : ℕ → Trace
+
+-- the traces with another one for this caller
+abbrev pub trace_at : (ℕ → Trace) → ℕ → Trace → ℕ → Trace
+trace_at traces c trace = λ other. if other == c then trace else traces other
+
+-- a call begins at this event
+abbrev pub trace_begun : ℕ → Trace → Trace
+trace_begun index trace = record { begin = index; steps = []; past = trace.past }
+
+-- an operation was made, and may have ended the call
+abbrev pub trace_did : Option Call → Did → Option Reply → Trace → Trace
+trace_did call did None trace = record { begin = trace.begin; steps = trace.steps ++ did ∷ []; past = trace.past }
+trace_did call did (Some reply) trace = record {
+  begin = trace.begin;
+  steps = [];
+  past = trace.past ++ map (λ done. record { done = done; begin = trace.begin; steps = trace.steps ++ did ∷ [] }) (finished_with call reply);
+}
+
+module _ {M : Type 0} where
+  abbrev pub traces_begun : Traced M → ℕ → Option (Local M) → ℕ → Trace
+  traces_begun r c None = r.traces
+  traces_begun r c (Some machine) = trace_at r.traces c (trace_begun r.count (r.traces c))
+
+  abbrev pub traces_stepped : Traced M → ℕ → Option Op → Option Reply → ℕ → Trace
+  traces_stepped r c None reply = r.traces
+  traces_stepped r c (Some op) reply =
+      trace_at r.traces c (trace_did (r.world.books c).call record { index = r.count; op = op; old = old_of r.world.core.words op } reply (r.traces c))
+
+  module _ (mix : ℕ → ℕ → ℕ → ℕ) where
+    abbrev pub traces_after : Traced M → Event → ℕ → Trace
+    traces_after r Enroll = r.traces
+    traces_after r (Begin c call) =
+        traces_begun r c (beginning r.world.core.env r.world.core.enrolled r.world.core.locals c call)
+    traces_after r (Step c) =
+        traces_stepped r c (planned r.world.core.enrolled r.world.core.locals c) (core_step mix r.world.core (Step c)).1.reply
+
+    abbrev pub traced_step : Traced M → Event → Traced M
+    traced_step r event = record { world = world_step mix r.world event; count = r.count + 1; traces = traces_after r event }
+
+    abbrev pub traced_from : Traced M → List Event → Traced M
+    traced_from r [] = r
+    traced_from r (event ∷ events) = traced_from (traced_step r event) events
+
+    -- the run of these events with its traces
+    abbrev pub traced_of : Env → List Event → Traced M
+    traced_of env events = traced_from (record { world = opening env; count = 0; traces = λ _. record { begin = 0; steps = []; past = [] } }) events

@@ -1,0 +1,143 @@
+//! One run on plain words, event by event.
+
+ghost use Rattle.std.specs.Prelude.{◌≡◌, ◌<◌, ◌≤◌, length, None};
+ghost use Rattle.std.specs.List.{AllByRecursion};
+ghost use Rattle.rht_words.specs.Operations.{old_of, applied};
+ghost use Rattle.rht_words.specs.Places.{words_in};
+ghost use Rattle.rht_core.specs.Runs.{core_step, local_of, begun, planned, with_step, enrolling, enrolled_after, has_done, IsSound};
+ghost use Rattle.rht_core.specs.Locals.{IsLocalOf};
+
+use crate::event::{Event, Stepped};
+use crate::local::Local;
+use rht_model::Call;
+use rht_policy::Mix;
+use rht_words::{Env, Op, apply, places};
+use std::marker::Model;
+
+/// The words of a table and what each caller is doing.
+#[derive(Drop)]
+pub struct State<M: Mix> {
+    env: Env,
+    words: Vec<u64>,
+    enrolled: u32,
+    locals: Vec<Local<M>>,
+}
+
+impl<M: Mix> Model for State<M> {
+    ghost use Rattle.rht_core.specs.Runs.{Core, IsSound};
+
+    ghost Value = { Core M };
+
+    ghost view = { λ s. record { env = s.env; words = s.words.items; enrolled = s.enrolled; locals = s.locals.items } };
+
+    ghost invariant = { λ s. IsSound record { env = s.env; words = s.words.items; enrolled = s.enrolled; locals = s.locals.items } };
+}
+
+/// What an event did that does nothing.
+const NOTHING: Stepped = Stepped {
+    did: None,
+    reply: None,
+};
+
+impl<M: Mix> State<M> {
+    /// Performs the event. It takes no memory and refuses nothing.
+    pub fn step(&mut self, event: Event) -> Stepped
+        ensures { (self.new, result) ≡ core_step M.mix_of self.old event }
+    {
+        match event {
+            Event::Enroll => enroll(self.env, &mut self.words, &mut self.enrolled),
+            Event::Begin { caller, call } => {
+                begin(self.env, self.enrolled, &mut self.locals, caller, call);
+                NOTHING
+            }
+            Event::Step { caller } => {
+                step(
+                    self.env,
+                    &mut self.words,
+                    self.enrolled,
+                    &mut self.locals,
+                    caller,
+                )
+            }
+        }
+    }
+
+    /// All words.
+    pub fn words(&self) -> &[u64]
+        ensures { result.now ≡ self.now.words }
+    {
+        self.words.as_slice()
+    }
+
+    /// What a caller is doing. One that isn't enrolled is idle.
+    pub fn local(&self, caller: u32) -> &Local<M>
+        requires { caller < self.now.env.geometry.callers }
+        ensures { result.now ≡ local_of self.now caller }
+    {
+        &self.locals[caller as usize]
+    }
+}
+
+/// One more caller, where there may be one more.
+fn enroll(env: Env, words: &mut Vec<u64>, enrolled: &mut u32) -> Stepped
+    requires { length words.old.items ≡ words_in env.geometry }
+    ensures words { words.new.items ≡ applied words.old.items (enrolling env) }
+    ensures enrolled { enrolled.new ≡ enrolled_after env enrolled.old (old_of words.old.items (enrolling env)) }
+    ensures did { result ≡ has_done (enrolling env) (old_of words.old.items (enrolling env)) None }
+{
+    let op = Op::Add {
+        place: places::enrolled_callers(),
+        by: 1,
+    };
+    let old = apply(words.as_mut_slice(), op);
+    if old < u64::from(env.geometry.callers) {
+        *enrolled = (*enrolled).max(old as u32 + 1);
+    }
+    Stepped {
+        did: Some((op, old)),
+        reply: None,
+    }
+}
+
+/// Gives a caller a call, where it can be given one.
+fn begin<M: Mix>(env: Env, enrolled: u32, locals: &mut Vec<Local<M>>, caller: u32, call: Call)
+    requires enrolled { enrolled ≤ length locals.old.items }
+    requires env { AllByRecursion (IsLocalOf env) locals.old.items }
+    ensures locals { locals.new.items ≡ begun env enrolled locals.old.items caller call }
+    ensures env { AllByRecursion (IsLocalOf env) locals.new.items }
+{
+    if caller < enrolled {
+        let local = &mut locals[caller as usize];
+        if local.is_idle() {
+            if let Some(machine) = Local::of_call(env, caller, call) {
+                *local = machine;
+            }
+        }
+    }
+}
+
+/// A caller's next operation, where it has one.
+fn step<M: Mix>(
+    env: Env,
+    words: &mut Vec<u64>,
+    enrolled: u32,
+    locals: &mut Vec<Local<M>>,
+    caller: u32,
+) -> Stepped
+    requires { IsSound record { env = env; words = words.old.items; enrolled = enrolled; locals = locals.old.items } }
+    ensures sound { IsSound record { env = env; words = words.new.items; enrolled = enrolled; locals = locals.new.items } }
+    ensures step { (record { env = env; words = words.new.items; enrolled = enrolled; locals = locals.new.items }, result) ≡ with_step M.mix_of record { env = env; words = words.old.items; enrolled = enrolled; locals = locals.old.items } caller (planned enrolled locals.old.items caller) }
+{
+    if caller >= enrolled {
+        return NOTHING;
+    }
+    let local = &mut locals[caller as usize];
+    let Some(op) = local.plan() else {
+        return NOTHING;
+    };
+    let old = apply(words.as_mut_slice(), op);
+    Stepped {
+        did: Some((op, old)),
+        reply: local.take(old),
+    }
+}
