@@ -10,3 +10,5 @@ pub mod WordChanges
 pub mod LinksRead
 -- the lowest set bit of a map's word stands for one of so many
 pub mod LowestBits
+-- what stands in each word of a table that has just been opened
+pub mod OpenedWords

@@ -18,3 +18,5 @@ pub mod Shapes
 pub mod Laws
 -- the bits of the maps of nodes and pages
 pub mod Maps
+-- the words of a table that has just been opened
+pub mod Opening

@@ -14,6 +14,7 @@ mod links;
 mod machine;
 mod maps;
 mod op;
+mod opening;
 pub mod places;
 mod port;
 mod shape;
@@ -30,6 +31,7 @@ pub use links::{
 pub use machine::{Next, Start};
 pub use maps::{bit_of, bits_above, lowest_free, map_bits};
 pub use op::Op;
+pub use opening::opening_word;
 pub use port::{Port, port_of, word_of};
 pub use shape::Shape;
 pub use sizes::{rounded_down, rounded_up, starting_size};
