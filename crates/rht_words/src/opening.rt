@@ -10,6 +10,12 @@ use crate::places;
 use crate::shape::Shape;
 use crate::sizes::starting_size;
 
+/// The serial of the table that is made next, after the first one, which has 0.
+const NEXT_SERIAL: u64 = 1;
+
+/// The state of a slot in which a table stands.
+const TAKEN: u64 = 1;
+
 /// The word at this place when the table is opened. All nodes are free, and so are all pages but
 /// those of the first table, which stands in slot 0 and is empty. No caller has enrolled.
 pub fn opening_word(env: Env, place: usize) -> u64
@@ -36,13 +42,13 @@ fn first_word(env: Env, place: usize) -> u64
     ensures { result ≡ opening_word env (address_at env.geometry place) }
 {
     if place == places::next_serial() {
-        1
+        NEXT_SERIAL
     } else if place == places::shape(0) {
         first_shape(env).into()
     } else if place == places::seed(0) {
         env.config.seed.into()
     } else if place == places::state(0) {
-        1
+        TAKEN
     } else {
         0
     }
