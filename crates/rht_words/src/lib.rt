@@ -1,5 +1,5 @@
-//! The words of a table: its numbers, its config, where each word stands, what it says, and the
-//! operations on one word.
+//! The words of a table: its numbers, its config, where each word stands, what it says, what it is
+//! at opening, and the operations on one word.
 //!
 //! Stands on nothing. Every other crate stands on this one, so its types are plain data.
 //! Begin with `Config` and `Geometry`; then read `specs/Places.antt`, which is the layout, and

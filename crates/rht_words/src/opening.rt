@@ -17,7 +17,8 @@ const NEXT_SERIAL: u64 = 1;
 const TAKEN: u64 = 1;
 
 /// The word at this place when the table is opened. All nodes are free, and so are all pages but
-/// those of the first table, which stands in slot 0 and is empty. No caller has enrolled.
+/// those of the first table, which stands in slot 0 and is empty. No caller has enrolled. The
+/// kernel's counterpart is `rhashtable_init`.
 pub fn opening_word(env: Env, place: usize) -> u64
     requires { place < words_in env.geometry }
     ensures { result ≡ opening_word env (address_at env.geometry place) }

@@ -383,7 +383,7 @@ fn a_table_opens_with_one_empty_table(rt: HostRuntime) {
     // the next serial, and at 24, 25 and 28 are the exponent of the size, the seed and the state.
     // From 280 on are a word for each 64 nodes begun, and then one for each 64 pages begun.
     let cases: [(u32, u32, u32, u32, &[(usize, u64)]); 5] = [
-        // 64 = 2^6 buckets in page 0: of 2^4 - 1 is left 15 - 1
+        // 64 = 2^6 buckets in page 0: of the bits 1 + 2 + 4 + 8 of four pages are left 2 + 4 + 8
         (
             8,
             4,
@@ -399,8 +399,8 @@ fn a_table_opens_with_one_empty_table(rt: HostRuntime) {
             4,
             &[(3, 1), (24, 2), (25, 77), (28, 1), (280, 1), (281, 14)],
         ),
-        // 2,048 = 2^11 buckets in pages 0 to 31: of 2^64 - 1 is left 2^64 - 2^32, and pages 64 to
-        // 69 are six bits of the next word. Node 64 is one bit of the second word
+        // 2,048 = 2^11 buckets in pages 0 to 31: of the first 64 bits are left those from 32 on,
+        // 2^64 - 2^32, and pages 64 to 69 are six bits of the next word. Node 64 is alone in its word
         (
             65,
             70,
@@ -417,7 +417,7 @@ fn a_table_opens_with_one_empty_table(rt: HostRuntime) {
                 (283, 63),
             ],
         ),
-        // 4,096 = 2^12 buckets in pages 0 to 63, which are all of the first word
+        // 4,096 = 2^12 buckets in pages 0 to 63, which are all bits of the first word
         (
             64,
             70,
