@@ -12,3 +12,9 @@ pub mod LinksRead
 pub mod LowestBits
 -- what a shape is read as is a size
 pub mod ShapeSizes
+-- what stands in each word of a table that has just been opened
+pub mod OpenedWords
+-- to set or to clear one bit of a word changes no other bit
+pub mod BitChanges
+-- what a table finds in its words when it has just been opened
+pub mod OpeningLaws

@@ -19,7 +19,7 @@ pub powers-rise : (i k : ℕ) → i ≤ k → 2 ^ i ≤ 2 ^ k
 powers-rise i k l = pow-le-pow_right (omega arith) l
 
 -- an exponent of which the power is smaller is smaller
-powers-fall : (i k : ℕ) → 2 ^ i < 2 ^ k → i < k
+pub powers-fall : (i k : ℕ) → 2 ^ i < 2 ^ k → i < k
 powers-fall i k l = elim (cases_lt i k) [ inl below ↦ below | inr above ↦ absurd (omega (arith, powers-rise k i above)) ]
 
 -- the exponent of the first power from a on that is at or above n

@@ -1,15 +1,18 @@
 -- What follows from the definitions alone.
-use Rattle.std.specs.Prelude.{◌≡◌, ◌≢◌, ℕ, ◌%◌, ◌^◌, ◌<◌, ◌≤◌, List, length, Some, None}
-use Rattle.std.specs.Int.{IsPowerOfTwo}
+use Rattle.std.specs.Prelude.{◌≡◌, ◌≢◌, ◌↔◌, ℕ, ◌*◌, ◌/◌, ◌%◌, ◌^◌, ◌<◌, ◌≤◌, bit_and, bit_or, List, length, Some, None}
+use Rattle.std.specs.Int.{IsPowerOfTwo, bit_at, bit_not, w64}
 use Rattle.rht_words.specs.Ports.{word_of, port_of}
 use Rattle.rht_words.specs.Limits.{IsWithin}
 use Rattle.rht_words.specs.Sizes.{rounded_up, rounded_down, starting_size, IsLeastPower, IsGreatestPower}
 use Rattle.rht_words.specs.Settled.{IsSettled}
 use Rattle.rht_words.specs.Operations.{op_place, word_after, applied}
-use Rattle.rht_words.specs.Places.{Address, IsAddress, place_of, address_at, words_in, word_at}
+use Rattle.rht_words.specs.Places.{Address, Slot, NodeMap, PageMap, ShapeWord, IsAddress, place_of, address_at, words_in, word_at}
 use Rattle.rht_words.specs.Links.{link_of, marker_of, node_of, unlocked, head_of, plain_of, future_of, slot_of, entry_of, page_of}
-use Rattle.rht_words.specs.Shapes.{packed, unpacked, IsPackable}
+use Rattle.rht_words.specs.Shapes.{packed, unpacked, IsPackable, size_of}
+use Rattle.rht_words.specs.Maps.{bit_of}
+use Rattle.rht_words.specs.Opening.{first_size, first_pages, first_shape, opening_word, opening_words}
 use Rattle.rht_words.specs.declared.config.Config.{Config}
+use Rattle.rht_words.specs.declared.env.Env.{Env}
 use Rattle.rht_words.specs.declared.op.Op.{Op}
 use Rattle.rht_words.specs.declared.geometry.Geometry.{Geometry}
 use Rattle.rht_words.specs.declared.shape.Shape.{Shape}
@@ -83,3 +86,46 @@ pub record EntriesComeBack : Type 0 where
 pub record ShapesComeBack : Type 0 where
   pub unpacked_packed : (shape : Shape) → IsPackable shape → unpacked (packed shape) ≡ shape
   pub packed_unpacked : (word : ℕ) → word < 2 ^ 42 → packed (unpacked word) ≡ word
+
+-- the words at opening are as many as there are places, and at each address stands its opening word
+pub record StandInPlace (env : Env) : Type 0 where
+  pub count : length (opening_words env) ≡ words_in env.geometry
+  pub each : (a : Address) → IsAddress env.geometry a → word_at env.geometry (opening_words env) a ≡ opening_word env a
+
+-- in no table does a word at opening stand elsewhere than at its address
+abbrev pub WordsOpen : Type 0
+WordsOpen = (env : Env) → StandInPlace env
+
+-- the shape in slot 0 is flat and has the first size; the first table's pages hold its buckets, and there are so many pages
+pub record OpensFlat (env : Env) : Type 0 where
+  pub shape : unpacked (opening_word env (Slot 0 ShapeWord)) ≡ first_shape env
+  pub flat : (first_shape env).nest ≡ 0
+  pub size : size_of (first_shape env) ≡ first_size env
+  pub holds : first_size env ≤ 64 * first_pages env
+  pub fits : first_pages env ≤ env.geometry.pages
+
+-- each first table is flat and fits the pages
+abbrev pub TablesOpenFlat : Type 0
+TablesOpenFlat = (env : Env) → OpensFlat env
+
+-- a node's bit is set exactly where there is such a node, and a page's where there is such a page behind the first table's
+pub record OpensFree (env : Env) : Type 0 where
+  pub nodes : (node : ℕ) → (bit_at (opening_word env (NodeMap (node / 64))) (node % 64) ≡ 1) ↔ (node < env.geometry.nodes)
+  pub pages : (page : ℕ) → (bit_at (opening_word env (PageMap (page / 64))) (page % 64) ≡ 1) ↔ ((first_pages env ≤ page) × (page < env.geometry.pages))
+
+-- at opening all nodes are free, and all pages but those of the first table
+abbrev pub MapsOpenFree : Type 0
+MapsOpenFree = (env : Env) → OpensFree env
+
+-- the mask that sets a bit of a word, and the one that clears it, change that bit alone
+pub record ChangesOneBit (word bit : ℕ) : Type 0 where
+  pub set : bit_at (bit_or word (bit_of bit)) bit ≡ 1
+  pub set_others : (other : ℕ) → other ≢ bit → bit_at (bit_or word (bit_of bit)) other ≡ bit_at word other
+  pub set_fits : bit_or word (bit_of bit) < 2 ^ 64
+  pub cleared : bit_at (bit_and word (bit_not w64 (bit_of bit))) bit ≡ 0
+  pub cleared_others : (other : ℕ) → other ≢ bit → bit_at (bit_and word (bit_not w64 (bit_of bit))) other ≡ bit_at word other
+  pub cleared_fits : bit_and word (bit_not w64 (bit_of bit)) < 2 ^ 64
+
+-- each mask of a bit changes one bit alone
+abbrev pub MasksChangeOneBit : Type 0
+MasksChangeOneBit = (word bit : ℕ) → word < 2 ^ 64 → bit < 64 → ChangesOneBit word bit

@@ -1,6 +1,6 @@
 //! What follows from the definitions alone. Each function is empty, and its clause is the law.
 
-ghost use Rattle.rht_words.specs.Laws.{PortsComeBack, RoundsToNext, TablesStartWithin, PlacesNeverMeet, OperationsChangeOneWord, LinksTellApart, HeadsComeBack, EntriesComeBack, ShapesComeBack};
+ghost use Rattle.rht_words.specs.Laws.{PortsComeBack, RoundsToNext, TablesStartWithin, PlacesNeverMeet, OperationsChangeOneWord, LinksTellApart, HeadsComeBack, EntriesComeBack, ShapesComeBack, WordsOpen, TablesOpenFlat, MapsOpenFree, MasksChangeOneBit};
 
 /// A port comes back from its key word.
 pub fn ports_come_back()
@@ -45,4 +45,24 @@ pub fn entries_come_back()
 /// A shape comes back from its word.
 pub fn shapes_come_back()
     ensures { ShapesComeBack }
+{}
+
+/// The words of a table that has just been opened stand in their places.
+pub fn words_open()
+    ensures { WordsOpen }
+{}
+
+/// The first table is flat, and the pages that it takes hold it.
+pub fn tables_open_flat()
+    ensures { TablesOpenFlat }
+{}
+
+/// At opening all nodes are free, and all pages but those of the first table.
+pub fn maps_open_free()
+    ensures { MapsOpenFree }
+{}
+
+/// To set or to clear a bit of a map's word changes no other bit.
+pub fn masks_change_one_bit()
+    ensures { MasksChangeOneBit }
 {}

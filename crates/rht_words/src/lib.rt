@@ -1,5 +1,5 @@
-//! The words of a table: its numbers, its config, where each word stands, what it says, and the
-//! operations on one word.
+//! The words of a table: its numbers, its config, where each word stands, what it says, what it is
+//! at opening, and the operations on one word.
 //!
 //! Stands on nothing. Every other crate stands on this one, so its types are plain data.
 //! Begin with `Config` and `Geometry`; then read `specs/Places.antt`, which is the layout, and
@@ -14,6 +14,7 @@ mod links;
 mod machine;
 mod maps;
 mod op;
+mod opening;
 pub mod places;
 mod port;
 mod shape;
@@ -30,6 +31,7 @@ pub use links::{
 pub use machine::{Next, Start};
 pub use maps::{bit_of, bits_above, lowest_free, map_bits};
 pub use op::Op;
+pub use opening::opening_word;
 pub use port::{Port, owner_of, port_of, word_of};
 pub use shape::Shape;
 pub use sizes::{rounded_down, rounded_up, starting_size};

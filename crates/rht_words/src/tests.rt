@@ -1,9 +1,9 @@
 //! Numbers worked out by hand from the layout and the formulas.
 
 use super::{
-    Config, Geometry, Hash, Kind, Op, Shape, apply, entry_of, future_of, head_of, is_locked,
-    link_of, marker_of, node_of, page_of, places, plain_of, port_of, rounded_down, rounded_up,
-    slot_of, starting_size, unlocked, word_of,
+    Config, Env, Geometry, Hash, Kind, Op, Shape, apply, entry_of, future_of, head_of, is_locked,
+    link_of, marker_of, node_of, opening_word, page_of, places, plain_of, port_of, rounded_down,
+    rounded_up, slot_of, starting_size, unlocked, word_of,
 };
 use std::test::Fail;
 
@@ -364,5 +364,105 @@ fn configs_are_settled_with_rounded_sizes(rt: HostRuntime) {
             ..SMALLEST
         };
         assert_eq!(rt; config.is_settled(), want, "at {config:?}");
+    }
+}
+
+/// The word that the list has for the place; 0 where it has none.
+fn word_for(words: &[(usize, u64)], place: usize) -> u64 {
+    for &(at, word) in words {
+        if at == place {
+            return word;
+        }
+    }
+    0
+}
+
+#[test]
+fn a_table_opens_with_one_empty_table(rt: HostRuntime) {
+    // Nodes, pages, the hint, the least size, and each word that isn't 0 with its place. At 3 is
+    // the next serial, and at 24, 25 and 28 are the exponent of the size, the seed and the state.
+    // From 280 on are a word for each 64 nodes begun, and then one for each 64 pages begun.
+    let cases: [(u32, u32, u32, u32, &[(usize, u64)]); 5] = [
+        // 64 = 2^6 buckets in page 0: of the bits 1 + 2 + 4 + 8 of four pages are left 2 + 4 + 8
+        (
+            8,
+            4,
+            0,
+            4,
+            &[(3, 1), (24, 6), (25, 77), (28, 1), (280, 255), (281, 14)],
+        ),
+        // 4 = 2^2 buckets take a whole page
+        (
+            1,
+            4,
+            1,
+            4,
+            &[(3, 1), (24, 2), (25, 77), (28, 1), (280, 1), (281, 14)],
+        ),
+        // 2,048 = 2^11 buckets in pages 0 to 31: of the first 64 bits are left those from 32 on,
+        // 2^64 - 2^32, and pages 64 to 69 are six bits of the next word. Node 64 is alone in its word
+        (
+            65,
+            70,
+            1_536,
+            4,
+            &[
+                (3, 1),
+                (24, 11),
+                (25, 77),
+                (28, 1),
+                (280, 18_446_744_073_709_551_615),
+                (281, 1),
+                (282, 18_446_744_069_414_584_320),
+                (283, 63),
+            ],
+        ),
+        // 4,096 = 2^12 buckets in pages 0 to 63, which are all bits of the first word
+        (
+            64,
+            70,
+            0,
+            4_096,
+            &[
+                (3, 1),
+                (24, 12),
+                (25, 77),
+                (28, 1),
+                (280, 18_446_744_073_709_551_615),
+                (282, 63),
+            ],
+        ),
+        // 8,192 = 2^13 buckets in pages 0 to 127, so that pages 128 and 129 are free
+        (
+            65,
+            130,
+            0,
+            8_192,
+            &[
+                (3, 1),
+                (24, 13),
+                (25, 77),
+                (28, 1),
+                (280, 18_446_744_073_709_551_615),
+                (281, 1),
+                (284, 3),
+            ],
+        ),
+    ];
+    for (nodes, pages, hint, min, words) in cases {
+        let config = Config {
+            nodes,
+            pages,
+            hint,
+            min,
+            seed: 77,
+            ..SMALLEST
+        };
+        assert!(rt; config.is_settled(), "at {config:?}");
+        let env = Env::new(config);
+        for place in 0..env.geometry.words() {
+            let want = word_for(words, place);
+            assert_eq!(rt; opening_word(env, place), want, "at {place} of {config:?}");
+        }
     }
 }
