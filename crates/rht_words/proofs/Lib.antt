@@ -18,3 +18,9 @@ pub mod OpenedWords
 pub mod BitChanges
 -- what a table finds in its words when it has just been opened
 pub mod OpeningLaws
+-- the words as a function of what they are there for, and one write to it
+pub mod Memory
+-- lists without repeats, and how many numbers below a bound have a property
+pub mod Members
+-- chains keep, and how one store changes one
+pub mod Segments

@@ -20,3 +20,5 @@ pub mod Laws
 pub mod Maps
 -- the words of a table that has just been opened
 pub mod Opening
+-- chains as rows of nodes
+pub mod Chains

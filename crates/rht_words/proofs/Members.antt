@@ -1,0 +1,131 @@
+-- Members of lists, lists without repeats, and how many numbers below a bound have a property.
+use Rattle.std.proofs.Common.{◌≡◌, ◌≢◌, ℕ, zero, suc, ◌+◌, ◌-◌, ◌<◌, ◌≤◌, List, [], ◌∷◌, ◌++◌, length, refl, sym, ◌∙◌, ap, arith, ◌⊎◌, inl, inr, Bool, true, false, cond, ◌==◌}
+use Rattle.std.proofs.lemmas.Bool.{cases_eq, cases_lt, eqb-true, eqb-false, eq-eqb, ne_eqb}
+
+-- ---- members
+
+abbrev pub In : ℕ → List ℕ → Type 0
+In x [] = ⊥
+In x (y ∷ ys) = (x ≡ y) ⊎ In x ys
+
+abbrev pub NotIn : ℕ → List ℕ → Type 0
+NotIn x [] = Unit {0}
+NotIn x (y ∷ ys) = (x ≢ y) × NotIn x ys
+
+abbrev pub Distinct : List ℕ → Type 0
+Distinct [] = Unit {0}
+Distinct (x ∷ xs) = NotIn x xs × Distinct xs
+
+abbrev pub AllBelow : ℕ → List ℕ → Type 0
+AllBelow bound [] = Unit {0}
+AllBelow bound (x ∷ xs) = (x < bound) × AllBelow bound xs
+
+pub not_in_from : (x : ℕ) (xs : List ℕ) → (In x xs → ⊥) → NotIn x xs
+not_in_from x [] never = tt
+not_in_from x (y ∷ ys) never = ((λ e. never (inl e)), not_in_from x ys (λ i. never (inr i)))
+
+pub in_and_not : (x : ℕ) (xs : List ℕ) → In x xs → NotIn x xs → ⊥
+in_and_not x [] i out = i
+in_and_not x (y ∷ ys) (inl e) out = out.0 e
+in_and_not x (y ∷ ys) (inr i) out = in_and_not x ys i out.1
+
+-- a member or none
+pub in_or_not : (x : ℕ) (xs : List ℕ) → In x xs ⊎ NotIn x xs
+in_or_not x [] = inr tt
+in_or_not x (y ∷ ys) = elim (cases_eq x y) [
+    inl e ↦ inl (inl e)
+  | inr ne ↦ elim (in_or_not x ys) [ inl i ↦ inl (inr i) | inr out ↦ inr (ne, out) ] ]
+
+pub in-middle : (x : ℕ) (xs ys : List ℕ) → In x (xs ++ x ∷ ys)
+in-middle x [] ys = inl refl
+in-middle x (y ∷ xs) ys = inr (in-middle x xs ys)
+
+pub not_in-cut : (k : ℕ) (xs : List ℕ) (m : ℕ) (ys : List ℕ) → NotIn k (xs ++ m ∷ ys) → NotIn k xs × (k ≢ m) × NotIn k ys
+not_in-cut k [] m ys p = (tt, p.0, p.1)
+not_in-cut k (a ∷ xs) m ys p = let r = not_in-cut k xs m ys p.1 in ((p.0, r.0), r.1, r.2)
+
+pub not_in-join : (k : ℕ) (xs ys : List ℕ) → NotIn k xs → NotIn k ys → NotIn k (xs ++ ys)
+not_in-join k [] ys p q = q
+not_in-join k (a ∷ xs) ys p q = (p.0, not_in-join k xs ys p.1 q)
+
+-- in a list without repeats a member is in neither part round it
+pub distinct-cut : (xs : List ℕ) (m : ℕ) (ys : List ℕ) → Distinct (xs ++ m ∷ ys) → NotIn m xs × NotIn m ys
+distinct-cut [] m ys d = (tt, d.0)
+distinct-cut (a ∷ xs) m ys d =
+    let r = distinct-cut xs m ys d.1 in
+    let q = not_in-cut a xs m ys d.0 in
+    ((λ e. q.1 (sym e), r.0), r.1)
+
+pub below-member : (bound x : ℕ) (xs : List ℕ) → AllBelow bound xs → In x xs → x < bound
+below-member bound x [] all i = absurd i
+below-member bound x (y ∷ ys) all (inl e) = omega arith
+below-member bound x (y ∷ ys) all (inr i) = below-member bound x ys all.1 i
+
+-- ---- how many
+
+-- 1 for what holds, 0 for what doesn't
+abbrev pub one_if : Bool → ℕ
+one_if b = cond b 1 0
+
+-- how many numbers below a bound have the property
+abbrev pub count_below : (ℕ → Bool) → ℕ → ℕ
+count_below has zero = 0
+count_below has (suc n) = count_below has n + one_if (has n)
+
+pub count_below-same : (has has' : ℕ → Bool) (bound : ℕ) → ((n : ℕ) → n < bound → has' n ≡ has n) → count_below has' bound ≡ count_below has bound
+count_below-same has has' zero same = refl
+count_below-same has has' (suc n) same =
+    let below = count_below-same has has' n (λ m l. same m (omega arith)) in
+    let here = ap one_if (same n (omega arith)) in
+    omega (arith, below, here)
+
+-- the property of one number changes from false to true: one more has it
+pub count_below-more : (has has' : ℕ → Bool) (x bound : ℕ) → x < bound → has x ≡ false → has' x ≡ true → ((n : ℕ) → n ≢ x → has' n ≡ has n)
+    → count_below has' bound ≡ count_below has bound + 1
+count_below-more has has' x zero l was is same = absurd (omega arith)
+count_below-more has has' x (suc n) l was is same = elim (cases_eq x n) [
+    inl e ↦
+      let below = count_below-same has has' n (λ m k. same m (omega arith)) in
+      let old : one_if (has n) ≡ 0 = ap one_if (ap has (sym e) ∙ was) in
+      let new : one_if (has' n) ≡ 1 = ap one_if (ap has' (sym e) ∙ is) in
+      omega (arith, below, old, new)
+  | inr ne ↦
+      let below = count_below-more has has' x n (omega arith) was is same in
+      let here = ap one_if (same n (λ e. ne (sym e))) in
+      omega (arith, below, here) ]
+
+pub count_below-most : (has : ℕ → Bool) (bound : ℕ) → count_below has bound ≤ bound
+count_below-most has zero = omega arith
+count_below-most has (suc n) =
+    let below = count_below-most has n in
+    let one : one_if (has n) ≤ 1 = one_if-most (has n) in
+    omega (arith, below, one)
+  where
+    one_if-most : (b : Bool) → one_if b ≤ 1
+    one_if-most true = omega arith
+    one_if-most false = omega arith
+
+pub count_below-none : (has : ℕ → Bool) (bound : ℕ) → ((n : ℕ) → n < bound → has n ≡ false) → count_below has bound ≡ 0
+count_below-none has zero none = refl
+count_below-none has (suc n) none =
+    let below = count_below-none has n (λ m l. none m (omega arith)) in
+    let here = ap one_if (none n (omega arith)) in
+    omega (arith, below, here)
+
+-- a list without repeats of numbers that have the property is no longer than there are such numbers
+pub length-count_below : (has : ℕ → Bool) (bound : ℕ) (xs : List ℕ) → Distinct xs → AllBelow bound xs → ((x : ℕ) → In x xs → has x ≡ true) → length xs ≤ count_below has bound
+length-count_below has bound [] distinct below all = omega arith
+length-count_below has bound (x ∷ xs) distinct below all =
+    let without : ℕ → Bool = λ n. cond (n == x) false (has n) in
+    let rest = length-count_below without bound xs distinct.1 below.1 (λ y i. elim (cases_eq y x) [
+        inl e ↦ absurd (in_and_not y xs i (subst_not_in x y xs (sym e) distinct.0))
+      | inr ne ↦ without-other y ne ∙ all y (inr i) ]) in
+    let more = count_below-more without has x bound below.0 (without-same refl) (all x (inl refl)) (λ n ne. sym (without-other n ne)) in
+    omega (arith, rest, more)
+  where
+    subst_not_in : (x y : ℕ) (zs : List ℕ) → x ≡ y → NotIn x zs → NotIn y zs
+    subst_not_in x y zs e out = rw (sym e) out
+    without-same : x ≡ x → cond (x == x) false (has x) ≡ false
+    without-same e = rw (eq-eqb x x refl) refl
+    without-other : (n : ℕ) → n ≢ x → cond (n == x) false (has n) ≡ has n
+    without-other n ne = rw (ne_eqb n x ne) refl
