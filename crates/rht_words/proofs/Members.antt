@@ -40,6 +40,11 @@ pub in-middle : (x : ℕ) (xs ys : List ℕ) → In x (xs ++ x ∷ ys)
 in-middle x [] ys = inl refl
 in-middle x (y ∷ xs) ys = inr (in-middle x xs ys)
 
+pub in-front : (x : ℕ) (xs ys : List ℕ) → In x xs → In x (xs ++ ys)
+in-front x [] ys i = absurd i
+in-front x (y ∷ xs) ys (inl e) = inl e
+in-front x (y ∷ xs) ys (inr i) = inr (in-front x xs ys i)
+
 pub not_in-cut : (k : ℕ) (xs : List ℕ) (m : ℕ) (ys : List ℕ) → NotIn k (xs ++ m ∷ ys) → NotIn k xs × (k ≢ m) × NotIn k ys
 not_in-cut k [] m ys p = (tt, p.0, p.1)
 not_in-cut k (a ∷ xs) m ys p = let r = not_in-cut k xs m ys p.1 in ((p.0, r.0), r.1, r.2)

@@ -1,8 +1,8 @@
 -- A chain outlives a store to a link that isn't one of its own, and a store makes a node its first.
-use Rattle.std.proofs.Common.{◌≡◌, ◌≢◌, ℕ, List, [], ◌∷◌, ◌++◌, refl, sym, ◌∙◌, ap, arith}
+use Rattle.std.proofs.Common.{◌≡◌, ◌≢◌, ℕ, List, [], ◌∷◌, ◌++◌, refl, sym, ◌∙◌, ap, ◌⊎◌, inl, inr, arith}
 use Rattle.rht_words.specs.Links.{link_of}
 use Rattle.rht_words.specs.Chains.{IsSegment}
-use Rattle.rht_words.proofs.Members.{NotIn, Distinct, distinct-cut}
+use Rattle.rht_words.proofs.Members.{In, NotIn, Distinct, distinct-cut}
 
 -- the links are the same but for the one behind this node
 abbrev pub IsSameBut : (ℕ → ℕ) → (ℕ → ℕ) → ℕ → Type 0
@@ -12,6 +12,13 @@ pub IsSegment-same : (chain chain' : ℕ → ℕ) (link : ℕ) (nodes : List ℕ
 IsSegment-same chain chain' link [] stop same s = s
 IsSegment-same chain chain' link (node ∷ nodes) stop same s =
     (s.0, rw (same node) (IsSegment-same chain chain' (chain node) nodes stop same s.1))
+
+-- only the links of its own nodes matter
+pub IsSegment-members : (chain chain' : ℕ → ℕ) (link : ℕ) (nodes : List ℕ) (stop : ℕ) → ((node : ℕ) → In node nodes → chain' node ≡ chain node)
+    → IsSegment chain link nodes stop → IsSegment chain' link nodes stop
+IsSegment-members chain chain' link [] stop same s = s
+IsSegment-members chain chain' link (node ∷ nodes) stop same s =
+    (s.0, rw (same node (inl refl)) (IsSegment-members chain chain' (chain node) nodes stop (λ other i. same other (inr i)) s.1))
 
 -- a store to the link of a node that isn't in it
 pub IsSegment-off : (chain chain' : ℕ → ℕ) (m link : ℕ) (nodes : List ℕ) (stop : ℕ) → IsSameBut chain chain' m → NotIn m nodes → IsSegment chain link nodes stop → IsSegment chain' link nodes stop

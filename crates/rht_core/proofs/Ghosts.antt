@@ -1,0 +1,94 @@
+-- What the words of a run don't say, or say only to who follows every link: who holds each lock, node,
+-- page and slot, which nodes each bucket has, and which nodes each port is bound to.
+-- It stands in no definition of a run. The invariant says that there is such a ghost after each event.
+use Rattle.std.proofs.Common.{◌≡◌, ◌≢◌, ℕ, List, [], ◌∷◌, refl, sym, ◌∙◌, inl, inr, ◌⊎◌, Bool, true, false, cond, Option, Some, None, ◌==◌}
+use Rattle.std.proofs.lemmas.Bool.{cases_eq, eqb-true, eq-eqb}
+
+-- ---- functions changed at one place
+
+unfoldable pub put : {A : Type 0} → (ℕ → A) → ℕ → A → ℕ → A
+put f j v i = cond (i == j) v (f i)
+
+pub put-same : {A : Type 0} → (f : ℕ → A) (j : ℕ) (v : A) → put f j v j ≡ v
+unfolding put
+put-same f j v = rw (eq-eqb j j refl) refl
+
+pub put-other : {A : Type 0} → (f : ℕ → A) (j : ℕ) (v : A) (i : ℕ) → i ≢ j → put f j v i ≡ f i
+unfolding put
+put-other f j v i ne = go (i == j) refl
+  where
+    go : (t : Bool) → (i == j) ≡ t → cond (i == j) v (f i) ≡ f i
+    go true e = absurd (ne (eqb-true i j e))
+    go false e = rw e refl
+
+-- what is true of the new value at the changed place, and of the old values elsewhere, is true everywhere
+pub put-all : {A : Type 0} → (P : ℕ → A → Type 0) (f : ℕ → A) (j : ℕ) (v : A) → P j v → ((i : ℕ) → i ≢ j → P i (f i)) → (i : ℕ) → P i (put f j v i)
+put-all P f j v here other i = elim (cases_eq i j) as (λ t. P i (put f j v i)) [ inl e ↦ rw (e, put-same f j v) here | inr ne ↦ rw (put-other f j v i ne) (other i ne) ]
+
+-- ---- ghosts
+
+-- a table that has been attached, and what its slot says
+pub record Table : Type 0 where
+  pub slot : ℕ
+  pub exponent : ℕ
+  pub page : ℕ
+  pub seed : ℕ
+  pub serial : ℕ
+
+-- A bucket: its nodes in the order of its chain, its word without the lock, and who holds the lock. An entry that is on its way
+-- out of it, and the bind that has found in it that no table is behind.
+pub record Bucket : Type 0 where
+  pub nodes : List ℕ
+  pub plain : ℕ
+  pub holder : Option ℕ
+  pub out : Option ℕ
+  pub armed : Option ℕ
+
+-- Who has a node: nobody; a caller that took it; the chain of a bucket, whole or on the way out; the list behind a port's first
+-- node; the call that took it out; or nobody any more
+pub data Owner : Type 0 where
+  Free : Owner
+  Held : ℕ → Owner
+  First : ℕ → Owner
+  Leaving : ℕ → Owner
+  Behind : ℕ → Owner
+  Taken : ℕ → Owner
+  Gone : Owner
+
+-- who has a page
+pub data PageOwner : Type 0 where
+  PageFree : PageOwner
+  PageHeld : ℕ → PageOwner
+  PageOf : ℕ → PageOwner
+
+-- who has a slot
+pub data SlotOwner : Type 0 where
+  SlotFree : SlotOwner
+  SlotHeld : ℕ → SlotOwner
+  Live : ℕ → SlotOwner
+  Retired : ℕ → SlotOwner
+
+-- Tables by the order in which they were attached, how many there were, and which of them is the current one. Buckets by the
+-- index of their word among those of all pages, nodes, pages and slots by their numbers, what is bound by ports, and for each
+-- caller whether it has raised the count of ports for a node that it hasn't linked yet
+pub record Ghost : Type 0 where
+  pub table : ℕ → Table
+  pub attached : ℕ
+  pub current : ℕ
+  pub bucket : ℕ → Bucket
+  pub node : ℕ → Owner
+  pub bound : ℕ → List ℕ
+  pub page : ℕ → PageOwner
+  pub slot : ℕ → SlotOwner
+  pub worker : Option ℕ
+  pub raised : ℕ → Bool
+
+-- 1 where a lock is held
+abbrev pub lock_bit : Option ℕ → ℕ
+lock_bit None = 0
+lock_bit (Some c) = 1
+
+-- the node is in the chain of a bucket
+abbrev pub is_first : Owner → Bool
+is_first (First j) = true
+is_first _ = false

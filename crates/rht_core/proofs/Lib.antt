@@ -1,0 +1,8 @@
+-- what the words don't say: who holds what, and which nodes each bucket and each port has
+pub mod Ghosts
+-- what is true of words and ghosts after each event of each run
+pub mod Wholes
+-- what each caller knows, and why others leave it
+pub mod Knowledge
+-- what a step leaves where it writes elsewhere
+pub mod Frames
