@@ -6,3 +6,5 @@ pub mod Wholes
 pub mod Knowledge
 -- what a step leaves where it writes elsewhere
 pub mod Frames
+-- moves that others do not see
+pub mod QuietMoves
