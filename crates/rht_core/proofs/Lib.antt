@@ -8,3 +8,5 @@ pub mod Knowledge
 pub mod Frames
 -- moves that others do not see
 pub mod QuietMoves
+-- the store that binds a port
+pub mod Linking

@@ -17,10 +17,10 @@ use Rattle.rht_core.proofs.Frames.{Others, Made, OneTable-write, BucketRight-fra
 
 module _ (env : Env) (mix : ℕ → ℕ → ℕ → ℕ) where
   -- one owner is not another
-  held_not_first : (o : Owner) (d j : ℕ) → o ≡ Held d → o ≡ First j → ⊥
+  pub held_not_first : (o : Owner) (d j : ℕ) → o ≡ Held d → o ≡ First j → ⊥
   held_not_first o d j held first = let e = sym held ∙ first in cc
 
-  held_by_one : (o : Owner) (c d : ℕ) → o ≡ Held c → o ≡ Held d → c ≡ d
+  pub held_by_one : (o : Owner) (c d : ℕ) → o ≡ Held c → o ≡ Held d → c ≡ d
   held_by_one o c d first second = let e : Held c ≡ Held d = sym first ∙ second in cc
 
   -- ---- a word of a node that the caller has
