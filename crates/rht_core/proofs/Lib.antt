@@ -10,3 +10,9 @@ pub mod Frames
 pub mod QuietMoves
 -- the store that binds a port
 pub mod Linking
+-- one operation of a caller, and what it knows afterwards
+pub mod Steps
+-- the operations of the pieces
+pub mod PieceSteps
+-- taking a node, giving it back, and writing its words
+pub mod NodeSteps

@@ -138,10 +138,10 @@ module _ (env : Env) (mix : ℕ → ℕ → ℕ → ℕ) where
   -- ---- the bit of a node
 
   -- the masks that clear and set one bit change that bit alone
-  cleared_bit : (word b : ℕ) → b < 64 → bit_at (bit_and word (bit_not w64 (bit_of b))) b ≡ 0
+  pub cleared_bit : (word b : ℕ) → b < 64 → bit_at (bit_and word (bit_not w64 (bit_of b))) b ≡ 0
   cleared_bit word b l = subst (λ mask. bit_at (bit_and word (bit_not w64 mask)) b ≡ 0) (one_shl b 64 l) (bit_at_clear_same w64 word b l)
 
-  cleared_other : (word b i : ℕ) → b < 64 → i < 64 → i ≢ b → bit_at (bit_and word (bit_not w64 (bit_of b))) i ≡ bit_at word i
+  pub cleared_other : (word b i : ℕ) → b < 64 → i < 64 → i ≢ b → bit_at (bit_and word (bit_not w64 (bit_of b))) i ≡ bit_at word i
   cleared_other word b i l k ne = subst (λ mask. bit_at (bit_and word (bit_not w64 mask)) i ≡ bit_at word i) (one_shl b 64 l) (bit_at_clear_other w64 word b l i k ne)
 
   set_bit : (word b : ℕ) → b < 64 → bit_at (bit_or word (bit_of b)) b ≡ 1
@@ -217,6 +217,40 @@ module _ (env : Env) (mix : ℕ → ℕ → ℕ → ℕ) where
             }) whole.owned;
         arena = reowned_bits i b value owner M M' G whole at write here others;
         counted = write.others PortCount tt (λ e. cc) ∙ whole.counted ∙ ap (λ x. x + raisers env mix G) (sym (reowned_firsts G n owner was now));
+      }
+
+  -- a write that leaves the bits of a word of the node map as they were
+  pub retouch : (d i value : ℕ) (M M' : Memory) (G : Ghost) → Whole env mix M G → i < map_words env.geometry.nodes → IsWrite env.geometry M M' (NodeMap i) value
+      → ((k : ℕ) → k < 64 → bit_at value k ≡ bit_at (M (NodeMap i)) k) → Made env mix d M G M' G
+  retouch d i value M M' G whole l write same =
+      let first_word : (m j : ℕ) (w : NodeWord) → G.node m ≡ First j → M' (Node m w) ≡ M (Node m w)
+            = λ m j w f. write.others (Node m w) (whole.owned.first_at m j f).among (λ e. cc) in
+      record {
+        whole = record {
+          tables = OneTable-write env mix M M' G G (NodeMap i) value write (λ e. cc) (λ s e. cc) refl refl whole.tables;
+          buckets = λ j k. BucketRight-frame env mix M M' j (G.bucket j) (write.others (PageWord j) k (λ e. cc))
+              (λ m n. first_word m j ChainLink (whole.owned.member j m n)) (whole.buckets j k);
+          owned = Owned-frame env mix M M' G G
+              (record { nodes = λ j. refl; firsts_before = λ m j f. f; firsts_after = λ m j f. f; bound = λ port. refl })
+              (record { keys = λ m j f. first_word m j KeyWord f; lists = λ m j f. first_word m j ListLink f }) whole.owned;
+          arena = record {
+            bits = λ n k. elim (cases_eq (n / 64) i) [
+                inl e ↦
+                  let bit : bit_at (M' (NodeMap (n / 64))) (n % 64) ≡ bit_at (M (NodeMap (n / 64))) (n % 64)
+                        = ap (λ x. bit_at (M' (NodeMap x)) (n % 64)) e ∙ ap (λ w. bit_at w (n % 64)) write.same ∙ same (n % 64) (omega arith) ∙ ap (λ x. bit_at (M (NodeMap x)) (n % 64)) (sym e) in
+                  rw bit (whole.arena.bits n k)
+              | inr other ↦ rw (write.others (NodeMap (n / 64)) (omega arith) (λ e. other (cc))) (whole.arena.bits n k) ];
+          };
+          counted = write.others PortCount tt (λ e. cc) ∙ whole.counted;
+        };
+        others = λ c ne. record {
+          locks = λ j h. refl;
+          words = λ m j f. (first_word m j KeyWord f, first_word m j OwnerWord f);
+          nodes = λ m has. (has.0, λ w. write.others (Node m w) has.1 (λ e. cc));
+          raised = refl;
+          no_node = λ m h. h;
+          no_lock = λ j h. h;
+        };
       }
 
   -- the and that clears a bit which was set: the node was free

@@ -1,0 +1,208 @@
+-- The operations of the pieces: the lock, the walk under it, and the taking of a node.
+use Rattle.std.proofs.Common.{◌≡◌, ◌≢◌, ◌↔◌, ℕ, ◌+◌, ◌*◌, ◌/◌, ◌%◌, ◌^◌, ◌<◌, ◌==◌, List, [], ◌∷◌, ◌++◌, length, Option, Some, None, Bool, true, false, cond, refl, sym, ◌∙◌, ap, subst, inl, inr, ◌⊎◌, bit_and, arith}
+use Rattle.std.proofs.Math.Seq.{append_snoc}
+use Rattle.std.proofs.lemmas.Bool.{eqb-true, eqb-false, eq-eqb}
+use Rattle.std.specs.Int.{bit_at, bit_not, w64}
+use Rattle.rht_words.specs.declared.env.Env.{Env}
+use Rattle.rht_words.specs.declared.op.Op.{Op}
+use Rattle.rht_words.specs.declared.op.Op.TheVariants.{Load, Exchange, And}
+use Rattle.rht_words.specs.declared.machine.Next.{Next}
+use Rattle.rht_words.specs.declared.machine.Next.TheVariants.{Go, Done}
+use Rattle.rht_words.specs.declared.machine.Start.{Start}
+use Rattle.rht_words.specs.declared.machine.Start.TheVariants as starts
+use Rattle.rht_words.specs.Links.{link_of, node_of, head_of, marker_of}
+use Rattle.rht_words.specs.Chains.{IsSegment}
+use Rattle.rht_words.specs.Operations.{op_place, old_of, word_after, applied}
+use Rattle.rht_words.specs.Places.{Address, Node, NodeWord, ChainLink, KeyWord, OwnerWord, ListLink, PageWord, NodeMap, IsAddress, place_of, words_in, word_at}
+use Rattle.rht_words.proofs.LinksRead.{links_tell_apart}
+use Rattle.rht_words.proofs.Memory.{Memory, IsWrite, is_write}
+use Rattle.rht_words.proofs.Members.{In, in-middle}
+use Rattle.rht_words.proofs.Segments.{IsSegment-cut}
+use Rattle.rht_chain.specs.Lock.{LockModel, lock_plan, lock_after, IsEven}
+use Rattle.rht_chain.specs.declared.lock.LockAt.{LockAt}
+use Rattle.rht_chain.specs.declared.lock.LockAt.TheVariants as locks
+use Rattle.rht_chain.specs.LockedWalk.{LockedWalkModel, locked_walk_new, locked_walk_plan, locked_walk_after, walk_from, followed, counted, found_at}
+use Rattle.rht_chain.specs.declared.locked_walk.Seen.{Seen}
+use Rattle.rht_chain.specs.declared.locked_walk.LockedWalkAt.{LockedWalkAt}
+use Rattle.rht_chain.specs.declared.locked_walk.LockedWalkAt.TheVariants as walks
+use Rattle.rht_core.proofs.Ghosts.{put, put-same, put-other, put-all, Bucket, Owner, Free, Held, First, Ghost}
+use Rattle.rht_core.proofs.Wholes.{chain_of, key_of, home, place_at, Whole}
+use Rattle.rht_core.proofs.Knowledge.{Fact, Has, WordIs, Locks, Stands, Differs, Missed, Found, OwnerIs, Raised, OnlyNode, OnlyLock, Means, AllMean, HasNode, HoldsLock, NoKey, StandsAt, last_of}
+use Rattle.rht_core.proofs.QuietMoves.{take_lock, with_holder}
+use Rattle.rht_core.proofs.Steps.{Move, Reads, TakesLock, by_test, mem, Step, reads, AllOwn, own-kept, ghost_after}
+
+module _ (env : Env) (mix : ℕ → ℕ → ℕ → ℕ) (c : ℕ) (port : ℕ) (own : List Fact) (all_own : AllOwn env mix own) (within : home env mix port < 64 * env.geometry.pages) where
+  abbrev j : ℕ
+  j = home env mix port
+
+  abbrev place : ℕ
+  place = place_at env mix j
+
+  abbrev Own : Memory → Ghost → Type 0
+  Own M G = AllMean env mix c M G own
+
+  -- ---- the walk
+
+  -- what is known at a state of the walk, of a bucket whose word was this before it was locked
+  abbrev pub walk_facts_at : ℕ → Option ℕ → LockedWalkAt → List Fact
+  walk_facts_at word before (walks.Key node) = Stands port word node before ∷ []
+  walk_facts_at word before (walks.ChainLink node) = Stands port word node before ∷ Differs port word node ∷ []
+
+  -- what is known where it has ended
+  abbrev pub seen_facts : ℕ → Option ℕ → List Fact
+  seen_facts word None = Missed port word ∷ []
+  seen_facts word (Some node) = Found port word node ∷ []
+
+  abbrev pub IsWalk : LockedWalkModel → Type 0
+  IsWalk walk = (walk.geometry ≡ env.geometry) × (walk.key ≡ port)
+
+  -- what the caller knows after an operation of the walk
+  abbrev pub WalkKnows : ℕ → LockedWalkModel × Next Seen → Memory → Ghost → Type 0
+  WalkKnows word (walk, Go) M G = Own M G × AllMean env mix c M G (OnlyLock (Some j) ∷ walk_facts_at word walk.before walk.at) × IsWalk walk
+  WalkKnows word (walk, Done seen) M G = Own M G × AllMean env mix c M G (OnlyLock (Some j) ∷ seen_facts word seen.found)
+
+  abbrev pub StartKnows : ℕ → Start LockedWalkModel Seen → Memory → Ghost → Type 0
+  StartKnows word (starts.Running walk) M G = WalkKnows word (walk, Go) M G
+  StartKnows word (starts.Done seen) M G = Own M G × AllMean env mix c M G (OnlyLock (Some j) ∷ seen_facts word seen.found)
+
+  module _ (M : Memory) (G : Ghost) (whole : Whole env mix M G) where
+    -- the marker of a bucket names no node, and the link to a node in a chain names it
+    marker_ends : (link : ℕ) → link ≡ marker_of place → node_of env.geometry.nodes link ≡ None
+    marker_ends link is = rw is (links_tell_apart.marker_names_no_node env.geometry.nodes place)
+
+    link_names : (link node : ℕ) → link ≡ link_of node → In node (G.bucket j).nodes → node_of env.geometry.nodes link ≡ Some node
+    link_names link node is i =
+        rw is (links_tell_apart.link_names env.geometry.nodes node (whole.owned.first_at node j (whole.owned.member j node i)).among)
+
+    chain_here : IsSegment (chain_of M) (head_of place (G.bucket j).plain) (G.bucket j).nodes (marker_of place)
+    chain_here = (whole.buckets j within).chained.segment
+
+    -- the walk of a bucket that has just been locked
+    pub walk_start : (word : ℕ) → Own M G → AllMean env mix c M G (OnlyLock (Some j) ∷ Locks port word ∷ [])
+        → StartKnows word (locked_walk_new env.geometry place word port) M G
+    walk_start word mine knows = go (G.bucket j).nodes refl (rw knows.1.0.1 at chain_here)
+      where
+        first : ℕ
+        first = head_of place word
+        go : (nodes : List ℕ) → (G.bucket j).nodes ≡ nodes → IsSegment (chain_of M) first (G.bucket j).nodes (marker_of place)
+            → StartKnows word (walk_from env.geometry port first (node_of env.geometry.nodes first)) M G
+        go [] e s =
+            let stop : first ≡ marker_of place = subst (λ l. IsSegment (chain_of M) first l (marker_of place)) e s in
+            rw (marker_ends first stop) (mine, (knows.0, ((knows.1.0, rw e tt), tt)))
+        go (m ∷ nodes) e s =
+            let split = subst (λ l. IsSegment (chain_of M) first l (marker_of place)) e s in
+            rw (link_names first m split.0 (rw e (inl refl)))
+              (mine, (knows.0, ((knows.1.0, record { front = []; rear = nodes; split = e; passed = tt; last = refl }), tt)), (refl, refl))
+
+    NoKey-more : (nodes : List ℕ) (node : ℕ) → NoKey M port nodes → key_of M node ≢ port → NoKey M port (nodes ++ node ∷ [])
+    NoKey-more [] node none differs = (differs, tt)
+    NoKey-more (other ∷ nodes) node none differs = (none.0, NoKey-more nodes node none.1 differs)
+
+    last_of-more : (nodes : List ℕ) (node : ℕ) → Some node ≡ last_of (nodes ++ node ∷ [])
+    last_of-more [] node = refl
+    last_of-more (other ∷ []) node = refl
+    last_of-more (other ∷ next ∷ nodes) node = last_of-more (next ∷ nodes) node
+
+    -- behind a node with another key the walk stands at the next one, or has missed the port
+    pub walk_on : (word node : ℕ) (walk : LockedWalkModel) → IsWalk walk → Own M G → AllMean env mix c M G (OnlyLock (Some j) ∷ [])
+        → HoldsLock env mix c G port word → StandsAt M (G.bucket j).nodes port node walk.before → key_of M node ≢ port
+        → WalkKnows word (followed walk node (chain_of M node) (node_of walk.geometry.nodes (chain_of M node))) M G
+    walk_on word node walk is mine only holds stands differs = go stands.rear stands.split (rw stands.split at chain_here)
+      where
+        front : List ℕ
+        front = stands.front
+        go : (rear : List ℕ) → (G.bucket j).nodes ≡ front ++ node ∷ rear → IsSegment (chain_of M) (head_of place (G.bucket j).plain) (front ++ node ∷ stands.rear) (marker_of place)
+            → WalkKnows word (followed walk node (chain_of M node) (node_of walk.geometry.nodes (chain_of M node))) M G
+        go [] e s0 =
+            let s = rw e at chain_here in
+            let cut = IsSegment-cut (chain_of M) (head_of place (G.bucket j).plain) front node [] (marker_of place) s in
+            let ends : node_of walk.geometry.nodes (chain_of M node) ≡ None = rw is.0 (marker_ends (chain_of M node) cut.1) in
+            rw ends (mine, (only.0, ((holds, rw e (NoKey-more front node stands.passed differs)), tt)))
+        go (next ∷ rear) e s0 =
+            let s = rw e at chain_here in
+            let cut = IsSegment-cut (chain_of M) (head_of place (G.bucket j).plain) front node (next ∷ rear) (marker_of place) s in
+            let more : (G.bucket j).nodes ≡ (front ++ node ∷ []) ++ next ∷ rear = e ∙ sym (append_snoc front node (next ∷ rear)) in
+            let names : node_of walk.geometry.nodes (chain_of M node) ≡ Some next
+                  = rw is.0 (link_names (chain_of M node) next cut.1.0 (rw more (in-middle next (front ++ node ∷ []) rear))) in
+            rw names (mine, (only.0, ((holds, record {
+                front = front ++ node ∷ [];
+                rear = rear;
+                split = more;
+                passed = NoKey-more front node stands.passed differs;
+                last = last_of-more front node;
+              }), tt)), is)
+
+  -- ---- the lock
+
+  -- what the caller knows after an operation of the lock
+  abbrev pub LockKnows : LockModel × Next ℕ → Memory → Ghost → Type 0
+  LockKnows (lock, Go) M G = Own M G × AllMean env mix c M G (OnlyLock None ∷ []) × (lock.place ≡ place) × IsEven lock.at
+  LockKnows (lock, Done word) M G = Own M G × AllMean env mix c M G (OnlyLock (Some j) ∷ Locks port word ∷ []) × (lock.place ≡ place)
+
+  module _ (words : List ℕ) (G : Ghost) (all : length words ≡ words_in env.geometry) (whole : Whole env mix (mem env mix words) G)
+      (mine : Own (mem env mix words) G) where
+    abbrev M : Memory
+    M = mem env mix words
+
+    lock_knows_even : (at : LockAt) (word : ℕ) → LockKnows (record { place = place; at = at }, Go) M G → (word % 2 == 1) ≡ false
+        → LockKnows (record { place = place; at = locks.Exchange word }, Go) M G
+    lock_knows_even at word known even = (known.0, known.1, refl, (let odd = eqb-false (word % 2) 1 even in omega (arith, odd)))
+
+    pub lock_step : (at : LockAt) → IsEven at → AllMean env mix c M G (OnlyLock None ∷ [])
+        → Step env mix c words G (lock_plan (record { place = place; at = at })) (LockKnows (lock_after (record { place = place; at = at }) (old_of words (lock_plan (record { place = place; at = at })))))
+    lock_step locks.Word even only =
+        let word = old_of words (Load place) in
+        by_test (λ t. Step env mix c words G (Load place) (LockKnows (cond t (record { place = place; at = locks.Word }, Go) (record { place = place; at = locks.Exchange word }, Go)))) (word % 2 == 1)
+          (λ t. reads env mix c words G (Load place) (LockKnows (record { place = place; at = locks.Word }, Go)) whole refl (mine, only, refl, tt))
+          (λ t. reads env mix c words G (Load place) (LockKnows (record { place = place; at = locks.Exchange word }, Go)) whole refl
+              (lock_knows_even locks.Word word (mine, only, refl, tt) t))
+    lock_step (locks.Exchange found) even only =
+        let op = Exchange place found (found + 1) in
+        let word = old_of words op in
+        by_test (λ t. (word == found) ≡ t → Step env mix c words G op (LockKnows (cond t (record { place = place; at = locks.Exchange found }, Done found) (record { place = place; at = locks.Word }, Go)))) (word == found)
+          (λ t e. taken (eqb-true word found t))
+          (λ t e. reads env mix c words G op (LockKnows (record { place = place; at = locks.Word }, Go)) whole
+              (rw t refl) (mine, only, refl, tt)) refl
+      where
+        taken : old_of words (Exchange place found (found + 1)) ≡ found → Step env mix c words G (Exchange place found (found + 1)) (LockKnows (record { place = place; at = locks.Exchange found }, Done found))
+        taken same =
+            let op = Exchange place found (found + 1) in
+            let write : IsWrite env.geometry M (mem env mix (applied words op)) (PageWord j) (found + 1)
+                  = subst (λ v. IsWrite env.geometry M (mem env mix (applied words op)) (PageWord j) v) (written same)
+                      (is_write env.geometry words (PageWord j) op all within refl) in
+            let made = take_lock env mix c j found M (mem env mix (applied words op)) G whole within same even write in
+            record {
+              move = TakesLock j;
+              made = made.0;
+              knows = (own-kept env mix c M (mem env mix (applied words op)) G (with_holder env mix G j (Some c)) own all_own
+                          (λ n w l. write.others (Node n w) l (λ e. cc)) (λ n. refl) refl mine,
+                       (only_this, ((rw (put-same G.bucket j (record (G.bucket j) { holder = Some c })) refl, rw (put-same G.bucket j (record (G.bucket j) { holder = Some c })) made.1), tt)),
+                       refl);
+            }
+          where
+            written : old_of words (Exchange place found (found + 1)) ≡ found → word_after (word_at env.geometry words (PageWord j)) (Exchange place found (found + 1)) ≡ found + 1
+            written s = rw s (rw (eq-eqb found found refl) refl)
+            only_this : (other : ℕ) → (put G.bucket j (record (G.bucket j) { holder = Some c }) other).holder ≡ Some c → Some j ≡ Some other
+            only_this other = put-all (λ i b. b.holder ≡ Some c → Some j ≡ Some i) G.bucket j (record (G.bucket j) { holder = Some c })
+                (λ h. refl) (λ i ne h. let none = only.0 i h in absurd (cc)) other
+
+    -- ---- an operation of the walk
+
+    pub walk_step : (word : ℕ) (before : Option ℕ) (count : ℕ) (at : LockedWalkAt) → AllMean env mix c M G (OnlyLock (Some j) ∷ walk_facts_at word before at)
+        → let walk : LockedWalkModel = record { geometry = env.geometry; key = port; before = before; length = count; at = at } in
+          Step env mix c words G (locked_walk_plan walk) (WalkKnows word (locked_walk_after walk (old_of words (locked_walk_plan walk))))
+    walk_step word before count (walks.Key node) knows =
+        let op = Load (place_of env.geometry (Node node KeyWord)) in
+        let walk : LockedWalkModel = record { geometry = env.geometry; key = port; before = before; length = count; at = walks.Key node } in
+        let key = old_of words op in
+        let stands = knows.1.0 in
+        by_test (λ t. (key == port) ≡ t → Step env mix c words G op (WalkKnows word (cond t (counted walk, Done (found_at (counted walk) node)) (record (counted walk) { at = walks.ChainLink node }, Go)))) (key == port)
+          (λ t e. reads env mix c words G op (WalkKnows word (counted walk, Done (found_at (counted walk) node))) whole refl
+              (mine, (knows.0, ((stands.0, rw stands.1.split (in-middle node stands.1.front stands.1.rear), eqb-true key port t), tt))))
+          (λ t e. reads env mix c words G op (WalkKnows word (record (counted walk) { at = walks.ChainLink node }, Go)) whole refl
+              (mine, (knows.0, (stands, ((stands.0, rw stands.1.split (in-middle node stands.1.front stands.1.rear), eqb-false key port t), tt))), (refl, refl))) refl
+    walk_step word before count (walks.ChainLink node) knows =
+        let op = Load (place_of env.geometry (Node node ChainLink)) in
+        let walk : LockedWalkModel = record { geometry = env.geometry; key = port; before = before; length = count; at = walks.ChainLink node } in
+        reads env mix c words G op (WalkKnows word (followed walk node (old_of words op) (node_of env.geometry.nodes (old_of words op)))) whole refl
+          (walk_on M G whole word node walk (refl, refl) mine (knows.0, tt) knows.1.0.0 knows.1.0.1 knows.1.1.0.2)

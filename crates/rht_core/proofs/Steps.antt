@@ -1,0 +1,108 @@
+-- What one operation of a caller makes of the words, the ghost and the caller's knowledge.
+use Rattle.std.proofs.Common.{◌≡◌, ◌≢◌, ◌↔◌, ℕ, ◌+◌, ◌*◌, ◌/◌, ◌%◌, ◌^◌, ◌<◌, ◌==◌, List, [], ◌∷◌, length, Option, Some, None, Bool, true, false, cond, refl, sym, ◌∙◌, ap, inl, inr, ◌⊎◌, arith}
+use Rattle.std.proofs.lemmas.List.{set-get_or}
+use Rattle.rht_words.specs.declared.env.Env.{Env}
+use Rattle.rht_words.specs.declared.op.Op.{Op}
+use Rattle.rht_words.specs.declared.op.Op.TheVariants.{Load}
+use Rattle.rht_words.specs.Operations.{op_place, old_of, word_after, applied}
+use Rattle.rht_words.specs.Places.{Address, Node, NodeWord, ChainLink, KeyWord, OwnerWord, ListLink, PageWord, IsAddress, place_of, words_in, word_at}
+use Rattle.rht_words.proofs.Memory.{Memory, IsWrite, is_write}
+use Rattle.rht_core.proofs.Ghosts.{put, Bucket, Owner, Free, Held, First, Ghost}
+use Rattle.rht_core.proofs.Wholes.{home, Whole}
+use Rattle.rht_core.proofs.Knowledge.{Fact, Has, WordIs, Locks, Stands, Differs, Missed, Found, OwnerIs, Raised, OnlyNode, OnlyLock, Means, AllMean, HasNode}
+use Rattle.rht_core.proofs.Frames.{Others, Made, still}
+use Rattle.rht_core.proofs.QuietMoves.{with_holder, with_owner, with_raised}
+use Rattle.rht_core.proofs.Linking.{linked}
+
+-- What an operation does beside what it finds: nothing that others see, a node taken or given back, a lock taken or dropped,
+-- the count raised, or a port bound
+pub data Move : Type 0 where
+  Reads : Move
+  TakesNode : ℕ → Move
+  GivesNode : ℕ → Move
+  TakesLock : ℕ → Move
+  DropsLock : ℕ → Move
+  Raises : Move
+  Links : ℕ → ℕ → Move
+
+-- a test's two cases, with what the test says
+pub by_test : (C : Bool → Type 0) (b : Bool) → ((b ≡ true) → C true) → ((b ≡ false) → C false) → C b
+by_test C true t f = t refl
+by_test C false t f = f refl
+
+-- an operation that leaves its word leaves all words
+pub unchanged : (words : List ℕ) (op : Op) → word_after (old_of words op) op ≡ old_of words op → applied words op ≡ words
+unchanged words op same = rw same (set-get_or words (op_place op) 0)
+
+module _ (env : Env) (mix : ℕ → ℕ → ℕ → ℕ) where
+  -- the ghost after a move of a caller
+  abbrev pub ghost_after : ℕ → Move → Ghost → Ghost
+  ghost_after c Reads G = G
+  ghost_after c (TakesNode n) G = with_owner env mix G n (Held c)
+  ghost_after c (GivesNode n) G = with_owner env mix G n Free
+  ghost_after c (TakesLock j) G = with_holder env mix G j (Some c)
+  ghost_after c (DropsLock j) G = with_holder env mix G j None
+  ghost_after c Raises G = with_raised env mix G c true
+  ghost_after c (Links n port) G = linked env mix G c (home env mix port) n port
+
+  -- the words as a memory
+  abbrev pub mem : List ℕ → Memory
+  mem words = word_at env.geometry words
+
+  -- An operation of a caller, with what the caller knows afterwards.
+  pub record Step (c : ℕ) (words : List ℕ) (G : Ghost) (op : Op) (Knows : Memory → Ghost → Type 0) : Type 0 where
+    pub move : Move
+    pub made : Made env mix c (mem words) G (mem (applied words op)) (ghost_after c move G)
+    pub knows : Knows (mem (applied words op)) (ghost_after c move G)
+
+  -- an operation that leaves its word, and what follows from the words as they are
+  pub reads : (c : ℕ) (words : List ℕ) (G : Ghost) (op : Op) (Knows : Memory → Ghost → Type 0) → Whole env mix (mem words) G
+      → word_after (old_of words op) op ≡ old_of words op → Knows (mem words) G → Step c words G op Knows
+  reads c words G op Knows whole same knows = record {
+    move = Reads;
+    made = rw (unchanged words op same) (still env mix c (mem words) G whole);
+    knows = rw (unchanged words op same) knows;
+  }
+
+  -- the same step with more said of what the caller knows
+  pub step-map : (c : ℕ) (words : List ℕ) (G : Ghost) (op : Op) (Knows More : Memory → Ghost → Type 0)
+      → ((M : Memory) (G' : Ghost) → Whole env mix M G' → Knows M G' → More M G') → Step c words G op Knows → Step c words G op More
+  step-map c words G op Knows More more step = record {
+    move = step.move;
+    made = step.made;
+    knows = more (mem (applied words op)) (ghost_after c step.move G) step.made.whole step.knows;
+  }
+
+  -- ---- facts of what the caller has, which no store to a bucket's word touches
+
+  abbrev pub IsOwn : Fact → Type 0
+  IsOwn (Has node) = Unit {0}
+  IsOwn (WordIs node word value) = Unit {0}
+  IsOwn (Raised now) = Unit {0}
+  IsOwn (OnlyNode node) = Unit {0}
+  IsOwn _ = ⊥
+
+  abbrev pub AllOwn : List Fact → Type 0
+  AllOwn [] = Unit {0}
+  AllOwn (fact ∷ facts) = IsOwn fact × AllOwn facts
+
+  pub own-kept : (c : ℕ) (M M' : Memory) (G G' : Ghost) (facts : List Fact) → AllOwn facts
+      → ((n : ℕ) (w : NodeWord) → n < env.geometry.nodes → M' (Node n w) ≡ M (Node n w))
+      → ((n : ℕ) → G'.node n ≡ G.node n) → G'.raised c ≡ G.raised c
+      → AllMean env mix c M G facts → AllMean env mix c M' G' facts
+  own-kept c M M' G G' [] own words nodes raised means = tt
+  own-kept c M M' G G' (fact ∷ facts) own words nodes raised means =
+      (one fact own.0 means.0, own-kept c M M' G G' facts own.1 words nodes raised means.1)
+    where
+      one : (f : Fact) → IsOwn f → Means env mix c M G f → Means env mix c M' G' f
+      one (Has n) o h = (nodes n ∙ h.0, h.1)
+      one (WordIs n w v) o h = ((nodes n ∙ h.0.0, h.0.1), words n w h.0.1 ∙ h.1)
+      one (Raised now) o h = raised ∙ h
+      one (OnlyNode node) o h = λ other held. h other (sym (nodes other) ∙ held)
+      one (Locks p w) o h = absurd o
+      one (Stands p w n b) o h = absurd o
+      one (Differs p w n) o h = absurd o
+      one (Missed p w) o h = absurd o
+      one (Found p w n) o h = absurd o
+      one (OwnerIs p w n x) o h = absurd o
+      one (OnlyLock b) o h = absurd o
