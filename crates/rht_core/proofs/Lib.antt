@@ -16,3 +16,5 @@ pub mod Steps
 pub mod PieceSteps
 -- taking a node, giving it back, and writing its words
 pub mod NodeSteps
+-- a bind, operation by operation
+pub mod BindSteps

@@ -1,16 +1,17 @@
 -- The operations that take a node and give it back, and those that write a word of a node which the caller has.
 use Rattle.std.proofs.Common.{◌≡◌, ◌≢◌, ◌↔◌, ℕ, ◌+◌, ◌*◌, ◌/◌, ◌%◌, ◌^◌, ◌<◌, ◌==◌, List, [], ◌∷◌, ◌++◌, length, Option, Some, None, Bool, true, false, cond, refl, sym, ◌∙◌, ap, subst, inl, inr, ◌⊎◌, bit_and, bit_or, nat_lt, arith}
-use Rattle.std.proofs.lemmas.Bool.{cases_eq, eqb-true, eqb-false}
+use Rattle.std.proofs.lemmas.Bool.{cases_eq, eqb-true, eqb-false, ltb-true}
 use Rattle.std.proofs.lemmas.Nat.Bits.{bit_at-lt}
-use Rattle.std.specs.Int.{bit_at, bit_not, w64}
+use Rattle.std.specs.Int.{bit_at, bit_not, trailing_zeros, w64}
 use Rattle.rht_words.specs.declared.env.Env.{Env}
 use Rattle.rht_words.specs.declared.op.Op.{Op}
 use Rattle.rht_words.specs.declared.op.Op.TheVariants.{Load, Store, And, Or}
 use Rattle.rht_words.specs.declared.machine.Next.{Next}
 use Rattle.rht_words.specs.declared.machine.Next.TheVariants.{Go, Done}
-use Rattle.rht_words.specs.Maps.{bit_of, bits_above, lowest_free, IsBitIn}
+use Rattle.rht_words.specs.Maps.{bit_of, bits_above, lowest_free, map_bits, IsBitIn}
 use Rattle.rht_words.specs.Operations.{op_place, old_of, word_after, applied}
 use Rattle.rht_words.specs.Places.{Address, Node, NodeWord, ChainLink, KeyWord, OwnerWord, ListLink, NodeMap, map_words, IsAddress, place_of, words_in, word_at}
+use Rattle.rht_words.proofs.LowestBits.{lowest_is_in}
 use Rattle.rht_words.proofs.Memory.{Memory, IsWrite, is_write}
 use Rattle.rht_arena.specs.TakeNode.{TakeNodeModel, take_node_plan, take_node_after, next_word, claim_in, claim_among, IsInRange}
 use Rattle.rht_arena.specs.declared.take_node.TakeNodeAt.{TakeNodeAt}
@@ -29,21 +30,30 @@ abbrev pub node_held : ℕ → List Fact
 node_held node = Raised false ∷ OnlyNode (Some node) ∷ OnlyLock None ∷ Has node ∷ []
 
 module _ (env : Env) (mix : ℕ → ℕ → ℕ → ℕ) (c : ℕ) where
+  -- the taking stands at a word or a node that there is
+  abbrev pub IsTaking : TakeNodeModel → Type 0
+  IsTaking take = (take.geometry ≡ env.geometry) × IsInRange env.geometry take.at
+
   -- what the caller knows after an operation that takes a node
   abbrev pub TakeKnows : TakeNodeModel × Next (Option ℕ) → Memory → Ghost → Type 0
-  TakeKnows (take, Go) M G = AllMean env mix c M G nothing_held
+  TakeKnows (take, Go) M G = AllMean env mix c M G nothing_held × IsTaking take
   TakeKnows (take, Done None) M G = AllMean env mix c M G nothing_held
   TakeKnows (take, Done (Some node)) M G = AllMean env mix c M G (node_held node)
 
   -- looking on for a node gives none yet
-  next_knows : (take : TakeNodeModel) (index : ℕ) (M : Memory) (G : Ghost) → AllMean env mix c M G nothing_held → TakeKnows (next_word take index) M G
-  next_knows take index M G means =
-      by_test (λ t. TakeKnows (cond t (record take { at = takes.MapWord (index + 1) }, Go) (take, Done None)) M G) (nat_lt (index + 1) (map_words take.geometry.nodes))
-        (λ t. means) (λ t. means)
+  next_knows : (at : TakeNodeAt) (index : ℕ) (M : Memory) (G : Ghost) → AllMean env mix c M G nothing_held → TakeKnows (next_word (record { geometry = env.geometry; at = at }) index) M G
+  next_knows at index M G means =
+      let take : TakeNodeModel = record { geometry = env.geometry; at = at } in
+      by_test (λ t. TakeKnows (cond t (record take { at = takes.MapWord (index + 1) }, Go) (take, Done None)) M G) (nat_lt (index + 1) (map_words env.geometry.nodes))
+        (λ t. (means, (refl, ltb-true (index + 1) (map_words env.geometry.nodes) t))) (λ t. means)
 
-  claim_knows : (take : TakeNodeModel) (index : ℕ) (bit : Option ℕ) (M : Memory) (G : Ghost) → AllMean env mix c M G nothing_held → TakeKnows (claim_in take index bit) M G
-  claim_knows take index None M G means = next_knows take index M G means
-  claim_knows take index (Some bit) M G means = means
+  claim_knows : (at : TakeNodeAt) (index word : ℕ) (M : Memory) (G : Ghost) → AllMean env mix c M G nothing_held → TakeKnows (claim_among (record { geometry = env.geometry; at = at }) index word) M G
+  claim_knows at index word M G means =
+      let take : TakeNodeModel = record { geometry = env.geometry; at = at } in
+      let free = bit_and word (map_bits env.geometry.nodes index) in
+      by_test (λ t. (free == 0) ≡ t → TakeKnows (claim_in take index (cond t None (Some (trailing_zeros w64 free)))) M G) (free == 0)
+        (λ t e. next_knows at index M G means)
+        (λ t e. (means, (refl, lowest_is_in env.geometry.nodes index word (let ne = eqb-false free 0 t in omega (arith, ne))))) refl
 
   module _ (words : List ℕ) (G : Ghost) (all : length words ≡ words_in env.geometry) (whole : Whole env mix (mem env mix words) G) where
     abbrev M : Memory
@@ -56,7 +66,7 @@ module _ (env : Env) (mix : ℕ → ℕ → ℕ → ℕ) (c : ℕ) where
         let op = Load (place_of env.geometry (NodeMap index)) in
         let take : TakeNodeModel = record { geometry = env.geometry; at = takes.MapWord index } in
         reads env mix c words G op (TakeKnows (claim_among take index (old_of words op))) whole refl
-          (claim_knows take index (lowest_free env.geometry.nodes index (old_of words op)) M G means)
+          (claim_knows (takes.MapWord index) index (old_of words op) M G means)
     take_step (takes.Claim index bit) range means =
         let op = And (place_of env.geometry (NodeMap index)) (bit_not w64 (bit_of bit)) in
         let take : TakeNodeModel = record { geometry = env.geometry; at = takes.Claim index bit } in
@@ -79,7 +89,7 @@ module _ (env : Env) (mix : ℕ → ℕ → ℕ → ℕ) (c : ℕ) where
               record {
                 move = Reads;
                 made = retouch env mix c index (bit_and word (bit_not w64 (bit_of bit))) M M' G whole low write same;
-                knows = claim_knows take index (lowest_free env.geometry.nodes index (bit_and word (bits_above bit))) M' G means;
+                knows = claim_knows (takes.Claim index bit) index (bit_and word (bits_above bit)) M' G means;
               }) refl
       where
         only_this : ((other : ℕ) → G.node other ≡ Held c → ◌≡◌ {A = Option ℕ} None (Some other)) → (other : ℕ) → put G.node (64 * index + bit) (Held c) other ≡ Held c → Some (64 * index + bit) ≡ Some other

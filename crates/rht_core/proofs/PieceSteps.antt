@@ -31,6 +31,16 @@ use Rattle.rht_core.proofs.Knowledge.{Fact, Has, WordIs, Locks, Stands, Differs,
 use Rattle.rht_core.proofs.QuietMoves.{take_lock, with_holder}
 use Rattle.rht_core.proofs.Steps.{Move, Reads, TakesLock, by_test, mem, Step, reads, AllOwn, own-kept, ghost_after}
 
+-- what is known at a state of the walk, of the bucket of a port whose word was this before it was locked
+abbrev pub walk_facts_at : ℕ → ℕ → Option ℕ → LockedWalkAt → List Fact
+walk_facts_at port word before (walks.Key node) = Stands port word node before ∷ []
+walk_facts_at port word before (walks.ChainLink node) = Stands port word node before ∷ Differs port word node ∷ []
+
+-- what is known where it has ended
+abbrev pub seen_facts : ℕ → ℕ → Option ℕ → List Fact
+seen_facts port word None = Missed port word ∷ []
+seen_facts port word (Some node) = Found port word node ∷ []
+
 module _ (env : Env) (mix : ℕ → ℕ → ℕ → ℕ) (c : ℕ) (port : ℕ) (own : List Fact) (all_own : AllOwn env mix own) (within : home env mix port < 64 * env.geometry.pages) where
   abbrev j : ℕ
   j = home env mix port
@@ -43,27 +53,17 @@ module _ (env : Env) (mix : ℕ → ℕ → ℕ → ℕ) (c : ℕ) (port : ℕ) 
 
   -- ---- the walk
 
-  -- what is known at a state of the walk, of a bucket whose word was this before it was locked
-  abbrev pub walk_facts_at : ℕ → Option ℕ → LockedWalkAt → List Fact
-  walk_facts_at word before (walks.Key node) = Stands port word node before ∷ []
-  walk_facts_at word before (walks.ChainLink node) = Stands port word node before ∷ Differs port word node ∷ []
-
-  -- what is known where it has ended
-  abbrev pub seen_facts : ℕ → Option ℕ → List Fact
-  seen_facts word None = Missed port word ∷ []
-  seen_facts word (Some node) = Found port word node ∷ []
-
   abbrev pub IsWalk : LockedWalkModel → Type 0
   IsWalk walk = (walk.geometry ≡ env.geometry) × (walk.key ≡ port)
 
   -- what the caller knows after an operation of the walk
   abbrev pub WalkKnows : ℕ → LockedWalkModel × Next Seen → Memory → Ghost → Type 0
-  WalkKnows word (walk, Go) M G = Own M G × AllMean env mix c M G (OnlyLock (Some j) ∷ walk_facts_at word walk.before walk.at) × IsWalk walk
-  WalkKnows word (walk, Done seen) M G = Own M G × AllMean env mix c M G (OnlyLock (Some j) ∷ seen_facts word seen.found)
+  WalkKnows word (walk, Go) M G = Own M G × AllMean env mix c M G (OnlyLock (Some j) ∷ walk_facts_at port word walk.before walk.at) × IsWalk walk
+  WalkKnows word (walk, Done seen) M G = Own M G × AllMean env mix c M G (OnlyLock (Some j) ∷ seen_facts port word seen.found)
 
   abbrev pub StartKnows : ℕ → Start LockedWalkModel Seen → Memory → Ghost → Type 0
   StartKnows word (starts.Running walk) M G = WalkKnows word (walk, Go) M G
-  StartKnows word (starts.Done seen) M G = Own M G × AllMean env mix c M G (OnlyLock (Some j) ∷ seen_facts word seen.found)
+  StartKnows word (starts.Done seen) M G = Own M G × AllMean env mix c M G (OnlyLock (Some j) ∷ seen_facts port word seen.found)
 
   module _ (M : Memory) (G : Ghost) (whole : Whole env mix M G) where
     -- the marker of a bucket names no node, and the link to a node in a chain names it
@@ -188,7 +188,7 @@ module _ (env : Env) (mix : ℕ → ℕ → ℕ → ℕ) (c : ℕ) (port : ℕ) 
 
     -- ---- an operation of the walk
 
-    pub walk_step : (word : ℕ) (before : Option ℕ) (count : ℕ) (at : LockedWalkAt) → AllMean env mix c M G (OnlyLock (Some j) ∷ walk_facts_at word before at)
+    pub walk_step : (word : ℕ) (before : Option ℕ) (count : ℕ) (at : LockedWalkAt) → AllMean env mix c M G (OnlyLock (Some j) ∷ walk_facts_at port word before at)
         → let walk : LockedWalkModel = record { geometry = env.geometry; key = port; before = before; length = count; at = at } in
           Step env mix c words G (locked_walk_plan walk) (WalkKnows word (locked_walk_after walk (old_of words (locked_walk_plan walk))))
     walk_step word before count (walks.Key node) knows =

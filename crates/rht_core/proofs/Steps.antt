@@ -106,3 +106,35 @@ module _ (env : Env) (mix : ℕ → ℕ → ℕ → ℕ) where
       one (Found p w n) o h = absurd o
       one (OwnerIs p w n x) o h = absurd o
       one (OnlyLock b) o h = absurd o
+
+  -- facts of the node that it has alone, whatever becomes of the count
+  abbrev pub IsOfNode : Fact → Type 0
+  IsOfNode (Has node) = Unit {0}
+  IsOfNode (WordIs node word value) = Unit {0}
+  IsOfNode (OnlyNode node) = Unit {0}
+  IsOfNode _ = ⊥
+
+  abbrev pub AllOfNode : List Fact → Type 0
+  AllOfNode [] = Unit {0}
+  AllOfNode (fact ∷ facts) = IsOfNode fact × AllOfNode facts
+
+  pub node-kept : (c : ℕ) (M M' : Memory) (G G' : Ghost) (facts : List Fact) → AllOfNode facts
+      → ((n : ℕ) (w : NodeWord) → n < env.geometry.nodes → M' (Node n w) ≡ M (Node n w))
+      → ((n : ℕ) → G'.node n ≡ G.node n)
+      → AllMean env mix c M G facts → AllMean env mix c M' G' facts
+  node-kept c M M' G G' [] own words nodes means = tt
+  node-kept c M M' G G' (fact ∷ facts) own words nodes means =
+      (one fact own.0 means.0, node-kept c M M' G G' facts own.1 words nodes means.1)
+    where
+      one : (f : Fact) → IsOfNode f → Means env mix c M G f → Means env mix c M' G' f
+      one (Has n) o h = (nodes n ∙ h.0, h.1)
+      one (WordIs n w v) o h = ((nodes n ∙ h.0.0, h.0.1), words n w h.0.1 ∙ h.1)
+      one (OnlyNode node) o h = λ other held. h other (sym (nodes other) ∙ held)
+      one (Raised now) o h = absurd o
+      one (Locks p w) o h = absurd o
+      one (Stands p w n b) o h = absurd o
+      one (Differs p w n) o h = absurd o
+      one (Missed p w) o h = absurd o
+      one (Found p w n) o h = absurd o
+      one (OwnerIs p w n x) o h = absurd o
+      one (OnlyLock b) o h = absurd o
