@@ -2,6 +2,7 @@
 -- A fact speaks of words and ghosts on which the caller holds the right, or which nobody changes.
 use Rattle.std.proofs.Common.{◌≡◌, ◌≢◌, ℕ, ◌+◌, ◌<◌, List, [], ◌∷◌, ◌++◌, length, Option, Some, None, Bool, refl, sym, ◌∙◌, ap, ◌⊎◌, inl, inr}
 use Rattle.rht_words.specs.declared.env.Env.{Env}
+use Rattle.rht_words.specs.Ports.{owner_of}
 use Rattle.rht_words.specs.Places.{Address, Node, NodeWord, ChainLink, KeyWord, OwnerWord, ListLink}
 use Rattle.rht_words.proofs.Memory.{Memory}
 use Rattle.rht_words.proofs.Members.{In, in-front}
@@ -42,7 +43,7 @@ pub data Fact : Type 0 where
   Missed : ℕ → ℕ → Fact
   -- a node of the locked bucket has it
   Found : ℕ → ℕ → ℕ → Fact
-  -- this is the owner word of a node that was found
+  -- this is the owner of a node that was found
   OwnerIs : ℕ → ℕ → ℕ → ℕ → Fact
   -- whether it has raised the count of ports for a node that it hasn't linked yet
   Raised : Bool → Fact
@@ -69,7 +70,7 @@ module _ (env : Env) (mix : ℕ → ℕ → ℕ → ℕ) where
   Means c M G (Differs port word node) = HoldsLock c G port word × In node (bucket_for G port).nodes × (key_of M node ≢ port)
   Means c M G (Missed port word) = HoldsLock c G port word × NoKey M port (bucket_for G port).nodes
   Means c M G (Found port word node) = HoldsLock c G port word × In node (bucket_for G port).nodes × (key_of M node ≡ port)
-  Means c M G (OwnerIs port word node owner) = HoldsLock c G port word × In node (bucket_for G port).nodes × (M (Node node OwnerWord) ≡ owner)
+  Means c M G (OwnerIs port word node owner) = HoldsLock c G port word × In node (bucket_for G port).nodes × (owner_of (M (Node node OwnerWord)) ≡ owner)
   Means c M G (Raised now) = G.raised c ≡ now
   Means c M G (OnlyNode node) = (other : ℕ) → G.node other ≡ Held c → node ≡ Some other
   Means c M G (OnlyLock bucket) = (other : ℕ) → (G.bucket other).holder ≡ Some c → bucket ≡ Some other
@@ -146,7 +147,7 @@ module _ (env : Env) (mix : ℕ → ℕ → ℕ → ℕ) where
     Means-rely (Found port word node) means =
         (HoldsLock-rely c M M' G G' port word rely means.0, in_stays port word node means.0 means.1, (words_stay port node means.1).0 ∙ means.2)
     Means-rely (OwnerIs port word node owner) means =
-        (HoldsLock-rely c M M' G G' port word rely means.0, in_stays port word node means.0 means.1, (words_stay port node means.1).1 ∙ means.2)
+        (HoldsLock-rely c M M' G G' port word rely means.0, in_stays port word node means.0 means.1, ap owner_of (words_stay port node means.1).1 ∙ means.2)
     Means-rely (Raised now) means = rely.raised ∙ means
     Means-rely (OnlyNode node) means = λ other held. means other (rely.no_node other held)
     Means-rely (OnlyLock bucket) means = λ other held. means other (rely.no_lock other held)

@@ -18,3 +18,5 @@ pub mod PieceSteps
 pub mod NodeSteps
 -- a bind, operation by operation
 pub mod BindSteps
+-- a look-up, operation by operation
+pub mod FindSteps
