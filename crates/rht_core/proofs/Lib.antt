@@ -20,3 +20,5 @@ pub mod NodeSteps
 pub mod BindSteps
 -- a look-up, operation by operation
 pub mod FindSteps
+-- the invariant of every run
+pub mod Invariants

@@ -341,3 +341,29 @@ module _ (env : Env) (mix : ℕ → ℕ → ℕ → ℕ) where
           no_lock = λ j h. h;
         };
       }
+
+  -- ---- words of which the whole says nothing
+
+  pub aside : (a : Address) (v : ℕ) (M M' : Memory) (G : Ghost) → Whole env mix M G → IsWrite env.geometry M M' a v
+      → CurrentTable ≢ a → ((s : SlotWord) → Slot 0 s ≢ a) → ((j : ℕ) → PageWord j ≢ a) → ((n : ℕ) (w : NodeWord) → Node n w ≢ a) → ((i : ℕ) → NodeMap i ≢ a) → PortCount ≢ a
+      → Whole env mix M' G × ((c : ℕ) → Rely env mix c M G M' G)
+  aside a v M M' G whole write current slot page node map count =
+      let first_word : (m j : ℕ) (w : NodeWord) → G.node m ≡ First j → M' (Node m w) ≡ M (Node m w)
+            = λ m j w f. write.others (Node m w) (whole.owned.first_at m j f).among (node m w) in
+      (record {
+        tables = OneTable-write env mix M M' G G a v write current slot refl refl whole.tables;
+        buckets = λ j k. BucketRight-frame env mix M M' j (G.bucket j) (write.others (PageWord j) k (page j))
+            (λ m n. first_word m j ChainLink (whole.owned.member j m n)) (whole.buckets j k);
+        owned = Owned-frame env mix M M' G G
+            (record { nodes = λ j. refl; firsts_before = λ m j f. f; firsts_after = λ m j f. f; bound = λ port. refl })
+            (record { keys = λ m j f. first_word m j KeyWord f; lists = λ m j f. first_word m j ListLink f }) whole.owned;
+        arena = ArenaRight-frame env mix M M' G G (λ i k. write.others (NodeMap i) k (map i)) (λ m. refl) whole.arena;
+        counted = write.others PortCount tt count ∙ whole.counted;
+      }, λ c. record {
+        locks = λ j h. refl;
+        words = λ m j f. (first_word m j KeyWord f, first_word m j OwnerWord f);
+        nodes = λ m has. (has.0, λ w. write.others (Node m w) has.1 (node m w));
+        raised = refl;
+        no_node = λ m h. h;
+        no_lock = λ j h. h;
+      })

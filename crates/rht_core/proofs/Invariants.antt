@@ -1,0 +1,131 @@
+-- The invariant of every run: there is a ghost of which the whole is true, and each caller knows what its state says.
+-- It holds at opening. A step of a caller keeps the whole and leads to what that caller's next state says; and since nobody's
+-- rights are touched by others, all others still know what they knew.
+use Rattle.std.proofs.Common.{◌≡◌, ◌≢◌, ◌↔◌, ℕ, ◌+◌, ◌-◌, ◌*◌, ◌/◌, ◌%◌, ◌<◌, ◌≤◌, ◌==◌, List, [], ◌∷◌, length, get_or, set, Option, Some, None, Bool, true, false, cond, refl, sym, ◌∙◌, ap, subst, min, inl, inr, ◌⊎◌, nat_lt, ◌&&◌, arith}
+use Rattle.std.proofs.lemmas.Bool.{cases_eq, ltb-true}
+use Rattle.std.proofs.lemmas.List.{get_or-set_same, get_or-set_other}
+use Rattle.rht_words.specs.declared.env.Env.{Env}
+use Rattle.rht_words.specs.declared.op.Op.{Op}
+use Rattle.rht_words.specs.declared.machine.Next.{Next}
+use Rattle.rht_words.specs.declared.machine.Next.TheVariants.{Go, Done}
+use Rattle.rht_words.specs.declared.config.Kind.{Kind}
+use Rattle.rht_words.specs.declared.config.Kind.TheVariants.{Single, Listed}
+use Rattle.rht_words.specs.Operations.{op_place, old_of, word_after, applied}
+use Rattle.rht_words.specs.Places.{Address, EnrolledCallers, words_in, word_at}
+use Rattle.rht_words.proofs.Memory.{Memory, IsWrite, is_write}
+use Rattle.rht_model.specs.declared.history.Call.{Call}
+use Rattle.rht_model.specs.declared.history.Call.TheVariants as calls
+use Rattle.rht_model.specs.declared.history.Reply.{Reply}
+use Rattle.rht_find.specs.Find.{FindModel, find_new, find_plan, find_after}
+use Rattle.rht_find.specs.Find as find_at
+use Rattle.rht_find.specs.declared.find.FindAt.{FindAt}
+use Rattle.rht_bind.specs.Bind.{BindModel, bind_new, bind_plan, bind_after}
+use Rattle.rht_bind.specs.Bind as bind_at
+use Rattle.rht_bind.specs.declared.bind.BindAt.{BindAt}
+use Rattle.rht_core.specs.declared.event.Event.{Event}
+use Rattle.rht_core.specs.declared.event.Event.TheVariants.{Enroll, Begin, Step as StepOf}
+use Rattle.rht_core.specs.declared.local.Local.{Local}
+use Rattle.rht_core.specs.declared.local.Local.TheVariants.{Idle, Finding, Binding}
+use Rattle.rht_core.specs.Locals.{is_idle, machine_of, binding_of, plan_of, found_next, bound_next, local_after}
+use Rattle.rht_core.specs.Runs.{Core, core_step, local_of, local_in, beginning, with_machine, begun, planned, performed, with_step, enrolling, enrolled_after, IsSound}
+use Rattle.rht_core.proofs.Ghosts.{Ghost}
+use Rattle.rht_core.proofs.Wholes.{home, Whole}
+use Rattle.rht_core.proofs.Knowledge.{Fact, AllMean, AllMean-rely, Rely}
+use Rattle.rht_core.proofs.Frames.{Others, Made}
+use Rattle.rht_core.proofs.QuietMoves.{aside}
+use Rattle.rht_core.proofs.Steps.{Move, mem, Step, step-map, ghost_after}
+use Rattle.rht_core.proofs.NodeSteps.{nothing_held}
+use Rattle.rht_core.proofs.BindSteps.{BindKnows, BindNext, bind_own, bind_lock, bind_step}
+use Rattle.rht_core.proofs.FindSteps.{FindKnows, FindNext, no_node, find_lock, find_step}
+
+module _ (env : Env) (mix : ℕ → ℕ → ℕ → ℕ) where
+  -- every port has a bucket
+  pub home-within : (port : ℕ) → home env mix port < 64 * env.geometry.pages
+  home-within port = let within = env.geometry.within in omega (arith, within.pages_within.0)
+
+  module _ (L : Type 0) where
+    -- what each caller knows, by what it is doing
+    abbrev pub CallerKnows : ℕ → Local L → Memory → Ghost → Type 0
+    CallerKnows c Idle M G = AllMean env mix c M G nothing_held
+    CallerKnows c (Finding m) M G = (m.env ≡ env) × FindKnows env mix c m.port m.at M G
+    CallerKnows c (Binding m) M G = (m.env ≡ env) × BindKnows env mix c m.port m.owner m.at M G
+
+    -- others leave what a caller knows
+    pub CallerKnows-rely : (c : ℕ) (local : Local L) (M M' : Memory) (G G' : Ghost) → Whole env mix M G → Rely env mix c M G M' G' → CallerKnows c local M G → CallerKnows c local M' G'
+    CallerKnows-rely c Idle M M' G G' whole rely known = AllMean-rely env mix c M M' G G' whole.owned.member rely nothing_held known
+    CallerKnows-rely c (Finding m) M M' G G' whole rely known = (known.0, record {
+      own = AllMean-rely env mix c M M' G G' whole.owned.member rely no_node known.1.own;
+      lock = AllMean-rely env mix c M M' G G' whole.owned.member rely (find_lock env mix c m.port m.at) known.1.lock;
+      fits = known.1.fits;
+    })
+    CallerKnows-rely c (Binding m) M M' G G' whole rely known = (known.0, record {
+      own = AllMean-rely env mix c M M' G G' whole.owned.member rely (bind_own env mix c m.port m.owner m.at) known.1.own;
+      lock = AllMean-rely env mix c M M' G G' whole.owned.member rely (bind_lock env mix c m.port m.owner m.at) known.1.lock;
+      fits = known.1.fits;
+    })
+
+    rw_machine : (c : ℕ) (machine : Local L) (M : Memory) (G : Ghost) (first : Local L) → machine ≡ first → CallerKnows c first M G → CallerKnows c machine M G
+    rw_machine c machine M G first same known = rw same known
+
+    -- ---- one operation of a caller
+
+    found_knows : (c : ℕ) (m : FindModel) (r : FindAt × Next Reply) (M : Memory) (G : Ghost) → m.env ≡ env → FindNext env mix c m.port r M G
+        → CallerKnows c (found_next {M = L} (record m { at = r.0 }, r.1)).0 M G
+    found_knows c m (at, Go) M G same known = (same, known)
+    found_knows c m (at, Done reply) M G same known = known
+
+    bound_knows : (c : ℕ) (m : BindModel) (r : BindAt × Next Reply) (M : Memory) (G : Ghost) → m.env ≡ env → BindNext env mix c m.port m.owner r M G
+        → CallerKnows c (bound_next {M = L} (record m { at = r.0 }, r.1)).0 M G
+    bound_knows c m (at, Go) M G same known = (same, known)
+    bound_knows c m (at, Done reply) M G same known = known
+
+    abbrev pub CallerStep : ℕ → Local L → Op → List ℕ → Ghost → Type 0
+    CallerStep c local op words G = Step env mix c words G op (CallerKnows c (local_after mix local (old_of words op)).0)
+
+    -- each operation of a caller keeps the whole and leads to what its next state says
+    pub caller_step : (c : ℕ) (local : Local L) (op : Op) (words : List ℕ) (G : Ghost) → length words ≡ words_in env.geometry → Whole env mix (mem env mix words) G → c < env.geometry.callers
+        → plan_of local ≡ Some op → CallerKnows c local (mem env mix words) G → CallerStep c local op words G
+    caller_step c Idle op words G all whole low plans known = absurd (cc)
+    caller_step c (Finding m) op words G all whole low plans known =
+        let here : find_plan m ≡ op = (cc) in
+        let r = find_at.after_at mix m.env m.port m.at (old_of words (find_plan m)) in
+        subst (λ o. Step env mix c words G o (CallerKnows c (local_after mix (Finding m) (old_of words o)).0)) here
+          (step-map env mix c words G (find_plan m) (FindNext env mix c m.port r) (CallerKnows c (found_next (record m { at = r.0 }, r.1)).0)
+            (λ M' G' w k. found_knows c m r M' G' known.0 k)
+            (subst (λ e. Step env mix c words G (find_at.plan_at e m.at) (FindNext env mix c m.port (find_at.after_at mix e m.port m.at (old_of words (find_at.plan_at e m.at))))) (sym known.0)
+              (find_step env mix c m.port (home-within m.port) words G all whole m.at known.1)))
+    caller_step c (Binding m) op words G all whole low plans known =
+        let here : bind_plan m ≡ op = (cc) in
+        let r = bind_at.after_at mix m.env m.port m.at (old_of words (bind_plan m)) in
+        subst (λ o. Step env mix c words G o (CallerKnows c (local_after mix (Binding m) (old_of words o)).0)) here
+          (step-map env mix c words G (bind_plan m) (BindNext env mix c m.port m.owner r) (CallerKnows c (bound_next (record m { at = r.0 }, r.1)).0)
+            (λ M' G' w k. bound_knows c m r M' G' known.0 k)
+            (subst (λ e. Step env mix c words G (bind_at.plan_at e m.port m.owner m.at) (BindNext env mix c m.port m.owner (bind_at.after_at mix e m.port m.at (old_of words (bind_at.plan_at e m.port m.owner m.at))))) (sym known.0)
+              (bind_step env mix c m.port m.owner (home-within m.port) words G all whole low m.at known.1)))
+
+    -- ---- one event
+
+    -- the invariant: the whole is true of some ghost, and each caller knows what its state says
+    pub record Inv (core : Core L) (G : Ghost) : Type 0 where
+      pub same_env : core.env ≡ env
+      pub whole : Whole env mix (mem env mix core.words) G
+      pub each : (c : ℕ) → CallerKnows c (local_of core c) (mem env mix core.words) G
+
+    -- a caller that is given a call knows what the first state of its machine says
+    begun_knows : (c : ℕ) (call : Call) (machine : Local L) (M : Memory) (G : Ghost) → machine_of env c call ≡ Some machine → AllMean env mix c M G nothing_held → CallerKnows c machine M G
+    begun_knows c (calls.Find port) machine M G is known = rw_machine c machine M G (Finding (find_new env c port)) (cc)
+        (refl, record { own = (known.0, (known.1.0, tt)); lock = (known.1.1.0, tt); fits = tt })
+    begun_knows c (calls.Bind port owner once) machine M G is known = go env.config.kind is
+      where
+        first : CallerKnows c (Binding (bind_new env c port owner once)) M G
+        first = (refl, record { own = (known.0, (known.1.0, tt)); lock = (known.1.1.0, tt); fits = (refl, (let within = env.geometry.within in omega (arith, within.nodes_within.0))) })
+        go : (kind : Kind) → binding_of env c port owner once kind ≡ Some machine → CallerKnows c machine M G
+        go Single e = rw_machine c machine M G (Binding (bind_new env c port owner once)) (cc) first
+        go Listed e = absurd (cc)
+    begun_knows c (calls.All port) machine M G is known = absurd (cc)
+    begun_knows c (calls.Release port owner) machine M G is known = absurd (cc)
+    begun_knows c (calls.Rebind port owner new) machine M G is known = absurd (cc)
+    begun_knows c (calls.Walk from limit) machine M G is known = absurd (cc)
+    begun_knows c calls.Work machine M G is known = absurd (cc)
+    begun_knows c calls.Tidy machine M G is known = absurd (cc)
+    begun_knows c calls.Count machine M G is known = absurd (cc)
