@@ -1,0 +1,2 @@
+-- what an event does to each caller, and inductions over the events of a run
+pub mod Worlds
