@@ -1,10 +1,9 @@
 -- What an event does to the words and to each caller, and inductions over the events of a run.
 -- An event of one caller changes what that caller sees of itself and nothing that another sees. All
 -- else that holds of runs goes through these equations.
-use Rattle.std.proofs.Common.{◌≡◌, ◌≢◌, ℕ, ◌<◌, ◌≤◌, cond, List, [], ◌∷◌, ◌++◌, length, take, get_or, refl, sym, ap, ◌∙◌, subst, append_assoc}
+use Rattle.std.proofs.Common.{◌≡◌, ◌≢◌, ℕ, ◌<◌, ◌≤◌, Bool, true, false, cond, ◌&&◌, nat_lt, List, [], ◌∷◌, ◌++◌, length, take, refl, sym, ap, ◌∙◌, subst, append_assoc}
 use Rattle.std.specs.Prelude.{Option, Some, None, slice_set}
-use Rattle.std.specs.List.{AllByRecursion}
-use Rattle.std.proofs.lemmas.Bool.{eq-eqb, ne_eqb}
+use Rattle.std.proofs.lemmas.Bool.{eq-eqb, ne_eqb, ltb-true, and_parts}
 use Rattle.std.proofs.lemmas.List.{append-nil, take-append-le, get_or-set_same, get_or-set_other}
 use Rattle.std.proofs.Math.Seq.{take-append_seam}
 use Rattle.rht_words.specs.declared.op.Op.{Op}
@@ -17,9 +16,9 @@ use Rattle.rht_core.specs.declared.event.Event.TheVariants.{Enroll, Begin, Step}
 use Rattle.rht_core.specs.declared.book.Book.{Book}
 use Rattle.rht_core.specs.declared.local.Local.{Local}
 use Rattle.rht_core.specs.declared.local.Local.TheVariants.{Idle}
-use Rattle.rht_core.specs.Locals.{local_after}
-use Rattle.rht_core.specs.Runs.{Core, World, Seen, seen, local_in, local_of, beginning, with_machine, planned, with_step, enrolling, book_at, book_begun, book_after, books_begun, books_stepped, world_step, run_from, run_of, opening, IsAdmitted, IsAdmittedEvent}
-use Rattle.rht_core.specs.Laws.{seen_begin, seen_step, IsOneMore, Extends}
+use Rattle.rht_core.specs.Locals.{is_idle, machine_of, plan_of, local_after}
+use Rattle.rht_core.specs.Runs.{World, Seen, seen, local_in, local_of, beginning, with_machine, planned, with_step, enrolling, book_at, book_begun, book_after, books_begun, books_stepped, world_step, run_from, run_of, opening, IsAdmitted, IsAdmittedEvent}
+use Rattle.rht_core.specs.Laws.{seen_begin, seen_step, Extends}
 
 -- ---- lists of events
 
@@ -59,6 +58,37 @@ book_at-same books c book = ap (λ v. cond v book (books c)) (eq-eqb c c refl)
 
 pub book_at-other : (books : ℕ → Book) (c : ℕ) (book : Book) (k : ℕ) → k ≢ c → book_at books c book k ≡ books k
 book_at-other books c book k n = ap (λ v. cond v book (books k)) (ne_eqb k c n)
+
+-- ---- what a caller begins with and plans
+
+-- a choice that gives something was made so, and gives that
+pub cond_none : {A : Type 0} (b : Bool) (option : Option A) (a : A) → cond b option None ≡ Some a → (b ≡ true) × (option ≡ Some a)
+cond_none true option a is = (refl, is)
+cond_none false option a is = absurd (cc)
+
+module _ {M : Type 0} where
+  -- who begins is enrolled and idle, and has a machine for the call
+  pub record CanBegin (env : Env) (enrolled : ℕ) (locals : List (Local M)) (c : ℕ) (call : Call) (machine : Local M) : Type 0 where
+    pub below : c < enrolled
+    pub idle : is_idle (local_in locals c) ≡ true
+    pub machine_is : machine_of env c call ≡ Some machine
+
+  pub beginning-some : (env : Env) (enrolled : ℕ) (locals : List (Local M)) (c : ℕ) (call : Call) (machine : Local M)
+      → beginning env enrolled locals c call ≡ Some machine → CanBegin env enrolled locals c call machine
+  beginning-some env enrolled locals c call machine is =
+      let parts = cond_none (nat_lt c enrolled && is_idle (local_in locals c)) (machine_of env c call) machine is in
+      let both = and_parts (nat_lt c enrolled) (is_idle (local_in locals c)) parts.0 in
+      record { below = ltb-true c enrolled both.0; idle = both.1; machine_is = parts.1 }
+
+  -- who plans an operation is enrolled
+  pub record CanStep (enrolled : ℕ) (locals : List (Local M)) (c : ℕ) (op : Op) : Type 0 where
+    pub below : c < enrolled
+    pub plan : plan_of (local_in locals c) ≡ Some op
+
+  pub planned-some : (enrolled : ℕ) (locals : List (Local M)) (c : ℕ) (op : Op) → planned enrolled locals c ≡ Some op → CanStep enrolled locals c op
+  planned-some enrolled locals c op is =
+      let parts = cond_none (nat_lt c enrolled) (plan_of (local_in locals c)) op is in
+      record { below = ltb-true c enrolled parts.0; plan = parts.1 }
 
 -- ---- what an event does
 

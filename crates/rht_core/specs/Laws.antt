@@ -1,12 +1,26 @@
 -- What holds of every run.
-use Rattle.std.specs.Prelude.{◌≡◌, ℕ, List, [], ◌∷◌, ◌++◌, Option}
+use Rattle.std.specs.Prelude.{◌≡◌, ◌≢◌, ℕ, ◌<◌, ◌≤◌, List, [], ◌∷◌, ◌++◌, Some}
+use Rattle.rht_words.specs.declared.op.Op.{Op}
 use Rattle.rht_words.specs.declared.env.Env.{Env}
+use Rattle.rht_words.specs.declared.geometry.Geometry.{Geometry}
+use Rattle.rht_words.specs.Operations.{op_place}
+use Rattle.rht_words.specs.Places.{EnrolledCallers, place_of, pages_at, words_in, word_at}
+use Rattle.rht_chain.specs.Lock.{IsEven}
+use Rattle.rht_chain.specs.LockedWalk.{IsInRange as IsWalkInRange}
+use Rattle.rht_arena.specs.TakeNode.{IsInRange as IsTakeInRange}
+use Rattle.rht_find.specs.Find.{FindModel, IsInRange as IsFindInRange}
+use Rattle.rht_find.specs.declared.find.FindAt.{FindAt}
+use Rattle.rht_find.specs.declared.find.FindAt.TheVariants as find_at
+use Rattle.rht_bind.specs.Bind.{BindModel, IsInRange as IsBindInRange}
+use Rattle.rht_bind.specs.declared.bind.BindAt.{BindAt}
+use Rattle.rht_bind.specs.declared.bind.BindAt.TheVariants as bind_at
 use Rattle.rht_model.specs.declared.history.Call.{Call}
-use Rattle.rht_model.specs.declared.history.Reply.{Reply}
 use Rattle.rht_core.specs.declared.event.Event.{Event}
+use Rattle.rht_core.specs.declared.event.Event.TheVariants.{Enroll, Begin, Step}
 use Rattle.rht_core.specs.declared.local.Local.{Local}
-use Rattle.rht_core.specs.Locals.{local_after}
-use Rattle.rht_core.specs.Runs.{World, Seen, world_step, run_of, book_begun, book_after, IsAdmitted, IsAdmittedEvent}
+use Rattle.rht_core.specs.declared.local.Local.TheVariants.{Idle, Finding, Binding}
+use Rattle.rht_core.specs.Locals.{plan_of, local_after}
+use Rattle.rht_core.specs.Runs.{Core, World, Seen, world_step, run_of, local_of, book_begun, book_after, IsSound, IsAdmitted, IsAdmittedEvent}
 
 -- ---- what one caller knows of itself, after an event of its own
 
@@ -21,6 +35,86 @@ module _ {M : Type 0} where
       let next = local_after mix seen.local old in
       record { local = next.0; book = book_after next.1 seen.book }
 
+-- ---- what a caller's state names
+
+-- the word at this place is a bucket's
+abbrev pub IsBucketPlace : Geometry → ℕ → Type 0
+IsBucketPlace g place = (pages_at g ≤ place) × (place < words_in g)
+
+-- the bucket that a look-up's state names is one, and the piece that it holds is in range
+abbrev pub IsFindPieceIn : Geometry → FindAt → Type 0
+IsFindPieceIn g find_at.CurrentTable = Unit {0}
+IsFindPieceIn g (find_at.Shape table) = Unit {0}
+IsFindPieceIn g (find_at.Seed table shape) = Unit {0}
+IsFindPieceIn g (find_at.Locking table lock) = IsBucketPlace g lock.place × IsEven lock.at
+IsFindPieceIn g (find_at.Walking table bucket walk) = IsBucketPlace g bucket.place × IsWalkInRange walk.geometry walk.before walk.at
+IsFindPieceIn g (find_at.Future table bucket) = IsBucketPlace g bucket.place
+IsFindPieceIn g (find_at.FirstOwner bucket node) = IsBucketPlace g bucket.place
+IsFindPieceIn g (find_at.ListLink bucket node owner) = IsBucketPlace g bucket.place
+IsFindPieceIn g (find_at.LaterOwner bucket node owner) = IsBucketPlace g bucket.place
+IsFindPieceIn g (find_at.Unlocking unlock next) = IsBucketPlace g unlock.place
+
+-- and the same of a bind's state
+abbrev pub IsBindPieceIn : Geometry → BindAt → Type 0
+IsBindPieceIn g (bind_at.Taking take) = IsTakeInRange take.geometry take.at
+IsBindPieceIn g (bind_at.Key node) = Unit {0}
+IsBindPieceIn g (bind_at.Owner node) = Unit {0}
+IsBindPieceIn g (bind_at.ListLink node) = Unit {0}
+IsBindPieceIn g (bind_at.CurrentTable node) = Unit {0}
+IsBindPieceIn g (bind_at.Shape node table) = Unit {0}
+IsBindPieceIn g (bind_at.Seed node table shape) = Unit {0}
+IsBindPieceIn g (bind_at.Locking node table shape lock) = IsBucketPlace g lock.place × IsEven lock.at
+IsBindPieceIn g (bind_at.Walking table claimed walk) = IsBucketPlace g claimed.bucket.place × IsWalkInRange walk.geometry walk.before walk.at
+IsBindPieceIn g (bind_at.FoundOwner claimed found) = IsBucketPlace g claimed.bucket.place
+IsBindPieceIn g (bind_at.Future table claimed) = IsBucketPlace g claimed.bucket.place
+IsBindPieceIn g (bind_at.Count claimed) = IsBucketPlace g claimed.bucket.place
+IsBindPieceIn g (bind_at.Link claimed) = IsBucketPlace g claimed.bucket.place
+IsBindPieceIn g (bind_at.Raise claimed) = IsBucketPlace g claimed.bucket.place
+IsBindPieceIn g (bind_at.Publish claimed kick) = IsBucketPlace g claimed.bucket.place
+IsBindPieceIn g (bind_at.Unlocking node unlock next) = IsBucketPlace g unlock.place
+IsBindPieceIn g (bind_at.Giving give reply) = give.node < give.geometry.nodes
+
+-- a look-up of this caller in this table, all that its state names being the table's
+pub record IsFindOf (env : Env) (c : ℕ) (m : FindModel) : Type 0 where
+  pub same_env : m.env ≡ env
+  pub same_caller : m.caller ≡ c
+  pub range : IsFindInRange env m.at
+  pub piece : IsFindPieceIn env.geometry m.at
+
+-- a bind of this caller in this table, all that its state names being the table's
+pub record IsBindOf (env : Env) (c : ℕ) (m : BindModel) : Type 0 where
+  pub same_env : m.env ≡ env
+  pub same_caller : m.caller ≡ c
+  pub range : IsBindInRange env m.at
+  pub piece : IsBindPieceIn env.geometry m.at
+
+-- the operation is on one of the words, and not on that of the enrolled callers
+pub record IsPlannedIn (g : Geometry) (op : Op) : Type 0 where
+  pub within : op_place op < words_in g
+  pub apart : op_place op ≢ place_of g EnrolledCallers
+
+module _ {M : Type 0} where
+  -- what this caller does is in range
+  abbrev pub IsLocalIn : Env → ℕ → Local M → Type 0
+  IsLocalIn env c Idle = Unit {0}
+  IsLocalIn env c (Finding m) = IsFindOf env c m
+  IsLocalIn env c (Binding m) = IsBindOf env c m
+
+-- all words and callers are there, what each caller does is in range, and so is the operation that it plans
+pub record IsInRange {M : Type 0} (env : Env) (core : Core M) : Type 0 where
+  pub same_env : core.env ≡ env
+  pub sound : IsSound core
+  pub locals : (c : ℕ) → IsLocalIn env c (local_of core c)
+  pub plans : (c : ℕ) (op : Op) → plan_of (local_of core c) ≡ Some op → IsPlannedIn env.geometry op
+
+-- ---- the laws
+
+-- the event is one of a caller that there is already
+abbrev pub IsOfCaller : Event → Type 0
+IsOfCaller Enroll = ⊥
+IsOfCaller (Begin c call) = Unit {0}
+IsOfCaller (Step c) = Unit {0}
+
 module _ (M : Type 0) (mix : ℕ → ℕ → ℕ → ℕ) where
   -- a run followed by one more event is a run, and its world is the old one changed by that event
   pub record IsOneMore (env : Env) (events : List Event) (event : Event) : Type 0 where
@@ -31,3 +125,19 @@ module _ (M : Type 0) (mix : ℕ → ℕ → ℕ → ℕ) where
   Extends =
       (env : Env) (events : List Event) (event : Event)
       → IsAdmitted env.config.kind events → IsAdmittedEvent env.config.kind event → IsOneMore env events event
+
+  -- in every run all that callers name is in range
+  abbrev pub InRange : Type 0
+  InRange = (env : Env) (events : List Event) → IsAdmitted env.config.kind events → IsInRange {M = M} env (run_of mix env events).core
+
+  -- an event leaves the word of the enrolled callers, and how many there are
+  pub record IsEnrolledKept (before after : World M) : Type 0 where
+    pub word : word_at after.core.env.geometry after.core.words EnrolledCallers ≡ word_at before.core.env.geometry before.core.words EnrolledCallers
+    pub count : after.core.enrolled ≡ before.core.enrolled
+
+  -- no event but an Enroll changes which callers are enrolled
+  abbrev pub Enrolled : Type 0
+  Enrolled =
+      (env : Env) (events : List Event) (event : Event)
+      → IsAdmitted env.config.kind events → IsAdmittedEvent env.config.kind event → IsOfCaller event
+      → IsEnrolledKept (run_of mix env events) (run_of mix env (events ++ event ∷ []))

@@ -1,6 +1,6 @@
 //! The laws of every run. Each function is empty, and its clause is the law.
 
-ghost use Rattle.rht_core.specs.Laws.{Extends};
+ghost use Rattle.rht_core.specs.Laws.{Extends, InRange, Enrolled};
 
 use rht_policy::Mix;
 
@@ -9,4 +9,17 @@ use rht_policy::Mix;
 /// that an event comes.
 pub fn extends<M: Mix>()
     ensures { Extends M M.mix_of }
+{}
+
+/// In every run all words and callers are there, and all that a caller's state names is the table's:
+/// its slots, nodes and buckets. So each operation that a caller plans is on one of the words, and
+/// never on that of the enrolled callers. It says nothing of what stands in a word.
+pub fn in_range<M: Mix>()
+    ensures { InRange M M.mix_of }
+{}
+
+/// No event but an `Enroll` changes the word of the enrolled callers, or how many there are. It
+/// doesn't say that the two agree: after 2^64 `Enroll`s the word has begun again.
+pub fn enrolled<M: Mix>()
+    ensures { Enrolled M M.mix_of }
 {}
