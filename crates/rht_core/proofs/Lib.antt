@@ -8,3 +8,9 @@ pub mod FindRanges
 pub mod BindRanges
 -- in every run all that callers name is in range
 pub mod RangesInRuns
+-- what each caller keeps of itself holds in every run
+pub mod CallersInRuns
+-- what a look-up and a bind answer
+pub mod MachineReplies
+-- in every run each call that has ended has a reply of its kind
+pub mod RepliesInRuns

@@ -147,7 +147,7 @@ module _ (M : Type 0) (mix : ℕ → ℕ → ℕ → ℕ) (env : Env) where
     pub all_local : AllByRecursion (IsLocalOf env) core.locals
     pub locals : (c : ℕ) → IsLocalIn env c (local_of core c)
 
-  opens-in : StaysIn (opening_core env)
+  pub opens-in : StaysIn (opening_core env)
   opens-in = record {
     same_env = refl;
     all_words = (stand_in_place env).count;

@@ -1,5 +1,6 @@
 -- What holds of every run.
-use Rattle.std.specs.Prelude.{◌≡◌, ◌≢◌, ℕ, ◌<◌, ◌≤◌, List, [], ◌∷◌, ◌++◌, Some}
+use Rattle.std.specs.Prelude.{◌≡◌, ◌≢◌, ℕ, ◌<◌, ◌≤◌, List, [], ◌∷◌, ◌++◌, Some, None}
+use Rattle.std.specs.List.{AllByRecursion}
 use Rattle.rht_words.specs.declared.op.Op.{Op}
 use Rattle.rht_words.specs.declared.env.Env.{Env}
 use Rattle.rht_words.specs.declared.geometry.Geometry.{Geometry}
@@ -15,6 +16,11 @@ use Rattle.rht_bind.specs.Bind.{BindModel, IsInRange as IsBindInRange}
 use Rattle.rht_bind.specs.declared.bind.BindAt.{BindAt}
 use Rattle.rht_bind.specs.declared.bind.BindAt.TheVariants as bind_at
 use Rattle.rht_model.specs.declared.history.Call.{Call}
+use Rattle.rht_model.specs.declared.history.Call.TheVariants.{Bind, Find}
+use Rattle.rht_model.specs.declared.history.Reply.{Reply}
+use Rattle.rht_model.specs.declared.history.Reply.TheVariants.{Bound, Exists, Found, Missing, TooBig, NoNode}
+use Rattle.rht_core.specs.declared.book.Finished.{Finished}
+use Rattle.rht_core.specs.declared.book.Book.{Book}
 use Rattle.rht_core.specs.declared.event.Event.{Event}
 use Rattle.rht_core.specs.declared.event.Event.TheVariants.{Enroll, Begin, Step}
 use Rattle.rht_core.specs.declared.local.Local.{Local}
@@ -107,6 +113,61 @@ pub record IsInRange {M : Type 0} (env : Env) (core : Core M) : Type 0 where
   pub locals : (c : ℕ) → IsLocalIn env c (local_of core c)
   pub plans : (c : ℕ) (op : Op) → plan_of (local_of core c) ≡ Some op → IsPlannedIn env.geometry op
 
+-- ---- what is answered
+
+-- the replies that a look-up may have, and those that a bind may have
+abbrev pub IsFindReply : Reply → Type 0
+IsFindReply (Found owner) = Unit {0}
+IsFindReply Missing = Unit {0}
+IsFindReply _ = ⊥
+
+abbrev pub IsBindReply : Reply → Type 0
+IsBindReply (Bound kick) = Unit {0}
+IsBindReply (Exists owner) = Unit {0}
+IsBindReply (TooBig count) = Unit {0}
+IsBindReply NoNode = Unit {0}
+IsBindReply _ = ⊥
+
+-- the reply is one of those that the call may have; the other calls are never answered yet
+abbrev pub IsReplyTo : Call → Reply → Type 0
+IsReplyTo (Find port) reply = IsFindReply reply
+IsReplyTo (Bind port owner once) reply = IsBindReply reply
+IsReplyTo _ reply = ⊥
+
+-- a call that has ended has a reply of its kind, and no list came with it
+pub record IsAnswered (done : Finished) : Type 0 where
+  pub reply : IsReplyTo done.call done.reply
+  pub owners : done.owners ≡ []
+  pub pairs : done.pairs ≡ []
+
+-- in no call a caller has made no step
+pub record IsBookOfIdle (book : Book) : Type 0 where
+  pub call : book.call ≡ None
+  pub steps : book.steps ≡ 0
+
+-- the machine works at the call that is in progress, for this caller, in this table
+pub record IsBookOfFind (env : Env) (c : ℕ) (m : FindModel) (book : Book) : Type 0 where
+  pub same_env : m.env ≡ env
+  pub same_caller : m.caller ≡ c
+  pub call : book.call ≡ Some (Find m.port)
+
+pub record IsBookOfBind (env : Env) (c : ℕ) (m : BindModel) (book : Book) : Type 0 where
+  pub same_env : m.env ≡ env
+  pub same_caller : m.caller ≡ c
+  pub call : book.call ≡ Some (Bind m.port m.owner m.once)
+
+module _ {M : Type 0} where
+  -- what a caller does is what its book says
+  abbrev pub IsBookOf : Env → ℕ → Local M → Book → Type 0
+  IsBookOf env c Idle book = IsBookOfIdle book
+  IsBookOf env c (Finding m) book = IsBookOfFind env c m book
+  IsBookOf env c (Binding m) book = IsBookOfBind env c m book
+
+-- each call of a caller that has ended was answered, and the one in progress is the one that it works at
+pub record AnswersIn {M : Type 0} (env : Env) (c : ℕ) (local : Local M) (book : Book) : Type 0 where
+  pub finished : AllByRecursion IsAnswered book.finished
+  pub progress : IsBookOf env c local book
+
 -- ---- the laws
 
 -- the event is one of a caller that there is already
@@ -141,3 +202,10 @@ module _ (M : Type 0) (mix : ℕ → ℕ → ℕ → ℕ) where
       (env : Env) (events : List Event) (event : Event)
       → IsAdmitted env.config.kind events → IsAdmittedEvent env.config.kind event → IsOfCaller event
       → IsEnrolledKept (run_of mix env events) (run_of mix env (events ++ event ∷ []))
+
+  -- in every run each call that has ended has a reply of its kind
+  abbrev pub Replies : Type 0
+  Replies =
+      (env : Env) (events : List Event) → IsAdmitted env.config.kind events
+      → let w : World M = run_of mix env events in
+      (c : ℕ) → AnswersIn env c (local_of w.core c) (w.books c)

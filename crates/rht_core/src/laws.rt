@@ -1,6 +1,6 @@
 //! The laws of every run. Each function is empty, and its clause is the law.
 
-ghost use Rattle.rht_core.specs.Laws.{Extends, InRange, Enrolled};
+ghost use Rattle.rht_core.specs.Laws.{Extends, InRange, Enrolled, Replies};
 
 use rht_policy::Mix;
 
@@ -22,4 +22,11 @@ pub fn in_range<M: Mix>()
 /// doesn't say that the two agree: after 2^64 `Enroll`s the word has begun again.
 pub fn enrolled<M: Mix>()
     ensures { Enrolled M M.mix_of }
+{}
+
+/// In every run each call that has ended has a reply of its kind, and no list came with it; and what
+/// a caller works at is the call of its book, for that caller, in the run's table. It doesn't say
+/// which of the replies comes, nor that one comes.
+pub fn replies<M: Mix>()
+    ensures { Replies M M.mix_of }
 {}
