@@ -14,3 +14,5 @@ pub mod CallersInRuns
 pub mod MachineReplies
 -- in every run each call that has ended has a reply of its kind
 pub mod RepliesInRuns
+-- in every run the traces remember each call, and say what happened
+pub mod TracesInRuns

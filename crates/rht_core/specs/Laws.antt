@@ -1,10 +1,10 @@
 -- What holds of every run.
-use Rattle.std.specs.Prelude.{◌≡◌, ◌≢◌, ℕ, ◌<◌, ◌≤◌, List, [], ◌∷◌, ◌++◌, Some, None}
-use Rattle.std.specs.List.{AllByRecursion}
+use Rattle.std.specs.Prelude.{◌≡◌, ◌≢◌, ℕ, ◌+◌, ◌<◌, ◌≤◌, List, [], ◌∷◌, ◌++◌, length, map, take, Option, Some, None, IfSome}
+use Rattle.std.specs.List.{AllByRecursion, slice_get}
 use Rattle.rht_words.specs.declared.op.Op.{Op}
 use Rattle.rht_words.specs.declared.env.Env.{Env}
 use Rattle.rht_words.specs.declared.geometry.Geometry.{Geometry}
-use Rattle.rht_words.specs.Operations.{op_place}
+use Rattle.rht_words.specs.Operations.{op_place, old_of}
 use Rattle.rht_words.specs.Places.{EnrolledCallers, place_of, pages_at, words_in, word_at}
 use Rattle.rht_chain.specs.Lock.{IsEven}
 use Rattle.rht_chain.specs.LockedWalk.{IsInRange as IsWalkInRange}
@@ -26,7 +26,8 @@ use Rattle.rht_core.specs.declared.event.Event.TheVariants.{Enroll, Begin, Step}
 use Rattle.rht_core.specs.declared.local.Local.{Local}
 use Rattle.rht_core.specs.declared.local.Local.TheVariants.{Idle, Finding, Binding}
 use Rattle.rht_core.specs.Locals.{plan_of, local_after}
-use Rattle.rht_core.specs.Runs.{Core, World, Seen, world_step, run_of, local_of, book_begun, book_after, IsSound, IsAdmitted, IsAdmittedEvent}
+use Rattle.rht_core.specs.Runs.{Core, World, Seen, world_step, run_of, local_of, planned, book_begun, book_after, IsSound, IsAdmitted, IsAdmittedEvent}
+use Rattle.rht_core.specs.Traces.{Did, Past, Trace, Traced, traced_of, behind_calls, IsRising, AreInOrder}
 
 -- ---- what one caller knows of itself, after an event of its own
 
@@ -168,6 +169,19 @@ pub record AnswersIn {M : Type 0} (env : Env) (c : ℕ) (local : Local M) (book 
   pub finished : AllByRecursion IsAnswered book.finished
   pub progress : IsBookOf env c local book
 
+-- ---- traces
+
+-- a trace's past calls are the finished ones of the book, and it has as many steps of the call in progress as the book counts
+pub record IsTraceOf (book : Book) (trace : Trace) : Type 0 where
+  pub past : map (λ past. past.done) trace.past ≡ book.finished
+  pub steps : length trace.steps ≡ book.steps
+
+-- the call in progress began at its event, behind all events of the past ones, and its steps are in order behind its beginning
+pub record IsInProgress (events : List Event) (c : ℕ) (trace : Trace) (call : Call) : Type 0 where
+  pub began : slice_get events trace.begin ≡ Some (Begin c call)
+  pub behind : behind_calls 0 trace.past ≤ trace.begin
+  pub rising : IsRising (trace.begin + 1) trace.steps
+
 -- ---- the laws
 
 -- the event is one of a caller that there is already
@@ -209,3 +223,41 @@ module _ (M : Type 0) (mix : ℕ → ℕ → ℕ → ℕ) where
       (env : Env) (events : List Event) → IsAdmitted env.config.kind events
       → let w : World M = run_of mix env events in
       (c : ℕ) → AnswersIn env c (local_of w.core c) (w.books c)
+
+  -- a run with its traces is that run, and each trace is that of its book
+  pub record IsTraced (env : Env) (events : List Event) (r : Traced M) : Type 0 where
+    pub world : r.world ≡ run_of mix env events
+    pub count : r.count ≡ length events
+    pub traces : (c : ℕ) → IsTraceOf (r.world.books c) (r.traces c)
+
+  -- in every run the traces remember each call
+  abbrev pub Remembers : Type 0
+  Remembers = (env : Env) (events : List Event) → IsAdmitted env.config.kind events → IsTraced env events (traced_of mix env events)
+
+  -- the step is one of the run's events; this caller planned its operation there, and it found its old value in the words
+  -- that the events before it leave
+  pub record IsRecorded (env : Env) (events : List Event) (c : ℕ) (did : Did) : Type 0 where
+    pub event : slice_get events did.index ≡ Some (Step c)
+    pub plan :
+        let core : Core M = (run_of mix env (take did.index events)).core in
+        planned core.enrolled core.locals c ≡ Some did.op
+    pub found : old_of (run_of {M = M} mix env (take did.index events)).core.words did.op ≡ did.old
+
+  -- a past call began at its event, and so are its steps
+  pub record IsPastCall (env : Env) (events : List Event) (c : ℕ) (past : Past) : Type 0 where
+    pub began : slice_get events past.begin ≡ Some (Begin c past.done.call)
+    pub steps : AllByRecursion (IsRecorded env events c) past.steps
+
+  -- all that a trace says stands in the run at its event; calls don't overlap, and steps are in order
+  pub record IsTraceAt (env : Env) (events : List Event) (c : ℕ) (call : Option Call) (trace : Trace) : Type 0 where
+    pub past : AllByRecursion (IsPastCall env events c) trace.past
+    pub in_order : AreInOrder 0 trace.past
+    pub steps : AllByRecursion (IsRecorded env events c) trace.steps
+    pub progress : IfSome call (IsInProgress events c trace)
+
+  -- in every run the traces say what happened
+  abbrev pub AtEvents : Type 0
+  AtEvents =
+      (env : Env) (events : List Event) → IsAdmitted env.config.kind events
+      → let r : Traced M = traced_of mix env events in
+      (c : ℕ) → IsTraceAt env events c (r.world.books c).call (r.traces c)

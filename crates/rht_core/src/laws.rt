@@ -1,6 +1,6 @@
 //! The laws of every run. Each function is empty, and its clause is the law.
 
-ghost use Rattle.rht_core.specs.Laws.{Extends, InRange, Enrolled, Replies};
+ghost use Rattle.rht_core.specs.Laws.{Extends, InRange, Enrolled, Replies, Remembers, AtEvents};
 
 use rht_policy::Mix;
 
@@ -29,4 +29,18 @@ pub fn enrolled<M: Mix>()
 /// which of the replies comes, nor that one comes.
 pub fn replies<M: Mix>()
     ensures { Replies M M.mix_of }
+{}
+
+/// A run with its traces is the run itself, and the traces remember all that the books know: the calls
+/// that have ended, in order, and how many steps the call in progress has made.
+pub fn remembers<M: Mix>()
+    ensures { Remembers M M.mix_of }
+{}
+
+/// In every run each step of a trace is one of the run's events: a step of that caller, whose
+/// operation it planned there, and which found its old value in the words that the events before it
+/// leave. Each call began at a `Begin` of it, its steps come behind that in the order of their events,
+/// and no two calls of one caller overlap. It says nothing of how the events of two callers lie.
+pub fn at_events<M: Mix>()
+    ensures { AtEvents M M.mix_of }
 {}
