@@ -16,3 +16,7 @@ pub mod MachineReplies
 pub mod RepliesInRuns
 -- in every run the traces remember each call, and say what happened
 pub mod TracesInRuns
+-- what each caller keeps of itself and of its trace holds in every run
+pub mod TracedCallers
+-- in every run a bind takes one node at most
+pub mod NodesTaken

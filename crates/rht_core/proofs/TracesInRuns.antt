@@ -45,11 +45,11 @@ each_at P books traces c book trace p each k = elim (cases_eq k c) [
       (subst (λ t. P k (books k) t) (sym (trace_at-other traces c trace k other)) (each k))
 ]
 
-module _ (M : Type 0) (mix : ℕ → ℕ → ℕ → ℕ) where
-  -- before the first event
-  abbrev pub no_trace : Trace
-  no_trace = record { begin = 0; steps = []; past = [] }
+-- before the first event
+abbrev pub no_trace : Trace
+no_trace = record { begin = 0; steps = []; past = [] }
 
+module _ (M : Type 0) (mix : ℕ → ℕ → ℕ → ℕ) where
   abbrev pub traced_opening : Env → Traced M
   traced_opening env = record { world = opening env; count = 0; traces = λ _. no_trace }
 

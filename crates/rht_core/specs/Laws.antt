@@ -1,11 +1,14 @@
 -- What holds of every run.
-use Rattle.std.specs.Prelude.{◌≡◌, ◌≢◌, ℕ, ◌+◌, ◌<◌, ◌≤◌, List, [], ◌∷◌, ◌++◌, length, map, take, Option, Some, None, IfSome}
+use Rattle.std.specs.Prelude.{◌≡◌, ◌≢◌, ℕ, ◌+◌, ◌/◌, ◌%◌, ◌<◌, ◌≤◌, ◌⊎◌, List, [], ◌∷◌, ◌++◌, length, map, take, Option, Some, None, IfSome}
 use Rattle.std.specs.List.{AllByRecursion, slice_get}
+use Rattle.std.specs.Int.{bit_at, bit_not, w64}
 use Rattle.rht_words.specs.declared.op.Op.{Op}
+use Rattle.rht_words.specs.declared.op.Op.TheVariants.{And}
 use Rattle.rht_words.specs.declared.env.Env.{Env}
 use Rattle.rht_words.specs.declared.geometry.Geometry.{Geometry}
 use Rattle.rht_words.specs.Operations.{op_place, old_of}
-use Rattle.rht_words.specs.Places.{EnrolledCallers, place_of, pages_at, words_in, word_at}
+use Rattle.rht_words.specs.Maps.{bit_of}
+use Rattle.rht_words.specs.Places.{EnrolledCallers, NodeMap, place_of, pages_at, words_in, word_at}
 use Rattle.rht_chain.specs.Lock.{IsEven}
 use Rattle.rht_chain.specs.LockedWalk.{IsInRange as IsWalkInRange}
 use Rattle.rht_arena.specs.TakeNode.{IsInRange as IsTakeInRange}
@@ -182,6 +185,40 @@ pub record IsInProgress (events : List Event) (c : ℕ) (trace : Trace) (call : 
   pub behind : behind_calls 0 trace.past ≤ trace.begin
   pub rising : IsRising (trace.begin + 1) trace.steps
 
+-- ---- nodes
+
+-- the operation takes this node: it clears the node's bit in the map of nodes, which was set
+pub record IsTake (g : Geometry) (node : ℕ) (op : Op) (old : ℕ) : Type 0 where
+  pub clears : op ≡ And (place_of g (NodeMap (node / 64))) (bit_not w64 (bit_of (node % 64)))
+  pub free : bit_at old (node % 64) ≡ 1
+
+-- the step takes no node
+abbrev pub IsNoTake : Geometry → Did → Type 0
+IsNoTake g did = (node : ℕ) → IsTake g node did.op did.old → ⊥
+
+-- none of the steps takes a node
+abbrev pub TakesNone : Geometry → List Did → Type 0
+TakesNone g steps = AllByRecursion (IsNoTake g) steps
+
+-- one of the steps takes this node, and no other one takes any
+abbrev pub TakesOne : Geometry → ℕ → List Did → Type 0
+TakesOne g node [] = ⊥
+TakesOne g node (did ∷ steps) = (IsTake g node did.op did.old × TakesNone g steps) ⊎ (IsNoTake g did × TakesOne g node steps)
+
+-- one of the steps takes one of the nodes, and no other one takes any
+abbrev pub TakesOneOf : Geometry → List Did → Type 0
+TakesOneOf g steps = (node : ℕ) × (node < g.nodes) × TakesOne g node steps
+
+-- a bind with this reply has taken one node; none where it was answered so
+abbrev pub IsTakenBy : Geometry → Reply → List Did → Type 0
+IsTakenBy g NoNode steps = TakesNone g steps
+IsTakenBy g _ steps = TakesOneOf g steps
+
+-- and no other call takes one
+abbrev pub IsTakenIn : Geometry → Call → Reply → List Did → Type 0
+IsTakenIn g (Bind port owner once) reply steps = IsTakenBy g reply steps
+IsTakenIn g _ reply steps = TakesNone g steps
+
 -- ---- the laws
 
 -- the event is one of a caller that there is already
@@ -261,3 +298,10 @@ module _ (M : Type 0) (mix : ℕ → ℕ → ℕ → ℕ) where
       (env : Env) (events : List Event) → IsAdmitted env.config.kind events
       → let r : Traced M = traced_of mix env events in
       (c : ℕ) → IsTraceAt env events c (r.world.books c).call (r.traces c)
+
+  -- in every run a bind that has ended took one node, but for one that was answered that there was none
+  abbrev pub TakenAlone : Type 0
+  TakenAlone =
+      (env : Env) (events : List Event) → IsAdmitted env.config.kind events
+      → let r : Traced M = traced_of mix env events in
+      (c : ℕ) → AllByRecursion (λ past. IsTakenIn env.geometry past.done.call past.done.reply past.steps) (r.traces c).past

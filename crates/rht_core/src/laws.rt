@@ -1,6 +1,6 @@
 //! The laws of every run. Each function is empty, and its clause is the law.
 
-ghost use Rattle.rht_core.specs.Laws.{Extends, InRange, Enrolled, Replies, Remembers, AtEvents};
+ghost use Rattle.rht_core.specs.Laws.{Extends, InRange, Enrolled, Replies, Remembers, AtEvents, TakenAlone};
 
 use rht_policy::Mix;
 
@@ -43,4 +43,11 @@ pub fn remembers<M: Mix>()
 /// and no two calls of one caller overlap. It says nothing of how the events of two callers lie.
 pub fn at_events<M: Mix>()
     ensures { AtEvents M M.mix_of }
+{}
+
+/// In every run a bind that has ended took exactly one of the nodes, which was free when it took it,
+/// and none where it was answered `NoNode`; a look-up took none. It doesn't say that nobody else has
+/// that node, nor that it was given back.
+pub fn taken_alone<M: Mix>()
+    ensures { TakenAlone M M.mix_of }
 {}
