@@ -15,42 +15,42 @@ use Rattle.rht_core.specs.Locals.{is_idle, machine_of, plan_of}
 use Rattle.rht_core.specs.Runs.{World, Seen, seen, new_book, beginning, planned, world_step, run_of, opening}
 use Rattle.rht_core.specs.Laws.{seen_begin, seen_step}
 use Rattle.rht_core.proofs.Worlds.{beginning-some, planned-some, begin_none, begin_self, begin_other, step_none, step_self, step_other, run_keeps}
-use Rattle.rht_core.proofs.RangesInRuns.{StaysIn, opens-in, stays-in, each_replicate}
+use Rattle.rht_core.proofs.RangesInRuns.{StaysIn, opens-in, stays-in, made_in, has_place, each_replicate}
 
 module _ (M : Type 0) (mix : ℕ → ℕ → ℕ → ℕ) (env : Env) (P : ℕ → Seen M → Type 0) where
   -- it is kept by a caller that begins a call, which is idle, and by one that is told a word, which plans an operation
   pub record IsKept : Type 0 where
     pub opens : (c : ℕ) → P c (record { local = Idle; book = new_book })
-    pub begins : (c : ℕ) (call : Call) (machine : Local M) (seen : Seen M) → is_idle seen.local ≡ true → machine_of env c call ≡ Some machine
+    pub begins : (c : ℕ) (call : Call) (machine : Local M) (seen : Seen M) → is_idle seen.local ≡ true
+        → machine_of env c call ≡ Some machine
         → P c seen → P c (seen_begin call machine seen)
-    pub steps : (c : ℕ) (op : Op) (old : ℕ) (seen : Seen M) → plan_of seen.local ≡ Some op → P c seen → P c (seen_step mix old seen)
+    pub steps : (c : ℕ) (op : Op) (old : ℕ) (seen : Seen M) → plan_of seen.local ≡ Some op → P c seen
+        → P c (seen_step mix old seen)
 
   module _ (kept : IsKept) (w : World M) (stays : StaysIn M mix env w.core) (each : (k : ℕ) → P k (seen w k)) where
-    -- a caller that there is has a place in the list
-    below : (c : ℕ) → c < w.core.enrolled → c < length w.core.locals
-    below c enrolled = omega (arith, stays.all_locals, stays.few_enrolled)
-
-    begins : (c : ℕ) (call : Call) (machine : Option (Local M)) → beginning w.core.env w.core.enrolled w.core.locals c call ≡ machine
+    begins : (c : ℕ) (call : Call) (machine : Option (Local M))
+        → beginning w.core.env w.core.enrolled w.core.locals c call ≡ machine
         → (k : ℕ) → P k (seen (world_step mix w (Begin c call)) k)
     begins c call None is k = subst (λ (v : World M). P k (seen v k)) (sym (begin_none M mix w c call is)) (each k)
     begins c call (Some machine) is k =
         let can = beginning-some w.core.env w.core.enrolled w.core.locals c call machine is in
-        let made : machine_of env c call ≡ Some machine = subst (λ (e : Env). machine_of e c call ≡ Some machine) stays.same_env can.machine_is in
+        let made = made_in M mix env w.core c call machine stays can in
         elim (cases_eq k c) [
           | inl same ↦
               subst (λ j. P j (seen (world_step mix w (Begin c call)) j)) (sym same)
-              (subst (P c) (sym (begin_self M mix w c call machine is (below c can.below))) (kept.begins c call machine (seen w c) can.idle made (each c)))
+              (subst (P c) (sym (begin_self M mix w c call machine is (has_place M mix env w.core c stays can.below))) (kept.begins c call machine (seen w c) can.idle made (each c)))
           | inr other ↦ subst (P k) (sym (begin_other M mix w c call k other)) (each k)
         ]
 
-    steps : (c : ℕ) (op : Option Op) → planned w.core.enrolled w.core.locals c ≡ op → (k : ℕ) → P k (seen (world_step mix w (Step c)) k)
+    steps : (c : ℕ) (op : Option Op) → planned w.core.enrolled w.core.locals c ≡ op → (k : ℕ)
+        → P k (seen (world_step mix w (Step c)) k)
     steps c None is k = subst (λ (v : World M). P k (seen v k)) (sym (step_none M mix w c is)) (each k)
     steps c (Some op) is k =
         let can = planned-some w.core.enrolled w.core.locals c op is in
         elim (cases_eq k c) [
           | inl same ↦
               subst (λ j. P j (seen (world_step mix w (Step c)) j)) (sym same)
-              (subst (P c) (sym (step_self M mix w c op is (below c can.below))) (kept.steps c op (old_of w.core.words op) (seen w c) can.plan (each c)))
+              (subst (P c) (sym (step_self M mix w c op is (has_place M mix env w.core c stays can.below))) (kept.steps c op (old_of w.core.words op) (seen w c) can.plan (each c)))
           | inr other ↦ subst (P k) (sym (step_other M mix w c k other)) (each k)
         ]
 

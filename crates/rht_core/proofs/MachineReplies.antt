@@ -46,20 +46,24 @@ abbrev pub HoldsFindReply : FindAt → Type 0
 HoldsFindReply (find_at.Unlocking unlock next) = IsThenOf IsFindReply next
 HoldsFindReply _ = Unit {0}
 
-found_or_not-holds : (table : ℕ) (bucket : Locked) (found : Option ℕ) → HoldsFindReply (find.found_or_not table bucket found)
+found_or_not-holds : (table : ℕ) (bucket : Locked) (found : Option ℕ)
+    → HoldsFindReply (find.found_or_not table bucket found)
 found_or_not-holds table bucket None = tt
 found_or_not-holds table bucket (Some node) = tt
 
-walk_or_seen-holds : (table : ℕ) (bucket : Locked) (start : Start LockedWalkModel Seen) → HoldsFindReply (find.walk_or_seen table bucket start)
+walk_or_seen-holds : (table : ℕ) (bucket : Locked) (start : Start LockedWalkModel Seen)
+    → HoldsFindReply (find.walk_or_seen table bucket start)
 walk_or_seen-holds table bucket (starts.Running walk) = tt
 walk_or_seen-holds table bucket (starts.Done seen) = found_or_not-holds table bucket seen.found
 
-lock_taken-holds : (env : Env) (port table : ℕ) (lock : LockModel) (next : Next ℕ) → HoldsFindReply (find.lock_taken env port table lock next)
+lock_taken-holds : (env : Env) (port table : ℕ) (lock : LockModel) (next : Next ℕ)
+    → HoldsFindReply (find.lock_taken env port table lock next)
 lock_taken-holds env port table lock Go = tt
 lock_taken-holds env port table lock (Done word) =
     walk_or_seen-holds table (record { place = lock.place; word = word }) (locked_walk_new env.geometry lock.place word (word_of port))
 
-walk_taken-holds : (table : ℕ) (bucket : Locked) (walk : LockedWalkModel) (next : Next Seen) → HoldsFindReply (find.walk_taken table bucket walk next)
+walk_taken-holds : (table : ℕ) (bucket : Locked) (walk : LockedWalkModel) (next : Next Seen)
+    → HoldsFindReply (find.walk_taken table bucket walk next)
 walk_taken-holds table bucket walk Go = tt
 walk_taken-holds table bucket walk (Done seen) = found_or_not-holds table bucket seen.found
 
@@ -67,12 +71,14 @@ next_table-of : (future : Option ℕ) → IsThenOf IsFindReply (find.next_table 
 next_table-of None = tt
 next_table-of (Some table) = tt
 
-list_followed-holds : (bucket : Locked) (owner : ℕ) (next : Option ℕ) → HoldsFindReply (find.list_followed bucket owner next)
+list_followed-holds : (bucket : Locked) (owner : ℕ) (next : Option ℕ)
+    → HoldsFindReply (find.list_followed bucket owner next)
 list_followed-holds bucket owner None = tt
 list_followed-holds bucket owner (Some node) = tt
 
 -- the state after it holds such a reply, and so does the answer
-pub find_after-replies : (mix : ℕ → ℕ → ℕ → ℕ) (env : Env) (port : ℕ) (at : FindAt) (word : ℕ) → HoldsFindReply at
+pub find_after-replies : (mix : ℕ → ℕ → ℕ → ℕ) (env : Env) (port : ℕ) (at : FindAt) (word : ℕ)
+    → HoldsFindReply at
     → HoldsFindReply (find.after_at mix env port at word).0 × IsNextOf IsFindReply (find.after_at mix env port at word).1
 find_after-replies mix env port find_at.CurrentTable word holds = (tt, tt)
 find_after-replies mix env port (find_at.Shape table) word holds = (tt, tt)
@@ -115,11 +121,13 @@ module _ where
   node_taken-replies take (Done None) = (tt, tt)
   node_taken-replies take (Done (Some node)) = (tt, tt)
 
-  bound_or_not-holds : (table : ℕ) (claimed : Claimed) (found : Option ℕ) → HoldsBindReply (bind.found_or_not table claimed found)
+  bound_or_not-holds : (table : ℕ) (claimed : Claimed) (found : Option ℕ)
+      → HoldsBindReply (bind.found_or_not table claimed found)
   bound_or_not-holds table claimed None = tt
   bound_or_not-holds table claimed (Some node) = tt
 
-  bind_walk-holds : (table : ℕ) (claimed : Claimed) (start : Start LockedWalkModel Seen) → HoldsBindReply (bind.walk_or_seen table claimed start)
+  bind_walk-holds : (table : ℕ) (claimed : Claimed) (start : Start LockedWalkModel Seen)
+      → HoldsBindReply (bind.walk_or_seen table claimed start)
   bind_walk-holds table claimed (starts.Running walk) = tt
   bind_walk-holds table claimed (starts.Done seen) = bound_or_not-holds table claimed seen.found
 
@@ -135,20 +143,24 @@ module _ where
   bind_walked-holds table claimed walk Go = tt
   bind_walked-holds table claimed walk (Done seen) = bound_or_not-holds table claimed seen.found
 
-  future_or_count-holds : (claimed : Claimed) (future : Option ℕ) → HoldsBindReply (bind.future_or_count claimed future)
+  future_or_count-holds : (claimed : Claimed) (future : Option ℕ)
+      → HoldsBindReply (bind.future_or_count claimed future)
   future_or_count-holds claimed None = tt
   future_or_count-holds claimed (Some table) = tt
 
-  checked_count-holds : (env : Env) (claimed : Claimed) (count : ℕ) → HoldsBindReply (bind.checked_count env claimed count)
+  checked_count-holds : (env : Env) (claimed : Claimed) (count : ℕ)
+      → HoldsBindReply (bind.checked_count env claimed count)
   checked_count-holds env claimed count =
       cond_both (is_above_max (min count 65536) env.config.max) _ _ HoldsBindReply (λ t. tt) (λ f. tt)
 
-  after_unlock-holds : (env : Env) (node : ℕ) (next : Then Reply) → IsThenOf IsRefusal next → HoldsBindReply (bind.after_unlock env node next)
+  after_unlock-holds : (env : Env) (node : ℕ) (next : Then Reply) → IsThenOf IsRefusal next
+      → HoldsBindReply (bind.after_unlock env node next)
   after_unlock-holds env node (Table table) holds = tt
   after_unlock-holds env node (Answer reply) holds = holds
 
 -- the state after it holds such a refusal, and the answer is one of a bind's
-pub bind_after-replies : (mix : ℕ → ℕ → ℕ → ℕ) (env : Env) (port : ℕ) (at : BindAt) (word : ℕ) → HoldsBindReply at
+pub bind_after-replies : (mix : ℕ → ℕ → ℕ → ℕ) (env : Env) (port : ℕ) (at : BindAt) (word : ℕ)
+    → HoldsBindReply at
     → HoldsBindReply (bind.after_at mix env port at word).0 × IsNextOf IsBindReply (bind.after_at mix env port at word).1
 bind_after-replies mix env port (bind_at.Taking take) word holds = node_taken-replies (take_node_after take word).0 (take_node_after take word).1
 bind_after-replies mix env port (bind_at.Key node) word holds = (tt, tt)

@@ -61,12 +61,14 @@ use Rattle.rht_core.proofs.TracedCallers.{IsKeptTraced, traced_callers_keep}
 
 -- ---- one more step
 
-TakesOne-push : (g : Geometry) (node : ℕ) (steps : List Did) (did : Did) → TakesOne g node steps → IsNoTake g did → TakesOne g node (steps ++ did ∷ [])
-TakesOne-push g node [] did takes none_here = absurd takes
-TakesOne-push g node (first ∷ steps) did (inl now) none_here = inl (now.0, all_push (IsNoTake g) steps did now.1 none_here)
-TakesOne-push g node (first ∷ steps) did (inr later) none_here = inr (later.0, TakesOne-push g node steps did later.1 none_here)
+TakesOne-push : (g : Geometry) (node : ℕ) (steps : List Did) (did : Did) → TakesOne g node steps
+    → IsNoTake g did → TakesOne g node (steps ++ did ∷ [])
+TakesOne-push g node [] did takes takes_none = absurd takes
+TakesOne-push g node (first ∷ steps) did (inl now) takes_none = inl (now.0, all_push (IsNoTake g) steps did now.1 takes_none)
+TakesOne-push g node (first ∷ steps) did (inr later) takes_none = inr (later.0, TakesOne-push g node steps did later.1 takes_none)
 
-TakesOne-last : (g : Geometry) (node : ℕ) (steps : List Did) (did : Did) → TakesNone g steps → IsTake g node did.op did.old → TakesOne g node (steps ++ did ∷ [])
+TakesOne-last : (g : Geometry) (node : ℕ) (steps : List Did) (did : Did) → TakesNone g steps
+    → IsTake g node did.op did.old → TakesOne g node (steps ++ did ∷ [])
 TakesOne-last g node [] did none takes = inl (takes, tt)
 TakesOne-last g node (first ∷ steps) did none takes = inr (none.0, TakesOne-last g node steps did none.1 takes)
 
@@ -78,7 +80,10 @@ IsNoAnd (And place mask) = ⊥
 IsNoAnd _ = Unit {0}
 
 no_and : (g : Geometry) (did : Did) → IsNoAnd did.op → IsNoTake g did
-no_and g did none_here node takes = subst IsNoAnd takes.clears none_here
+no_and g did takes_none node takes = subst IsNoAnd takes.clears takes_none
+
+no_and_as : (g : Geometry) (did : Did) {op : Op} → did.op ≡ op → IsNoAnd op → IsNoTake g did
+no_and_as g did is other = no_and g did (subst IsNoAnd (sym is) other)
 
 lock_no_and : (place : ℕ) (state : LockAt) → IsNoAnd (lock_plan_at place state)
 lock_no_and place lock_at.Word = tt
@@ -103,7 +108,8 @@ find_no_and env (find_at.Unlocking unlock next) = tt
 -- ---- the taking of a node
 
 -- the masks that clear different bits are different
-same_bit : (bit other : ℕ) → bit < 64 → other < 64 → bit_not w64 (bit_of bit) ≡ bit_not w64 (bit_of other) → bit ≡ other
+same_bit : (bit other : ℕ) → bit < 64 → other < 64 → bit_not w64 (bit_of bit) ≡ bit_not w64 (bit_of other)
+    → bit ≡ other
 same_bit bit other low other_low same =
     let first : 2 ^ bit < 2 ^ 64 = pow-lt low in
     let second : 2 ^ other < 2 ^ 64 = pow-lt other_low in
@@ -196,37 +202,45 @@ abbrev pub HasTaken : Geometry → Option ℕ → List Did → Type 0
 HasTaken g None steps = TakesNone g steps
 HasTaken g (Some node) steps = (node < g.nodes) × TakesOne g node steps
 
-HasTaken-push : (g : Geometry) (held : Option ℕ) (steps : List Did) (did : Did) → HasTaken g held steps → IsNoTake g did → HasTaken g held (steps ++ did ∷ [])
-HasTaken-push g None steps did taken none_here = all_push (IsNoTake g) steps did taken none_here
-HasTaken-push g (Some node) steps did taken none_here = (taken.0, TakesOne-push g node steps did taken.1 none_here)
+HasTaken-push : (g : Geometry) (held : Option ℕ) (steps : List Did) (did : Did) → HasTaken g held steps
+    → IsNoTake g did → HasTaken g held (steps ++ did ∷ [])
+HasTaken-push g None steps did taken takes_none = all_push (IsNoTake g) steps did taken takes_none
+HasTaken-push g (Some node) steps did taken takes_none = (taken.0, TakesOne-push g node steps did taken.1 takes_none)
 
-found_or_not-held : (table : ℕ) (claimed : Claimed) (found : Option ℕ) → node_held (found_or_not table claimed found) ≡ Some claimed.node
+found_or_not-held : (table : ℕ) (claimed : Claimed) (found : Option ℕ)
+    → node_held (found_or_not table claimed found) ≡ Some claimed.node
 found_or_not-held table claimed None = refl
 found_or_not-held table claimed (Some node) = refl
 
-walk_or_seen-held : (table : ℕ) (claimed : Claimed) (start : Start LockedWalkModel WalkSeen) → node_held (walk_or_seen table claimed start) ≡ Some claimed.node
+walk_or_seen-held : (table : ℕ) (claimed : Claimed) (start : Start LockedWalkModel WalkSeen)
+    → node_held (walk_or_seen table claimed start) ≡ Some claimed.node
 walk_or_seen-held table claimed (starts.Running walk) = refl
 walk_or_seen-held table claimed (starts.Done seen) = found_or_not-held table claimed seen.found
 
-lock_taken-held : (env : Env) (port node table shape : ℕ) (lock : LockModel) (next : Next ℕ) → node_held (lock_taken env port node table shape lock next) ≡ Some node
+lock_taken-held : (env : Env) (port node table shape : ℕ) (lock : LockModel) (next : Next ℕ)
+    → node_held (lock_taken env port node table shape lock next) ≡ Some node
 lock_taken-held env port node table shape lock Go = refl
 lock_taken-held env port node table shape lock (Done word) =
     walk_or_seen-held table (record { node = node; shape = shape; bucket = record { place = lock.place; word = word } })
     (locked_walk_new env.geometry lock.place word (word_of port))
 
-walk_taken-held : (table : ℕ) (claimed : Claimed) (walk : LockedWalkModel) (next : Next WalkSeen) → node_held (walk_taken table claimed walk next) ≡ Some claimed.node
+walk_taken-held : (table : ℕ) (claimed : Claimed) (walk : LockedWalkModel) (next : Next WalkSeen)
+    → node_held (walk_taken table claimed walk next) ≡ Some claimed.node
 walk_taken-held table claimed walk Go = refl
 walk_taken-held table claimed walk (Done seen) = found_or_not-held table claimed seen.found
 
-future_or_count-held : (claimed : Claimed) (future : Option ℕ) → node_held (future_or_count claimed future) ≡ Some claimed.node
+future_or_count-held : (claimed : Claimed) (future : Option ℕ)
+    → node_held (future_or_count claimed future) ≡ Some claimed.node
 future_or_count-held claimed None = refl
 future_or_count-held claimed (Some table) = refl
 
-checked_count-held : (env : Env) (claimed : Claimed) (count : ℕ) → node_held (checked_count env claimed count) ≡ Some claimed.node
+checked_count-held : (env : Env) (claimed : Claimed) (count : ℕ)
+    → node_held (checked_count env claimed count) ≡ Some claimed.node
 checked_count-held env claimed count =
     cond_both (is_above_max (min count 65536) env.config.max) _ _ (λ state. node_held state ≡ Some claimed.node) (λ t. refl) (λ f. refl)
 
-after_unlock-held : (env : Env) (node : ℕ) (next : Then Reply) → node_held (after_unlock env node next) ≡ Some node
+after_unlock-held : (env : Env) (node : ℕ) (next : Then Reply)
+    → node_held (after_unlock env node next) ≡ Some node
 after_unlock-held env node (Table table) = refl
 after_unlock-held env node (Answer reply) = refl
 
@@ -245,7 +259,8 @@ abbrev GoesAs : Geometry → List Did → BindAt × Next Reply → Type 0
 GoesAs g steps (state, Go) = HasTaken g (node_held state) steps
 GoesAs g steps (state, Done reply) = IsTakenBy g reply steps
 
-with_node : (g : Geometry) (node : ℕ) (steps : List Did) (reply : Reply) → IsWithNode reply → HasTaken g (Some node) steps → IsTakenBy g reply steps
+with_node : (g : Geometry) (node : ℕ) (steps : List Did) (reply : Reply) → IsWithNode reply
+    → HasTaken g (Some node) steps → IsTakenBy g reply steps
 with_node g node steps NoNode is taken = absurd is
 with_node g node steps _ is taken = (node, taken.0, taken.1)
 
@@ -254,12 +269,18 @@ module _ (mix : ℕ → ℕ → ℕ → ℕ) (env : Env) (port owner : ℕ) wher
   g = env.geometry
 
   -- a state that holds a node keeps it
-  keeps : (state : BindAt) (node : ℕ) (steps : List Did) (did : Did) → node_held state ≡ Some node → IsNoTake g did
+  keeps : (state : BindAt) (node : ℕ) (steps : List Did) (did : Did) → node_held state ≡ Some node
+      → IsNoTake g did
       → HasTaken g (Some node) steps → HasTaken g (node_held state) (steps ++ did ∷ [])
-  keeps state node steps did is none_here taken =
-      subst (λ (held : Option ℕ). HasTaken g held (steps ++ did ∷ [])) (sym is) (HasTaken-push g (Some node) steps did taken none_here)
+  keeps state node steps did is takes_none taken =
+      subst (λ (held : Option ℕ). HasTaken g held (steps ++ did ∷ [])) (sym is) (HasTaken-push g (Some node) steps did taken takes_none)
 
-  taking-goes : (take : TakeNodeModel) (next : Next (Option ℕ)) (steps : List Did) (did : Did) → TookAs g did.op did.old next → IsNodeIn g next
+  kept_by : (node : ℕ) (steps : List Did) (did : Did) {op : Op} → did.op ≡ op → IsNoAnd op
+      → HasTaken g (Some node) steps → HasTaken g (Some node) (steps ++ did ∷ [])
+  kept_by node steps did is other taken = HasTaken-push g (Some node) steps did taken (no_and_as g did is other)
+
+  taking-goes : (take : TakeNodeModel) (next : Next (Option ℕ)) (steps : List Did) (did : Did)
+      → TookAs g did.op did.old next → IsNodeIn g next
       → TakesNone g steps → GoesAs g (steps ++ did ∷ []) (node_taken take next)
   taking-goes take Go steps did took node_in none = all_push (IsNoTake g) steps did none took
   taking-goes take (Done None) steps did took node_in none = all_push (IsNoTake g) steps did none took
@@ -279,31 +300,31 @@ module _ (mix : ℕ → ℕ → ℕ → ℕ) (env : Env) (port owner : ℕ) wher
       let stays = take_after-in take did.old in_range.1 in
       taking-goes (take_node_after take did.old).0 (take_node_after take did.old).1 steps did here
       (subst (λ (h : Geometry). IsNodeIn h (take_node_after take did.old).1) in_range.0 stays.node) taken
-  bind-goes (at.Key node) steps did is range holds taken = HasTaken-push g (Some node) steps did taken (no_and g did (subst IsNoAnd (sym is) tt))
-  bind-goes (at.Owner node) steps did is range holds taken = HasTaken-push g (Some node) steps did taken (no_and g did (subst IsNoAnd (sym is) tt))
-  bind-goes (at.ListLink node) steps did is range holds taken = HasTaken-push g (Some node) steps did taken (no_and g did (subst IsNoAnd (sym is) tt))
-  bind-goes (at.CurrentTable node) steps did is range holds taken = HasTaken-push g (Some node) steps did taken (no_and g did (subst IsNoAnd (sym is) tt))
-  bind-goes (at.Shape node table) steps did is range holds taken = HasTaken-push g (Some node) steps did taken (no_and g did (subst IsNoAnd (sym is) tt))
-  bind-goes (at.Seed node table shape) steps did is range holds taken = HasTaken-push g (Some node) steps did taken (no_and g did (subst IsNoAnd (sym is) tt))
+  bind-goes (at.Key node) steps did is range holds taken = kept_by node steps did is tt taken
+  bind-goes (at.Owner node) steps did is range holds taken = kept_by node steps did is tt taken
+  bind-goes (at.ListLink node) steps did is range holds taken = kept_by node steps did is tt taken
+  bind-goes (at.CurrentTable node) steps did is range holds taken = kept_by node steps did is tt taken
+  bind-goes (at.Shape node table) steps did is range holds taken = kept_by node steps did is tt taken
+  bind-goes (at.Seed node table shape) steps did is range holds taken = kept_by node steps did is tt taken
   bind-goes (at.Locking node table shape lock) steps did is range holds taken =
       keeps _ node steps did (lock_taken-held env port node table shape (lock_after lock did.old).0 (lock_after lock did.old).1)
-      (no_and g did (subst IsNoAnd (sym is) (lock_no_and lock.place lock.at))) taken
+      (no_and_as g did is (lock_no_and lock.place lock.at)) taken
   bind-goes (at.Walking table claimed walk) steps did is range holds taken =
       keeps _ claimed.node steps did (walk_taken-held table claimed (locked_walk_after walk did.old).0 (locked_walk_after walk did.old).1)
-      (no_and g did (subst IsNoAnd (sym is) (walk_no_and walk.geometry walk.at))) taken
-  bind-goes (at.FoundOwner claimed found) steps did is range holds taken = HasTaken-push g (Some claimed.node) steps did taken (no_and g did (subst IsNoAnd (sym is) tt))
+      (no_and_as g did is (walk_no_and walk.geometry walk.at)) taken
+  bind-goes (at.FoundOwner claimed found) steps did is range holds taken = kept_by claimed.node steps did is tt taken
   bind-goes (at.Future table claimed) steps did is range holds taken =
-      keeps _ claimed.node steps did (future_or_count-held claimed (slot_of did.old)) (no_and g did (subst IsNoAnd (sym is) tt)) taken
+      keeps _ claimed.node steps did (future_or_count-held claimed (slot_of did.old)) (no_and_as g did is tt) taken
   bind-goes (at.Count claimed) steps did is range holds taken =
-      keeps _ claimed.node steps did (checked_count-held env claimed did.old) (no_and g did (subst IsNoAnd (sym is) tt)) taken
-  bind-goes (at.Link claimed) steps did is range holds taken = HasTaken-push g (Some claimed.node) steps did taken (no_and g did (subst IsNoAnd (sym is) tt))
-  bind-goes (at.Raise claimed) steps did is range holds taken = HasTaken-push g (Some claimed.node) steps did taken (no_and g did (subst IsNoAnd (sym is) tt))
+      keeps _ claimed.node steps did (checked_count-held env claimed did.old) (no_and_as g did is tt) taken
+  bind-goes (at.Link claimed) steps did is range holds taken = kept_by claimed.node steps did is tt taken
+  bind-goes (at.Raise claimed) steps did is range holds taken = kept_by claimed.node steps did is tt taken
   bind-goes (at.Publish claimed kick) steps did is range holds taken =
-      with_node g claimed.node _ (Bound kick) tt (HasTaken-push g (Some claimed.node) steps did taken (no_and g did (subst IsNoAnd (sym is) tt)))
+      with_node g claimed.node _ (Bound kick) tt (kept_by claimed.node steps did is tt taken)
   bind-goes (at.Unlocking node unlock next) steps did is range holds taken =
-      keeps _ node steps did (after_unlock-held env node next) (no_and g did (subst IsNoAnd (sym is) tt)) taken
+      keeps _ node steps did (after_unlock-held env node next) (no_and_as g did is tt) taken
   bind-goes (at.Giving give reply) steps did is range holds taken =
-      with_node g give.node _ reply (refusal_with_node reply holds) (HasTaken-push g (Some give.node) steps did taken (no_and g did (subst IsNoAnd (sym is) tt)))
+      with_node g give.node _ reply (refusal_with_node reply holds) (kept_by give.node steps did is tt taken)
 
 -- ---- runs
 
@@ -329,7 +350,8 @@ module _ (M : Type 0) (mix : ℕ → ℕ → ℕ → ℕ) (env : Env) where
   BeginsTaking None = Unit {0}
   BeginsTaking (Some machine) = HasTakenNow machine []
 
-  binding-takes : (c port owner : ℕ) (once : Bool) (kind : Kind) → BeginsTaking (binding_of env c port owner once kind)
+  binding-takes : (c port owner : ℕ) (once : Bool) (kind : Kind)
+      → BeginsTaking (binding_of env c port owner once kind)
   binding-takes c port owner once Single = tt
   binding-takes c port owner once Listed = tt
 
@@ -338,8 +360,10 @@ module _ (M : Type 0) (mix : ℕ → ℕ → ℕ → ℕ) (env : Env) where
   machine-takes c (Bind port owner once) = binding-takes c port owner once env.config.kind
   machine-takes c _ = tt
 
-  begins-takes : (c : ℕ) (call : Call) (machine : Local M) (index : ℕ) (here : Seen M) (trace : Trace) → is_idle here.local ≡ true
-      → machine_of env c call ≡ Some machine → IsTaking c here trace → IsTaking c (seen_begin call machine here) (trace_begun index trace)
+  begins-takes : (c : ℕ) (call : Call) (machine : Local M) (index : ℕ) (here : Seen M) (trace : Trace)
+      → is_idle here.local ≡ true
+      → machine_of env c call ≡ Some machine → IsTaking c here trace
+      → IsTaking c (seen_begin call machine here) (trace_begun index trace)
   begins-takes c call machine index here trace idle is taking = record {
     right = (kept-right M mix env).begins c call machine here idle is taking.right;
     past = taking.past;
@@ -349,7 +373,8 @@ module _ (M : Type 0) (mix : ℕ → ℕ → ℕ → ℕ) (env : Env) where
   -- ---- a step of a call
 
   -- a call that ends
-  ended-takes : (trace : Trace) (did : Did) (in_progress : Option Call) (call : Call) (reply : Reply) → in_progress ≡ Some call
+  ended-takes : (trace : Trace) (did : Did) (in_progress : Option Call) (call : Call) (reply : Reply)
+      → in_progress ≡ Some call
       → IsTakenIn env.geometry call reply (trace.steps ++ did ∷ []) → AllByRecursion IsTakenPast trace.past
       → AllByRecursion IsTakenPast (trace_did in_progress did (Some reply) trace).past
   ended-takes trace did in_progress call reply is takes past =
@@ -362,21 +387,24 @@ module _ (M : Type 0) (mix : ℕ → ℕ → ℕ → ℕ) (env : Env) where
     past : AllByRecursion IsTakenPast trace.past
     now : HasTakenNow local trace.steps
 
-  found-takes : (m : FindModel) (next : Next Reply) (book : Book) (trace : Trace) (did : Did) → book.call ≡ Some (Find m.port)
+  found-takes : (m : FindModel) (next : Next Reply) (book : Book) (trace : Trace) (did : Did)
+      → book.call ≡ Some (Find m.port)
       → TakesNone env.geometry (trace.steps ++ did ∷ []) → AllByRecursion IsTakenPast trace.past
       → GoesOn (trace_did book.call did (found_next {M = M} (m, next)).1 trace) (found_next {M = M} (m, next)).0
   found-takes m Go book trace did is takes past = record { past = past; now = takes }
   found-takes m (Done reply) book trace did is takes past =
       record { past = ended-takes trace did book.call (Find m.port) reply is takes past; now = tt }
 
-  bound-takes : (m : BindModel) (next : Next Reply) (book : Book) (trace : Trace) (did : Did) → book.call ≡ Some (Bind m.port m.owner m.once)
+  bound-takes : (m : BindModel) (next : Next Reply) (book : Book) (trace : Trace) (did : Did)
+      → book.call ≡ Some (Bind m.port m.owner m.once)
       → GoesAs env.geometry (trace.steps ++ did ∷ []) (m.at, next) → AllByRecursion IsTakenPast trace.past
       → GoesOn (trace_did book.call did (bound_next {M = M} (m, next)).1 trace) (bound_next {M = M} (m, next)).0
   bound-takes m Go book trace did is takes past = record { past = past; now = takes }
   bound-takes m (Done reply) book trace did is takes past =
       record { past = ended-takes trace did book.call (Bind m.port m.owner m.once) reply is takes past; now = tt }
 
-  local-takes : (c : ℕ) (local : Local M) (book : Book) (trace : Trace) (did : Did) → plan_of local ≡ Some did.op → IsLocalIn env c local
+  local-takes : (c : ℕ) (local : Local M) (book : Book) (trace : Trace) (did : Did)
+      → plan_of local ≡ Some did.op → IsLocalIn env c local
       → IsTaking c (record { local = local; book = book }) trace
       → GoesOn (trace_did book.call did (local_after mix local did.old).1 trace) (local_after mix local did.old).0
   local-takes c Idle book trace did plan within taking = absurd (cc)
@@ -407,7 +435,8 @@ module _ (M : Type 0) (mix : ℕ → ℕ → ℕ → ℕ) (env : Env) where
         record { right = (kept-right M mix env).steps c did.op did.old here plan taking.right; past = goes.past; now = goes.now };
   }
 
-  pub runs-taking : (events : List Event) (c : ℕ) → IsTaking c (seen (traced_of mix env events).world c) ((traced_of {M = M} mix env events).traces c)
+  pub runs-taking : (events : List Event) (c : ℕ)
+      → IsTaking c (seen (traced_of mix env events).world c) ((traced_of {M = M} mix env events).traces c)
   runs-taking events c = traced_callers_keep M mix env IsTaking kept-taking events c
 
 pub taken_alone : (M : Type 0) (mix : ℕ → ℕ → ℕ → ℕ) → TakenAlone M mix

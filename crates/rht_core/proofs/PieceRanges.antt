@@ -61,7 +61,8 @@ pub record LockStays (lock : LockModel) (next : LockModel × Next ℕ) : Type 0 
   pub place_same : next.0.place ≡ lock.place
   pub even : IsEven next.0.at
 
-lock_after_at-in : (lock : LockModel) (at : LockAt) (word : ℕ) → IsEven lock.at → LockStays lock (lock_after_at lock at word)
+lock_after_at-in : (lock : LockModel) (at : LockAt) (word : ℕ) → IsEven lock.at
+    → LockStays lock (lock_after_at lock at word)
 lock_after_at-in lock lock_at.Word word even =
     cond_both (word % 2 == 1) _ _ (LockStays lock)
     (λ t. record { place_same = refl; even = even })
@@ -83,12 +84,14 @@ pub record WalkStays (walk : LockedWalkModel) (next : LockedWalkModel × Next Se
   pub seen : IsNextIn walk.geometry next.1
 
 -- where it stands is a node, and so is the one before it
-range_at : (g : Geometry) (before : Option ℕ) (at : LockedWalkAt) → IsInRange g before at → IsNodeOrNone g before
+range_at : (g : Geometry) (before : Option ℕ) (at : LockedWalkAt) → IsInRange g before at
+    → IsNodeOrNone g before
 range_at g before (walk_at.Key node) range = range.1
 range_at g before (walk_at.ChainLink node) range = range.1
 
 followed-in : (walk : LockedWalkModel) (node link : ℕ) (next : Option ℕ) → node < walk.geometry.nodes
-    → IsNodeOrNone walk.geometry next → IsInRange walk.geometry (Some node) walk.at → WalkStays walk (followed walk node link next)
+    → IsNodeOrNone walk.geometry next → IsInRange walk.geometry (Some node) walk.at
+    → WalkStays walk (followed walk node link next)
 followed-in walk node link None node_in next_in range = record {
   geometry_same = refl;
   range = range;
@@ -101,11 +104,13 @@ followed-in walk node link (Some next) node_in next_in range = record {
 }
 
 -- another node before it leaves the walk in range
-range-before : (g : Geometry) (before : Option ℕ) (node : ℕ) (at : LockedWalkAt) → node < g.nodes → IsInRange g before at → IsInRange g (Some node) at
+range-before : (g : Geometry) (before : Option ℕ) (node : ℕ) (at : LockedWalkAt) → node < g.nodes
+    → IsInRange g before at → IsInRange g (Some node) at
 range-before g before node (walk_at.Key at) node_in range = (range.0, node_in)
 range-before g before node (walk_at.ChainLink at) node_in range = (range.0, node_in)
 
-walk_after_at-in : (walk : LockedWalkModel) (at : LockedWalkAt) (word : ℕ) → IsInRange walk.geometry walk.before at
+walk_after_at-in : (walk : LockedWalkModel) (at : LockedWalkAt) (word : ℕ)
+    → IsInRange walk.geometry walk.before at
     → IsInRange walk.geometry walk.before walk.at → WalkStays walk (walk_after_at walk at word)
 walk_after_at-in walk (walk_at.Key node) word here range =
     cond_both (word == walk.key) _ _ (WalkStays walk)
@@ -115,7 +120,8 @@ walk_after_at-in walk (walk_at.ChainLink node) word here range =
     followed-in walk node word (node_of walk.geometry.nodes word) here.0 (node_of-in walk.geometry word)
     (range-before walk.geometry walk.before node walk.at here.0 range)
 
-pub walk_after-in : (walk : LockedWalkModel) (word : ℕ) → IsInRange walk.geometry walk.before walk.at → WalkStays walk (locked_walk_after walk word)
+pub walk_after-in : (walk : LockedWalkModel) (word : ℕ) → IsInRange walk.geometry walk.before walk.at
+    → WalkStays walk (locked_walk_after walk word)
 walk_after-in walk word range = walk_after_at-in walk walk.at word range range
 
 -- ---- the taking of a node
@@ -126,13 +132,15 @@ pub record TakeStays (take : TakeNodeModel) (next : TakeNodeModel × Next (Optio
   pub range : IsTakeInRange next.0.geometry next.0.at
   pub node : IsNodeIn take.geometry next.1
 
-next_word-in : (take : TakeNodeModel) (index : ℕ) → IsTakeInRange take.geometry take.at → TakeStays take (next_word take index)
+next_word-in : (take : TakeNodeModel) (index : ℕ) → IsTakeInRange take.geometry take.at
+    → TakeStays take (next_word take index)
 next_word-in take index range =
     cond_both (nat_lt (index + 1) (map_words take.geometry.nodes)) _ _ (TakeStays take)
     (λ t. record { geometry_same = refl; range = ltb-true (index + 1) (map_words take.geometry.nodes) t; node = tt })
     (λ f. record { geometry_same = refl; range = range; node = tt })
 
-claim_among-in : (take : TakeNodeModel) (index word : ℕ) → IsTakeInRange take.geometry take.at → TakeStays take (claim_among take index word)
+claim_among-in : (take : TakeNodeModel) (index word : ℕ) → IsTakeInRange take.geometry take.at
+    → TakeStays take (claim_among take index word)
 claim_among-in take index word range =
     let free = bit_and word (map_bits take.geometry.nodes index) in
     cond_both (free == 0) None (Some (trailing_zeros w64 free)) (λ lowest. TakeStays take (claim_in take index lowest))
@@ -149,5 +157,6 @@ take_after_at-in take (Claim index bit) word here range =
     (λ t. record { geometry_same = refl; range = range; node = here.below })
     (λ f. claim_among-in take index (bit_and word (bits_above bit)) range)
 
-pub take_after-in : (take : TakeNodeModel) (word : ℕ) → IsTakeInRange take.geometry take.at → TakeStays take (take_node_after take word)
+pub take_after-in : (take : TakeNodeModel) (word : ℕ) → IsTakeInRange take.geometry take.at
+    → TakeStays take (take_node_after take word)
 take_after-in take word range = take_after_at-in take take.at word range range

@@ -33,12 +33,13 @@ use Rattle.rht_core.specs.Runs.{Core, World, local_of, beginning, with_machine, 
 use Rattle.rht_core.specs.Laws.{IsFindOf, IsBindOf, IsPlannedIn, IsLocalIn, IsInRange, InRange, IsOfCaller, IsEnrolledKept, Enrolled}
 use Rattle.rht_core.proofs.FindRanges.{IsFindAtIn, find_after-in, find_planned-in}
 use Rattle.rht_core.proofs.BindRanges.{IsBindAtIn, bind_after-in, bind_planned-in}
-use Rattle.rht_core.proofs.Worlds.{beginning-some, planned-some, run_of-push, run_keeps}
+use Rattle.rht_core.proofs.Worlds.{CanBegin, beginning-some, planned-some, run_of-push, run_keeps}
 
 -- ---- lists
 
 -- what holds of each caller still does where one caller does something else
-pub each_set : {A : Type 0} (P : ℕ → A → Type 0) (default : A) (xs : List A) (c : ℕ) (x : A) → c < length xs → P c x
+pub each_set : {A : Type 0} (P : ℕ → A → Type 0) (default : A) (xs : List A) (c : ℕ) (x : A) → c < length xs
+    → P c x
     → ((k : ℕ) → P k (get_or xs k default)) → (k : ℕ) → P k (get_or (set xs c x) k default)
 each_set P default xs c x below p each k = elim (cases_eq k c) [
   | inl same ↦
@@ -47,7 +48,8 @@ each_set P default xs c x below p each k = elim (cases_eq k c) [
 ]
 
 -- the same of a list's elements alone
-all_set : {A : Type 0} (P : A → Type 0) (xs : List A) (c : ℕ) (x : A) → P x → AllByRecursion P xs → AllByRecursion P (set xs c x)
+all_set : {A : Type 0} (P : A → Type 0) (xs : List A) (c : ℕ) (x : A) → P x → AllByRecursion P xs
+    → AllByRecursion P (set xs c x)
 all_set P [] c x p all = tt
 all_set P (y ∷ ys) zero x p all = (p, all.1)
 all_set P (y ∷ ys) (suc c) x p all = (all.0, all_set P ys c x p all.1)
@@ -85,7 +87,8 @@ module _ (M : Type 0) where
   MachineIn env c None = Unit {0}
   MachineIn env c (Some machine) = IsLocalIn env c machine
 
-  binding_of-in : (env : Env) (c port owner : ℕ) (once : Bool) (kind : Kind) → MachineIn env c (binding_of env c port owner once kind)
+  binding_of-in : (env : Env) (c port owner : ℕ) (once : Bool) (kind : Kind)
+      → MachineIn env c (binding_of env c port owner once kind)
   binding_of-in env c port owner once Single = record { same_env = refl; same_caller = refl; range = refl; piece = first_map_word env.geometry }
   binding_of-in env c port owner once Listed = tt
 
@@ -95,19 +98,23 @@ module _ (M : Type 0) where
   machine_of-in env c _ = tt
 
   -- a caller that begins begins in range
-  pub begins-in : (env : Env) (c : ℕ) (call : Call) (machine : Local M) → machine_of env c call ≡ Some machine → IsLocalIn env c machine
+  pub begins-in : (env : Env) (c : ℕ) (call : Call) (machine : Local M) → machine_of env c call ≡ Some machine
+      → IsLocalIn env c machine
   begins-in env c call machine is = subst (MachineIn env c) is (machine_of-in env c call)
 
-  found_next-in : (env : Env) (c : ℕ) (m : FindModel) (next : Next Reply) → IsFindOf env c m → IsLocalIn env c (found_next {M = M} (m, next)).0
+  found_next-in : (env : Env) (c : ℕ) (m : FindModel) (next : Next Reply) → IsFindOf env c m
+      → IsLocalIn env c (found_next {M = M} (m, next)).0
   found_next-in env c m Go within = within
   found_next-in env c m (Done reply) within = tt
 
-  bound_next-in : (env : Env) (c : ℕ) (m : BindModel) (next : Next Reply) → IsBindOf env c m → IsLocalIn env c (bound_next {M = M} (m, next)).0
+  bound_next-in : (env : Env) (c : ℕ) (m : BindModel) (next : Next Reply) → IsBindOf env c m
+      → IsLocalIn env c (bound_next {M = M} (m, next)).0
   bound_next-in env c m Go within = within
   bound_next-in env c m (Done reply) within = tt
 
   -- a caller that is told a word stays in range
-  pub local_after-in : (mix : ℕ → ℕ → ℕ → ℕ) (env : Env) (c : ℕ) (local : Local M) (old : ℕ) → IsLocalIn env c local
+  pub local_after-in : (mix : ℕ → ℕ → ℕ → ℕ) (env : Env) (c : ℕ) (local : Local M) (old : ℕ)
+      → IsLocalIn env c local
       → IsLocalIn env c (local_after mix local old).0
   local_after-in mix env c Idle old within = tt
   local_after-in mix env c (Finding m) old within =
@@ -132,7 +139,8 @@ module _ (M : Type 0) where
       subst (λ (e : Env). IsPlannedIn env.geometry (bind_plan_at e m.port m.owner m.at)) (sym within.same_env)
       (bind_planned-in env m.port m.owner m.at record { range = within.range; piece = within.piece })
 
-  pub plans-in : (env : Env) (c : ℕ) (local : Local M) (op : Op) → IsLocalIn env c local → plan_of local ≡ Some op → IsPlannedIn env.geometry op
+  pub plans-in : (env : Env) (c : ℕ) (local : Local M) (op : Op) → IsLocalIn env c local
+      → plan_of local ≡ Some op → IsPlannedIn env.geometry op
   plans-in env c local op within is = subst (PlanIn env) is (plan_of-in env c local within)
 
 -- ---- runs
@@ -157,6 +165,10 @@ module _ (M : Type 0) (mix : ℕ → ℕ → ℕ → ℕ) (env : Env) where
     locals = λ c. each_replicate (IsLocalIn env c) env.geometry.callers c Idle tt;
   }
 
+  -- a caller that there is has a place in the list
+  pub has_place : (core : Core M) (c : ℕ) → StaysIn core → c < core.enrolled → c < length core.locals
+  has_place core c stays below = omega (arith, stays.all_locals, stays.few_enrolled)
+
   -- one caller does something else, which is in range
   set-in : (core : Core M) (c : ℕ) (local : Local M) → StaysIn core → c < core.enrolled → IsLocalIn env c local
       → StaysIn record core { locals = slice_set core.locals c local }
@@ -166,7 +178,7 @@ module _ (M : Type 0) (mix : ℕ → ℕ → ℕ → ℕ) (env : Env) where
     all_locals = length-set core.locals c local ∙ stays.all_locals;
     few_enrolled = stays.few_enrolled;
     all_local = all_set (IsLocalOf env) core.locals c local (IsLocalOf-in M env c local within) stays.all_local;
-    locals = each_set (IsLocalIn env) Idle core.locals c local (omega (arith, stays.all_locals, stays.few_enrolled)) within stays.locals;
+    locals = each_set (IsLocalIn env) Idle core.locals c local (has_place core c stays enrolled) within stays.locals;
   }
 
   -- the words are changed by an operation
@@ -180,12 +192,19 @@ module _ (M : Type 0) (mix : ℕ → ℕ → ℕ → ℕ) (env : Env) where
     locals = stays.locals;
   }
 
-  enrolled-in : (core : Core M) (old : ℕ) → StaysIn core → enrolled_after core.env core.enrolled old ≤ env.geometry.callers
+  enrolled-in : (core : Core M) (old : ℕ) → StaysIn core
+      → enrolled_after core.env core.enrolled old ≤ env.geometry.callers
   enrolled-in core old stays =
       let same : core.env.geometry.callers ≡ env.geometry.callers = ap (λ (e : Env). e.geometry.callers) stays.same_env in
       cond_both (nat_lt old core.env.geometry.callers) (max core.enrolled (old + 1)) core.enrolled (λ n. n ≤ env.geometry.callers)
       (λ t. let below = ltb-true old core.env.geometry.callers t in let few = stays.few_enrolled in omega arith)
       (λ f. stays.few_enrolled)
+
+  -- who begins does what the run's environment says
+  pub made_in : (core : Core M) (c : ℕ) (call : Call) (machine : Local M) → StaysIn core
+      → CanBegin core.env core.enrolled core.locals c call machine → machine_of env c call ≡ Some machine
+  made_in core c call machine stays can =
+      subst (λ (e : Env). machine_of e c call ≡ Some machine) stays.same_env can.machine_is
 
   begin-in : (core : Core M) (c : ℕ) (call : Call) (machine : Option (Local M))
       → beginning core.env core.enrolled core.locals c call ≡ machine → StaysIn core
@@ -193,8 +212,7 @@ module _ (M : Type 0) (mix : ℕ → ℕ → ℕ → ℕ) (env : Env) where
   begin-in core c call None is stays = stays
   begin-in core c call (Some machine) is stays =
       let can = beginning-some core.env core.enrolled core.locals c call machine is in
-      let made : machine_of env c call ≡ Some machine = subst (λ (e : Env). machine_of e c call ≡ Some machine) stays.same_env can.machine_is in
-      set-in core c machine stays can.below (begins-in M env c call machine made)
+      set-in core c machine stays can.below (begins-in M env c call machine (made_in core c call machine stays can))
 
   step-in : (core : Core M) (c : ℕ) (op : Option Op) → planned core.enrolled core.locals c ≡ op → StaysIn core
       → StaysIn (with_step mix core c op).0
@@ -253,7 +271,8 @@ module _ (M : Type 0) (mix : ℕ → ℕ → ℕ → ℕ) (env : Env) where
   step-count core c (Some op) = refl
 
   -- an event of a caller leaves the word of the enrolled callers and how many there are
-  pub event-kept : (w : World M) (event : Event) → IsOfCaller event → StaysIn w.core → IsEnrolledKept M mix w (world_step mix w event)
+  pub event-kept : (w : World M) (event : Event) → IsOfCaller event → StaysIn w.core
+      → IsEnrolledKept M mix w (world_step mix w event)
   event-kept w Enroll of stays = absurd of
   event-kept w (Begin c call) of stays = record { word = refl; count = refl }
   event-kept w (Step c) of stays = record {

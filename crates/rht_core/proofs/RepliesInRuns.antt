@@ -26,13 +26,15 @@ use Rattle.rht_core.proofs.MachineReplies.{IsNextOf, HoldsFindReply, HoldsBindRe
 use Rattle.rht_core.proofs.CallersInRuns.{IsKept, callers_keep}
 
 -- one more at the end of a list of which it holds
-pub all_push : {A : Type 0} (P : A → Type 0) (xs : List A) (x : A) → AllByRecursion P xs → P x → AllByRecursion P (xs ++ x ∷ [])
+pub all_push : {A : Type 0} (P : A → Type 0) (xs : List A) (x : A) → AllByRecursion P xs → P x
+    → AllByRecursion P (xs ++ x ∷ [])
 all_push P [] x all p = (p, tt)
 all_push P (y ∷ ys) x all p = (all.0, all_push P ys x all.1 p)
 
 -- a call that ends with a reply of its kind
 ended : (book : Book) (call : Call) (reply : Reply) → book.call ≡ Some call → IsReplyTo call reply
-    → AllByRecursion IsAnswered book.finished → AllByRecursion IsAnswered (book_after (Some reply) book).finished
+    → AllByRecursion IsAnswered book.finished
+    → AllByRecursion IsAnswered (book_after (Some reply) book).finished
 ended book call reply is fits all =
     subst (λ (o : Option Call). AllByRecursion IsAnswered (book.finished ++ finished_with o reply)) (sym is)
     (all_push IsAnswered book.finished (record { call = call; reply = reply; owners = []; pairs = [] }) all record { reply = fits; owners = refl; pairs = refl })
@@ -66,7 +68,8 @@ module _ (M : Type 0) (mix : ℕ → ℕ → ℕ → ℕ) (env : Env) where
   machine-right c (Bind port owner once) book = binding-right c port owner once book env.config.kind
   machine-right c _ book = tt
 
-  begins-right : (c : ℕ) (call : Call) (machine : Local M) (here : Seen M) → is_idle here.local ≡ true → machine_of env c call ≡ Some machine
+  begins-right : (c : ℕ) (call : Call) (machine : Local M) (here : Seen M) → is_idle here.local ≡ true
+      → machine_of env c call ≡ Some machine
       → IsRight c here → IsRight c (seen_begin call machine here)
   begins-right c call machine here idle is right =
       let begun = subst (BeginsRight c call here.book) is (machine-right c call here.book) in
@@ -74,7 +77,8 @@ module _ (M : Type 0) (mix : ℕ → ℕ → ℕ → ℕ) (env : Env) where
 
   -- ---- a step of a call
 
-  found-right : (c : ℕ) (m : FindModel) (next : Next Reply) (book : Book) → IsBookOfFind env c m book → HoldsFindReply m.at
+  found-right : (c : ℕ) (m : FindModel) (next : Next Reply) (book : Book) → IsBookOfFind env c m book
+      → HoldsFindReply m.at
       → IsNextOf IsFindReply next → AllByRecursion IsAnswered book.finished
       → IsRight c (record { local = (found_next {M = M} (m, next)).0; book = book_after (found_next {M = M} (m, next)).1 book })
   found-right c m Go book of holds answer all =
@@ -82,7 +86,8 @@ module _ (M : Type 0) (mix : ℕ → ℕ → ℕ → ℕ) (env : Env) where
   found-right c m (Done reply) book of holds answer all =
       record { finished = ended book (Find m.port) reply of.call answer all; progress = record { call = refl; steps = refl }; holds = tt }
 
-  bound-right : (c : ℕ) (m : BindModel) (next : Next Reply) (book : Book) → IsBookOfBind env c m book → HoldsBindReply m.at
+  bound-right : (c : ℕ) (m : BindModel) (next : Next Reply) (book : Book) → IsBookOfBind env c m book
+      → HoldsBindReply m.at
       → IsNextOf IsBindReply next → AllByRecursion IsAnswered book.finished
       → IsRight c (record { local = (bound_next {M = M} (m, next)).0; book = book_after (bound_next {M = M} (m, next)).1 book })
   bound-right c m Go book of holds answer all =
@@ -91,7 +96,8 @@ module _ (M : Type 0) (mix : ℕ → ℕ → ℕ → ℕ) (env : Env) where
       record { finished = ended book (Bind m.port m.owner m.once) reply of.call answer all; progress = record { call = refl; steps = refl }; holds = tt }
 
   local_after-right : (c : ℕ) (local : Local M) (book : Book) (op : Op) (old : ℕ) → plan_of local ≡ Some op
-      → IsRight c (record { local = local; book = book }) → IsRight c (seen_step mix old (record { local = local; book = book }))
+      → IsRight c (record { local = local; book = book })
+      → IsRight c (seen_step mix old (record { local = local; book = book }))
   local_after-right c Idle book op old plan right = absurd (cc)
   local_after-right c (Finding m) book op old plan right =
       let next = find_after-replies mix m.env m.port m.at old right.holds in

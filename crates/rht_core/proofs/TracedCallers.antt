@@ -16,7 +16,7 @@ use Rattle.rht_core.specs.Runs.{World, Seen, seen, local_of, new_book, beginning
 use Rattle.rht_core.specs.Traces.{Did, Trace, Traced, trace_begun, trace_did, traces_begun, traces_stepped, traces_after, traced_step, traced_from, traced_of}
 use Rattle.rht_core.specs.Laws.{IsLocalIn, seen_begin, seen_step}
 use Rattle.rht_core.proofs.Worlds.{beginning-some, planned-some, begin_none, begin_self, begin_other, step_none, step_self, step_other}
-use Rattle.rht_core.proofs.RangesInRuns.{StaysIn, opens-in, stays-in, each_replicate}
+use Rattle.rht_core.proofs.RangesInRuns.{StaysIn, opens-in, stays-in, made_in, has_place, each_replicate}
 use Rattle.rht_core.proofs.TracesInRuns.{no_trace, traced_opening, trace_at-same, trace_at-other}
 
 -- ---- what an event does to a trace
@@ -29,7 +29,8 @@ module _ (M : Type 0) (mix : ℕ → ℕ → ℕ → ℕ) (r : Traced M) (c : �
     pub trace_begin_none : beginning_in ≡ None → traces_after mix r (Begin c call) ≡ r.traces
     trace_begin_none is = ap (traces_begun r c) is
 
-    pub trace_begin_self : (machine : Local M) → beginning_in ≡ Some machine → traces_after mix r (Begin c call) c ≡ trace_begun r.count (r.traces c)
+    pub trace_begin_self : (machine : Local M) → beginning_in ≡ Some machine
+        → traces_after mix r (Begin c call) c ≡ trace_begun r.count (r.traces c)
     trace_begin_self machine is = ap (λ o. traces_begun r c o c) is ∙ trace_at-same r.traces c (trace_begun r.count (r.traces c))
 
     begun_other : (k : ℕ) → k ≢ c → (machine : Option (Local M)) → traces_begun r c machine k ≡ r.traces k
@@ -74,31 +75,31 @@ module _ (M : Type 0) (mix : ℕ → ℕ → ℕ → ℕ) (env : Env) (P : ℕ �
     pub begins : (c : ℕ) (call : Call) (machine : Local M) (index : ℕ) (seen : Seen M) (trace : Trace)
         → is_idle seen.local ≡ true → machine_of env c call ≡ Some machine
         → P c seen trace → P c (seen_begin call machine seen) (trace_begun index trace)
-    pub steps : (c : ℕ) (did : Did) (seen : Seen M) (trace : Trace) → plan_of seen.local ≡ Some did.op → IsLocalIn env c seen.local
-        → P c seen trace → P c (seen_step mix did.old seen) (trace_did seen.book.call did (local_after mix seen.local did.old).1 trace)
+    pub steps : (c : ℕ) (did : Did) (seen : Seen M) (trace : Trace) → plan_of seen.local ≡ Some did.op
+        → IsLocalIn env c seen.local
+        → P c seen trace
+        → P c (seen_step mix did.old seen) (trace_did seen.book.call did (local_after mix seen.local did.old).1 trace)
 
   module _ (kept : IsKeptTraced) (r : Traced M) (stays : StaysIn M mix env r.world.core) (each : (k : ℕ) → P k (seen r.world k) (r.traces k)) where
-    -- a caller that there is has a place in the list
-    below : (c : ℕ) → c < r.world.core.enrolled → c < length r.world.core.locals
-    below c enrolled = omega (arith, stays.all_locals, stays.few_enrolled)
-
     -- where the caller and its trace have become these
-    put : (c : ℕ) (here : Seen M) (before : Seen M) (was : Trace) (trace : Trace) → before ≡ here → was ≡ trace → P c here trace → P c before was
+    put : (c : ℕ) (here : Seen M) (before : Seen M) (was : Trace) (trace : Trace) → before ≡ here → was ≡ trace
+        → P c here trace → P c before was
     put c here before was trace seen_is trace_is p = subst (P c before) (sym trace_is) (subst (λ s. P c s trace) (sym seen_is) p)
 
-    begins : (c : ℕ) (call : Call) (machine : Option (Local M)) → beginning r.world.core.env r.world.core.enrolled r.world.core.locals c call ≡ machine
+    begins : (c : ℕ) (call : Call) (machine : Option (Local M))
+        → beginning r.world.core.env r.world.core.enrolled r.world.core.locals c call ≡ machine
         → (k : ℕ) → P k (seen (world_step mix r.world (Begin c call)) k) (traces_after mix r (Begin c call) k)
     begins c call None is k =
         put k (seen r.world k) _ _ (r.traces k) (ap (λ (v : World M). seen v k) (begin_none M mix r.world c call is))
         (ap (λ (t : ℕ → Trace). t k) (trace_begin_none M mix r c call is)) (each k)
     begins c call (Some machine) is k =
         let can = beginning-some r.world.core.env r.world.core.enrolled r.world.core.locals c call machine is in
-        let made : machine_of env c call ≡ Some machine = subst (λ (e : Env). machine_of e c call ≡ Some machine) stays.same_env can.machine_is in
+        let made = made_in M mix env r.world.core c call machine stays can in
         elim (cases_eq k c) [
           | inl same ↦
               subst (λ j. P j (seen (world_step mix r.world (Begin c call)) j) (traces_after mix r (Begin c call) j)) (sym same)
               (put c (seen_begin call machine (seen r.world c)) _ _ (trace_begun r.count (r.traces c))
-              (begin_self M mix r.world c call machine is (below c can.below)) (trace_begin_self M mix r c call machine is)
+              (begin_self M mix r.world c call machine is (has_place M mix env r.world.core c stays can.below)) (trace_begin_self M mix r c call machine is)
               (kept.begins c call machine r.count (seen r.world c) (r.traces c) can.idle made (each c)))
           | inr other ↦
               put k (seen r.world k) _ _ (r.traces k) (begin_other M mix r.world c call k other) (trace_begin_other M mix r c call k other) (each k)
@@ -116,14 +117,15 @@ module _ (M : Type 0) (mix : ℕ → ℕ → ℕ → ℕ) (env : Env) (P : ℕ �
           | inl same ↦
               subst (λ j. P j (seen (world_step mix r.world (Step c)) j) (traces_after mix r (Step c) j)) (sym same)
               (put c (seen_step mix did.old (seen r.world c)) _ _ (trace_with M mix r c op)
-              (step_self M mix r.world c op is (below c can.below)) (trace_step_self M mix r c op is)
+              (step_self M mix r.world c op is (has_place M mix env r.world.core c stays can.below)) (trace_step_self M mix r c op is)
               (kept.steps c did (seen r.world c) (r.traces c) can.plan (stays.locals c) (each c)))
           | inr other ↦
               put k (seen r.world k) _ _ (r.traces k) (step_other M mix r.world c k other) (trace_step_other M mix r c k other) (each k)
         ]
 
     -- an event keeps it of every caller
-    pub traced_event_keeps : (event : Event) → (k : ℕ) → P k (seen (world_step mix r.world event) k) (traces_after mix r event k)
+    pub traced_event_keeps : (event : Event) → (k : ℕ)
+        → P k (seen (world_step mix r.world event) k) (traces_after mix r event k)
     traced_event_keeps Enroll k = each k
     traced_event_keeps (Begin c call) k = begins c call (beginning r.world.core.env r.world.core.enrolled r.world.core.locals c call) refl k
     traced_event_keeps (Step c) k = steps c (planned r.world.core.enrolled r.world.core.locals c) refl k
@@ -132,7 +134,8 @@ module _ (M : Type 0) (mix : ℕ → ℕ → ℕ → ℕ) (env : Env) (P : ℕ �
     stays : StaysIn M mix env r.world.core
     each : (k : ℕ) → P k (seen r.world k) (r.traces k)
 
-  from-holds : IsKeptTraced → (r : Traced M) (events : List Event) → HoldsIn r → HoldsIn (traced_from mix r events)
+  from-holds : IsKeptTraced → (r : Traced M) (events : List Event) → HoldsIn r
+      → HoldsIn (traced_from mix r events)
   from-holds kept r [] holds = holds
   from-holds kept r (event ∷ events) holds =
       from-holds kept (traced_step mix r event) events record {
@@ -141,7 +144,8 @@ module _ (M : Type 0) (mix : ℕ → ℕ → ℕ → ℕ) (env : Env) (P : ℕ �
       }
 
   -- so it holds of every caller in every run
-  pub traced_callers_keep : IsKeptTraced → (events : List Event) (c : ℕ) → P c (seen (traced_of mix env events).world c) ((traced_of {M = M} mix env events).traces c)
+  pub traced_callers_keep : IsKeptTraced → (events : List Event) (c : ℕ)
+      → P c (seen (traced_of mix env events).world c) ((traced_of {M = M} mix env events).traces c)
   traced_callers_keep kept events c =
       let opens : HoldsIn (traced_opening M mix env) = record {
         stays = opens-in M mix env;

@@ -29,12 +29,14 @@ use Rattle.rht_core.proofs.RepliesInRuns.{all_push}
 pub trace_at-same : (traces : ℕ → Trace) (c : ℕ) (trace : Trace) → trace_at traces c trace c ≡ trace
 trace_at-same traces c trace = ap (λ v. cond v trace (traces c)) (eq-eqb c c refl)
 
-pub trace_at-other : (traces : ℕ → Trace) (c : ℕ) (trace : Trace) (k : ℕ) → k ≢ c → trace_at traces c trace k ≡ traces k
+pub trace_at-other : (traces : ℕ → Trace) (c : ℕ) (trace : Trace) (k : ℕ) → k ≢ c
+    → trace_at traces c trace k ≡ traces k
 trace_at-other traces c trace k n = ap (λ v. cond v trace (traces k)) (ne_eqb k c n)
 
 -- where one caller's book and trace change, the others' stay
 pub each_at : (P : ℕ → Book → Trace → Type 0) (books : ℕ → Book) (traces : ℕ → Trace) (c : ℕ) (book : Book) (trace : Trace)
-    → P c book trace → ((k : ℕ) → P k (books k) (traces k)) → (k : ℕ) → P k (book_at books c book k) (trace_at traces c trace k)
+    → P c book trace → ((k : ℕ) → P k (books k) (traces k)) → (k : ℕ)
+    → P k (book_at books c book k) (trace_at traces c trace k)
 each_at P books traces c book trace p each k = elim (cases_eq k c) [
   | inl same ↦
       subst (λ j. P j (book_at books c book j) (trace_at traces c trace j)) (sym same)
@@ -74,7 +76,8 @@ module _ (M : Type 0) (mix : ℕ → ℕ → ℕ → ℕ) where
     each_stepped c (Some o) reply steps k =
         each_at P r.world.books r.traces c (book_after reply (r.world.books c)) (trace_did (r.world.books c).call (did_now o) reply (r.traces c)) (steps o refl) each k
 
-  traced_from-append : (r : Traced M) (past rest : List Event) → traced_from mix r (past ++ rest) ≡ traced_from mix (traced_from mix r past) rest
+  traced_from-append : (r : Traced M) (past rest : List Event)
+      → traced_from mix r (past ++ rest) ≡ traced_from mix (traced_from mix r past) rest
   traced_from-append r [] rest = refl
   traced_from-append r (event ∷ past) rest = traced_from-append (traced_step mix r event) past rest
 
@@ -83,14 +86,17 @@ module _ (M : Type 0) (mix : ℕ → ℕ → ℕ → ℕ) where
   traced_of-push env events event = traced_from-append (traced_opening env) events (event ∷ [])
 
   -- the world beside the traces is the run's
-  world-traced_from : (r : Traced M) (events : List Event) → (traced_from mix r events).world ≡ run_from mix r.world events
+  world-traced_from : (r : Traced M) (events : List Event)
+      → (traced_from mix r events).world ≡ run_from mix r.world events
   world-traced_from r [] = refl
   world-traced_from r (event ∷ events) = world-traced_from (traced_step mix r event) events
 
-  pub world-traced_of : (env : Env) (events : List Event) → ◌≡◌ {A = World M} (traced_of mix env events).world (run_of mix env events)
+  pub world-traced_of : (env : Env) (events : List Event)
+      → ◌≡◌ {A = World M} (traced_of mix env events).world (run_of mix env events)
   world-traced_of env events = world-traced_from (traced_opening env) events
 
-  pub count-traced_of : (env : Env) (events : List Event) → (traced_of {M = M} mix env events).count ≡ length events
+  pub count-traced_of : (env : Env) (events : List Event)
+      → (traced_of {M = M} mix env events).count ≡ length events
   count-traced_of env = induct_by_last (λ events. (traced_of {M = M} mix env events).count ≡ length events) refl
       (λ events event same. ap (λ (r : Traced M). r.count) (traced_of-push env events event) ∙ ap (λ n. n + 1) same ∙ sym (length_push events event))
 
@@ -102,7 +108,8 @@ done-past : (begin : ℕ) (steps : List Did) (finished : List Finished)
 done-past begin steps [] = refl
 done-past begin steps (done ∷ finished) = ap (λ (all : List Finished). done ∷ all) (done-past begin steps finished)
 
-begun-of : (index : ℕ) (call : Call) (book : Book) (trace : Trace) → IsTraceOf book trace → IsTraceOf (book_begun call book) (trace_begun index trace)
+begun-of : (index : ℕ) (call : Call) (book : Book) (trace : Trace) → IsTraceOf book trace
+    → IsTraceOf (book_begun call book) (trace_begun index trace)
 begun-of index call book trace of = record { past = of.past; steps = refl }
 
 did-of : (did : Did) (reply : Option Reply) (book : Book) (trace : Trace) → IsTraceOf book trace
@@ -148,7 +155,8 @@ module _ (M : Type 0) (mix : ℕ → ℕ → ℕ → ℕ) where
 -- ---- at which events
 
 -- what stood at a place stands there with one more at the end
-pub slice_get-push : {A : Type 0} (xs : List A) (x : A) (i : ℕ) (y : A) → slice_get xs i ≡ Some y → slice_get (xs ++ x ∷ []) i ≡ Some y
+pub slice_get-push : {A : Type 0} (xs : List A) (x : A) (i : ℕ) (y : A) → slice_get xs i ≡ Some y
+    → slice_get (xs ++ x ∷ []) i ≡ Some y
 slice_get-push [] x i y is = absurd (cc)
 slice_get-push (z ∷ zs) x zero y is = is
 slice_get-push (z ∷ zs) x (suc i) y is = slice_get-push zs x i y is
@@ -158,26 +166,31 @@ slice_get-push_last [] x = refl
 slice_get-push_last (y ∷ ys) x = slice_get-push_last ys x
 
 -- one more step behind the others
-behind_steps-push : (from : ℕ) (steps : List Did) (did : Did) → behind_steps from (steps ++ did ∷ []) ≡ did.index + 1
+behind_steps-push : (from : ℕ) (steps : List Did) (did : Did)
+    → behind_steps from (steps ++ did ∷ []) ≡ did.index + 1
 behind_steps-push from [] did = refl
 behind_steps-push from (first ∷ steps) did = behind_steps-push (first.index + 1) steps did
 
-IsRising-push : (from : ℕ) (steps : List Did) (did : Did) → IsRising from steps → behind_steps from steps ≤ did.index → IsRising from (steps ++ did ∷ [])
+IsRising-push : (from : ℕ) (steps : List Did) (did : Did) → IsRising from steps
+    → behind_steps from steps ≤ did.index → IsRising from (steps ++ did ∷ [])
 IsRising-push from [] did rising behind = (behind, tt)
 IsRising-push from (first ∷ steps) did rising behind = (rising.0, IsRising-push (first.index + 1) steps did rising.1 behind)
 
 -- one more call behind the others
-behind_calls-push : (from : ℕ) (calls : List Past) (past : Past) → behind_calls from (calls ++ past ∷ []) ≡ behind_call past
+behind_calls-push : (from : ℕ) (calls : List Past) (past : Past)
+    → behind_calls from (calls ++ past ∷ []) ≡ behind_call past
 behind_calls-push from [] past = refl
 behind_calls-push from (first ∷ calls) past = behind_calls-push (behind_call first) calls past
 
-AreInOrder-push : (from : ℕ) (calls : List Past) (past : Past) → AreInOrder from calls → behind_calls from calls ≤ past.begin
+AreInOrder-push : (from : ℕ) (calls : List Past) (past : Past) → AreInOrder from calls
+    → behind_calls from calls ≤ past.begin
     → IsRising (past.begin + 1) past.steps → AreInOrder from (calls ++ past ∷ [])
 AreInOrder-push from [] past order behind rising = (behind, rising, tt)
 AreInOrder-push from (first ∷ calls) past order behind rising =
     (order.0, order.1, AreInOrder-push (behind_call first) calls past order.2 behind rising)
 
-all_weaker : {A : Type 0} (P Q : A → Type 0) → ((x : A) → P x → Q x) → (xs : List A) → AllByRecursion P xs → AllByRecursion Q xs
+all_weaker : {A : Type 0} (P Q : A → Type 0) → ((x : A) → P x → Q x) → (xs : List A) → AllByRecursion P xs
+    → AllByRecursion Q xs
 all_weaker P Q weaker [] all = tt
 all_weaker P Q weaker (x ∷ xs) all = (weaker x all.0, all_weaker P Q weaker xs all.1)
 
@@ -227,7 +240,8 @@ module _ (M : Type 0) (mix : ℕ → ℕ → ℕ → ℕ) (env : Env) where
       steps = all_weaker _ _ (recorded-more c) past.steps is.steps;
     }
 
-    under_way-more : (c : ℕ) (trace : Trace) (call : Call) → IsUnderWay events c trace call → IsUnderWay more c trace call
+    under_way-more : (c : ℕ) (trace : Trace) (call : Call) → IsUnderWay events c trace call
+        → IsUnderWay more c trace call
     under_way-more c trace call way = record {
       is = record {
         began = slice_get-push events event trace.begin (Begin c call) way.is.began;
@@ -237,7 +251,8 @@ module _ (M : Type 0) (mix : ℕ → ℕ → ℕ → ℕ) (env : Env) where
       ends = let ends = way.ends in omega (arith, longer);
     }
 
-    holds-more : (c : ℕ) (call : Option Call) (trace : Trace) → Holds events c call trace → Holds more c call trace
+    holds-more : (c : ℕ) (call : Option Call) (trace : Trace) → Holds events c call trace
+        → Holds more c call trace
     holds-more c call trace holds = record {
       past = all_weaker _ _ (past-more c) trace.past holds.past;
       in_order = holds.in_order;
@@ -247,8 +262,10 @@ module _ (M : Type 0) (mix : ℕ → ℕ → ℕ → ℕ) (env : Env) where
     }
 
   -- a call begins at the last event
-  begin-holds : (events : List Event) (c : ℕ) (call : Call) (before : Option Call) (trace : Trace) (index : ℕ) → index ≡ length events
-      → Holds events c before trace → Holds (events ++ Begin c call ∷ []) c (Some call) (trace_begun index trace)
+  begin-holds : (events : List Event) (c : ℕ) (call : Call) (before : Option Call) (trace : Trace) (index : ℕ)
+      → index ≡ length events
+      → Holds events c before trace
+      → Holds (events ++ Begin c call ∷ []) c (Some call) (trace_begun index trace)
   begin-holds events c call before trace index is holds =
       let kept = holds-more events (Begin c call) c before trace holds in
       let longer = length_push events (Begin c call) in
@@ -268,7 +285,8 @@ module _ (M : Type 0) (mix : ℕ → ℕ → ℕ → ℕ) (env : Env) where
       }
 
   -- the step that is made at the last event
-  recorded-now : (events : List Event) (c : ℕ) (op : Op) → planned (R events).world.core.enrolled (R events).world.core.locals c ≡ Some op
+  recorded-now : (events : List Event) (c : ℕ) (op : Op)
+      → planned (R events).world.core.enrolled (R events).world.core.locals c ≡ Some op
       → IsRecorded M mix env (events ++ Step c ∷ []) c (record { index = (R events).count; op = op; old = old_of (R events).world.core.words op })
   recorded-now events c op is =
       let more = events ++ Step c ∷ [] in
@@ -282,7 +300,8 @@ module _ (M : Type 0) (mix : ℕ → ℕ → ℕ → ℕ) (env : Env) where
       }
 
   -- a call that goes on with this step
-  goes_on : (events : List Event) (c : ℕ) (trace : Trace) (did : Did) (call : Call) → did.index ≡ length events → IsUnderWay events c trace call
+  goes_on : (events : List Event) (c : ℕ) (trace : Trace) (did : Did) (call : Call) → did.index ≡ length events
+      → IsUnderWay events c trace call
       → IsUnderWay (events ++ Step c ∷ []) c (record { begin = trace.begin; steps = trace.steps ++ did ∷ []; past = trace.past }) call
   goes_on events c trace did call is way =
       let kept = under_way-more events (Step c) c trace call way in
@@ -298,8 +317,10 @@ module _ (M : Type 0) (mix : ℕ → ℕ → ℕ → ℕ) (env : Env) where
       }
 
   -- a step of a call, which may have ended it
-  did-holds : (events : List Event) (c : ℕ) (call : Option Call) (trace : Trace) (did : Did) (reply : Option Reply) (book : Book) → book.call ≡ call
-      → did.index ≡ length events → IsRecorded M mix env (events ++ Step c ∷ []) c did → Holds events c call trace
+  did-holds : (events : List Event) (c : ℕ) (call : Option Call) (trace : Trace) (did : Did) (reply : Option Reply) (book : Book)
+      → book.call ≡ call
+      → did.index ≡ length events → IsRecorded M mix env (events ++ Step c ∷ []) c did
+      → Holds events c call trace
       → Holds (events ++ Step c ∷ []) c (book_after reply book).call (trace_did call did reply trace)
   did-holds events c call trace did None book same is recorded holds =
       let kept = holds-more events (Step c) c call trace holds in
@@ -341,7 +362,8 @@ module _ (M : Type 0) (mix : ℕ → ℕ → ℕ → ℕ) (env : Env) where
   AllHold events = (c : ℕ) → Holds events c ((R events).world.books c).call ((R events).traces c)
 
   step-holds : (events : List Event) (event : Event) → AllHold events
-      → (c : ℕ) → Holds (events ++ event ∷ []) c ((traced_step mix (R events) event).world.books c).call ((traced_step mix (R events) event).traces c)
+      → (c : ℕ)
+      → Holds (events ++ event ∷ []) c ((traced_step mix (R events) event).world.books c).call ((traced_step mix (R events) event).traces c)
   step-holds events Enroll each k = holds-more events Enroll k ((R events).world.books k).call ((R events).traces k) (each k)
   step-holds events (Begin c call) each k =
       let r : Traced M = R events in

@@ -23,7 +23,8 @@ use Rattle.rht_core.specs.Laws.{seen_begin, seen_step, Extends}
 -- ---- lists of events
 
 -- from the events that are past, the others come one by one
-induct_along : (P : List Event → Type 0) → ((events : List Event) (event : Event) → P events → P (events ++ event ∷ []))
+induct_along : (P : List Event → Type 0)
+    → ((events : List Event) (event : Event) → P events → P (events ++ event ∷ []))
     → (past rest : List Event) → P past → P (past ++ rest)
 induct_along P more past [] p = subst P (sym (append-nil past)) p
 induct_along P more past (event ∷ rest) p =
@@ -31,11 +32,13 @@ induct_along P more past (event ∷ rest) p =
 
 -- what holds of no events, and of events with one more where it held of them, holds of all
 pub induct_by_last : (P : List Event → Type 0) → P []
-    → ((events : List Event) (event : Event) → P events → P (events ++ event ∷ [])) → (events : List Event) → P events
+    → ((events : List Event) (event : Event) → P events → P (events ++ event ∷ [])) → (events : List Event)
+    → P events
 induct_by_last P none more events = induct_along P more [] events none
 
 -- the first events stay the first ones where one more comes
-pub take-push : (events : List Event) (event : Event) (n : ℕ) → n ≤ length events → take n (events ++ event ∷ []) ≡ take n events
+pub take-push : (events : List Event) (event : Event) (n : ℕ) → n ≤ length events
+    → take n (events ++ event ∷ []) ≡ take n events
 take-push events event n l = take-append-le n events (event ∷ []) l
 
 -- and before the one more there were all others
@@ -43,11 +46,13 @@ pub take-push_all : (events : List Event) (event : Event) → take (length event
 take-push_all events event = take-append_seam events (event ∷ [])
 
 -- events are admitted where each part is
-pub IsAdmitted-append : (kind : Kind) (past rest : List Event) → IsAdmitted kind past → IsAdmitted kind rest → IsAdmitted kind (past ++ rest)
+pub IsAdmitted-append : (kind : Kind) (past rest : List Event) → IsAdmitted kind past → IsAdmitted kind rest
+    → IsAdmitted kind (past ++ rest)
 IsAdmitted-append kind [] rest p q = q
 IsAdmitted-append kind (event ∷ past) rest p q = (p.0, IsAdmitted-append kind past rest p.1 q)
 
-pub IsAdmitted-parts : (kind : Kind) (past rest : List Event) → IsAdmitted kind (past ++ rest) → IsAdmitted kind past × IsAdmitted kind rest
+pub IsAdmitted-parts : (kind : Kind) (past rest : List Event) → IsAdmitted kind (past ++ rest)
+    → IsAdmitted kind past × IsAdmitted kind rest
 IsAdmitted-parts kind [] rest p = (tt, p)
 IsAdmitted-parts kind (event ∷ past) rest p = let parts = IsAdmitted-parts kind past rest p.1 in ((p.0, parts.0), parts.1)
 
@@ -62,7 +67,8 @@ book_at-other books c book k n = ap (λ v. cond v book (books k)) (ne_eqb k c n)
 -- ---- what a caller begins with and plans
 
 -- a choice that gives something was made so, and gives that
-pub cond_none : {A : Type 0} (b : Bool) (option : Option A) (a : A) → cond b option None ≡ Some a → (b ≡ true) × (option ≡ Some a)
+pub cond_none : {A : Type 0} (b : Bool) (option : Option A) (a : A) → cond b option None ≡ Some a
+    → (b ≡ true) × (option ≡ Some a)
 cond_none true option a is = (refl, is)
 cond_none false option a is = absurd (cc)
 
@@ -85,7 +91,8 @@ module _ {M : Type 0} where
     pub below : c < enrolled
     pub plan : plan_of (local_in locals c) ≡ Some op
 
-  pub planned-some : (enrolled : ℕ) (locals : List (Local M)) (c : ℕ) (op : Op) → planned enrolled locals c ≡ Some op → CanStep enrolled locals c op
+  pub planned-some : (enrolled : ℕ) (locals : List (Local M)) (c : ℕ) (op : Op)
+      → planned enrolled locals c ≡ Some op → CanStep enrolled locals c op
   planned-some enrolled locals c op is =
       let parts = cond_none (nat_lt c enrolled) (plan_of (local_in locals c)) op is in
       record { below = ltb-true c enrolled parts.0; plan = parts.1 }
@@ -162,7 +169,8 @@ module _ (M : Type 0) (mix : ℕ → ℕ → ℕ → ℕ) (w : World M) where
     step_none is = ap stepped_with is
 
     -- one of a caller that plans an operation performs it
-    pub step_words : (op : Op) → planned_in ≡ Some op → (world_step mix w (Step c)).core.words ≡ applied w.core.words op
+    pub step_words : (op : Op) → planned_in ≡ Some op
+        → (world_step mix w (Step c)).core.words ≡ applied w.core.words op
     step_words op is = ap (λ o. (stepped_with o).core.words) is
 
     -- who steps goes on with the old word
@@ -192,7 +200,8 @@ module _ (M : Type 0) (mix : ℕ → ℕ → ℕ → ℕ) (w : World M) where
 
 module _ (M : Type 0) (mix : ℕ → ℕ → ℕ → ℕ) where
   -- a run of events behind others goes on from what the others leave
-  pub run_from-append : (w : World M) (past rest : List Event) → run_from mix w (past ++ rest) ≡ run_from mix (run_from mix w past) rest
+  pub run_from-append : (w : World M) (past rest : List Event)
+      → run_from mix w (past ++ rest) ≡ run_from mix (run_from mix w past) rest
   run_from-append w [] rest = refl
   run_from-append w (event ∷ past) rest = run_from-append (world_step mix w event) past rest
 
