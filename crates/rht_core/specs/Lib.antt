@@ -6,3 +6,5 @@ pub mod Runs
 pub mod Traces
 -- what the words stand for
 pub mod StandsFor
+-- what holds of every run
+pub mod Laws

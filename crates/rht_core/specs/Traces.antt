@@ -1,6 +1,5 @@
 -- The steps of each call of a run, with the numbers of their events. Nothing that a caller does depends on them.
-use Rattle.std.specs.Prelude.{◌≡◌, ℕ, ◌+◌, ◌<◌, ◌==◌, if◌then◌else◌, Option, Some, None, List, [], ◌∷◌, ◌++◌, length, map, take}
-use Rattle.std.specs.List.{AllByRecursion}
+use Rattle.std.specs.Prelude.{ℕ, ◌+◌, ◌≤◌, ◌==◌, if◌then◌else◌, Option, Some, None, List, [], ◌∷◌, ◌++◌, map}
 use Rattle.rht_words.specs.declared.op.Op.{Op}
 use Rattle.rht_words.specs.declared.env.Env.{Env}
 use Rattle.rht_words.specs.Operations.{old_of}
@@ -10,7 +9,7 @@ use Rattle.rht_core.specs.declared.event.Event.{Event}
 use Rattle.rht_core.specs.declared.event.Event.TheVariants.{Enroll, Begin, Step}
 use Rattle.rht_core.specs.declared.book.Finished.{Finished}
 use Rattle.rht_core.specs.declared.local.Local.{Local}
-use Rattle.rht_core.specs.Runs.{World, opening, world_step, run_of, beginning, planned, core_step, finished_with, IsAdmitted}
+use Rattle.rht_core.specs.Runs.{World, opening, world_step, beginning, planned, core_step, finished_with}
 
 -- an operation of a run: the number of its event, counted from 0, and the word before it
 pub record Did : Type 0 where
@@ -81,3 +80,29 @@ module _ {M : Type 0} where
     -- the run of these events with its traces
     abbrev pub traced_of : Env → List Event → Traced M
     traced_of env events = traced_from (record { world = opening env; count = 0; traces = λ _. record { begin = 0; steps = []; past = [] } }) events
+
+-- ---- what is said of traces
+
+-- The steps of a call stand in rising order of their events, from this event on
+abbrev pub IsRising : ℕ → List Did → Type 0
+IsRising from [] = Unit {0}
+IsRising from (did ∷ steps) = (from ≤ did.index) × IsRising (did.index + 1) steps
+
+-- the event behind the last of these steps; this one where there is none
+abbrev pub behind_steps : ℕ → List Did → ℕ
+behind_steps from [] = from
+behind_steps from (did ∷ steps) = behind_steps (did.index + 1) steps
+
+-- the event behind a call that has ended
+abbrev pub behind_call : Past → ℕ
+behind_call past = behind_steps (past.begin + 1) past.steps
+
+-- the event behind the last of these calls; this one where there is none
+abbrev pub behind_calls : ℕ → List Past → ℕ
+behind_calls from [] = from
+behind_calls from (past ∷ calls) = behind_calls (behind_call past) calls
+
+-- the calls come one behind the other, from this event on: each begins behind all events of the one before
+abbrev pub AreInOrder : ℕ → List Past → Type 0
+AreInOrder from [] = Unit {0}
+AreInOrder from (past ∷ calls) = (from ≤ past.begin) × IsRising (past.begin + 1) past.steps × AreInOrder (behind_call past) calls

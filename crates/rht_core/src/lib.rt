@@ -7,6 +7,7 @@
 
 mod book;
 mod event;
+pub mod laws;
 mod local;
 mod state;
 

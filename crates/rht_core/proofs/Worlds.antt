@@ -1,0 +1,230 @@
+-- What an event does to the words and to each caller, and inductions over the events of a run.
+-- An event of one caller changes what that caller sees of itself and nothing that another sees. All
+-- else that holds of runs goes through these equations.
+use Rattle.std.proofs.Common.{◌≡◌, ◌≢◌, ℕ, ◌<◌, ◌≤◌, Bool, true, false, cond, ◌&&◌, nat_lt, List, [], ◌∷◌, ◌++◌, length, take, refl, sym, ap, ◌∙◌, subst, append_assoc}
+use Rattle.std.specs.Prelude.{Option, Some, None, slice_set}
+use Rattle.std.proofs.lemmas.Bool.{eq-eqb, ne_eqb, ltb-true, and_parts}
+use Rattle.std.proofs.lemmas.List.{append-nil, take-append-le, get_or-set_same, get_or-set_other}
+use Rattle.std.proofs.Math.Seq.{take-append_seam}
+use Rattle.rht_words.specs.declared.op.Op.{Op}
+use Rattle.rht_words.specs.declared.env.Env.{Env}
+use Rattle.rht_words.specs.declared.config.Kind.{Kind}
+use Rattle.rht_words.specs.Operations.{old_of, applied}
+use Rattle.rht_model.specs.declared.history.Call.{Call}
+use Rattle.rht_core.specs.declared.event.Event.{Event}
+use Rattle.rht_core.specs.declared.event.Event.TheVariants.{Enroll, Begin, Step}
+use Rattle.rht_core.specs.declared.book.Book.{Book}
+use Rattle.rht_core.specs.declared.local.Local.{Local}
+use Rattle.rht_core.specs.declared.local.Local.TheVariants.{Idle}
+use Rattle.rht_core.specs.Locals.{is_idle, machine_of, plan_of, local_after}
+use Rattle.rht_core.specs.Runs.{World, Seen, seen, local_in, local_of, beginning, with_machine, planned, with_step, enrolling, book_at, book_begun, book_after, books_begun, books_stepped, world_step, run_from, run_of, opening, IsAdmitted, IsAdmittedEvent}
+use Rattle.rht_core.specs.Laws.{seen_begin, seen_step, Extends}
+
+-- ---- lists of events
+
+-- from the events that are past, the others come one by one
+induct_along : (P : List Event → Type 0)
+    → ((events : List Event) (event : Event) → P events → P (events ++ event ∷ []))
+    → (past rest : List Event) → P past → P (past ++ rest)
+induct_along P more past [] p = subst P (sym (append-nil past)) p
+induct_along P more past (event ∷ rest) p =
+    subst P (append_assoc past (event ∷ []) rest) (induct_along P more (past ++ event ∷ []) rest (more past event p))
+
+-- what holds of no events, and of events with one more where it held of them, holds of all
+pub induct_by_last : (P : List Event → Type 0) → P []
+    → ((events : List Event) (event : Event) → P events → P (events ++ event ∷ [])) → (events : List Event)
+    → P events
+induct_by_last P none more events = induct_along P more [] events none
+
+-- the first events stay the first ones where one more comes
+pub take-push : (events : List Event) (event : Event) (n : ℕ) → n ≤ length events
+    → take n (events ++ event ∷ []) ≡ take n events
+take-push events event n l = take-append-le n events (event ∷ []) l
+
+-- and before the one more there were all others
+pub take-push_all : (events : List Event) (event : Event) → take (length events) (events ++ event ∷ []) ≡ events
+take-push_all events event = take-append_seam events (event ∷ [])
+
+-- events are admitted where each part is
+pub IsAdmitted-append : (kind : Kind) (past rest : List Event) → IsAdmitted kind past → IsAdmitted kind rest
+    → IsAdmitted kind (past ++ rest)
+IsAdmitted-append kind [] rest p q = q
+IsAdmitted-append kind (event ∷ past) rest p q = (p.0, IsAdmitted-append kind past rest p.1 q)
+
+pub IsAdmitted-parts : (kind : Kind) (past rest : List Event) → IsAdmitted kind (past ++ rest)
+    → IsAdmitted kind past × IsAdmitted kind rest
+IsAdmitted-parts kind [] rest p = (tt, p)
+IsAdmitted-parts kind (event ∷ past) rest p = let parts = IsAdmitted-parts kind past rest p.1 in ((p.0, parts.0), parts.1)
+
+-- ---- books
+
+pub book_at-same : (books : ℕ → Book) (c : ℕ) (book : Book) → book_at books c book c ≡ book
+book_at-same books c book = ap (λ v. cond v book (books c)) (eq-eqb c c refl)
+
+pub book_at-other : (books : ℕ → Book) (c : ℕ) (book : Book) (k : ℕ) → k ≢ c → book_at books c book k ≡ books k
+book_at-other books c book k n = ap (λ v. cond v book (books k)) (ne_eqb k c n)
+
+-- ---- what a caller begins with and plans
+
+-- a choice that gives something was made so, and gives that
+pub cond_none : {A : Type 0} (b : Bool) (option : Option A) (a : A) → cond b option None ≡ Some a
+    → (b ≡ true) × (option ≡ Some a)
+cond_none true option a is = (refl, is)
+cond_none false option a is = absurd (cc)
+
+module _ {M : Type 0} where
+  -- who begins is enrolled and idle, and has a machine for the call
+  pub record CanBegin (env : Env) (enrolled : ℕ) (locals : List (Local M)) (c : ℕ) (call : Call) (machine : Local M) : Type 0 where
+    pub below : c < enrolled
+    pub idle : is_idle (local_in locals c) ≡ true
+    pub machine_is : machine_of env c call ≡ Some machine
+
+  pub beginning-some : (env : Env) (enrolled : ℕ) (locals : List (Local M)) (c : ℕ) (call : Call) (machine : Local M)
+      → beginning env enrolled locals c call ≡ Some machine → CanBegin env enrolled locals c call machine
+  beginning-some env enrolled locals c call machine is =
+      let parts = cond_none (nat_lt c enrolled && is_idle (local_in locals c)) (machine_of env c call) machine is in
+      let both = and_parts (nat_lt c enrolled) (is_idle (local_in locals c)) parts.0 in
+      record { below = ltb-true c enrolled both.0; idle = both.1; machine_is = parts.1 }
+
+  -- who plans an operation is enrolled
+  pub record CanStep (enrolled : ℕ) (locals : List (Local M)) (c : ℕ) (op : Op) : Type 0 where
+    pub below : c < enrolled
+    pub plan : plan_of (local_in locals c) ≡ Some op
+
+  pub planned-some : (enrolled : ℕ) (locals : List (Local M)) (c : ℕ) (op : Op)
+      → planned enrolled locals c ≡ Some op → CanStep enrolled locals c op
+  planned-some enrolled locals c op is =
+      let parts = cond_none (nat_lt c enrolled) (plan_of (local_in locals c)) op is in
+      record { below = ltb-true c enrolled parts.0; plan = parts.1 }
+
+-- ---- what an event does
+
+module _ (M : Type 0) (mix : ℕ → ℕ → ℕ → ℕ) (w : World M) where
+  -- what a caller is doing and its calls, as it sees them
+  abbrev pair : Local M → Book → Seen M
+  pair local book = record { local = local; book = book }
+
+  -- an enrolling changes the words and no caller
+  pub enroll_words : (world_step mix w Enroll).core.words ≡ applied w.core.words (enrolling w.core.env)
+  enroll_words = refl
+
+  pub enroll_any : (k : ℕ) → seen (world_step mix w Enroll) k ≡ seen w k
+  enroll_any k = refl
+
+  module _ (c : ℕ) (call : Call) where
+    -- the operation with which a caller begins
+    abbrev pub beginning_in : Option (Local M)
+    beginning_in = beginning w.core.env w.core.enrolled w.core.locals c call
+
+    -- the world after a caller has begun with this
+    abbrev began_with : Option (Local M) → World M
+    began_with machine = record {
+      core = record w.core { locals = with_machine w.core.locals c machine };
+      books = books_begun w.books c call machine;
+    }
+
+    -- a beginning changes no word
+    pub begin_words : (world_step mix w (Begin c call)).core.words ≡ w.core.words
+    begin_words = refl
+
+    -- one that can't be changes nothing
+    pub begin_none : beginning_in ≡ None → world_step mix w (Begin c call) ≡ w
+    begin_none is = ap began_with is
+
+    -- who begins has the machine and the call
+    pub begin_self : (machine : Local M) → beginning_in ≡ Some machine → c < length w.core.locals
+        → seen (world_step mix w (Begin c call)) c ≡ seen_begin call machine (seen w c)
+    begin_self machine is below =
+        let local : local_in (slice_set w.core.locals c machine) c ≡ machine = get_or-set_same w.core.locals c machine Idle below in
+        let book : book_at w.books c (book_begun call (w.books c)) c ≡ book_begun call (w.books c) =
+        book_at-same w.books c (book_begun call (w.books c)) in
+        ap (λ o. seen (began_with o) c) is ∙ (λ i. pair (local i) (book i))
+
+    -- another caller sees nothing of it
+    began_other : (k : ℕ) → k ≢ c → (machine : Option (Local M)) → seen (began_with machine) k ≡ seen w k
+    began_other k other None = refl
+    began_other k other (Some machine) =
+        let local : local_in (slice_set w.core.locals c machine) k ≡ local_of w.core k = get_or-set_other w.core.locals c k machine Idle other in
+        let book : book_at w.books c (book_begun call (w.books c)) k ≡ w.books k =
+        book_at-other w.books c (book_begun call (w.books c)) k other in
+        (λ i. pair (local i) (book i))
+
+    pub begin_other : (k : ℕ) → k ≢ c → seen (world_step mix w (Begin c call)) k ≡ seen w k
+    begin_other k other = began_other k other beginning_in
+
+  module _ (c : ℕ) where
+    -- the operation that a caller performs next
+    abbrev pub planned_in : Option Op
+    planned_in = planned w.core.enrolled w.core.locals c
+
+    -- the world after a caller has performed this
+    abbrev stepped_with : Option Op → World M
+    stepped_with op = record {
+      core = (with_step mix w.core c op).0;
+      books = books_stepped w.books c op (with_step mix w.core c op).1.reply;
+    }
+
+    -- a step of a caller that plans nothing changes nothing
+    pub step_none : planned_in ≡ None → world_step mix w (Step c) ≡ w
+    step_none is = ap stepped_with is
+
+    -- one of a caller that plans an operation performs it
+    pub step_words : (op : Op) → planned_in ≡ Some op
+        → (world_step mix w (Step c)).core.words ≡ applied w.core.words op
+    step_words op is = ap (λ o. (stepped_with o).core.words) is
+
+    -- who steps goes on with the old word
+    pub step_self : (op : Op) → planned_in ≡ Some op → c < length w.core.locals
+        → seen (world_step mix w (Step c)) c ≡ seen_step mix (old_of w.core.words op) (seen w c)
+    step_self op is below =
+        let next = local_after mix (local_of w.core c) (old_of w.core.words op) in
+        let local : local_in (slice_set w.core.locals c next.0) c ≡ next.0 = get_or-set_same w.core.locals c next.0 Idle below in
+        let book : book_at w.books c (book_after next.1 (w.books c)) c ≡ book_after next.1 (w.books c) =
+        book_at-same w.books c (book_after next.1 (w.books c)) in
+        ap (λ o. seen (stepped_with o) c) is ∙ (λ i. pair (local i) (book i))
+
+    -- another caller sees nothing of it
+    stepped_other : (k : ℕ) → k ≢ c → (op : Option Op) → seen (stepped_with op) k ≡ seen w k
+    stepped_other k other None = refl
+    stepped_other k other (Some op) =
+        let next = local_after mix (local_of w.core c) (old_of w.core.words op) in
+        let local : local_in (slice_set w.core.locals c next.0) k ≡ local_of w.core k = get_or-set_other w.core.locals c k next.0 Idle other in
+        let book : book_at w.books c (book_after next.1 (w.books c)) k ≡ w.books k =
+        book_at-other w.books c (book_after next.1 (w.books c)) k other in
+        (λ i. pair (local i) (book i))
+
+    pub step_other : (k : ℕ) → k ≢ c → seen (world_step mix w (Step c)) k ≡ seen w k
+    step_other k other = stepped_other k other planned_in
+
+-- ---- runs
+
+module _ (M : Type 0) (mix : ℕ → ℕ → ℕ → ℕ) where
+  -- a run of events behind others goes on from what the others leave
+  pub run_from-append : (w : World M) (past rest : List Event)
+      → run_from mix w (past ++ rest) ≡ run_from mix (run_from mix w past) rest
+  run_from-append w [] rest = refl
+  run_from-append w (event ∷ past) rest = run_from-append (world_step mix w event) past rest
+
+  pub run_of-push : (env : Env) (events : List Event) (event : Event)
+      → ◌≡◌ {A = World M} (run_of mix env (events ++ event ∷ [])) (world_step mix (run_of mix env events) event)
+  run_of-push env events event = run_from-append (opening env) events (event ∷ [])
+
+  -- what each event keeps holds behind all of them
+  pub run_keeps : (P : World M → Type 0) → ((w : World M) (event : Event) → P w → P (world_step mix w event))
+      → (w : World M) (events : List Event) → P w → P (run_from mix w events)
+  run_keeps P keeps w [] p = p
+  run_keeps P keeps w (event ∷ events) p = run_keeps P keeps (world_step mix w event) events (keeps w event p)
+
+  -- the same where only admitted events keep it
+  pub run_keeps_admitted : (kind : Kind) (P : World M → Type 0)
+      → ((w : World M) (event : Event) → IsAdmittedEvent kind event → P w → P (world_step mix w event))
+      → (w : World M) (events : List Event) → IsAdmitted kind events → P w → P (run_from mix w events)
+  run_keeps_admitted kind P keeps w [] admitted p = p
+  run_keeps_admitted kind P keeps w (event ∷ events) admitted p =
+      run_keeps_admitted kind P keeps (world_step mix w event) events admitted.1 (keeps w event admitted.0 p)
+
+  pub extends : Extends M mix
+  extends env events event admitted more = record {
+    admitted = IsAdmitted-append env.config.kind events (event ∷ []) admitted (more, tt);
+    world = run_of-push env events event;
+  }

@@ -1,0 +1,5 @@
+use Rattle.rht_core.proofs.TracesInRuns.{at_events}
+use Rattle.rht_core.proofs.laws.at_events.Goals as goal
+
+pub returns : goal.returns
+returns g c = at_events g.row.M.Denot g.M.Mix.mix_of

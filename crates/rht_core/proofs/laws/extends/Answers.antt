@@ -1,0 +1,5 @@
+use Rattle.rht_core.proofs.Worlds.{extends}
+use Rattle.rht_core.proofs.laws.extends.Goals as goal
+
+pub returns : goal.returns
+returns g c = extends g.row.M.Denot g.M.Mix.mix_of

@@ -1,0 +1,307 @@
+-- What holds of every run.
+use Rattle.std.specs.Prelude.{◌≡◌, ◌≢◌, ℕ, ◌+◌, ◌/◌, ◌%◌, ◌<◌, ◌≤◌, ◌⊎◌, List, [], ◌∷◌, ◌++◌, length, map, take, Option, Some, None, IfSome}
+use Rattle.std.specs.List.{AllByRecursion, slice_get}
+use Rattle.std.specs.Int.{bit_at, bit_not, w64}
+use Rattle.rht_words.specs.declared.op.Op.{Op}
+use Rattle.rht_words.specs.declared.op.Op.TheVariants.{And}
+use Rattle.rht_words.specs.declared.env.Env.{Env}
+use Rattle.rht_words.specs.declared.geometry.Geometry.{Geometry}
+use Rattle.rht_words.specs.Operations.{op_place, old_of}
+use Rattle.rht_words.specs.Maps.{bit_of}
+use Rattle.rht_words.specs.Places.{EnrolledCallers, NodeMap, place_of, pages_at, words_in, word_at}
+use Rattle.rht_chain.specs.Lock.{IsEven}
+use Rattle.rht_chain.specs.LockedWalk.{IsInRange as IsWalkInRange}
+use Rattle.rht_arena.specs.TakeNode.{IsInRange as IsTakeInRange}
+use Rattle.rht_find.specs.Find.{FindModel, IsInRange as IsFindInRange}
+use Rattle.rht_find.specs.declared.find.FindAt.{FindAt}
+use Rattle.rht_find.specs.declared.find.FindAt.TheVariants as find_at
+use Rattle.rht_bind.specs.Bind.{BindModel, IsInRange as IsBindInRange}
+use Rattle.rht_bind.specs.declared.bind.BindAt.{BindAt}
+use Rattle.rht_bind.specs.declared.bind.BindAt.TheVariants as bind_at
+use Rattle.rht_model.specs.declared.history.Call.{Call}
+use Rattle.rht_model.specs.declared.history.Call.TheVariants.{Bind, Find}
+use Rattle.rht_model.specs.declared.history.Reply.{Reply}
+use Rattle.rht_model.specs.declared.history.Reply.TheVariants.{Bound, Exists, Found, Missing, TooBig, NoNode}
+use Rattle.rht_core.specs.declared.book.Finished.{Finished}
+use Rattle.rht_core.specs.declared.book.Book.{Book}
+use Rattle.rht_core.specs.declared.event.Event.{Event}
+use Rattle.rht_core.specs.declared.event.Event.TheVariants.{Enroll, Begin, Step}
+use Rattle.rht_core.specs.declared.local.Local.{Local}
+use Rattle.rht_core.specs.declared.local.Local.TheVariants.{Idle, Finding, Binding}
+use Rattle.rht_core.specs.Locals.{plan_of, local_after}
+use Rattle.rht_core.specs.Runs.{Core, World, Seen, world_step, run_of, local_of, planned, book_begun, book_after, IsSound, IsAdmitted, IsAdmittedEvent}
+use Rattle.rht_core.specs.Traces.{Did, Past, Trace, Traced, traced_of, behind_calls, IsRising, AreInOrder}
+
+-- ---- what one caller knows of itself, after an event of its own
+
+module _ {M : Type 0} where
+  -- it was given a call, and what it does for it
+  abbrev pub seen_begin : Call → Local M → Seen M → Seen M
+  seen_begin call machine seen = record { local = machine; book = book_begun call seen.book }
+
+  -- it has made an operation, which found this word
+  abbrev pub seen_step : (ℕ → ℕ → ℕ → ℕ) → ℕ → Seen M → Seen M
+  seen_step mix old seen =
+      let next = local_after mix seen.local old in
+      record { local = next.0; book = book_after next.1 seen.book }
+
+-- ---- what a caller's state names
+
+-- the word at this place is a bucket's
+abbrev pub IsBucketPlace : Geometry → ℕ → Type 0
+IsBucketPlace g place = (pages_at g ≤ place) × (place < words_in g)
+
+-- the bucket that a look-up's state names is one, and the piece that it holds is in range
+abbrev pub IsFindPieceIn : Geometry → FindAt → Type 0
+IsFindPieceIn g find_at.CurrentTable = Unit {0}
+IsFindPieceIn g (find_at.Shape table) = Unit {0}
+IsFindPieceIn g (find_at.Seed table shape) = Unit {0}
+IsFindPieceIn g (find_at.Locking table lock) = IsBucketPlace g lock.place × IsEven lock.at
+IsFindPieceIn g (find_at.Walking table bucket walk) = IsBucketPlace g bucket.place × IsWalkInRange walk.geometry walk.before walk.at
+IsFindPieceIn g (find_at.Future table bucket) = IsBucketPlace g bucket.place
+IsFindPieceIn g (find_at.FirstOwner bucket node) = IsBucketPlace g bucket.place
+IsFindPieceIn g (find_at.ListLink bucket node owner) = IsBucketPlace g bucket.place
+IsFindPieceIn g (find_at.LaterOwner bucket node owner) = IsBucketPlace g bucket.place
+IsFindPieceIn g (find_at.Unlocking unlock next) = IsBucketPlace g unlock.place
+
+-- and the same of a bind's state
+abbrev pub IsBindPieceIn : Geometry → BindAt → Type 0
+IsBindPieceIn g (bind_at.Taking take) = IsTakeInRange take.geometry take.at
+IsBindPieceIn g (bind_at.Key node) = Unit {0}
+IsBindPieceIn g (bind_at.Owner node) = Unit {0}
+IsBindPieceIn g (bind_at.ListLink node) = Unit {0}
+IsBindPieceIn g (bind_at.CurrentTable node) = Unit {0}
+IsBindPieceIn g (bind_at.Shape node table) = Unit {0}
+IsBindPieceIn g (bind_at.Seed node table shape) = Unit {0}
+IsBindPieceIn g (bind_at.Locking node table shape lock) = IsBucketPlace g lock.place × IsEven lock.at
+IsBindPieceIn g (bind_at.Walking table claimed walk) = IsBucketPlace g claimed.bucket.place × IsWalkInRange walk.geometry walk.before walk.at
+IsBindPieceIn g (bind_at.FoundOwner claimed found) = IsBucketPlace g claimed.bucket.place
+IsBindPieceIn g (bind_at.Future table claimed) = IsBucketPlace g claimed.bucket.place
+IsBindPieceIn g (bind_at.Count claimed) = IsBucketPlace g claimed.bucket.place
+IsBindPieceIn g (bind_at.Link claimed) = IsBucketPlace g claimed.bucket.place
+IsBindPieceIn g (bind_at.Raise claimed) = IsBucketPlace g claimed.bucket.place
+IsBindPieceIn g (bind_at.Publish claimed kick) = IsBucketPlace g claimed.bucket.place
+IsBindPieceIn g (bind_at.Unlocking node unlock next) = IsBucketPlace g unlock.place
+IsBindPieceIn g (bind_at.Giving give reply) = give.node < give.geometry.nodes
+
+-- a look-up of this caller in this table, all that its state names being the table's
+pub record IsFindOf (env : Env) (c : ℕ) (m : FindModel) : Type 0 where
+  pub same_env : m.env ≡ env
+  pub same_caller : m.caller ≡ c
+  pub range : IsFindInRange env m.at
+  pub piece : IsFindPieceIn env.geometry m.at
+
+-- a bind of this caller in this table, all that its state names being the table's
+pub record IsBindOf (env : Env) (c : ℕ) (m : BindModel) : Type 0 where
+  pub same_env : m.env ≡ env
+  pub same_caller : m.caller ≡ c
+  pub range : IsBindInRange env m.at
+  pub piece : IsBindPieceIn env.geometry m.at
+
+-- the operation is on one of the words, and not on that of the enrolled callers
+pub record IsPlannedIn (g : Geometry) (op : Op) : Type 0 where
+  pub within : op_place op < words_in g
+  pub apart : op_place op ≢ place_of g EnrolledCallers
+
+module _ {M : Type 0} where
+  -- what this caller does is in range
+  abbrev pub IsLocalIn : Env → ℕ → Local M → Type 0
+  IsLocalIn env c Idle = Unit {0}
+  IsLocalIn env c (Finding m) = IsFindOf env c m
+  IsLocalIn env c (Binding m) = IsBindOf env c m
+
+-- all words and callers are there, what each caller does is in range, and so is the operation that it plans
+pub record IsInRange {M : Type 0} (env : Env) (core : Core M) : Type 0 where
+  pub same_env : core.env ≡ env
+  pub sound : IsSound core
+  pub locals : (c : ℕ) → IsLocalIn env c (local_of core c)
+  pub plans : (c : ℕ) (op : Op) → plan_of (local_of core c) ≡ Some op → IsPlannedIn env.geometry op
+
+-- ---- what is answered
+
+-- the replies that a look-up may have, and those that a bind may have
+abbrev pub IsFindReply : Reply → Type 0
+IsFindReply (Found owner) = Unit {0}
+IsFindReply Missing = Unit {0}
+IsFindReply _ = ⊥
+
+abbrev pub IsBindReply : Reply → Type 0
+IsBindReply (Bound kick) = Unit {0}
+IsBindReply (Exists owner) = Unit {0}
+IsBindReply (TooBig count) = Unit {0}
+IsBindReply NoNode = Unit {0}
+IsBindReply _ = ⊥
+
+-- the reply is one of those that the call may have; the other calls are never answered yet
+abbrev pub IsReplyTo : Call → Reply → Type 0
+IsReplyTo (Find port) reply = IsFindReply reply
+IsReplyTo (Bind port owner once) reply = IsBindReply reply
+IsReplyTo _ reply = ⊥
+
+-- a call that has ended has a reply of its kind, and no list came with it
+pub record IsAnswered (done : Finished) : Type 0 where
+  pub reply : IsReplyTo done.call done.reply
+  pub owners : done.owners ≡ []
+  pub pairs : done.pairs ≡ []
+
+-- in no call a caller has made no step
+pub record IsBookOfIdle (book : Book) : Type 0 where
+  pub call : book.call ≡ None
+  pub steps : book.steps ≡ 0
+
+-- the machine works at the call that is in progress, for this caller, in this table
+pub record IsBookOfFind (env : Env) (c : ℕ) (m : FindModel) (book : Book) : Type 0 where
+  pub same_env : m.env ≡ env
+  pub same_caller : m.caller ≡ c
+  pub call : book.call ≡ Some (Find m.port)
+
+pub record IsBookOfBind (env : Env) (c : ℕ) (m : BindModel) (book : Book) : Type 0 where
+  pub same_env : m.env ≡ env
+  pub same_caller : m.caller ≡ c
+  pub call : book.call ≡ Some (Bind m.port m.owner m.once)
+
+module _ {M : Type 0} where
+  -- what a caller does is what its book says
+  abbrev pub IsBookOf : Env → ℕ → Local M → Book → Type 0
+  IsBookOf env c Idle book = IsBookOfIdle book
+  IsBookOf env c (Finding m) book = IsBookOfFind env c m book
+  IsBookOf env c (Binding m) book = IsBookOfBind env c m book
+
+-- each call of a caller that has ended was answered, and the one in progress is the one that it works at
+pub record AnswersIn {M : Type 0} (env : Env) (c : ℕ) (local : Local M) (book : Book) : Type 0 where
+  pub finished : AllByRecursion IsAnswered book.finished
+  pub progress : IsBookOf env c local book
+
+-- ---- traces
+
+-- a trace's past calls are the finished ones of the book, and it has as many steps of the call in progress as the book counts
+pub record IsTraceOf (book : Book) (trace : Trace) : Type 0 where
+  pub past : map (λ past. past.done) trace.past ≡ book.finished
+  pub steps : length trace.steps ≡ book.steps
+
+-- the call in progress began at its event, behind all events of the past ones, and its steps are in order behind its beginning
+pub record IsInProgress (events : List Event) (c : ℕ) (trace : Trace) (call : Call) : Type 0 where
+  pub began : slice_get events trace.begin ≡ Some (Begin c call)
+  pub behind : behind_calls 0 trace.past ≤ trace.begin
+  pub rising : IsRising (trace.begin + 1) trace.steps
+
+-- ---- nodes
+
+-- the operation takes this node: it clears the node's bit in the map of nodes, which was set
+pub record IsTake (g : Geometry) (node : ℕ) (op : Op) (old : ℕ) : Type 0 where
+  pub clears : op ≡ And (place_of g (NodeMap (node / 64))) (bit_not w64 (bit_of (node % 64)))
+  pub free : bit_at old (node % 64) ≡ 1
+
+-- the step takes no node
+abbrev pub IsNoTake : Geometry → Did → Type 0
+IsNoTake g did = (node : ℕ) → IsTake g node did.op did.old → ⊥
+
+-- none of the steps takes a node
+abbrev pub TakesNone : Geometry → List Did → Type 0
+TakesNone g steps = AllByRecursion (IsNoTake g) steps
+
+-- one of the steps takes this node, and no other one takes any
+abbrev pub TakesOne : Geometry → ℕ → List Did → Type 0
+TakesOne g node [] = ⊥
+TakesOne g node (did ∷ steps) = (IsTake g node did.op did.old × TakesNone g steps) ⊎ (IsNoTake g did × TakesOne g node steps)
+
+-- one of the steps takes one of the nodes, and no other one takes any
+abbrev pub TakesOneOf : Geometry → List Did → Type 0
+TakesOneOf g steps = (node : ℕ) × (node < g.nodes) × TakesOne g node steps
+
+-- a bind with this reply has taken one node; none where it was answered so
+abbrev pub IsTakenBy : Geometry → Reply → List Did → Type 0
+IsTakenBy g NoNode steps = TakesNone g steps
+IsTakenBy g _ steps = TakesOneOf g steps
+
+-- and no other call takes one
+abbrev pub IsTakenIn : Geometry → Call → Reply → List Did → Type 0
+IsTakenIn g (Bind port owner once) reply steps = IsTakenBy g reply steps
+IsTakenIn g _ reply steps = TakesNone g steps
+
+-- ---- the laws
+
+-- the event is one of a caller that there is already
+abbrev pub IsOfCaller : Event → Type 0
+IsOfCaller Enroll = ⊥
+IsOfCaller (Begin c call) = Unit {0}
+IsOfCaller (Step c) = Unit {0}
+
+module _ (M : Type 0) (mix : ℕ → ℕ → ℕ → ℕ) where
+  -- a run followed by one more event is a run, and its world is the old one changed by that event
+  pub record IsOneMore (env : Env) (events : List Event) (event : Event) : Type 0 where
+    pub admitted : IsAdmitted env.config.kind (events ++ event ∷ [])
+    pub world : ◌≡◌ {A = World M} (run_of mix env (events ++ event ∷ [])) (world_step mix (run_of mix env events) event)
+
+  abbrev pub Extends : Type 0
+  Extends =
+      (env : Env) (events : List Event) (event : Event)
+      → IsAdmitted env.config.kind events → IsAdmittedEvent env.config.kind event → IsOneMore env events event
+
+  -- in every run all that callers name is in range
+  abbrev pub InRange : Type 0
+  InRange = (env : Env) (events : List Event) → IsAdmitted env.config.kind events → IsInRange {M = M} env (run_of mix env events).core
+
+  -- an event leaves the word of the enrolled callers, and how many there are
+  pub record IsEnrolledKept (before after : World M) : Type 0 where
+    pub word : word_at after.core.env.geometry after.core.words EnrolledCallers ≡ word_at before.core.env.geometry before.core.words EnrolledCallers
+    pub count : after.core.enrolled ≡ before.core.enrolled
+
+  -- no event but an Enroll changes which callers are enrolled
+  abbrev pub Enrolled : Type 0
+  Enrolled =
+      (env : Env) (events : List Event) (event : Event)
+      → IsAdmitted env.config.kind events → IsAdmittedEvent env.config.kind event → IsOfCaller event
+      → IsEnrolledKept (run_of mix env events) (run_of mix env (events ++ event ∷ []))
+
+  -- in every run each call that has ended has a reply of its kind
+  abbrev pub Replies : Type 0
+  Replies =
+      (env : Env) (events : List Event) → IsAdmitted env.config.kind events
+      → let w : World M = run_of mix env events in
+      (c : ℕ) → AnswersIn env c (local_of w.core c) (w.books c)
+
+  -- a run with its traces is that run, and each trace is that of its book
+  pub record IsTraced (env : Env) (events : List Event) (r : Traced M) : Type 0 where
+    pub world : r.world ≡ run_of mix env events
+    pub count : r.count ≡ length events
+    pub traces : (c : ℕ) → IsTraceOf (r.world.books c) (r.traces c)
+
+  -- in every run the traces remember each call
+  abbrev pub Remembers : Type 0
+  Remembers = (env : Env) (events : List Event) → IsAdmitted env.config.kind events → IsTraced env events (traced_of mix env events)
+
+  -- the step is one of the run's events; this caller planned its operation there, and it found its old value in the words
+  -- that the events before it leave
+  pub record IsRecorded (env : Env) (events : List Event) (c : ℕ) (did : Did) : Type 0 where
+    pub event : slice_get events did.index ≡ Some (Step c)
+    pub plan :
+        let core : Core M = (run_of mix env (take did.index events)).core in
+        planned core.enrolled core.locals c ≡ Some did.op
+    pub found : old_of (run_of {M = M} mix env (take did.index events)).core.words did.op ≡ did.old
+
+  -- a past call began at its event, and so are its steps
+  pub record IsPastCall (env : Env) (events : List Event) (c : ℕ) (past : Past) : Type 0 where
+    pub began : slice_get events past.begin ≡ Some (Begin c past.done.call)
+    pub steps : AllByRecursion (IsRecorded env events c) past.steps
+
+  -- all that a trace says stands in the run at its event; calls don't overlap, and steps are in order
+  pub record IsTraceAt (env : Env) (events : List Event) (c : ℕ) (call : Option Call) (trace : Trace) : Type 0 where
+    pub past : AllByRecursion (IsPastCall env events c) trace.past
+    pub in_order : AreInOrder 0 trace.past
+    pub steps : AllByRecursion (IsRecorded env events c) trace.steps
+    pub progress : IfSome call (IsInProgress events c trace)
+
+  -- in every run the traces say what happened
+  abbrev pub AtEvents : Type 0
+  AtEvents =
+      (env : Env) (events : List Event) → IsAdmitted env.config.kind events
+      → let r : Traced M = traced_of mix env events in
+      (c : ℕ) → IsTraceAt env events c (r.world.books c).call (r.traces c)
+
+  -- in every run a bind that has ended took one node, but for one that was answered that there was none
+  abbrev pub TakenAlone : Type 0
+  TakenAlone =
+      (env : Env) (events : List Event) → IsAdmitted env.config.kind events
+      → let r : Traced M = traced_of mix env events in
+      (c : ℕ) → AllByRecursion (λ past. IsTakenIn env.geometry past.done.call past.done.reply past.steps) (r.traces c).past

@@ -1,0 +1,53 @@
+//! The laws of every run. Each function is empty, and its clause is the law.
+
+ghost use Rattle.rht_core.specs.Laws.{Extends, InRange, Enrolled, Replies, Remembers, AtEvents, TakenAlone};
+
+use rht_policy::Mix;
+
+/// A run followed by one more admitted event is a run, and its world is the old one changed by that
+/// event. So whatever is known of a run stays known while it goes on, event by event. It doesn't say
+/// that an event comes.
+pub fn extends<M: Mix>()
+    ensures { Extends M M.mix_of }
+{}
+
+/// In every run all words and callers are there, and all that a caller's state names is the table's:
+/// its slots, nodes and buckets. So each operation that a caller plans is on one of the words, and
+/// never on that of the enrolled callers. It says nothing of what stands in a word.
+pub fn in_range<M: Mix>()
+    ensures { InRange M M.mix_of }
+{}
+
+/// No event but an `Enroll` changes the word of the enrolled callers, or how many there are. It
+/// doesn't say that the two agree: after 2^64 `Enroll`s the word has begun again.
+pub fn enrolled<M: Mix>()
+    ensures { Enrolled M M.mix_of }
+{}
+
+/// In every run each call that has ended has a reply of its kind, and no list came with it; and what
+/// a caller works at is the call of its book, for that caller, in the run's table. It doesn't say
+/// which of the replies comes, nor that one comes.
+pub fn replies<M: Mix>()
+    ensures { Replies M M.mix_of }
+{}
+
+/// A run with its traces is the run itself, and the traces remember all that the books know: the calls
+/// that have ended, in order, and how many steps the call in progress has made.
+pub fn remembers<M: Mix>()
+    ensures { Remembers M M.mix_of }
+{}
+
+/// In every run each step of a trace is one of the run's events: a step of that caller, whose
+/// operation it planned there, and which found its old value in the words that the events before it
+/// leave. Each call began at a `Begin` of it, its steps come behind that in the order of their events,
+/// and no two calls of one caller overlap. It says nothing of how the events of two callers lie.
+pub fn at_events<M: Mix>()
+    ensures { AtEvents M M.mix_of }
+{}
+
+/// In every run a bind that has ended took exactly one of the nodes, which was free when it took it,
+/// and none where it was answered `NoNode`; a look-up took none. It doesn't say that nobody else has
+/// that node, nor that it was given back.
+pub fn taken_alone<M: Mix>()
+    ensures { TakenAlone M M.mix_of }
+{}
