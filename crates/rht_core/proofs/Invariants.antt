@@ -28,6 +28,7 @@ use Rattle.rht_core.specs.declared.local.Local.{Local}
 use Rattle.rht_core.specs.declared.local.Local.TheVariants.{Idle, Finding, Binding}
 use Rattle.rht_core.specs.Locals.{is_idle, machine_of, binding_of, plan_of, found_next, bound_next, local_after}
 use Rattle.rht_core.specs.Runs.{Core, core_step, local_of, local_in, beginning, with_machine, begun, planned, performed, with_step, enrolling, enrolled_after, IsSound}
+use Rattle.rht_core.proofs.Worlds.{CanBegin, beginning-some, CanStep, planned-some}
 use Rattle.rht_core.proofs.Ghosts.{Ghost}
 use Rattle.rht_core.proofs.Wholes.{home, Whole}
 use Rattle.rht_core.proofs.Knowledge.{Fact, AllMean, AllMean-rely, Rely}
@@ -129,3 +130,97 @@ module _ (env : Env) (mix : ℕ → ℕ → ℕ → ℕ) where
     begun_knows c calls.Work machine M G is known = absurd (cc)
     begun_knows c calls.Tidy machine M G is known = absurd (cc)
     begun_knows c calls.Count machine M G is known = absurd (cc)
+
+    -- what another place of the list of callers says stays where one is changed
+    local-same : (locals : List (Local L)) (c : ℕ) (local : Local L) → c < length locals → local_in (set locals c local) c ≡ local
+    local-same locals c local l = get_or-set_same locals c local Idle l
+
+    local-other : (locals : List (Local L)) (c k : ℕ) (local : Local L) → k ≢ c → local_in (set locals c local) k ≡ local_in locals k
+    local-other locals c k local ne = get_or-set_other locals c k local Idle ne
+
+    -- what an event does to the ghost: nothing, or the move of a caller
+    pub record Kept (core : Core L) (G : Ghost) (event : Event) : Type 0 where
+      pub ghost : Ghost
+      pub inv : Inv (core_step mix core event).0 ghost
+      pub moved : (ghost ≡ G) ⊎ ((c : ℕ) × (move : Move) × (ghost ≡ ghost_after env mix c move G))
+
+    begin_kept : (core : Core L) (G : Ghost) (c : ℕ) (call : Call) (machine : Option (Local L)) → IsSound core → Inv core G
+        → beginning core.env core.enrolled core.locals c call ≡ machine → Kept core G (Begin c call)
+    begin_kept core G c call None sound inv is = record {
+      ghost = G;
+      inv = rw is (record { same_env = inv.same_env; whole = inv.whole; each = inv.each });
+      moved = inl refl;
+    }
+    begin_kept core G c call (Some machine) sound inv is =
+        let can = beginning-some core.env core.enrolled core.locals c call machine is in
+        let low : c < length core.locals = omega (arith, can.below, sound.few_enrolled, sound.all_locals) in
+        let idle : AllMean env mix c (mem env mix core.words) G nothing_held = knows_idle (local_of core c) can.idle (inv.each c) in
+        let knows : CallerKnows c machine (mem env mix core.words) G = begun_knows c call machine (mem env mix core.words) G (rw (sym inv.same_env) can.machine_is) idle in
+        record {
+          ghost = G;
+          inv = rw is (record {
+            same_env = inv.same_env;
+            whole = inv.whole;
+            each = λ k. elim (cases_eq k c) [
+                inl e ↦ rw e (rw (local-same core.locals c machine low) knows)
+              | inr ne ↦ rw (local-other core.locals c k machine ne) (inv.each k) ];
+          });
+          moved = inl refl;
+        }
+      where
+        knows_idle : (local : Local L) → is_idle local ≡ true → CallerKnows c local (mem env mix core.words) G → AllMean env mix c (mem env mix core.words) G nothing_held
+        knows_idle Idle e k = k
+        knows_idle (Finding m) e k = absurd (cc)
+        knows_idle (Binding m) e k = absurd (cc)
+
+    step_kept : (core : Core L) (G : Ghost) (c : ℕ) (plan : Option Op) → IsSound core → Inv core G
+        → planned core.enrolled core.locals c ≡ plan → Kept core G (StepOf c)
+    step_kept core G c None sound inv is = record {
+      ghost = G;
+      inv = rw is (record { same_env = inv.same_env; whole = inv.whole; each = inv.each });
+      moved = inl refl;
+    }
+    step_kept core G c (Some op) sound inv is =
+        let can = planned-some core.enrolled core.locals c op is in
+        let low : c < length core.locals = omega (arith, can.below, sound.few_enrolled, sound.all_locals) in
+        let caller : c < env.geometry.callers = subst (λ e. c < e.geometry.callers) inv.same_env (omega (arith, can.below, sound.few_enrolled)) in
+        let all : length core.words ≡ words_in env.geometry = subst (λ e. length core.words ≡ words_in e.geometry) inv.same_env sound.all_words in
+        let step = caller_step c (local_of core c) op core.words G all inv.whole caller can.plan (inv.each c) in
+        let next = (local_after mix (local_of core c) (old_of core.words op)).0 in
+        let G' = ghost_after env mix c step.move G in
+        record {
+          ghost = G';
+          inv = rw is (record {
+            same_env = inv.same_env;
+            whole = step.made.whole;
+            each = λ k. elim (cases_eq k c) [
+                inl e ↦ rw e (rw (local-same core.locals c next low) step.knows)
+              | inr ne ↦ rw (local-other core.locals c k next ne)
+                  (CallerKnows-rely k (local_of core k) (mem env mix core.words) (mem env mix (applied core.words op)) G G' inv.whole (step.made.others k ne) (inv.each k)) ];
+          });
+          moved = inr (c, step.move, refl);
+        }
+
+    enroll_kept : (core : Core L) (G : Ghost) → IsSound core → Inv core G → Kept core G Enroll
+    enroll_kept core G sound inv =
+        let op = enrolling core.env in
+        let all : length core.words ≡ words_in env.geometry = subst (λ e. length core.words ≡ words_in e.geometry) inv.same_env sound.all_words in
+        let M' = mem env mix (applied core.words op) in
+        let write = is_write env.geometry core.words EnrolledCallers op all tt refl in
+        let kept = aside env mix EnrolledCallers (word_after (word_at env.geometry core.words EnrolledCallers) op) (mem env mix core.words) M' G inv.whole write
+              (λ e. cc) (λ s e. cc) (λ j e. cc) (λ n w e. cc) (λ i e. cc) (λ e. cc) in
+        record {
+          ghost = G;
+          inv = record {
+            same_env = inv.same_env;
+            whole = kept.0;
+            each = λ k. CallerKnows-rely k (local_of core k) (mem env mix core.words) M' G G inv.whole (kept.1 k) (inv.each k);
+          };
+          moved = inl refl;
+        }
+
+    -- each event keeps the invariant
+    pub kept : (core : Core L) (G : Ghost) (event : Event) → IsSound core → Inv core G → Kept core G event
+    kept core G Enroll sound inv = enroll_kept core G sound inv
+    kept core G (Begin c call) sound inv = begin_kept core G c call (beginning core.env core.enrolled core.locals c call) sound inv refl
+    kept core G (StepOf c) sound inv = step_kept core G c (planned core.enrolled core.locals c) sound inv refl
