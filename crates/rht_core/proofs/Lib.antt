@@ -44,3 +44,5 @@ pub mod BindSteps
 pub mod FindSteps
 -- the invariant of every run
 pub mod Invariants
+-- the invariant holds at opening, and after each event
+pub mod InvariantRuns
