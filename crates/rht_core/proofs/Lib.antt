@@ -46,3 +46,5 @@ pub mod FindSteps
 pub mod Invariants
 -- the invariant holds at opening, and after each event
 pub mod InvariantRuns
+-- what the words stand for is what the ghost says
+pub mod BoundPorts

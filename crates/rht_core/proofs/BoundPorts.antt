@@ -1,0 +1,228 @@
+-- What the words stand for is what the ghost says: the owner of the node to which each port is bound.
+-- The table in force is the one table; the nodes met in each bucket are the bucket's nodes; and of all these at most one has
+-- the port's key, the one to which the port is bound.
+use Rattle.std.proofs.Common.{◌≡◌, ◌≢◌, ◌↔◌, ℕ, zero, suc, ◌+◌, ◌-◌, ◌*◌, ◌/◌, ◌%◌, ◌^◌, ◌<◌, ◌≤◌, ◌==◌, List, [], ◌∷◌, ◌++◌, length, map, min, Option, Some, None, Bool, true, false, cond, refl, sym, ◌∙◌, ap, subst, inl, inr, ◌⊎◌, slice_index, arith}
+use Rattle.std.proofs.lemmas.Bool.{cases_eq, cases_lt, eqb-true, eq-eqb}
+use Rattle.std.proofs.lemmas.Bool.Decides.{nat_tests}
+use Rattle.std.proofs.lemmas.List.{append-nil}
+use Rattle.std.proofs.Math.Nat.{mod-lt}
+use Rattle.std.specs.List.{find, flat_map, range_with_len}
+use Rattle.rht_words.specs.declared.env.Env.{Env}
+use Rattle.rht_words.specs.declared.geometry.Geometry.{Geometry}
+use Rattle.rht_words.proofs.Memory.{Memory}
+use Rattle.rht_words.proofs.ShapeSizes.{IsSizeUpTo-size_of}
+use Rattle.rht_words.specs.Links.{link_of, node_of, head_of, marker_of, table_of, slot_of}
+use Rattle.rht_words.specs.Ports.{word_of, owner_of}
+use Rattle.rht_words.specs.Shapes.{size_of, unpacked}
+use Rattle.rht_words.specs.Chains.{IsSegment}
+use Rattle.rht_words.specs.Opening.{first_size, first_shape}
+use Rattle.rht_words.specs.Places.{CurrentTable, Slot, ShapeWord, FutureWord, Node, ChainLink, KeyWord, OwnerWord, ListLink, PageWord, word_at}
+use Rattle.rht_words.proofs.LinksRead.{links_tell_apart}
+use Rattle.rht_words.proofs.Members.{In, NotIn, Distinct, AllBelow, count_below, count_below-most, length-count_below}
+use Rattle.rht_policy.specs.Mix.{bucket_of}
+use Rattle.rht_nest.specs.Place.{bucket_place, bucket_index}
+use Rattle.rht_core.specs.StandsFor.{tables_from, in_force, chain_from, bucket_nodes, shape_of, table_nodes, has_key, first_node, owners_from, stands_for}
+use Rattle.rht_core.proofs.Ghosts.{Bucket, Owner, First, Ghost, lock_bit}
+use Rattle.rht_core.proofs.Wholes.{chain_of, key_of, shape_word, home, place_at, Whole, IsFirstAt}
+use Rattle.rht_core.proofs.Steps.{by_test, mem}
+use Rattle.rht_core.proofs.Invariants.{home-within}
+
+-- ---- lists
+
+in-append_left : (x : ℕ) (xs ys : List ℕ) → In x xs → In x (xs ++ ys)
+in-append_left x [] ys i = absurd i
+in-append_left x (y ∷ xs) ys (inl e) = inl e
+in-append_left x (y ∷ xs) ys (inr i) = inr (in-append_left x xs ys i)
+
+in-append_right : (x : ℕ) (xs ys : List ℕ) → In x ys → In x (xs ++ ys)
+in-append_right x [] ys i = i
+in-append_right x (y ∷ xs) ys i = inr (in-append_right x xs ys i)
+
+in-append_parts : (x : ℕ) (xs ys : List ℕ) → In x (xs ++ ys) → In x xs ⊎ In x ys
+in-append_parts x [] ys i = inr i
+in-append_parts x (y ∷ xs) ys (inl e) = inl (inl e)
+in-append_parts x (y ∷ xs) ys (inr i) = elim (in-append_parts x xs ys i) [ inl l ↦ inl (inr l) | inr r ↦ inr r ]
+
+in-flat_map : (f : ℕ → List ℕ) (x y : ℕ) (ys : List ℕ) → In y ys → In x (f y) → In x (flat_map f ys)
+in-flat_map f x y [] i j = absurd i
+in-flat_map f x y (z ∷ ys) (inl e) j = in-append_left x (f z) (flat_map f ys) (rw (sym e) j)
+in-flat_map f x y (z ∷ ys) (inr i) j = in-append_right x (f z) (flat_map f ys) (in-flat_map f x y ys i j)
+
+from-flat_map : (f : ℕ → List ℕ) (x : ℕ) (ys : List ℕ) → In x (flat_map f ys) → (y : ℕ) × In y ys × In x (f y)
+from-flat_map f x [] i = absurd i
+from-flat_map f x (z ∷ ys) i = elim (in-append_parts x (f z) (flat_map f ys) i) [
+    inl l ↦ (z, inl refl, l)
+  | inr r ↦ let rest = from-flat_map f x ys r in (rest.0, inr rest.1, rest.2) ]
+
+in-range : (a n x : ℕ) → a ≤ x → x < a + n → In x (range_with_len a n)
+in-range a zero x low high = absurd (omega arith)
+in-range a (suc n) x low high = elim (cases_eq x a) [
+    inl e ↦ inl e
+  | inr ne ↦ inr (in-range (a + 1) n x (omega arith) (omega arith)) ]
+
+from-range : (a n x : ℕ) → In x (range_with_len a n) → (a ≤ x) × (x < a + n)
+from-range a zero x i = absurd i
+from-range a (suc n) x (inl e) = (omega arith, omega arith)
+from-range a (suc n) x (inr i) = let rest = from-range (a + 1) n x i in (omega arith, omega arith)
+
+flat_map-same : (f h : ℕ → List ℕ) (xs : List ℕ) → ((x : ℕ) → In x xs → f x ≡ h x) → flat_map f xs ≡ flat_map h xs
+flat_map-same f h [] same = refl
+flat_map-same f h (x ∷ xs) same = rw (same x (inl refl)) (rw (flat_map-same f h xs (λ y i. same y (inr i))) refl)
+
+-- what is found is a member that passes, and where a member passes something is found
+find-member : (p : ℕ → Bool) (xs : List ℕ) (x : ℕ) → find p xs ≡ Some x → In x xs × (p x ≡ true)
+find-member p [] x e = absurd (cc)
+find-member p (y ∷ xs) x e = go (p y) refl e (λ f. find-member p xs x f)
+  where
+    go : (b : Bool) → p y ≡ b → cond b (Some y) (find p xs) ≡ Some x → (find p xs ≡ Some x → In x xs × (p x ≡ true)) → In x (y ∷ xs) × (p x ≡ true)
+    go true q f rest = let same : y ≡ x = (cc) in (inl (sym same), ap p (sym same) ∙ q)
+    go false q f rest = let r = rest f in (inr r.0, r.1)
+
+find-none : (p : ℕ → Bool) (xs : List ℕ) (x : ℕ) → find p xs ≡ None → In x xs → p x ≡ false
+find-none p [] x e i = absurd i
+find-none p (y ∷ xs) x e i = go (p y) refl e i (λ f k. find-none p xs x f k)
+  where
+    go : (b : Bool) → p y ≡ b → cond b (Some y) (find p xs) ≡ None → In x (y ∷ xs) → (find p xs ≡ None → In x xs → p x ≡ false) → p x ≡ false
+    go true q f i rest = absurd (cc)
+    go false q f (inl s) rest = ap p s ∙ q
+    go false q f (inr i) rest = rest f i
+
+-- the first of a list
+abbrev head_or_none : List ℕ → Option ℕ
+head_or_none [] = None
+head_or_none (x ∷ xs) = Some x
+
+-- ---- one chain
+
+all_below_from : (bound : ℕ) (xs : List ℕ) → ((x : ℕ) → In x xs → x < bound) → AllBelow bound xs
+all_below_from bound [] all = tt
+all_below_from bound (x ∷ xs) all = (all x (inl refl), all_below_from bound xs (λ y i. all y (inr i)))
+
+module _ (env : Env) (mix : ℕ → ℕ → ℕ → ℕ) (words : List ℕ) (G : Ghost) (whole : Whole env mix (mem env mix words) G) where
+  abbrev g : Geometry
+  g = env.geometry
+
+  abbrev M : Memory
+  M = mem env mix words
+
+  -- the nodes met from a link are those of its chain, where there is fuel for all of them
+  chain_met : (left link : ℕ) (nodes : List ℕ) (stop : ℕ) → length nodes ≤ left → node_of g.nodes stop ≡ None → ((n : ℕ) → In n nodes → n < g.nodes)
+      → IsSegment (chain_of M) link nodes stop → chain_from g words left (node_of g.nodes link) ≡ nodes
+  chain_met zero link [] stop fuel ends among s = refl
+  chain_met (suc left) link [] stop fuel ends among s = rw (ap (node_of g.nodes) s ∙ ends) refl
+  chain_met zero link (n ∷ nodes) stop fuel ends among s = absurd (omega arith)
+  chain_met (suc left) link (n ∷ nodes) stop fuel ends among s =
+      rw (ap (node_of g.nodes) s.0 ∙ links_tell_apart.link_names g.nodes n (among n (inl refl)))
+        (ap (λ rest. n ∷ rest) (chain_met left (chain_of M n) nodes stop (omega arith) ends (λ m i. among m (inr i)) s.1))
+
+  -- a bucket's word with its lock leads to the same first link
+  head_of-locked : (place plain : ℕ) (holder : Option ℕ) → plain % 2 ≡ 0 → head_of place (plain + lock_bit holder) ≡ head_of place plain
+  head_of-locked place plain None even = ap (head_of place) (omega arith)
+  head_of-locked place plain (Some c) even = grind (arith, nat_tests, even)
+
+  bucket_met : (j : ℕ) → j < 64 * g.pages → bucket_nodes g words (place_at env mix j) ≡ (G.bucket j).nodes
+  bucket_met j l =
+      let right = whole.buckets j l in
+      let b = G.bucket j in
+      let among : (n : ℕ) → In n b.nodes → n < g.nodes = λ n i. (whole.owned.first_at n j (whole.owned.member j n i)).among in
+      let few = length-count_below (λ n. true) g.nodes b.nodes right.chained.distinct (all_below_from g.nodes b.nodes among) (λ n i. refl) in
+      let most = count_below-most (λ n. true) g.nodes in
+      let first : head_of (place_at env mix j) (slice_index words (place_at env mix j)) ≡ head_of (place_at env mix j) b.plain
+            = ap (head_of (place_at env mix j)) right.locked.word_is ∙ head_of-locked (place_at env mix j) b.plain b.holder right.locked.even in
+      rw first (chain_met g.nodes (head_of (place_at env mix j) b.plain) b.nodes (marker_of (place_at env mix j)) (omega (arith, few, most))
+        (links_tell_apart.marker_names_no_node g.nodes (place_at env mix j)) among right.chained.segment)
+
+  -- ---- the one table
+
+  -- the index of a bucket's word
+  abbrev index : ℕ → ℕ
+  index bucket = bucket_index g (shape_word env mix) bucket
+
+  index-within : (bucket : ℕ) → index bucket < 64 * g.pages
+  index-within bucket = let within = g.within in omega (arith, within.pages_within.0)
+
+  abbrev size : ℕ
+  size = size_of (unpacked (shape_word env mix))
+
+  abbrev all_nodes : List ℕ
+  all_nodes = flat_map (λ bucket. (G.bucket (index bucket)).nodes) (range_with_len 0 size)
+
+  table_met : table_nodes g words 0 ≡ all_nodes
+  table_met = rw whole.tables.shape_is
+      (flat_map-same (λ bucket. bucket_nodes g words (bucket_place g (shape_word env mix) bucket)) (λ bucket. (G.bucket (index bucket)).nodes) (range_with_len 0 size)
+        (λ bucket i. bucket_met (index bucket) (index-within bucket)))
+
+  one_in_force : in_force g words ≡ 0 ∷ []
+  one_in_force = rw whole.tables.current_word (rw whole.tables.future_is refl)
+
+  all_met : flat_map (table_nodes g words) (in_force g words) ≡ all_nodes
+  all_met = ap (flat_map (table_nodes g words)) one_in_force ∙ append-nil (table_nodes g words 0) ∙ table_met
+
+  -- a node that is met is the one to which its port is bound
+  met_bound : (n : ℕ) → In n all_nodes → G.bound (key_of M n) ≡ n ∷ []
+  met_bound n i =
+      let from = from-flat_map (λ bucket. (G.bucket (index bucket)).nodes) n (range_with_len 0 size) i in
+      (whole.owned.first_at n (index from.0) (whole.owned.member (index from.0) n from.2)).bound_to
+
+  -- a node to which a port is bound is met
+  bound_met : (port n : ℕ) (behind : List ℕ) → G.bound port ≡ n ∷ behind → In n all_nodes × (key_of M n ≡ port)
+  bound_met port n behind b =
+      let to = whole.owned.bound_to port n behind b in
+      let at = whole.owned.first_at n to.bucket to.first in
+      let bucket = bucket_of mix (key_of M n) (shape_word env mix) env.config.seed in
+      (in-flat_map (λ x. (G.bucket (index x)).nodes) n bucket (range_with_len 0 size)
+        (in-range 0 size bucket (omega arith) (let low = bucket_below (key_of M n) in omega (arith, low)))
+        (subst (λ j. In n (G.bucket j).nodes) at.at_home at.there), to.key_is)
+    where
+      bucket_below : (k : ℕ) → bucket_of mix k (shape_word env mix) env.config.seed < size
+      bucket_below k = mod-lt (mix k 0 (env.config.seed % 2 ^ 32)) {m = size} (let size_is = IsSizeUpTo-size_of (unpacked (shape_word env mix)) in omega (arith, size_is.least))
+
+  -- ---- what the words stand for
+
+  -- the first node with the port's key is the one to which the port is bound
+  first_bound : (port : ℕ) (bound : List ℕ) → G.bound port ≡ bound → first_node g words port ≡ head_or_none bound
+  first_bound port bound is = rw all_met (go (find (has_key g words port) all_nodes) bound refl is)
+    where
+      go : (found : Option ℕ) (nodes : List ℕ) → find (has_key g words port) all_nodes ≡ found → G.bound port ≡ nodes → found ≡ head_or_none nodes
+      go None [] f b = refl
+      go (Some m) [] f b =
+          let member = find-member (has_key g words port) all_nodes m f in
+          let key = eqb-true (key_of M m) port member.1 in
+          let bound_m = met_bound m member.0 in
+          let q : ◌≡◌ {A = List ℕ} [] (m ∷ []) = sym b ∙ ap G.bound (sym key) ∙ bound_m in absurd (cc)
+      go None (n ∷ behind) f b =
+          let met = bound_met port n behind b in
+          let never = find-none (has_key g words port) all_nodes n f met.0 in
+          let yes_ = eq-eqb (key_of M n) port met.1 in absurd (cc)
+      go (Some m) (n ∷ behind) f b =
+          let member = find-member (has_key g words port) all_nodes m f in
+          let key = eqb-true (key_of M m) port member.1 in
+          let q : ◌≡◌ {A = List ℕ} (n ∷ behind) (m ∷ []) = sym b ∙ ap G.bound (sym key) ∙ met_bound m member.0 in
+          let same : n ≡ m = (cc) in ap Some (sym same)
+
+  one_owner : (n : ℕ) → M (Node n ListLink) ≡ 0 → owners_from g words g.nodes (Some n) ≡ owner_of (M (Node n OwnerWord)) ∷ []
+  one_owner n none =
+      let within = g.within in
+      let some : g.nodes ≡ suc (g.nodes - 1) = omega (arith, within.nodes_within.0) in
+      subst (λ fuel. owners_from g words fuel (Some n) ≡ owner_of (M (Node n OwnerWord)) ∷ []) (sym some)
+        (ap (λ rest. owner_of (M (Node n OwnerWord)) ∷ rest) (rw none (no_more (g.nodes - 1))))
+    where
+      no_more : (fuel : ℕ) → owners_from g words fuel (node_of g.nodes 0) ≡ []
+      no_more zero = refl
+      no_more (suc fuel) = refl
+
+  no_owner : (fuel : ℕ) → owners_from g words fuel None ≡ []
+  no_owner zero = refl
+  no_owner (suc fuel) = refl
+
+  -- the owner of each port is that of the node to which it is bound
+  pub stands_for_bound : (port : ℕ) → stands_for g words port ≡ map (λ n. owner_of (M (Node n OwnerWord))) (G.bound port)
+  stands_for_bound port = go (G.bound port) refl
+    where
+      go : (bound : List ℕ) → G.bound port ≡ bound → stands_for g words port ≡ map (λ n. owner_of (M (Node n OwnerWord))) bound
+      go [] b = ap (owners_from g words g.nodes) (first_bound port [] b) ∙ no_owner g.nodes
+      go (n ∷ behind) b =
+          let to = whole.owned.bound_to port n behind b in
+          let at = whole.owned.first_at n to.bucket to.first in
+          ap (owners_from g words g.nodes) (first_bound port (n ∷ behind) b) ∙ one_owner n at.no_list
+            ∙ ap (λ rest. owner_of (M (Node n OwnerWord)) ∷ map (λ m. owner_of (M (Node m OwnerWord))) rest) (sym to.alone)
