@@ -197,6 +197,7 @@ module _ (env : Env) (mix : ℕ → ℕ → ℕ → ℕ) (c : ℕ) (port owner :
           let write : IsWrite env.geometry M (mem env mix (applied words op)) (PageWord j) word = is_write env.geometry words (PageWord j) op all within refl in
           record {
             move = DropsLock j;
+            ready = tt;
             made = drop_lock env mix c j word M (mem env mix (applied words op)) G whole within holds.0 holds.1 write;
             knows = record {
               own = own-kept env mix c M (mem env mix (applied words op)) G (with_holder env mix G j None) (node_alone n) (tt, (tt, (tt, tt)))
@@ -231,6 +232,7 @@ module _ (env : Env) (mix : ℕ → ℕ → ℕ → ℕ) (c : ℕ) (port owner :
           let write : IsWrite env.geometry M (mem env mix (applied words op)) (PageWord j) (link_of n) = is_write env.geometry words (PageWord j) op all within known.fits.1 in
           record {
             move = Links n port;
+            ready = ready;
             made = link_head env mix c n port M (mem env mix (applied words op)) G whole ready write;
             knows = (put-same G.raised c false, (no_node own.1.0, (no_lock, tt)));
           }
@@ -367,6 +369,7 @@ module _ (env : Env) (mix : ℕ → ℕ → ℕ → ℕ) (c : ℕ) (port owner :
           let write : IsWrite env.geometry M M' PortCount ((M PortCount + 1) % 2 ^ 64) = is_write env.geometry words PortCount op all tt refl in
           record {
             move = Raises;
+            ready = tt;
             made = count_up env mix c M M' G whole low known.own.0 write;
             knows = record {
               own = (put-same G.raised c true, node-kept env mix c M M' G (with_raised env mix G c true)

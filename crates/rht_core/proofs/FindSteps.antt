@@ -130,6 +130,7 @@ module _ (env : Env) (mix : ℕ → ℕ → ℕ → ℕ) (c : ℕ) (port : ℕ) 
           let write : IsWrite env.geometry M (mem env mix (applied words op)) (PageWord j) word = is_write env.geometry words (PageWord j) op all within refl in
           record {
             move = DropsLock j;
+            ready = tt;
             made = drop_lock env mix c j word M (mem env mix (applied words op)) G whole within holds.0 holds.1 write;
             knows = (own.0, (own.1.0, (none_left, tt)));
           }

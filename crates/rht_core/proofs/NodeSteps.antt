@@ -78,6 +78,7 @@ module _ (env : Env) (mix : ℕ → ℕ → ℕ → ℕ) (c : ℕ) where
           (λ t e. let made = take_node env mix c index bit M M' G whole range (eqb-true (bit_at word bit) 1 t) write in
               record {
                 move = TakesNode (64 * index + bit);
+                ready = tt;
                 made = made.0;
                 knows = (means.0, (only_this means.1.0, (means.1.1.0, ((put-same G.node (64 * index + bit) (Held c), range.below), tt))));
               })
@@ -88,6 +89,7 @@ module _ (env : Env) (mix : ℕ → ℕ → ℕ → ℕ) (c : ℕ) where
                       | inr ne ↦ cleared_other env mix word bit k range.within l ne ] in
               record {
                 move = Reads;
+                ready = tt;
                 made = retouch env mix c index (bit_and word (bit_not w64 (bit_of bit))) M M' G whole low write same;
                 knows = claim_knows (takes.Claim index bit) index (bit_and word (bits_above bit)) M' G means;
               }) refl
@@ -105,6 +107,7 @@ module _ (env : Env) (mix : ℕ → ℕ → ℕ → ℕ) (c : ℕ) where
         let write = is_write env.geometry words (NodeMap (node / 64)) op all (omega (arith, has.1)) refl in
         record {
           move = GivesNode node;
+          ready = tt;
           made = give_node env mix c node M (mem env mix (applied words op)) G whole has write;
           knows = (means.0, (none_left means.1.0, (means.1.1.0, tt)));
         }
@@ -122,6 +125,7 @@ module _ (env : Env) (mix : ℕ → ℕ → ℕ → ℕ) (c : ℕ) where
         let write = is_write env.geometry words (Node node w) op all has.1 refl in
         record {
           move = Reads;
+          ready = tt;
           made = fill env mix c node w value M (mem env mix (applied words op)) G whole has write;
           knows = knows (mem env mix (applied words op)) write;
         }

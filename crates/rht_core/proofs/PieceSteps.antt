@@ -173,6 +173,7 @@ module _ (env : Env) (mix : ℕ → ℕ → ℕ → ℕ) (c : ℕ) (port : ℕ) 
             let made = take_lock env mix c j found M (mem env mix (applied words op)) G whole within same even write in
             record {
               move = TakesLock j;
+              ready = tt;
               made = made.0;
               knows = (own-kept env mix c M (mem env mix (applied words op)) G (with_holder env mix G j (Some c)) own all_own
                           (λ n w l. write.others (Node n w) l (λ e. cc)) (λ n. refl) refl mine,

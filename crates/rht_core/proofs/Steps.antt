@@ -12,7 +12,7 @@ use Rattle.rht_core.proofs.Wholes.{home, Whole}
 use Rattle.rht_core.proofs.Knowledge.{Fact, Has, WordIs, Locks, Stands, Differs, Missed, Found, OwnerIs, Raised, OnlyNode, OnlyLock, Means, AllMean, HasNode}
 use Rattle.rht_core.proofs.Frames.{Others, Made, still}
 use Rattle.rht_core.proofs.QuietMoves.{with_holder, with_owner, with_raised}
-use Rattle.rht_core.proofs.Linking.{linked}
+use Rattle.rht_core.proofs.Linking.{linked, IsReady}
 
 -- What an operation does beside what it finds: nothing that others see, a node taken or given back, a lock taken or dropped,
 -- the count raised, or a port bound
@@ -49,9 +49,15 @@ module _ (env : Env) (mix : ℕ → ℕ → ℕ → ℕ) where
   abbrev pub mem : List ℕ → Memory
   mem words = word_at env.geometry words
 
+  -- what a move needs: to bind a port, a node that is ready
+  abbrev pub ReadyFor : ℕ → Memory → Ghost → Move → Type 0
+  ReadyFor c M G (Links n port) = IsReady env mix c n port M G
+  ReadyFor c M G _ = Unit {0}
+
   -- An operation of a caller, with what the caller knows afterwards.
   pub record Step (c : ℕ) (words : List ℕ) (G : Ghost) (op : Op) (Knows : Memory → Ghost → Type 0) : Type 0 where
     pub move : Move
+    pub ready : ReadyFor c (mem words) G move
     pub made : Made env mix c (mem words) G (mem (applied words op)) (ghost_after c move G)
     pub knows : Knows (mem (applied words op)) (ghost_after c move G)
 
@@ -60,6 +66,7 @@ module _ (env : Env) (mix : ℕ → ℕ → ℕ → ℕ) where
       → word_after (old_of words op) op ≡ old_of words op → Knows (mem words) G → Step c words G op Knows
   reads c words G op Knows whole same knows = record {
     move = Reads;
+    ready = tt;
     made = rw (unchanged words op same) (still env mix c (mem words) G whole);
     knows = rw (unchanged words op same) knows;
   }
@@ -69,6 +76,7 @@ module _ (env : Env) (mix : ℕ → ℕ → ℕ → ℕ) where
       → ((M : Memory) (G' : Ghost) → Whole env mix M G' → Knows M G' → More M G') → Step c words G op Knows → Step c words G op More
   step-map c words G op Knows More more step = record {
     move = step.move;
+    ready = step.ready;
     made = step.made;
     knows = more (mem (applied words op)) (ghost_after c step.move G) step.made.whole step.knows;
   }
