@@ -8,3 +8,7 @@ pub mod Traces
 pub mod StandsFor
 -- what holds of every run
 pub mod Laws
+-- why a call was refused
+pub mod Causes
+-- one call alone
+pub mod Alone

@@ -1,0 +1,79 @@
+-- Why a call was refused, as rows of one definition over the call's own operations.
+-- A reply of which nothing is said here has its cause. Rows are added with the calls and refusals that they speak of.
+use Rattle.std.specs.Prelude.{◌≡◌, ◌≢◌, ℕ, ◌+◌, ◌/◌, ◌%◌, ◌<◌, ◌≤◌, ◌⊎◌, ◌==◌, ◌&&◌, not, Bool, List, [], ◌∷◌, length, take, count_by}
+use Rattle.std.specs.List.{AllByRecursion, range_with_len}
+use Rattle.std.specs.Int.{bit_at}
+use Rattle.rht_words.specs.declared.op.Op.{Op}
+use Rattle.rht_words.specs.declared.op.Op.TheVariants.{Load}
+use Rattle.rht_words.specs.declared.env.Env.{Env}
+use Rattle.rht_words.specs.declared.geometry.Geometry.{Geometry}
+use Rattle.rht_words.specs.Operations.{op_place}
+use Rattle.rht_words.specs.Places.{NodeMap, PortCount, place_of}
+use Rattle.rht_policy.specs.Sizes.{most_ports}
+use Rattle.rht_model.specs.declared.history.Reply.{Reply}
+use Rattle.rht_model.specs.declared.history.Reply.TheVariants.{NoNode, TooBig}
+use Rattle.rht_model.specs.Multimap.{Multimap}
+use Rattle.rht_core.specs.declared.event.Event.{Event}
+use Rattle.rht_core.specs.Locals.{is_idle}
+use Rattle.rht_core.specs.Runs.{Core, World, local_of, run_of, IsAdmitted}
+use Rattle.rht_core.specs.Traces.{Did, Past, traced_of}
+use Rattle.rht_core.specs.StandsFor.{stands_for}
+
+-- one of the operations is so
+abbrev pub SomeDid : (Did → Type 0) → List Did → Type 0
+SomeDid So [] = ⊥
+SomeDid So (did ∷ steps) = So did ⊎ SomeDid So steps
+
+-- the operation was on the map word of this node, and found the node's bit clear
+pub record SawTaken (g : Geometry) (node : ℕ) (did : Did) : Type 0 where
+  pub on_map : op_place did.op ≡ place_of g (NodeMap (node / 64))
+  pub clear : bit_at did.old (node % 64) ≡ 0
+
+-- none of these is the number
+abbrev pub IsNoneOf : List ℕ → ℕ → Type 0
+IsNoneOf [] x = Unit {0}
+IsNoneOf (y ∷ ys) x = (x ≢ y) × IsNoneOf ys x
+
+-- no number comes twice
+abbrev pub AreDistinct : List ℕ → Type 0
+AreDistinct [] = Unit {0}
+AreDistinct (x ∷ xs) = IsNoneOf xs x × AreDistinct xs
+
+-- so many different ports are bound
+pub record AreBound (bindings : Multimap) (count : ℕ) : Type 0 where
+  pub ports : List ℕ
+  pub distinct : AreDistinct ports
+  pub bound : AllByRecursion (λ port. bindings port ≢ []) ports
+  pub many : length ports ≡ count
+
+-- how many callers but this one are in the middle of a call
+abbrev pub others_in_call : {M : Type 0} → Core M → ℕ → ℕ
+others_in_call core c = count_by (λ other. not (other == c) && not (is_idle (local_of core other))) (range_with_len 0 core.env.geometry.callers)
+
+module _ (M : Type 0) (mix : ℕ → ℕ → ℕ → ℕ) where
+  -- at the event of this operation, the ports bound and the other callers in mid-call were at least so many
+  pub record CountedAt (env : Env) (events : List Event) (c count : ℕ) (did : Did) : Type 0 where
+    pub bound : ℕ
+    pub are_bound : AreBound (stands_for env.geometry (run_of {M = M} mix env (take did.index events)).core.words) bound
+    pub enough : count ≤ bound + others_in_call (run_of {M = M} mix env (take did.index events)).core c
+
+  -- the operation loaded this count of ports, which is as many as the table may hold or more, and so many there were
+  pub record SawFull (env : Env) (events : List Event) (c count : ℕ) (did : Did) : Type 0 where
+    pub loaded : did.op ≡ Load (place_of env.geometry PortCount)
+    pub found : did.old ≡ count
+    pub full : most_ports env.config.max ≤ count
+    pub counted : CountedAt env events c count did
+
+  -- the reply to a call that made these operations has its cause in them
+  abbrev pub HasCauseIn : Env → List Event → ℕ → Reply → List Did → Type 0
+  HasCauseIn env events c NoNode steps = (node : ℕ) → node < env.geometry.nodes → SomeDid (SawTaken env.geometry node) steps
+  HasCauseIn env events c (TooBig count) steps = SomeDid (SawFull env events c count) steps
+  HasCauseIn env events c _ steps = Unit {0}
+
+  -- a call that has ended has a reply that has its cause in the call's own operations
+  abbrev pub HasCause : Env → List Event → ℕ → Past → Type 0
+  HasCause env events c past = HasCauseIn env events c past.done.reply past.steps
+
+  -- in every run each call that has ended has a reply with its cause
+  abbrev pub Causes : Type 0
+  Causes = (env : Env) (events : List Event) (c : ℕ) → IsAdmitted env.config.kind events → AllByRecursion (HasCause env events c) ((traced_of {M = M} mix env events).traces c).past
