@@ -211,30 +211,35 @@ module _ (env : Env) (mix : ℕ → ℕ → ℕ → ℕ) (c : ℕ) (port owner :
           none_left other = put-all (λ i b. b.holder ≡ Some c → ◌≡◌ {A = Option ℕ} None (Some i)) G.bucket j (record (G.bucket j) { holder = None })
               (λ h. absurd (cc)) (λ i ne h. let q = lock.0 i h in absurd (ne (cc))) other
 
+      -- what it knows before it links its node
+      pub publish_ready : (claimed : Claimed) (kick : Bool) → BindKnows (at.Publish claimed kick) M G → IsReady env mix c claimed.node port M G
+      publish_ready claimed kick known =
+          let own = known.own in
+          let missed = known.lock.1.0 in
+          record {
+            low = low;
+            among = within;
+            has = own.1.1.0;
+            key = own.1.1.1.0.1;
+            list = own.1.1.1.1.1.0.1;
+            holder = missed.0.0;
+            none = missed.1;
+            chain = own.1.1.1.1.1.1.0.1 ∙ ap (λ p. head_of p claimed.bucket.word) known.fits.1 ∙ ap (head_of place) (sym missed.0.1);
+            raised = own.0;
+          }
+
       -- the node becomes the first of the chain
       publish_step : (claimed : Claimed) (kick : Bool) → BindKnows (at.Publish claimed kick) M G → BindStep (at.Publish claimed kick)
       publish_step claimed kick known =
           let n = claimed.node in
           let op = Store claimed.bucket.place (link_of n) in
-          let own = known.own in
-          let missed = known.lock.1.0 in
-          let ready : IsReady env mix c n port M G = record {
-                low = low;
-                among = within;
-                has = own.1.1.0;
-                key = own.1.1.1.0.1;
-                list = own.1.1.1.1.1.0.1;
-                holder = missed.0.0;
-                none = missed.1;
-                chain = own.1.1.1.1.1.1.0.1 ∙ ap (λ p. head_of p claimed.bucket.word) known.fits.1 ∙ ap (head_of place) (sym missed.0.1);
-                raised = own.0;
-              } in
+          let ready = publish_ready claimed kick known in
           let write : IsWrite env.geometry M (mem env mix (applied words op)) (PageWord j) (link_of n) = is_write env.geometry words (PageWord j) op all within known.fits.1 in
           record {
             move = Links n port;
             ready = ready;
             made = link_head env mix c n port M (mem env mix (applied words op)) G whole ready write;
-            knows = (put-same G.raised c false, (no_node own.1.0, (no_lock, tt)));
+            knows = (put-same G.raised c false, (no_node known.own.1.0, (no_lock, tt)));
           }
         where
           no_node : ((other : ℕ) → G.node other ≡ Held c → Some claimed.node ≡ Some other) → (other : ℕ) → put G.node claimed.node (First j) other ≡ Held c → ◌≡◌ {A = Option ℕ} None (Some other)

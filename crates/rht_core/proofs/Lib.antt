@@ -48,3 +48,7 @@ pub mod Invariants
 pub mod InvariantRuns
 -- what the words stand for is what the ghost says
 pub mod BoundPorts
+-- what an operation does to what the words stand for
+pub mod StepBindings
+-- the operations of one call while nobody else does anything
+pub mod AloneSteps
