@@ -52,3 +52,5 @@ pub mod BoundPorts
 pub mod StepBindings
 -- the operations of one call while nobody else does anything
 pub mod AloneSteps
+-- one call alone meets the model
+pub mod AloneRuns
