@@ -278,7 +278,7 @@ module _ (M : Type 0) (mix : ℕ → ℕ → ℕ → ℕ) (env : Env) where
       let plan = plans-in M env c (local_of core c) op (stays.locals c) can.plan in
       applied-other core.words op (place_of env.geometry EnrolledCallers) (λ e. plan.apart (sym e))
 
-  step-count : (core : Core M) (c : ℕ) (op : Option Op) → (with_step mix core c op).0.enrolled ≡ core.enrolled
+  pub step-count : (core : Core M) (c : ℕ) (op : Option Op) → (with_step mix core c op).0.enrolled ≡ core.enrolled
   step-count core c None = refl
   step-count core c (Some op) = refl
 

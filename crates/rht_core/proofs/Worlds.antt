@@ -3,7 +3,7 @@
 -- else that holds of runs goes through these equations.
 use Rattle.std.proofs.Common.{◌≡◌, ◌≢◌, ℕ, ◌<◌, ◌≤◌, Bool, true, false, cond, ◌&&◌, nat_lt, List, [], ◌∷◌, ◌++◌, length, take, refl, sym, ap, ◌∙◌, subst, append_assoc}
 use Rattle.std.specs.Prelude.{Option, Some, None, slice_set}
-use Rattle.std.proofs.lemmas.Bool.{eq-eqb, ne_eqb, ltb-true, and_parts}
+use Rattle.std.proofs.lemmas.Bool.{eq-eqb, ne_eqb, ltb-true, lt-ltb, and_parts, and_from}
 use Rattle.std.proofs.lemmas.List.{append-nil, take-append-le, get_or-set_same, get_or-set_other}
 use Rattle.std.proofs.Math.Seq.{take-append_seam}
 use Rattle.rht_words.specs.declared.op.Op.{Op}
@@ -89,6 +89,13 @@ module _ {M : Type 0} where
       let both = and_parts (nat_lt c enrolled) (is_idle (local_in locals c)) parts.0 in
       record { below = ltb-true c enrolled both.0; idle = both.1; machine_is = parts.1 }
 
+  -- of who is enrolled and idle the machine alone says how it begins
+  pub beginning-idle : (env : Env) (enrolled : ℕ) (locals : List (Local M)) (c : ℕ) (call : Call) → c < enrolled
+      → is_idle (local_in locals c) ≡ true → beginning env enrolled locals c call ≡ machine_of env c call
+  beginning-idle env enrolled locals c call below idle =
+      ap (λ (v : Bool). cond v (machine_of env c call) None)
+      (and_from (nat_lt c enrolled) (is_idle (local_in locals c)) (lt-ltb c enrolled below) idle)
+
   -- who plans an operation is enrolled
   pub record CanStep (enrolled : ℕ) (locals : List (Local M)) (c : ℕ) (op : Op) : Type 0 where
     pub below : c < enrolled
@@ -99,6 +106,12 @@ module _ {M : Type 0} where
   planned-some enrolled locals c op is =
       let parts = cond_none (nat_lt c enrolled) (plan_of (local_in locals c)) op is in
       record { below = ltb-true c enrolled parts.0; plan = parts.1 }
+
+  -- of who is enrolled the local alone says what it plans
+  pub planned-enrolled : (enrolled : ℕ) (locals : List (Local M)) (c : ℕ) → c < enrolled
+      → planned enrolled locals c ≡ plan_of (local_in locals c)
+  planned-enrolled enrolled locals c below =
+      ap (λ (v : Bool). cond v (plan_of (local_in locals c)) None) (lt-ltb c enrolled below)
 
 -- ---- what an event does
 

@@ -29,7 +29,7 @@ use Rattle.rht_core.specs.declared.event.Event.TheVariants.{Enroll, Begin, Step}
 use Rattle.rht_core.specs.declared.local.Local.{Local}
 use Rattle.rht_core.specs.declared.local.Local.TheVariants.{Idle, Finding, Binding}
 use Rattle.rht_core.specs.Locals.{plan_of, local_after}
-use Rattle.rht_core.specs.Runs.{Core, World, Seen, world_step, run_of, local_of, planned, book_begun, book_after, IsSound, IsAdmitted, IsAdmittedEvent}
+use Rattle.rht_core.specs.Runs.{Core, World, Seen, world_step, run_of, local_of, planned, seen, new_book, book_begun, book_after, IsSound, IsAdmitted, IsAdmittedEvent}
 use Rattle.rht_core.specs.Traces.{Did, Past, Trace, Traced, traced_of, behind_calls, IsRising, AreInOrder}
 
 -- ---- what one caller knows of itself, after an event of its own
@@ -253,6 +253,13 @@ module _ (M : Type 0) (mix : ℕ → ℕ → ℕ → ℕ) where
       (env : Env) (events : List Event) (event : Event)
       → IsAdmitted env.config.kind events → IsAdmittedEvent env.config.kind event → IsOfCaller event
       → IsEnrolledKept (run_of mix env events) (run_of mix env (events ++ event ∷ []))
+
+  -- in every run a caller that isn't enrolled is in no call and has made none
+  abbrev pub NotEnrolled : Type 0
+  NotEnrolled =
+      (env : Env) (events : List Event) → IsAdmitted env.config.kind events
+      → let w : World M = run_of mix env events in
+      (c : ℕ) → w.core.enrolled ≤ c → seen w c ≡ record { local = Idle; book = new_book }
 
   -- in every run each call that has ended has a reply of its kind
   abbrev pub Replies : Type 0

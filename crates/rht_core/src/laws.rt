@@ -1,6 +1,6 @@
 //! The laws of every run. Each function is empty, and its clause is the law.
 
-ghost use Rattle.rht_core.specs.Laws.{Extends, InRange, Enrolled, Replies, Remembers, AtEvents, TakenAlone};
+ghost use Rattle.rht_core.specs.Laws.{Extends, InRange, Enrolled, NotEnrolled, Replies, Remembers, AtEvents, TakenAlone};
 
 use rht_policy::Mix;
 
@@ -22,6 +22,12 @@ pub fn in_range<M: Mix>()
 /// doesn't say that the two agree: after 2^64 `Enroll`s the word has begun again.
 pub fn enrolled<M: Mix>()
     ensures { Enrolled M M.mix_of }
+{}
+
+/// In every run a caller that isn't enrolled is in no call and has made none: neither a `Begin` nor a
+/// `Step` of it does anything.
+pub fn not_enrolled<M: Mix>()
+    ensures { NotEnrolled M M.mix_of }
 {}
 
 /// In every run each call that has ended has a reply of its kind, and no list came with it; and what
