@@ -37,7 +37,8 @@ module _ (M : Type 0) (mix : ℕ → ℕ → ℕ → ℕ) where
       let can = beginning-some w.core.env w.core.enrolled w.core.locals c call machine is in
       begin_other M mix w c call k (λ same. omega (arith, can.below)) ∙ fresh k past
 
-  steps-fresh : (w : World M) (c : ℕ) (op : Option Op) → planned w.core.enrolled w.core.locals c ≡ op → OthersFresh w
+  steps-fresh : (w : World M) (c : ℕ) (op : Option Op) → planned w.core.enrolled w.core.locals c ≡ op
+      → OthersFresh w
       → (k : ℕ) → w.core.enrolled ≤ k → IsFresh (world_step mix w (Step c)) k
   steps-fresh w c None is fresh k past = ap (λ (v : World M). seen v k) (step_none M mix w c is) ∙ fresh k past
   steps-fresh w c (Some op) is fresh k past =

@@ -24,7 +24,8 @@ module _ (M : Type 0) where
   IsBusy None = Unit {0}
   IsBusy (Some machine) = is_idle machine ≡ false
 
-  binding-busy : (env : Env) (c port owner : ℕ) (once : Bool) (kind : Kind) → IsBusy (binding_of env c port owner once kind)
+  binding-busy : (env : Env) (c port owner : ℕ) (once : Bool) (kind : Kind)
+      → IsBusy (binding_of env c port owner once kind)
   binding-busy env c port owner once Single = refl
   binding-busy env c port owner once Listed = tt
 

@@ -49,7 +49,7 @@ each_set P default xs c x below p each k = elim (cases_eq k c) [
 ]
 
 -- the same of a list's elements alone
-all_set : {A : Type 0} (P : A → Type 0) (xs : List A) (c : ℕ) (x : A) → P x → AllByRecursion P xs
+pub all_set : {A : Type 0} (P : A → Type 0) (xs : List A) (c : ℕ) (x : A) → P x → AllByRecursion P xs
     → AllByRecursion P (set xs c x)
 all_set P [] c x p all = tt
 all_set P (y ∷ ys) zero x p all = (p, all.1)

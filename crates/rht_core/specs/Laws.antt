@@ -1,5 +1,5 @@
 -- What holds of every run.
-use Rattle.std.specs.Prelude.{◌≡◌, ◌≢◌, ℕ, ◌+◌, ◌/◌, ◌%◌, ◌<◌, ◌≤◌, ◌⊎◌, List, [], ◌∷◌, ◌++◌, length, map, take, Option, Some, None, IfSome}
+use Rattle.std.specs.Prelude.{◌≡◌, ◌≢◌, ℕ, ◌+◌, ◌/◌, ◌%◌, ◌^◌, ◌<◌, ◌≤◌, ◌⊎◌, List, [], ◌∷◌, ◌++◌, length, map, take, Option, Some, None, IfSome}
 use Rattle.std.specs.List.{AllByRecursion, slice_get}
 use Rattle.std.specs.Int.{bit_at, bit_not, w64}
 use Rattle.rht_words.specs.declared.op.Op.{Op}
@@ -253,6 +253,12 @@ module _ (M : Type 0) (mix : ℕ → ℕ → ℕ → ℕ) where
       (env : Env) (events : List Event) (event : Event)
       → IsAdmitted env.config.kind events → IsAdmittedEvent env.config.kind event → IsOfCaller event
       → IsEnrolledKept (run_of mix env events) (run_of mix env (events ++ event ∷ []))
+
+  -- in every run of a table whose seed has 32 bits each word has 64
+  abbrev pub WordsFit : Type 0
+  WordsFit =
+      (env : Env) (events : List Event) → env.config.seed < 2 ^ 32 → IsAdmitted env.config.kind events
+      → AllByRecursion (λ word. word < 2 ^ 64) (run_of {M = M} mix env events).core.words
 
   -- in every run a caller that isn't enrolled is in no call and has made none
   abbrev pub NotEnrolled : Type 0

@@ -1,6 +1,6 @@
 //! The laws of every run. Each function is empty, and its clause is the law.
 
-ghost use Rattle.rht_core.specs.Laws.{Extends, InRange, Enrolled, NotEnrolled, Replies, Remembers, AtEvents, TakenAlone};
+ghost use Rattle.rht_core.specs.Laws.{Extends, InRange, Enrolled, NotEnrolled, Replies, Remembers, AtEvents, TakenAlone, WordsFit};
 
 use rht_policy::Mix;
 
@@ -22,6 +22,13 @@ pub fn in_range<M: Mix>()
 /// doesn't say that the two agree: after 2^64 `Enroll`s the word has begun again.
 pub fn enrolled<M: Mix>()
     ensures { Enrolled M M.mix_of }
+{}
+
+/// In every run each word has 64 bits, where the table's seed has 32: so a law that speaks of words of
+/// 64 bits can be used of what a caller finds. It stands on admitted events, whose ports and owners
+/// have 32 bits.
+pub fn words_fit<M: Mix>()
+    ensures { WordsFit M M.mix_of }
 {}
 
 /// In every run a caller that isn't enrolled is in no call and has made none: neither a `Begin` nor a
