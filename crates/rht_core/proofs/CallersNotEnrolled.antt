@@ -19,7 +19,8 @@ use Rattle.rht_core.proofs.RangesInRuns.{each_replicate, step-count}
 -- an enrolling takes no caller away
 enrolled_after-rises : (env : Env) (enrolled old : ℕ) → enrolled ≤ enrolled_after env enrolled old
 enrolled_after-rises env enrolled old =
-    cond_both (nat_lt old env.geometry.callers) (max enrolled (old + 1)) enrolled (λ n. enrolled ≤ n) (λ t. omega arith) (λ f. omega arith)
+    cond_both (nat_lt old env.geometry.callers) (max enrolled (old + 1)) enrolled (λ n. enrolled ≤ n)
+    (λ t. omega arith) (λ f. omega arith)
 
 module _ (M : Type 0) (mix : ℕ → ℕ → ℕ → ℕ) where
   -- it is in no call and has made none
@@ -55,9 +56,13 @@ module _ (M : Type 0) (mix : ℕ → ℕ → ℕ → ℕ) where
       let count = step-count M mix w.core.env w.core c (planned w.core.enrolled w.core.locals c) in
       steps-fresh w c (planned w.core.enrolled w.core.locals c) refl fresh k (omega (arith, count, past))
 
+  -- what a caller sees that does this and has made no call
+  abbrev alone : Local M → Seen M
+  alone local = record { local = local; book = new_book }
+
   pub not_enrolled : NotEnrolled M mix
   not_enrolled env events admitted =
       let opens : OthersFresh (opening env) = λ c past.
-      each_replicate (λ (local : Local M). ◌≡◌ {A = Seen M} (record { local = local; book = new_book }) (record { local = Idle; book = new_book }))
+      each_replicate (λ (local : Local M). alone local ≡ alone Idle)
       env.geometry.callers c Idle refl in
       run_keeps M mix OthersFresh event-fresh (opening env) events opens

@@ -233,7 +233,8 @@ after_unlock-fits env node (Answer reply) = tt
 pub bind_after-fits : (mix : ℕ → ℕ → ℕ → ℕ) (env : Env) (port : ℕ) (state : BindAt) (old : ℕ) → BindFits state
     → Fits old
     → BindFits (bind.after_at mix env port state old).0
-bind_after-fits mix env port (bind_at.Taking take) old fits told = node_taken-fits (take_node_after take old).0 (take_node_after take old).1
+bind_after-fits mix env port (bind_at.Taking take) old fits told =
+    node_taken-fits (take_node_after take old).0 (take_node_after take old).1
 bind_after-fits mix env port (bind_at.Key node) old fits told = tt
 bind_after-fits mix env port (bind_at.Owner node) old fits told = tt
 bind_after-fits mix env port (bind_at.ListLink node) old fits told = tt

@@ -250,6 +250,7 @@ module _ (M : Type 0) (mix : ℕ → ℕ → ℕ → ℕ) (env : Env) where
     past-more : (c : ℕ) (past : Past) → IsPastCall M mix env events c past → IsPastCall M mix env more c past
     past-more c past is = record {
       began = slice_get-push events event past.begin (Begin c past.done.call) is.began;
+      some = is.some;
       steps = all_weaker _ _ (recorded-more c) past.steps is.steps;
     }
 
@@ -372,7 +373,11 @@ module _ (M : Type 0) (mix : ℕ → ℕ → ℕ → ℕ) (env : Env) where
       record {
         past =
             all_push _ trace.past ended kept.past
-            record { began = went.is.began; steps = all_push _ trace.steps did kept.steps recorded };
+            record {
+              began = went.is.began;
+              some = omega (arith, length_push trace.steps did);
+              steps = all_push _ trace.steps did kept.steps recorded;
+            };
         in_order = AreInOrder-push 0 trace.past ended kept.in_order went.is.behind went.is.rising;
         past_ends = let last = behind_calls-push 0 trace.past ended in let ends = went.ends in omega arith;
         steps = tt;

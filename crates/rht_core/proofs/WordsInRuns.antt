@@ -102,7 +102,8 @@ module _ (M : Type 0) where
   local_after-fits mix (Finding m) old fits told =
       found-fits (find_after mix m old).0 (find_after mix m old).1 (find_after-fits mix m.env m.port m.at old fits told)
   local_after-fits mix (Binding m) old fits told =
-      bound-fits (bind_after mix m old).0 (bind_after mix m old).1 (fits.0, fits.1, bind_after-fits mix m.env m.port m.at old fits.2 told)
+      bound-fits (bind_after mix m old).0 (bind_after mix m old).1
+      (fits.0, fits.1, bind_after-fits mix m.env m.port m.at old fits.2 told)
 
   abbrev PlanFits : Option Op → Type 0
   PlanFits None = Unit {0}
@@ -130,7 +131,9 @@ module _ (M : Type 0) (mix : ℕ → ℕ → ℕ → ℕ) (env : Env) where
   opens-fit : env.config.seed < 2 ^ 32 → AllFit (opening env).core
   opens-fit small = record {
     stays = opens-in M mix env;
-    words = all_map Fits (λ place. opening_word env (address_at env.geometry place)) (λ place. opening_word-fits env (address_at env.geometry place) small) _;
+    words =
+        all_map Fits (λ place. opening_word env (address_at env.geometry place))
+        (λ place. opening_word-fits env (address_at env.geometry place) small) _;
     locals = λ c. each_replicate (LocalFits M) env.geometry.callers c Idle tt;
   }
 
@@ -188,7 +191,8 @@ module _ (M : Type 0) (mix : ℕ → ℕ → ℕ → ℕ) (env : Env) where
   pub runs-fit : (events : List Event) → env.config.seed < 2 ^ 32 → IsAdmitted env.config.kind events
       → AllFit (run_of mix env events).core
   runs-fit events small admitted =
-      run_keeps_admitted M mix env.config.kind (λ (w : World M). AllFit w.core) event-fit (opening env) events admitted (opens-fit small)
+      run_keeps_admitted M mix env.config.kind (λ (w : World M). AllFit w.core) event-fit (opening env) events admitted
+      (opens-fit small)
 
 pub words_fit : (M : Type 0) (mix : ℕ → ℕ → ℕ → ℕ) → WordsFit M mix
 words_fit M mix env events small admitted = (runs-fit M mix env events small admitted).words

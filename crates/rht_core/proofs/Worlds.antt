@@ -76,7 +76,8 @@ cond_none false option a is = absurd (cc)
 
 module _ {M : Type 0} where
   -- who begins is enrolled and idle, and has a machine for the call
-  pub record CanBegin (env : Env) (enrolled : ℕ) (locals : List (Local M)) (c : ℕ) (call : Call) (machine : Local M) : Type 0 where
+  pub record CanBegin (env : Env) (enrolled : ℕ) (locals : List (Local M)) (c : ℕ) (call : Call) (machine : Local M)
+      : Type 0 where
     pub below : c < enrolled
     pub idle : is_idle (local_in locals c) ≡ true
     pub machine_is : machine_of env c call ≡ Some machine

@@ -57,7 +57,8 @@ IsFindPieceIn g find_at.CurrentTable = Unit {0}
 IsFindPieceIn g (find_at.Shape table) = Unit {0}
 IsFindPieceIn g (find_at.Seed table shape) = Unit {0}
 IsFindPieceIn g (find_at.Locking table lock) = IsBucketPlace g lock.place × IsEven lock.at
-IsFindPieceIn g (find_at.Walking table bucket walk) = IsBucketPlace g bucket.place × IsWalkInRange walk.geometry walk.before walk.at
+IsFindPieceIn g (find_at.Walking table bucket walk) =
+    IsBucketPlace g bucket.place × IsWalkInRange walk.geometry walk.before walk.at
 IsFindPieceIn g (find_at.Future table bucket) = IsBucketPlace g bucket.place
 IsFindPieceIn g (find_at.FirstOwner bucket node) = IsBucketPlace g bucket.place
 IsFindPieceIn g (find_at.ListLink bucket node owner) = IsBucketPlace g bucket.place
@@ -74,7 +75,8 @@ IsBindPieceIn g (bind_at.CurrentTable node) = Unit {0}
 IsBindPieceIn g (bind_at.Shape node table) = Unit {0}
 IsBindPieceIn g (bind_at.Seed node table shape) = Unit {0}
 IsBindPieceIn g (bind_at.Locking node table shape lock) = IsBucketPlace g lock.place × IsEven lock.at
-IsBindPieceIn g (bind_at.Walking table claimed walk) = IsBucketPlace g claimed.bucket.place × IsWalkInRange walk.geometry walk.before walk.at
+IsBindPieceIn g (bind_at.Walking table claimed walk) =
+    IsBucketPlace g claimed.bucket.place × IsWalkInRange walk.geometry walk.before walk.at
 IsBindPieceIn g (bind_at.FoundOwner claimed found) = IsBucketPlace g claimed.bucket.place
 IsBindPieceIn g (bind_at.Future table claimed) = IsBucketPlace g claimed.bucket.place
 IsBindPieceIn g (bind_at.Count claimed) = IsBucketPlace g claimed.bucket.place
@@ -203,7 +205,8 @@ TakesNone g steps = AllByRecursion (IsNoTake g) steps
 -- one of the steps takes this node, and no other one takes any
 abbrev pub TakesOne : Geometry → ℕ → List Did → Type 0
 TakesOne g node [] = ⊥
-TakesOne g node (did ∷ steps) = (IsTake g node did.op did.old × TakesNone g steps) ⊎ (IsNoTake g did × TakesOne g node steps)
+TakesOne g node (did ∷ steps) =
+    (IsTake g node did.op did.old × TakesNone g steps) ⊎ (IsNoTake g did × TakesOne g node steps)
 
 -- one of the steps takes one of the nodes, and no other one takes any
 abbrev pub TakesOneOf : Geometry → List Did → Type 0
@@ -240,11 +243,15 @@ module _ (M : Type 0) (mix : ℕ → ℕ → ℕ → ℕ) where
 
   -- in every run all that callers name is in range
   abbrev pub InRange : Type 0
-  InRange = (env : Env) (events : List Event) → IsAdmitted env.config.kind events → IsInRange {M = M} env (run_of mix env events).core
+  InRange =
+      (env : Env) (events : List Event) → IsAdmitted env.config.kind events
+      → IsInRange {M = M} env (run_of mix env events).core
 
   -- an event leaves the word of the enrolled callers, and how many there are
   pub record IsEnrolledKept (before after : World M) : Type 0 where
-    pub word : word_at after.core.env.geometry after.core.words EnrolledCallers ≡ word_at before.core.env.geometry before.core.words EnrolledCallers
+    pub word :
+        word_at after.core.env.geometry after.core.words EnrolledCallers
+        ≡ word_at before.core.env.geometry before.core.words EnrolledCallers
     pub count : after.core.enrolled ≡ before.core.enrolled
 
   -- no event but an Enroll changes which callers are enrolled
@@ -282,7 +289,9 @@ module _ (M : Type 0) (mix : ℕ → ℕ → ℕ → ℕ) where
 
   -- in every run the traces remember each call
   abbrev pub Remembers : Type 0
-  Remembers = (env : Env) (events : List Event) → IsAdmitted env.config.kind events → IsTraced env events (traced_of mix env events)
+  Remembers =
+      (env : Env) (events : List Event) → IsAdmitted env.config.kind events
+      → IsTraced env events (traced_of mix env events)
 
   -- the step is one of the run's events; this caller planned its operation there, and it found its old value in the words
   -- that the events before it leave
@@ -293,9 +302,10 @@ module _ (M : Type 0) (mix : ℕ → ℕ → ℕ → ℕ) where
         planned core.enrolled core.locals c ≡ Some did.op
     pub found : old_of (run_of {M = M} mix env (take did.index events)).core.words did.op ≡ did.old
 
-  -- a past call began at its event, and so are its steps
+  -- a past call began at its event, and its steps are recorded, of which the last one ended it
   pub record IsPastCall (env : Env) (events : List Event) (c : ℕ) (past : Past) : Type 0 where
     pub began : slice_get events past.begin ≡ Some (Begin c past.done.call)
+    pub some : 0 < length past.steps
     pub steps : AllByRecursion (IsRecorded env events c) past.steps
 
   -- all that a trace says stands in the run at its event; calls don't overlap, and steps are in order

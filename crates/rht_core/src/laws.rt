@@ -5,8 +5,7 @@ ghost use Rattle.rht_core.specs.Laws.{Extends, InRange, Enrolled, NotEnrolled, R
 use rht_policy::Mix;
 
 /// A run followed by one more admitted event is a run, and its world is the old one changed by that
-/// event. So whatever is known of a run stays known while it goes on, event by event. It doesn't say
-/// that an event comes.
+/// event. So a run can be followed event by event. It doesn't say that an event comes.
 pub fn extends<M: Mix>()
     ensures { Extends M M.mix_of }
 {}
@@ -19,22 +18,23 @@ pub fn in_range<M: Mix>()
 {}
 
 /// No event but an `Enroll` changes the word of the enrolled callers, or how many there are. It
-/// doesn't say that the two agree: after 2^64 `Enroll`s the word has begun again.
+/// doesn't say that the two agree: the word counts on past the greatest number of callers, and begins
+/// again after 2^64 `Enroll`s.
 pub fn enrolled<M: Mix>()
     ensures { Enrolled M M.mix_of }
 {}
 
-/// In every run each word has 64 bits, where the table's seed has 32: so a law that speaks of words of
-/// 64 bits can be used of what a caller finds. It stands on admitted events, whose ports and owners
-/// have 32 bits.
-pub fn words_fit<M: Mix>()
-    ensures { WordsFit M M.mix_of }
-{}
-
-/// In every run a caller that isn't enrolled is in no call and has made none: neither a `Begin` nor a
-/// `Step` of it does anything.
+/// In every run a caller that isn't enrolled is in no call and has made none, whatever number it has.
+/// It doesn't say that one that is enrolled has made a call.
 pub fn not_enrolled<M: Mix>()
     ensures { NotEnrolled M M.mix_of }
+{}
+
+/// In every run each word has 64 bits, where the table's seed has 32. So what holds of words of 64 bits
+/// holds of what a caller finds. It wants admitted events, whose ports and owners have 32 bits, and
+/// says no more of a word.
+pub fn words_fit<M: Mix>()
+    ensures { WordsFit M M.mix_of }
 {}
 
 /// In every run each call that has ended has a reply of its kind, and no list came with it; and what
