@@ -18,9 +18,9 @@ use Rattle.rht_core.specs.declared.event.Event.TheVariants.{Enroll, Begin, Step}
 use Rattle.rht_core.specs.declared.book.Book.{Book}
 use Rattle.rht_core.specs.declared.book.Finished.{Finished}
 use Rattle.rht_core.specs.declared.local.Local.{Local}
-use Rattle.rht_core.specs.Runs.{World, beginning, planned, with_step, book_at, book_begun, book_after, books_begun, books_stepped, finished_with, run_from, run_of, opening}
+use Rattle.rht_core.specs.Runs.{World, core_step, beginning, planned, with_step, book_at, book_begun, book_after, books_begun, books_stepped, finished_with, run_from, run_of, opening}
 use Rattle.rht_core.specs.Traces.{Did, Past, Trace, Traced, trace_at, trace_begun, trace_did, traces_begun, traces_stepped, traced_step, traced_from, traced_of, IsRising, behind_steps, behind_call, behind_calls, AreInOrder}
-use Rattle.rht_core.specs.Laws.{IsTraceOf, IsInProgress, Remembers, IsRecorded, IsPastCall, AtEvents}
+use Rattle.rht_core.specs.Laws.{IsTraceOf, IsInProgress, Remembers, IsRecorded, IsAnsweredAt, IsPastCall, AtEvents}
 use Rattle.rht_core.proofs.Worlds.{induct_by_last, take-push, take-push_all, book_at-same, book_at-other}
 use Rattle.rht_core.proofs.RepliesInRuns.{all_push}
 
@@ -198,6 +198,11 @@ AreInOrder-push from [] past order behind rising = (behind, rising, tt)
 AreInOrder-push from (first ∷ calls) past order behind rising =
     (order.0, order.1, AreInOrder-push (behind_call first) calls past order.2 behind rising)
 
+-- what holds of each element of a list holds of its last one
+all_last : {A : Type 0} (P : A → Type 0) (xs : List A) (x : A) → AllByRecursion P (xs ++ x ∷ []) → P x
+all_last P [] x all = all.0
+all_last P (y ∷ ys) x all = all_last P ys x all.1
+
 all_weaker : {A : Type 0} (P Q : A → Type 0) → ((x : A) → P x → Q x) → (xs : List A) → AllByRecursion P xs
     → AllByRecursion Q xs
 all_weaker P Q weaker [] all = tt
@@ -215,6 +220,10 @@ module _ (M : Type 0) (mix : ℕ → ℕ → ℕ → ℕ) (env : Env) where
   -- the operation that a caller plans in a world
   abbrev planned_by : ℕ → World M → Option Op
   planned_by c w = planned w.core.enrolled w.core.locals c
+
+  -- the reply that a step of a caller gives in a world
+  abbrev reply_of : ℕ → World M → Option Reply
+  reply_of c w = (core_step mix w.core (Step c)).1.reply
 
   -- a call in progress of which all steps lie before this event
   record IsUnderWay (events : List Event) (c : ℕ) (trace : Trace) (call : Call) : Type 0 where
@@ -247,10 +256,25 @@ module _ (M : Type 0) (mix : ℕ → ℕ → ℕ → ℕ) (env : Env) where
           found = subst (λ (before : List Event). old_of (run_of {M = M} mix env before).core.words did.op ≡ did.old) same is.found;
         }
 
+    answered-more : (c : ℕ) (past : Past) → IsAnsweredAt M mix env events c past
+        → AllByRecursion (IsRecorded M mix env events c) past.steps → IsAnsweredAt M mix env more c past
+    answered-more c past is recorded =
+        let last = all_last (IsRecorded M mix env events c) is.before is.last
+        (subst (AllByRecursion (IsRecorded M mix env events c)) is.steps_are recorded) in
+        let within = slice_get_within events is.last.index (Step c) last.event in
+        record {
+          before = is.before;
+          last = is.last;
+          steps_are = is.steps_are;
+          reply =
+              subst (λ (before : List Event). reply_of c (run_of mix env before) ≡ Some past.done.reply)
+              (sym (take-push events event is.last.index (omega arith))) is.reply;
+        }
+
     past-more : (c : ℕ) (past : Past) → IsPastCall M mix env events c past → IsPastCall M mix env more c past
     past-more c past is = record {
       began = slice_get-push events event past.begin (Begin c past.done.call) is.began;
-      some = is.some;
+      answered = answered-more c past is.answered is.steps;
       steps = all_weaker _ _ (recorded-more c) past.steps is.steps;
     }
 
@@ -298,21 +322,25 @@ module _ (M : Type 0) (mix : ℕ → ℕ → ℕ → ℕ) (env : Env) where
         };
       }
 
+  -- before the last event the world is the one that the events before it leave
+  world_now : (events : List Event) (event : Event)
+      → ◌≡◌ {A = World M} (run_of mix env (take (R events).count (events ++ event ∷ []))) (R events).world
+  world_now events event =
+      ap (λ n. run_of {M = M} mix env (take n (events ++ event ∷ []))) (count-traced_of M mix env events)
+      ∙ ap (run_of {M = M} mix env) (take-push_all events event) ∙ sym (world-traced_of M mix env events)
+
+  -- the step of this operation that is made next
+  abbrev did_next : List Event → Op → Did
+  did_next events op = record { index = (R events).count; op = op; old = old_of (R events).world.core.words op }
+
   -- the step that is made at the last event
-  recorded-now : (events : List Event) (c : ℕ) (op : Op)
-      → planned (R events).world.core.enrolled (R events).world.core.locals c ≡ Some op
-      → IsRecorded M mix env (events ++ Step c ∷ []) c (record { index = (R events).count; op = op; old = old_of (R events).world.core.words op })
-  recorded-now events c op is =
-      let more = events ++ Step c ∷ [] in
-      let count = count-traced_of M mix env events in
-      let same : ◌≡◌ {A = World M} (run_of mix env (take (R events).count more)) (R events).world =
-      ap (λ n. run_of {M = M} mix env (take n more)) count ∙ ap (run_of {M = M} mix env)
-      (take-push_all events (Step c)) ∙ sym (world-traced_of M mix env events) in
-      record {
-        event = ap (slice_get more) count ∙ slice_get-push_last events (Step c);
-        plan = subst (λ (w : World M). planned_by c w ≡ Some op) (sym same) is;
-        found = ap (λ (w : World M). old_of w.core.words op) same;
-      }
+  recorded-now : (events : List Event) (c : ℕ) (op : Op) → planned_by c (R events).world ≡ Some op
+      → IsRecorded M mix env (events ++ Step c ∷ []) c (did_next events op)
+  recorded-now events c op is = record {
+    event = ap (slice_get (events ++ Step c ∷ [])) (count-traced_of M mix env events) ∙ slice_get-push_last events (Step c);
+    plan = subst (λ (w : World M). planned_by c w ≡ Some op) (sym (world_now events (Step c))) is;
+    found = ap (λ (w : World M). old_of w.core.words op) (world_now events (Step c));
+  }
 
   -- a call that goes on with this step
   goes_on : (events : List Event) (c : ℕ) (trace : Trace) (did : Did) (call : Call) → did.index ≡ length events
@@ -335,9 +363,9 @@ module _ (M : Type 0) (mix : ℕ → ℕ → ℕ → ℕ) (env : Env) where
   did-holds : (events : List Event) (c : ℕ) (call : Option Call) (trace : Trace) (did : Did) (reply : Option Reply) (book : Book)
       → book.call ≡ call
       → did.index ≡ length events → IsRecorded M mix env (events ++ Step c ∷ []) c did
-      → Holds events c call trace
+      → reply_of c (run_of mix env (take did.index (events ++ Step c ∷ []))) ≡ reply → Holds events c call trace
       → Holds (events ++ Step c ∷ []) c (book_after reply book).call (trace_did call did reply trace)
-  did-holds events c call trace did None book same is recorded holds =
+  did-holds events c call trace did None book same is recorded gives holds =
       let kept = holds-more events (Step c) c call trace holds in
       let went =
       some_weaker (IsUnderWay events c trace)
@@ -352,7 +380,7 @@ module _ (M : Type 0) (mix : ℕ → ℕ → ℕ → ℕ) (env : Env) where
             subst (λ (o : Option Call). IfSome o (IsUnderWay (events ++ Step c ∷ []) c (trace_did call did None trace)))
             (sym same) went;
       }
-  did-holds events c None trace did (Some reply) book same is recorded holds =
+  did-holds events c None trace did (Some reply) book same is recorded gives holds =
       let kept = holds-more events (Step c) c None trace holds in
       let none : trace.past ≡ trace.past ++ [] = sym (append-nil trace.past) in
       record {
@@ -362,7 +390,7 @@ module _ (M : Type 0) (mix : ℕ → ℕ → ℕ → ℕ) (env : Env) where
         steps = tt;
         progress = tt;
       }
-  did-holds events c (Some call) trace did (Some reply) book same is recorded holds =
+  did-holds events c (Some call) trace did (Some reply) book same is recorded gives holds =
       let kept = holds-more events (Step c) c (Some call) trace holds in
       let went = goes_on events c trace did call is holds.progress in
       let ended : Past = record {
@@ -375,8 +403,8 @@ module _ (M : Type 0) (mix : ℕ → ℕ → ℕ → ℕ) (env : Env) where
             all_push _ trace.past ended kept.past
             record {
               began = went.is.began;
-              some = omega (arith, length_push trace.steps did);
               steps = all_push _ trace.steps did kept.steps recorded;
+              answered = record { before = trace.steps; last = did; steps_are = refl; reply = gives };
             };
         in_order = AreInOrder-push 0 trace.past ended kept.in_order went.is.behind went.is.rising;
         past_ends = let last = behind_calls-push 0 trace.past ended in let ends = went.ends in omega arith;
@@ -405,9 +433,9 @@ module _ (M : Type 0) (mix : ℕ → ℕ → ℕ → ℕ) (env : Env) where
       each_stepped M mix r (λ j book trace. Holds (events ++ Step c ∷ []) j book.call trace)
       (λ j. holds-more events (Step c) j (r.world.books j).call (r.traces j) (each j)) c op reply
       (λ o is.
-      did-holds events c (r.world.books c).call (r.traces c)
-      (record { index = r.count; op = o; old = old_of r.world.core.words o }) reply (r.world.books c) refl
-      (count-traced_of M mix env events) (recorded-now events c o is) (each c)) k
+      did-holds events c (r.world.books c).call (r.traces c) (did_next events o) reply (r.world.books c) refl
+      (count-traced_of M mix env events) (recorded-now events c o is) (ap (reply_of c) (world_now events (Step c))) (each c))
+      k
 
   all-hold : (events : List Event) → AllHold events
   all-hold = induct_by_last AllHold

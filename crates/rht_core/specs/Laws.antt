@@ -29,7 +29,7 @@ use Rattle.rht_core.specs.declared.event.Event.TheVariants.{Enroll, Begin, Step}
 use Rattle.rht_core.specs.declared.local.Local.{Local}
 use Rattle.rht_core.specs.declared.local.Local.TheVariants.{Idle, Finding, Binding}
 use Rattle.rht_core.specs.Locals.{plan_of, local_after}
-use Rattle.rht_core.specs.Runs.{Core, World, Seen, world_step, run_of, local_of, planned, seen, new_book, book_begun, book_after, IsSound, IsAdmitted, IsAdmittedEvent}
+use Rattle.rht_core.specs.Runs.{Core, World, Seen, core_step, world_step, run_of, local_of, planned, seen, new_book, book_begun, book_after, IsSound, IsAdmitted, IsAdmittedEvent}
 use Rattle.rht_core.specs.Traces.{Did, Past, Trace, Traced, traced_of, behind_calls, IsRising, AreInOrder}
 
 -- ---- what one caller knows of itself, after an event of its own
@@ -176,12 +176,12 @@ pub record AnswersIn {M : Type 0} (env : Env) (c : ℕ) (local : Local M) (book 
 
 -- ---- traces
 
--- a trace's past calls are the finished ones of the book, and it has as many steps of the call in progress as the book counts
+-- a trace's past calls are the finished ones of the book, and the call in progress has as many steps in both
 pub record IsTraceOf (book : Book) (trace : Trace) : Type 0 where
   pub past : map (λ past. past.done) trace.past ≡ book.finished
   pub steps : length trace.steps ≡ book.steps
 
--- the call in progress began at its event, behind all events of the past ones, and its steps are in order behind its beginning
+-- the call in progress began at its event, behind all events of the past ones, and its steps come behind it in order
 pub record IsInProgress (events : List Event) (c : ℕ) (trace : Trace) (call : Call) : Type 0 where
   pub began : slice_get events trace.begin ≡ Some (Begin c call)
   pub behind : behind_calls 0 trace.past ≤ trace.begin
@@ -212,7 +212,7 @@ TakesOne g node (did ∷ steps) =
 abbrev pub TakesOneOf : Geometry → List Did → Type 0
 TakesOneOf g steps = (node : ℕ) × (node < g.nodes) × TakesOne g node steps
 
--- a bind with this reply has taken one node; none where it was answered so
+-- a bind with this reply has taken one node; `NoNode` says that it has taken none
 abbrev pub IsTakenBy : Geometry → Reply → List Did → Type 0
 IsTakenBy g NoNode steps = TakesNone g steps
 IsTakenBy g _ steps = TakesOneOf g steps
@@ -224,7 +224,7 @@ IsTakenIn g _ reply steps = TakesNone g steps
 
 -- ---- the laws
 
--- the event is one of a caller that there is already
+-- the event is no enrolling
 abbrev pub IsOfCaller : Event → Type 0
 IsOfCaller Enroll = ⊥
 IsOfCaller (Begin c call) = Unit {0}
@@ -293,8 +293,8 @@ module _ (M : Type 0) (mix : ℕ → ℕ → ℕ → ℕ) where
       (env : Env) (events : List Event) → IsAdmitted env.config.kind events
       → IsTraced env events (traced_of mix env events)
 
-  -- the step is one of the run's events; this caller planned its operation there, and it found its old value in the words
-  -- that the events before it leave
+  -- the step is one of the run's events; this caller planned its operation there, and it found its old
+  -- value in the words that the events before it leave
   pub record IsRecorded (env : Env) (events : List Event) (c : ℕ) (did : Did) : Type 0 where
     pub event : slice_get events did.index ≡ Some (Step c)
     pub plan :
@@ -302,11 +302,20 @@ module _ (M : Type 0) (mix : ℕ → ℕ → ℕ → ℕ) where
         planned core.enrolled core.locals c ≡ Some did.op
     pub found : old_of (run_of {M = M} mix env (take did.index events)).core.words did.op ≡ did.old
 
-  -- a past call began at its event, and its steps are recorded, of which the last one ended it
+  -- a past call was answered at its last step
+  pub record IsAnsweredAt (env : Env) (events : List Event) (c : ℕ) (past : Past) : Type 0 where
+    pub before : List Did
+    pub last : Did
+    pub steps_are : past.steps ≡ before ++ last ∷ []
+    pub reply :
+        let core : Core M = (run_of mix env (take last.index events)).core in
+        (core_step mix core (Step c)).1.reply ≡ Some past.done.reply
+
+  -- a past call began at its event, its steps are recorded, and the last one answered it
   pub record IsPastCall (env : Env) (events : List Event) (c : ℕ) (past : Past) : Type 0 where
     pub began : slice_get events past.begin ≡ Some (Begin c past.done.call)
-    pub some : 0 < length past.steps
     pub steps : AllByRecursion (IsRecorded env events c) past.steps
+    pub answered : IsAnsweredAt env events c past
 
   -- all that a trace says stands in the run at its event; calls don't overlap, and steps are in order
   pub record IsTraceAt (env : Env) (events : List Event) (c : ℕ) (call : Option Call) (trace : Trace) : Type 0 where

@@ -53,7 +53,8 @@ pub fn remembers<M: Mix>()
 /// In every run each step of a trace is one of the run's events: a step of that caller, whose
 /// operation it planned there, and which found its old value in the words that the events before it
 /// leave. Each call began at a `Begin` of it, its steps come behind that in the order of their events,
-/// and no two calls of one caller overlap. It says nothing of how the events of two callers lie.
+/// the last one answered it, and no two calls of one caller overlap. It says nothing of how the events
+/// of two callers lie.
 pub fn at_events<M: Mix>()
     ensures { AtEvents M M.mix_of }
 {}
