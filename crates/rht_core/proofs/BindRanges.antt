@@ -9,7 +9,6 @@ use Rattle.rht_words.specs.declared.machine.Next.{Next}
 use Rattle.rht_words.specs.declared.machine.Next.TheVariants.{Go, Done}
 use Rattle.rht_words.specs.Links.{node_of, slot_of, head_of}
 use Rattle.rht_words.specs.Ports.{word_of}
-use Rattle.rht_words.proofs.PlacesApart.{parts_in_order}
 use Rattle.rht_words.specs.Places.{CurrentTable, PortCount, Slot, NodeMap, Node, ShapeWord, SeedWord, FutureWord, ChainLink, KeyWord, OwnerWord, ListLink}
 use Rattle.rht_policy.specs.Mix.{bucket_of}
 use Rattle.rht_policy.specs.Thresholds.{is_above_max}
@@ -60,14 +59,17 @@ module _ (env : Env) where
   found_or_not-in : (table : ℕ) (claimed : Claimed) (found : Option ℕ) → table < 8 → IsClaimedIn env claimed
       → IsBucketPlace g claimed.bucket.place → IsNodeOrNone g found
       → IsBindAtIn (found_or_not table claimed found)
-  found_or_not-in table claimed None table_in claimed_in place_in found_in = record { range = (table_in, claimed_in); piece = place_in }
-  found_or_not-in table claimed (Some node) table_in claimed_in place_in found_in = record { range = (claimed_in, found_in); piece = place_in }
+  found_or_not-in table claimed None table_in claimed_in place_in found_in =
+      record { range = (table_in, claimed_in); piece = place_in }
+  found_or_not-in table claimed (Some node) table_in claimed_in place_in found_in =
+      record { range = (claimed_in, found_in); piece = place_in }
 
   began_walk-in : (table key : ℕ) (claimed : Claimed) (head : ℕ) (first : Option ℕ) → table < 8
       → IsClaimedIn env claimed
       → IsBucketPlace g claimed.bucket.place → IsNodeOrNone g first
       → IsBindAtIn (walk_or_seen table claimed (walk_from g key head first))
-  began_walk-in table key claimed head None table_in claimed_in place_in first_in = record { range = (table_in, claimed_in); piece = place_in }
+  began_walk-in table key claimed head None table_in claimed_in place_in first_in =
+      record { range = (table_in, claimed_in); piece = place_in }
   began_walk-in table key claimed head (Some node) table_in claimed_in place_in first_in =
       record { range = (table_in, claimed_in, refl); piece = (place_in, (first_in, tt)) }
 
@@ -77,7 +79,8 @@ module _ (env : Env) where
   lock_taken-in port node table shape lock Go node_in table_in place_in even =
       record { range = (node_in, table_in, place_in.1); piece = (place_in, even) }
   lock_taken-in port node table shape lock (Done word) node_in table_in place_in even =
-      began_walk-in table (word_of port) (record { node = node; shape = shape; bucket = record { place = lock.place; word = word } })
+      began_walk-in table (word_of port)
+      (record { node = node; shape = shape; bucket = record { place = lock.place; word = word } })
       (head_of lock.place word) (node_of g.nodes (head_of lock.place word)) table_in
       record { node_in = node_in; place_in = place_in.1 } place_in (node_of-in g (head_of lock.place word))
 
@@ -101,7 +104,8 @@ module _ (env : Env) where
       → IsBucketPlace g claimed.bucket.place
       → IsSlotOrNone future → IsBindAtIn (future_or_count claimed future)
   future_or_count-in claimed None claimed_in place_in future_in = record { range = claimed_in; piece = place_in }
-  future_or_count-in claimed (Some table) claimed_in place_in future_in = unlocking-in claimed (Table table) claimed_in place_in future_in
+  future_or_count-in claimed (Some table) claimed_in place_in future_in =
+      unlocking-in claimed (Table table) claimed_in place_in future_in
 
   checked_count-in : (claimed : Claimed) (count : ℕ) → IsClaimedIn env claimed
       → IsBucketPlace g claimed.bucket.place
@@ -121,33 +125,39 @@ module _ (env : Env) where
       → IsBindAtIn (after_at mix env port state word).0
   bind_after-in mix port (at.Taking take) word within =
       let stays = take_after-in take word within.piece in
-      node_taken-in (take_node_after take word).0 (take_node_after take word).1 (stays.geometry_same ∙ within.range) stays.range
+      node_taken-in (take_node_after take word).0 (take_node_after take word).1
+      (stays.geometry_same ∙ within.range) stays.range
       (subst (λ (h : Geometry). IsNodeIn h (take_node_after take word).1) within.range stays.node)
   bind_after-in mix port (at.Key node) word within = record { range = within.range; piece = tt }
   bind_after-in mix port (at.Owner node) word within = record { range = within.range; piece = tt }
   bind_after-in mix port (at.ListLink node) word within = record { range = within.range; piece = tt }
-  bind_after-in mix port (at.CurrentTable node) word within = record { range = (within.range, omega arith); piece = tt }
+  bind_after-in mix port (at.CurrentTable node) word within =
+      record { range = (within.range, omega arith); piece = tt }
   bind_after-in mix port (at.Shape node table) word within = record { range = within.range; piece = tt }
   bind_after-in mix port (at.Seed node table shape) word within =
       let place_in = bucket_place-in g shape (bucket_of mix port shape word) in
       record { range = (within.range.0, within.range.1, place_in.1); piece = (place_in, tt) }
   bind_after-in mix port (at.Locking node table shape lock) word within =
       let stays = lock_after-in lock word within.piece.1 in
-      lock_taken-in port node table shape (lock_after lock word).0 (lock_after lock word).1 within.range.0 within.range.1
+      lock_taken-in port node table shape (lock_after lock word).0 (lock_after lock word).1 within.range.0
+      within.range.1
       (subst (IsBucketPlace g) (sym stays.place_same) within.piece.0) stays.even
   bind_after-in mix port (at.Walking table claimed walk) word within =
       let stays = walk_after-in walk word within.piece.1 in
-      walk_taken-in table claimed (locked_walk_after walk word).0 (locked_walk_after walk word).1 within.range.0 within.range.1
+      walk_taken-in table claimed (locked_walk_after walk word).0 (locked_walk_after walk word).1 within.range.0
+      within.range.1
       within.piece.0 (stays.geometry_same ∙ within.range.2) stays.range
       (subst (λ (h : Geometry). IsNextIn h (locked_walk_after walk word).1) within.range.2 stays.seen)
-  bind_after-in mix port (at.FoundOwner claimed found) word within = unlocking-in claimed _ within.range.0 within.piece tt
+  bind_after-in mix port (at.FoundOwner claimed found) word within =
+      unlocking-in claimed _ within.range.0 within.piece tt
   bind_after-in mix port (at.Future table claimed) word within =
       future_or_count-in claimed (slot_of word) within.range.1 within.piece (slot_of-in word)
   bind_after-in mix port (at.Count claimed) word within = checked_count-in claimed word within.range within.piece
   bind_after-in mix port (at.Link claimed) word within = record { range = within.range; piece = within.piece }
   bind_after-in mix port (at.Raise claimed) word within = record { range = within.range; piece = within.piece }
   bind_after-in mix port (at.Publish claimed kick) word within = within
-  bind_after-in mix port (at.Unlocking node unlock next) word within = after_unlock-in node next within.range.0 within.range.2
+  bind_after-in mix port (at.Unlocking node unlock next) word within =
+      after_unlock-in node next within.range.0 within.range.2
   bind_after-in mix port (at.Giving give reply) word within = within
 
   -- a case a state: the words of the map of nodes, of slots, nodes and buckets, and the count of ports
@@ -163,7 +173,8 @@ module _ (env : Env) where
       planned-at g _ (Slot table ShapeWord) (within.range.1, tt) tt refl
   bind_planned-in port owner (at.Seed node table shape) within =
       planned-at g _ (Slot table SeedWord) (within.range.1, tt) tt refl
-  bind_planned-in port owner (at.Locking node table shape lock) within = planned_lock g lock.place lock.at within.piece.0
+  bind_planned-in port owner (at.Locking node table shape lock) within =
+      planned_lock g lock.place lock.at within.piece.0
   bind_planned-in port owner (at.Walking table claimed walk) within =
       subst (λ (h : Geometry). IsPlannedIn h (walk_plan_at walk.geometry walk.at)) within.range.2
       (planned_walk walk.geometry walk.before walk.at within.piece.1)

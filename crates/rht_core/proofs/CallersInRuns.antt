@@ -1,6 +1,6 @@
 -- What each caller keeps of itself, when it begins a call and when it is told a word, holds of every
 -- caller in every run: no event of another caller is seen.
-use Rattle.std.proofs.Common.{◌≡◌, ℕ, ◌<◌, inl, inr, true, List, length, refl, sym, subst, arith}
+use Rattle.std.proofs.Common.{◌≡◌, ℕ, inl, inr, true, List, refl, sym, subst}
 use Rattle.std.specs.Prelude.{Option, Some, None}
 use Rattle.std.proofs.lemmas.Bool.{cases_eq}
 use Rattle.rht_words.specs.declared.op.Op.{Op}
@@ -27,38 +27,43 @@ module _ (M : Type 0) (mix : ℕ → ℕ → ℕ → ℕ) (env : Env) (P : ℕ �
     pub steps : (c : ℕ) (op : Op) (old : ℕ) (seen : Seen M) → plan_of seen.local ≡ Some op → P c seen
         → P c (seen_step mix old seen)
 
-  module _ (kept : IsKept) (w : World M) (stays : StaysIn M mix env w.core) (each : (k : ℕ) → P k (seen w k)) where
-    begins : (c : ℕ) (call : Call) (machine : Option (Local M))
-        → beginning w.core.env w.core.enrolled w.core.locals c call ≡ machine
-        → (k : ℕ) → P k (seen (world_step mix w (Begin c call)) k)
-    begins c call None is k = subst (λ (v : World M). P k (seen v k)) (sym (begin_none M mix w c call is)) (each k)
-    begins c call (Some machine) is k =
-        let can = beginning-some w.core.env w.core.enrolled w.core.locals c call machine is in
-        let made = made_in M mix env w.core c call machine stays can in
-        elim (cases_eq k c) [
-          | inl same ↦
-              subst (λ j. P j (seen (world_step mix w (Begin c call)) j)) (sym same)
-              (subst (P c) (sym (begin_self M mix w c call machine is (has_place M mix env w.core c stays can.below))) (kept.begins c call machine (seen w c) can.idle made (each c)))
-          | inr other ↦ subst (P k) (sym (begin_other M mix w c call k other)) (each k)
-        ]
+  module _ (kept : IsKept) (w : World M) (stays : StaysIn M mix env w.core) (each : (k : ℕ) → P k (seen w k))
+    where
+      begins : (c : ℕ) (call : Call) (machine : Option (Local M))
+          → beginning w.core.env w.core.enrolled w.core.locals c call ≡ machine
+          → (k : ℕ) → P k (seen (world_step mix w (Begin c call)) k)
+      begins c call None is k =
+          subst (λ (v : World M). P k (seen v k)) (sym (begin_none M mix w c call is)) (each k)
+      begins c call (Some machine) is k =
+          let can = beginning-some w.core.env w.core.enrolled w.core.locals c call machine is in
+          let made = made_in M mix env w.core c call machine stays can in
+          elim (cases_eq k c) [
+            | inl same ↦
+                subst (λ j. P j (seen (world_step mix w (Begin c call)) j)) (sym same)
+                (subst (P c) (sym (begin_self M mix w c call machine is (has_place M mix env w.core c stays can.below)))
+                (kept.begins c call machine (seen w c) can.idle made (each c)))
+            | inr other ↦ subst (P k) (sym (begin_other M mix w c call k other)) (each k)
+          ]
 
-    steps : (c : ℕ) (op : Option Op) → planned w.core.enrolled w.core.locals c ≡ op → (k : ℕ)
-        → P k (seen (world_step mix w (Step c)) k)
-    steps c None is k = subst (λ (v : World M). P k (seen v k)) (sym (step_none M mix w c is)) (each k)
-    steps c (Some op) is k =
-        let can = planned-some w.core.enrolled w.core.locals c op is in
-        elim (cases_eq k c) [
-          | inl same ↦
-              subst (λ j. P j (seen (world_step mix w (Step c)) j)) (sym same)
-              (subst (P c) (sym (step_self M mix w c op is (has_place M mix env w.core c stays can.below))) (kept.steps c op (old_of w.core.words op) (seen w c) can.plan (each c)))
-          | inr other ↦ subst (P k) (sym (step_other M mix w c k other)) (each k)
-        ]
+      steps : (c : ℕ) (op : Option Op) → planned w.core.enrolled w.core.locals c ≡ op → (k : ℕ)
+          → P k (seen (world_step mix w (Step c)) k)
+      steps c None is k = subst (λ (v : World M). P k (seen v k)) (sym (step_none M mix w c is)) (each k)
+      steps c (Some op) is k =
+          let can = planned-some w.core.enrolled w.core.locals c op is in
+          elim (cases_eq k c) [
+            | inl same ↦
+                subst (λ j. P j (seen (world_step mix w (Step c)) j)) (sym same)
+                (subst (P c) (sym (step_self M mix w c op is (has_place M mix env w.core c stays can.below)))
+                (kept.steps c op (old_of w.core.words op) (seen w c) can.plan (each c)))
+            | inr other ↦ subst (P k) (sym (step_other M mix w c k other)) (each k)
+          ]
 
-    -- an event keeps it of every caller
-    pub event_keeps : (event : Event) → (k : ℕ) → P k (seen (world_step mix w event) k)
-    event_keeps Enroll k = each k
-    event_keeps (Begin c call) k = begins c call (beginning w.core.env w.core.enrolled w.core.locals c call) refl k
-    event_keeps (Step c) k = steps c (planned w.core.enrolled w.core.locals c) refl k
+      -- an event keeps it of every caller
+      pub event_keeps : (event : Event) → (k : ℕ) → P k (seen (world_step mix w event) k)
+      event_keeps Enroll k = each k
+      event_keeps (Begin c call) k =
+          begins c call (beginning w.core.env w.core.enrolled w.core.locals c call) refl k
+      event_keeps (Step c) k = steps c (planned w.core.enrolled w.core.locals c) refl k
 
   -- so it holds of every caller in every run
   record HoldsIn (w : World M) : Type 0 where
@@ -69,9 +74,12 @@ module _ (M : Type 0) (mix : ℕ → ℕ → ℕ → ℕ) (env : Env) (P : ℕ �
   callers_keep kept events c =
       let opens : HoldsIn (opening env) = record {
         stays = opens-in M mix env;
-        each = λ k. each_replicate (λ (local : Local M). P k (record { local = local; book = new_book })) env.geometry.callers k Idle (kept.opens k);
+        each = λ k.
+            each_replicate (λ (local : Local M). P k (record { local = local; book = new_book })) env.geometry.callers k Idle
+            (kept.opens k);
       } in
       let holds = run_keeps M mix HoldsIn
-      (λ (w : World M) (event : Event) (h : HoldsIn w). record { stays = stays-in M mix env w event h.stays; each = event_keeps kept w h.stays h.each event })
+      (λ (w : World M) (event : Event) (h : HoldsIn w).
+      record { stays = stays-in M mix env w event h.stays; each = event_keeps kept w h.stays h.each event })
       (opening env) events opens in
       holds.each c

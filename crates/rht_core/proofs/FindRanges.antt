@@ -1,6 +1,6 @@
 -- A look-up stays in range whatever words it is told, and each of its operations is on one of the
 -- words, and never on that of the enrolled callers.
-use Rattle.std.proofs.Common.{◌≡◌, ◌≢◌, ℕ, ◌<◌, refl, sym, subst, ◌∙◌, arith}
+use Rattle.std.proofs.Common.{◌≡◌, ℕ, ◌<◌, refl, sym, subst, ◌∙◌, arith}
 use Rattle.std.specs.Prelude.{Option, Some, None}
 use Rattle.rht_words.specs.declared.env.Env.{Env}
 use Rattle.rht_words.specs.declared.geometry.Geometry.{Geometry}
@@ -43,7 +43,8 @@ planned-at g op address there other is = record {
 
 -- an operation on the word of a bucket
 pub planned_bucket : (g : Geometry) (op : Op) → IsBucketPlace g (op_place op) → IsPlannedIn g op
-planned_bucket g op there = let parts = parts_in_order g in record { within = there.1; apart = λ e. omega (arith, there.0) }
+planned_bucket g op there =
+    let parts = parts_in_order g in record { within = there.1; apart = λ e. omega (arith, there.0) }
 
 -- what a lock performs is on its bucket's word
 pub planned_lock : (g : Geometry) (place : ℕ) (at : LockAt) → IsBucketPlace g place → IsPlannedIn g (lock_plan_at place at)
@@ -67,20 +68,24 @@ module _ (env : Env) where
 
   found_or_not-in : (table : ℕ) (bucket : Locked) (found : Option ℕ) → table < 8 → IsBucketPlace g bucket.place
       → IsNodeOrNone g found → IsFindAtIn (found_or_not table bucket found)
-  found_or_not-in table bucket None table_in place_in found_in = record { range = (table_in, place_in.1); piece = place_in }
-  found_or_not-in table bucket (Some node) table_in place_in found_in = record { range = (place_in.1, found_in); piece = place_in }
+  found_or_not-in table bucket None table_in place_in found_in =
+      record { range = (table_in, place_in.1); piece = place_in }
+  found_or_not-in table bucket (Some node) table_in place_in found_in =
+      record { range = (place_in.1, found_in); piece = place_in }
 
   began_walk-in : (table key : ℕ) (bucket : Locked) (head : ℕ) (first : Option ℕ) → table < 8
       → IsBucketPlace g bucket.place
       → IsNodeOrNone g first → IsFindAtIn (walk_or_seen table bucket (walk_from g key head first))
-  began_walk-in table key bucket head None table_in place_in first_in = record { range = (table_in, place_in.1); piece = place_in }
+  began_walk-in table key bucket head None table_in place_in first_in =
+      record { range = (table_in, place_in.1); piece = place_in }
   began_walk-in table key bucket head (Some node) table_in place_in first_in =
       record { range = (table_in, place_in.1, refl); piece = (place_in, (first_in, tt)) }
 
   lock_taken-in : (port table : ℕ) (lock : LockModel) (next : Next ℕ) → table < 8 → IsBucketPlace g lock.place
       → IsEven lock.at
       → IsFindAtIn (lock_taken env port table lock next)
-  lock_taken-in port table lock Go table_in place_in even = record { range = (table_in, place_in.1); piece = (place_in, even) }
+  lock_taken-in port table lock Go table_in place_in even =
+      record { range = (table_in, place_in.1); piece = (place_in, even) }
   lock_taken-in port table lock (Done word) table_in place_in even =
       began_walk-in table (word_of port) (record { place = lock.place; word = word }) (head_of lock.place word)
       (node_of g.nodes (head_of lock.place word)) table_in place_in (node_of-in g (head_of lock.place word))
@@ -97,13 +102,15 @@ module _ (env : Env) where
   next_table-in : (bucket : Locked) (future : Option ℕ) → IsBucketPlace g bucket.place → IsSlotOrNone future
       → IsFindAtIn (unlocking bucket (next_table future))
   next_table-in bucket None place_in future_in = record { range = place_in.1; piece = place_in }
-  next_table-in bucket (Some table) place_in future_in = record { range = (place_in.1, future_in); piece = place_in }
+  next_table-in bucket (Some table) place_in future_in =
+      record { range = (place_in.1, future_in); piece = place_in }
 
   list_followed-in : (bucket : Locked) (owner : ℕ) (next : Option ℕ) → IsBucketPlace g bucket.place
       → IsNodeOrNone g next
       → IsFindAtIn (list_followed bucket owner next)
   list_followed-in bucket owner None place_in next_in = record { range = place_in.1; piece = place_in }
-  list_followed-in bucket owner (Some node) place_in next_in = record { range = (place_in.1, next_in); piece = place_in }
+  list_followed-in bucket owner (Some node) place_in next_in =
+      record { range = (place_in.1, next_in); piece = place_in }
 
   -- a case a state: none of them needs to know the word
   pub find_after-in : (mix : ℕ → ℕ → ℕ → ℕ) (port : ℕ) (state : FindAt) (word : ℕ) → IsFindAtIn state
@@ -119,15 +126,20 @@ module _ (env : Env) where
       (subst (IsBucketPlace g) (sym stays.place_same) within.piece.0) stays.even
   find_after-in mix port (at.Walking table bucket walk) word within =
       let stays = walk_after-in walk word within.piece.1 in
-      walk_taken-in table bucket (locked_walk_after walk word).0 (locked_walk_after walk word).1 within.range.0 within.piece.0
+      walk_taken-in table bucket (locked_walk_after walk word).0 (locked_walk_after walk word).1 within.range.0
+      within.piece.0
       (stays.geometry_same ∙ within.range.2) stays.range
       (subst (λ (h : Geometry). IsNextIn h (locked_walk_after walk word).1) within.range.2 stays.seen)
-  find_after-in mix port (at.Future table bucket) word within = next_table-in bucket (slot_of word) within.piece (slot_of-in word)
-  find_after-in mix port (at.FirstOwner bucket node) word within = record { range = within.range; piece = within.piece }
+  find_after-in mix port (at.Future table bucket) word within =
+      next_table-in bucket (slot_of word) within.piece (slot_of-in word)
+  find_after-in mix port (at.FirstOwner bucket node) word within =
+      record { range = within.range; piece = within.piece }
   find_after-in mix port (at.ListLink bucket node owner) word within =
       list_followed-in bucket owner (node_of g.nodes word) within.piece (node_of-in g word)
-  find_after-in mix port (at.LaterOwner bucket node owner) word within = record { range = within.range; piece = within.piece }
-  find_after-in mix port (at.Unlocking unlock (Table table)) word within = record { range = within.range.1; piece = tt }
+  find_after-in mix port (at.LaterOwner bucket node owner) word within =
+      record { range = within.range; piece = within.piece }
+  find_after-in mix port (at.Unlocking unlock (Table table)) word within =
+      record { range = within.range.1; piece = tt }
   find_after-in mix port (at.Unlocking unlock (Answer reply)) word within = within
 
   -- a case a state: the words of slots, nodes and buckets
@@ -139,8 +151,11 @@ module _ (env : Env) where
   find_planned-in (at.Walking table bucket walk) within =
       subst (λ (h : Geometry). IsPlannedIn h (walk_plan_at walk.geometry walk.at)) within.range.2
       (planned_walk walk.geometry walk.before walk.at within.piece.1)
-  find_planned-in (at.Future table bucket) within = planned-at g _ (Slot table FutureWord) (within.range.0, tt) tt refl
+  find_planned-in (at.Future table bucket) within =
+      planned-at g _ (Slot table FutureWord) (within.range.0, tt) tt refl
   find_planned-in (at.FirstOwner bucket node) within = planned-at g _ (Node node OwnerWord) within.range.1 tt refl
-  find_planned-in (at.ListLink bucket node owner) within = planned-at g _ (Node node ListLink) within.range.1 tt refl
-  find_planned-in (at.LaterOwner bucket node owner) within = planned-at g _ (Node node OwnerWord) within.range.1 tt refl
+  find_planned-in (at.ListLink bucket node owner) within =
+      planned-at g _ (Node node ListLink) within.range.1 tt refl
+  find_planned-in (at.LaterOwner bucket node owner) within =
+      planned-at g _ (Node node OwnerWord) within.range.1 tt refl
   find_planned-in (at.Unlocking unlock next) within = planned_bucket g _ within.piece

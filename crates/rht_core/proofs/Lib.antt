@@ -8,6 +8,14 @@ pub mod FindRanges
 pub mod BindRanges
 -- in every run all that callers name is in range
 pub mod RangesInRuns
+-- the words that machines store have 64 bits
+pub mod StoredWords
+-- in every run each word has 64 bits
+pub mod WordsInRuns
+-- a call begins busy, and goes on or ends
+pub mod CallsInProgress
+-- in every run a caller that isn't enrolled has done nothing
+pub mod CallersNotEnrolled
 -- what each caller keeps of itself holds in every run
 pub mod CallersInRuns
 -- what a look-up and a bind answer

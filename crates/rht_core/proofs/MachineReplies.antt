@@ -60,7 +60,8 @@ lock_taken-holds : (env : Env) (port table : ℕ) (lock : LockModel) (next : Nex
     → HoldsFindReply (find.lock_taken env port table lock next)
 lock_taken-holds env port table lock Go = tt
 lock_taken-holds env port table lock (Done word) =
-    walk_or_seen-holds table (record { place = lock.place; word = word }) (locked_walk_new env.geometry lock.place word (word_of port))
+    walk_or_seen-holds table (record { place = lock.place; word = word })
+    (locked_walk_new env.geometry lock.place word (word_of port))
 
 walk_taken-holds : (table : ℕ) (bucket : Locked) (walk : LockedWalkModel) (next : Next Seen)
     → HoldsFindReply (find.walk_taken table bucket walk next)
@@ -135,7 +136,8 @@ module _ where
       → HoldsBindReply (bind.lock_taken env port node table shape lock next)
   bind_lock-holds env port node table shape lock Go = tt
   bind_lock-holds env port node table shape lock (Done word) =
-      bind_walk-holds table (record { node = node; shape = shape; bucket = record { place = lock.place; word = word } })
+      bind_walk-holds table
+      (record { node = node; shape = shape; bucket = record { place = lock.place; word = word } })
       (locked_walk_new env.geometry lock.place word (word_of port))
 
   bind_walked-holds : (table : ℕ) (claimed : Claimed) (walk : LockedWalkModel) (next : Next Seen)
@@ -162,7 +164,8 @@ module _ where
 pub bind_after-replies : (mix : ℕ → ℕ → ℕ → ℕ) (env : Env) (port : ℕ) (at : BindAt) (word : ℕ)
     → HoldsBindReply at
     → HoldsBindReply (bind.after_at mix env port at word).0 × IsNextOf IsBindReply (bind.after_at mix env port at word).1
-bind_after-replies mix env port (bind_at.Taking take) word holds = node_taken-replies (take_node_after take word).0 (take_node_after take word).1
+bind_after-replies mix env port (bind_at.Taking take) word holds =
+    node_taken-replies (take_node_after take word).0 (take_node_after take word).1
 bind_after-replies mix env port (bind_at.Key node) word holds = (tt, tt)
 bind_after-replies mix env port (bind_at.Owner node) word holds = (tt, tt)
 bind_after-replies mix env port (bind_at.ListLink node) word holds = (tt, tt)
@@ -174,10 +177,12 @@ bind_after-replies mix env port (bind_at.Locking node table shape lock) word hol
 bind_after-replies mix env port (bind_at.Walking table claimed walk) word holds =
     (bind_walked-holds table claimed (locked_walk_after walk word).0 (locked_walk_after walk word).1, tt)
 bind_after-replies mix env port (bind_at.FoundOwner claimed found) word holds = (tt, tt)
-bind_after-replies mix env port (bind_at.Future table claimed) word holds = (future_or_count-holds claimed (slot_of word), tt)
+bind_after-replies mix env port (bind_at.Future table claimed) word holds =
+    (future_or_count-holds claimed (slot_of word), tt)
 bind_after-replies mix env port (bind_at.Count claimed) word holds = (checked_count-holds env claimed word, tt)
 bind_after-replies mix env port (bind_at.Link claimed) word holds = (tt, tt)
 bind_after-replies mix env port (bind_at.Raise claimed) word holds = (tt, tt)
 bind_after-replies mix env port (bind_at.Publish claimed kick) word holds = (tt, tt)
-bind_after-replies mix env port (bind_at.Unlocking node unlock next) word holds = (after_unlock-holds env node next holds, tt)
+bind_after-replies mix env port (bind_at.Unlocking node unlock next) word holds =
+    (after_unlock-holds env node next holds, tt)
 bind_after-replies mix env port (bind_at.Giving give reply) word holds = (holds, refuses_bind reply holds)

@@ -64,8 +64,10 @@ use Rattle.rht_core.proofs.TracedCallers.{IsKeptTraced, traced_callers_keep}
 TakesOne-push : (g : Geometry) (node : ℕ) (steps : List Did) (did : Did) → TakesOne g node steps
     → IsNoTake g did → TakesOne g node (steps ++ did ∷ [])
 TakesOne-push g node [] did takes takes_none = absurd takes
-TakesOne-push g node (first ∷ steps) did (inl now) takes_none = inl (now.0, all_push (IsNoTake g) steps did now.1 takes_none)
-TakesOne-push g node (first ∷ steps) did (inr later) takes_none = inr (later.0, TakesOne-push g node steps did later.1 takes_none)
+TakesOne-push g node (first ∷ steps) did (inl now) takes_none =
+    inl (now.0, all_push (IsNoTake g) steps did now.1 takes_none)
+TakesOne-push g node (first ∷ steps) did (inr later) takes_none =
+    inr (later.0, TakesOne-push g node steps did later.1 takes_none)
 
 TakesOne-last : (g : Geometry) (node : ℕ) (steps : List Did) (did : Did) → TakesNone g steps
     → IsTake g node did.op did.old → TakesOne g node (steps ++ did ∷ [])
@@ -149,15 +151,17 @@ TookAs g op old Go = (node : ℕ) → IsTake g node op old → ⊥
 TookAs g op old (Done None) = (node : ℕ) → IsTake g node op old → ⊥
 TookAs g op old (Done (Some node)) = IsTake g node op old
 
-module _ (take : TakeNodeModel) (op : Op) (old : ℕ) (none : (node : ℕ) → IsTake take.geometry node op old → ⊥) where
-  next_word-took : (index : ℕ) → TookAs take.geometry op old (next_word take index).1
-  next_word-took index =
-      cond_both (nat_lt (index + 1) (map_words take.geometry.nodes)) _ _ (λ (next : TakeNodeModel × Next (Option ℕ)). TookAs take.geometry op old next.1)
-      (λ t. none) (λ f. none)
+module _ (take : TakeNodeModel) (op : Op) (old : ℕ) (none : (node : ℕ) → IsTake take.geometry node op old → ⊥)
+  where
+    next_word-took : (index : ℕ) → TookAs take.geometry op old (next_word take index).1
+    next_word-took index =
+        cond_both (nat_lt (index + 1) (map_words take.geometry.nodes)) _ _
+        (λ (next : TakeNodeModel × Next (Option ℕ)). TookAs take.geometry op old next.1)
+        (λ t. none) (λ f. none)
 
-  claim_in-took : (index : ℕ) (lowest : Option ℕ) → TookAs take.geometry op old (claim_in take index lowest).1
-  claim_in-took index None = next_word-took index
-  claim_in-took index (Some bit) = none
+    claim_in-took : (index : ℕ) (lowest : Option ℕ) → TookAs take.geometry op old (claim_in take index lowest).1
+    claim_in-took index None = next_word-took index
+    claim_in-took index (Some bit) = none
 
 load_takes_none : (g : Geometry) (place old : ℕ) (node : ℕ) → IsTake g node (Load place) old → ⊥
 load_takes_none g place old node takes = absurd (cc (takes.clears))
@@ -165,7 +169,8 @@ load_takes_none g place old node takes = absurd (cc (takes.clears))
 take_took : (take : TakeNodeModel) (state : TakeNodeAt) (old : ℕ) → IsTakeInRange take.geometry state
     → TookAs take.geometry (take_plan_at take.geometry state) old (take_after_at take state old).1
 take_took take (MapWord index) old range =
-    claim_in-took take _ old (load_takes_none take.geometry (place_of take.geometry (NodeMap index)) old) index (lowest_free take.geometry.nodes index old)
+    claim_in-took take _ old (load_takes_none take.geometry (place_of take.geometry (NodeMap index)) old) index
+    (lowest_free take.geometry.nodes index old)
 take_took take (Claim index bit) old range =
     let g = take.geometry in
     let op = take_plan_at g (Claim index bit) in
@@ -205,7 +210,8 @@ HasTaken g (Some node) steps = (node < g.nodes) × TakesOne g node steps
 HasTaken-push : (g : Geometry) (held : Option ℕ) (steps : List Did) (did : Did) → HasTaken g held steps
     → IsNoTake g did → HasTaken g held (steps ++ did ∷ [])
 HasTaken-push g None steps did taken takes_none = all_push (IsNoTake g) steps did taken takes_none
-HasTaken-push g (Some node) steps did taken takes_none = (taken.0, TakesOne-push g node steps did taken.1 takes_none)
+HasTaken-push g (Some node) steps did taken takes_none =
+    (taken.0, TakesOne-push g node steps did taken.1 takes_none)
 
 found_or_not-held : (table : ℕ) (claimed : Claimed) (found : Option ℕ)
     → node_held (found_or_not table claimed found) ≡ Some claimed.node
@@ -221,7 +227,8 @@ lock_taken-held : (env : Env) (port node table shape : ℕ) (lock : LockModel) (
     → node_held (lock_taken env port node table shape lock next) ≡ Some node
 lock_taken-held env port node table shape lock Go = refl
 lock_taken-held env port node table shape lock (Done word) =
-    walk_or_seen-held table (record { node = node; shape = shape; bucket = record { place = lock.place; word = word } })
+    walk_or_seen-held table
+    (record { node = node; shape = shape; bucket = record { place = lock.place; word = word } })
     (locked_walk_new env.geometry lock.place word (word_of port))
 
 walk_taken-held : (table : ℕ) (claimed : Claimed) (walk : LockedWalkModel) (next : Next WalkSeen)
@@ -237,7 +244,8 @@ future_or_count-held claimed (Some table) = refl
 checked_count-held : (env : Env) (claimed : Claimed) (count : ℕ)
     → node_held (checked_count env claimed count) ≡ Some claimed.node
 checked_count-held env claimed count =
-    cond_both (is_above_max (min count 65536) env.config.max) _ _ (λ state. node_held state ≡ Some claimed.node) (λ t. refl) (λ f. refl)
+    cond_both (is_above_max (min count 65536) env.config.max) _ _ (λ state. node_held state ≡ Some claimed.node)
+    (λ t. refl) (λ f. refl)
 
 after_unlock-held : (env : Env) (node : ℕ) (next : Then Reply)
     → node_held (after_unlock env node next) ≡ Some node
@@ -273,7 +281,8 @@ module _ (mix : ℕ → ℕ → ℕ → ℕ) (env : Env) (port owner : ℕ) wher
       → IsNoTake g did
       → HasTaken g (Some node) steps → HasTaken g (node_held state) (steps ++ did ∷ [])
   keeps state node steps did is takes_none taken =
-      subst (λ (held : Option ℕ). HasTaken g held (steps ++ did ∷ [])) (sym is) (HasTaken-push g (Some node) steps did taken takes_none)
+      subst (λ (held : Option ℕ). HasTaken g held (steps ++ did ∷ [])) (sym is)
+      (HasTaken-push g (Some node) steps did taken takes_none)
 
   kept_by : (node : ℕ) (steps : List Did) (did : Did) {op : Op} → did.op ≡ op → IsNoAnd op
       → HasTaken g (Some node) steps → HasTaken g (Some node) (steps ++ did ∷ [])
@@ -284,7 +293,8 @@ module _ (mix : ℕ → ℕ → ℕ → ℕ) (env : Env) (port owner : ℕ) wher
       → TakesNone g steps → GoesAs g (steps ++ did ∷ []) (node_taken take next)
   taking-goes take Go steps did took node_in none = all_push (IsNoTake g) steps did none took
   taking-goes take (Done None) steps did took node_in none = all_push (IsNoTake g) steps did none took
-  taking-goes take (Done (Some node)) steps did took node_in none = (node_in, TakesOne-last g node steps did none took)
+  taking-goes take (Done (Some node)) steps did took node_in none =
+      (node_in, TakesOne-last g node steps did none took)
 
   -- A case a state. All but the taking perform no And.
   bind-goes : (state : BindAt) (steps : List Did) (did : Did) → did.op ≡ plan_at env port owner state
@@ -307,14 +317,18 @@ module _ (mix : ℕ → ℕ → ℕ → ℕ) (env : Env) (port owner : ℕ) wher
   bind-goes (at.Shape node table) steps did is range holds taken = kept_by node steps did is tt taken
   bind-goes (at.Seed node table shape) steps did is range holds taken = kept_by node steps did is tt taken
   bind-goes (at.Locking node table shape lock) steps did is range holds taken =
-      keeps _ node steps did (lock_taken-held env port node table shape (lock_after lock did.old).0 (lock_after lock did.old).1)
+      keeps _ node steps did
+      (lock_taken-held env port node table shape (lock_after lock did.old).0 (lock_after lock did.old).1)
       (no_and_as g did is (lock_no_and lock.place lock.at)) taken
   bind-goes (at.Walking table claimed walk) steps did is range holds taken =
-      keeps _ claimed.node steps did (walk_taken-held table claimed (locked_walk_after walk did.old).0 (locked_walk_after walk did.old).1)
+      keeps _ claimed.node steps did
+      (walk_taken-held table claimed (locked_walk_after walk did.old).0 (locked_walk_after walk did.old).1)
       (no_and_as g did is (walk_no_and walk.geometry walk.at)) taken
-  bind-goes (at.FoundOwner claimed found) steps did is range holds taken = kept_by claimed.node steps did is tt taken
+  bind-goes (at.FoundOwner claimed found) steps did is range holds taken =
+      kept_by claimed.node steps did is tt taken
   bind-goes (at.Future table claimed) steps did is range holds taken =
-      keeps _ claimed.node steps did (future_or_count-held claimed (slot_of did.old)) (no_and_as g did is tt) taken
+      keeps _ claimed.node steps did (future_or_count-held claimed (slot_of did.old)) (no_and_as g did is tt)
+      taken
   bind-goes (at.Count claimed) steps did is range holds taken =
       keeps _ claimed.node steps did (checked_count-held env claimed did.old) (no_and_as g did is tt) taken
   bind-goes (at.Link claimed) steps did is range holds taken = kept_by claimed.node steps did is tt taken
@@ -380,7 +394,12 @@ module _ (M : Type 0) (mix : ℕ → ℕ → ℕ → ℕ) (env : Env) where
   ended-takes trace did in_progress call reply is takes past =
       subst (λ (o : Option Call). AllByRecursion IsTakenPast (trace_did o did (Some reply) trace).past) (sym is)
       (all_push IsTakenPast trace.past
-      (record { done = record { call = call; reply = reply; owners = []; pairs = [] }; begin = trace.begin; steps = trace.steps ++ did ∷ [] }) past takes)
+      (record {
+        done = record { call = call; reply = reply; owners = []; pairs = [] };
+        begin = trace.begin;
+        steps = trace.steps ++ did ∷ [];
+      })
+      past takes)
 
   -- the past calls and the steps now, once a machine has gone on or ended
   record GoesOn (trace : Trace) (local : Local M) : Type 0 where
@@ -410,21 +429,29 @@ module _ (M : Type 0) (mix : ℕ → ℕ → ℕ → ℕ) (env : Env) where
   local-takes c Idle book trace did plan within taking = absurd (cc)
   local-takes c (Finding m) book trace did plan within taking =
       let is : find_plan m ≡ did.op = cc in
-      let takes = all_push (IsNoTake env.geometry) trace.steps did taking.now (no_and env.geometry did (subst IsNoAnd is (find_no_and m.env m.at))) in
-      found-takes (find_after mix m did.old).0 (find_after mix m did.old).1 book trace did taking.right.progress.call takes taking.past
+      let takes =
+      all_push (IsNoTake env.geometry) trace.steps did taking.now
+      (no_and env.geometry did (subst IsNoAnd is (find_no_and m.env m.at))) in
+      found-takes (find_after mix m did.old).0 (find_after mix m did.old).1 book trace did
+      taking.right.progress.call takes taking.past
   local-takes c (Binding m) book trace did plan within taking =
       let is : did.op ≡ plan_at m.env m.port m.owner m.at = cc in
       let back = sym within.same_env in
       let geometry : env.geometry ≡ m.env.geometry = ap (λ (e : Env). e.geometry) back in
-      let taken : HasTaken m.env.geometry (node_held m.at) trace.steps = subst (λ (h : Geometry). HasTaken h (node_held m.at) trace.steps) geometry taking.now in
-      let range : (take : TakeNodeModel) → m.at ≡ at.Taking take → (take.geometry ≡ m.env.geometry) × IsTakeInRange take.geometry take.at =
+      let taken : HasTaken m.env.geometry (node_held m.at) trace.steps =
+      subst (λ (h : Geometry). HasTaken h (node_held m.at) trace.steps) geometry taking.now in
+      let range : (take : TakeNodeModel) → m.at ≡ at.Taking take
+      → (take.geometry ≡ m.env.geometry) × IsTakeInRange take.geometry take.at =
       λ take same. (
-        subst (λ (state : BindAt). IsBindInRange m.env state) same (subst (λ (e : Env). IsBindInRange e m.at) back within.range),
+        subst (λ (state : BindAt). IsBindInRange m.env state) same
+            (subst (λ (e : Env). IsBindInRange e m.at) back within.range),
         subst (IsBindPieceIn env.geometry) same within.piece,
       ) in
       let goes = bind-goes mix m.env m.port m.owner m.at trace.steps did is range taking.right.holds taken in
-      bound-takes (bind_after mix m did.old).0 (bind_after mix m did.old).1 book trace did taking.right.progress.call
-      (subst (λ (h : Geometry). GoesAs h (trace.steps ++ did ∷ []) (after_at mix m.env m.port m.at did.old)) (sym geometry) goes) taking.past
+      bound-takes (bind_after mix m did.old).0 (bind_after mix m did.old).1 book trace did
+      taking.right.progress.call
+      (subst (λ (h : Geometry). GoesAs h (trace.steps ++ did ∷ []) (after_at mix m.env m.port m.at did.old)) (sym geometry) goes)
+      taking.past
 
   kept-taking : IsKeptTraced M mix env IsTaking
   kept-taking = record {

@@ -28,7 +28,8 @@ use Rattle.rht_core.specs.Laws.{IsBucketPlace}
 -- a link leads to one of the nodes, where it leads to one
 pub node_of-in : (g : Geometry) (link : ℕ) → IsNodeOrNone g (node_of g.nodes link)
 node_of-in g link =
-    cond_both ((link % 2 == 0) && nat_le 2 link && nat_lt (link / 2 - 1) g.nodes) (Some (link / 2 - 1)) None (IsNodeOrNone g)
+    cond_both ((link % 2 == 0) && nat_le 2 link && nat_lt (link / 2 - 1) g.nodes) (Some (link / 2 - 1)) None
+    (IsNodeOrNone g)
     (λ t.
     let parts = and_parts ((link % 2 == 0) && nat_le 2 link) (nat_lt (link / 2 - 1) g.nodes) t in
     ltb-true (link / 2 - 1) g.nodes parts.1)
@@ -143,7 +144,8 @@ claim_among-in : (take : TakeNodeModel) (index word : ℕ) → IsTakeInRange tak
     → TakeStays take (claim_among take index word)
 claim_among-in take index word range =
     let free = bit_and word (map_bits take.geometry.nodes index) in
-    cond_both (free == 0) None (Some (trailing_zeros w64 free)) (λ lowest. TakeStays take (claim_in take index lowest))
+    cond_both (free == 0) None (Some (trailing_zeros w64 free))
+    (λ lowest. TakeStays take (claim_in take index lowest))
     (λ t. next_word-in take index range)
     (λ f.
     let some : 0 < free = (let other = eqb-false free 0 f in omega (arith, other)) in

@@ -43,12 +43,13 @@ pub each_set : {A : Type 0} (P : ℕ → A → Type 0) (default : A) (xs : List 
     → ((k : ℕ) → P k (get_or xs k default)) → (k : ℕ) → P k (get_or (set xs c x) k default)
 each_set P default xs c x below p each k = elim (cases_eq k c) [
   | inl same ↦
-      subst (λ j. P j (get_or (set xs c x) j default)) (sym same) (subst (P c) (sym (get_or-set_same xs c x default below)) p)
+      subst (λ j. P j (get_or (set xs c x) j default)) (sym same)
+      (subst (P c) (sym (get_or-set_same xs c x default below)) p)
   | inr other ↦ subst (P k) (sym (get_or-set_other xs c k x default other)) (each k)
 ]
 
 -- the same of a list's elements alone
-all_set : {A : Type 0} (P : A → Type 0) (xs : List A) (c : ℕ) (x : A) → P x → AllByRecursion P xs
+pub all_set : {A : Type 0} (P : A → Type 0) (xs : List A) (c : ℕ) (x : A) → P x → AllByRecursion P xs
     → AllByRecursion P (set xs c x)
 all_set P [] c x p all = tt
 all_set P (y ∷ ys) zero x p all = (p, all.1)
@@ -89,7 +90,8 @@ module _ (M : Type 0) where
 
   binding_of-in : (env : Env) (c port owner : ℕ) (once : Bool) (kind : Kind)
       → MachineIn env c (binding_of env c port owner once kind)
-  binding_of-in env c port owner once Single = record { same_env = refl; same_caller = refl; range = refl; piece = first_map_word env.geometry }
+  binding_of-in env c port owner once Single =
+      record { same_env = refl; same_caller = refl; range = refl; piece = first_map_word env.geometry }
   binding_of-in env c port owner once Listed = tt
 
   machine_of-in : (env : Env) (c : ℕ) (call : Call) → MachineIn env c (machine_of env c call)
@@ -118,15 +120,21 @@ module _ (M : Type 0) where
       → IsLocalIn env c (local_after mix local old).0
   local_after-in mix env c Idle old within = tt
   local_after-in mix env c (Finding m) old within =
-      let here = subst (λ (e : Env). IsFindAtIn e m.at) (sym within.same_env) (record { range = within.range; piece = within.piece }) in
+      let here =
+      subst (λ (e : Env). IsFindAtIn e m.at) (sym within.same_env)
+      (record { range = within.range; piece = within.piece }) in
       let next = find_after-in m.env mix m.port m.at old here in
-      let moved : IsFindAtIn env (find_after mix m old).0.at = subst (λ (e : Env). IsFindAtIn e (find_after mix m old).0.at) within.same_env next in
+      let moved : IsFindAtIn env (find_after mix m old).0.at =
+      subst (λ (e : Env). IsFindAtIn e (find_after mix m old).0.at) within.same_env next in
       found_next-in env c (find_after mix m old).0 (find_after mix m old).1
       record { same_env = within.same_env; same_caller = within.same_caller; range = moved.range; piece = moved.piece }
   local_after-in mix env c (Binding m) old within =
-      let here = subst (λ (e : Env). IsBindAtIn e m.at) (sym within.same_env) (record { range = within.range; piece = within.piece }) in
+      let here =
+      subst (λ (e : Env). IsBindAtIn e m.at) (sym within.same_env)
+      (record { range = within.range; piece = within.piece }) in
       let next = bind_after-in m.env mix m.port m.at old here in
-      let moved : IsBindAtIn env (bind_after mix m old).0.at = subst (λ (e : Env). IsBindAtIn e (bind_after mix m old).0.at) within.same_env next in
+      let moved : IsBindAtIn env (bind_after mix m old).0.at =
+      subst (λ (e : Env). IsBindAtIn e (bind_after mix m old).0.at) within.same_env next in
       bound_next-in env c (bind_after mix m old).0 (bind_after mix m old).1
       record { same_env = within.same_env; same_caller = within.same_caller; range = moved.range; piece = moved.piece }
 
@@ -195,8 +203,10 @@ module _ (M : Type 0) (mix : ℕ → ℕ → ℕ → ℕ) (env : Env) where
   enrolled-in : (core : Core M) (old : ℕ) → StaysIn core
       → enrolled_after core.env core.enrolled old ≤ env.geometry.callers
   enrolled-in core old stays =
-      let same : core.env.geometry.callers ≡ env.geometry.callers = ap (λ (e : Env). e.geometry.callers) stays.same_env in
-      cond_both (nat_lt old core.env.geometry.callers) (max core.enrolled (old + 1)) core.enrolled (λ n. n ≤ env.geometry.callers)
+      let same : core.env.geometry.callers ≡ env.geometry.callers =
+      ap (λ (e : Env). e.geometry.callers) stays.same_env in
+      cond_both (nat_lt old core.env.geometry.callers) (max core.enrolled (old + 1)) core.enrolled
+      (λ n. n ≤ env.geometry.callers)
       (λ t. let below = ltb-true old core.env.geometry.callers t in let few = stays.few_enrolled in omega arith)
       (λ f. stays.few_enrolled)
 
@@ -212,7 +222,8 @@ module _ (M : Type 0) (mix : ℕ → ℕ → ℕ → ℕ) (env : Env) where
   begin-in core c call None is stays = stays
   begin-in core c call (Some machine) is stays =
       let can = beginning-some core.env core.enrolled core.locals c call machine is in
-      set-in core c machine stays can.below (begins-in M env c call machine (made_in core c call machine stays can))
+      set-in core c machine stays can.below
+      (begins-in M env c call machine (made_in core c call machine stays can))
 
   step-in : (core : Core M) (c : ℕ) (op : Option Op) → planned core.enrolled core.locals c ≡ op → StaysIn core
       → StaysIn (with_step mix core c op).0
@@ -234,7 +245,8 @@ module _ (M : Type 0) (mix : ℕ → ℕ → ℕ → ℕ) (env : Env) where
         all_local = after.all_local;
         locals = after.locals;
       }
-  stays-in w (Begin c call) stays = begin-in w.core c call (beginning w.core.env w.core.enrolled w.core.locals c call) refl stays
+  stays-in w (Begin c call) stays =
+      begin-in w.core c call (beginning w.core.env w.core.enrolled w.core.locals c call) refl stays
   stays-in w (Step c) stays = step-in w.core c (planned w.core.enrolled w.core.locals c) refl stays
 
   pub runs-in : (events : List Event) → StaysIn (run_of mix env events).core
@@ -266,7 +278,7 @@ module _ (M : Type 0) (mix : ℕ → ℕ → ℕ → ℕ) (env : Env) where
       let plan = plans-in M env c (local_of core c) op (stays.locals c) can.plan in
       applied-other core.words op (place_of env.geometry EnrolledCallers) (λ e. plan.apart (sym e))
 
-  step-count : (core : Core M) (c : ℕ) (op : Option Op) → (with_step mix core c op).0.enrolled ≡ core.enrolled
+  pub step-count : (core : Core M) (c : ℕ) (op : Option Op) → (with_step mix core c op).0.enrolled ≡ core.enrolled
   step-count core c None = refl
   step-count core c (Some op) = refl
 

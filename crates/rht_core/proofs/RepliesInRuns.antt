@@ -37,7 +37,8 @@ ended : (book : Book) (call : Call) (reply : Reply) → book.call ≡ Some call 
     → AllByRecursion IsAnswered (book_after (Some reply) book).finished
 ended book call reply is fits all =
     subst (λ (o : Option Call). AllByRecursion IsAnswered (book.finished ++ finished_with o reply)) (sym is)
-    (all_push IsAnswered book.finished (record { call = call; reply = reply; owners = []; pairs = [] }) all record { reply = fits; owners = refl; pairs = refl })
+    (all_push IsAnswered book.finished (record { call = call; reply = reply; owners = []; pairs = [] }) all
+    record { reply = fits; owners = refl; pairs = refl })
 
 module _ (M : Type 0) (mix : ℕ → ℕ → ℕ → ℕ) (env : Env) where
   -- the reply that a caller's state holds is of its call's kind
@@ -82,18 +83,34 @@ module _ (M : Type 0) (mix : ℕ → ℕ → ℕ → ℕ) (env : Env) where
       → IsNextOf IsFindReply next → AllByRecursion IsAnswered book.finished
       → IsRight c (record { local = (found_next {M = M} (m, next)).0; book = book_after (found_next {M = M} (m, next)).1 book })
   found-right c m Go book of holds answer all =
-      record { finished = all; progress = record { same_env = of.same_env; same_caller = of.same_caller; call = of.call }; holds = holds }
+      record {
+        finished = all;
+        progress = record { same_env = of.same_env; same_caller = of.same_caller; call = of.call };
+        holds = holds;
+      }
   found-right c m (Done reply) book of holds answer all =
-      record { finished = ended book (Find m.port) reply of.call answer all; progress = record { call = refl; steps = refl }; holds = tt }
+      record {
+        finished = ended book (Find m.port) reply of.call answer all;
+        progress = record { call = refl; steps = refl };
+        holds = tt;
+      }
 
   bound-right : (c : ℕ) (m : BindModel) (next : Next Reply) (book : Book) → IsBookOfBind env c m book
       → HoldsBindReply m.at
       → IsNextOf IsBindReply next → AllByRecursion IsAnswered book.finished
       → IsRight c (record { local = (bound_next {M = M} (m, next)).0; book = book_after (bound_next {M = M} (m, next)).1 book })
   bound-right c m Go book of holds answer all =
-      record { finished = all; progress = record { same_env = of.same_env; same_caller = of.same_caller; call = of.call }; holds = holds }
+      record {
+        finished = all;
+        progress = record { same_env = of.same_env; same_caller = of.same_caller; call = of.call };
+        holds = holds;
+      }
   bound-right c m (Done reply) book of holds answer all =
-      record { finished = ended book (Bind m.port m.owner m.once) reply of.call answer all; progress = record { call = refl; steps = refl }; holds = tt }
+      record {
+        finished = ended book (Bind m.port m.owner m.once) reply of.call answer all;
+        progress = record { call = refl; steps = refl };
+        holds = tt;
+      }
 
   local_after-right : (c : ℕ) (local : Local M) (book : Book) (op : Op) (old : ℕ) → plan_of local ≡ Some op
       → IsRight c (record { local = local; book = book })
@@ -102,11 +119,13 @@ module _ (M : Type 0) (mix : ℕ → ℕ → ℕ → ℕ) (env : Env) where
   local_after-right c (Finding m) book op old plan right =
       let next = find_after-replies mix m.env m.port m.at old right.holds in
       found-right c (find_after mix m old).0 (find_after mix m old).1 book
-      record { same_env = right.progress.same_env; same_caller = right.progress.same_caller; call = right.progress.call } next.0 next.1 right.finished
+      record { same_env = right.progress.same_env; same_caller = right.progress.same_caller; call = right.progress.call }
+      next.0 next.1 right.finished
   local_after-right c (Binding m) book op old plan right =
       let next = bind_after-replies mix m.env m.port m.at old right.holds in
       bound-right c (bind_after mix m old).0 (bind_after mix m old).1 book
-      record { same_env = right.progress.same_env; same_caller = right.progress.same_caller; call = right.progress.call } next.0 next.1 right.finished
+      record { same_env = right.progress.same_env; same_caller = right.progress.same_caller; call = right.progress.call }
+      next.0 next.1 right.finished
 
   pub kept-right : IsKept M mix env IsRight
   kept-right = record {

@@ -1,6 +1,6 @@
 -- What each caller keeps of itself and of its trace, when it begins a call and when it makes an
 -- operation, holds of every caller in every run.
-use Rattle.std.proofs.Common.{◌≡◌, ◌≢◌, ℕ, ◌<◌, inl, inr, true, List, [], ◌∷◌, length, refl, sym, ap, ◌∙◌, subst, arith}
+use Rattle.std.proofs.Common.{◌≡◌, ◌≢◌, ℕ, inl, inr, true, List, [], ◌∷◌, refl, sym, ap, ◌∙◌, subst}
 use Rattle.std.specs.Prelude.{Option, Some, None}
 use Rattle.std.proofs.lemmas.Bool.{cases_eq}
 use Rattle.rht_words.specs.declared.op.Op.{Op}
@@ -31,7 +31,8 @@ module _ (M : Type 0) (mix : ℕ → ℕ → ℕ → ℕ) (r : Traced M) (c : �
 
     pub trace_begin_self : (machine : Local M) → beginning_in ≡ Some machine
         → traces_after mix r (Begin c call) c ≡ trace_begun r.count (r.traces c)
-    trace_begin_self machine is = ap (λ o. traces_begun r c o c) is ∙ trace_at-same r.traces c (trace_begun r.count (r.traces c))
+    trace_begin_self machine is =
+        ap (λ o. traces_begun r c o c) is ∙ trace_at-same r.traces c (trace_begun r.count (r.traces c))
 
     begun_other : (k : ℕ) → k ≢ c → (machine : Option (Local M)) → traces_begun r c machine k ≡ r.traces k
     begun_other k other None = refl
@@ -51,7 +52,8 @@ module _ (M : Type 0) (mix : ℕ → ℕ → ℕ → ℕ) (r : Traced M) (c : �
   abbrev pub trace_with : Op → Trace
   trace_with op =
       let old = old_of r.world.core.words op in
-      trace_did (r.world.books c).call (record { index = r.count; op = op; old = old }) (local_after mix (local_of r.world.core c) old).1 (r.traces c)
+      trace_did (r.world.books c).call (record { index = r.count; op = op; old = old })
+      (local_after mix (local_of r.world.core c) old).1 (r.traces c)
 
   pub trace_step_none : planned_in ≡ None → traces_after mix r (Step c) ≡ r.traces
   trace_step_none is = ap traces_with is
@@ -80,29 +82,36 @@ module _ (M : Type 0) (mix : ℕ → ℕ → ℕ → ℕ) (env : Env) (P : ℕ �
         → P c seen trace
         → P c (seen_step mix did.old seen) (trace_did seen.book.call did (local_after mix seen.local did.old).1 trace)
 
-  module _ (kept : IsKeptTraced) (r : Traced M) (stays : StaysIn M mix env r.world.core) (each : (k : ℕ) → P k (seen r.world k) (r.traces k)) where
+  module _ (kept : IsKeptTraced) (r : Traced M) (stays : StaysIn M mix env r.world.core)
+      (each : (k : ℕ) → P k (seen r.world k) (r.traces k)) where
     -- where the caller and its trace have become these
     put : (c : ℕ) (here : Seen M) (before : Seen M) (was : Trace) (trace : Trace) → before ≡ here → was ≡ trace
         → P c here trace → P c before was
-    put c here before was trace seen_is trace_is p = subst (P c before) (sym trace_is) (subst (λ s. P c s trace) (sym seen_is) p)
+    put c here before was trace seen_is trace_is p =
+        subst (P c before) (sym trace_is) (subst (λ s. P c s trace) (sym seen_is) p)
 
     begins : (c : ℕ) (call : Call) (machine : Option (Local M))
         → beginning r.world.core.env r.world.core.enrolled r.world.core.locals c call ≡ machine
         → (k : ℕ) → P k (seen (world_step mix r.world (Begin c call)) k) (traces_after mix r (Begin c call) k)
     begins c call None is k =
-        put k (seen r.world k) _ _ (r.traces k) (ap (λ (v : World M). seen v k) (begin_none M mix r.world c call is))
+        put k (seen r.world k) _ _ (r.traces k)
+        (ap (λ (v : World M). seen v k) (begin_none M mix r.world c call is))
         (ap (λ (t : ℕ → Trace). t k) (trace_begin_none M mix r c call is)) (each k)
     begins c call (Some machine) is k =
         let can = beginning-some r.world.core.env r.world.core.enrolled r.world.core.locals c call machine is in
         let made = made_in M mix env r.world.core c call machine stays can in
         elim (cases_eq k c) [
           | inl same ↦
-              subst (λ j. P j (seen (world_step mix r.world (Begin c call)) j) (traces_after mix r (Begin c call) j)) (sym same)
+              subst
+              (λ j. P j (seen (world_step mix r.world (Begin c call)) j) (traces_after mix r (Begin c call) j))
+              (sym same)
               (put c (seen_begin call machine (seen r.world c)) _ _ (trace_begun r.count (r.traces c))
-              (begin_self M mix r.world c call machine is (has_place M mix env r.world.core c stays can.below)) (trace_begin_self M mix r c call machine is)
+              (begin_self M mix r.world c call machine is (has_place M mix env r.world.core c stays can.below))
+              (trace_begin_self M mix r c call machine is)
               (kept.begins c call machine r.count (seen r.world c) (r.traces c) can.idle made (each c)))
           | inr other ↦
-              put k (seen r.world k) _ _ (r.traces k) (begin_other M mix r.world c call k other) (trace_begin_other M mix r c call k other) (each k)
+              put k (seen r.world k) _ _ (r.traces k) (begin_other M mix r.world c call k other)
+              (trace_begin_other M mix r c call k other) (each k)
         ]
 
     steps : (c : ℕ) (op : Option Op) → planned r.world.core.enrolled r.world.core.locals c ≡ op
@@ -115,19 +124,23 @@ module _ (M : Type 0) (mix : ℕ → ℕ → ℕ → ℕ) (env : Env) (P : ℕ �
         let did : Did = record { index = r.count; op = op; old = old_of r.world.core.words op } in
         elim (cases_eq k c) [
           | inl same ↦
-              subst (λ j. P j (seen (world_step mix r.world (Step c)) j) (traces_after mix r (Step c) j)) (sym same)
+              subst (λ j. P j (seen (world_step mix r.world (Step c)) j) (traces_after mix r (Step c) j))
+              (sym same)
               (put c (seen_step mix did.old (seen r.world c)) _ _ (trace_with M mix r c op)
-              (step_self M mix r.world c op is (has_place M mix env r.world.core c stays can.below)) (trace_step_self M mix r c op is)
+              (step_self M mix r.world c op is (has_place M mix env r.world.core c stays can.below))
+              (trace_step_self M mix r c op is)
               (kept.steps c did (seen r.world c) (r.traces c) can.plan (stays.locals c) (each c)))
           | inr other ↦
-              put k (seen r.world k) _ _ (r.traces k) (step_other M mix r.world c k other) (trace_step_other M mix r c k other) (each k)
+              put k (seen r.world k) _ _ (r.traces k) (step_other M mix r.world c k other)
+              (trace_step_other M mix r c k other) (each k)
         ]
 
     -- an event keeps it of every caller
     pub traced_event_keeps : (event : Event) → (k : ℕ)
         → P k (seen (world_step mix r.world event) k) (traces_after mix r event k)
     traced_event_keeps Enroll k = each k
-    traced_event_keeps (Begin c call) k = begins c call (beginning r.world.core.env r.world.core.enrolled r.world.core.locals c call) refl k
+    traced_event_keeps (Begin c call) k =
+        begins c call (beginning r.world.core.env r.world.core.enrolled r.world.core.locals c call) refl k
     traced_event_keeps (Step c) k = steps c (planned r.world.core.enrolled r.world.core.locals c) refl k
 
   record HoldsIn (r : Traced M) : Type 0 where
@@ -149,7 +162,9 @@ module _ (M : Type 0) (mix : ℕ → ℕ → ℕ → ℕ) (env : Env) (P : ℕ �
   traced_callers_keep kept events c =
       let opens : HoldsIn (traced_opening M mix env) = record {
         stays = opens-in M mix env;
-        each = λ k. each_replicate (λ (local : Local M). P k (record { local = local; book = new_book }) no_trace) env.geometry.callers k Idle (kept.opens k);
+        each = λ k.
+            each_replicate (λ (local : Local M). P k (record { local = local; book = new_book }) no_trace) env.geometry.callers k Idle
+            (kept.opens k);
       } in
       let holds = from-holds kept (traced_opening M mix env) events opens in
       holds.each c

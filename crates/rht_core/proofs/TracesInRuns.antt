@@ -18,9 +18,9 @@ use Rattle.rht_core.specs.declared.event.Event.TheVariants.{Enroll, Begin, Step}
 use Rattle.rht_core.specs.declared.book.Book.{Book}
 use Rattle.rht_core.specs.declared.book.Finished.{Finished}
 use Rattle.rht_core.specs.declared.local.Local.{Local}
-use Rattle.rht_core.specs.Runs.{World, beginning, planned, with_step, book_at, book_begun, book_after, books_begun, books_stepped, finished_with, run_from, run_of, opening}
+use Rattle.rht_core.specs.Runs.{World, core_step, beginning, planned, with_step, book_at, book_begun, book_after, books_begun, books_stepped, finished_with, run_from, run_of, opening}
 use Rattle.rht_core.specs.Traces.{Did, Past, Trace, Traced, trace_at, trace_begun, trace_did, traces_begun, traces_stepped, traced_step, traced_from, traced_of, IsRising, behind_steps, behind_call, behind_calls, AreInOrder}
-use Rattle.rht_core.specs.Laws.{IsTraceOf, IsInProgress, Remembers, IsRecorded, IsPastCall, AtEvents}
+use Rattle.rht_core.specs.Laws.{IsTraceOf, IsInProgress, Remembers, IsRecorded, IsAnsweredAt, IsPastCall, AtEvents}
 use Rattle.rht_core.proofs.Worlds.{induct_by_last, take-push, take-push_all, book_at-same, book_at-other}
 use Rattle.rht_core.proofs.RepliesInRuns.{all_push}
 
@@ -57,24 +57,27 @@ module _ (M : Type 0) (mix : ℕ → ℕ → ℕ → ℕ) where
 
   -- What holds of each caller's book and trace, at an event of a caller: of a call that begins, and of a
   -- step. Where nothing happens it stays.
-  module _ (r : Traced M) (P : ℕ → Book → Trace → Type 0) (each : (k : ℕ) → P k (r.world.books k) (r.traces k)) where
-    pub each_begun : (c : ℕ) (call : Call) (machine : Option (Local M))
-        → ((m : Local M) → machine ≡ Some m → P c (book_begun call (r.world.books c)) (trace_begun r.count (r.traces c)))
-        → (k : ℕ) → P k (books_begun r.world.books c call machine k) (traces_begun r c machine k)
-    each_begun c call None begins k = each k
-    each_begun c call (Some m) begins k =
-        each_at P r.world.books r.traces c (book_begun call (r.world.books c)) (trace_begun r.count (r.traces c)) (begins m refl) each k
+  module _ (r : Traced M) (P : ℕ → Book → Trace → Type 0) (each : (k : ℕ) → P k (r.world.books k) (r.traces k))
+    where
+      pub each_begun : (c : ℕ) (call : Call) (machine : Option (Local M))
+          → ((m : Local M) → machine ≡ Some m → P c (book_begun call (r.world.books c)) (trace_begun r.count (r.traces c)))
+          → (k : ℕ) → P k (books_begun r.world.books c call machine k) (traces_begun r c machine k)
+      each_begun c call None begins k = each k
+      each_begun c call (Some m) begins k =
+          each_at P r.world.books r.traces c (book_begun call (r.world.books c)) (trace_begun r.count (r.traces c))
+          (begins m refl) each k
 
-    -- the step that is recorded
-    abbrev pub did_now : Op → Did
-    did_now op = record { index = r.count; op = op; old = old_of r.world.core.words op }
+      -- the step that is recorded
+      abbrev pub did_now : Op → Did
+      did_now op = record { index = r.count; op = op; old = old_of r.world.core.words op }
 
-    pub each_stepped : (c : ℕ) (op : Option Op) (reply : Option Reply)
-        → ((o : Op) → op ≡ Some o → P c (book_after reply (r.world.books c)) (trace_did (r.world.books c).call (did_now o) reply (r.traces c)))
-        → (k : ℕ) → P k (books_stepped r.world.books c op reply k) (traces_stepped r c op reply k)
-    each_stepped c None reply steps k = each k
-    each_stepped c (Some o) reply steps k =
-        each_at P r.world.books r.traces c (book_after reply (r.world.books c)) (trace_did (r.world.books c).call (did_now o) reply (r.traces c)) (steps o refl) each k
+      pub each_stepped : (c : ℕ) (op : Option Op) (reply : Option Reply)
+          → ((o : Op) → op ≡ Some o → P c (book_after reply (r.world.books c)) (trace_did (r.world.books c).call (did_now o) reply (r.traces c)))
+          → (k : ℕ) → P k (books_stepped r.world.books c op reply k) (traces_stepped r c op reply k)
+      each_stepped c None reply steps k = each k
+      each_stepped c (Some o) reply steps k =
+          each_at P r.world.books r.traces c (book_after reply (r.world.books c))
+          (trace_did (r.world.books c).call (did_now o) reply (r.traces c)) (steps o refl) each k
 
   traced_from-append : (r : Traced M) (past rest : List Event)
       → traced_from mix r (past ++ rest) ≡ traced_from mix (traced_from mix r past) rest
@@ -98,7 +101,8 @@ module _ (M : Type 0) (mix : ℕ → ℕ → ℕ → ℕ) where
   pub count-traced_of : (env : Env) (events : List Event)
       → (traced_of {M = M} mix env events).count ≡ length events
   count-traced_of env = induct_by_last (λ events. (traced_of {M = M} mix env events).count ≡ length events) refl
-      (λ events event same. ap (λ (r : Traced M). r.count) (traced_of-push env events event) ∙ ap (λ n. n + 1) same ∙ sym (length_push events event))
+      (λ events event same.
+      ap (λ (r : Traced M). r.count) (traced_of-push env events event) ∙ ap (λ n. n + 1) same ∙ sym (length_push events event))
 
 -- ---- what traces remember
 
@@ -106,7 +110,8 @@ module _ (M : Type 0) (mix : ℕ → ℕ → ℕ → ℕ) where
 done-past : (begin : ℕ) (steps : List Did) (finished : List Finished)
     → map (λ (past : Past). past.done) (map (λ (done : Finished). record { done = done; begin = begin; steps = steps }) finished) ≡ finished
 done-past begin steps [] = refl
-done-past begin steps (done ∷ finished) = ap (λ (all : List Finished). done ∷ all) (done-past begin steps finished)
+done-past begin steps (done ∷ finished) =
+    ap (λ (all : List Finished). done ∷ all) (done-past begin steps finished)
 
 begun-of : (index : ℕ) (call : Call) (book : Book) (trace : Trace) → IsTraceOf book trace
     → IsTraceOf (book_begun call book) (trace_begun index trace)
@@ -114,13 +119,15 @@ begun-of index call book trace of = record { past = of.past; steps = refl }
 
 did-of : (did : Did) (reply : Option Reply) (book : Book) (trace : Trace) → IsTraceOf book trace
     → IsTraceOf (book_after reply book) (trace_did book.call did reply trace)
-did-of did None book trace of = record { past = of.past; steps = length_push trace.steps did ∙ ap (λ n. n + 1) of.steps }
+did-of did None book trace of =
+    record { past = of.past; steps = length_push trace.steps did ∙ ap (λ n. n + 1) of.steps }
 did-of did (Some reply) book trace of =
     let ended = finished_with book.call reply in
     let steps = trace.steps ++ did ∷ [] in
     record {
       past =
-          map-append (λ (past : Past). past.done) trace.past (map (λ (done : Finished). record { done = done; begin = trace.begin; steps = steps }) ended)
+          map-append (λ (past : Past). past.done) trace.past
+          (map (λ (done : Finished). record { done = done; begin = trace.begin; steps = steps }) ended)
           ∙ ap (λ (all : List Finished). map (λ (past : Past). past.done) trace.past ++ all) (done-past trace.begin steps ended)
           ∙ ap (λ (all : List Finished). all ++ ended) of.past;
       steps = refl;
@@ -133,7 +140,8 @@ module _ (M : Type 0) (mix : ℕ → ℕ → ℕ → ℕ) where
   step-of : (r : Traced M) (event : Event) → AllOf r → AllOf (traced_step mix r event)
   step-of r Enroll each k = each k
   step-of r (Begin c call) each k =
-      each_begun M mix r (λ _. IsTraceOf) each c call (beginning r.world.core.env r.world.core.enrolled r.world.core.locals c call)
+      each_begun M mix r (λ _. IsTraceOf) each c call
+      (beginning r.world.core.env r.world.core.enrolled r.world.core.locals c call)
       (λ m is. begun-of r.count call (r.world.books c) (r.traces c) (each c)) k
   step-of r (Step c) each k =
       let op = planned r.world.core.enrolled r.world.core.locals c in
@@ -174,7 +182,8 @@ behind_steps-push from (first ∷ steps) did = behind_steps-push (first.index + 
 IsRising-push : (from : ℕ) (steps : List Did) (did : Did) → IsRising from steps
     → behind_steps from steps ≤ did.index → IsRising from (steps ++ did ∷ [])
 IsRising-push from [] did rising behind = (behind, tt)
-IsRising-push from (first ∷ steps) did rising behind = (rising.0, IsRising-push (first.index + 1) steps did rising.1 behind)
+IsRising-push from (first ∷ steps) did rising behind =
+    (rising.0, IsRising-push (first.index + 1) steps did rising.1 behind)
 
 -- one more call behind the others
 behind_calls-push : (from : ℕ) (calls : List Past) (past : Past)
@@ -189,6 +198,11 @@ AreInOrder-push from [] past order behind rising = (behind, rising, tt)
 AreInOrder-push from (first ∷ calls) past order behind rising =
     (order.0, order.1, AreInOrder-push (behind_call first) calls past order.2 behind rising)
 
+-- what holds of each element of a list holds of its last one
+all_last : {A : Type 0} (P : A → Type 0) (xs : List A) (x : A) → AllByRecursion P (xs ++ x ∷ []) → P x
+all_last P [] x all = all.0
+all_last P (y ∷ ys) x all = all_last P ys x all.1
+
 all_weaker : {A : Type 0} (P Q : A → Type 0) → ((x : A) → P x → Q x) → (xs : List A) → AllByRecursion P xs
     → AllByRecursion Q xs
 all_weaker P Q weaker [] all = tt
@@ -202,6 +216,14 @@ module _ (M : Type 0) (mix : ℕ → ℕ → ℕ → ℕ) (env : Env) where
   -- the run of these events, with its traces
   abbrev R : List Event → Traced M
   R events = traced_of mix env events
+
+  -- the operation that a caller plans in a world
+  abbrev planned_by : ℕ → World M → Option Op
+  planned_by c w = planned w.core.enrolled w.core.locals c
+
+  -- the reply that a step of a caller gives in a world
+  abbrev reply_of : ℕ → World M → Option Reply
+  reply_of c w = (core_step mix w.core (Step c)).1.reply
 
   -- a call in progress of which all steps lie before this event
   record IsUnderWay (events : List Event) (c : ℕ) (trace : Trace) (call : Call) : Type 0 where
@@ -230,13 +252,29 @@ module _ (M : Type 0) (mix : ℕ → ℕ → ℕ → ℕ) (env : Env) where
         let same = sym (take-push events event did.index (omega arith)) in
         record {
           event = slice_get-push events event did.index (Step c) is.event;
-          plan = subst (λ (before : List Event). planned (run_of {M = M} mix env before).core.enrolled (run_of {M = M} mix env before).core.locals c ≡ Some did.op) same is.plan;
+          plan = subst (λ (before : List Event). planned_by c (run_of mix env before) ≡ Some did.op) same is.plan;
           found = subst (λ (before : List Event). old_of (run_of {M = M} mix env before).core.words did.op ≡ did.old) same is.found;
+        }
+
+    answered-more : (c : ℕ) (past : Past) → IsAnsweredAt M mix env events c past
+        → AllByRecursion (IsRecorded M mix env events c) past.steps → IsAnsweredAt M mix env more c past
+    answered-more c past is recorded =
+        let last = all_last (IsRecorded M mix env events c) is.before is.last
+        (subst (AllByRecursion (IsRecorded M mix env events c)) is.steps_are recorded) in
+        let within = slice_get_within events is.last.index (Step c) last.event in
+        record {
+          before = is.before;
+          last = is.last;
+          steps_are = is.steps_are;
+          reply =
+              subst (λ (before : List Event). reply_of c (run_of mix env before) ≡ Some past.done.reply)
+              (sym (take-push events event is.last.index (omega arith))) is.reply;
         }
 
     past-more : (c : ℕ) (past : Past) → IsPastCall M mix env events c past → IsPastCall M mix env more c past
     past-more c past is = record {
       began = slice_get-push events event past.begin (Begin c past.done.call) is.began;
+      answered = answered-more c past is.answered is.steps;
       steps = all_weaker _ _ (recorded-more c) past.steps is.steps;
     }
 
@@ -284,20 +322,25 @@ module _ (M : Type 0) (mix : ℕ → ℕ → ℕ → ℕ) (env : Env) where
         };
       }
 
+  -- before the last event the world is the one that the events before it leave
+  world_now : (events : List Event) (event : Event)
+      → ◌≡◌ {A = World M} (run_of mix env (take (R events).count (events ++ event ∷ []))) (R events).world
+  world_now events event =
+      ap (λ n. run_of {M = M} mix env (take n (events ++ event ∷ []))) (count-traced_of M mix env events)
+      ∙ ap (run_of {M = M} mix env) (take-push_all events event) ∙ sym (world-traced_of M mix env events)
+
+  -- the step of this operation that is made next
+  abbrev did_next : List Event → Op → Did
+  did_next events op = record { index = (R events).count; op = op; old = old_of (R events).world.core.words op }
+
   -- the step that is made at the last event
-  recorded-now : (events : List Event) (c : ℕ) (op : Op)
-      → planned (R events).world.core.enrolled (R events).world.core.locals c ≡ Some op
-      → IsRecorded M mix env (events ++ Step c ∷ []) c (record { index = (R events).count; op = op; old = old_of (R events).world.core.words op })
-  recorded-now events c op is =
-      let more = events ++ Step c ∷ [] in
-      let count = count-traced_of M mix env events in
-      let same : ◌≡◌ {A = World M} (run_of mix env (take (R events).count more)) (R events).world =
-      ap (λ n. run_of {M = M} mix env (take n more)) count ∙ ap (run_of {M = M} mix env) (take-push_all events (Step c)) ∙ sym (world-traced_of M mix env events) in
-      record {
-        event = ap (slice_get more) count ∙ slice_get-push_last events (Step c);
-        plan = subst (λ (w : World M). planned w.core.enrolled w.core.locals c ≡ Some op) (sym same) is;
-        found = ap (λ (w : World M). old_of w.core.words op) same;
-      }
+  recorded-now : (events : List Event) (c : ℕ) (op : Op) → planned_by c (R events).world ≡ Some op
+      → IsRecorded M mix env (events ++ Step c ∷ []) c (did_next events op)
+  recorded-now events c op is = record {
+    event = ap (slice_get (events ++ Step c ∷ [])) (count-traced_of M mix env events) ∙ slice_get-push_last events (Step c);
+    plan = subst (λ (w : World M). planned_by c w ≡ Some op) (sym (world_now events (Step c))) is;
+    found = ap (λ (w : World M). old_of w.core.words op) (world_now events (Step c));
+  }
 
   -- a call that goes on with this step
   goes_on : (events : List Event) (c : ℕ) (trace : Trace) (did : Did) (call : Call) → did.index ≡ length events
@@ -320,19 +363,24 @@ module _ (M : Type 0) (mix : ℕ → ℕ → ℕ → ℕ) (env : Env) where
   did-holds : (events : List Event) (c : ℕ) (call : Option Call) (trace : Trace) (did : Did) (reply : Option Reply) (book : Book)
       → book.call ≡ call
       → did.index ≡ length events → IsRecorded M mix env (events ++ Step c ∷ []) c did
-      → Holds events c call trace
+      → reply_of c (run_of mix env (take did.index (events ++ Step c ∷ []))) ≡ reply → Holds events c call trace
       → Holds (events ++ Step c ∷ []) c (book_after reply book).call (trace_did call did reply trace)
-  did-holds events c call trace did None book same is recorded holds =
+  did-holds events c call trace did None book same is recorded gives holds =
       let kept = holds-more events (Step c) c call trace holds in
-      let went = some_weaker (IsUnderWay events c trace) (IsUnderWay (events ++ Step c ∷ []) c (trace_did call did None trace)) (λ now way. goes_on events c trace did now is way) call holds.progress in
+      let went =
+      some_weaker (IsUnderWay events c trace)
+      (IsUnderWay (events ++ Step c ∷ []) c (trace_did call did None trace))
+      (λ now way. goes_on events c trace did now is way) call holds.progress in
       record {
         past = kept.past;
         in_order = kept.in_order;
         past_ends = kept.past_ends;
         steps = all_push _ trace.steps did kept.steps recorded;
-        progress = subst (λ (o : Option Call). IfSome o (IsUnderWay (events ++ Step c ∷ []) c (trace_did call did None trace))) (sym same) went;
+        progress =
+            subst (λ (o : Option Call). IfSome o (IsUnderWay (events ++ Step c ∷ []) c (trace_did call did None trace)))
+            (sym same) went;
       }
-  did-holds events c None trace did (Some reply) book same is recorded holds =
+  did-holds events c None trace did (Some reply) book same is recorded gives holds =
       let kept = holds-more events (Step c) c None trace holds in
       let none : trace.past ≡ trace.past ++ [] = sym (append-nil trace.past) in
       record {
@@ -342,7 +390,7 @@ module _ (M : Type 0) (mix : ℕ → ℕ → ℕ → ℕ) (env : Env) where
         steps = tt;
         progress = tt;
       }
-  did-holds events c (Some call) trace did (Some reply) book same is recorded holds =
+  did-holds events c (Some call) trace did (Some reply) book same is recorded gives holds =
       let kept = holds-more events (Step c) c (Some call) trace holds in
       let went = goes_on events c trace did call is holds.progress in
       let ended : Past = record {
@@ -351,7 +399,13 @@ module _ (M : Type 0) (mix : ℕ → ℕ → ℕ → ℕ) (env : Env) where
         steps = trace.steps ++ did ∷ [];
       } in
       record {
-        past = all_push _ trace.past ended kept.past record { began = went.is.began; steps = all_push _ trace.steps did kept.steps recorded };
+        past =
+            all_push _ trace.past ended kept.past
+            record {
+              began = went.is.began;
+              steps = all_push _ trace.steps did kept.steps recorded;
+              answered = record { before = trace.steps; last = did; steps_are = refl; reply = gives };
+            };
         in_order = AreInOrder-push 0 trace.past ended kept.in_order went.is.behind went.is.rising;
         past_ends = let last = behind_calls-push 0 trace.past ended in let ends = went.ends in omega arith;
         steps = tt;
@@ -364,7 +418,8 @@ module _ (M : Type 0) (mix : ℕ → ℕ → ℕ → ℕ) (env : Env) where
   step-holds : (events : List Event) (event : Event) → AllHold events
       → (c : ℕ)
       → Holds (events ++ event ∷ []) c ((traced_step mix (R events) event).world.books c).call ((traced_step mix (R events) event).traces c)
-  step-holds events Enroll each k = holds-more events Enroll k ((R events).world.books k).call ((R events).traces k) (each k)
+  step-holds events Enroll each k =
+      holds-more events Enroll k ((R events).world.books k).call ((R events).traces k) (each k)
   step-holds events (Begin c call) each k =
       let r : Traced M = R events in
       each_begun M mix r (λ j book trace. Holds (events ++ Begin c call ∷ []) j book.call trace)
@@ -377,14 +432,17 @@ module _ (M : Type 0) (mix : ℕ → ℕ → ℕ → ℕ) (env : Env) where
       let reply = (with_step mix r.world.core c op).1.reply in
       each_stepped M mix r (λ j book trace. Holds (events ++ Step c ∷ []) j book.call trace)
       (λ j. holds-more events (Step c) j (r.world.books j).call (r.traces j) (each j)) c op reply
-      (λ o is. did-holds events c (r.world.books c).call (r.traces c) (record { index = r.count; op = o; old = old_of r.world.core.words o }) reply (r.world.books c) refl
-      (count-traced_of M mix env events) (recorded-now events c o is) (each c)) k
+      (λ o is.
+      did-holds events c (r.world.books c).call (r.traces c) (did_next events o) reply (r.world.books c) refl
+      (count-traced_of M mix env events) (recorded-now events c o is) (ap (reply_of c) (world_now events (Step c))) (each c))
+      k
 
   all-hold : (events : List Event) → AllHold events
   all-hold = induct_by_last AllHold
       (λ c. record { past = tt; in_order = tt; past_ends = omega arith; steps = tt; progress = tt })
       (λ events event each c.
-      subst (λ (r : Traced M). Holds (events ++ event ∷ []) c (r.world.books c).call (r.traces c)) (sym (traced_of-push M mix env events event))
+      subst (λ (r : Traced M). Holds (events ++ event ∷ []) c (r.world.books c).call (r.traces c))
+      (sym (traced_of-push M mix env events event))
       (step-holds events event each c))
 
 pub at_events : (M : Type 0) (mix : ℕ → ℕ → ℕ → ℕ) → AtEvents M mix

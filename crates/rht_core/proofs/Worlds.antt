@@ -3,7 +3,7 @@
 -- else that holds of runs goes through these equations.
 use Rattle.std.proofs.Common.{◌≡◌, ◌≢◌, ℕ, ◌<◌, ◌≤◌, Bool, true, false, cond, ◌&&◌, nat_lt, List, [], ◌∷◌, ◌++◌, length, take, refl, sym, ap, ◌∙◌, subst, append_assoc}
 use Rattle.std.specs.Prelude.{Option, Some, None, slice_set}
-use Rattle.std.proofs.lemmas.Bool.{eq-eqb, ne_eqb, ltb-true, and_parts}
+use Rattle.std.proofs.lemmas.Bool.{eq-eqb, ne_eqb, ltb-true, lt-ltb, and_parts, and_from}
 use Rattle.std.proofs.lemmas.List.{append-nil, take-append-le, get_or-set_same, get_or-set_other}
 use Rattle.std.proofs.Math.Seq.{take-append_seam}
 use Rattle.rht_words.specs.declared.op.Op.{Op}
@@ -28,7 +28,8 @@ induct_along : (P : List Event → Type 0)
     → (past rest : List Event) → P past → P (past ++ rest)
 induct_along P more past [] p = subst P (sym (append-nil past)) p
 induct_along P more past (event ∷ rest) p =
-    subst P (append_assoc past (event ∷ []) rest) (induct_along P more (past ++ event ∷ []) rest (more past event p))
+    subst P (append_assoc past (event ∷ []) rest)
+    (induct_along P more (past ++ event ∷ []) rest (more past event p))
 
 -- what holds of no events, and of events with one more where it held of them, holds of all
 pub induct_by_last : (P : List Event → Type 0) → P []
@@ -54,7 +55,8 @@ IsAdmitted-append kind (event ∷ past) rest p q = (p.0, IsAdmitted-append kind 
 pub IsAdmitted-parts : (kind : Kind) (past rest : List Event) → IsAdmitted kind (past ++ rest)
     → IsAdmitted kind past × IsAdmitted kind rest
 IsAdmitted-parts kind [] rest p = (tt, p)
-IsAdmitted-parts kind (event ∷ past) rest p = let parts = IsAdmitted-parts kind past rest p.1 in ((p.0, parts.0), parts.1)
+IsAdmitted-parts kind (event ∷ past) rest p =
+    let parts = IsAdmitted-parts kind past rest p.1 in ((p.0, parts.0), parts.1)
 
 -- ---- books
 
@@ -74,7 +76,8 @@ cond_none false option a is = absurd (cc)
 
 module _ {M : Type 0} where
   -- who begins is enrolled and idle, and has a machine for the call
-  pub record CanBegin (env : Env) (enrolled : ℕ) (locals : List (Local M)) (c : ℕ) (call : Call) (machine : Local M) : Type 0 where
+  pub record CanBegin (env : Env) (enrolled : ℕ) (locals : List (Local M)) (c : ℕ) (call : Call) (machine : Local M)
+      : Type 0 where
     pub below : c < enrolled
     pub idle : is_idle (local_in locals c) ≡ true
     pub machine_is : machine_of env c call ≡ Some machine
@@ -82,9 +85,17 @@ module _ {M : Type 0} where
   pub beginning-some : (env : Env) (enrolled : ℕ) (locals : List (Local M)) (c : ℕ) (call : Call) (machine : Local M)
       → beginning env enrolled locals c call ≡ Some machine → CanBegin env enrolled locals c call machine
   beginning-some env enrolled locals c call machine is =
-      let parts = cond_none (nat_lt c enrolled && is_idle (local_in locals c)) (machine_of env c call) machine is in
+      let parts =
+      cond_none (nat_lt c enrolled && is_idle (local_in locals c)) (machine_of env c call) machine is in
       let both = and_parts (nat_lt c enrolled) (is_idle (local_in locals c)) parts.0 in
       record { below = ltb-true c enrolled both.0; idle = both.1; machine_is = parts.1 }
+
+  -- of who is enrolled and idle the machine alone says how it begins
+  pub beginning-idle : (env : Env) (enrolled : ℕ) (locals : List (Local M)) (c : ℕ) (call : Call) → c < enrolled
+      → is_idle (local_in locals c) ≡ true → beginning env enrolled locals c call ≡ machine_of env c call
+  beginning-idle env enrolled locals c call below idle =
+      ap (λ (v : Bool). cond v (machine_of env c call) None)
+      (and_from (nat_lt c enrolled) (is_idle (local_in locals c)) (lt-ltb c enrolled below) idle)
 
   -- who plans an operation is enrolled
   pub record CanStep (enrolled : ℕ) (locals : List (Local M)) (c : ℕ) (op : Op) : Type 0 where
@@ -96,6 +107,12 @@ module _ {M : Type 0} where
   planned-some enrolled locals c op is =
       let parts = cond_none (nat_lt c enrolled) (plan_of (local_in locals c)) op is in
       record { below = ltb-true c enrolled parts.0; plan = parts.1 }
+
+  -- of who is enrolled the local alone says what it plans
+  pub planned-enrolled : (enrolled : ℕ) (locals : List (Local M)) (c : ℕ) → c < enrolled
+      → planned enrolled locals c ≡ plan_of (local_in locals c)
+  planned-enrolled enrolled locals c below =
+      ap (λ (v : Bool). cond v (plan_of (local_in locals c)) None) (lt-ltb c enrolled below)
 
 -- ---- what an event does
 
@@ -135,7 +152,8 @@ module _ (M : Type 0) (mix : ℕ → ℕ → ℕ → ℕ) (w : World M) where
     pub begin_self : (machine : Local M) → beginning_in ≡ Some machine → c < length w.core.locals
         → seen (world_step mix w (Begin c call)) c ≡ seen_begin call machine (seen w c)
     begin_self machine is below =
-        let local : local_in (slice_set w.core.locals c machine) c ≡ machine = get_or-set_same w.core.locals c machine Idle below in
+        let local : local_in (slice_set w.core.locals c machine) c ≡ machine =
+        get_or-set_same w.core.locals c machine Idle below in
         let book : book_at w.books c (book_begun call (w.books c)) c ≡ book_begun call (w.books c) =
         book_at-same w.books c (book_begun call (w.books c)) in
         ap (λ o. seen (began_with o) c) is ∙ (λ i. pair (local i) (book i))
@@ -144,7 +162,8 @@ module _ (M : Type 0) (mix : ℕ → ℕ → ℕ → ℕ) (w : World M) where
     began_other : (k : ℕ) → k ≢ c → (machine : Option (Local M)) → seen (began_with machine) k ≡ seen w k
     began_other k other None = refl
     began_other k other (Some machine) =
-        let local : local_in (slice_set w.core.locals c machine) k ≡ local_of w.core k = get_or-set_other w.core.locals c k machine Idle other in
+        let local : local_in (slice_set w.core.locals c machine) k ≡ local_of w.core k =
+        get_or-set_other w.core.locals c k machine Idle other in
         let book : book_at w.books c (book_begun call (w.books c)) k ≡ w.books k =
         book_at-other w.books c (book_begun call (w.books c)) k other in
         (λ i. pair (local i) (book i))
@@ -178,7 +197,8 @@ module _ (M : Type 0) (mix : ℕ → ℕ → ℕ → ℕ) (w : World M) where
         → seen (world_step mix w (Step c)) c ≡ seen_step mix (old_of w.core.words op) (seen w c)
     step_self op is below =
         let next = local_after mix (local_of w.core c) (old_of w.core.words op) in
-        let local : local_in (slice_set w.core.locals c next.0) c ≡ next.0 = get_or-set_same w.core.locals c next.0 Idle below in
+        let local : local_in (slice_set w.core.locals c next.0) c ≡ next.0 =
+        get_or-set_same w.core.locals c next.0 Idle below in
         let book : book_at w.books c (book_after next.1 (w.books c)) c ≡ book_after next.1 (w.books c) =
         book_at-same w.books c (book_after next.1 (w.books c)) in
         ap (λ o. seen (stepped_with o) c) is ∙ (λ i. pair (local i) (book i))
@@ -188,7 +208,8 @@ module _ (M : Type 0) (mix : ℕ → ℕ → ℕ → ℕ) (w : World M) where
     stepped_other k other None = refl
     stepped_other k other (Some op) =
         let next = local_after mix (local_of w.core c) (old_of w.core.words op) in
-        let local : local_in (slice_set w.core.locals c next.0) k ≡ local_of w.core k = get_or-set_other w.core.locals c k next.0 Idle other in
+        let local : local_in (slice_set w.core.locals c next.0) k ≡ local_of w.core k =
+        get_or-set_other w.core.locals c k next.0 Idle other in
         let book : book_at w.books c (book_after next.1 (w.books c)) k ≡ w.books k =
         book_at-other w.books c (book_after next.1 (w.books c)) k other in
         (λ i. pair (local i) (book i))

@@ -1,5 +1,5 @@
 -- What holds of every run.
-use Rattle.std.specs.Prelude.{◌≡◌, ◌≢◌, ℕ, ◌+◌, ◌/◌, ◌%◌, ◌<◌, ◌≤◌, ◌⊎◌, List, [], ◌∷◌, ◌++◌, length, map, take, Option, Some, None, IfSome}
+use Rattle.std.specs.Prelude.{◌≡◌, ◌≢◌, ℕ, ◌+◌, ◌/◌, ◌%◌, ◌^◌, ◌<◌, ◌≤◌, ◌⊎◌, List, [], ◌∷◌, ◌++◌, length, map, take, Option, Some, None, IfSome}
 use Rattle.std.specs.List.{AllByRecursion, slice_get}
 use Rattle.std.specs.Int.{bit_at, bit_not, w64}
 use Rattle.rht_words.specs.declared.op.Op.{Op}
@@ -29,7 +29,7 @@ use Rattle.rht_core.specs.declared.event.Event.TheVariants.{Enroll, Begin, Step}
 use Rattle.rht_core.specs.declared.local.Local.{Local}
 use Rattle.rht_core.specs.declared.local.Local.TheVariants.{Idle, Finding, Binding}
 use Rattle.rht_core.specs.Locals.{plan_of, local_after}
-use Rattle.rht_core.specs.Runs.{Core, World, Seen, world_step, run_of, local_of, planned, book_begun, book_after, IsSound, IsAdmitted, IsAdmittedEvent}
+use Rattle.rht_core.specs.Runs.{Core, World, Seen, core_step, world_step, run_of, local_of, planned, seen, new_book, book_begun, book_after, IsSound, IsAdmitted, IsAdmittedEvent}
 use Rattle.rht_core.specs.Traces.{Did, Past, Trace, Traced, traced_of, behind_calls, IsRising, AreInOrder}
 
 -- ---- what one caller knows of itself, after an event of its own
@@ -57,7 +57,8 @@ IsFindPieceIn g find_at.CurrentTable = Unit {0}
 IsFindPieceIn g (find_at.Shape table) = Unit {0}
 IsFindPieceIn g (find_at.Seed table shape) = Unit {0}
 IsFindPieceIn g (find_at.Locking table lock) = IsBucketPlace g lock.place × IsEven lock.at
-IsFindPieceIn g (find_at.Walking table bucket walk) = IsBucketPlace g bucket.place × IsWalkInRange walk.geometry walk.before walk.at
+IsFindPieceIn g (find_at.Walking table bucket walk) =
+    IsBucketPlace g bucket.place × IsWalkInRange walk.geometry walk.before walk.at
 IsFindPieceIn g (find_at.Future table bucket) = IsBucketPlace g bucket.place
 IsFindPieceIn g (find_at.FirstOwner bucket node) = IsBucketPlace g bucket.place
 IsFindPieceIn g (find_at.ListLink bucket node owner) = IsBucketPlace g bucket.place
@@ -74,7 +75,8 @@ IsBindPieceIn g (bind_at.CurrentTable node) = Unit {0}
 IsBindPieceIn g (bind_at.Shape node table) = Unit {0}
 IsBindPieceIn g (bind_at.Seed node table shape) = Unit {0}
 IsBindPieceIn g (bind_at.Locking node table shape lock) = IsBucketPlace g lock.place × IsEven lock.at
-IsBindPieceIn g (bind_at.Walking table claimed walk) = IsBucketPlace g claimed.bucket.place × IsWalkInRange walk.geometry walk.before walk.at
+IsBindPieceIn g (bind_at.Walking table claimed walk) =
+    IsBucketPlace g claimed.bucket.place × IsWalkInRange walk.geometry walk.before walk.at
 IsBindPieceIn g (bind_at.FoundOwner claimed found) = IsBucketPlace g claimed.bucket.place
 IsBindPieceIn g (bind_at.Future table claimed) = IsBucketPlace g claimed.bucket.place
 IsBindPieceIn g (bind_at.Count claimed) = IsBucketPlace g claimed.bucket.place
@@ -174,12 +176,12 @@ pub record AnswersIn {M : Type 0} (env : Env) (c : ℕ) (local : Local M) (book 
 
 -- ---- traces
 
--- a trace's past calls are the finished ones of the book, and it has as many steps of the call in progress as the book counts
+-- a trace's past calls are the finished ones of the book, and the call in progress has as many steps in both
 pub record IsTraceOf (book : Book) (trace : Trace) : Type 0 where
   pub past : map (λ past. past.done) trace.past ≡ book.finished
   pub steps : length trace.steps ≡ book.steps
 
--- the call in progress began at its event, behind all events of the past ones, and its steps are in order behind its beginning
+-- the call in progress began at its event, behind all events of the past ones, and its steps come behind it in order
 pub record IsInProgress (events : List Event) (c : ℕ) (trace : Trace) (call : Call) : Type 0 where
   pub began : slice_get events trace.begin ≡ Some (Begin c call)
   pub behind : behind_calls 0 trace.past ≤ trace.begin
@@ -203,13 +205,14 @@ TakesNone g steps = AllByRecursion (IsNoTake g) steps
 -- one of the steps takes this node, and no other one takes any
 abbrev pub TakesOne : Geometry → ℕ → List Did → Type 0
 TakesOne g node [] = ⊥
-TakesOne g node (did ∷ steps) = (IsTake g node did.op did.old × TakesNone g steps) ⊎ (IsNoTake g did × TakesOne g node steps)
+TakesOne g node (did ∷ steps) =
+    (IsTake g node did.op did.old × TakesNone g steps) ⊎ (IsNoTake g did × TakesOne g node steps)
 
 -- one of the steps takes one of the nodes, and no other one takes any
 abbrev pub TakesOneOf : Geometry → List Did → Type 0
 TakesOneOf g steps = (node : ℕ) × (node < g.nodes) × TakesOne g node steps
 
--- a bind with this reply has taken one node; none where it was answered so
+-- a bind with this reply has taken one node; `NoNode` says that it has taken none
 abbrev pub IsTakenBy : Geometry → Reply → List Did → Type 0
 IsTakenBy g NoNode steps = TakesNone g steps
 IsTakenBy g _ steps = TakesOneOf g steps
@@ -221,7 +224,7 @@ IsTakenIn g _ reply steps = TakesNone g steps
 
 -- ---- the laws
 
--- the event is one of a caller that there is already
+-- the event is no enrolling
 abbrev pub IsOfCaller : Event → Type 0
 IsOfCaller Enroll = ⊥
 IsOfCaller (Begin c call) = Unit {0}
@@ -240,11 +243,15 @@ module _ (M : Type 0) (mix : ℕ → ℕ → ℕ → ℕ) where
 
   -- in every run all that callers name is in range
   abbrev pub InRange : Type 0
-  InRange = (env : Env) (events : List Event) → IsAdmitted env.config.kind events → IsInRange {M = M} env (run_of mix env events).core
+  InRange =
+      (env : Env) (events : List Event) → IsAdmitted env.config.kind events
+      → IsInRange {M = M} env (run_of mix env events).core
 
   -- an event leaves the word of the enrolled callers, and how many there are
   pub record IsEnrolledKept (before after : World M) : Type 0 where
-    pub word : word_at after.core.env.geometry after.core.words EnrolledCallers ≡ word_at before.core.env.geometry before.core.words EnrolledCallers
+    pub word :
+        word_at after.core.env.geometry after.core.words EnrolledCallers
+        ≡ word_at before.core.env.geometry before.core.words EnrolledCallers
     pub count : after.core.enrolled ≡ before.core.enrolled
 
   -- no event but an Enroll changes which callers are enrolled
@@ -253,6 +260,19 @@ module _ (M : Type 0) (mix : ℕ → ℕ → ℕ → ℕ) where
       (env : Env) (events : List Event) (event : Event)
       → IsAdmitted env.config.kind events → IsAdmittedEvent env.config.kind event → IsOfCaller event
       → IsEnrolledKept (run_of mix env events) (run_of mix env (events ++ event ∷ []))
+
+  -- in every run of a table whose seed has 32 bits each word has 64
+  abbrev pub WordsFit : Type 0
+  WordsFit =
+      (env : Env) (events : List Event) → env.config.seed < 2 ^ 32 → IsAdmitted env.config.kind events
+      → AllByRecursion (λ word. word < 2 ^ 64) (run_of {M = M} mix env events).core.words
+
+  -- in every run a caller that isn't enrolled is in no call and has made none
+  abbrev pub NotEnrolled : Type 0
+  NotEnrolled =
+      (env : Env) (events : List Event) → IsAdmitted env.config.kind events
+      → let w : World M = run_of mix env events in
+      (c : ℕ) → w.core.enrolled ≤ c → seen w c ≡ record { local = Idle; book = new_book }
 
   -- in every run each call that has ended has a reply of its kind
   abbrev pub Replies : Type 0
@@ -269,10 +289,12 @@ module _ (M : Type 0) (mix : ℕ → ℕ → ℕ → ℕ) where
 
   -- in every run the traces remember each call
   abbrev pub Remembers : Type 0
-  Remembers = (env : Env) (events : List Event) → IsAdmitted env.config.kind events → IsTraced env events (traced_of mix env events)
+  Remembers =
+      (env : Env) (events : List Event) → IsAdmitted env.config.kind events
+      → IsTraced env events (traced_of mix env events)
 
-  -- the step is one of the run's events; this caller planned its operation there, and it found its old value in the words
-  -- that the events before it leave
+  -- the step is one of the run's events; this caller planned its operation there, and it found its old
+  -- value in the words that the events before it leave
   pub record IsRecorded (env : Env) (events : List Event) (c : ℕ) (did : Did) : Type 0 where
     pub event : slice_get events did.index ≡ Some (Step c)
     pub plan :
@@ -280,10 +302,20 @@ module _ (M : Type 0) (mix : ℕ → ℕ → ℕ → ℕ) where
         planned core.enrolled core.locals c ≡ Some did.op
     pub found : old_of (run_of {M = M} mix env (take did.index events)).core.words did.op ≡ did.old
 
-  -- a past call began at its event, and so are its steps
+  -- a past call was answered at its last step
+  pub record IsAnsweredAt (env : Env) (events : List Event) (c : ℕ) (past : Past) : Type 0 where
+    pub before : List Did
+    pub last : Did
+    pub steps_are : past.steps ≡ before ++ last ∷ []
+    pub reply :
+        let core : Core M = (run_of mix env (take last.index events)).core in
+        (core_step mix core (Step c)).1.reply ≡ Some past.done.reply
+
+  -- a past call began at its event, its steps are recorded, and the last one answered it
   pub record IsPastCall (env : Env) (events : List Event) (c : ℕ) (past : Past) : Type 0 where
     pub began : slice_get events past.begin ≡ Some (Begin c past.done.call)
     pub steps : AllByRecursion (IsRecorded env events c) past.steps
+    pub answered : IsAnsweredAt env events c past
 
   -- all that a trace says stands in the run at its event; calls don't overlap, and steps are in order
   pub record IsTraceAt (env : Env) (events : List Event) (c : ℕ) (call : Option Call) (trace : Trace) : Type 0 where

@@ -83,7 +83,7 @@ module _ {M : Type 0} where
 
 -- ---- what is said of traces
 
--- The steps of a call stand in rising order of their events, from this event on
+-- the steps of a call stand in rising order of their events, from this event on
 abbrev pub IsRising : ℕ → List Did → Type 0
 IsRising from [] = Unit {0}
 IsRising from (did ∷ steps) = (from ≤ did.index) × IsRising (did.index + 1) steps

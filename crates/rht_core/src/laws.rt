@@ -1,12 +1,11 @@
 //! The laws of every run. Each function is empty, and its clause is the law.
 
-ghost use Rattle.rht_core.specs.Laws.{Extends, InRange, Enrolled, Replies, Remembers, AtEvents, TakenAlone};
+ghost use Rattle.rht_core.specs.Laws.{Extends, InRange, Enrolled, NotEnrolled, Replies, Remembers, AtEvents, TakenAlone, WordsFit};
 
 use rht_policy::Mix;
 
 /// A run followed by one more admitted event is a run, and its world is the old one changed by that
-/// event. So whatever is known of a run stays known while it goes on, event by event. It doesn't say
-/// that an event comes.
+/// event. So a run can be followed event by event. It doesn't say that an event comes.
 pub fn extends<M: Mix>()
     ensures { Extends M M.mix_of }
 {}
@@ -19,9 +18,23 @@ pub fn in_range<M: Mix>()
 {}
 
 /// No event but an `Enroll` changes the word of the enrolled callers, or how many there are. It
-/// doesn't say that the two agree: after 2^64 `Enroll`s the word has begun again.
+/// doesn't say that the two agree: the word counts on past the greatest number of callers, and begins
+/// again after 2^64 `Enroll`s.
 pub fn enrolled<M: Mix>()
     ensures { Enrolled M M.mix_of }
+{}
+
+/// In every run a caller that isn't enrolled is in no call and has made none, whatever number it has.
+/// It doesn't say that one that is enrolled has made a call.
+pub fn not_enrolled<M: Mix>()
+    ensures { NotEnrolled M M.mix_of }
+{}
+
+/// In every run each word has 64 bits, where the table's seed has 32. So what holds of words of 64 bits
+/// holds of what a caller finds. It wants admitted events, whose ports and owners have 32 bits, and
+/// says no more of a word.
+pub fn words_fit<M: Mix>()
+    ensures { WordsFit M M.mix_of }
 {}
 
 /// In every run each call that has ended has a reply of its kind, and no list came with it; and what
@@ -40,7 +53,8 @@ pub fn remembers<M: Mix>()
 /// In every run each step of a trace is one of the run's events: a step of that caller, whose
 /// operation it planned there, and which found its old value in the words that the events before it
 /// leave. Each call began at a `Begin` of it, its steps come behind that in the order of their events,
-/// and no two calls of one caller overlap. It says nothing of how the events of two callers lie.
+/// the last one answered it, and no two calls of one caller overlap. It says nothing of how the events
+/// of two callers lie.
 pub fn at_events<M: Mix>()
     ensures { AtEvents M M.mix_of }
 {}
