@@ -2,7 +2,7 @@
 -- or it has ended, and meets the model; and further steps of a caller that is idle change nothing.
 use Rattle.std.proofs.Common.{◌≡◌, ◌≢◌, ℕ, zero, suc, ◌+◌, ◌^◌, ◌<◌, ◌≤◌, List, [], ◌∷◌, ◌++◌, length, length-append, replicate, map, Option, Some, None, Bool, true, false, cond, refl, sym, ◌∙◌, ap, subst, inl, inr, ◌⊎◌, nat_lt, arith}
 use Rattle.std.proofs.lemmas.Bool.{ltb-true, lt-ltb}
-use Rattle.std.proofs.lemmas.List.{append_cancel_left, append_assoc}
+use Rattle.std.proofs.lemmas.List.{append_cancel_left, append_assoc, append-nil, replicate-append-replicate}
 use Rattle.rht_words.specs.declared.env.Env.{Env}
 use Rattle.rht_words.specs.declared.op.Op.{Op}
 use Rattle.rht_words.specs.declared.config.Kind.{Kind}
@@ -27,7 +27,7 @@ use Rattle.rht_core.specs.declared.book.Finished.{Finished}
 use Rattle.rht_core.specs.declared.local.Local.{Local}
 use Rattle.rht_core.specs.declared.local.Local.TheVariants.{Idle, Finding, Binding}
 use Rattle.rht_core.specs.Locals.{is_idle, machine_of, binding_of, plan_of, local_after, found_next, bound_next}
-use Rattle.rht_core.specs.Runs.{Core, World, Seen, seen, local_of, local_in, planned, beginning, world_step, run_of, opening, IsSound, IsAdmitted, book_after}
+use Rattle.rht_core.specs.Runs.{Core, World, Seen, seen, local_of, local_in, planned, beginning, world_step, run_of, opening, IsSound, IsAdmitted, IsAdmittedCall, book_after, finished_with}
 use Rattle.rht_core.specs.Laws.{seen_begin, seen_step}
 use Rattle.rht_core.specs.StandsFor.{stands_for}
 use Rattle.rht_core.specs.Alone.{MeetsModel, IsQuiet, bindings_at, call_events}
@@ -83,3 +83,225 @@ module _ (L : Type 0) (mix : ℕ → ℕ → ℕ → ℕ) (env : Env) (start : L
 
   abbrev Status : List Event → Type 0
   Status events = Going events ⊎ Ended events ⊎ Never events
+
+  abbrev next : List Event → List Event
+  next events = events ++ StepOf c ∷ []
+
+  -- the world after one more step, as its definition says
+  pushed : (events : List Event) → ◌≡◌ {A = World L} (world (next events)) (world_step mix (world events) (StepOf c))
+  pushed events = run_of-push L mix env events (StepOf c)
+
+  -- a step of a caller that is idle changes nothing
+  idle_plans_none : (events : List Event) → is_idle (local_of (world events).core c) ≡ true → planned (world events).core.enrolled (world events).core.locals c ≡ None
+  idle_plans_none events idle = by_test (λ t. cond t (plan_of (local_of (world events).core c)) None ≡ None) (nat_lt c (world events).core.enrolled)
+      (λ t. none (local_of (world events).core c) idle) (λ t. refl)
+    where
+      none : (local : Local L) → is_idle local ≡ true → ◌≡◌ {A = Option Op} (plan_of local) None
+      none Idle e = refl
+      none (Finding m) e = absurd (cc)
+      none (Binding m) e = absurd (cc)
+
+  same_world : (events : List Event) → is_idle (local_of (world events).core c) ≡ true → ◌≡◌ {A = World L} (world (next events)) (world events)
+  same_world events idle = pushed events ∙ step_none L mix (world events) c (idle_plans_none events idle)
+
+  ended_stays : (events : List Event) → Ended events → Ended (next events)
+  ended_stays events e =
+      let same = same_world events e.idle in
+      record {
+        reply = e.reply;
+        idle = ap (λ (w : World L). is_idle (local_of w.core c)) same ∙ e.idle;
+        past = ap (λ (w : World L). (w.books c).finished) same ∙ e.past;
+        meets = subst (λ (w : World L). MeetsModel kind before (stands_for env.geometry w.core.words) call e.reply) (sym same) e.meets;
+      }
+
+  never_stays : (events : List Event) → Never events → Never (next events)
+  never_stays events n =
+      let same = same_world events n.idle in
+      record {
+        idle = ap (λ (w : World L). is_idle (local_of w.core c)) same ∙ n.idle;
+        past = ap (λ (w : World L). (w.books c).finished) same ∙ n.past;
+      }
+
+  -- ---- a step of the call
+
+  module _ (events : List Event) (going : Going events) where
+    abbrev w : World L
+    w = world events
+
+    abbrev words : List ℕ
+    words = w.core.words
+
+    abbrev has : HasInv env mix L w.core
+    has = has_inv env mix L events
+
+    abbrev sound : IsSound w.core
+    sound = sound_in env mix L events
+
+    all : length words ≡ words_in env.geometry
+    all = subst (λ e. length words ≡ words_in e.geometry) has.inv.same_env sound.all_words
+
+    low : c < env.geometry.callers
+    low = subst (λ e. c < e.geometry.callers) has.inv.same_env (omega (arith, going.enrolled, sound.few_enrolled))
+
+    below : c < length w.core.locals
+    below = omega (arith, going.enrolled, sound.few_enrolled, sound.all_locals)
+
+    plans : (op : Op) → plan_of (local_of w.core c) ≡ Some op → planned w.core.enrolled w.core.locals c ≡ Some op
+    plans op is = ap (λ t. cond t (plan_of (local_of w.core c)) None) (lt-ltb c w.core.enrolled going.enrolled) ∙ is
+
+    -- the world after the operation, as its caller sees it
+    seen_after : (op : Op) → plan_of (local_of w.core c) ≡ Some op → ◌≡◌ {A = Seen L} (seen (world (next events)) c) (seen_step mix (old_of words op) (seen w c))
+    seen_after op is = ap (λ (v : World L). seen v c) (pushed events) ∙ step_self L mix w c op (plans op is) below
+
+    words_after : (op : Op) → plan_of (local_of w.core c) ≡ Some op → (world (next events)).core.words ≡ applied words op
+    words_after op is = ap (λ (v : World L). v.core.words) (pushed events) ∙ step_words L mix w c op (plans op is)
+
+    still_enrolled : (op : Op) → plan_of (local_of w.core c) ≡ Some op → c < (world (next events)).core.enrolled
+    still_enrolled op is = subst (λ (v : World L). c < v.core.enrolled) (sym (pushed events)) (rw (plans op is) going.enrolled)
+
+    -- the call goes on
+    goes_on : (op : Op) (local : Local L) → plan_of (local_of w.core c) ≡ Some op → local_after mix (local_of w.core c) (old_of words op) ≡ (local, None)
+        → IsDoing local → Agree (stands_for env.geometry (applied words op)) before → Status (next events)
+    goes_on op local is after doing agree =
+        let here = seen_after op is in
+        inl (record {
+          agree = subst (λ ws. Agree (stands_for env.geometry ws) before) (sym (words_after op is)) agree;
+          doing = subst IsDoing (sym (ap (λ (s : Seen L). s.local) here ∙ ap (λ p. p.0) after)) doing;
+          enrolled = still_enrolled op is;
+          book = ap (λ (s : Seen L). s.book.call) here ∙ ap (λ p. (book_after p.1 (w.books c)).call) after ∙ going.book;
+          past = ap (λ (s : Seen L). s.book.finished) here ∙ ap (λ p. (book_after p.1 (w.books c)).finished) after ∙ going.past;
+        })
+
+    -- the call ends
+    ends_now : (op : Op) (reply : Reply) → plan_of (local_of w.core c) ≡ Some op → ◌≡◌ {A = Local L × Option Reply} (local_after mix (local_of w.core c) (old_of words op)) (Idle, Some reply)
+        → MeetsModel kind before (stands_for env.geometry (applied words op)) call reply → Status (next events)
+    ends_now op reply is after meets =
+        let here = seen_after op is in
+        inr (inl (record {
+          reply = reply;
+          idle = ap (λ (s : Seen L). is_idle s.local) here ∙ ap (λ p. is_idle p.0) after;
+          past = ap (λ (s : Seen L). s.book.finished) here ∙ ap (λ p. (book_after p.1 (w.books c)).finished) after
+              ∙ ap (λ o. (w.books c).finished ++ finished_with o reply) going.book ∙ ap (λ f. f ++ done_with reply ∷ []) going.past;
+          meets = subst (λ ws. MeetsModel kind before (stands_for env.geometry ws) call reply) (sym (words_after op is)) meets;
+        }))
+
+    found_on : (m : FindModel) → local_of w.core c ≡ Finding m → (r : FindAt × Next Reply) → r ≡ find_at.after_at mix m.env m.port m.at (old_of words (find_plan m))
+        → (call ≡ calls.Find m.port) → FindAlone env before kind m.port r (applied words (find_plan m)) → Status (next events)
+    found_on m is (at, Go) r same alone =
+        goes_on (find_plan m) (Finding (record m { at = at })) (ap plan_of is)
+          (ap (λ l. local_after mix l (old_of words (find_plan m))) is ∙ ap (λ q. found_next (record m { at = q.0 }, q.1)) (sym r)) (same, alone.1) alone.0
+    found_on m is (at, Done reply) r same alone =
+        ends_now (find_plan m) reply (ap plan_of is)
+          (ap (λ l. local_after mix l (old_of words (find_plan m))) is ∙ ap (λ q. found_next (record m { at = q.0 }, q.1)) (sym r)) (rw same alone)
+
+    bound_on : (m : BindModel) → local_of w.core c ≡ Binding m → (r : BindAt × Next Reply) → r ≡ bind_at.after_at mix m.env m.port m.at (old_of words (bind_plan m))
+        → (call ≡ calls.Bind m.port m.owner m.once) → m.owner < 2 ^ 32 → kind ≡ Single → BindAlone env before (calls.Bind m.port m.owner m.once) r (applied words (bind_plan m)) → Status (next events)
+    bound_on m is (at, Go) r same small single alone =
+        goes_on (bind_plan m) (Binding (record m { at = at })) (ap plan_of is)
+          (ap (λ l. local_after mix l (old_of words (bind_plan m))) is ∙ ap (λ q. bound_next (record m { at = q.0 }, q.1)) (sym r)) (same, small, single, rw same alone.1) alone.0
+    bound_on m is (at, Done reply) r same small single alone =
+        ends_now (bind_plan m) reply (ap plan_of is)
+          (ap (λ l. local_after mix l (old_of words (bind_plan m))) is ∙ ap (λ q. bound_next (record m { at = q.0 }, q.1)) (sym r)) (subst (λ k. MeetsModel k before (stands_for env.geometry (applied words (bind_plan m))) call reply) (sym single) (subst (λ a. MeetsModel Single before (stands_for env.geometry (applied words (bind_plan m))) a reply) (sym same) alone))
+
+    going_on : Status (next events)
+    going_on = go (local_of w.core c) refl going.doing (has.inv.each c)
+      where
+        go : (local : Local L) → local_of w.core c ≡ local → IsDoing local → CallerKnows env mix L c local (mem env mix words) has.ghost → Status (next events)
+        go Idle is doing knows = absurd doing
+        go (Finding m) is doing knows =
+            found_on m is (find_at.after_at mix m.env m.port m.at (old_of words (find_plan m))) refl doing.0
+              (subst (λ e. FindAlone env before kind m.port (find_at.after_at mix e m.port m.at (old_of words (find_at.plan_at e m.at))) (applied words (find_at.plan_at e m.at))) (sym knows.0)
+                (find_alone env mix c m.port before words has.ghost all has.inv.whole low (home-within env mix m.port) going.agree kind m.at knows.1 doing.1))
+        go (Binding m) is doing knows =
+            bound_on m is (bind_at.after_at mix m.env m.port m.at (old_of words (bind_plan m))) refl doing.0 doing.1 doing.2
+              (subst (λ e. BindAlone env before (calls.Bind m.port m.owner m.once) (bind_at.after_at mix e m.port m.at (old_of words (bind_at.plan_at e m.port m.owner m.at))) (applied words (bind_at.plan_at e m.port m.owner m.at))) (sym knows.0)
+                (bind_alone env mix c m.port before words has.ghost all has.inv.whole low (home-within env mix m.port) going.agree m.owner m.once doing.1 m.at knows.1 (rw doing.0 at doing.3)))
+
+  -- each step keeps what there is to say
+  status_next : (events : List Event) → Status events → Status (next events)
+  status_next events (inl going) = going_on events going
+  status_next events (inr (inl ended)) = inr (inl (ended_stays events ended))
+  status_next events (inr (inr never)) = inr (inr (never_stays events never))
+
+  -- ---- the call from its beginning on
+
+  abbrev began : List Event
+  began = start ++ Begin c call ∷ []
+
+  pushed_begin : ◌≡◌ {A = World L} (world began) (world_step mix (world start) (Begin c call))
+  pushed_begin = run_of-push L mix env start (Begin c call)
+
+  -- a call whose numbers are in range begins with what its machine's first state says
+  first_doing : IsAdmittedCall call → (machine : Local L) → machine_of env c call ≡ Some machine → IsDoing machine
+  first_doing small machine is = go call refl small is
+    where
+      as_machine : (first : Local L) → ◌≡◌ {A = Option (Local L)} (Some first) (Some machine) → IsDoing first → IsDoing machine
+      as_machine first e doing = let same : first ≡ machine = (cc) in subst IsDoing same doing
+      bind_first : (port owner : ℕ) (once : Bool) → call ≡ calls.Bind port owner once → owner < 2 ^ 32 → (k : Kind) → kind ≡ k → binding_of env c port owner once k ≡ Some machine → IsDoing machine
+      bind_first port owner once e l Single s is = as_machine (Binding (bind_new env c port owner once)) is (e, l, s, tt)
+      bind_first port owner once e l Listed s is = absurd (cc)
+      go : (asked : Call) → call ≡ asked → IsAdmittedCall asked → machine_of env c asked ≡ Some machine → IsDoing machine
+      go (calls.Find port) e l is = as_machine (Finding (find_new env c port)) is (e, tt)
+      go (calls.Bind port owner once) e l is = bind_first port owner once e l.1 kind refl is
+      go (calls.All port) e l is = absurd (cc)
+      go (calls.Release port owner) e l is = absurd (cc)
+      go (calls.Rebind port owner new) e l is = absurd (cc)
+      go (calls.Walk from limit) e l is = absurd (cc)
+      go calls.Work e l is = absurd (cc)
+      go calls.Tidy e l is = absurd (cc)
+      go calls.Count e l is = absurd (cc)
+
+  first_status : IsQuiet L mix env start → IsAdmittedCall call → Status began
+  first_status quiet small = go (beginning w0.core.env w0.core.enrolled w0.core.locals c call) refl
+    where
+      w0 : World L
+      w0 = world start
+      go : (machine : Option (Local L)) → beginning (world start).core.env (world start).core.enrolled (world start).core.locals c call ≡ machine → Status began
+      go None is =
+          let same : ◌≡◌ {A = World L} (world began) (world start) = pushed_begin ∙ begin_none L mix (world start) c call is in
+          inr (inr (record {
+            idle = ap (λ (v : World L). is_idle (local_of v.core c)) same ∙ quiet c;
+            past = ap (λ (v : World L). (v.books c).finished) same;
+          }))
+      go (Some machine) is =
+          let can = beginning-some (world start).core.env (world start).core.enrolled (world start).core.locals c call machine is in
+          let sound = sound_in env mix L start in
+          let low : c < length (world start).core.locals = omega (arith, can.below, sound.few_enrolled, sound.all_locals) in
+          let here : ◌≡◌ {A = Seen L} (seen (world began) c) (seen_begin call machine (seen (world start) c))
+                = ap (λ (v : World L). seen v c) pushed_begin ∙ begin_self L mix (world start) c call machine is low in
+          let inv = (has_inv env mix L start).inv in
+          inl (record {
+            agree = λ port. ap (λ (v : World L). stands_for env.geometry v.core.words port) pushed_begin;
+            doing = subst IsDoing (sym (ap (λ (s : Seen L). s.local) here)) (first_doing small machine (rw (sym inv.same_env) can.machine_is));
+            enrolled = subst (λ (v : World L). c < v.core.enrolled) (sym pushed_begin) can.below;
+            book = ap (λ (s : Seen L). s.book.call) here;
+            past = ap (λ (s : Seen L). s.book.finished) here;
+          })
+
+  -- after so many steps
+  status_after : (count : ℕ) → IsQuiet L mix env start → IsAdmittedCall call → Status (began ++ replicate count (StepOf c))
+  status_after zero quiet small = subst Status (sym (append-nil began)) (first_status quiet small)
+  status_after (suc count) quiet small =
+      subst Status (append_assoc began (replicate count (StepOf c)) (StepOf c ∷ []) ∙ ap (λ l. began ++ l) (one_more count))
+        (status_next (began ++ replicate count (StepOf c)) (status_after count quiet small))
+    where
+      one_more : (n : ℕ) → replicate n (StepOf c) ++ StepOf c ∷ [] ≡ replicate (suc n) (StepOf c)
+      one_more n = replicate-append-replicate n 1 (StepOf c) ∙ ap (λ k. replicate k (StepOf c)) {x = n + 1} {y = suc n} (omega arith)
+
+  -- a call that has ended meets the model
+  pub meets_alone : (count : ℕ) (done : Finished) → IsQuiet L mix env start → IsAdmittedCall call
+      → ((world (start ++ call_events L mix c call count)).books c).finished ≡ old ++ done ∷ []
+      → MeetsModel kind before (bindings_at L mix env (start ++ call_events L mix c call count)) call done.reply
+  meets_alone count done quiet small is =
+      let same : began ++ replicate count (StepOf c) ≡ start ++ call_events L mix c call count = append_assoc start (Begin c call ∷ []) (replicate count (StepOf c)) in
+      go (subst Status same (status_after count quiet small))
+    where
+      after : List Event
+      after = start ++ call_events L mix c call count
+      go : Status (start ++ call_events L mix c call count) → MeetsModel kind before (bindings_at L mix env (start ++ call_events L mix c call count)) call done.reply
+      go (inl going) = let e : old ++ [] ≡ old ++ done ∷ [] = append-nil old ∙ sym going.past ∙ is in let q = append_cancel_left old [] (done ∷ []) e in absurd (cc)
+      go (inr (inl ended)) =
+          let e : done_with ended.reply ∷ [] ≡ done ∷ [] = append_cancel_left old (done_with ended.reply ∷ []) (done ∷ []) (sym ended.past ∙ is) in
+          let same : done_with ended.reply ≡ done = (cc) in
+          subst (λ r. MeetsModel kind before (bindings_at L mix env (start ++ call_events L mix c call count)) call r) (ap (λ f. f.reply) same) ended.meets
+      go (inr (inr never)) = let e : old ++ [] ≡ old ++ done ∷ [] = append-nil old ∙ sym never.past ∙ is in let q = append_cancel_left old [] (done ∷ []) e in absurd (cc)
