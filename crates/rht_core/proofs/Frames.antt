@@ -95,5 +95,6 @@ module _ (env : Env) (mix : ℕ → ℕ → ℕ → ℕ) where
   pub ArenaRight-frame : (M M' : Memory) (G G' : Ghost) → ((i : ℕ) → i < map_words env.geometry.nodes → M' (NodeMap i) ≡ M (NodeMap i)) → ((n : ℕ) → G'.node n ≡ G.node n)
       → ArenaRight env mix M G → ArenaRight env mix M' G'
   ArenaRight-frame M M' G G' words nodes right = record {
+    built = λ n. rw (nodes n) (right.built n);
     bits = λ n l. rw (words (n / 64) (omega arith)) (rw (nodes n) (right.bits n l));
   }

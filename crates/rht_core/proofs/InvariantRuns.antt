@@ -64,6 +64,7 @@ module _ (env : Env) (mix : ℕ → ℕ → ℕ → ℕ) where
       bound_to = λ port n behind b. absurd (cc);
     };
     arena = record {
+      built = λ n. tt;
       bits = λ n l. let free = (opens_free env).nodes n in
           rw (opened (NodeMap (n / 64)) (omega arith)) ((λ set. refl), (λ e. free.1 l));
     };

@@ -11,7 +11,7 @@ use Rattle.rht_words.proofs.Memory.{Memory, IsWrite}
 use Rattle.rht_words.proofs.Members.{In, NotIn, Distinct, not_in_from, count_below, count_below-more}
 use Rattle.rht_words.proofs.Segments.{IsSegment-members}
 use Rattle.rht_core.proofs.Ghosts.{put, put-same, put-other, put-all, Bucket, Owner, Free, Held, First, Ghost, lock_bit, is_first}
-use Rattle.rht_core.proofs.Wholes.{chain_of, key_of, home, place_at, OneTable, BucketRight, LockedRight, ChainedRight, IsFirstAt, IsBoundTo, Owned, ArenaRight, Whole, firsts, raisers}
+use Rattle.rht_core.proofs.Wholes.{chain_of, key_of, home, place_at, OneTable, BucketRight, LockedRight, ChainedRight, IsFirstAt, IsBoundTo, Owned, ArenaRight, IsBuilt, Whole, firsts, raisers}
 use Rattle.rht_core.proofs.Knowledge.{Rely, HasNode, NoKey, HoldsLock}
 use Rattle.rht_core.proofs.Frames.{Others, Made, OneTable-write, BucketRight-frame}
 use Rattle.rht_core.proofs.QuietMoves.{held_not_first, held_by_one}
@@ -145,6 +145,7 @@ module _ (env : Env) (mix : ℕ → ℕ → ℕ → ℕ) where
 
     linked_arena : ArenaRight env mix M' G'
     linked_arena = record {
+      built = put-all (λ k o. IsBuilt env mix o) G.node n (First here) tt (λ k ne. whole.arena.built k);
       bits = λ m l. rw (write.others (NodeMap (m / 64)) (omega arith) (λ e. cc))
           (put-all (λ k o. k < env.geometry.nodes → (bit_at (M (NodeMap (k / 64))) (k % 64) ≡ 1) ↔ (o ≡ Free)) G.node n (First here)
             (λ k. let old = whole.arena.bits n k in

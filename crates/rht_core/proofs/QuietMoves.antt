@@ -11,7 +11,7 @@ use Rattle.rht_words.specs.Places.{Address, CurrentTable, PortCount, Slot, SlotW
 use Rattle.rht_words.proofs.Memory.{Memory, IsWrite}
 use Rattle.rht_words.proofs.Members.{In, count_below, count_below-same, count_below-more, count_below-most}
 use Rattle.rht_core.proofs.Ghosts.{put, put-same, put-other, put-all, Bucket, Owner, Free, Held, First, Leaving, Behind, Taken, Gone, Ghost, lock_bit, is_first}
-use Rattle.rht_core.proofs.Wholes.{chain_of, key_of, home, place_at, OneTable, BucketRight, LockedRight, ChainedRight, Owned, ArenaRight, Whole, firsts, raisers}
+use Rattle.rht_core.proofs.Wholes.{chain_of, key_of, home, place_at, OneTable, BucketRight, LockedRight, ChainedRight, Owned, ArenaRight, IsBuilt, Whole, firsts, raisers}
 use Rattle.rht_core.proofs.Knowledge.{Rely, HasNode}
 use Rattle.rht_core.proofs.Frames.{Others, Made, OneTable-write, BucketRight-frame, ChainedRight-frame, SameFirsts, SameChains, Owned-frame, ArenaRight-frame}
 
@@ -178,11 +178,12 @@ module _ (env : Env) (mix : ℕ → ℕ → ℕ → ℕ) where
       (λ m l. put-all (λ i o. is_first o ≡ is_first (G.node i)) G.node n owner (not_first owner now ∙ sym (not_first (G.node n) was)) (λ i ne. refl) m)
 
   -- the bits after one of them was changed together with the owner of its node
-  reowned_bits : (i b value : ℕ) (owner : Owner) (M M' : Memory) (G : Ghost) → Whole env mix M G → IsBitIn env.geometry.nodes i b
+  reowned_bits : (i b value : ℕ) (owner : Owner) (M M' : Memory) (G : Ghost) → Whole env mix M G → IsBitIn env.geometry.nodes i b → IsBuilt env mix owner
       → IsWrite env.geometry M M' (NodeMap i) value
       → ((bit_at value b ≡ 1) ↔ (owner ≡ Free)) → ((k : ℕ) → k < 64 → k ≢ b → bit_at value k ≡ bit_at (M (NodeMap i)) k)
       → ArenaRight env mix M' (with_owner G (64 * i + b) owner)
-  reowned_bits i b value owner M M' G whole at write here others = record {
+  reowned_bits i b value owner M M' G whole at is_built write here others = record {
+    built = put-all (λ k o. IsBuilt env mix o) G.node (64 * i + b) owner is_built (λ k ne. whole.arena.built k);
     bits = λ m l. put-all (λ n o. n < env.geometry.nodes → (bit_at (M' (NodeMap (n / 64))) (n % 64) ≡ 1) ↔ (o ≡ Free)) G.node (64 * i + b) owner
         (λ k. let word : (64 * i + b) / 64 ≡ i = omega (arith, at.within) in
               let bit : (64 * i + b) % 64 ≡ b = omega (arith, at.within) in
@@ -198,12 +199,12 @@ module _ (env : Env) (mix : ℕ → ℕ → ℕ → ℕ) where
   }
 
   -- a write to a word of the node map, with a new owner of the node whose bit was changed
-  reowned : (i b value : ℕ) (owner : Owner) (M M' : Memory) (G : Ghost) → Whole env mix M G → IsBitIn env.geometry.nodes i b
+  reowned : (i b value : ℕ) (owner : Owner) (M M' : Memory) (G : Ghost) → Whole env mix M G → IsBitIn env.geometry.nodes i b → IsBuilt env mix owner
       → IsWrite env.geometry M M' (NodeMap i) value
       → ((j : ℕ) → G.node (64 * i + b) ≡ First j → ⊥) → ((j : ℕ) → owner ≡ First j → ⊥)
       → ((bit_at value b ≡ 1) ↔ (owner ≡ Free)) → ((k : ℕ) → k < 64 → k ≢ b → bit_at value k ≡ bit_at (M (NodeMap i)) k)
       → Whole env mix M' (with_owner G (64 * i + b) owner)
-  reowned i b value owner M M' G whole at write was now here others =
+  reowned i b value owner M M' G whole at is_built write was now here others =
       let n = 64 * i + b in
       let links : (m j : ℕ) → In m (G.bucket j).nodes → chain_of M' m ≡ chain_of M m
             = λ m j k. write.others (Node m ChainLink) (whole.owned.first_at m j (whole.owned.member j m k)).among (λ e. cc) in
@@ -215,7 +216,7 @@ module _ (env : Env) (mix : ℕ → ℕ → ℕ → ℕ) where
               keys = λ m j f. write.others (Node m KeyWord) (whole.owned.first_at m j f).among (λ e. cc);
               lists = λ m j f. write.others (Node m ListLink) (whole.owned.first_at m j f).among (λ e. cc);
             }) whole.owned;
-        arena = reowned_bits i b value owner M M' G whole at write here others;
+        arena = reowned_bits i b value owner M M' G whole at is_built write here others;
         counted = write.others PortCount tt (λ e. cc) ∙ whole.counted ∙ ap (λ x. x + raisers env mix G) (sym (reowned_firsts G n owner was now));
       }
 
@@ -234,6 +235,7 @@ module _ (env : Env) (mix : ℕ → ℕ → ℕ → ℕ) where
               (record { nodes = λ j. refl; firsts_before = λ m j f. f; firsts_after = λ m j f. f; bound = λ port. refl })
               (record { keys = λ m j f. first_word m j KeyWord f; lists = λ m j f. first_word m j ListLink f }) whole.owned;
           arena = record {
+            built = whole.arena.built;
             bits = λ n k. elim (cases_eq (n / 64) i) [
                 inl e ↦
                   let bit : bit_at (M' (NodeMap (n / 64))) (n % 64) ≡ bit_at (M (NodeMap (n / 64))) (n % 64)
@@ -264,7 +266,7 @@ module _ (env : Env) (mix : ℕ → ℕ → ℕ → ℕ) where
       let free : G.node n ≡ Free = (whole.arena.bits n at.below).0 (rw word (rw bit found)) in
       let was : (j : ℕ) → G.node n ≡ First j → ⊥ = λ j f. let e = sym free ∙ f in cc in
       (record {
-        whole = reowned i b (bit_and (M (NodeMap i)) (bit_not w64 (bit_of b))) (Held d) M M' G whole at write was (λ j f. cc)
+        whole = reowned i b (bit_and (M (NodeMap i)) (bit_not w64 (bit_of b))) (Held d) M M' G whole at tt write was (λ j f. cc)
             ((λ set. absurd (omega (arith, cleared_bit (M (NodeMap i)) b at.within, set))), (λ e. absurd (cc)))
             (λ k l ne. cleared_other (M (NodeMap i)) b k at.within l ne);
         others = λ c ne. record {
@@ -286,7 +288,7 @@ module _ (env : Env) (mix : ℕ → ℕ → ℕ → ℕ) where
       let b = n % 64 in
       let parts : 64 * i + b ≡ n = omega arith in
       let was : (j : ℕ) → G.node n ≡ First j → ⊥ = λ j f. held_not_first (G.node n) d j has.0 f in
-      let made = reowned i b (bit_or (M (NodeMap i)) (bit_of b)) Free M M' G whole (record { within = omega arith; below = omega (arith, has.1) }) write
+      let made = reowned i b (bit_or (M (NodeMap i)) (bit_of b)) Free M M' G whole (record { within = omega arith; below = omega (arith, has.1) }) tt write
             (λ j f. was j (ap G.node (sym parts) ∙ f)) (λ j f. cc)
             ((λ set. refl), (λ e. set_bit (M (NodeMap i)) b (omega arith)))
             (λ k l ne. set_other (M (NodeMap i)) b k (omega arith) ne) in

@@ -79,8 +79,16 @@ module _ (env : Env) (mix : ℕ → ℕ → ℕ → ℕ) where
     pub first_at : (n j : ℕ) → G.node n ≡ First j → IsFirstAt M G n j
     pub bound_to : (port n : ℕ) (behind : List ℕ) → G.bound port ≡ n ∷ behind → IsBoundTo M G port n behind
 
+  -- so far a node is free, with a caller, or in a chain
+  abbrev pub IsBuilt : Owner → Type 0
+  IsBuilt Free = Unit {0}
+  IsBuilt (Held c) = Unit {0}
+  IsBuilt (First j) = Unit {0}
+  IsBuilt _ = ⊥
+
   -- a node's bit is set exactly where nobody has the node
   pub record ArenaRight (M : Memory) (G : Ghost) : Type 0 where
+    pub built : (n : ℕ) → IsBuilt (G.node n)
     pub bits : (n : ℕ) → n < env.geometry.nodes → (bit_at (M (NodeMap (n / 64))) (n % 64) ≡ 1) ↔ (G.node n ≡ Free)
 
   -- the count of ports is the nodes in chains, and the callers that have raised it for a node that they haven't linked yet
