@@ -1,0 +1,2 @@
+-- a state that has just been opened is sound
+pub mod OpenedStates
