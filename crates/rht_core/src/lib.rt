@@ -6,11 +6,13 @@
 #![tactic(auto)]
 
 mod book;
+mod bound;
 mod event;
 mod local;
 mod state;
 
 pub use book::{Book, Finished};
+pub use bound::owners_of;
 pub use event::{Event, Stepped};
 pub use local::Local;
 pub use state::State;

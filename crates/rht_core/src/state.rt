@@ -115,7 +115,7 @@ fn idle_locals<M: Mix>(alloc: Global, callers: u32) -> Result<Vec<Local<M>>, All
     ensures { IfOk result (λ locals. locals.items ≡ replicate callers Idle) }
 {
     let mut locals = Vec::with_capacity(alloc, callers as usize)?;
-    for caller in 0..callers {
+    for _ in 0..callers {
         locals.push(Local::Idle)?;
     }
     Ok(locals)

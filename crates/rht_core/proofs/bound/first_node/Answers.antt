@@ -1,0 +1,25 @@
+use Rattle.std.proofs.Common.{sym, ◌∙◌, ap}
+use Rattle.std.specs.List.{find}
+use Rattle.rht_words.specs.Ports.{word_of}
+use Rattle.rht_core.specs.StandsFor.{table_nodes, has_key}
+use Rattle.rht_core.proofs.FirstNodes.{tables-here, tables-past, tables-none}
+use Rattle.rht_core.proofs.bound.first_node.Goals as goal
+
+pub returns-in_default-clause-first : goal.returns-in_default-clause-first
+returns-in_default-clause-first c = tables-none c.args.geometry c.args.words.now (word_of c.args.port) _ c.loop.next _ c.in_default.is c.loop.invariant.0
+
+pub returns-then-is_some-clause-first : goal.returns-then-is_some-clause-first
+returns-then-is_some-clause-first c =
+    let g = c.args.geometry in
+    let words = c.args.words.now in
+    let searched = c.first_in_table-found.ensures.first ∙ ap (λ key. find (has_key g words key) (table_nodes g words c.in-Some.table)) c.word_of.ensures in
+    tables-here g words (word_of c.args.port) 8 c.loop.counter c.loop.next c.in-Some.table _ c.in-Some.is c.loop-test.true c.loop.invariant.0 _ searched (sym c.is_some.ensures ∙ c.if-is_some.true)
+
+pub loop-preserved : goal.loop-preserved
+loop-preserved c =
+    let g = c.args.geometry in
+    let words = c.args.words.now in
+    let searched = c.first_in_table-found.ensures.first ∙ ap (λ key. find (has_key g words key) (table_nodes g words c.in-Some.table)) c.word_of.ensures in (
+      tables-past g words (word_of c.args.port) 8 c.loop.counter c.loop.next c.in-Some.table _ c.in-Some.is c.loop-test.true c.loop.invariant.0 _ searched c.future.result c.slot_of-next.result (sym c.is_some.ensures ∙ c.if-is_some.false) c.future.ensures.place c.slot_of-next.ensures.table,
+      c.slot_of-next.ensures.slot,
+    )
