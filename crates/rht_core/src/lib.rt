@@ -16,3 +16,6 @@ pub use bound::owners_of;
 pub use event::{Event, Stepped};
 pub use local::Local;
 pub use state::State;
+
+#[cfg(test)]
+mod tests;
