@@ -18,8 +18,8 @@ pub opening_words-more : (env : Env) (place word : ℕ) (words : List ℕ)
     → word ≡ opening_word env (address_at env.geometry place)
     → words ++ word ∷ [] ≡ map (λ p. opening_word env (address_at env.geometry p)) (range_with_len 0 (place + 1))
 opening_words-more env place word words before here =
-    let more = map-range_with_len_more (λ p. opening_word env (address_at env.geometry p)) 0 place place (omega arith) in
-    rw (before, here) (sym more)
+    let opening = λ (p : ℕ). opening_word env (address_at env.geometry p) in
+    rw (before, here) (sym (map-range_with_len_more opening 0 place place (omega arith)))
 
 module _ {M : Type 0} where
   -- what holds of an idle caller holds of so many

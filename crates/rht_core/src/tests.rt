@@ -235,6 +235,10 @@ fn only_enrolled_and_idle_callers_begin(rt: HostRuntime) -> Result<(), Fail> {
         let stepped = state.step(Event::Enroll);
         assert_eq!(rt; stepped, enroll(u64::from(enrolled)), "at {enrolled}");
     }
+    for caller in 2..4 {
+        begin(&rt, &mut state, caller, FIND_5);
+        assert_eq!(rt; state.step(Event::Step { caller }), NOTHING, "at {caller}");
+    }
     // An idle caller has no operation. A busy one keeps the call that it has.
     assert_eq!(rt; state.step(Event::Step { caller: 1 }), NOTHING);
     begin(&rt, &mut state, 1, FIND_5);

@@ -4,6 +4,8 @@ use Rattle.rht_core.proofs.bound.owners_of.Given as goal
 
 -- the owners so far, with those in what is left of the list, are all of them
 abbrev pub invariant-loop : goal.invariant-loop
-invariant-loop l =
-    (l.owners.items ++ owners_from l.geometry l.words (l.geometry.nodes - l.counter) l.next ≡ stands_for l.geometry l.words l.port)
-    × IfSome l.next (λ node. node < l.geometry.nodes)
+invariant-loop l = record {
+  all : l.owners.items ++ owners_from l.geometry l.words (l.geometry.nodes - l.counter) l.next
+      ≡ stands_for l.geometry l.words l.port;
+  within : IfSome l.next (λ node. node < l.geometry.nodes);
+}
