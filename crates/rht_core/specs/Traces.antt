@@ -1,5 +1,6 @@
 -- The steps of each call of a run, with the numbers of their events. Nothing that a caller does depends on them.
-use Rattle.std.specs.Prelude.{ℕ, ◌+◌, ◌==◌, if◌then◌else◌, Option, Some, None, List, [], ◌∷◌, ◌++◌, map}
+use Rattle.std.specs.Prelude.{◌≡◌, ℕ, ◌+◌, ◌<◌, ◌==◌, if◌then◌else◌, Option, Some, None, List, [], ◌∷◌, ◌++◌, length, map, take}
+use Rattle.std.specs.List.{AllByRecursion}
 use Rattle.rht_words.specs.declared.op.Op.{Op}
 use Rattle.rht_words.specs.declared.env.Env.{Env}
 use Rattle.rht_words.specs.Operations.{old_of}
@@ -9,7 +10,7 @@ use Rattle.rht_core.specs.declared.event.Event.{Event}
 use Rattle.rht_core.specs.declared.event.Event.TheVariants.{Enroll, Begin, Step}
 use Rattle.rht_core.specs.declared.book.Finished.{Finished}
 use Rattle.rht_core.specs.declared.local.Local.{Local}
-use Rattle.rht_core.specs.Runs.{World, opening, world_step, beginning, planned, core_step, finished_with}
+use Rattle.rht_core.specs.Runs.{World, opening, world_step, run_of, beginning, planned, core_step, finished_with, IsAdmitted}
 
 -- an operation of a run: the number of its event, counted from 0, and the word before it
 pub record Did : Type 0 where

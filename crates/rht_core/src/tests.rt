@@ -391,3 +391,46 @@ fn a_table_with_the_mixed_hash(rt: HostRuntime) -> Result<(), Fail> {
     assert_owners(&rt, rt.alloc(), &state, 6, &[])?;
     Ok(())
 }
+
+#[test]
+fn owners_in_words_that_no_run_gives(rt: HostRuntime) -> Result<(), Fail> {
+    let geometry = Geometry::new(8, 4, 1).ok_or("within limits")?;
+    let mut words = Vec::new(rt.alloc());
+    for _ in 0..geometry.words() {
+        words.push(0)?;
+    }
+    // Two tables of 4 buckets, which are each other's future.
+    let tables = [(24, 2), (26, 2), (56, 2 + 1_024), (58, 1)];
+    // Node 0 stands in the first table, and behind it on its list nodes 2 and 1.
+    let first = [
+        (315, 2),
+        (283, 5),
+        (284, 9),
+        (285, 6),
+        (292, 7),
+        (293, 4),
+        (288, 3),
+    ];
+    // Nodes 3 and 4 stand in a ring in the second table, and node 4 is behind itself on its list.
+    let second = [
+        (378, 8), // 314 + 64
+        (294, 10),
+        (295, 5),
+        (296, 1),
+        (298, 8),
+        (299, 6),
+        (300, 2),
+        (301, 10),
+    ];
+    for (place, value) in tables.iter().chain(&first).chain(&second) {
+        let word = words.get_mut(*place).ok_or("within the words")?;
+        *word = *value;
+    }
+    let cases: [(Port, &[u32]); 3] = [(5, &[9, 7, 3]), (6, &[2; 8]), (7, &[])];
+    for (port, want) in cases {
+        assert_eq!(rt; words.len(), geometry.words());
+        let owners = owners_of(rt.alloc(), geometry, words.as_slice(), port)?;
+        assert_eq!(rt; owners.as_slice(), want, "at {port}");
+    }
+    Ok(())
+}
