@@ -8,3 +8,6 @@
 mod bind;
 
 pub use bind::{Bind, BindAt, Claimed};
+
+#[cfg(test)]
+mod tests;

@@ -62,3 +62,7 @@ pub mod StepBindings
 pub mod AloneSteps
 -- one call alone meets the model
 pub mod AloneRuns
+-- going along links finds what the whole chain holds
+pub mod FirstNodes
+-- a state that has just been opened is sound
+pub mod OpenedStates

@@ -3,6 +3,7 @@ use Rattle.std.specs.Prelude.{◌≡◌, ℕ, ◌+◌, ◌^◌, ◌<◌, ◌≤�
 use Rattle.std.specs.List.{AllByRecursion}
 use Rattle.rht_words.specs.declared.op.Op.{Op}
 use Rattle.rht_words.specs.declared.op.Op.TheVariants.{Add}
+use Rattle.rht_words.specs.declared.config.Config.{Config}
 use Rattle.rht_words.specs.declared.env.Env.{Env}
 use Rattle.rht_words.specs.Operations.{old_of, applied}
 use Rattle.rht_words.specs.Places.{EnrolledCallers, place_of, words_in}
@@ -165,6 +166,11 @@ module _ {M : Type 0} where
   -- at opening nobody has enrolled
   abbrev pub opening_core : Env → Core M
   opening_core env = record { env = env; words = opening_words env; enrolled = 0; locals = replicate env.geometry.callers Idle }
+
+  -- it has just been opened with this config
+  pub record IsOpened (config : Config) (core : Core M) : Type 0 where
+    pub config_same : core.env.config ≡ config
+    pub core_same : core ≡ opening_core core.env
 
   abbrev pub opening : Env → World M
   opening env = record { core = opening_core env; books = λ _. new_book }

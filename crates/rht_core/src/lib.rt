@@ -6,12 +6,17 @@
 #![tactic(auto)]
 
 mod book;
+mod bound;
 mod event;
 pub mod laws;
 mod local;
 mod state;
 
 pub use book::{Book, Finished};
+pub use bound::owners_of;
 pub use event::{Event, Stepped};
 pub use local::Local;
 pub use state::State;
+
+#[cfg(test)]
+mod tests;

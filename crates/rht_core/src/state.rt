@@ -1,17 +1,21 @@
 //! One run on plain words, event by event.
 
-ghost use Rattle.std.specs.Prelude.{◌≡◌, ◌<◌, ◌≤◌, length, None};
+ghost use Rattle.std.specs.Prelude.{◌≡◌, ◌<◌, ◌≤◌, length, replicate, None, IfOk};
 ghost use Rattle.std.specs.List.{AllByRecursion};
 ghost use Rattle.rht_words.specs.Operations.{old_of, applied};
+ghost use Rattle.rht_words.specs.Opening.{opening_words};
 ghost use Rattle.rht_words.specs.Places.{words_in};
-ghost use Rattle.rht_core.specs.Runs.{core_step, local_of, begun, planned, with_step, enrolling, enrolled_after, has_done, IsSound};
+ghost use Rattle.rht_words.specs.Settled.{IsSettled};
+ghost use Rattle.rht_core.specs.Runs.{core_step, local_of, begun, planned, with_step, enrolling, enrolled_after, has_done, IsSound, IsOpened};
 ghost use Rattle.rht_core.specs.Locals.{IsLocalOf};
+ghost use Rattle.rht_core.specs.declared.local.Local.TheVariants.{Idle};
 
 use crate::event::{Event, Stepped};
 use crate::local::Local;
 use rht_model::Call;
 use rht_policy::Mix;
-use rht_words::{Env, Op, apply, places};
+use rht_words::{Config, Env, Op, apply, opening_word, places};
+use std::alloc::{AllocError, Global};
 use std::marker::Model;
 
 /// The words of a table and what each caller is doing.
@@ -40,6 +44,22 @@ const NOTHING: Stepped = Stepped {
 };
 
 impl<M: Mix> State<M> {
+    /// A table that has just been opened, of which nobody is a caller yet. It takes all memory
+    /// that the state ever needs, and the one refusal is want of it. The kernel's counterpart is
+    /// `rhashtable_init`.
+    pub fn open(alloc: Global, config: Config) -> Result<State<M>, AllocError>
+        requires { IsSettled config }
+        ensures { IfOk result (IsOpened config) }
+    {
+        let env = Env::new(config);
+        Ok(State {
+            env,
+            words: opening_words(alloc, env)?,
+            enrolled: 0,
+            locals: idle_locals(alloc, env.geometry.callers)?,
+        })
+    }
+
     /// Performs the event. It takes no memory and refuses nothing.
     pub fn step(&mut self, event: Event) -> Stepped
         ensures { (self.new, result) ≡ core_step M.mix_of self.old event }
@@ -76,6 +96,29 @@ impl<M: Mix> State<M> {
     {
         &self.locals[caller as usize]
     }
+}
+
+/// All words at opening.
+fn opening_words(alloc: Global, env: Env) -> Result<Vec<u64>, AllocError>
+    ensures { IfOk result (λ words. words.items ≡ opening_words env) }
+{
+    let count = env.geometry.words();
+    let mut words = Vec::with_capacity(alloc, count)?;
+    for place in 0..count {
+        words.push(opening_word(env, place))?;
+    }
+    Ok(words)
+}
+
+/// So many callers, none of which is in a call.
+fn idle_locals<M: Mix>(alloc: Global, callers: u32) -> Result<Vec<Local<M>>, AllocError>
+    ensures { IfOk result (λ locals. locals.items ≡ replicate callers Idle) }
+{
+    let mut locals = Vec::with_capacity(alloc, callers as usize)?;
+    for _ in 0..callers {
+        locals.push(Local::Idle)?;
+    }
+    Ok(locals)
 }
 
 /// One more caller, where there may be one more.

@@ -8,3 +8,6 @@
 mod find;
 
 pub use find::{Find, FindAt};
+
+#[cfg(test)]
+mod tests;

@@ -1,0 +1,109 @@
+//! The machine alone, told old values by hand. In a table of 8 nodes and 4 pages node n is from
+//! 282 + 4 * n on, slot t from 24 + 32 * t on, and the pages from 314 on.
+
+use super::Find;
+use rht_model::Reply;
+use rht_policy::Low;
+use rht_words::{Config, Env, Hash, Kind, Next, Op};
+use std::process::Abort;
+
+const CONFIG: Config = Config {
+    kind: Kind::Listed,
+    nodes: 8,
+    pages: 4,
+    callers: 1,
+    hint: 0,
+    min: 4,
+    max: 0,
+    seed: 1,
+    rewalks: 1,
+    hash: Hash::Low,
+    shrink: false,
+};
+
+fn load(place: usize) -> Op {
+    Op::Load { place }
+}
+
+fn store(place: usize, value: u64) -> Op {
+    Op::Store { place, value }
+}
+
+fn lock(place: usize, old: u64) -> Op {
+    Op::Exchange {
+        place,
+        old,
+        new: old.saturating_add(1),
+    }
+}
+
+/// A look-up of port 5 performs these operations, which find these words. The last one has this
+/// reply.
+fn assert_find(rt: &impl Abort, lines: &[(Op, u64)], reply: Reply) {
+    assert!(rt; CONFIG.is_settled());
+    let mut find = Find::<Low>::new(Env::new(CONFIG), 0, 5);
+    for (i, (op, old)) in lines.iter().enumerate() {
+        let next = if i + 1 == lines.len() {
+            Next::Done(reply)
+        } else {
+            Next::Go
+        };
+        assert_eq!(rt; find.plan(), *op, "at {i} to {reply:?}");
+        assert_eq!(rt; find.take(*old), next, "at {i} to {reply:?}");
+    }
+}
+
+#[test]
+fn a_look_up_goes_through_its_states(rt: HostRuntime) {
+    // Node 1 has another key, node 0 the first owner and node 2 the second one.
+    let found = [
+        (load(0), 0),
+        (load(24), 6), // 64 buckets from page 0 on
+        (load(25), 1),
+        (load(319), 4), // 314 + 5
+        (lock(319, 4), 4),
+        (load(287), 69),
+        (load(286), 2),
+        (load(283), 5),
+        (load(284), 9),
+        (load(285), 6),
+        (load(292), 7),
+        (load(293), 0),
+        (store(319, 4), 5),
+    ];
+    assert_find(&rt, &found, Reply::Found { owner: 9 });
+    // The lock is waited for, and lost once. Node 0 has another key, and the link behind it is one
+    // to a ninth node, which ends the chain. The future table is in slot 2.
+    let missing = [
+        (load(0), 0),
+        (load(24), 6),
+        (load(25), 1),
+        (load(319), 3),
+        (load(319), 2),
+        (lock(319, 2), 3),
+        (load(319), 2),
+        (lock(319, 2), 2),
+        (load(283), 69),
+        (load(282), 18),
+        (load(26), 3),
+        (store(319, 2), 3),
+        (load(88), 2_055), // 7 + 1024 * 2: 128 buckets from page 2 on
+        (load(89), 2),
+        (load(447), 0), // 314 + 64 * 2 + 5
+        (lock(447, 0), 0),
+        (load(90), 0),
+        (store(447, 0), 1),
+    ];
+    assert_find(&rt, &missing, Reply::Missing);
+    // A current table past the eighth slot is read as the eighth, and a ninth one has no future.
+    let strange = [
+        (load(0), 12),
+        (load(248), 6), // 24 + 32 * 7
+        (load(249), 1),
+        (load(319), 0),
+        (lock(319, 0), 0),
+        (load(250), 9),
+        (store(319, 0), 1),
+    ];
+    assert_find(&rt, &strange, Reply::Missing);
+}
