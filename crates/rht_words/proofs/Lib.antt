@@ -12,3 +12,7 @@ pub mod LinksRead
 pub mod LowestBits
 -- what a shape is read as is a size
 pub mod ShapeSizes
+-- what is kept step by step holds at a machine's end
+pub mod MachineRuns
+-- what the lowest set bit of a map's word says of the others
+pub mod FreeBits

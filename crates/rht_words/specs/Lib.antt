@@ -18,3 +18,7 @@ pub mod Shapes
 pub mod Laws
 -- the bits of the maps of nodes and pages
 pub mod Maps
+-- what comes of a machine that is told one old value after another
+pub mod Machines
+-- the nodes to which a row of links leads
+pub mod Chains
