@@ -1,8 +1,18 @@
--- Chains: rows of nodes, each leading to the next one.
+-- Chains: rows of nodes, each of which leads to the next one.
 use Rattle.std.specs.Prelude.{◌≡◌, ℕ, List, [], ◌∷◌}
+use Rattle.rht_words.specs.declared.geometry.Geometry.{Geometry}
 use Rattle.rht_words.specs.Links.{link_of}
+use Rattle.rht_words.specs.Places.{Node, ChainLink, KeyWord, word_at}
 
--- from this link on lie these nodes, in order, and behind them the link `stop`, where `chain` says each node's link
+-- the link behind each node, and its key word
+abbrev pub chain_in : Geometry → List ℕ → ℕ → ℕ
+chain_in g words node = word_at g words (Node node ChainLink)
+
+abbrev pub key_in : Geometry → List ℕ → ℕ → ℕ
+key_in g words node = word_at g words (Node node KeyWord)
+
+-- From this link on lie these nodes, in order, and behind the last one is the link `stop`. `chain` says what link is
+-- behind each node.
 abbrev pub IsSegment : (ℕ → ℕ) → ℕ → List ℕ → ℕ → Type 0
 IsSegment chain link [] stop = link ≡ stop
 IsSegment chain link (node ∷ nodes) stop = (link ≡ link_of node) × IsSegment chain (chain node) nodes stop

@@ -1,0 +1,60 @@
+-- What the machines that change chains rely on.
+use Rattle.std.specs.Prelude.{◌≡◌, ℕ, ◌+◌, ◌%◌, ◌^◌, ◌<◌, ◌==◌, Bool, Option, None, Some, List, length}
+use Rattle.std.specs.List.{All, find, before_first, last_or}
+use Rattle.rht_words.specs.declared.op.Op.TheVariants.{Exchange}
+use Rattle.rht_words.specs.declared.machine.Next.{Next}
+use Rattle.rht_words.specs.declared.machine.Next.TheVariants.{Go, Done}
+use Rattle.rht_words.specs.declared.machine.Start.{Start}
+use Rattle.rht_words.specs.declared.machine.Start.TheVariants as starts
+use Rattle.rht_words.specs.declared.geometry.Geometry.{Geometry}
+use Rattle.rht_words.specs.Links.{head_of, node_of, link_of}
+use Rattle.rht_words.specs.Operations.{word_after}
+use Rattle.rht_words.specs.Chains.{IsSegment, chain_in, key_in}
+use Rattle.rht_words.specs.Machines.{EndsAlone}
+use Rattle.rht_chain.specs.declared.locked_walk.Seen.{Seen}
+use Rattle.rht_chain.specs.Lock.{LockModel, lock_plan, lock_after, IsEven}
+use Rattle.rht_chain.specs.LockedWalk.{LockedWalkModel, locked_walk_new, locked_walk_plan, locked_walk_after, not_found}
+
+-- the operation was an exchange that locked this word, which is even
+pub record IsLocked (m : LockModel) (word old : ℕ) : Type 0 where
+  pub exchange : lock_plan m ≡ Exchange m.place word (word + 1)
+  pub found : old ≡ word
+  pub even : word % 2 ≡ 0
+  pub locks : word_after old (lock_plan m) ≡ word + 1
+
+-- what the operation did, by what the machine says after it: until it answers it leaves the word as it is
+abbrev pub DidAsItSays : LockModel → ℕ → Next ℕ → Type 0
+DidAsItSays m old Go = word_after old (lock_plan m) ≡ old
+DidAsItSays m old (Done word) = IsLocked m word old
+
+-- a lock is taken by an exchange from an even word alone
+abbrev pub LocksEvenWords : Type 0
+LocksEvenWords = (m : LockModel) (old : ℕ) → IsEven m.at → DidAsItSays m old (lock_after m old).1
+
+-- whether the node has this key
+abbrev pub has_key : (ℕ → ℕ) → ℕ → ℕ → Bool
+has_key key_of key node = key_of node == key
+
+-- what is seen where these nodes are passed, and where then the key is found or the chain ends with this link
+abbrev pub seen_behind : List ℕ → ℕ → Option ℕ → Seen
+seen_behind passed stop None = not_found (last_or None passed) (length passed) stop
+seen_behind passed stop (Some node) = record { found = Some node; before = last_or None passed; length = length passed + 1; end = link_of node }
+
+-- what is to be seen of a chain of these nodes: its first node with the key, and those before it
+abbrev pub seen_in : (ℕ → ℕ) → ℕ → List ℕ → ℕ → Seen
+seen_in key_of key nodes stop = seen_behind (before_first (has_key key_of key) nodes) stop (find (has_key key_of key) nodes)
+
+-- where nobody else changes these words, the walk has seen this at its end, and has changed no word
+abbrev pub EndsWith : List ℕ → Seen → Start LockedWalkModel Seen → Type 0
+EndsWith words seen (starts.Running walk) = EndsAlone locked_walk_plan locked_walk_after walk words seen words
+EndsWith words seen (starts.Done at_once) = at_once ≡ seen
+
+-- whatever words there are: of a chain that ends with a link to no node, a walk sees what is to be seen
+abbrev pub WalksSeeTheirChain : Type 0
+WalksSeeTheirChain =
+    (g : Geometry) (words : List ℕ) (place word key : ℕ) (nodes : List ℕ) (stop : ℕ)
+    → IsSegment (chain_in g words) (head_of place word) nodes stop
+    → All (λ node. node < g.nodes) nodes
+    → node_of g.nodes stop ≡ None
+    → length nodes < 2 ^ 32
+    → EndsWith words (seen_in (key_in g words) key nodes stop) (locked_walk_new g place word key)
