@@ -1,5 +1,5 @@
 -- What the machines that change chains rely on.
-use Rattle.std.specs.Prelude.{◌≡◌, ℕ, ◌+◌, ◌%◌, ◌^◌, ◌<◌, ◌==◌, Bool, Option, None, Some, List, length}
+use Rattle.std.specs.Prelude.{◌≡◌, ◌≢◌, ℕ, ◌+◌, ◌*◌, ◌%◌, ◌^◌, ◌<◌, ◌==◌, Bool, Option, None, Some, List, ◌++◌, length}
 use Rattle.std.specs.List.{All, find, before_first, last_or}
 use Rattle.rht_words.specs.declared.op.Op.TheVariants.{Exchange}
 use Rattle.rht_words.specs.declared.machine.Next.{Next}
@@ -7,13 +7,15 @@ use Rattle.rht_words.specs.declared.machine.Next.TheVariants.{Go, Done}
 use Rattle.rht_words.specs.declared.machine.Start.{Start}
 use Rattle.rht_words.specs.declared.machine.Start.TheVariants as starts
 use Rattle.rht_words.specs.declared.geometry.Geometry.{Geometry}
-use Rattle.rht_words.specs.Links.{head_of, node_of, link_of}
-use Rattle.rht_words.specs.Operations.{word_after}
-use Rattle.rht_words.specs.Chains.{IsSegment, chain_in, key_in}
+use Rattle.rht_words.specs.Links.{head_of, plain_of, node_of, link_of}
+use Rattle.rht_words.specs.Places.{Address, PageWord, Node, ChainLink, IsAddress, place_of, words_in, word_at}
+use Rattle.rht_words.specs.Operations.{word_after, applied}
+use Rattle.rht_words.specs.Chains.{IsSegment, IsDistinct, HasChain, chain_in, key_in}
 use Rattle.rht_words.specs.Machines.{EndsAlone}
 use Rattle.rht_chain.specs.declared.locked_walk.Seen.{Seen}
 use Rattle.rht_chain.specs.Lock.{LockModel, lock_plan, lock_after, IsEven}
 use Rattle.rht_chain.specs.LockedWalk.{LockedWalkModel, locked_walk_new, locked_walk_plan, locked_walk_after, not_found}
+use Rattle.rht_chain.specs.Relink.{RelinkModel, relink_new, relink_plan, relink_after}
 
 -- the operation was an exchange that locked this word, which is even
 pub record IsLocked (m : LockModel) (word old : ℕ) : Type 0 where
@@ -58,3 +60,44 @@ WalksSeeTheirChain =
     → node_of g.nodes stop ≡ None
     → length nodes < 2 ^ 32
     → EndsWith words (seen_in (key_in g words) key nodes stop) (locked_walk_new g place word key)
+
+-- A bucket is locked, whose word was this one, and is to get another chain: these of its nodes stay, and behind them
+-- come those to which the link leads.
+pub record CanRelink (g : Geometry) (words : List ℕ) (index word : ℕ) (kept : List ℕ) (link : ℕ) (behind : List ℕ) (stop : ℕ) : Type 0 where
+  pub whole : length words ≡ words_in g
+  pub bucket : index < 64 * g.pages
+  pub even : word % 2 ≡ 0
+  pub locked : word_at g words (PageWord index) ≡ word + 1
+  pub middle : ℕ
+  pub front : HasChain g words index kept middle
+  pub rest : IsSegment (chain_in g words) link behind stop
+  pub within : All (λ node. node < g.nodes) (kept ++ behind)
+  pub distinct : IsDistinct (kept ++ behind)
+  pub comes_back : head_of (place_of g (PageWord index)) (plain_of (place_of g (PageWord index)) stop) ≡ stop
+
+-- the machine that changes the link behind the last node that stays
+abbrev pub relinking : Geometry → ℕ → ℕ → List ℕ → ℕ → RelinkModel
+relinking g index word kept link = relink_new g (place_of g (PageWord index)) word (last_or None kept) link
+
+-- the words have the bucket's new chain
+abbrev pub HasNewChain : Geometry → List ℕ → ℕ → List ℕ → List ℕ → ℕ → Type 0
+HasNewChain g words index kept behind stop = HasChain g words index (kept ++ behind) stop
+
+-- With its first operation the bucket has the new chain. At the end it has it, is unlocked, and no other word was
+-- changed than the bucket's and the link behind the last node that stays.
+pub record IsRelinked (g : Geometry) (words : List ℕ) (index : ℕ) (kept behind : List ℕ) (stop : ℕ) (m : RelinkModel) : Type 0 where
+  pub at_once : HasNewChain g (applied words (relink_plan m)) index kept behind stop
+  pub left : List ℕ
+  pub ends : EndsAlone relink_plan (λ machine old. relink_after machine) m words tt left
+  pub chain : HasNewChain g left index kept behind stop
+  pub unlocked : word_at g left (PageWord index) % 2 ≡ 0
+  pub others :
+      (other : Address) → IsAddress g other → other ≢ PageWord index → ((last : ℕ) → last_or None kept ≡ Some last → other ≢ Node last ChainLink)
+      → word_at g left other ≡ word_at g words other
+
+-- by one store a locked bucket gets another chain
+abbrev pub RelinksChains : Type 0
+RelinksChains =
+    (g : Geometry) (words : List ℕ) (index word : ℕ) (kept : List ℕ) (link : ℕ) (behind : List ℕ) (stop : ℕ)
+    → CanRelink g words index word kept link behind stop
+    → IsRelinked g words index kept behind stop (relinking g index word kept link)

@@ -1,6 +1,6 @@
 //! What the machines that change chains rely on. Each function is empty, and its clause is the law.
 
-ghost use Rattle.rht_chain.specs.Laws.{LocksEvenWords, WalksSeeTheirChain};
+ghost use Rattle.rht_chain.specs.Laws.{LocksEvenWords, WalksSeeTheirChain, RelinksChains};
 
 /// A lock is taken by an exchange from an even word alone.
 pub fn locks_even_words()
@@ -10,4 +10,9 @@ pub fn locks_even_words()
 /// A walk sees the first node with its key, the node before it, and how many keys it has loaded.
 pub fn walks_see_their_chain()
     ensures { WalksSeeTheirChain }
+{}
+
+/// One store gives a locked bucket another chain.
+pub fn relinks_chains()
+    ensures { RelinksChains }
 {}

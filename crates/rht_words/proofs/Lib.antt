@@ -16,3 +16,5 @@ pub mod ShapeSizes
 pub mod MachineRuns
 -- what the lowest set bit of a map's word says of the others
 pub mod FreeBits
+-- how segments of chains are cut and joined, and what a store to one link does to them
+pub mod ChainLemmas
