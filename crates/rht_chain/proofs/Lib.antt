@@ -1,6 +1,10 @@
 -- a lock is taken by an exchange from an even word alone
 pub mod LocksTaken
+-- what is to be seen of a chain is its first node with the key
+pub mod FirstNodes
 -- a walk sees of its chain what is to be seen
 pub mod WalksSeen
 -- one store gives a locked bucket another chain
 pub mod ChainsRelinked
+-- what is worked out from a list of nodes is what is to be seen of them
+pub mod ChainsWorkedOut

@@ -1,11 +1,11 @@
 -- A walk sees of its chain what is to be seen.
 --
 -- By induction over the nodes that are left. What was passed so far is known by its last node and its number alone.
-use Rattle.std.proofs.Common.{◌≡◌, ℕ, ◌+◌, ◌^◌, ◌<◌, List, [], ◌∷◌, length, Option, Some, None, suc, take, Bool, false, inl, inr, refl, sym, ap, ◌∙◌, subst, arith}
+use Rattle.std.proofs.Common.{◌≡◌, ℕ, ◌+◌, ◌^◌, ◌<◌, List, [], ◌∷◌, length, Option, Some, None, Bool, false, inl, inr, sym, ap, ◌∙◌, subst, arith}
 use Rattle.std.proofs.lemmas.Bool.{cases_Bool}
 use Rattle.std.proofs.lemmas.List.{set-get_or}
 use Rattle.std.proofs.lemmas.List.Elements.{All-head, All-tail}
-use Rattle.std.specs.List.{All, find, before_first, position_or_len, last_or}
+use Rattle.std.specs.List.{All, find, before_first, last_or}
 use Rattle.rht_words.specs.declared.machine.Next.TheVariants.{Go, Done}
 use Rattle.rht_words.specs.declared.geometry.Geometry.{Geometry}
 use Rattle.rht_words.specs.Links.{head_of, node_of, link_of}
@@ -19,6 +19,7 @@ use Rattle.rht_chain.specs.declared.locked_walk.Seen.{Seen}
 use Rattle.rht_chain.specs.declared.locked_walk.LockedWalkAt.{LockedWalkAt}
 use Rattle.rht_chain.specs.declared.locked_walk.LockedWalkAt.TheVariants as at
 use Rattle.rht_chain.specs.LockedWalk.{LockedWalkModel, locked_walk_plan, locked_walk_after, walk_plan_at, followed, one_more, not_found, walk_from}
+use Rattle.rht_chain.proofs.FirstNodes.{node_passed}
 use Rattle.rht_chain.specs.Laws.{has_key, seen_in, seen_behind, EndsWith, WalksSeeTheirChain}
 
 -- what is seen of a chain where so many nodes were passed before it, of which this was the last one
@@ -71,10 +72,8 @@ module _ (g : Geometry) (words : List ℕ) (key stop : ℕ) (stops : node_of g.n
   -- a node without the key is passed
   passes : (last : Option ℕ) (count node : ℕ) (nodes : List ℕ) → test node ≡ false → seen_of last count (node ∷ nodes) ≡ seen_of (Some node) (count + 1) nodes
   passes last count node nodes other =
-      let skipped : find test (node ∷ nodes) ≡ find test nodes = rw other refl in
-      let one_further : position_or_len test (node ∷ nodes) ≡ suc (position_or_len test nodes) = rw other (omega arith) in
-      let passed : before_first test (node ∷ nodes) ≡ node ∷ before_first test nodes = ap (λ n. take n (node ∷ nodes)) one_further in
-      (ap (λ p. seen_further last count p stop (find test (node ∷ nodes))) passed ∙ ap (λ f. seen_further last count (node ∷ before_first test nodes) stop f) skipped)
+      let split = node_passed (key_in g words) key node nodes other in
+      (ap (λ p. seen_further last count p stop (find test (node ∷ nodes))) split.1 ∙ ap (λ f. seen_further last count (node ∷ before_first test nodes) stop f) split.0)
       ∙ seen_further-more last count node (before_first test nodes) stop (find test nodes)
 
   -- Before the key of a node is loaded: `behind` is the walk behind it, where the key is another.

@@ -1,5 +1,5 @@
 -- What the machines that change chains rely on.
-use Rattle.std.specs.Prelude.{◌≡◌, ◌≢◌, ℕ, ◌+◌, ◌*◌, ◌%◌, ◌^◌, ◌<◌, ◌==◌, Bool, Option, None, Some, List, ◌++◌, length}
+use Rattle.std.specs.Prelude.{◌≡◌, ◌≢◌, ℕ, ◌+◌, ◌*◌, ◌%◌, ◌^◌, ◌<◌, ◌==◌, Bool, Option, None, Some, List, ◌∷◌, ◌++◌, length}
 use Rattle.std.specs.List.{All, find, before_first, last_or}
 use Rattle.rht_words.specs.declared.op.Op.TheVariants.{Exchange}
 use Rattle.rht_words.specs.declared.machine.Next.{Next}
@@ -45,6 +45,35 @@ seen_behind passed stop (Some node) = record { found = Some node; before = last_
 -- what is to be seen of a chain of these nodes: its first node with the key, and those before it
 abbrev pub seen_in : (ℕ → ℕ) → ℕ → List ℕ → ℕ → Seen
 seen_in key_of key nodes stop = seen_behind (before_first (has_key key_of key) nodes) stop (find (has_key key_of key) nodes)
+
+-- these nodes were passed, of which none has the key, and then came one that has it
+pub record IsFirstWith (key_of : ℕ → ℕ) (key : ℕ) (nodes : List ℕ) (node : ℕ) (seen : Seen) : Type 0 where
+  pub passed : List ℕ
+  pub behind : List ℕ
+  pub split : nodes ≡ passed ++ node ∷ behind
+  pub others : All (λ other. key_of other ≢ key) passed
+  pub has : key_of node ≡ key
+  pub before : seen.before ≡ last_or None passed
+  pub length_is : seen.length ≡ length passed + 1
+  pub end_is : seen.end ≡ link_of node
+
+-- no node has the key, and the chain's end was seen
+pub record HasNone (key_of : ℕ → ℕ) (key : ℕ) (nodes : List ℕ) (stop : ℕ) (seen : Seen) : Type 0 where
+  pub others : All (λ other. key_of other ≢ key) nodes
+  pub before : seen.before ≡ last_or None nodes
+  pub length_is : seen.length ≡ length nodes
+  pub end_is : seen.end ≡ stop
+
+-- what a walk has seen is so
+abbrev pub IsSeen : (ℕ → ℕ) → ℕ → List ℕ → ℕ → Seen → Option ℕ → Type 0
+IsSeen key_of key nodes stop seen None = HasNone key_of key nodes stop seen
+IsSeen key_of key nodes stop seen (Some node) = IsFirstWith key_of key nodes node seen
+
+-- what is to be seen of a chain is so
+abbrev pub SeenAreFirst : Type 0
+SeenAreFirst =
+    (key_of : ℕ → ℕ) (key : ℕ) (nodes : List ℕ) (stop : ℕ)
+    → IsSeen key_of key nodes stop (seen_in key_of key nodes stop) (seen_in key_of key nodes stop).found
 
 -- where nobody else changes these words, the walk has seen this at its end, and has changed no word
 abbrev pub EndsWith : List ℕ → Seen → Start LockedWalkModel Seen → Type 0

@@ -7,6 +7,7 @@
 //! crates rely on.
 #![tactic(auto)]
 
+mod chains;
 pub mod laws;
 mod lock;
 mod locked;
@@ -14,6 +15,7 @@ mod locked_walk;
 mod relink;
 mod unlock;
 
+pub use chains::seen_in;
 pub use lock::{Lock, LockAt};
 pub use locked::{Locked, Then};
 pub use locked_walk::{LockedWalk, LockedWalkAt, Seen};
