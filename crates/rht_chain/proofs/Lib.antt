@@ -4,6 +4,8 @@ pub mod LocksTaken
 pub mod FirstNodes
 -- a walk sees of its chain what is to be seen
 pub mod WalksSeen
+-- a walk stays in its chain
+pub mod WalksStay
 -- one store gives a locked bucket another chain
 pub mod ChainsRelinked
 -- what is worked out from a list of nodes is what is to be seen of them

@@ -130,4 +130,4 @@ module _ (g : Geometry) (words : List ℕ) (key stop : ℕ) (stops : node_of g.n
       (at_node node nodes None 0 segment.1 (All-tail (λ n. n < g.nodes) node nodes within) (omega (arith, few))))
 
 pub walks_see_their_chain : WalksSeeTheirChain
-walks_see_their_chain g words place word key nodes stop segment within stops few = starts_with g words key stop stops (head_of place word) nodes segment within few
+walks_see_their_chain g words place word key nodes stop can = starts_with g words key stop can.stops (head_of place word) nodes can.segment can.within can.few

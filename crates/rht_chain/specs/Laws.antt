@@ -1,5 +1,5 @@
 -- What the machines that change chains rely on.
-use Rattle.std.specs.Prelude.{◌≡◌, ◌≢◌, ℕ, ◌+◌, ◌*◌, ◌%◌, ◌^◌, ◌<◌, ◌==◌, Bool, Option, None, Some, List, ◌∷◌, ◌++◌, length}
+use Rattle.std.specs.Prelude.{◌≡◌, ◌≢◌, ℕ, ◌+◌, ◌*◌, ◌%◌, ◌^◌, ◌<◌, ◌==◌, Bool, Option, None, Some, List, [], ◌∷◌, ◌++◌, length}
 use Rattle.std.specs.List.{All, find, before_first, last_or}
 use Rattle.rht_words.specs.declared.op.Op.TheVariants.{Exchange}
 use Rattle.rht_words.specs.declared.machine.Next.{Next}
@@ -9,10 +9,12 @@ use Rattle.rht_words.specs.declared.machine.Start.TheVariants as starts
 use Rattle.rht_words.specs.declared.geometry.Geometry.{Geometry}
 use Rattle.rht_words.specs.Links.{head_of, plain_of, node_of, link_of}
 use Rattle.rht_words.specs.Places.{Address, PageWord, Node, ChainLink, IsAddress, place_of, words_in, word_at}
-use Rattle.rht_words.specs.Operations.{word_after, applied}
+use Rattle.rht_words.specs.Operations.{old_of, word_after, applied}
 use Rattle.rht_words.specs.Chains.{IsSegment, IsDistinct, HasChain, chain_in, key_in}
 use Rattle.rht_words.specs.Machines.{EndsAlone}
 use Rattle.rht_chain.specs.declared.locked_walk.Seen.{Seen}
+use Rattle.rht_chain.specs.declared.locked_walk.LockedWalkAt.{LockedWalkAt}
+use Rattle.rht_chain.specs.declared.locked_walk.LockedWalkAt.TheVariants as at
 use Rattle.rht_chain.specs.Lock.{LockModel, lock_plan, lock_after, IsEven}
 use Rattle.rht_chain.specs.LockedWalk.{LockedWalkModel, locked_walk_new, locked_walk_plan, locked_walk_after, not_found}
 use Rattle.rht_chain.specs.Relink.{RelinkModel, relink_new, relink_plan, relink_after}
@@ -80,15 +82,60 @@ abbrev pub EndsWith : List ℕ → Seen → Start LockedWalkModel Seen → Type 
 EndsWith words seen (starts.Running walk) = EndsAlone locked_walk_plan locked_walk_after walk words seen words
 EndsWith words seen (starts.Done at_once) = at_once ≡ seen
 
--- whatever words there are: of a chain that ends with a link to no node, a walk sees what is to be seen
+-- from this link on lie these nodes of the table, and behind the last one is a link to no node
+pub record CanWalk (g : Geometry) (words : List ℕ) (link : ℕ) (nodes : List ℕ) (stop : ℕ) : Type 0 where
+  pub segment : IsSegment (chain_in g words) link nodes stop
+  pub within : All (λ node. node < g.nodes) nodes
+  pub stops : node_of g.nodes stop ≡ None
+  pub few : length nodes < 2 ^ 32
+
+-- whatever words there are, a walk sees of its chain what is to be seen
 abbrev pub WalksSeeTheirChain : Type 0
 WalksSeeTheirChain =
     (g : Geometry) (words : List ℕ) (place word key : ℕ) (nodes : List ℕ) (stop : ℕ)
-    → IsSegment (chain_in g words) (head_of place word) nodes stop
-    → All (λ node. node < g.nodes) nodes
-    → node_of g.nodes stop ≡ None
-    → length nodes < 2 ^ 32
+    → CanWalk g words (head_of place word) nodes stop
     → EndsWith words (seen_in (key_in g words) key nodes stop) (locked_walk_new g place word key)
+
+-- the node at which a walk stands, and the nodes of which it has loaded the key, where it has passed these
+abbrev pub node_at : LockedWalkAt → ℕ
+node_at (at.Key node) = node
+node_at (at.ChainLink node) = node
+
+abbrev pub loaded : List ℕ → LockedWalkAt → List ℕ
+loaded passed (at.Key node) = passed
+loaded passed (at.ChainLink node) = passed ++ node ∷ []
+
+-- The walk has passed the first of these nodes and stands at the next one. No key that it has loaded is the one that it
+-- looks for.
+pub record IsWalking (g : Geometry) (words : List ℕ) (nodes : List ℕ) (m : LockedWalkModel) : Type 0 where
+  pub geometry : m.geometry ≡ g
+  pub passed : List ℕ
+  pub behind : List ℕ
+  pub split : nodes ≡ passed ++ node_at m.at ∷ behind
+  pub others : All (λ node. key_in g words node ≢ m.key) (loaded passed m.at)
+  pub before : m.before ≡ last_or None passed
+  pub counted : m.length ≡ length (loaded passed m.at)
+
+-- a walk to this key is in the chain, or has seen what there is to see
+abbrev pub IsInChain : Geometry → List ℕ → ℕ → List ℕ → ℕ → LockedWalkModel → Next Seen → Type 0
+IsInChain g words key nodes stop m Go = (m.key ≡ key) × IsWalking g words nodes m
+IsInChain g words key nodes stop m (Done seen) = IsSeen (key_in g words) key nodes stop seen seen.found
+
+abbrev pub BeginsInChain : Geometry → List ℕ → ℕ → List ℕ → ℕ → Start LockedWalkModel Seen → Type 0
+BeginsInChain g words key nodes stop (starts.Running walk) = IsInChain g words key nodes stop walk Go
+BeginsInChain g words key nodes stop (starts.Done seen) = IsSeen (key_in g words) key nodes stop seen seen.found
+
+-- A walk begins in its chain, and each operation that finds what these words have leaves it there. So others may change
+-- all words but those of the chain.
+pub record WalksStayInChain : Type 0 where
+  pub begins :
+      (g : Geometry) (words : List ℕ) (place word key : ℕ) (nodes : List ℕ) (stop : ℕ)
+      → CanWalk g words (head_of place word) nodes stop
+      → BeginsInChain g words key nodes stop (locked_walk_new g place word key)
+  pub stays :
+      (g : Geometry) (words : List ℕ) (link : ℕ) (nodes : List ℕ) (stop : ℕ) (m : LockedWalkModel)
+      → CanWalk g words link nodes stop → IsWalking g words nodes m
+      → IsInChain g words m.key nodes stop (locked_walk_after m (old_of words (locked_walk_plan m))).0 (locked_walk_after m (old_of words (locked_walk_plan m))).1
 
 -- A bucket is locked, whose word was this one, and is to get another chain: these of its nodes stay, and behind them
 -- come those to which the link leads.

@@ -1,6 +1,6 @@
 //! What the machines that change chains rely on. Each function is empty, and its clause is the law.
 
-ghost use Rattle.rht_chain.specs.Laws.{LocksEvenWords, SeenAreFirst, WalksSeeTheirChain, RelinksChains};
+ghost use Rattle.rht_chain.specs.Laws.{LocksEvenWords, SeenAreFirst, WalksSeeTheirChain, WalksStayInChain, RelinksChains};
 
 /// A lock is taken by an exchange from an even word alone.
 pub fn locks_even_words()
@@ -15,6 +15,11 @@ pub fn seen_are_first()
 /// A walk sees the first node with its key, the node before it, and how many keys it has loaded.
 pub fn walks_see_their_chain()
     ensures { WalksSeeTheirChain }
+{}
+
+/// A walk stays in its chain, whatever others do to the other words.
+pub fn walks_stay_in_chain()
+    ensures { WalksStayInChain }
 {}
 
 /// One store gives a locked bucket another chain.

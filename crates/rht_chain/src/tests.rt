@@ -2,7 +2,7 @@
 //! pages the chain link of node n is at `282 + 4 * n` and its key behind it, the first bucket's
 //! word is at 314, the link to n is `2 * n + 2`, and the marker of 314 is 629.
 
-use super::{Lock, LockedWalk, Relink, Seen, Unlock};
+use super::{Lock, LockedWalk, Relink, Seen, Unlock, seen_in};
 use rht_words::{Geometry, Next, Op, Start};
 use std::test::Fail;
 
@@ -83,22 +83,27 @@ fn an_empty_chain_is_seen_at_once(rt: HostRuntime) -> Result<(), Fail> {
 #[test]
 fn a_walk_sees_the_first_node_with_its_key(rt: HostRuntime) -> Result<(), Fail> {
     let geometry = Geometry::new(8, 4, 1).ok_or("within limits")?;
-    // the bucket's word, the operations with what each finds, and what is seen of key 5
-    let cases: [(u64, &[(Op, u64)], Seen); 3] = [
-        // the first node, 2, has the key
+    // the keys of the nodes from 0 on
+    let keys = [9, 0, 1, 5, 0, 0, 0, 5];
+    // the bucket's word, the chain's nodes, the operations with what each finds, and what is seen
+    // of key 5
+    let cases: [(u64, &[u32], &[(Op, u64)], Seen); 4] = [
+        // the first node has the key
         (
-            6,
-            &[(load(291), 5)],
+            8,
+            &[3, 0],
+            &[(load(295), 5)],
             Seen {
-                found: Some(2),
+                found: Some(3),
                 before: None,
                 length: 1,
-                end: 6,
+                end: 8,
             },
         ),
-        // nodes 2, 0 and 7, of which the third has the key
+        // the third node has the key
         (
             6,
+            &[2, 0, 7],
             &[
                 (load(291), 1),
                 (load(290), 2),
@@ -113,9 +118,22 @@ fn a_walk_sees_the_first_node_with_its_key(rt: HostRuntime) -> Result<(), Fail> 
                 end: 16,
             },
         ),
-        // nodes 2 and 0, of which none has the key, and then the marker
+        // two nodes have the key
         (
             6,
+            &[2, 7, 3],
+            &[(load(291), 1), (load(290), 16), (load(311), 5)],
+            Seen {
+                found: Some(7),
+                before: Some(2),
+                length: 2,
+                end: 16,
+            },
+        ),
+        // no node has the key
+        (
+            6,
+            &[2, 0],
             &[
                 (load(291), 1),
                 (load(290), 2),
@@ -130,7 +148,9 @@ fn a_walk_sees_the_first_node_with_its_key(rt: HostRuntime) -> Result<(), Fail> 
             },
         ),
     ];
-    for (word, steps, want) in cases {
+    for (word, nodes, steps, want) in cases {
+        assert!(rt; nodes.len() < 4_294_967_296);
+        assert_eq!(rt; seen_in(&keys, nodes, 5, 629), want);
         let Start::Running(mut machine) = LockedWalk::new(geometry, 314, word, 5) else {
             return Err("a chain with a node".into());
         };
