@@ -51,10 +51,12 @@ HasSeen g steps m (Done answer) = IsAnsweredBy g steps answer
 
 -- what was seen stays seen
 Any-append_left : {X : Type 0} (P : X → Type 0) (xs ys : List X) → Any P xs → Any P (xs ++ ys)
-Any-append_left P xs ys some = (some.0, some.1, omega (arith, length-append xs ys, some.2), get_or_append_left xs ys some.1 some.0 some.2 ∙ some.3, some.4)
+Any-append_left P xs ys some =
+    (some.0, some.1, omega (arith, length-append xs ys, some.2), get_or_append_left xs ys some.1 some.0 some.2 ∙ some.3, some.4)
 
 -- an operation on a word of the map that finds a bit clear sees its node taken
-sees_taken : (g : Geometry) (step : Performed) (index bit : ℕ) → bit < 64 → op_place step.op ≡ 280 + index → bit_at step.old bit ≡ 0 → SeesTaken g (64 * index + bit) step
+sees_taken : (g : Geometry) (step : Performed) (index bit : ℕ) → bit < 64 → op_place step.op ≡ 280 + index
+    → bit_at step.old bit ≡ 0 → SeesTaken g (64 * index + bit) step
 sees_taken g step index bit low is clear =
     let word : (64 * index + bit) / 64 ≡ index = omega (arith, low) in
     let place : (64 * index + bit) % 64 ≡ bit = omega (arith, low) in
@@ -74,7 +76,8 @@ seen_below g steps index until before here node l = elim (cases_lt node (64 * in
 
 -- A machine that claims the lowest free node of a word has seen those below taken, where each clear bit of the word was
 -- seen. `here` says this of a bit that is clear among the candidates.
-claims_lowest : (g : Geometry) (m : TakeNodeModel) (steps : List Performed) (index word : ℕ) → m.geometry ≡ g → index < map_words m.geometry.nodes
+claims_lowest : (g : Geometry) (m : TakeNodeModel) (steps : List Performed) (index word : ℕ) → m.geometry ≡ g
+    → index < map_words m.geometry.nodes
     → ((node : ℕ) → node < 64 * index → WasSeenTaken m.geometry steps node)
     → ((bit : ℕ) → bit < 64 → bit_at word bit ≡ 0 → WasSeenTaken m.geometry steps (64 * index + bit))
     → All LeavesWord steps
@@ -108,8 +111,10 @@ claims_lowest g m steps index word same range before here unchanged None is =
     }))
 
 -- each operation keeps the invariant, or gives what the answer says
-sees_more : (g : Geometry) (m : TakeNodeModel) (steps : List Performed) (old : ℕ) → old < 2 ^ 64 → m.geometry ≡ g → All LeavesWord steps
-    → (at : TakeNodeAt) → IsInRange m.geometry at → ((node : ℕ) → node < first_unseen at → WasSeenTaken m.geometry steps node)
+sees_more : (g : Geometry) (m : TakeNodeModel) (steps : List Performed) (old : ℕ) → old < 2 ^ 64
+    → m.geometry ≡ g → All LeavesWord steps
+    → (at : TakeNodeAt) → IsInRange m.geometry at
+    → ((node : ℕ) → node < first_unseen at → WasSeenTaken m.geometry steps node)
     → HasSeen g (steps ++ record { op = plan_at m.geometry at; old = old } ∷ []) (after_at m at old).0 (after_at m at old).1
 sees_more g m steps old small same unchanged (MapWord index) range seen =
     let step : Performed = record { op = plan_at m.geometry (MapWord index); old = old } in

@@ -25,14 +25,16 @@ claim_of-clears g node old =
     }
 
 -- going to another node or to the next word answers no node
-claim_in-no_node : (m : TakeNodeModel) (index node : ℕ) (lowest : Option ℕ) → (claim_in m index lowest).1 ≡ Done (Some node) → ⊥
+claim_in-no_node : (m : TakeNodeModel) (index node : ℕ) (lowest : Option ℕ)
+    → (claim_in m index lowest).1 ≡ Done (Some node) → ⊥
 claim_in-no_node m index node (Some bit) done = cc
 claim_in-no_node m index node None done =
     cond_both {A = TakeNodeModel × Next (Option ℕ)} (ltb (index + 1) (map_words m.geometry.nodes)) (record m { at = MapWord (index + 1) }, Go) (m, Done None)
     (λ next. next.1 ≡ Done (Some node) → ⊥) (λ more is. cc) (λ last is. cc) done
 
 -- the operation of a machine that stands at this node takes it, where it finds the bit set
-pub claims : (g : Geometry) (index bit old : ℕ) → IsBitIn g.nodes index bit → bit_at old bit ≡ 1 → IsTaking g (64 * index + bit) old (plan_at g (Claim index bit))
+pub claims : (g : Geometry) (index bit old : ℕ) → IsBitIn g.nodes index bit → bit_at old bit ≡ 1
+    → IsTaking g (64 * index + bit) old (plan_at g (Claim index bit))
 claims g index bit old within set =
     let word : (64 * index + bit) / 64 ≡ index = omega (arith, within.within) in
     let place : (64 * index + bit) % 64 ≡ bit = omega (arith, within.within) in
@@ -52,8 +54,10 @@ giving_sets_one_bit m old = record {
 }
 
 -- By cases on the state: only one that clears a bit answers a node.
-taken_at : (m : TakeNodeModel) (at : TakeNodeAt) (old node : ℕ) → IsInRange m.geometry at → (after_at m at old).1 ≡ Done (Some node) → IsTaking m.geometry node old (plan_at m.geometry at)
-taken_at m (MapWord index) old node range done = absurd (claim_in-no_node m index node (lowest_free m.geometry.nodes index old) done)
+taken_at : (m : TakeNodeModel) (at : TakeNodeAt) (old node : ℕ) → IsInRange m.geometry at
+    → (after_at m at old).1 ≡ Done (Some node) → IsTaking m.geometry node old (plan_at m.geometry at)
+taken_at m (MapWord index) old node range done =
+    absurd (claim_in-no_node m index node (lowest_free m.geometry.nodes index old) done)
 taken_at m (Claim index bit) old node range done =
     let above = bit_and old (bits_above bit) in
     cond_both {A = TakeNodeModel × Next (Option ℕ)} (eqb (bit_at old bit) 1) (m, Done (Some (64 * index + bit))) (claim_among m index above)

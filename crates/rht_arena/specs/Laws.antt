@@ -24,7 +24,8 @@ map_bit node = node % 64
 pub record ChangesBit (g : Geometry) (node value old : ℕ) (op : Op) : Type 0 where
   pub place : op_place op ≡ map_place g node
   pub bit : bit_at (word_after old op) (map_bit node) ≡ value
-  pub others : (other : ℕ) → other < 64 → other ≢ map_bit node → bit_at (word_after old op) other ≡ bit_at old other
+  pub others : (other : ℕ) → other < 64 → other ≢ map_bit node
+      → bit_at (word_after old op) other ≡ bit_at old other
 
 -- the And with all ones but the node's bit
 abbrev pub claim_of : Geometry → ℕ → Op
@@ -41,7 +42,8 @@ pub record IsTaking (g : Geometry) (node old : ℕ) (op : Op) : Type 0 where
 abbrev pub TakenWasFree : Type 0
 TakenWasFree =
     (m : TakeNodeModel) (old node : ℕ)
-    → IsInRange m.geometry m.at → (take_node_after m old).1 ≡ Done (Some node) → IsTaking m.geometry node old (take_node_plan m)
+    → IsInRange m.geometry m.at → (take_node_after m old).1 ≡ Done (Some node)
+    → IsTaking m.geometry node old (take_node_plan m)
 
 -- the operation was on the word with the node's bit, and found the node taken
 pub record SeesTaken (g : Geometry) (node : ℕ) (step : Performed) : Type 0 where

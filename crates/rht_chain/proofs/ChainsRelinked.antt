@@ -26,14 +26,17 @@ plain_of-even place link back = grind (arith, nat_tests)
 
 -- the first link of a segment comes back from a bucket's word, where the last one does
 comes_back : (chain : ℕ → ℕ) (place link : ℕ) (nodes : List ℕ) (stop : ℕ)
-    → IsSegment chain link nodes stop → head_of place (plain_of place stop) ≡ stop → head_of place (plain_of place link) ≡ link
-comes_back chain place link [] stop segment back = subst (λ l. head_of place (plain_of place l) ≡ l) (sym segment) back
+    → IsSegment chain link nodes stop → head_of place (plain_of place stop) ≡ stop
+    → head_of place (plain_of place link) ≡ link
+comes_back chain place link [] stop segment back =
+    subst (λ l. head_of place (plain_of place l) ≡ l) (sym segment) back
 comes_back chain place link (node ∷ nodes) stop segment back =
     subst (λ l. head_of place (plain_of place l) ≡ l) (sym segment.0) (heads_come_back.head_link place node)
 
 -- the lock isn't part of the first link
 head_of-locked : (place word : ℕ) → word % 2 ≡ 0 → head_of place (word + 1) ≡ head_of place word
-head_of-locked place word even = let same : unlocked (word + 1) ≡ unlocked word = omega (arith, even) in rw same refl
+head_of-locked place word even =
+    let same : unlocked (word + 1) ≡ unlocked word = omega (arith, even) in rw same refl
 
 -- a list that isn't empty has a last node
 last_of : (node : ℕ) (nodes : List ℕ) → (last : ℕ) × (last_or (Some node) nodes ≡ Some last)
@@ -45,16 +48,20 @@ module _ (g : Geometry) (words : List ℕ) (index word link : ℕ) (behind : Lis
   place = place_of g (PageWord index)
 
   -- with no node before, the link becomes the bucket's first
-  at_head : CanRelink g words index word [] link behind stop → IsRelinked g words index [] behind stop (relinking g index word [] link)
+  at_head : CanRelink g words index word [] link behind stop
+      → IsRelinked g words index [] behind stop (relinking g index word [] link)
   at_head can =
       let value = plain_of place link in
-      let changes : ChangesOneWord g words (PageWord index) (Store place value) = changes_one_word g words (PageWord index) (Store place value) can.whole can.bucket refl in
+      let changes : ChangesOneWord g words (PageWord index) (Store place value) =
+      changes_one_word g words (PageWord index) (Store place value) can.whole can.bucket refl in
       let back : head_of place value ≡ link = comes_back (chain_in g words) place link behind stop can.rest can.comes_back in
-      let first : head_of place (word_at g (applied words (Store place value)) (PageWord index)) ≡ link = ap (λ w. head_of place w) changes.changed ∙ back in
+      let first : head_of place (word_at g (applied words (Store place value)) (PageWord index)) ≡ link =
+      ap (λ w. head_of place w) changes.changed ∙ back in
       let segment : IsSegment (chain_in g (applied words (Store place value))) link behind stop =
       IsSegment-same (chain_in g words) (chain_in g (applied words (Store place value))) behind link stop
       (λ k d l. changes.others (Node (get_or behind k d) ChainLink) (can.within k d l) (λ same. (cc))) can.rest in
-      let chain : HasChain g (applied words (Store place value)) index behind stop = subst (λ l. IsSegment (chain_in g (applied words (Store place value))) l behind stop) (sym first) segment in
+      let chain : HasChain g (applied words (Store place value)) index behind stop =
+      subst (λ l. IsSegment (chain_in g (applied words (Store place value))) l behind stop) (sym first) segment in
       record {
         at_once = chain;
         left = applied words (Store place value);
@@ -65,7 +72,8 @@ module _ (g : Geometry) (words : List ℕ) (index word link : ℕ) (behind : Lis
       }
 
   -- with a node before, the link behind that node is changed, and then the bucket is unlocked
-  behind_node : (node : ℕ) (nodes : List ℕ) (last : ℕ) → last_or (Some node) nodes ≡ Some last → CanRelink g words index word (node ∷ nodes) link behind stop
+  behind_node : (node : ℕ) (nodes : List ℕ) (last : ℕ) → last_or (Some node) nodes ≡ Some last
+      → CanRelink g words index word (node ∷ nodes) link behind stop
       → IsRelinked g words index (node ∷ nodes) behind stop (relink_new g place word (Some last) link)
   behind_node node nodes last is can =
       let all = (node ∷ nodes) ++ behind in
@@ -73,16 +81,19 @@ module _ (g : Geometry) (words : List ℕ) (index word link : ℕ) (behind : Lis
       let links : Op = Store (place_of g (Node last ChainLink)) link in
       let linked = applied words links in
       let change : ChangesOneWord g words (Node last ChainLink) links = changes_one_word g words (Node last ChainLink) links can.whole there refl in
-      let bucket_stays : word_at g linked (PageWord index) ≡ word_at g words (PageWord index) = change.others (PageWord index) can.bucket (λ same. (cc)) in
+      let bucket_stays : word_at g linked (PageWord index) ≡ word_at g words (PageWord index) =
+      change.others (PageWord index) can.bucket (λ same. (cc)) in
       let segment : IsSegment (chain_in g linked) (head_of place (word_at g words (PageWord index))) all stop =
       IsSegment-relinked (chain_in g words) (chain_in g linked) last link stop behind change.changed can.rest
       node nodes (head_of place (word_at g words (PageWord index))) can.middle is
       (λ k d l differ. change.others (Node (get_or all k d) ChainLink) (can.within k d l) (λ same. differ (cc))) can.distinct can.front in
       let unlocks : Op = Store place word in
       let ended = applied linked unlocks in
-      let letting_go : ChangesOneWord g linked (PageWord index) unlocks = changes_one_word g linked (PageWord index) unlocks (change.count ∙ can.whole) can.bucket refl in
+      let letting_go : ChangesOneWord g linked (PageWord index) unlocks =
+      changes_one_word g linked (PageWord index) unlocks (change.count ∙ can.whole) can.bucket refl in
       let first : head_of place (word_at g ended (PageWord index)) ≡ head_of place (word_at g words (PageWord index)) =
-      ap (λ w. head_of place w) letting_go.changed ∙ (sym (head_of-locked place word can.even) ∙ ap (λ w. head_of place w) (sym can.locked)) in
+      ap (λ w. head_of place w) letting_go.changed
+      ∙ (sym (head_of-locked place word can.even) ∙ ap (λ w. head_of place w) (sym can.locked)) in
       let kept : IsSegment (chain_in g ended) (head_of place (word_at g words (PageWord index))) all stop =
       IsSegment-same (chain_in g linked) (chain_in g ended) all (head_of place (word_at g words (PageWord index))) stop
       (λ k d l. letting_go.others (Node (get_or all k d) ChainLink) (can.within k d l) (λ same. (cc))) segment in
@@ -95,7 +106,8 @@ module _ (g : Geometry) (words : List ℕ) (index word link : ℕ) (behind : Lis
             (ends_now relink_plan (λ machine old. relink_after machine) (relink_after m).0 linked tt refl);
         chain = subst (λ l. IsSegment (chain_in g ended) l all stop) (sym first) kept;
         unlocked = ap (λ w. w % 2) letting_go.changed ∙ can.even;
-        others = λ other its apart off. letting_go.others other its apart ∙ change.others other its (off last is);
+        others = λ other its apart off. letting_go.others other its apart
+            ∙ change.others other its (off last is);
       }
 
 pub relinks_chains : RelinksChains

@@ -11,7 +11,8 @@ use Rattle.rht_chain.specs.LockedWalk.{not_found}
 use Rattle.rht_chain.specs.Laws.{has_key, seen_in, seen_behind}
 
 -- the last of a list is what stands at its last place
-last_or-Some : (node : ℕ) (nodes : List ℕ) → last_or (Some node) nodes ≡ slice_get (node ∷ nodes) (length nodes)
+last_or-Some : (node : ℕ) (nodes : List ℕ)
+    → last_or (Some node) nodes ≡ slice_get (node ∷ nodes) (length nodes)
 last_or-Some node [] = refl
 last_or-Some node (next ∷ nodes) = last_or-Some next nodes
 
@@ -27,9 +28,11 @@ module _ (key_of : ℕ → ℕ) (key : ℕ) (nodes : List ℕ) (stop : ℕ) wher
 
   -- what is seen where the first node with the key has this place
   abbrev seen_at : ℕ → Seen
-  seen_at place = record { found = Some (get_or nodes place 0); before = last_or None (take place nodes); length = place + 1; end = link_of (get_or nodes place 0) }
+  seen_at place =
+      record { found = Some (get_or nodes place 0); before = last_or None (take place nodes); length = place + 1; end = link_of (get_or nodes place 0) }
 
-  pub at_first : (first : ℕ) → position test nodes ≡ Some first → seen_at first ≡ seen_in key_of key nodes stop
+  pub at_first : (first : ℕ) → position test nodes ≡ Some first
+      → seen_at first ≡ seen_in key_of key nodes stop
   at_first first =
       let place = position_or_len test nodes in
       cond_both (ltb place (length nodes)) (Some place) None
@@ -44,7 +47,8 @@ module _ (key_of : ℕ → ℕ) (key : ℕ) (nodes : List ℕ) (stop : ℕ) wher
       subst (λ p. seen_at p ≡ seen_in key_of key nodes stop) same (counted ∙ ap (λ f. seen_behind (before_first test nodes) stop f) (sym found)))
       (λ past is. absurd (cc))
 
-  pub at_end : position test nodes ≡ None → not_found (last_or None nodes) (length nodes) stop ≡ seen_in key_of key nodes stop
+  pub at_end : position test nodes ≡ None
+      → not_found (last_or None nodes) (length nodes) stop ≡ seen_in key_of key nodes stop
   at_end =
       let place = position_or_len test nodes in
       cond_both (ltb place (length nodes)) (Some place) None
@@ -54,4 +58,5 @@ module _ (key_of : ℕ → ℕ) (key : ℕ) (nodes : List ℕ) (stop : ℕ) wher
       let high : length nodes ≤ place = ltb-false place (length nodes) past in
       let found : find test nodes ≡ None = find_at test nodes ∙ slice_get_past nodes place high in
       let passed : before_first test nodes ≡ nodes = take_all place nodes high in
-      ap (λ p. seen_behind p stop None) (sym passed) ∙ ap (λ f. seen_behind (before_first test nodes) stop f) (sym found))
+      ap (λ p. seen_behind p stop None) (sym passed)
+      ∙ ap (λ f. seen_behind (before_first test nodes) stop f) (sym found))

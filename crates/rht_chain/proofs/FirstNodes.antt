@@ -19,11 +19,14 @@ module _ (key_of : ℕ → ℕ) (key : ℕ) where
   -- none of the nodes has the key, or this is the first one that has it
   abbrev IsSplit : List ℕ → List ℕ → Option ℕ → Type 0
   IsSplit nodes passed None = All (λ other. key_of other ≢ key) passed × (nodes ≡ passed)
-  IsSplit nodes passed (Some node) = All (λ other. key_of other ≢ key) passed × (key_of node ≡ key) × (behind : List ℕ) × (nodes ≡ passed ++ node ∷ behind)
+  IsSplit nodes passed (Some node) =
+      All (λ other. key_of other ≢ key) passed × (key_of node ≡ key) × (behind : List ℕ) × (nodes ≡ passed ++ node ∷ behind)
 
   -- one more node, which has another key, before a list that is split
-  one_more : (node : ℕ) (nodes passed : List ℕ) (found : Option ℕ) → key_of node ≢ key → IsSplit nodes passed found → IsSplit (node ∷ nodes) (node ∷ passed) found
-  one_more node nodes passed None other split = (All-cons (λ n. key_of n ≢ key) node passed other split.0, ap (λ l. node ∷ l) split.1)
+  one_more : (node : ℕ) (nodes passed : List ℕ) (found : Option ℕ) → key_of node ≢ key
+      → IsSplit nodes passed found → IsSplit (node ∷ nodes) (node ∷ passed) found
+  one_more node nodes passed None other split =
+      (All-cons (λ n. key_of n ≢ key) node passed other split.0, ap (λ l. node ∷ l) split.1)
   one_more node nodes passed (Some first) other split =
       (All-cons (λ n. key_of n ≢ key) node passed other split.0, split.1, split.2, ap (λ l. node ∷ l) split.3)
 
@@ -38,7 +41,8 @@ module _ (key_of : ℕ → ℕ) (key : ℕ) where
   ]
 
   -- what is seen behind these nodes is so
-  IsSeen-split : (nodes passed : List ℕ) (stop : ℕ) (found : Option ℕ) → IsSplit nodes passed found → IsSeen key_of key nodes stop (seen_behind passed stop found) (seen_behind passed stop found).found
+  IsSeen-split : (nodes passed : List ℕ) (stop : ℕ) (found : Option ℕ) → IsSplit nodes passed found
+      → IsSeen key_of key nodes stop (seen_behind passed stop found) (seen_behind passed stop found).found
   IsSeen-split nodes passed stop None split =
       record {
         others = rw split.1 split.0;

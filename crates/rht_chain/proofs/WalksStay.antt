@@ -8,15 +8,14 @@ use Rattle.rht_words.specs.declared.machine.Next.{Next}
 use Rattle.rht_words.specs.declared.machine.Next.TheVariants.{Go, Done}
 use Rattle.rht_words.specs.declared.geometry.Geometry.{Geometry}
 use Rattle.rht_words.specs.Links.{head_of, node_of}
-use Rattle.rht_words.specs.Operations.{old_of}
 use Rattle.rht_words.specs.Chains.{IsSegment, chain_in, key_in}
 use Rattle.rht_words.proofs.ChainLemmas.{IsSegment-cut}
 use Rattle.rht_words.proofs.LinksRead.{links_tell_apart}
 use Rattle.rht_chain.specs.declared.locked_walk.Seen.{Seen}
 use Rattle.rht_chain.specs.declared.locked_walk.LockedWalkAt.{LockedWalkAt}
 use Rattle.rht_chain.specs.declared.locked_walk.LockedWalkAt.TheVariants as at
-use Rattle.rht_chain.specs.LockedWalk.{LockedWalkModel, walk_plan_at, walk_after_at, compared, found_at, followed, one_more, walk_from}
-use Rattle.rht_chain.specs.Laws.{CanWalk, IsInChain, BeginsInChain, WalksStayInChain, node_at, loaded}
+use Rattle.rht_chain.specs.LockedWalk.{LockedWalkModel, compared, found_at, followed, one_more, walk_from}
+use Rattle.rht_chain.specs.Laws.{CanWalk, IsInChain, BeginsInChain, WalksStayInChain, stepped, node_at, loaded}
 
 -- the last of a list with one more
 last_or-push : (first : Option ℕ) (nodes : List ℕ) (node : ℕ) → last_or first (nodes ++ node ∷ []) ≡ Some node
@@ -36,8 +35,10 @@ module _ (g : Geometry) (words : List ℕ) (key stop : ℕ) where
   walk_at before count at = record { geometry = g; key = key; before = before; length = count; at = at }
 
   -- the key of a node is loaded
-  key_loaded : (nodes passed : List ℕ) (node : ℕ) (behind : List ℕ) (count : ℕ) (before : Option ℕ) → length nodes < 2 ^ 32
-      → nodes ≡ passed ++ node ∷ behind → All HasOther passed → before ≡ last_or None passed → count ≡ length passed
+  key_loaded : (nodes passed : List ℕ) (node : ℕ) (behind : List ℕ) (count : ℕ) (before : Option ℕ)
+      → length nodes < 2 ^ 32
+      → nodes ≡ passed ++ node ∷ behind → All HasOther passed → before ≡ last_or None passed
+      → count ≡ length passed
       → let m = walk_at before (one_more count) (at.Key node) in
       IsInChain g words key nodes stop (compared m node (key_in g words node)).0 (compared m node (key_in g words node)).1
   key_loaded nodes passed node behind count before few split others before_is count_is =
@@ -69,9 +70,11 @@ module _ (g : Geometry) (words : List ℕ) (key stop : ℕ) where
       ))
 
   -- the link behind a node is loaded
-  link_loaded : (nodes passed : List ℕ) (node : ℕ) (behind : List ℕ) (count : ℕ) (before : Option ℕ) → node_of g.nodes stop ≡ None
+  link_loaded : (nodes passed : List ℕ) (node : ℕ) (behind : List ℕ) (count : ℕ) (before : Option ℕ)
+      → node_of g.nodes stop ≡ None
       → IsSegment (chain_in g words) (chain_in g words node) behind stop → All (λ n. n < g.nodes) behind
-      → nodes ≡ passed ++ node ∷ behind → All HasOther (passed ++ node ∷ []) → count ≡ length (passed ++ node ∷ [])
+      → nodes ≡ passed ++ node ∷ behind → All HasOther (passed ++ node ∷ [])
+      → count ≡ length (passed ++ node ∷ [])
       → let m = walk_at before count (at.ChainLink node) in let link = chain_in g words node in
       IsInChain g words key nodes stop (followed m node link (node_of g.nodes link)).0 (followed m node link (node_of g.nodes link)).1
   link_loaded nodes passed node [] count before stops segment within split others count_is =
@@ -89,7 +92,8 @@ module _ (g : Geometry) (words : List ℕ) (key stop : ℕ) where
       let m = walk_at before count (at.ChainLink node) in
       let link = chain_in g words node in
       let some : node_of g.nodes link ≡ Some next =
-      ap (λ l. node_of g.nodes l) segment.0 ∙ links_tell_apart.link_names g.nodes next (All-head (λ n. n < g.nodes) next behind within) in
+      ap (λ l. node_of g.nodes l) segment.0
+      ∙ links_tell_apart.link_names g.nodes next (All-head (λ n. n < g.nodes) next behind within) in
       subst (λ o. IsInChain g words key nodes stop (followed m node link o).0 (followed m node link o).1) (sym some) (
         refl,
         record {
@@ -104,33 +108,41 @@ module _ (g : Geometry) (words : List ℕ) (key stop : ℕ) where
       )
 
   -- by cases on the state
-  stays_at : (link : ℕ) (nodes passed behind : List ℕ) (count : ℕ) (before : Option ℕ) (at : LockedWalkAt) → CanWalk g words link nodes stop
-      → nodes ≡ passed ++ node_at at ∷ behind → All HasOther (loaded passed at) → before ≡ last_or None passed → count ≡ length (loaded passed at)
-      → let next = walk_after_at (walk_at before count at) at (old_of words (walk_plan_at g at)) in IsInChain g words key nodes stop next.0 next.1
+  stays_at : (link : ℕ) (nodes passed behind : List ℕ) (count : ℕ) (before : Option ℕ) (at : LockedWalkAt)
+      → CanWalk g words link nodes stop
+      → nodes ≡ passed ++ node_at at ∷ behind → All HasOther (loaded passed at) → before ≡ last_or None passed
+      → count ≡ length (loaded passed at)
+      → let next = stepped words (walk_at before count at) in IsInChain g words key nodes stop next.0 next.1
   stays_at link nodes passed behind count before (at.Key node) can split others before_is count_is =
       key_loaded nodes passed node behind count before can.few split others before_is count_is
   stays_at link nodes passed behind count before (at.ChainLink node) can split others before_is count_is =
-      let segment = IsSegment-cut (chain_in g words) passed node behind link stop (subst (λ list. IsSegment (chain_in g words) link list stop) split can.segment) in
+      let segment =
+      IsSegment-cut (chain_in g words) passed node behind link stop (subst (λ list. IsSegment (chain_in g words) link list stop) split can.segment) in
       let within = All-behind (λ n. n < g.nodes) passed (node ∷ behind) (subst (λ list. All (λ n. n < g.nodes) list) split can.within) in
       link_loaded nodes passed node behind count before can.stops segment.1 (All-tail (λ n. n < g.nodes) node behind within) split others count_is
 
   -- a chain is begun at its first link
-  begins_at : (link : ℕ) (nodes : List ℕ) → IsSegment (chain_in g words) link nodes stop → All (λ n. n < g.nodes) nodes → node_of g.nodes stop ≡ None
+  begins_at : (link : ℕ) (nodes : List ℕ) → IsSegment (chain_in g words) link nodes stop
+      → All (λ n. n < g.nodes) nodes → node_of g.nodes stop ≡ None
       → BeginsInChain g words key nodes stop (walk_from g key link (node_of g.nodes link))
   begins_at link [] segment within stops =
       let none : node_of g.nodes link ≡ None = ap (λ l. node_of g.nodes l) segment ∙ stops in
       subst (λ o. BeginsInChain g words key [] stop (walk_from g key link o)) (sym none)
       (record { others = All-nil HasOther; before = refl; length_is = refl; end_is = segment })
   begins_at link (node ∷ behind) segment within stops =
-      let some : node_of g.nodes link ≡ Some node = ap (λ l. node_of g.nodes l) segment.0 ∙ links_tell_apart.link_names g.nodes node (All-head (λ n. n < g.nodes) node behind within) in
+      let some : node_of g.nodes link ≡ Some node =
+      ap (λ l. node_of g.nodes l) segment.0
+      ∙ links_tell_apart.link_names g.nodes node (All-head (λ n. n < g.nodes) node behind within) in
       subst (λ o. BeginsInChain g words key (node ∷ behind) stop (walk_from g key link o)) (sym some)
       (refl, record { geometry = refl; passed = []; behind = behind; split = refl; others = All-nil HasOther; before = refl; counted = refl })
 
 pub walks_stay_in_chain : WalksStayInChain
 walks_stay_in_chain = record {
-  begins = λ g words place word key nodes stop can. begins_at g words key stop (head_of place word) nodes can.segment can.within can.stops;
+  begins =
+      λ g words place word key nodes stop can. begins_at g words key stop (head_of place word) nodes can.segment can.within can.stops;
   stays = λ g words link nodes stop m can walking.
-      subst (λ geometry. let here = record m { geometry = geometry } in let next = walk_after_at here here.at (old_of words (walk_plan_at geometry here.at)) in IsInChain g words m.key nodes stop next.0 next.1)
+      subst (λ geometry. let next = stepped words (record m { geometry = geometry }) in IsInChain g words m.key nodes stop next.0 next.1)
       (sym walking.geometry)
-      (stays_at g words m.key stop link nodes walking.passed walking.behind m.length m.before m.at can walking.split walking.others walking.before walking.counted);
+      (stays_at g words m.key stop link nodes walking.passed walking.behind m.length m.before m.at can
+      walking.split walking.others walking.before walking.counted);
 }

@@ -42,11 +42,13 @@ has_key key_of key node = key_of node == key
 -- what is seen where these nodes are passed, and where then the key is found or the chain ends with this link
 abbrev pub seen_behind : List ℕ → ℕ → Option ℕ → Seen
 seen_behind passed stop None = not_found (last_or None passed) (length passed) stop
-seen_behind passed stop (Some node) = record { found = Some node; before = last_or None passed; length = length passed + 1; end = link_of node }
+seen_behind passed stop (Some node) =
+    record { found = Some node; before = last_or None passed; length = length passed + 1; end = link_of node }
 
 -- what is to be seen of a chain of these nodes: its first node with the key, and those before it
 abbrev pub seen_in : (ℕ → ℕ) → ℕ → List ℕ → ℕ → Seen
-seen_in key_of key nodes stop = seen_behind (before_first (has_key key_of key) nodes) stop (find (has_key key_of key) nodes)
+seen_in key_of key nodes stop =
+    seen_behind (before_first (has_key key_of key) nodes) stop (find (has_key key_of key) nodes)
 
 -- these nodes were passed, of which none has the key, and then came one that has it
 pub record IsFirstWith (key_of : ℕ → ℕ) (key : ℕ) (nodes : List ℕ) (node : ℕ) (seen : Seen) : Type 0 where
@@ -123,7 +125,12 @@ IsInChain g words key nodes stop m (Done seen) = IsSeen (key_in g words) key nod
 
 abbrev pub BeginsInChain : Geometry → List ℕ → ℕ → List ℕ → ℕ → Start LockedWalkModel Seen → Type 0
 BeginsInChain g words key nodes stop (starts.Running walk) = IsInChain g words key nodes stop walk Go
-BeginsInChain g words key nodes stop (starts.Done seen) = IsSeen (key_in g words) key nodes stop seen seen.found
+BeginsInChain g words key nodes stop (starts.Done seen) =
+    IsSeen (key_in g words) key nodes stop seen seen.found
+
+-- what comes after the walk's operation, where it finds what these words have
+abbrev pub stepped : List ℕ → LockedWalkModel → LockedWalkModel × Next Seen
+stepped words m = locked_walk_after m (old_of words (locked_walk_plan m))
 
 -- A walk begins in its chain, and each operation that finds what these words have leaves it there. So others may change
 -- all words but those of the chain.
@@ -135,10 +142,10 @@ pub record WalksStayInChain : Type 0 where
   pub stays :
       (g : Geometry) (words : List ℕ) (link : ℕ) (nodes : List ℕ) (stop : ℕ) (m : LockedWalkModel)
       → CanWalk g words link nodes stop → IsWalking g words nodes m
-      → IsInChain g words m.key nodes stop (locked_walk_after m (old_of words (locked_walk_plan m))).0 (locked_walk_after m (old_of words (locked_walk_plan m))).1
+      → IsInChain g words m.key nodes stop (stepped words m).0 (stepped words m).1
 
--- A bucket is locked, whose word was this one, and is to get another chain: these of its nodes stay, and behind them
--- come those to which the link leads.
+-- A bucket is locked, whose word was this one, and is to get another chain: these of its nodes stay (`kept`), and behind
+-- them come those to which the link leads. No node stands twice, and the last link can be read from a bucket's word.
 pub record CanRelink (g : Geometry) (words : List ℕ) (index word : ℕ) (kept : List ℕ) (link : ℕ) (behind : List ℕ) (stop : ℕ) : Type 0 where
   pub whole : length words ≡ words_in g
   pub bucket : index < 64 * g.pages
@@ -168,7 +175,8 @@ pub record IsRelinked (g : Geometry) (words : List ℕ) (index : ℕ) (kept behi
   pub chain : HasNewChain g left index kept behind stop
   pub unlocked : word_at g left (PageWord index) % 2 ≡ 0
   pub others :
-      (other : Address) → IsAddress g other → other ≢ PageWord index → ((last : ℕ) → last_or None kept ≡ Some last → other ≢ Node last ChainLink)
+      (other : Address) → IsAddress g other → other ≢ PageWord index
+      → ((last : ℕ) → last_or None kept ≡ Some last → other ≢ Node last ChainLink)
       → word_at g left other ≡ word_at g words other
 
 -- by one store a locked bucket gets another chain

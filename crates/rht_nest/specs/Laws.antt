@@ -27,7 +27,8 @@ pub record HasBucket (g : Geometry) (shape : Shape) (bucket : ℕ) : Type 0 wher
 abbrev pub BucketsStandInARow : Type 0
 BucketsStandInARow =
     (g : Geometry) (shape bucket : ℕ)
-    → HasBucket g (unpacked shape) bucket → bucket_place g shape bucket ≡ place_of g (PageWord (first_word (unpacked shape) + bucket))
+    → HasBucket g (unpacked shape) bucket
+    → bucket_place g shape bucket ≡ place_of g (PageWord (first_word (unpacked shape) + bucket))
 
 -- two flat tables share no word of the pages
 abbrev pub LieApart : Shape → Shape → Type 0
@@ -41,5 +42,6 @@ pub record BucketsNeverMeet : Type 0 where
       → bucket_place g shape bucket ≡ bucket_place g shape other → bucket ≡ other
   pub in_two :
       (g : Geometry) (shape bucket second other : ℕ)
-      → HasBucket g (unpacked shape) bucket → HasBucket g (unpacked second) other → LieApart (unpacked shape) (unpacked second)
+      → HasBucket g (unpacked shape) bucket → HasBucket g (unpacked second) other
+      → LieApart (unpacked shape) (unpacked second)
       → bucket_place g shape bucket ≢ bucket_place g second other

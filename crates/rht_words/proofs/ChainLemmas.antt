@@ -7,14 +7,17 @@ use Rattle.rht_words.specs.Chains.{IsSegment, IsDistinct}
 
 -- two segments, of which the second begins where the first one stops
 pub IsSegment-append : (chain : ℕ → ℕ) (nodes behind : List ℕ) (link middle stop : ℕ)
-    → IsSegment chain link nodes middle → IsSegment chain middle behind stop → IsSegment chain link (nodes ++ behind) stop
-IsSegment-append chain [] behind link middle stop front rest = subst (λ l. IsSegment chain l behind stop) (sym front) rest
+    → IsSegment chain link nodes middle → IsSegment chain middle behind stop
+    → IsSegment chain link (nodes ++ behind) stop
+IsSegment-append chain [] behind link middle stop front rest =
+    subst (λ l. IsSegment chain l behind stop) (sym front) rest
 IsSegment-append chain (node ∷ nodes) behind link middle stop front rest =
     (front.0, IsSegment-append chain nodes behind (chain node) middle stop front.1 rest)
 
 -- what is before a node ends with the link to it
 pub IsSegment-cut : (chain : ℕ → ℕ) (nodes : List ℕ) (node : ℕ) (behind : List ℕ) (link stop : ℕ)
-    → IsSegment chain link (nodes ++ node ∷ behind) stop → IsSegment chain link nodes (link_of node) × IsSegment chain (chain node) behind stop
+    → IsSegment chain link (nodes ++ node ∷ behind) stop
+    → IsSegment chain link nodes (link_of node) × IsSegment chain (chain node) behind stop
 IsSegment-cut chain [] node behind link stop whole = (whole.0, whole.1)
 IsSegment-cut chain (first ∷ nodes) node behind link stop whole =
     let cut = IsSegment-cut chain nodes node behind (chain first) stop whole.1 in
@@ -22,7 +25,8 @@ IsSegment-cut chain (first ∷ nodes) node behind link stop whole =
 
 -- a segment stays where the links behind its nodes do
 pub IsSegment-same : (chain stored : ℕ → ℕ) (nodes : List ℕ) (link stop : ℕ)
-    → All (λ node. stored node ≡ chain node) nodes → IsSegment chain link nodes stop → IsSegment stored link nodes stop
+    → All (λ node. stored node ≡ chain node) nodes → IsSegment chain link nodes stop
+    → IsSegment stored link nodes stop
 IsSegment-same chain stored [] link stop same segment = segment
 IsSegment-same chain stored (node ∷ nodes) link stop same segment =
     let behind = IsSegment-same chain stored nodes (chain node) stop (All-tail (λ n. stored n ≡ chain n) node nodes same) segment.1 in
@@ -36,17 +40,21 @@ IsSegment-store chain stored off nodes link stop others apart segment =
     IsSegment-same chain stored nodes link stop (λ k d l. others (get_or nodes k d) (apart k d l)) segment
 
 -- what holds of all nodes of a list holds of its last one
-pub last_or-All : (P : ℕ → Type 0) (node last : ℕ) (nodes behind : List ℕ) → last_or (Some node) nodes ≡ Some last → All P ((node ∷ nodes) ++ behind) → P last
+pub last_or-All : (P : ℕ → Type 0) (node last : ℕ) (nodes behind : List ℕ)
+    → last_or (Some node) nodes ≡ Some last → All P ((node ∷ nodes) ++ behind) → P last
 last_or-All P node last [] behind is all =
     let same : node ≡ last = cc in
     subst P same (All-head P node behind all)
-last_or-All P node last (next ∷ nodes) behind is all = last_or-All P next last nodes behind is (All-tail P node ((next ∷ nodes) ++ behind) all)
+last_or-All P node last (next ∷ nodes) behind is all =
+    last_or-All P next last nodes behind is (All-tail P node ((next ∷ nodes) ++ behind) all)
 
 -- The link behind the last node of a segment is stored, and what is behind it then is another segment. By induction
 -- over the nodes before the last one, whose links stay.
-pub IsSegment-relinked : (chain stored : ℕ → ℕ) (last link stop : ℕ) (behind : List ℕ) → stored last ≡ link → IsSegment chain link behind stop
+pub IsSegment-relinked : (chain stored : ℕ → ℕ) (last link stop : ℕ) (behind : List ℕ) → stored last ≡ link
+    → IsSegment chain link behind stop
     → (node : ℕ) (nodes : List ℕ) (first middle : ℕ) → last_or (Some node) nodes ≡ Some last
-    → All (λ n. n ≢ last → stored n ≡ chain n) ((node ∷ nodes) ++ behind) → IsDistinct ((node ∷ nodes) ++ behind)
+    → All (λ n. n ≢ last → stored n ≡ chain n) ((node ∷ nodes) ++ behind)
+    → IsDistinct ((node ∷ nodes) ++ behind)
     → IsSegment chain first (node ∷ nodes) middle → IsSegment stored first ((node ∷ nodes) ++ behind) stop
 IsSegment-relinked chain stored last link stop behind links rest node [] first middle is others distinct front =
     let same : node ≡ last = cc in
@@ -57,5 +65,6 @@ IsSegment-relinked chain stored last link stop behind links rest node (next ∷ 
     let Stays : ℕ → Type 0 = λ n. n ≢ last → stored n ≡ chain n in
     let differ : last ≢ node = last_or-All (λ n. n ≢ node) next last nodes behind is distinct.0 in
     let stays : stored node ≡ chain node = All-head Stays node ((next ∷ nodes) ++ behind) others (λ e. differ (sym e)) in
-    let further = IsSegment-relinked chain stored last link stop behind links rest next nodes (chain node) middle is (All-tail Stays node ((next ∷ nodes) ++ behind) others) distinct.1 front.1 in
+    let further =
+    IsSegment-relinked chain stored last link stop behind links rest next nodes (chain node) middle is (All-tail Stays node ((next ∷ nodes) ++ behind) others) distinct.1 front.1 in
     (front.0, subst (λ l. IsSegment stored l ((next ∷ nodes) ++ behind) stop) (sym stays) further)

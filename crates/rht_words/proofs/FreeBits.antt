@@ -10,7 +10,8 @@ use Rattle.rht_words.specs.Maps.{map_bits, bit_of, bits_above, lowest_free, IsBi
 use Rattle.rht_words.proofs.LowestBits.{lowest_is_in}
 
 -- a bit of the map is free in the word where it is free among the map's bits
-bit_at-free : (count index word bit : ℕ) → bit < 64 → 64 * index + bit < count → bit_at (bit_and word (map_bits count index)) bit ≡ bit_at word bit
+bit_at-free : (count index word bit : ℕ) → bit < 64 → 64 * index + bit < count
+    → bit_at (bit_and word (map_bits count index)) bit ≡ bit_at word bit
 bit_at-free count index word bit low within =
     omega (arith, bit_at_and word (map_bits count index) bit, bit_at_ones (min 64 (count - 64 * index)) bit (omega arith), bit_at-lt word bit)
 
@@ -29,7 +30,8 @@ free_below count index word =
     let used = min 64 (count - 64 * index) in
     omega (arith, and_le_r word (map_bits count index), pow_pos used, pow_mono {i = used} {j = 64} (omega arith))
 
-lowest_of : (count index word : ℕ) → 0 < bit_and word (map_bits count index) → bit_and word (map_bits count index) < 2 ^ 64
+lowest_of : (count index word : ℕ) → 0 < bit_and word (map_bits count index)
+    → bit_and word (map_bits count index) < 2 ^ 64
     → IsLowestFree count index word (trailing_zeros w64 (bit_and word (map_bits count index)))
 lowest_of count index word positive few =
     let free = bit_and word (map_bits count index) in
@@ -37,23 +39,27 @@ lowest_of count index word positive few =
     let lowest = bit_at-trailing_zeros w64 free positive few in
     record {
       within = within;
-      set = sym (bit_at-free count index word (trailing_zeros w64 free) within.within within.below) ∙ lowest.1;
+      set = sym (bit_at-free count index word (trailing_zeros w64 free) within.within within.below)
+          ∙ lowest.1;
       below = λ other l.
           let in_word : other < 64 = omega (arith, within.within) in
           let in_map : 64 * index + other < count = omega (arith, within.below) in
           sym (bit_at-free count index word other in_word in_map) ∙ lowest.2 other l;
     }
 
-pub lowest_free-None : (count index word : ℕ) → lowest_free count index word ≡ None → NoneIsFree count index word
+pub lowest_free-None : (count index word : ℕ) → lowest_free count index word ≡ None
+    → NoneIsFree count index word
 lowest_free-None count index word =
     let free = bit_and word (map_bits count index) in
     cond_both (eqb free 0) None (Some (trailing_zeros w64 free)) (λ o. o ≡ None → NoneIsFree count index word)
     (λ zero none. record {
-      clear = λ bit low within. sym (bit_at-free count index word bit low within) ∙ (ap (λ f. bit_at f bit) (eqb-true free 0 zero) ∙ bit_at-zero bit);
+      clear = λ bit low within. sym (bit_at-free count index word bit low within)
+          ∙ (ap (λ f. bit_at f bit) (eqb-true free 0 zero) ∙ bit_at-zero bit);
     })
     (λ some none. absurd (cc))
 
-pub lowest_free-Some : (count index word bit : ℕ) → lowest_free count index word ≡ Some bit → IsLowestFree count index word bit
+pub lowest_free-Some : (count index word bit : ℕ) → lowest_free count index word ≡ Some bit
+    → IsLowestFree count index word bit
 lowest_free-Some count index word bit =
     let free = bit_and word (map_bits count index) in
     cond_both (eqb free 0) None (Some (trailing_zeros w64 free)) (λ o. o ≡ Some bit → IsLowestFree count index word bit)
@@ -69,12 +75,14 @@ pub bit_at-cleared : (word bit : ℕ) → bit < 64 → bit_at (bit_and word (bit
 bit_at-cleared word bit low =
     omega (arith, bit_at_and word (bit_not w64 (bit_of bit)) bit, bit_at_not w64 (bit_of bit) bit (pow_below bit 64 low) low, bit_at-pow_same bit)
 
-pub bit_at-cleared_other : (word bit other : ℕ) → bit < 64 → other < 64 → other ≢ bit → bit_at (bit_and word (bit_not w64 (bit_of bit))) other ≡ bit_at word other
+pub bit_at-cleared_other : (word bit other : ℕ) → bit < 64 → other < 64 → other ≢ bit
+    → bit_at (bit_and word (bit_not w64 (bit_of bit))) other ≡ bit_at word other
 bit_at-cleared_other word bit other low l differ =
     omega (arith, bit_at_and word (bit_not w64 (bit_of bit)) other, bit_at_not w64 (bit_of bit) other (pow_below bit 64 low) l, bit_at-pow_other bit other differ, bit_at-lt word other)
 
 -- clearing a bit that is clear changes nothing
-pub cleared_already : (word bit : ℕ) → bit < 64 → word < 2 ^ 64 → bit_at word bit ≡ 0 → bit_and word (bit_not w64 (bit_of bit)) ≡ word
+pub cleared_already : (word bit : ℕ) → bit < 64 → word < 2 ^ 64 → bit_at word bit ≡ 0
+    → bit_and word (bit_not w64 (bit_of bit)) ≡ word
 cleared_already word bit low small clear =
     let cleared = bit_and word (bit_not w64 (bit_of bit)) in
     let less : cleared < 2 ^ 64 = omega (arith, and_le_l word (bit_not w64 (bit_of bit))) in
@@ -87,10 +95,13 @@ cleared_already word bit low small clear =
 pub bit_at-set : (word bit : ℕ) → bit_at (bit_or word (bit_of bit)) bit ≡ 1
 bit_at-set word bit = omega (arith, bit_at_or word (bit_of bit) bit, bit_at-pow_same bit, bit_at-lt word bit)
 
-pub bit_at-set_other : (word bit other : ℕ) → other ≢ bit → bit_at (bit_or word (bit_of bit)) other ≡ bit_at word other
-bit_at-set_other word bit other differ = omega (arith, bit_at_or word (bit_of bit) other, bit_at-pow_other bit other differ)
+pub bit_at-set_other : (word bit other : ℕ) → other ≢ bit
+    → bit_at (bit_or word (bit_of bit)) other ≡ bit_at word other
+bit_at-set_other word bit other differ =
+    omega (arith, bit_at_or word (bit_of bit) other, bit_at-pow_other bit other differ)
 
 -- the bits above one are the word's
-pub bit_at-above : (word bit other : ℕ) → bit < other → other < 64 → bit_at (bit_and word (bits_above bit)) other ≡ bit_at word other
+pub bit_at-above : (word bit other : ℕ) → bit < other → other < 64
+    → bit_at (bit_and word (bits_above bit)) other ≡ bit_at word other
 bit_at-above word bit other high low =
     omega (arith, bit_at_and word (bits_above bit) other, bit_at_mask_inside (bit + 1) 64 other (omega arith) low, bit_at-lt word other)

@@ -19,7 +19,8 @@ module _ {M R : Type 0} (plan : M → Op) (after : M → ℕ → M × Next R) wh
       (keeps : (steps : List Performed) (m : M) (old : ℕ) → Old old → Kept steps m → (after m old).1 ≡ Go → Kept (steps ++ performed m old ∷ []) (after m old).0)
       (ends : (steps : List Performed) (m : M) (old : ℕ) (answer : R) → Old old → Kept steps m → (after m old).1 ≡ Done answer → Ended (steps ++ performed m old ∷ []) answer) where
     -- one step, with what comes of the machine after it
-    step_kept : (steps : List Performed) (m : M) (old : ℕ) (answer : R) (rest : Ran R) → Old old → Kept steps m
+    step_kept : (steps : List Performed) (m : M) (old : ℕ) (answer : R) (rest : Ran R) → Old old
+        → Kept steps m
         → (Kept (steps ++ performed m old ∷ []) (after m old).0 → rest.next ≡ Done answer → Ended ((steps ++ performed m old ∷ []) ++ rest.steps) answer)
         → (next : Next R) → (after m old).1 ≡ next → (went_on (performed m old) next rest).next ≡ Done answer
         → Ended (steps ++ (went_on (performed m old) next rest).steps) answer
@@ -28,7 +29,9 @@ module _ {M R : Type 0} (plan : M → Op) (after : M → ℕ → M × Next R) wh
     step_kept steps m old answer rest known kept later (Done last) is done = ends steps m old answer known kept (cc)
 
     -- By induction over the old values.
-    pub kept_to_end : (steps : List Performed) (m : M) (olds : List ℕ) (answer : R) → All Old olds → Kept steps m → (ran plan after m olds).next ≡ Done answer → Ended (steps ++ (ran plan after m olds).steps) answer
+    pub kept_to_end : (steps : List Performed) (m : M) (olds : List ℕ) (answer : R) → All Old olds
+        → Kept steps m → (ran plan after m olds).next ≡ Done answer
+        → Ended (steps ++ (ran plan after m olds).steps) answer
     kept_to_end steps m [] answer known kept done = absurd (cc)
     kept_to_end steps m (old ∷ olds) answer known kept done =
         step_kept steps m old answer (ran plan after (after m old).0 olds) (All-head Old old olds known) kept
@@ -36,7 +39,8 @@ module _ {M R : Type 0} (plan : M → Op) (after : M → ℕ → M × Next R) wh
         (after m old).1 refl done
 
   -- A machine that answers at its next operation ends there.
-  pub ends_now : (m : M) (words : List ℕ) (answer : R) → (after m (old_of words (plan m))).1 ≡ Done answer → EndsAlone plan after m words answer (applied words (plan m))
+  pub ends_now : (m : M) (words : List ℕ) (answer : R) → (after m (old_of words (plan m))).1 ≡ Done answer
+      → EndsAlone plan after m words answer (applied words (plan m))
   ends_now m words answer is =
       let old = old_of words (plan m) in
       record {
@@ -47,8 +51,10 @@ module _ {M R : Type 0} (plan : M → Op) (after : M → ℕ → M × Next R) wh
       }
 
   -- A machine that goes on ends as it does after its next operation.
-  pub ends_later : (m : M) (words : List ℕ) (answer : R) (left : List ℕ) → (after m (old_of words (plan m))).1 ≡ Go
-      → EndsAlone plan after (after m (old_of words (plan m))).0 (applied words (plan m)) answer left → EndsAlone plan after m words answer left
+  pub ends_later : (m : M) (words : List ℕ) (answer : R) (left : List ℕ)
+      → (after m (old_of words (plan m))).1 ≡ Go
+      → EndsAlone plan after (after m (old_of words (plan m))).0 (applied words (plan m)) answer left
+      → EndsAlone plan after m words answer left
   ends_later m words answer left is rest =
       let old = old_of words (plan m) in
       record {
