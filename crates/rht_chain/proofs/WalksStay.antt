@@ -1,7 +1,7 @@
 -- A walk begins in its chain, and each of its operations leaves it there or shows what there is to see.
 use Rattle.std.proofs.Common.{◌≡◌, ◌≢◌, ℕ, ◌+◌, ◌^◌, ◌<◌, List, [], ◌∷◌, ◌++◌, append_assoc, length, Option, Some, None, refl, sym, ap, ◌∙◌, subst, eqb, length-append, arith}
 use Rattle.std.proofs.lemmas.Bool.{cond_both, eqb-true, eqb-false}
-use Rattle.std.proofs.lemmas.List.Elements.{All-nil, All-head, All-tail, All-push}
+use Rattle.std.proofs.lemmas.List.Elements.{All-nil, All-cons, All-head, All-tail, All-push}
 use Rattle.std.proofs.lemmas.List.{length_push}
 use Rattle.std.specs.List.{All, last_or}
 use Rattle.rht_words.specs.declared.machine.Next.{Next}
@@ -9,13 +9,13 @@ use Rattle.rht_words.specs.declared.machine.Next.TheVariants.{Go, Done}
 use Rattle.rht_words.specs.declared.geometry.Geometry.{Geometry}
 use Rattle.rht_words.specs.Links.{head_of, node_of}
 use Rattle.rht_words.specs.Chains.{IsSegment, chain_in, key_in}
-use Rattle.rht_words.proofs.ChainLemmas.{IsSegment-cut}
+use Rattle.rht_words.proofs.ChainLemmas.{IsSegment-cut, IsSegment-same}
 use Rattle.rht_words.proofs.LinksRead.{links_tell_apart}
 use Rattle.rht_chain.specs.declared.locked_walk.Seen.{Seen}
 use Rattle.rht_chain.specs.declared.locked_walk.LockedWalkAt.{LockedWalkAt}
 use Rattle.rht_chain.specs.declared.locked_walk.LockedWalkAt.TheVariants as at
 use Rattle.rht_chain.specs.LockedWalk.{LockedWalkModel, compared, found_at, followed, one_more, walk_from}
-use Rattle.rht_chain.specs.Laws.{CanWalk, IsInChain, BeginsInChain, WalksStayInChain, stepped, node_at, loaded}
+use Rattle.rht_chain.specs.Laws.{CanWalk, IsWalking, AreSameIn, IsInChain, BeginsInChain, WalksStayInChain, stepped, node_at, loaded}
 
 -- the last of a list with one more
 last_or-push : (first : Option ℕ) (nodes : List ℕ) (node : ℕ) → last_or first (nodes ++ node ∷ []) ≡ Some node
@@ -26,6 +26,46 @@ last_or-push first (next ∷ nodes) node = last_or-push (Some next) nodes node
 All-behind : (P : ℕ → Type 0) (front rest : List ℕ) → All P (front ++ rest) → All P rest
 All-behind P [] rest all = all
 All-behind P (node ∷ front) rest all = All-behind P front rest (All-tail P node (front ++ rest) all)
+
+-- and of its first part
+All-front : (P : ℕ → Type 0) (front rest : List ℕ) → All P (front ++ rest) → All P front
+All-front P [] rest all = All-nil P
+All-front P (node ∷ front) rest all =
+    All-cons P node front (All-head P node (front ++ rest) all) (All-front P front rest (All-tail P node (front ++ rest) all))
+
+-- the nodes of which the key was loaded are the first ones of the chain
+loaded_first : (passed : List ℕ) (at : LockedWalkAt) (behind : List ℕ)
+    → (rest : List ℕ) × (passed ++ node_at at ∷ behind ≡ loaded passed at ++ rest)
+loaded_first passed (at.Key node) behind = (node ∷ behind, refl)
+loaded_first passed (at.ChainLink node) behind = (behind, sym (append_assoc passed (node ∷ []) behind))
+
+-- a walk is in its chain in other words too, where the chain's nodes are the same
+IsWalking-same : (g : Geometry) (words other nodes : List ℕ) (m : LockedWalkModel) → AreSameIn g words other nodes
+    → IsWalking g words nodes m → IsWalking g other nodes m
+IsWalking-same g words other nodes m same walking =
+    let Same : ℕ → Type 0 = λ node. key_in g other node ≡ key_in g words node in
+    let first = loaded_first walking.passed m.at walking.behind in
+    let keys : All Same (loaded walking.passed m.at) =
+    All-front Same (loaded walking.passed m.at) first.0 (subst (λ list. All Same list) (walking.split ∙ first.1) same.keys) in
+    record {
+      geometry = walking.geometry;
+      passed = walking.passed;
+      behind = walking.behind;
+      split = walking.split;
+      others = λ k d l is. walking.others k d l (sym (keys k d l) ∙ is);
+      before = walking.before;
+      counted = walking.counted;
+    }
+
+CanWalk-same : (g : Geometry) (words other : List ℕ) (link : ℕ) (nodes : List ℕ) (stop : ℕ) → AreSameIn g words other nodes
+    → CanWalk g words link nodes stop → CanWalk g other link nodes stop
+CanWalk-same g words other link nodes stop same can =
+    record {
+      segment = IsSegment-same (chain_in g words) (chain_in g other) nodes link stop same.links can.segment;
+      within = can.within;
+      stops = can.stops;
+      few = can.few;
+    }
 
 module _ (g : Geometry) (words : List ℕ) (key stop : ℕ) where
   abbrev HasOther : ℕ → Type 0
@@ -145,4 +185,6 @@ walks_stay_in_chain = record {
       (sym walking.geometry)
       (stays_at g words m.key stop link nodes walking.passed walking.behind m.length m.before m.at can
       walking.split walking.others walking.before walking.counted);
+  undisturbed = λ g words other link nodes stop m same can walking.
+      (CanWalk-same g words other link nodes stop same can, IsWalking-same g words other nodes m same walking);
 }

@@ -132,8 +132,13 @@ BeginsInChain g words key nodes stop (starts.Done seen) =
 abbrev pub stepped : List ℕ → LockedWalkModel → LockedWalkModel × Next Seen
 stepped words m = locked_walk_after m (old_of words (locked_walk_plan m))
 
--- A walk begins in its chain, and each operation that finds what these words have leaves it there. So others may change
--- all words but those of the chain.
+-- other words have the same links behind these nodes, and the same keys
+pub record AreSameIn (g : Geometry) (words other nodes : List ℕ) : Type 0 where
+  pub links : All (λ node. chain_in g other node ≡ chain_in g words node) nodes
+  pub keys : All (λ node. key_in g other node ≡ key_in g words node) nodes
+
+-- A walk begins in its chain, and each operation that finds what these words have leaves it there. It is there too in
+-- other words where the nodes of the chain are the same, so others may change the rest meanwhile.
 pub record WalksStayInChain : Type 0 where
   pub begins :
       (g : Geometry) (words : List ℕ) (place word key : ℕ) (nodes : List ℕ) (stop : ℕ)
@@ -143,6 +148,10 @@ pub record WalksStayInChain : Type 0 where
       (g : Geometry) (words : List ℕ) (link : ℕ) (nodes : List ℕ) (stop : ℕ) (m : LockedWalkModel)
       → CanWalk g words link nodes stop → IsWalking g words nodes m
       → IsInChain g words m.key nodes stop (stepped words m).0 (stepped words m).1
+  pub undisturbed :
+      (g : Geometry) (words other : List ℕ) (link : ℕ) (nodes : List ℕ) (stop : ℕ) (m : LockedWalkModel)
+      → AreSameIn g words other nodes → CanWalk g words link nodes stop → IsWalking g words nodes m
+      → CanWalk g other link nodes stop × IsWalking g other nodes m
 
 -- A bucket is locked, whose word was this one, and is to get another chain: these of its nodes stay (`kept`), and behind
 -- them come those to which the link leads. No node stands twice, and the last link can be read from a bucket's word.

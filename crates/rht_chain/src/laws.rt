@@ -17,7 +17,8 @@ pub fn walks_see_their_chain()
     ensures { WalksSeeTheirChain }
 {}
 
-/// A walk stays in its chain, whatever others do to the other words.
+/// A walk stays in its chain, also where others change other words than the links and keys of the
+/// chain's nodes.
 pub fn walks_stay_in_chain()
     ensures { WalksStayInChain }
 {}
