@@ -2,3 +2,5 @@
 pub mod TakeNode
 -- how a node is given back
 pub mod GiveNode
+-- what the other machines rely on
+pub mod Laws

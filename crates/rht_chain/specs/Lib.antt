@@ -6,3 +6,5 @@ pub mod LockedWalk
 pub mod Relink
 -- letting go of the lock
 pub mod Unlock
+-- what the other machines rely on
+pub mod Laws

@@ -5,7 +5,7 @@ use Rattle.rht_words.specs.declared.env.Env.{Env}
 use Rattle.rht_words.specs.Places.{Address, CurrentTable, PortCount, Slot, SlotWord, ShapeWord, SeedWord, FutureWord, NodeMap, Node, NodeWord, ChainLink, KeyWord, OwnerWord, ListLink, PageWord, map_words, IsAddress}
 use Rattle.rht_words.proofs.Memory.{Memory, IsWrite}
 use Rattle.rht_words.proofs.Members.{In, count_below, count_below-same}
-use Rattle.rht_words.proofs.Segments.{IsSegment-members}
+use Rattle.rht_words.proofs.ChainLemmas.{IsSegment-members}
 use Rattle.rht_words.specs.Links.{head_of, marker_of}
 use Rattle.rht_core.proofs.Ghosts.{Bucket, Owner, Free, Held, First, Ghost, lock_bit, is_first}
 use Rattle.rht_core.proofs.Wholes.{chain_of, key_of, shape_word, home, place_at, OneTable, BucketRight, LockedRight, ChainedRight, IsFirstAt, IsBoundTo, Owned, ArenaRight, Whole, firsts, raisers}

@@ -9,7 +9,7 @@ use Rattle.rht_words.specs.Chains.{IsSegment}
 use Rattle.rht_words.specs.Places.{Address, CurrentTable, PortCount, Slot, SlotWord, NodeMap, Node, NodeWord, ChainLink, KeyWord, OwnerWord, ListLink, PageWord, map_words, IsAddress}
 use Rattle.rht_words.proofs.Memory.{Memory, IsWrite}
 use Rattle.rht_words.proofs.Members.{In, NotIn, Distinct, not_in_from, count_below, count_below-more}
-use Rattle.rht_words.proofs.Segments.{IsSegment-members}
+use Rattle.rht_words.proofs.ChainLemmas.{IsSegment-members}
 use Rattle.rht_core.proofs.Ghosts.{put, put-same, put-other, put-all, Bucket, Owner, Free, Held, First, Ghost, lock_bit, is_first}
 use Rattle.rht_core.proofs.Wholes.{chain_of, key_of, home, place_at, OneTable, BucketRight, LockedRight, ChainedRight, IsFirstAt, IsBoundTo, Owned, ArenaRight, IsBuilt, Whole, firsts, raisers}
 use Rattle.rht_core.proofs.Knowledge.{Rely, HasNode, NoKey, HoldsLock}

@@ -17,7 +17,7 @@ use Rattle.rht_words.specs.Places.{Address, Node, NodeWord, ChainLink, KeyWord, 
 use Rattle.rht_words.proofs.LinksRead.{links_tell_apart}
 use Rattle.rht_words.proofs.Memory.{Memory, IsWrite, is_write}
 use Rattle.rht_words.proofs.Members.{In, in-middle}
-use Rattle.rht_words.proofs.Segments.{IsSegment-cut}
+use Rattle.rht_words.proofs.ChainLemmas.{IsSegment-cut}
 use Rattle.rht_chain.specs.Lock.{LockModel, lock_plan, lock_after, IsEven}
 use Rattle.rht_chain.specs.declared.lock.LockAt.{LockAt}
 use Rattle.rht_chain.specs.declared.lock.LockAt.TheVariants as locks
@@ -115,12 +115,12 @@ module _ (env : Env) (mix : ℕ → ℕ → ℕ → ℕ) (c : ℕ) (port : ℕ) 
             → WalkKnows word (followed walk node (chain_of M node) (node_of walk.geometry.nodes (chain_of M node))) M G
         go [] e s0 =
             let s = rw e at chain_here in
-            let cut = IsSegment-cut (chain_of M) (head_of place (G.bucket j).plain) front node [] (marker_of place) s in
+            let cut = IsSegment-cut (chain_of M) front node [] (head_of place (G.bucket j).plain) (marker_of place) s in
             let ends : node_of walk.geometry.nodes (chain_of M node) ≡ None = rw is.0 (marker_ends (chain_of M node) cut.1) in
             rw ends (mine, (only.0, ((holds, rw e (NoKey-more front node stands.passed differs)), tt)))
         go (next ∷ rear) e s0 =
             let s = rw e at chain_here in
-            let cut = IsSegment-cut (chain_of M) (head_of place (G.bucket j).plain) front node (next ∷ rear) (marker_of place) s in
+            let cut = IsSegment-cut (chain_of M) front node (next ∷ rear) (head_of place (G.bucket j).plain) (marker_of place) s in
             let more : (G.bucket j).nodes ≡ (front ++ node ∷ []) ++ next ∷ rear = e ∙ sym (append_snoc front node (next ∷ rear)) in
             let names : node_of walk.geometry.nodes (chain_of M node) ≡ Some next
                   = rw is.0 (link_names (chain_of M node) next cut.1.0 (rw more (in-middle next (front ++ node ∷ []) rear))) in

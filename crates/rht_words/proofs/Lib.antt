@@ -22,5 +22,9 @@ pub mod OpeningLaws
 pub mod Memory
 -- lists without repeats, and how many numbers below a bound have a property
 pub mod Members
--- chains keep, and how one store changes one
-pub mod Segments
+-- what is kept step by step holds at a machine's end
+pub mod MachineRuns
+-- what the lowest set bit of a map's word says of the others
+pub mod FreeBits
+-- how segments of chains are cut and joined, and what a store to one link does to them
+pub mod ChainLemmas

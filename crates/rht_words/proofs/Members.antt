@@ -33,8 +33,9 @@ in_and_not x (y ∷ ys) (inr i) out = in_and_not x ys i out.1
 pub in_or_not : (x : ℕ) (xs : List ℕ) → In x xs ⊎ NotIn x xs
 in_or_not x [] = inr tt
 in_or_not x (y ∷ ys) = elim (cases_eq x y) [
-    inl e ↦ inl (inl e)
-  | inr ne ↦ elim (in_or_not x ys) [ inl i ↦ inl (inr i) | inr out ↦ inr (ne, out) ] ]
+  | inl e ↦ inl (inl e)
+  | inr ne ↦ elim (in_or_not x ys) [ inl i ↦ inl (inr i) | inr out ↦ inr (ne, out) ]
+]
 
 pub in-middle : (x : ℕ) (xs ys : List ℕ) → In x (xs ++ x ∷ ys)
 in-middle x [] ys = inl refl
@@ -89,7 +90,7 @@ pub count_below-more : (has has' : ℕ → Bool) (x bound : ℕ) → x < bound �
     → count_below has' bound ≡ count_below has bound + 1
 count_below-more has has' x zero l was is same = absurd (omega arith)
 count_below-more has has' x (suc n) l was is same = elim (cases_eq x n) [
-    inl e ↦
+  | inl e ↦
       let below = count_below-same has has' n (λ m k. same m (omega arith)) in
       let old : one_if (has n) ≡ 0 = ap one_if (ap has (sym e) ∙ was) in
       let new : one_if (has' n) ≡ 1 = ap one_if (ap has' (sym e) ∙ is) in
@@ -97,7 +98,8 @@ count_below-more has has' x (suc n) l was is same = elim (cases_eq x n) [
   | inr ne ↦
       let below = count_below-more has has' x n (omega arith) was is same in
       let here = ap one_if (same n (λ e. ne (sym e))) in
-      omega (arith, below, here) ]
+      omega (arith, below, here)
+]
 
 pub count_below-most : (has : ℕ → Bool) (bound : ℕ) → count_below has bound ≤ bound
 count_below-most has zero = omega arith
@@ -123,14 +125,17 @@ length-count_below has bound [] distinct below all = omega arith
 length-count_below has bound (x ∷ xs) distinct below all =
     let without : ℕ → Bool = λ n. cond (n == x) false (has n) in
     let rest = length-count_below without bound xs distinct.1 below.1 (λ y i. elim (cases_eq y x) [
-        inl e ↦ absurd (in_and_not y xs i (subst_not_in x y xs (sym e) distinct.0))
-      | inr ne ↦ without-other y ne ∙ all y (inr i) ]) in
+      | inl e ↦ absurd (in_and_not y xs i (subst_not_in x y xs (sym e) distinct.0))
+      | inr ne ↦ without-other y ne ∙ all y (inr i)
+    ]) in
     let more = count_below-more without has x bound below.0 (without-same refl) (all x (inl refl)) (λ n ne. sym (without-other n ne)) in
     omega (arith, rest, more)
   where
     subst_not_in : (x y : ℕ) (zs : List ℕ) → x ≡ y → NotIn x zs → NotIn y zs
     subst_not_in x y zs e out = rw (sym e) out
+
     without-same : x ≡ x → cond (x == x) false (has x) ≡ false
     without-same e = rw (eq-eqb x x refl) refl
+
     without-other : (n : ℕ) → n ≢ x → cond (n == x) false (has n) ≡ has n
     without-other n ne = rw (ne_eqb n x ne) refl

@@ -20,5 +20,7 @@ pub mod Laws
 pub mod Maps
 -- the words of a table that has just been opened
 pub mod Opening
--- chains as rows of nodes
+-- what comes of a machine that is told one old value after another
+pub mod Machines
+-- the nodes to which a row of links leads
 pub mod Chains

@@ -1,0 +1,4 @@
+-- a node that is answered was free until its operation, and giving back sets one bit
+pub mod TakenWereFree
+-- the nodes below the one at which the machine stands were seen taken
+pub mod NodesSeen

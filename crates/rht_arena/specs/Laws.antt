@@ -1,0 +1,85 @@
+-- What the machines that take and give back nodes rely on.
+use Rattle.std.specs.Prelude.{◌≡◌, ◌≢◌, ℕ, ◌/◌, ◌%◌, ◌<◌, ◌^◌, Option, None, Some, List, [], ◌∷◌, ◌++◌}
+use Rattle.std.specs.List.{All, Any}
+use Rattle.std.specs.Int.{bit_at, bit_not, w64}
+use Rattle.rht_words.specs.declared.op.Op.{Op}
+use Rattle.rht_words.specs.declared.op.Op.TheVariants.{And}
+use Rattle.rht_words.specs.declared.machine.Next.TheVariants.{Done}
+use Rattle.rht_words.specs.declared.geometry.Geometry.{Geometry}
+use Rattle.rht_words.specs.Maps.{bit_of}
+use Rattle.rht_words.specs.Places.{NodeMap, place_of}
+use Rattle.rht_words.specs.Operations.{op_place, word_after}
+use Rattle.rht_words.specs.Machines.{Performed, ran}
+use Rattle.rht_arena.specs.TakeNode.{TakeNodeModel, take_node_new, take_node_plan, take_node_after, IsInRange}
+use Rattle.rht_arena.specs.GiveNode.{GiveNodeModel, give_node_plan}
+
+-- the word of the node map in which the node has its bit, and which bit of the word that is
+abbrev pub map_place : Geometry → ℕ → ℕ
+map_place g node = place_of g (NodeMap (node / 64))
+
+abbrev pub map_bit : ℕ → ℕ
+map_bit node = node % 64
+
+-- the operation gives the node's bit this value, and leaves the other bits of the word as they were
+pub record ChangesBit (g : Geometry) (node value old : ℕ) (op : Op) : Type 0 where
+  pub place : op_place op ≡ map_place g node
+  pub bit : bit_at (word_after old op) (map_bit node) ≡ value
+  pub others : (other : ℕ) → other < 64 → other ≢ map_bit node
+      → bit_at (word_after old op) other ≡ bit_at old other
+
+-- the And with all ones but the node's bit
+abbrev pub claim_of : Geometry → ℕ → Op
+claim_of g node = And (map_place g node) (bit_not w64 (bit_of (map_bit node)))
+
+-- the operation cleared the node's bit, which was set, and no other
+pub record IsTaking (g : Geometry) (node old : ℕ) (op : Op) : Type 0 where
+  pub within : node < g.nodes
+  pub claim : op ≡ claim_of g node
+  pub free : bit_at old (map_bit node) ≡ 1
+  pub clears : ChangesBit g node 0 old op
+
+-- the operation after which a node is answered took it, and it was free until then
+abbrev pub TakenWasFree : Type 0
+TakenWasFree =
+    (m : TakeNodeModel) (old node : ℕ)
+    → IsInRange m.geometry m.at → (take_node_after m old).1 ≡ Done (Some node)
+    → IsTaking m.geometry node old (take_node_plan m)
+
+-- the operation was on the word with the node's bit, and found the node taken
+pub record SeesTaken (g : Geometry) (node : ℕ) (step : Performed) : Type 0 where
+  pub place : op_place step.op ≡ map_place g node
+  pub taken : bit_at step.old (map_bit node) ≡ 0
+
+-- the operation left the word as it was
+abbrev pub LeavesWord : Performed → Type 0
+LeavesWord step = word_after step.old step.op ≡ step.old
+
+-- each node was seen taken, and no word was changed
+pub record NoneWasTaken (g : Geometry) (steps : List Performed) : Type 0 where
+  pub seen : (node : ℕ) → node < g.nodes → Any (SeesTaken g node) steps
+  pub unchanged : All LeavesWord steps
+
+-- the last operation took this node, and those before it changed no word
+pub record OneWasTaken (g : Geometry) (steps : List Performed) (node : ℕ) : Type 0 where
+  pub before : List Performed
+  pub last : Performed
+  pub are : steps ≡ before ++ last ∷ []
+  pub taking : IsTaking g node last.old last.op
+  pub unchanged : All LeavesWord before
+
+-- what the operations did, by the answer that came of them
+abbrev pub IsAnsweredBy : Geometry → List Performed → Option ℕ → Type 0
+IsAnsweredBy g steps None = NoneWasTaken g steps
+IsAnsweredBy g steps (Some node) = OneWasTaken g steps node
+
+-- whatever words its operations find, the answer says what they did
+abbrev pub AnswersSayWhatWasDone : Type 0
+AnswersSayWhatWasDone =
+    (g : Geometry) (olds : List ℕ) (answer : Option ℕ)
+    → All (λ old. old < 2 ^ 64) olds
+    → (ran take_node_plan take_node_after (take_node_new g) olds).next ≡ Done answer
+    → IsAnsweredBy g (ran take_node_plan take_node_after (take_node_new g) olds).steps answer
+
+-- giving a node back sets its bit and no other
+abbrev pub GivingSetsOneBit : Type 0
+GivingSetsOneBit = (m : GiveNodeModel) (old : ℕ) → ChangesBit m.geometry m.node 1 old (give_node_plan m)

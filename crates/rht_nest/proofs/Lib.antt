@@ -1,0 +1,2 @@
+-- the buckets of flat tables stand in a row, and no two have one place
+pub mod BucketsApart

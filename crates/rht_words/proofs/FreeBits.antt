@@ -1,0 +1,107 @@
+-- What the lowest set bit of a map's word says of the others, and what clearing and setting one bit does.
+use Rattle.std.proofs.Common.{◌≡◌, ◌≢◌, ℕ, ◌+◌, ◌*◌, ◌<◌, ◌-◌, ◌^◌, inl, inr, min, Some, None, sym, ap, ◌∙◌, subst, bit_and, eqb, arith}
+use Rattle.std.specs.Prelude.{bit_or}
+use Rattle.std.proofs.lemmas.Bool.{cases_eq, cond_both, eqb-true, eqb-false}
+use Rattle.std.proofs.lemmas.Nat.{and_le_l, and_le_r, pow_pos, pow_below}
+use Rattle.std.proofs.lemmas.Nat.Bits.{bit_at-trailing_zeros, bit_at_and, bit_at_or, bit_at_not, bit_at-zero, bit_at_ones, bit_at-lt, bit_at-pow_same, bit_at-pow_other, same_from_bits_below, bit_at_mask_inside}
+use Rattle.std.proofs.Math.Pow.{pow_mono}
+use Rattle.std.specs.Int.{bit_at, bit_not, trailing_zeros, w64}
+use Rattle.rht_words.specs.Maps.{map_bits, bit_of, bits_above, lowest_free, IsBitIn}
+use Rattle.rht_words.proofs.LowestBits.{lowest_is_in}
+
+-- a bit of the map is free in the word where it is free among the map's bits
+bit_at-free : (count index word bit : ℕ) → bit < 64 → 64 * index + bit < count
+    → bit_at (bit_and word (map_bits count index)) bit ≡ bit_at word bit
+bit_at-free count index word bit low within =
+    omega (arith, bit_at_and word (map_bits count index) bit, bit_at_ones (min 64 (count - 64 * index)) bit (omega arith), bit_at-lt word bit)
+
+-- what there is where no bit is free, and where this one is the lowest that is
+pub record NoneIsFree (count index word : ℕ) : Type 0 where
+  pub clear : (bit : ℕ) → bit < 64 → 64 * index + bit < count → bit_at word bit ≡ 0
+
+pub record IsLowestFree (count index word bit : ℕ) : Type 0 where
+  pub within : IsBitIn count index bit
+  pub set : bit_at word bit ≡ 1
+  pub below : (other : ℕ) → other < bit → bit_at word other ≡ 0
+
+-- the map's bits of a word are a word
+free_below : (count index word : ℕ) → bit_and word (map_bits count index) < 2 ^ 64
+free_below count index word =
+    let used = min 64 (count - 64 * index) in
+    omega (arith, and_le_r word (map_bits count index), pow_pos used, pow_mono {i = used} {j = 64} (omega arith))
+
+lowest_of : (count index word : ℕ) → 0 < bit_and word (map_bits count index)
+    → bit_and word (map_bits count index) < 2 ^ 64
+    → IsLowestFree count index word (trailing_zeros w64 (bit_and word (map_bits count index)))
+lowest_of count index word positive few =
+    let free = bit_and word (map_bits count index) in
+    let within : IsBitIn count index (trailing_zeros w64 free) = lowest_is_in count index word positive in
+    let lowest = bit_at-trailing_zeros w64 free positive few in
+    record {
+      within = within;
+      set = sym (bit_at-free count index word (trailing_zeros w64 free) within.within within.below)
+          ∙ lowest.1;
+      below = λ other l.
+          let in_word : other < 64 = omega (arith, within.within) in
+          let in_map : 64 * index + other < count = omega (arith, within.below) in
+          sym (bit_at-free count index word other in_word in_map) ∙ lowest.2 other l;
+    }
+
+pub lowest_free-None : (count index word : ℕ) → lowest_free count index word ≡ None
+    → NoneIsFree count index word
+lowest_free-None count index word =
+    let free = bit_and word (map_bits count index) in
+    cond_both (eqb free 0) None (Some (trailing_zeros w64 free)) (λ o. o ≡ None → NoneIsFree count index word)
+    (λ zero none. record {
+      clear = λ bit low within. sym (bit_at-free count index word bit low within)
+          ∙ (ap (λ f. bit_at f bit) (eqb-true free 0 zero) ∙ bit_at-zero bit);
+    })
+    (λ some none. absurd (cc))
+
+pub lowest_free-Some : (count index word bit : ℕ) → lowest_free count index word ≡ Some bit
+    → IsLowestFree count index word bit
+lowest_free-Some count index word bit =
+    let free = bit_and word (map_bits count index) in
+    cond_both (eqb free 0) None (Some (trailing_zeros w64 free)) (λ o. o ≡ Some bit → IsLowestFree count index word bit)
+    (λ zero some. absurd (cc))
+    (λ nonzero some.
+    let is : trailing_zeros w64 free ≡ bit = cc in
+    let positive : 0 < free = omega (arith, eqb-false free 0 nonzero) in
+    let few : free < 2 ^ 64 = free_below count index word in
+    subst (λ b. IsLowestFree count index word b) is (lowest_of count index word positive few))
+
+-- the word without one bit
+pub bit_at-cleared : (word bit : ℕ) → bit < 64 → bit_at (bit_and word (bit_not w64 (bit_of bit))) bit ≡ 0
+bit_at-cleared word bit low =
+    omega (arith, bit_at_and word (bit_not w64 (bit_of bit)) bit, bit_at_not w64 (bit_of bit) bit (pow_below bit 64 low) low, bit_at-pow_same bit)
+
+pub bit_at-cleared_other : (word bit other : ℕ) → bit < 64 → other < 64 → other ≢ bit
+    → bit_at (bit_and word (bit_not w64 (bit_of bit))) other ≡ bit_at word other
+bit_at-cleared_other word bit other low l differ =
+    omega (arith, bit_at_and word (bit_not w64 (bit_of bit)) other, bit_at_not w64 (bit_of bit) other (pow_below bit 64 low) l, bit_at-pow_other bit other differ, bit_at-lt word other)
+
+-- clearing a bit that is clear changes nothing
+pub cleared_already : (word bit : ℕ) → bit < 64 → word < 2 ^ 64 → bit_at word bit ≡ 0
+    → bit_and word (bit_not w64 (bit_of bit)) ≡ word
+cleared_already word bit low small clear =
+    let cleared = bit_and word (bit_not w64 (bit_of bit)) in
+    let less : cleared < 2 ^ 64 = omega (arith, and_le_l word (bit_not w64 (bit_of bit))) in
+    same_from_bits_below 64 cleared word less small (λ i l. elim (cases_eq i bit) [
+      | inl same ↦ rw same (bit_at-cleared word bit low ∙ sym clear)
+      | inr differ ↦ bit_at-cleared_other word bit i low l differ
+    ])
+
+-- the word with one bit more
+pub bit_at-set : (word bit : ℕ) → bit_at (bit_or word (bit_of bit)) bit ≡ 1
+bit_at-set word bit = omega (arith, bit_at_or word (bit_of bit) bit, bit_at-pow_same bit, bit_at-lt word bit)
+
+pub bit_at-set_other : (word bit other : ℕ) → other ≢ bit
+    → bit_at (bit_or word (bit_of bit)) other ≡ bit_at word other
+bit_at-set_other word bit other differ =
+    omega (arith, bit_at_or word (bit_of bit) other, bit_at-pow_other bit other differ)
+
+-- the bits above one are the word's
+pub bit_at-above : (word bit other : ℕ) → bit < other → other < 64
+    → bit_at (bit_and word (bits_above bit)) other ≡ bit_at word other
+bit_at-above word bit other high low =
+    omega (arith, bit_at_and word (bits_above bit) other, bit_at_mask_inside (bit + 1) 64 other (omega arith) low, bit_at-lt word other)
