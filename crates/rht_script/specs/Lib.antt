@@ -1,9 +1,13 @@
--- which bytes are a script, and of which commands
+-- which bytes are a script and what it says, and where other bytes have their first fault
 pub mod Grammar
--- what the reader's cursors stand for
+-- which options have numbers within their limits
+pub mod Allowed
+-- what the reader's cursors give
 pub mod Cursors
 -- what `read` answers
 pub mod Reading
+-- which scripts can be run
+pub mod Sound
 -- the text of replies and of last bindings
 pub mod Text
 -- what a step of writing text does
