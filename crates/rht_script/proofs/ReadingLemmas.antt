@@ -1,8 +1,10 @@
--- The two ways to read bytes: those that are too many have a fault, and any others are read line by line. Where the
+-- The two ways to read bytes: those that are too many have a fault, which the front of them tells, and any others
+-- are read line by line. Where the
 -- commands of a config are read, what is said is read; and what stops the one stops the other.
-use Rattle.std.proofs.Common.{◌≡◌, ℕ, ◌+◌, ◌<◌, ◌≤◌, ◌==◌, Result, Ok, Err, List, length, take, refl}
+use Rattle.std.proofs.Common.{◌≡◌, ℕ, ◌+◌, ◌<◌, ◌≤◌, ◌==◌, Result, Ok, Err, List, length, take, refl, ◌++◌, ◌∙◌, sym, ap, arith, length-append}
 use Rattle.std.specs.Prelude.{count_by}
 use Rattle.std.proofs.lemmas.Bool.{lt-ltb, le-ltb}
+use Rattle.std.proofs.lemmas.List.{take-append-le}
 use Rattle.rht_words.specs.declared.config.Config.{Config}
 use Rattle.rht_model.specs.declared.history.Call.{Call}
 use Rattle.rht_script.specs.declared.script.ScriptFault.{ScriptFault}
@@ -21,6 +23,15 @@ module _ (bytes : List ℕ) where
   pub reading_of-lines : length bytes ≤ most_bytes → reading_of bytes ≡ said_from 1 (lines_of bytes)
   unfolding reading_of
   reading_of-lines short = rw (le-ltb most_bytes (length bytes) short) refl
+
+-- of too many bytes the front tells the fault, whatever comes behind it
+pub reading_of-front : (bytes front behind : List ℕ) → bytes ≡ front ++ behind → most_bytes < length front → reading_of bytes ≡ reading_of front
+reading_of-front bytes front behind is long =
+    let longer : most_bytes < length bytes = omega (arith, ap (λ (l : List ℕ). length l) is, length-append front behind) in
+    let first : take most_bytes bytes ≡ take most_bytes front = ap (take most_bytes) is ∙ take-append-le most_bytes front behind (omega arith) in
+    reading_of-long bytes longer
+    ∙ ap (λ (l : List ℕ). Err (fault_at (1 + count_by (λ byte. byte == 10) l) ScriptTooLong)) first
+    ∙ sym (reading_of-long front long)
 
 module _ (config : Config) (number : ℕ) (lines : List (List ℕ)) where
   pub said_with-commands : (commands : List (ℕ × Call)) → commands_from number config lines ≡ Ok commands
