@@ -21,4 +21,3 @@ value_of-more word place value within so_far =
     let next = get_or word place 0 in
     let more = ap (fold with_digit value) (drop_more word place 0 within) in
     omega (arith, so_far, more, fold-with_digit (drop (place + 1) word) (with_digit value next))
-

@@ -287,10 +287,10 @@ commands_from number config [] = Ok []
 commands_from number config (line ∷ lines) = do
   words ← at_line number (words_in number line)
   if is_skipped words then commands_from (number + 1) config lines
-    else do
-      command ← at_line number (command_of config.callers words)
-      commands ← commands_from (number + 1) config lines
-      Ok (command ∷ commands)
+      else do
+        command ← at_line number (command_of config.callers words)
+        commands ← commands_from (number + 1) config lines
+        Ok (command ∷ commands)
 
 -- what is said with this config, and the commands of these lines
 abbrev pub said_with : Config → ℕ → List (List ℕ) → Result Said ScriptFault
@@ -304,9 +304,9 @@ said_from number [] = Err (fault_at number NoTableLine)
 said_from number (line ∷ lines) = do
   words ← at_line number (words_in number line)
   if is_skipped words then said_from (number + 1) lines
-    else do
-      config ← at_line number (table_of words)
-      said_with config (number + 1) lines
+      else do
+        config ← at_line number (table_of words)
+        said_with config (number + 1) lines
 
 -- what the bytes say, or their first fault; of too many bytes the fault is at the line at which they become too many
 unfoldable pub reading_of : List ℕ → Result Said ScriptFault

@@ -21,7 +21,10 @@ use crate::cause::{Cause, at_line};
 use crate::options::{Options, Setting};
 use crate::script::{ReadError, Script, ScriptFault};
 use cursors::{Lines, Words};
-use names::{BIND, FIND, FINISH, HASH, HINT, LOW, MIN, MIX, PAGES, RELEASE, REWALKS, SEED, SINGLE, SKIP, STEP, TABLE};
+use names::{
+    BIND, FIND, FINISH, HASH, HINT, LOW, MIN, MIX, PAGES, RELEASE, REWALKS, SEED, SINGLE, SKIP,
+    STEP, TABLE,
+};
 use numbers::number_within;
 use rht_model::Call;
 use rht_words::{Config, Hash};

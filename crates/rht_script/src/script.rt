@@ -46,7 +46,9 @@ impl Script {
 fn are_sound_commands(config: &Config, commands: &[(u32, Call)]) -> bool
     ensures { result ≡ list_all (is_sound_command config.now) commands.now }
 {
-    commands.iter().all(|command| is_sound_command(config, *command))
+    commands
+        .iter()
+        .all(|command| is_sound_command(config, *command))
 }
 
 /// Whether each line of the schedule is a worker's, and its number is within its limits.

@@ -5,9 +5,9 @@ ghost use Rattle.std.specs.Prelude.{◌≡◌, ◌≢◌, ◌+◌, ◌==◌, [],
 ghost use Rattle.rht_script.specs.Grammar.{lines_of, words_of, is_blank, is_skipped, number_first, end_of};
 ghost use Rattle.rht_script.specs.Cursors.{TakesNext, Reads, BeginsWord};
 
+use super::numbers::number_within;
 use crate::cause::Cause;
 use crate::script::{MOST_LINES, ScriptFault};
-use super::numbers::number_within;
 use std::marker::Model;
 
 /// The greatest number of bytes of a line without its line feed.

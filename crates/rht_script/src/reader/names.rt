@@ -41,5 +41,7 @@ pub const RELEASE: &[u8] = b"release";
 
 /// The first words of the lines of a schedule.
 pub const STEP: &[u8] = b"step";
+
 pub const SKIP: &[u8] = b"skip";
+
 pub const FINISH: &[u8] = b"finish";

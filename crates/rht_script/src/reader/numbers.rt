@@ -22,7 +22,9 @@ pub fn number_within(least: u32, greatest: u32, word: &[u8]) -> Result<u32, Caus
         return Err(Cause::BadNumber);
     }
     match value(word) {
-        Some(number) if u64::from(least) <= number && number <= u64::from(greatest) => Ok(number as u32),
+        Some(number) if u64::from(least) <= number && number <= u64::from(greatest) => Ok(
+            number as u32,
+        ),
         _ => Err(Cause::OutOfRange),
     }
 }
@@ -48,7 +50,9 @@ fn value(digits: &[u8]) -> Option<u64>
 {
     let mut value: u64 = 0;
     for digit in digits {
-        value = value.checked_mul(10)?.checked_add(u64::from(*digit - b'0'))?;
+        value = value
+            .checked_mul(10)?
+            .checked_add(u64::from(*digit - b'0'))?;
     }
     Some(value)
 }
