@@ -15,6 +15,8 @@ mod cursors;
 mod names;
 mod numbers;
 #[cfg(test)]
+mod slow;
+#[cfg(test)]
 mod tests;
 
 use crate::cause::{Cause, at_line};

@@ -162,7 +162,7 @@ const FAULTS: &[(&str, u32, u8)] = &[
     ("table\n1 find\n", 1, 2),
 ];
 
-/// Asserts that both readers find this fault in the bytes.
+/// Asserts that this is the first fault of the bytes.
 fn assert_fault(rt: &impl Abort, alloc: Global, bytes: &[u8], line: u32, cause: u8) {
     let fault = Some(ReadError::Fault(ScriptFault { line, cause }));
     assert_eq!(rt;
@@ -181,6 +181,11 @@ fn finds_the_first_fault(rt: HostRuntime) {
         }));
         assert_eq!(rt;
             read(rt.alloc(), text.as_bytes()).err(),
+            fault,
+            "at {text:?}"
+        );
+        assert_eq!(rt;
+            slow::read(rt.alloc(), text.as_bytes()).err(),
             fault,
             "at {text:?}"
         );
@@ -275,6 +280,11 @@ fn reads_scripts(rt: HostRuntime) -> Result<(), Fail> {
         assert_eq!(rt; script.commands.as_slice(), *commands, "at {text:?}");
         assert!(rt; script.auto && script.schedule.is_empty());
         assert!(rt; script.is_sound(), "at {text:?}");
+        let slow = slow::read(rt.alloc(), text.as_bytes())
+            .ok()
+            .ok_or("refused")?;
+        assert_eq!(rt; slow.config, *config, "at {text:?}");
+        assert_eq!(rt; slow.commands.as_slice(), *commands, "at {text:?}");
     }
     Ok(())
 }

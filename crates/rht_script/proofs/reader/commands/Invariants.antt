@@ -1,13 +1,7 @@
-use Rattle.std.proofs.Common.{◌≡◌, ℕ, Result, Ok, Err, List, ◌++◌, length}
-use Rattle.rht_model.specs.declared.history.Call.{Call}
-use Rattle.rht_script.specs.declared.script.ScriptFault.{ScriptFault}
+use Rattle.std.proofs.Common.{◌≡◌, length}
 use Rattle.rht_script.specs.Grammar.{commands_from}
+use Rattle.rht_script.proofs.CommandsSoFar.{with_front}
 use Rattle.rht_script.proofs.reader.commands.Given as goal
-
--- these commands, and then those that are read
-abbrev pub with_front : List (ℕ × Call) → Result (List (ℕ × Call)) ScriptFault → Result (List (ℕ × Call)) ScriptFault
-with_front front (Ok commands) = Ok (front ++ commands)
-with_front front (Err fault) = Err fault
 
 -- the commands so far and those of the lines that are left are those of all lines
 abbrev pub invariant-loop-commands : goal.invariant-loop-commands
