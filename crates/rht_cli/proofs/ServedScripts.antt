@@ -38,15 +38,33 @@ module _ {S O : Type 0} (left : S → Option (List ℕ)) (sfaults : S → ℕ) (
   pub Ends-printed : (r : Result (Unit {0}) Ending) → Writes held ofaults o o' r (printed_of said)
       → MatchResult r (λ done. Ends left sfaults held ofaults s s' o o' Done) (λ ending. Ends left sfaults held ofaults s s' o o' ending)
   Ends-printed (Ok done) writes = record {
-    bytes = bytes; said = said; read = read.taken; to_end = to_end (left s) (left s') bytes said read script; script = script; written = writes.whole;
+    bytes = bytes;
+    said = said;
+    read = read.taken;
+    to_end = to_end (left s) (left s') bytes said read script;
+    script = script;
+    written = writes.whole;
   }
   Ends-printed (Err Done) writes = absurd writes.reason
   Ends-printed (Err Usage) writes = absurd writes.reason
   Ends-printed (Err (Fault fault)) writes = absurd writes.reason
   Ends-printed (Err ReadFailed) writes = absurd writes.reason
-  Ends-printed (Err WriteFailed) writes = (writes.reason, record {
-    bytes = bytes; said = said; read = read.taken; to_end = to_end (left s) (left s') bytes said read script; script = script; written = writes.prefix;
-  })
+  Ends-printed (Err WriteFailed) writes = (
+    writes.reason,
+    record {
+      bytes = bytes;
+      said = said;
+      read = read.taken;
+      to_end = to_end (left s) (left s') bytes said read script;
+      script = script;
+      written = writes.prefix;
+    },
+  )
   Ends-printed (Err Memory) writes = inr (record {
-    bytes = bytes; said = said; read = read.taken; to_end = to_end (left s) (left s') bytes said read script; script = script; written = writes.prefix;
+    bytes = bytes;
+    said = said;
+    read = read.taken;
+    to_end = to_end (left s) (left s') bytes said read script;
+    script = script;
+    written = writes.prefix;
   })
