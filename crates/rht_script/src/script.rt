@@ -6,6 +6,9 @@ ghost use Rattle.std.specs.List.{list_all};
 ghost use Rattle.rht_script.specs.Sound.{IsSound, is_sound_command, is_sound_call, is_sound_line};
 ghost use Rattle.rht_script.specs.Grammar.{is_within};
 
+#[cfg(test)]
+mod tests;
+
 use rht_model::Call;
 use rht_words::{Config, Kind};
 use std::alloc::{AllocError, AllocFailed};
