@@ -57,7 +57,7 @@ pub fn read(alloc: Global, bytes: &[u8]) -> Result<Script, ReadError>
     })
 }
 
-/// The fault of too many bytes, at the line in which the last byte lies that a script may have.
+/// The fault of too many bytes, at the line of the first byte that is one too many.
 fn too_long(bytes: &[u8]) -> ScriptFault
     requires { MOST_BYTES < length bytes.now }
     ensures { result ≡ fault_at (1 + count_by (λ byte. byte == 10) (take MOST_BYTES bytes.now)) ScriptTooLong }

@@ -15,27 +15,31 @@ returns-then-is_empty c =
 pub returns-then-number-gt-MOST_LINES : goal.returns-then-number-gt-MOST_LINES
 returns-then-number-gt-MOST_LINES c =
     let before = c.args.self.now in
-    let line = c.first_line.result.0.now in
-    record {
-      line = line;
-      lines = lines_of c.first_line.result.1.now;
-      first = sym (ap (λ (unread : Unread). unread.lines) c.self.view_is) ∙ c.first_line.ensures;
-      wrong = rw (words_in-many before.number line (omega arith))
-          (ap (λ (fault : ScriptFault). Err fault) (sym (c.at.ensures ∙ ap (λ number. fault_at number TooManyLines) c.number-number.ensures)));
-    }
+    let line = c.first_line.result.0.now in (
+      record {
+        line = line;
+        lines = lines_of c.first_line.result.1.now;
+        first = sym (ap (λ (unread : Unread). unread.lines) c.self.view_is) ∙ c.first_line.ensures;
+        wrong = rw (words_in-many before.number line (omega arith))
+            (ap (λ (fault : ScriptFault). Err fault) (sym (c.at.ensures ∙ ap (λ number. fault_at number TooManyLines) c.number-number.ensures)));
+      },
+      refl,
+    )
 
 pub returns-then-line-gt-MOST_IN_LINE : goal.returns-then-line-gt-MOST_IN_LINE
 returns-then-line-gt-MOST_IN_LINE c =
     let before = c.args.self.now in
-    let line = c.first_line.result.0.now in
-    record {
-      line = line;
-      lines = lines_of c.first_line.result.1.now;
-      first = sym (ap (λ (unread : Unread). unread.lines) c.self.view_is) ∙ c.first_line.ensures;
-      wrong = rw (words_in-long before.number line (omega arith) (omega arith))
-          (ap (λ (fault : ScriptFault). Err fault)
-          (sym (c.at-then-line-gt-MOST_IN_LINE.ensures ∙ ap (λ number. fault_at number LineTooLong) c.number-number.ensures)));
-    }
+    let line = c.first_line.result.0.now in (
+      record {
+        line = line;
+        lines = lines_of c.first_line.result.1.now;
+        first = sym (ap (λ (unread : Unread). unread.lines) c.self.view_is) ∙ c.first_line.ensures;
+        wrong = rw (words_in-long before.number line (omega arith) (omega arith))
+            (ap (λ (fault : ScriptFault). Err fault)
+            (sym (c.at-then-line-gt-MOST_IN_LINE.ensures ∙ ap (λ number. fault_at number LineTooLong) c.number-number.ensures)));
+      },
+      refl,
+    )
 
 pub returns : goal.returns
 returns c =
