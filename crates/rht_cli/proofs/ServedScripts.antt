@@ -6,7 +6,8 @@ use Rattle.std.specs.Prelude.{IfOk}
 use Rattle.std.specs.Io.KnownBytes.{IsAtEnd}
 use Rattle.std.specs.List.{AllByRecursion}
 use Rattle.rht_words.specs.declared.config.Config.{Config}
-use Rattle.rht_script.specs.Grammar.{Said, command_of, reading_of}
+use Rattle.rht_script.specs.Grammar.{Said, reading_of}
+use Rattle.rht_script.specs.CommandLines.{command_of}
 use Rattle.rht_script.proofs.ReadCommands.{call_holds, command_holds, reading_holds}
 use Rattle.rht_script.proofs.ReadingLemmas.{reading_of-long}
 use Rattle.rht_cli.specs.declared.ending.Ending.{Ending}

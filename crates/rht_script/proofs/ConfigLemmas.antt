@@ -9,7 +9,7 @@ use Rattle.rht_words.specs.Sizes.{rounded_up, starting_size, IsLeastSize}
 use Rattle.rht_words.specs.Settled.{IsSettled}
 use Rattle.rht_words.proofs.Rounding.{rounded_up-least, IsLeastPower-unique, IsGreatestSize-zero}
 use Rattle.rht_script.specs.declared.options.Options.{Options}
-use Rattle.rht_script.specs.Grammar.{rounded_min, configured}
+use Rattle.rht_script.specs.TableLines.{rounded_min, configured}
 use Rattle.rht_script.specs.Allowed.{AreAllowed}
 
 -- what is set, or else the default

@@ -2,7 +2,8 @@
 use Rattle.std.proofs.Common.{◌≡◌, ℕ, ◌<◌, ◌≤◌, Ok, Err, List, [], ◌∷◌, length, refl, arith}
 use Rattle.std.proofs.lemmas.Bool.{lt-ltb, le-ltb}
 use Rattle.rht_script.specs.declared.cause.Cause.TheVariants.{TooManyLines, LineTooLong}
-use Rattle.rht_script.specs.Grammar.{lines_of, words_of, most_lines, most_in_line, words_in}
+use Rattle.rht_script.specs.Grammar.{most_lines, most_in_line, words_in}
+use Rattle.rht_script.specs.Spelling.{lines_of, words_of}
 use Rattle.rht_script.proofs.PiecesLemmas.{lines_of-empty}
 
 pub lines_of-none : (text : List ℕ) → length text ≡ 0 → lines_of text ≡ []

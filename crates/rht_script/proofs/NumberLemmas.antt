@@ -2,7 +2,7 @@
 -- value smaller.
 use Rattle.std.proofs.Common.{◌≡◌, ℕ, ◌+◌, ◌-◌, ◌*◌, ◌<◌, ◌≤◌, List, [], ◌∷◌, length, get_or, drop, fold, ap, arith}
 use Rattle.std.proofs.lemmas.List.{drop_more}
-use Rattle.rht_script.specs.Grammar.{value_of}
+use Rattle.rht_script.specs.Spelling.{value_of}
 
 -- the value with one more digit
 abbrev pub with_digit : ℕ → ℕ → ℕ

@@ -7,7 +7,7 @@ use Rattle.std.proofs.lemmas.List.Splits.{slice_split_first, slice_split-cons_ye
 use Rattle.std.proofs.lemmas.Option.{cond_some, none-some}
 use Rattle.std.proofs.lemmas.Bool.{ltb-true, ltb-false, cases_Bool, cond-true}
 use Rattle.rht_script.specs.Cursors.{BeginsWord}
-use Rattle.rht_script.specs.Grammar.{without_empty_end, lines_of, is_blank, is_some_text, words_of}
+use Rattle.rht_script.specs.Spelling.{without_empty_end, lines_of, is_blank, is_some_text, words_of}
 
 module _ (test : ℕ → Bool) where
   -- the text has a byte that passes first at this place

@@ -5,7 +5,7 @@ use Rattle.std.specs.Borrow.{Bor}
 use Rattle.std.specs.List.{slice_split}
 use Rattle.std.proofs.lemmas.Bool.{ne_eqb}
 use Rattle.std.proofs.lemmas.List.{drop-map, drop_all, map-append, length-append}
-use Rattle.rht_script.specs.Grammar.{without_empty_end, lines_of, is_some_text}
+use Rattle.rht_script.specs.Spelling.{without_empty_end, lines_of, is_some_text}
 use Rattle.rht_script.specs.Places.{pieces_from}
 
 abbrev pub text_of : Bor (List ℕ) → List ℕ

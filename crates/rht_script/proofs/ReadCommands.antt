@@ -10,7 +10,10 @@ use Rattle.rht_model.specs.declared.history.Call.TheVariants.{Bind, Find, Releas
 use Rattle.rht_script.specs.declared.script.ScriptFault.{ScriptFault}
 use Rattle.rht_script.specs.declared.cause.Cause.{Cause}
 use Rattle.rht_script.specs.declared.cause.Cause.TheVariants.{BadNumber, OutOfRange, UnknownWord, TooManyLines, LineTooLong}
-use Rattle.rht_script.specs.Grammar.{◌>>=◌, is_word, is_number, value_of, is_within, number_of, most, number_first, end_of, bind_of, find_of, release_of, call_of, is_schedule, command_of, most_bytes, most_lines, most_in_line, lines_of, words_of, is_skipped, at_line, words_in, commands_from, Said, said_from, table_of, reading_of}
+use Rattle.rht_script.specs.Grammar.{most_bytes, most_lines, most_in_line, at_line, words_in, commands_from, Said, said_from, reading_of}
+use Rattle.rht_script.specs.TableLines.{table_of}
+use Rattle.rht_script.specs.CommandLines.{number_first, end_of, bind_of, find_of, release_of, call_of, is_schedule, command_of}
+use Rattle.rht_script.specs.Spelling.{◌>>=◌, is_word, is_number, value_of, is_within, number_of, most, lines_of, words_of, is_skipped}
 use Rattle.rht_script.specs.Sound.{is_sound_call, is_sound_command}
 
 -- ---- what holds of a value holds on the way to it

@@ -11,7 +11,8 @@ use Rattle.rht_script.specs.declared.script.ScriptFault.{ScriptFault}
 use Rattle.rht_script.specs.declared.script.ReadError.{ReadError}
 use Rattle.rht_script.specs.declared.script.ReadError.TheVariants.{Fault, Memory}
 use Rattle.rht_script.specs.declared.cause.Cause.TheVariants.{ScriptTooLong}
-use Rattle.rht_script.specs.Grammar.{lines_of, most_bytes, fault_at, Said, commands_from, said_with, said_from, reading_of}
+use Rattle.rht_script.specs.Grammar.{most_bytes, fault_at, Said, commands_from, said_with, said_from, reading_of}
+use Rattle.rht_script.specs.Spelling.{lines_of}
 use Rattle.rht_script.specs.Reading.{IsReasonFor}
 
 module _ (bytes : List ℕ) where

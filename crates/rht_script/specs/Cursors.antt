@@ -3,7 +3,8 @@ use Rattle.std.specs.Prelude.{◌≡◌, ℕ, ◌+◌, false, Option, None, Some
 use Rattle.std.specs.Borrow.{Bor}
 use Rattle.rht_script.specs.declared.script.ScriptFault.{ScriptFault}
 use Rattle.rht_script.specs.declared.cause.Cause.{Cause}
-use Rattle.rht_script.specs.Grammar.{is_blank, words_of, words_in, at_line}
+use Rattle.rht_script.specs.Grammar.{words_in, at_line}
+use Rattle.rht_script.specs.Spelling.{is_blank, words_of}
 
 -- the lines that are left, and the number of the first of them
 pub record Unread : Type 0 where

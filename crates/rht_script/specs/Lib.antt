@@ -1,5 +1,11 @@
 -- which bytes are a script and what it says, and where other bytes have their first fault
 pub mod Grammar
+-- what the words of a table line stand for
+pub mod TableLines
+-- what the words of a command line stand for
+pub mod CommandLines
+-- bytes as lines, lines as words, and words as numbers
+pub mod Spelling
 -- which options have numbers within their limits
 pub mod Allowed
 -- what the reader's cursors give

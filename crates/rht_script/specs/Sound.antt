@@ -10,7 +10,8 @@ use Rattle.rht_model.specs.declared.history.Call.TheVariants.{Bind, Rebind, Walk
 use Rattle.rht_script.specs.declared.script.Script.{Script}
 use Rattle.rht_script.specs.declared.script.Sched.{Sched}
 use Rattle.rht_script.specs.declared.script.Sched.TheVariants.{Step, Skip, Finish}
-use Rattle.rht_script.specs.Grammar.{is_within, most_lines}
+use Rattle.rht_script.specs.Grammar.{most_lines}
+use Rattle.rht_script.specs.Spelling.{is_within}
 
 -- a port has at most one owner
 abbrev pub is_single : Kind → Bool

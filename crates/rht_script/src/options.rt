@@ -4,7 +4,7 @@
 
 ghost use Rattle.std.specs.Prelude.{◌≡◌, IfOk};
 ghost use Rattle.rht_words.specs.Settled.{IsSettled};
-ghost use Rattle.rht_script.specs.Grammar.{no_options, with_setting, configured, config_of};
+ghost use Rattle.rht_script.specs.TableLines.{no_options, with_setting, configured, config_of};
 ghost use Rattle.rht_script.specs.Allowed.{AreAllowed, IsAllowed};
 
 use crate::cause::Cause;
@@ -92,7 +92,7 @@ impl Options {
     }
 
     /// The config of these options. It is settled, so a table can be opened with it.
-    #[tactic(auto, unfolding(crate::specs::Grammar::config_of))]
+    #[tactic(auto, unfolding(crate::specs::TableLines::config_of))]
     pub(crate) fn config(self) -> Result<Config, Cause>
         requires { AreAllowed self }
         ensures value { result ≡ config_of self }
@@ -106,7 +106,7 @@ impl Options {
     }
 
     /// What a table is opened with, also where the options don't agree.
-    #[tactic(auto, unfolding(crate::specs::Grammar::configured))]
+    #[tactic(auto, unfolding(crate::specs::TableLines::configured))]
     fn configured(self) -> Config
         requires { AreAllowed self }
         ensures { result ≡ configured self }

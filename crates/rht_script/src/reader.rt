@@ -5,7 +5,9 @@
 
 ghost use Rattle.std.specs.Prelude.{◌≡◌, ◌+◌, ◌<◌, ◌≤◌, ◌==◌, Ok, Err, IfOk, IfErr, MatchResult, MatchOption, count_by, length, take, fold};
 ghost use Rattle.rht_words.specs.Settled.{IsSettled};
-ghost use Rattle.rht_script.specs.Grammar.{fault_at, no_options, table_of, hash_of, setting_of, options_from, command_of, call_of, bind_of, find_of, release_of, is_schedule, commands_from, said_with, said_from};
+ghost use Rattle.rht_script.specs.Grammar.{fault_at, commands_from, said_with, said_from};
+ghost use Rattle.rht_script.specs.TableLines.{no_options, table_of, hash_of, setting_of, options_from};
+ghost use Rattle.rht_script.specs.CommandLines.{command_of, call_of, bind_of, find_of, release_of, is_schedule};
 ghost use Rattle.rht_script.specs.Reading.{IsScript, IsReason, IsReasonFor};
 ghost use Rattle.rht_script.specs.Allowed.{IsAllowed, AreAllowed};
 ghost use Rattle.rht_script.specs.Sound.{IsSound};
@@ -108,7 +110,7 @@ fn commands(alloc: Global, config: &Config, mut lines: Lines) -> Result<Vec<(u32
 }
 
 /// The config that the words of a table line stand for.
-#[tactic(auto, unfolding(crate::specs::Grammar::table_of))]
+#[tactic(auto, unfolding(crate::specs::TableLines::table_of))]
 fn table(mut words: Words) -> Result<Config, Cause>
     ensures value { result ≡ table_of words.entry }
     ensures settled { IfOk result IsSettled }
@@ -138,7 +140,7 @@ fn options(mut words: Words) -> Result<Options, Cause>
 }
 
 /// What the option of this name is set to by its value.
-#[tactic(auto, unfolding(crate::specs::Grammar::setting_of))]
+#[tactic(auto, unfolding(crate::specs::TableLines::setting_of))]
 fn setting(name: &[u8], value: &[u8]) -> Result<Setting, Cause>
     ensures value { result ≡ setting_of name.now value.now }
     ensures allowed { IfOk result IsAllowed }
@@ -174,7 +176,7 @@ fn hash(value: &[u8]) -> Result<Hash, Cause>
 }
 
 /// The command that the words of a line stand for: its worker, and what that asks.
-#[tactic(auto, unfolding(crate::specs::Grammar::command_of))]
+#[tactic(auto, unfolding(crate::specs::CommandLines::command_of))]
 fn command(callers: u32, mut words: Words) -> Result<(u32, Call), Cause>
     ensures { result ≡ command_of callers words.entry }
 {
@@ -194,7 +196,7 @@ fn is_schedule(word: &[u8]) -> bool
 }
 
 /// What a verb asks with the words behind it.
-#[tactic(auto, unfolding(crate::specs::Grammar::call_of))]
+#[tactic(auto, unfolding(crate::specs::CommandLines::call_of))]
 fn call(mut words: Words) -> Result<Call, Cause>
     ensures { result ≡ call_of words.entry }
 {
@@ -211,7 +213,7 @@ fn call(mut words: Words) -> Result<Call, Cause>
 }
 
 /// A bind of these words.
-#[tactic(auto, unfolding(crate::specs::Grammar::bind_of))]
+#[tactic(auto, unfolding(crate::specs::CommandLines::bind_of))]
 fn bind(mut words: Words) -> Result<Call, Cause>
     ensures { result ≡ bind_of words.entry }
 {
@@ -226,7 +228,7 @@ fn bind(mut words: Words) -> Result<Call, Cause>
 }
 
 /// A look-up of these words.
-#[tactic(auto, unfolding(crate::specs::Grammar::find_of))]
+#[tactic(auto, unfolding(crate::specs::CommandLines::find_of))]
 fn find(mut words: Words) -> Result<Call, Cause>
     ensures { result ≡ find_of words.entry }
 {
@@ -236,7 +238,7 @@ fn find(mut words: Words) -> Result<Call, Cause>
 }
 
 /// A release of these words.
-#[tactic(auto, unfolding(crate::specs::Grammar::release_of))]
+#[tactic(auto, unfolding(crate::specs::CommandLines::release_of))]
 fn release(mut words: Words) -> Result<Call, Cause>
     ensures { result ≡ release_of words.entry }
 {

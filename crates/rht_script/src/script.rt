@@ -4,7 +4,7 @@ ghost use Rattle.std.specs.Prelude.{◌≡◌, ◌↔◌, IsTrue};
 ghost use Rattle.rht_script.specs.declared.script.ReadError.TheVariants.{Fault, Memory};
 ghost use Rattle.std.specs.List.{list_all};
 ghost use Rattle.rht_script.specs.Sound.{IsSound, is_sound_command, is_sound_call, is_sound_line};
-ghost use Rattle.rht_script.specs.Grammar.{is_within};
+ghost use Rattle.rht_script.specs.Spelling.{is_within};
 
 #[cfg(test)]
 mod tests;

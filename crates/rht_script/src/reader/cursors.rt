@@ -2,7 +2,8 @@
 //! of a line. All that is known of places in the input stands here.
 
 ghost use Rattle.std.specs.Prelude.{◌≡◌, ◌≢◌, ◌+◌, ◌==◌, [], ◌∷◌, MatchOption, Ok, Err, not, position};
-ghost use Rattle.rht_script.specs.Grammar.{lines_of, words_of, is_blank, is_skipped, number_first, end_of};
+ghost use Rattle.rht_script.specs.CommandLines.{number_first, end_of};
+ghost use Rattle.rht_script.specs.Spelling.{lines_of, words_of, is_blank, is_skipped};
 ghost use Rattle.rht_script.specs.Cursors.{TakesNext, Reads, BeginsWord};
 
 use super::numbers::number_within;
@@ -23,7 +24,7 @@ pub struct Lines<'a> {
 
 impl<'a> Model for Lines<'a> {
     ghost use Rattle.std.specs.Prelude.{◌+◌, ◌≤◌};
-    ghost use Rattle.rht_script.specs.Grammar.{lines_of};
+    ghost use Rattle.rht_script.specs.Spelling.{lines_of};
     ghost use Rattle.rht_script.specs.Cursors.{Unread};
 
     ghost Value = { Unread };
@@ -81,7 +82,7 @@ pub struct Words<'a> {
 
 impl<'a> Model for Words<'a> {
     ghost use Rattle.std.specs.Prelude.{ℕ, List};
-    ghost use Rattle.rht_script.specs.Grammar.{words_of};
+    ghost use Rattle.rht_script.specs.Spelling.{words_of};
 
     ghost Value = { List (List ℕ) };
 

@@ -5,7 +5,7 @@ ghost use Rattle.std.specs.Char.{is_ascii_digit};
 ghost use Rattle.std.specs.List.{list_all};
 ghost use Rattle.std.specs.Option.{SomeIff};
 ghost use Rattle.rht_words.specs.Limits.{IsWithin};
-ghost use Rattle.rht_script.specs.Grammar.{number_of, is_number, value_of};
+ghost use Rattle.rht_script.specs.Spelling.{number_of, is_number, value_of};
 
 use crate::cause::Cause;
 
@@ -13,7 +13,7 @@ use crate::cause::Cause;
 const MOST_DIGITS: usize = 20;
 
 /// The number that the word stands for, where it is one from the least to the greatest.
-#[tactic(auto, unfolding(crate::specs::Grammar::number_of))]
+#[tactic(auto, unfolding(crate::specs::Spelling::number_of))]
 pub fn number_within(least: u32, greatest: u32, word: &[u8]) -> Result<u32, Cause>
     ensures value { result ≡ number_of least greatest word.now }
     ensures within { IfOk result (IsWithin least greatest) }

@@ -3,7 +3,10 @@
 
 ghost use Rattle.std.specs.Prelude.{◌≡◌, ◌==◌, ◌+◌, ◌<◌, ◌≤◌, Ok, Err, IfOk, IfErr, OnOk, MatchResult, length, vec_len};
 ghost use Rattle.std.specs.List.{slice_split};
-ghost use Rattle.rht_script.specs.Grammar.{lines_of, is_some_text, words_of, words_in, is_skipped, at_line, no_options, options_from, table_of, command_of, call_of, bind_of, find_of, release_of, number_first, end_of, commands_from, said_with, said_from};
+ghost use Rattle.rht_script.specs.Grammar.{words_in, at_line, commands_from, said_with, said_from};
+ghost use Rattle.rht_script.specs.TableLines.{no_options, options_from, table_of};
+ghost use Rattle.rht_script.specs.CommandLines.{command_of, call_of, bind_of, find_of, release_of, number_first, end_of};
+ghost use Rattle.rht_script.specs.Spelling.{lines_of, is_some_text, words_of, is_skipped};
 ghost use Rattle.rht_script.specs.Reading.{IsScript, IsReason, IsReasonFor};
 ghost use Rattle.rht_script.specs.Allowed.{AreAllowed};
 ghost use Rattle.rht_script.specs.Cursors.{Reads};
@@ -149,7 +152,7 @@ fn is_skipped(words: &[&[u8]]) -> bool
 }
 
 /// The config of a table line of these words.
-#[tactic(auto, unfolding(crate::specs::Grammar::table_of))]
+#[tactic(auto, unfolding(crate::specs::TableLines::table_of))]
 fn table(words: &[&[u8]]) -> Result<Config, Cause>
     ensures { result ≡ table_of (pieces_from 0 words.now) }
 {
@@ -178,7 +181,7 @@ fn options(words: &[&[u8]]) -> Result<Options, Cause>
 }
 
 /// The command of a line of these words.
-#[tactic(auto, unfolding(crate::specs::Grammar::command_of))]
+#[tactic(auto, unfolding(crate::specs::CommandLines::command_of))]
 fn command(callers: u32, words: &[&[u8]]) -> Result<(u32, Call), Cause>
     ensures { result ≡ command_of callers (pieces_from 0 words.now) }
 {
@@ -191,7 +194,7 @@ fn command(callers: u32, words: &[&[u8]]) -> Result<(u32, Call), Cause>
 }
 
 /// What the verb asks, which is the second word.
-#[tactic(auto, unfolding(crate::specs::Grammar::call_of))]
+#[tactic(auto, unfolding(crate::specs::CommandLines::call_of))]
 fn call(words: &[&[u8]]) -> Result<Call, Cause>
     ensures { result ≡ call_of (pieces_from 1 words.now) }
 {
@@ -208,7 +211,7 @@ fn call(words: &[&[u8]]) -> Result<Call, Cause>
 }
 
 /// A bind of these words.
-#[tactic(auto, unfolding(crate::specs::Grammar::bind_of))]
+#[tactic(auto, unfolding(crate::specs::CommandLines::bind_of))]
 fn bind(words: &[&[u8]]) -> Result<Call, Cause>
     ensures { result ≡ bind_of (pieces_from 2 words.now) }
 {
@@ -223,7 +226,7 @@ fn bind(words: &[&[u8]]) -> Result<Call, Cause>
 }
 
 /// A look-up of these words.
-#[tactic(auto, unfolding(crate::specs::Grammar::find_of))]
+#[tactic(auto, unfolding(crate::specs::CommandLines::find_of))]
 fn find(words: &[&[u8]]) -> Result<Call, Cause>
     ensures { result ≡ find_of (pieces_from 2 words.now) }
 {
@@ -233,7 +236,7 @@ fn find(words: &[&[u8]]) -> Result<Call, Cause>
 }
 
 /// A release of these words.
-#[tactic(auto, unfolding(crate::specs::Grammar::release_of))]
+#[tactic(auto, unfolding(crate::specs::CommandLines::release_of))]
 fn release(words: &[&[u8]]) -> Result<Call, Cause>
     ensures { result ≡ release_of (pieces_from 2 words.now) }
 {

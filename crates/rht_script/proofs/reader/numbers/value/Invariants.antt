@@ -1,7 +1,7 @@
 use Rattle.std.proofs.Common.{◌≡◌, ◌<◌, ◌^◌, true, fold, drop}
 use Rattle.std.specs.Char.{is_ascii_digit}
 use Rattle.std.specs.List.{list_all}
-use Rattle.rht_script.specs.Grammar.{value_of}
+use Rattle.rht_script.specs.Spelling.{value_of}
 use Rattle.rht_script.proofs.NumberLemmas.{with_digit}
 use Rattle.rht_script.proofs.reader.numbers.value.Given as goal
 

@@ -1,5 +1,5 @@
 use Rattle.std.proofs.Common.{◌≡◌, ◌+◌, ◌∙◌, sym, ap, arith}
-use Rattle.rht_script.specs.Grammar.{options_from}
+use Rattle.rht_script.specs.TableLines.{options_from}
 use Rattle.rht_script.specs.Places.{pieces_from}
 use Rattle.rht_script.proofs.OptionLemmas.{options_from-setting}
 use Rattle.rht_script.proofs.reader.slow.options.Goals as goal

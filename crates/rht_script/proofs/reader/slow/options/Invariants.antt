@@ -1,5 +1,5 @@
 use Rattle.std.proofs.Common.{◌≡◌, ◌-◌, length}
-use Rattle.rht_script.specs.Grammar.{no_options, options_from}
+use Rattle.rht_script.specs.TableLines.{no_options, options_from}
 use Rattle.rht_script.specs.Allowed.{AreAllowed}
 use Rattle.rht_script.specs.Places.{pieces_from}
 use Rattle.rht_script.proofs.reader.slow.options.Given as goal

@@ -2,7 +2,8 @@ use Rattle.std.proofs.Common.{◌≡◌, ℕ, ◌+◌, Err, List, map, refl, sym
 use Rattle.std.specs.Borrow.{Bor}
 use Rattle.std.proofs.lemmas.Result.{err_from_is_err_and}
 use Rattle.rht_script.specs.declared.script.ScriptFault.{ScriptFault}
-use Rattle.rht_script.specs.Grammar.{lines_of, reading_of, said_from, said_with}
+use Rattle.rht_script.specs.Grammar.{reading_of, said_from, said_with}
+use Rattle.rht_script.specs.Spelling.{lines_of}
 use Rattle.rht_script.specs.Reading.{IsReasonFor}
 use Rattle.rht_script.specs.Places.{pieces_from}
 use Rattle.rht_script.proofs.PlaceLemmas.{text_of}

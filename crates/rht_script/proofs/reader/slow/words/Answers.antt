@@ -1,7 +1,7 @@
 use Rattle.std.proofs.Common.{rules, tests}
 use Rattle.std.proofs.lemmas.Iterator.Consumers.{YieldsList-at, map_from_collect, YieldsList-from_filter}
 use Rattle.std.proofs.lemmas.Iterator.Splits.{YieldsList-from_slice_split}
-use Rattle.rht_script.specs.Grammar.{is_blank, is_some_text, words_of}
+use Rattle.rht_script.specs.Spelling.{is_blank, is_some_text, words_of}
 use Rattle.rht_script.proofs.reader.slow.words.Goals as goal
 
 pub returns : goal.returns

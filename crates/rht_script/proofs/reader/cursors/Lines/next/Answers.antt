@@ -2,7 +2,8 @@ use Rattle.std.proofs.Common.{Err, sym, ap, ◌∙◌, refl, arith}
 use Rattle.std.proofs.lemmas.Bool.{eqb-true}
 use Rattle.rht_script.specs.declared.script.ScriptFault.{ScriptFault}
 use Rattle.rht_script.specs.declared.cause.Cause.TheVariants.{TooManyLines, LineTooLong}
-use Rattle.rht_script.specs.Grammar.{lines_of, fault_at}
+use Rattle.rht_script.specs.Grammar.{fault_at}
+use Rattle.rht_script.specs.Spelling.{lines_of}
 use Rattle.rht_script.specs.Cursors.{Unread}
 use Rattle.rht_script.proofs.LineLemmas.{lines_of-none, words_in-many, words_in-long, words_in-right}
 use Rattle.rht_script.proofs.reader.cursors.Lines.next.Goals as goal
