@@ -1,12 +1,12 @@
 -- How a run can end: its status, its line, and what was read and written.
-use Rattle.std.specs.Prelude.{◌≡◌, ℕ, ◌==◌, ◌⊎◌, if◌then◌else◌, Option, None, Some, List, [], ◌∷◌, codes}
+use Rattle.std.specs.Prelude.{◌≡◌, ℕ, ◌==◌, ◌⊎◌, if◌then◌else◌, Option, Ok, List, [], ◌∷◌, codes}
 use Rattle.std.specs.Io.KnownBytes.{Appends, IsAtEnd, Consumes}
 use Rattle.rht_io.specs.Told.{Rose, AppendsPrefix}
-use Rattle.rht_model.specs.declared.history.Call.{Call}
+use Rattle.rht_script.specs.declared.script.ScriptFault.{ScriptFault}
 use Rattle.rht_script.specs.declared.script.ReadError.{ReadError}
 use Rattle.rht_script.specs.declared.script.ReadError.TheVariants as reads
-use Rattle.rht_script.specs.Grammar.{commands_in}
-use Rattle.rht_script.specs.Reading.{only_fault}
+use Rattle.rht_script.specs.Grammar.{Said, reading_of}
+use Rattle.rht_script.specs.Reading.{FirstFault}
 use Rattle.rht_script.specs.Text.{fault_line}
 use Rattle.rht_cli.specs.declared.ending.Ending.{Ending}
 use Rattle.rht_cli.specs.declared.ending.Ending.TheVariants.{Done, Usage, Fault, ReadFailed, WriteFailed, Memory}
@@ -40,12 +40,11 @@ ending_line ReadFailed = codes "rht: read failed\n"
 ending_line WriteFailed = codes "rht: write failed\n"
 ending_line Memory = codes "rht: out of memory\n"
 
--- the line on standard error, by the status; the fault of every input that is no script is the same
+-- the line on standard error, by the status; at 2 it is the line of the script's first fault instead
 abbrev pub status_line : ℕ → List ℕ
 status_line status =
     if status == 0 then ending_line Done
     else if status == 1 then ending_line Usage
-    else if status == 2 then ending_line (Fault only_fault)
     else if status == 3 then ending_line ReadFailed
     else if status == 4 then ending_line WriteFailed
     else ending_line Memory
@@ -53,32 +52,32 @@ status_line status =
 -- The script was read to its end, and its whole text was written.
 pub record IsDone (left left_after held held_after : Option (List ℕ)) : Type 0 where
   pub bytes : List ℕ
-  pub commands : List (ℕ × Call)
+  pub said : Said
   pub read : Consumes left left_after bytes
   pub to_end : IsAtEnd left_after
-  pub script : commands_in bytes ≡ Some commands
-  pub written : Appends held held_after (printed_of commands)
+  pub script : reading_of bytes ≡ Ok said
+  pub written : Appends held held_after (printed_of said)
 
 -- The script was read to its end, and a prefix of its text was written.
 pub record IsCutShort (left left_after held held_after : Option (List ℕ)) : Type 0 where
   pub bytes : List ℕ
-  pub commands : List (ℕ × Call)
+  pub said : Said
   pub read : Consumes left left_after bytes
   pub to_end : IsAtEnd left_after
-  pub script : commands_in bytes ≡ Some commands
-  pub written : AppendsPrefix held held_after (printed_of commands)
+  pub script : reading_of bytes ≡ Ok said
+  pub written : AppendsPrefix held held_after (printed_of said)
 
--- The whole input was read, or one byte more than a script can have, and is no script.
-pub record IsNoScript (left left_after : Option (List ℕ)) : Type 0 where
+-- The whole input was read, or one byte more than a script can have, and this is its first fault.
+pub record IsNoScript (left left_after : Option (List ℕ)) (fault : ScriptFault) : Type 0 where
   pub bytes : List ℕ
   pub read : IsRead left left_after bytes
-  pub no_script : commands_in bytes ≡ None
+  pub first : FirstFault bytes fault
 
 -- what an ending of serving a script means for the source and the sink
 abbrev pub Ends : {S O : Type 0} → (S → Option (List ℕ)) → (S → ℕ) → (O → Option (List ℕ)) → (O → ℕ) → S → S → O → O → Ending → Type 0
 Ends left sfaults held ofaults s s_after o o_after Done = IsDone (left s) (left s_after) (held o) (held o_after)
 Ends left sfaults held ofaults s s_after o o_after Usage = ⊥
-Ends left sfaults held ofaults s s_after o o_after (Fault fault) = IsNoScript (left s) (left s_after) × (o_after ≡ o) × (fault ≡ only_fault)
+Ends left sfaults held ofaults s s_after o o_after (Fault fault) = IsNoScript (left s) (left s_after) fault × (o_after ≡ o)
 Ends left sfaults held ofaults s s_after o o_after ReadFailed = Rose (sfaults s) (sfaults s_after) × (o_after ≡ o)
 Ends left sfaults held ofaults s s_after o o_after WriteFailed = Rose (ofaults o) (ofaults o_after) × IsCutShort (left s) (left s_after) (held o) (held o_after)
 Ends left sfaults held ofaults s s_after o o_after Memory = (o_after ≡ o) ⊎ IsCutShort (left s) (left s_after) (held o) (held o_after)

@@ -1,12 +1,15 @@
 -- The text that a script prints: a line for each reply, then the last bindings.
 use Rattle.std.specs.Prelude.{ℕ, false, Option, Some, None, List, [], ◌∷◌, ◌++◌, length}
 use Rattle.std.specs.List.{flat_map}
+use Rattle.rht_words.specs.Sizes.{starting_size}
+use Rattle.rht_words.specs.declared.config.Config.{Config}
 use Rattle.rht_words.specs.declared.config.Kind.TheVariants.{Single}
 use Rattle.rht_model.specs.declared.history.Call.{Call}
 use Rattle.rht_model.specs.declared.history.Call.TheVariants.{Bind}
 use Rattle.rht_model.specs.Multimap.{Multimap, unbound}
 use Rattle.rht_model.specs.Listing.{listing_of}
 use Rattle.rht_model.specs.Answers.{Answer, answer_of, bindings_after}
+use Rattle.rht_script.specs.Grammar.{Said}
 use Rattle.rht_script.specs.Text.{reply_line, port_line, last_line}
 
 -- the line of an answer; a call without one prints nothing
@@ -39,14 +42,14 @@ bound_ports (command ∷ commands) = onto_bound command.1 (bound_ports commands)
 abbrev pub last_pairs : List (ℕ × Call) → List (ℕ × List ℕ)
 last_pairs commands = listing_of (bound_ports commands) (bindings_of unbound commands)
 
--- the size of the table, in buckets
-abbrev pub table_size : ℕ
-table_size = 64
+-- the size of the table, in buckets: that of the first table of the config
+abbrev pub table_size : Config → ℕ
+table_size config = starting_size config.hint config.min config.max
 
--- the lines of the last bindings: a line for each port, and the last line
-abbrev pub bindings_text : List (ℕ × List ℕ) → List ℕ
-bindings_text pairs = flat_map port_line pairs ++ last_line table_size (length pairs)
+-- the lines of the last bindings of a table of this size: a line for each port, and the last line
+abbrev pub bindings_text : ℕ → List (ℕ × List ℕ) → List ℕ
+bindings_text size pairs = flat_map port_line pairs ++ last_line size (length pairs)
 
--- the text of a script of these commands
-abbrev pub printed_of : List (ℕ × Call) → List ℕ
-printed_of commands = replies_text unbound commands ++ bindings_text (last_pairs commands)
+-- the text of what a script says
+abbrev pub printed_of : Said → List ℕ
+printed_of said = replies_text unbound said.commands ++ bindings_text (table_size said.config) (last_pairs said.commands)

@@ -1,8 +1,9 @@
 //! What follows for a run over a source and sinks that never fail.
 
-ghost use Rattle.std.specs.Prelude.{◌≡◌, ◌↔◌, ◌⊎◌, None, Some, List, ℕ, string_bytes, map};
-ghost use Rattle.rht_model.specs.declared.history.Call.{Call};
-ghost use Rattle.rht_script.specs.Grammar.{commands_in};
+ghost use Rattle.std.specs.Prelude.{◌≡◌, ◌↔◌, ◌⊎◌, Ok, string_bytes, map};
+ghost use Rattle.rht_script.specs.declared.script.ScriptFault.{ScriptFault};
+ghost use Rattle.rht_script.specs.Grammar.{Said, reading_of};
+ghost use Rattle.rht_script.specs.Reading.{FirstFault};
 ghost use Rattle.rht_cli.specs.Endings.{IsRun};
 
 use crate::program::run;
@@ -21,10 +22,10 @@ pub fn complete<R: Threads + Wait + Sync, G: Gate + Sync>(
     gate: &G,
 ) -> u8
     ensures usage { (result ≡ 1) ↔ ¬ IsRun (map string_bytes words.now.items) }
-    ensures served { (commands : List (ℕ × Call)) → IsRun (map string_bytes words.now.items)
-        → commands_in bytes.items ≡ Some commands → (result ≡ 0) ⊎ (result ≡ 5) }
-    ensures refused { IsRun (map string_bytes words.now.items)
-        → commands_in bytes.items ≡ None → (result ≡ 2) ⊎ (result ≡ 5) }
+    ensures served { (said : Said) → IsRun (map string_bytes words.now.items)
+        → reading_of bytes.items ≡ Ok said → (result ≡ 0) ⊎ (result ≡ 5) }
+    ensures refused { (fault : ScriptFault) → IsRun (map string_bytes words.now.items)
+        → FirstFault bytes.items fault → (result ≡ 2) ⊎ (result ≡ 5) }
 {
     let mut source = SureSource::new(bytes);
     let mut out = SureSink::new();

@@ -2,31 +2,59 @@
 //!
 //! Stands on the registry, which answers, and on `rht_script`, which writes the lines.
 
-ghost use Rattle.std.specs.Prelude.{◌≡◌, ◌+◌, ◌^◌, ◌<◌, ◌≤◌, [], length, OnOk};
+ghost use Rattle.std.specs.Prelude.{◌≡◌, ◌+◌, ◌^◌, ◌<◌, ◌≤◌, ◌++◌, [], length, OnOk};
 ghost use Rattle.std.specs.List.{AllByRecursion};
 ghost use Rattle.rht_words.specs.declared.config.Kind.TheVariants.{Single};
+ghost use Rattle.rht_words.specs.Settled.{IsSettled};
+ghost use Rattle.rht_model.specs.Multimap.{unbound};
 ghost use Rattle.rht_model.specs.Answers.{answer_of, bindings_after};
+ghost use Rattle.rht_script.specs.Sound.{IsSound};
+ghost use Rattle.rht_script.specs.Reading.{said_by};
 ghost use Rattle.rht_cli.specs.Pairs.{bindings_in, listed, IsRising, IsServed};
-ghost use Rattle.rht_cli.specs.Printed.{answer_line, replies_text, bindings_of, bindings_text, printed_of};
+ghost use Rattle.rht_cli.specs.Printed.{answer_line, replies_text, bindings_of, last_pairs, table_size, bindings_text, printed_of};
 ghost use Rattle.rht_cli.specs.Printing.{Prints, Writes, IsServedCommand};
 
 use crate::ending::Ending;
 use crate::registry::Registry;
 use rht_io::Sink;
 use rht_model::Call;
-use rht_script::{TextBuffer, add_closed, add_reply};
+use rht_script::{Script, TextBuffer, add_closed, add_reply};
+use rht_words::{Config, starting_size};
 use std::alloc::Global;
 
 /// Prints a line for each reply, in the order of the commands, and then the last bindings.
-pub fn print<O: Sink>(alloc: Global, commands: &[(u32, Call)], out: &mut O) -> Result<(), Ending>
+pub fn print<O: Sink>(alloc: Global, script: &Script, out: &mut O) -> Result<(), Ending>
+    requires sound { IsSound script.now }
+    requires served { AllByRecursion IsServedCommand script.now.commands.items }
+    ensures { Writes O.held O.faults out.old out.new result (printed_of (said_by script.now)) }
+{
+    print_table(alloc, &script.commands, size_of(&script.config), out)
+}
+
+/// The size in buckets of the first table. The registry has none; it is printed as a table's is.
+fn size_of(config: &Config) -> u32
+    requires { IsSettled config.now }
+    ensures { result ≡ table_size config.now }
+{
+    starting_size(config.hint, config.min, config.max)
+}
+
+/// Prints the replies of a table of this size, and then the last bindings.
+fn print_table<O: Sink>(
+    alloc: Global,
+    commands: &[(u32, Call)],
+    size: u32,
+    out: &mut O,
+) -> Result<(), Ending>
     requires served { AllByRecursion IsServedCommand commands.now }
     requires few { length commands.now < 2 ^ 32 }
-    ensures { Writes O.held O.faults out.old out.new result (printed_of commands.now) }
+    ensures { Writes O.held O.faults out.old out.new result
+        (replies_text unbound commands.now ++ bindings_text size (last_pairs commands.now)) }
 {
     let mut registry = Registry::new(alloc);
     let mut text = TextBuffer::new();
     print_replies(commands, &mut registry, &mut text, out)?;
-    print_bindings(alloc, &registry, &mut text, out)?;
+    print_bindings(alloc, &registry, size, &mut text, out)?;
     put_rest(&mut text, out)
 }
 
@@ -71,14 +99,15 @@ fn print_reply<O: Sink>(
 fn print_bindings<O: Sink>(
     alloc: Global,
     registry: &Registry,
+    size: u32,
     text: &mut TextBuffer,
     out: &mut O,
 ) -> Result<(), Ending>
     requires { length registry.now < 2 ^ 32 }
-    ensures text { Prints O.held O.faults out.old out.new result text.old text.new (bindings_text (listed registry.now)) }
+    ensures text { Prints O.held O.faults out.old out.new result text.old text.new (bindings_text size (listed registry.now)) }
     ensures rising { IsRising registry.now }
 {
-    let closed = registry.closed(alloc)?;
+    let closed = registry.closed(alloc, size)?;
     add_closed(text, out, &closed).map_err(|_| Ending::WriteFailed)
 }
 

@@ -3,11 +3,13 @@
 //! Stands on the reader of the input, the script's reader, the printer and the endings.
 //! Begin with the clauses of `run`: they say what each status means.
 
-ghost use Rattle.std.specs.Prelude.{◌≡◌, ◌≤◌, ◌↔◌, ◌⊎◌, None, Some, List, ℕ, IsTrue, MatchResult, string_bytes, map};
+ghost use Rattle.std.specs.Prelude.{◌≡◌, ◌≢◌, ◌≤◌, ◌↔◌, ◌⊎◌, Some, Ok, List, ℕ, IsTrue, MatchResult, string_bytes, map};
 ghost use Rattle.std.specs.Io.KnownBytes.{Appends};
 ghost use Rattle.rht_io.specs.Told.{Rose, Puts, PutsLine};
-ghost use Rattle.rht_model.specs.declared.history.Call.{Call};
-ghost use Rattle.rht_script.specs.Grammar.{commands_in};
+ghost use Rattle.rht_script.specs.declared.script.ScriptFault.{ScriptFault};
+ghost use Rattle.rht_script.specs.Grammar.{Said, reading_of};
+ghost use Rattle.rht_script.specs.Reading.{FirstFault};
+ghost use Rattle.rht_script.specs.Text.{fault_line};
 ghost use Rattle.rht_cli.specs.declared.ending.Ending.TheVariants.{Done};
 ghost use Rattle.rht_cli.specs.Endings.{IsRun, IsDone, IsCutShort, IsNoScript, Ends, status_of, status_line};
 
@@ -40,8 +42,11 @@ pub fn run<R: Threads + Wait + Sync, S: Source, O: Sink, E: Sink, G: Gate + Sync
     ensures usage { (result ≡ 1) ↔ ¬ IsRun (map string_bytes words.now.items) }
     ensures usage_leaves { result ≡ 1 → (source.new ≡ source.old) × (out.new ≡ out.old) }
 
-    // 2: the whole input, or one byte more than a script can have, was read, and is no script.
-    ensures no_script { result ≡ 2 → IsNoScript (S.left source.old) (S.left source.new) × (out.new ≡ out.old) }
+    // 2: the whole input, or one byte more than a script can have, was read, and is no script. The
+    // line names its first fault. Nothing was written.
+    ensures no_script { result ≡ 2 → (fault : ScriptFault) × IsNoScript (S.left source.old) (S.left source.new) fault
+        × PutsLine (E.held err.old) (E.held err.new) (E.faults err.old) (E.faults err.new) (fault_line fault)
+        × (out.new ≡ out.old) }
 
     // 3: the source had a fault. Nothing was written.
     ensures unread { result ≡ 3 → Rose (S.faults source.old) (S.faults source.new) × (out.new ≡ out.old) }
@@ -55,20 +60,21 @@ pub fn run<R: Threads + Wait + Sync, S: Source, O: Sink, E: Sink, G: Gate + Sync
         ⊎ IsCutShort (S.left source.old) (S.left source.new) (O.held out.old) (O.held out.new) }
     ensures statuses { result ≤ 5 }
 
-    // The line of the status, or a prefix of it where the faults of err rose.
-    ensures line { PutsLine (E.held err.old) (E.held err.new) (E.faults err.old) (E.faults err.new) (status_line result) }
+    // The line of any other status, or a prefix of it where the faults of err rose.
+    ensures line { result ≢ 2 → PutsLine (E.held err.old) (E.held err.new) (E.faults err.old) (E.faults err.new) (status_line result) }
 
     // A script without faults is served, unless memory runs out.
-    ensures served { (bytes : List ℕ) (commands : List (ℕ × Call)) → IsRun (map string_bytes words.now.items)
-        → S.left source.old ≡ Some bytes → commands_in bytes ≡ Some commands
+    ensures served { (bytes : List ℕ) (said : Said) → IsRun (map string_bytes words.now.items)
+        → S.left source.old ≡ Some bytes → reading_of bytes ≡ Ok said
         → ¬ Rose (S.faults source.old) (S.faults source.new) → ¬ Rose (O.faults out.old) (O.faults out.new)
         → (result ≡ 0) ⊎ (result ≡ 5) }
 
-    // And any other input is refused, unless memory runs out.
-    ensures refused { (bytes : List ℕ) → IsRun (map string_bytes words.now.items)
-        → S.left source.old ≡ Some bytes → commands_in bytes ≡ None
+    // And any other input is refused with the line of its first fault, unless memory runs out.
+    ensures refused { (bytes : List ℕ) (fault : ScriptFault) → IsRun (map string_bytes words.now.items)
+        → S.left source.old ≡ Some bytes → FirstFault bytes fault
         → ¬ Rose (S.faults source.old) (S.faults source.new)
-        → (result ≡ 2) ⊎ (result ≡ 5) }
+        → ((result ≡ 2) × PutsLine (E.held err.old) (E.held err.new) (E.faults err.old) (E.faults err.new) (fault_line fault))
+        ⊎ (result ≡ 5) }
 {
     let ending = if is_run(words) {
         serve(alloc, source, out)
@@ -106,5 +112,5 @@ fn attempt<S: Source, O: Sink>(alloc: Global, source: &mut S, out: &mut O) -> Re
 {
     let bytes = read_all(alloc, source)?;
     let script = read(alloc, &bytes)?;
-    print(alloc, &script.commands, out)
+    print(alloc, &script, out)
 }

@@ -12,9 +12,6 @@ use rht_words::Port;
 use std::alloc::{AllocError, Global};
 use std::marker::Model;
 
-/// The size of the table, in buckets. The list has none; it is printed as a table's would be.
-const SIZE: u32 = 64;
-
 /// The ports that are bound, each with its one owner.
 #[derive(Drop)]
 pub struct Registry {
@@ -102,11 +99,11 @@ impl Registry {
         }
     }
 
-    /// What is bound, as a list. The one refusal is want of memory.
-    pub fn closed(&self, alloc: Global) -> Result<Closed, AllocError>
+    /// What is bound, as a list, beside a table's size. The one refusal is want of memory.
+    pub fn closed(&self, alloc: Global, size: u32) -> Result<Closed, AllocError>
         requires { length self.now < 2 ^ 32 }
         ensures pairs { IfOk result (λ closed. closed.bindings.pairs ≡ listed self.now) }
-        ensures size { IfOk result (λ closed. closed.size ≡ SIZE) }
+        ensures size { IfOk result (λ closed. closed.size ≡ size) }
         ensures keys { IfOk result (λ closed. closed.keys ≡ length self.now) }
         ensures rising { IsRising self.now }
     {
@@ -117,7 +114,7 @@ impl Registry {
         }
         Ok(Closed {
             bindings,
-            size: SIZE,
+            size,
             keys,
         })
     }

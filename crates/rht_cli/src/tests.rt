@@ -11,7 +11,7 @@ use std::thread::Threads;
 
 const USAGE: &str = "rht: usage: rht run | rht replay | rht gen NUMBER\n";
 
-const NO_SCRIPT: &str = "rht: line 0: unknown or missing word\n";
+const NO_TABLE_LINE: &str = "rht: line 1: no table line\n";
 
 /// Five lines of 64 bytes.
 const SCRIPT: &str = "table single\n1 bind 80 100\n1 find 80\n1 release 80 100\n1 find 80\n";
@@ -84,9 +84,62 @@ fn scripts_are_served_and_others_refused(rt: HostRuntime) -> Result<(), Fail> {
             "1: bound\n1: exists 100\n1: absent\n1: found 100\nport 80: 100\nsize 64 keys 1\n",
             "",
         ),
-        ("run", "", 2, "", NO_SCRIPT),
-        ("run", "table single\n1 find 80", 2, "", NO_SCRIPT),
-        ("run", "table single\n1 find 4294967296\n", 2, "", NO_SCRIPT),
+        // The options, comments, blank lines, blanks between words, and a last line that the end of
+        // the input cuts. 96 * 4 / 3 = 128; 129 is rounded up to 256.
+        ("run", "table single hint 96\n", 0, "size 128 keys 0\n", ""),
+        ("run", "table single min 129", 0, "size 256 keys 0\n", ""),
+        (
+            "run",
+            "# caf\u{e9}\n\ntable\tsingle hint 3 min 3\r\n 1 bind 9 7 \r\n# b\n1\t find 9",
+            0,
+            "1: bound\n1: found 7\nport 9: 7\nsize 4 keys 1\n",
+            "",
+        ),
+        // Each cause, on the line that is at fault.
+        ("run", "", 2, "", NO_TABLE_LINE),
+        ("run", "1 find 80\n", 2, "", NO_TABLE_LINE),
+        (
+            "run",
+            "table single max 4\n",
+            2,
+            "",
+            "rht: line 1: unknown or missing word\n",
+        ),
+        (
+            "run",
+            "table single\n1 bind 80",
+            2,
+            "",
+            "rht: line 2: unknown or missing word\n",
+        ),
+        (
+            "run",
+            "table single\n\n1 find x\n",
+            2,
+            "",
+            "rht: line 3: bad number\n",
+        ),
+        (
+            "run",
+            "table single\n1 bind 0 7\n1 bind 4294967295 8\n1 find 4294967296\n",
+            2,
+            "",
+            "rht: line 4: number out of range\n",
+        ),
+        (
+            "run",
+            "table single\n2 find 1\n",
+            2,
+            "",
+            "rht: line 2: number out of range\n",
+        ),
+        (
+            "run",
+            "table single pages 4 hint 300\n",
+            2,
+            "",
+            "rht: line 1: options do not agree\n",
+        ),
         ("run x", "table single\n", 1, "", USAGE),
         ("gen", "table single\n", 1, "", USAGE),
         ("gen -1", "table single\n", 1, "", USAGE),

@@ -1,9 +1,21 @@
--- a text taken apart at a byte, piece by piece
+-- a text taken apart at line feeds and at blanks
 pub mod PiecesLemmas
 -- numbers read digit by digit
 pub mod NumberLemmas
--- the commands of lines, line by line
-pub mod CommandLemmas
+-- the config of options is settled
+pub mod ConfigLemmas
+-- the options of words, one setting further
+pub mod OptionLemmas
+-- what a line's number and its length say of it
+pub mod LineLemmas
+-- what holds of each command that is read
+pub mod ReadCommands
+-- the two ways to read bytes
+pub mod ReadingLemmas
+-- the commands so far, before those still to be read
+pub mod CommandsSoFar
+-- lists of pieces, by their places
+pub mod PlaceLemmas
 -- pieces of a text that are added one after another
 pub mod AddedPieces
 -- a list whose items are added one after another

@@ -1,44 +1,160 @@
--- The first piece of a text ends where the separator comes first, and the other pieces are those of
--- what stands behind it; a text without a separator is its only piece.
-use Rattle.std.proofs.Common.{◌≡◌, ℕ, ◌+◌, ◌<◌, ◌≤◌, ◌==◌, Bool, true, false, not, cond, List, [], ◌∷◌, length, take, drop, nat_lt, Some, None, position, suc, refl, ap, ◌∙◌, sym, arith, inl, inr}
-use Rattle.std.specs.List.{position_or_len, onto_first}
-use Rattle.std.proofs.lemmas.List.Splits.{slice_split_first}
+-- The first line of a text ends where its first line feed is, and the other lines are those of what stands
+-- behind it. The first word of a line begins at the first byte that is no blank and ends at the next blank.
+use Rattle.std.proofs.Common.{◌≡◌, ◌≢◌, ℕ, ◌+◌, ◌<◌, ◌≤◌, ◌==◌, Bool, true, false, not, cond, List, [], ◌∷◌, length, take, drop, nat_lt, Some, None, position, suc, refl, ap, ◌∙◌, sym, arith, inl, inr}
+use Rattle.std.specs.Prelude.{filter}
+use Rattle.std.specs.List.{slice_split, position_or_len, onto_first}
+use Rattle.std.proofs.lemmas.List.Splits.{slice_split_first, slice_split-cons_yes, length-slice_split}
 use Rattle.std.proofs.lemmas.Option.{cond_some, none-some}
 use Rattle.std.proofs.lemmas.Bool.{ltb-true, ltb-false, cases_Bool, cond-true}
-use Rattle.rht_script.specs.Grammar.{pieces_at}
+use Rattle.rht_script.specs.Cursors.{BeginsWord}
+use Rattle.rht_script.specs.Spelling.{without_empty_end, lines_of, is_blank, is_some_text, words_of}
 
--- the text has the separator first at this place
-pub pieces_at-position : (separator : ℕ) (text : List ℕ) (end : ℕ)
-    → position (λ byte. byte == separator) text ≡ Some end
-    → pieces_at separator text ≡ take end text ∷ pieces_at separator (drop (end + 1) text)
-pieces_at-position separator text end found =
-    let is_separator : ℕ → Bool = λ byte. byte == separator in
-    let place = position_or_len is_separator text in
-    let at = cond_some (nat_lt place (length text)) place end found in
-    let within : place < length text = ltb-true place (length text) at.0 in
-    rw at.1 at (slice_split_first is_separator text 0 within)
+module _ (test : ℕ → Bool) where
+  -- the text has a byte that passes first at this place
+  pub slice_split-position : (text : List ℕ) (end : ℕ) → position test text ≡ Some end
+      → slice_split test text ≡ take end text ∷ slice_split test (drop (end + 1) text)
+  slice_split-position text end found =
+      let place = position_or_len test text in
+      let at = cond_some (nat_lt place (length text)) place end found in
+      let within : place < length text = ltb-true place (length text) at.0 in
+      rw at.1 at (slice_split_first test text 0 within)
 
--- By induction: a byte that is no separator belongs to the first piece.
-whole : (separator : ℕ) (text : List ℕ)
-    → length text ≤ position_or_len (λ byte. byte == separator) text
-    → pieces_at separator text ≡ text ∷ []
-whole separator [] absent = refl
-whole separator (byte ∷ text) absent =
-    let place = position_or_len (λ byte. byte == separator) text in
-    let pieces = pieces_at separator text in
-    (elim (byte == separator) as (λ here. suc (length text) ≤ cond (not here) (1 + place) 0 → cond here ([] ∷ pieces) (onto_first byte pieces) ≡ (byte ∷ text) ∷ []) [
-      | true ↦ λ h. absurd (omega (arith, h))
-      | false ↦ λ h. ap (onto_first byte) (whole separator text (omega (arith, h)))
-    ]) absent
+  -- By induction: a byte that doesn't pass belongs to the first piece.
+  whole : (text : List ℕ) → length text ≤ position_or_len test text → slice_split test text ≡ text ∷ []
+  whole [] absent = refl
+  whole (byte ∷ text) absent =
+      let place = position_or_len test text in
+      let pieces = slice_split test text in
+      (elim (test byte) as (λ here. suc (length text) ≤ cond (not here) (1 + place) 0 → cond here ([] ∷ pieces) (onto_first byte pieces) ≡ (byte ∷ text) ∷ []) [
+        | true ↦ λ h. absurd (omega (arith, h))
+        | false ↦ λ h. ap (onto_first byte) (whole text (omega (arith, h)))
+      ]) absent
 
--- the text has no separator
-pub pieces_at-position_none : (separator : ℕ) (text : List ℕ)
-    → position (λ byte. byte == separator) text ≡ None
-    → pieces_at separator text ≡ text ∷ []
-pieces_at-position_none separator text absent =
-    let is_separator : ℕ → Bool = λ byte. byte == separator in
-    let place = position_or_len is_separator text in
-    whole separator text (elim (cases_Bool (nat_lt place (length text))) [
-      | inl within ↦ absurd (none-some place (sym absent ∙ cond-true (nat_lt place (length text)) (Some place) None within))
-      | inr past ↦ ltb-false place (length text) past
+  -- the text has no byte that passes
+  pub slice_split-position_none : (text : List ℕ) → position test text ≡ None → slice_split test text ≡ text ∷ []
+  slice_split-position_none text absent =
+      let place = position_or_len test text in
+      whole text (elim (cases_Bool (nat_lt place (length text))) [
+        | inl within ↦ absurd (none-some place (sym absent ∙ cond-true (nat_lt place (length text)) (Some place) None within))
+        | inr past ↦ ltb-false place (length text) past
+      ])
+
+-- ---- lines
+
+abbrev is_line_feed : ℕ → Bool
+is_line_feed byte = byte == 10
+
+-- a piece in front of further pieces is a line
+onto_pieces : (line : List ℕ) (pieces : List (List ℕ)) → 0 < length pieces
+    → without_empty_end (line ∷ pieces) ≡ line ∷ without_empty_end pieces
+onto_pieces line [] some = absurd (omega (arith, some))
+onto_pieces [] (piece ∷ pieces) some = refl
+onto_pieces (byte ∷ line) (piece ∷ pieces) some = refl
+
+-- a line feed ends the first line
+pub lines_of-position : (text : List ℕ) (end : ℕ) → position is_line_feed text ≡ Some end
+    → lines_of text ≡ take end text ∷ lines_of (drop (end + 1) text)
+unfolding lines_of
+lines_of-position text end found =
+    let behind = slice_split is_line_feed (drop (end + 1) text) in
+    ap without_empty_end (slice_split-position is_line_feed text end found)
+    ∙ onto_pieces (take end text) behind (omega (arith, length-slice_split is_line_feed (drop (end + 1) text)))
+
+only_line : (text : List ℕ) → text ≢ [] → without_empty_end (text ∷ []) ≡ text ∷ []
+only_line [] some = absurd (some refl)
+only_line (byte ∷ text) some = refl
+
+pub lines_of-empty : lines_of [] ≡ []
+unfolding lines_of
+lines_of-empty = refl
+
+-- without a line feed the text is its only line
+pub lines_of-position_none : (text : List ℕ) → text ≢ [] → position is_line_feed text ≡ None → lines_of text ≡ text ∷ lines_of []
+unfolding lines_of
+lines_of-position_none text some absent =
+    ap without_empty_end (slice_split-position_none is_line_feed text absent) ∙ only_line text some
+
+-- ---- words
+
+abbrev is_letter : ℕ → Bool
+is_letter byte = not (is_blank byte)
+
+pub words_of-empty : words_of [] ≡ []
+unfolding words_of
+words_of-empty = refl
+
+words_of-blank : (byte : ℕ) (text : List ℕ) → is_blank byte ≡ true → words_of (byte ∷ text) ≡ words_of text
+unfolding words_of
+words_of-blank byte text blank = ap (filter is_some_text) (slice_split-cons_yes is_blank byte text blank)
+
+-- By induction: blanks at the front of a text change none of its words.
+all_blank : (text : List ℕ) → length text ≤ position_or_len is_letter text → words_of text ≡ []
+all_blank [] absent = words_of-empty
+all_blank (byte ∷ text) absent =
+    elim (cases_Bool (is_blank byte)) [
+      | inl blank ↦
+          let further = rw blank at absent in
+          words_of-blank byte text blank ∙ all_blank text (omega (arith, further))
+      | inr letter ↦ let none = rw letter at absent in absurd (omega (arith, none))
+    ]
+
+-- By induction too: the words are those from the first byte of a word on.
+from_letter : (text : List ℕ) → position_or_len is_letter text < length text
+    → (words_of text ≡ words_of (drop (position_or_len is_letter text) text)) × BeginsWord (drop (position_or_len is_letter text) text)
+from_letter [] within = absurd (omega (arith, within))
+from_letter (byte ∷ text) within =
+    let place = position_or_len is_letter text in
+    (elim (is_blank byte) as (λ blank. cond (not (not blank)) (1 + place) 0 < suc (length text) → is_blank byte ≡ blank
+    → (words_of (byte ∷ text) ≡ words_of (drop (cond (not (not blank)) (1 + place) 0) (byte ∷ text)))
+    × BeginsWord (drop (cond (not (not blank)) (1 + place) 0) (byte ∷ text))) [
+      | true ↦ λ before blank.
+          let further = from_letter text (omega (arith, before)) in
+          let next : 1 + place ≡ suc place = omega arith in
+          rw next (words_of-blank byte text blank ∙ further.0, further.1)
+      | false ↦ λ before letter. (refl, letter)
+    ]) within refl
+
+-- a line without a byte of a word has no words
+pub words_of-position_none : (line : List ℕ) → position is_letter line ≡ None → words_of line ≡ []
+words_of-position_none line absent =
+    let place = position_or_len is_letter line in
+    all_blank line (elim (cases_Bool (nat_lt place (length line))) [
+      | inl within ↦ absurd (none-some place (sym absent ∙ cond-true (nat_lt place (length line)) (Some place) None within))
+      | inr past ↦ ltb-false place (length line) past
     ])
+
+-- the words begin at the first byte of a word
+pub words_of-position : (line : List ℕ) (start : ℕ) → position is_letter line ≡ Some start
+    → (words_of line ≡ words_of (drop start line)) × BeginsWord (drop start line)
+words_of-position line start found =
+    let place = position_or_len is_letter line in
+    let at = cond_some (nat_lt place (length line)) place start found in
+    let within : place < length line = ltb-true place (length line) at.0 in
+    rw at.1 at (from_letter line within)
+
+-- a word that a blank ends
+some_text : (text : List ℕ) (end : ℕ) → BeginsWord text → position is_blank text ≡ Some end → is_some_text (take end text) ≡ true
+some_text [] end begins found = absurd begins
+some_text (byte ∷ text) end begins found =
+    let place = position_or_len is_blank text in
+    let first = position_or_len is_blank (byte ∷ text) in
+    let at = cond_some (nat_lt first (suc (length text))) first end found in
+    let behind : suc place ≡ end = omega (arith, rw begins at at.1) in
+    rw (← behind) refl
+
+pub words_of-blank_at : (text : List ℕ) (end : ℕ) → BeginsWord text → position is_blank text ≡ Some end
+    → words_of text ≡ take end text ∷ words_of (drop (end + 1) text)
+unfolding words_of
+words_of-blank_at text end begins found =
+    ap (filter is_some_text) (slice_split-position is_blank text end found)
+    ∙ cond-true (is_some_text (take end text)) _ _ (some_text text end begins found)
+
+only_word : (text : List ℕ) → BeginsWord text → filter is_some_text (text ∷ []) ≡ text ∷ []
+only_word [] begins = absurd begins
+only_word (byte ∷ text) begins = refl
+
+-- a word that ends with the text
+pub words_of-no_blank : (text : List ℕ) → BeginsWord text → position is_blank text ≡ None → words_of text ≡ text ∷ words_of []
+unfolding words_of
+words_of-no_blank text begins absent =
+    ap (filter is_some_text) (slice_split-position_none is_blank text absent) ∙ only_word text begins

@@ -1,84 +1,87 @@
--- Which bytes are a script, and of which commands.
--- A script is lines, each ended by a line feed: the table line, then a line for each command of worker 1.
--- In a line a single space stands between two words.
-use Rattle.std.specs.Prelude.{ℕ, ◌+◌, ◌-◌, ◌*◌, ◌^◌, Bool, ◌&&◌, ◌==◌, nat_lt, nat_le, if◌then◌else◌, false, Option, None, Some, List, [], ◌∷◌, length, codes, map, fold, count_by}
-use Rattle.std.specs.Char.{is_ascii_digit}
-use Rattle.std.specs.List.{list_all, slice_split}
-use Rattle.std.specs.Str.{bytes_eq}
-use Rattle.std.specs.Option.{option_and_then, option_map}
+-- Which bytes are a script and what it says, and where other bytes have their first fault.
+-- Lines are read from the first to the last: the table line, and then command lines. The first that is wrong is at fault.
+use Rattle.std.specs.Prelude.{ℕ, ◌+◌, ◌==◌, nat_lt, if◌then◌else◌, Result, Ok, Err, List, [], ◌∷◌, length, take, count_by}
+use Rattle.rht_words.specs.declared.config.Config.{Config}
 use Rattle.rht_model.specs.declared.history.Call.{Call}
-use Rattle.rht_model.specs.declared.history.Call.TheVariants.{Bind, Find, Release}
+use Rattle.rht_script.specs.declared.script.ScriptFault.{ScriptFault}
+use Rattle.rht_script.specs.declared.cause.Cause.{Cause}
+use Rattle.rht_script.specs.declared.cause.Cause.TheVariants.{NoTableLine, UnknownWord, BadNumber, OutOfRange, TooManyLines, LineTooLong, OptionsDisagree, ScriptTooLong}
+use Rattle.rht_script.specs.Spelling.{◌>>=◌, lines_of, words_of, is_skipped}
+use Rattle.rht_script.specs.TableLines.{table_of}
+use Rattle.rht_script.specs.CommandLines.{command_of}
 
--- the greatest number of bytes of a script, and of its lines
+-- the greatest number of bytes of a script, of its lines, and of the bytes of a line without its line feed
 abbrev pub most_bytes : ℕ
 most_bytes = 16777216
 
 abbrev pub most_lines : ℕ
 most_lines = 1000000
 
--- the pieces of a text between the places where this byte stands: one piece more than places
-abbrev pub pieces_at : ℕ → List ℕ → List (List ℕ)
-pieces_at separator text = slice_split (λ byte. byte == separator) text
+abbrev pub most_in_line : ℕ
+most_in_line = 256
 
--- the words of a line, which single spaces part
-abbrev pub words_of : List ℕ → List (List ℕ)
-words_of line = pieces_at 32 line
+-- the number by which a fault tells its cause
+abbrev pub code_of : Cause → ℕ
+code_of NoTableLine = 1
+code_of UnknownWord = 2
+code_of BadNumber = 3
+code_of OutOfRange = 4
+code_of TooManyLines = 5
+code_of LineTooLong = 6
+code_of OptionsDisagree = 8
+code_of ScriptTooLong = 9
 
--- the word is this text
-abbrev pub is_word : List ℕ → List ℕ → Bool
-is_word word text = bytes_eq word text
+-- the fault of this cause at this line
+abbrev pub fault_at : ℕ → Cause → ScriptFault
+fault_at line cause = record { line = line; cause = code_of cause }
 
--- what digits stand for, the first one highest
-abbrev pub value_of : List ℕ → ℕ
-value_of digits = fold (λ value digit. value * 10 + (digit - 48)) 0 digits
+-- what is read at this line
+abbrev pub at_line : {X : Type 0} → ℕ → Result X Cause → Result X ScriptFault
+at_line line (Ok value) = Ok value
+at_line line (Err cause) = Err (fault_at line cause)
 
--- a port or an owner: 1 to 20 digits, leading zeros allowed, that stand for less than 2^32
-abbrev pub number_of : List ℕ → Option ℕ
-number_of word =
-    if nat_lt 0 (length word) && nat_le (length word) 20 && list_all is_ascii_digit word && nat_lt (value_of word) (2 ^ 32)
-    then Some (value_of word) else None
+-- the words of the line of this number, where there are not too many lines, and the line isn't too long
+abbrev pub words_in : ℕ → List ℕ → Result (List (List ℕ)) Cause
+words_in number line =
+    if nat_lt most_lines number then Err TooManyLines
+    else if nat_lt most_in_line (length line) then Err LineTooLong
+    else Ok (words_of line)
 
--- what a verb asks where these are its numbers; none where one of them is no number, missing or too many
-abbrev pub bind_of : List (Option ℕ) → Option Call
-bind_of (Some port ∷ Some owner ∷ []) = Some (Bind port owner false)
-bind_of _ = None
+-- what a script says: what the table is opened with, and the commands, each with its worker
+pub record Said : Type 0 where
+  pub config : Config
+  pub commands : List (ℕ × Call)
 
-abbrev pub find_of : List (Option ℕ) → Option Call
-find_of (Some port ∷ []) = Some (Find port)
-find_of _ = None
+-- the commands of the lines below the table line, which are counted on from this number
+abbrev pub commands_from : ℕ → Config → List (List ℕ) → Result (List (ℕ × Call)) ScriptFault
+commands_from number config [] = Ok []
+commands_from number config (line ∷ lines) = do
+  words ← at_line number (words_in number line)
+  if is_skipped words then commands_from (number + 1) config lines
+      else do
+        command ← at_line number (command_of config.callers words)
+        commands ← commands_from (number + 1) config lines
+        Ok (command ∷ commands)
 
-abbrev pub release_of : List (Option ℕ) → Option Call
-release_of (Some port ∷ Some owner ∷ []) = Some (Release port owner)
-release_of _ = None
+-- what is said with this config, and the commands of these lines
+abbrev pub said_with : Config → ℕ → List (List ℕ) → Result Said ScriptFault
+said_with config number lines = do
+  commands ← commands_from number config lines
+  Ok (record { config = config; commands = commands })
 
--- what this verb asks with these numbers; none where it is no verb
-abbrev pub call_of : List ℕ → List (Option ℕ) → Option Call
-call_of verb numbers =
-    if is_word verb (codes "bind") then bind_of numbers
-    else if is_word verb (codes "find") then find_of numbers
-    else if is_word verb (codes "release") then release_of numbers
-    else None
+-- what is said in these lines, which are counted on from this number: the first that isn't skipped is the table line
+abbrev pub said_from : ℕ → List (List ℕ) → Result Said ScriptFault
+said_from number [] = Err (fault_at number NoTableLine)
+said_from number (line ∷ lines) = do
+  words ← at_line number (words_in number line)
+  if is_skipped words then said_from (number + 1) lines
+      else do
+        config ← at_line number (table_of words)
+        said_with config (number + 1) lines
 
--- what a command line of these words asks: its worker, which is 1, its verb, and the verb's numbers
-abbrev pub command_of : List (List ℕ) → Option Call
-command_of (worker ∷ verb ∷ numbers) = if is_word worker (codes "1") then call_of verb (map number_of numbers) else None
-command_of _ = None
-
--- the commands of these lines, each with its worker; behind the last line feed nothing stands
-abbrev pub commands_of : List (List ℕ) → Option (List (ℕ × Call))
-commands_of [] = None
-commands_of ([] ∷ []) = Some []
-commands_of ((byte ∷ bytes) ∷ []) = None
-commands_of (line ∷ next ∷ lines) =
-    option_and_then (λ call. option_map (λ commands. (1, call) ∷ commands) (commands_of (next ∷ lines))) (command_of (words_of line))
-
--- the commands below the table line
-abbrev pub commands_below : List (List ℕ) → Option (List (ℕ × Call))
-commands_below [] = None
-commands_below (table ∷ lines) = if is_word table (codes "table single") then commands_of lines else None
-
--- the commands of the script that the bytes are; none where they are no script
-abbrev pub commands_in : List ℕ → Option (List (ℕ × Call))
-commands_in bytes =
-    if nat_le (length bytes) most_bytes && nat_le (count_by (λ byte. byte == 10) bytes) most_lines
-    then commands_below (pieces_at 10 bytes) else None
+-- what the bytes say, or their first fault; of too many bytes the fault is at the line at which they become too many
+unfoldable pub reading_of : List ℕ → Result Said ScriptFault
+reading_of bytes =
+    if nat_lt most_bytes (length bytes)
+    then Err (fault_at (1 + count_by (λ byte. byte == 10) (take most_bytes bytes)) ScriptTooLong)
+    else said_from 1 (lines_of bytes)

@@ -1,9 +1,21 @@
--- which bytes are a script, and of which commands
+-- which bytes are a script and what it says, and where other bytes have their first fault
 pub mod Grammar
--- what the reader's cursors stand for
+-- what the words of a table line stand for
+pub mod TableLines
+-- what the words of a command line stand for
+pub mod CommandLines
+-- bytes as lines, lines as words, and words as numbers
+pub mod Spelling
+-- which options have numbers within their limits
+pub mod Allowed
+-- what the reader's cursors give
 pub mod Cursors
 -- what `read` answers
 pub mod Reading
+-- which scripts can be run
+pub mod Sound
+-- what the slow program of the tests reads
+pub mod Places
 -- the text of replies and of last bindings
 pub mod Text
 -- what a step of writing text does

@@ -6,6 +6,8 @@
 //! Read `specs/Grammar.antt` and `specs/Text.antt` first.
 #![tactic(auto)]
 
+mod cause;
+mod options;
 mod reader;
 mod script;
 mod writer;

@@ -1,155 +1,249 @@
 //! Reading a script's bytes.
 //!
-//! A script is taken apart by the two cursors of `cursors`: line by line, and each line word by word.
-//! Begin with `read`.
+//! Stands on the cursors of `cursors`, which take a text apart line by line and word by word, and
+//! on the options of a table line. Begin with `read`.
 
-ghost use Rattle.std.specs.Prelude.{◌≡◌, Some, IfOk, IfErr, count_by, ◌==◌};
-ghost use Rattle.rht_script.specs.Grammar.{pieces_at, words_of, number_of, command_of, commands_of};
+ghost use Rattle.std.specs.Prelude.{◌≡◌, ◌+◌, ◌<◌, ◌≤◌, ◌==◌, Ok, Err, IfOk, IfErr, MatchResult, MatchOption, count_by, length, take, fold};
+ghost use Rattle.rht_words.specs.Settled.{IsSettled};
+ghost use Rattle.rht_script.specs.Grammar.{fault_at, commands_from, said_with, said_from};
+ghost use Rattle.rht_script.specs.TableLines.{no_options, table_of, hash_of, setting_of, options_from};
+ghost use Rattle.rht_script.specs.CommandLines.{command_of, call_of, bind_of, find_of, release_of, is_schedule};
 ghost use Rattle.rht_script.specs.Reading.{IsScript, IsReason, IsReasonFor};
+ghost use Rattle.rht_script.specs.Allowed.{IsAllowed, AreAllowed};
+ghost use Rattle.rht_script.specs.Sound.{IsSound};
+ghost use Rattle.rht_script.specs.declared.cause.Cause.TheVariants.{ScriptTooLong};
 
 mod cursors;
+mod names;
+mod numbers;
+#[cfg(test)]
+mod slow;
 #[cfg(test)]
 mod tests;
 
+use crate::cause::{Cause, at_line};
+use crate::options::{Options, Setting};
 use crate::script::{ReadError, Script, ScriptFault};
 use cursors::{Lines, Words};
+use names::{
+    BIND, FIND, FINISH, HASH, HINT, LOW, MIN, MIX, PAGES, RELEASE, REWALKS, SEED, SINGLE, SKIP,
+    STEP, TABLE,
+};
+use numbers::number_within;
 use rht_model::Call;
-use rht_words::{Config, Hash, Kind};
+use rht_words::{Config, Hash};
 use std::alloc::Global;
 
 /// The greatest number of bytes of a script.
 pub const MOST_BYTES: usize = 16_777_216;
 
-/// The greatest number of lines of a script.
-const MOST_LINES: usize = 1_000_000;
-
-/// The greatest number of digits of a port or an owner.
-const MOST_DIGITS: usize = 20;
-
-/// The error of bytes that are no script, whatever is wrong with them.
-const NO_SCRIPT: ReadError = ReadError::Fault(ScriptFault { line: 0, cause: 2 });
-
-/// The table line.
-const TABLE_LINE: &[u8] = b"table single";
-
-/// The worker of every command.
-const WORKER: &[u8] = b"1";
-
-/// The verb that binds a port to an owner.
-const BIND: &[u8] = b"bind";
-
-/// The verb that looks a port up.
-const FIND: &[u8] = b"find";
-
-/// The verb that takes a binding out.
-const RELEASE: &[u8] = b"release";
-
-/// What the table is opened with where the table line has no options.
-const PLAIN: Config = Config {
-    kind: Kind::Single,
-    nodes: 4096,
-    pages: 256,
-    callers: 1,
-    hint: 0,
-    min: 4,
-    max: 0,
-    seed: 1,
-    rewalks: 8,
-    hash: Hash::Mix,
-    shrink: false,
-};
-
-/// Reads the whole input as a script of at most 16,777,216 bytes and 1,000,000 lines.
-/// A fault is line 0 with cause 2, whatever is wrong.
+/// Reads the whole input as a script. A fault is the first one: a script that is too long before
+/// all others, then the first line at fault, and in a line the first of its words, from the left.
+///
+/// Each byte is looked at a few times, and no memory is taken but that of the commands.
 pub fn read(alloc: Global, bytes: &[u8]) -> Result<Script, ReadError>
-    ensures script { IfOk result (λ script. IsScript bytes.now script) }
-    ensures reason { IfErr result (λ error. IsReason error bytes.now) }
+    ensures script { IfOk result (IsScript bytes.now) }
+    ensures sound { IfOk result IsSound }
+    ensures reason { IfErr result (IsReason bytes.now) }
 {
-    if bytes.len() > MOST_BYTES || line_feeds(bytes) > MOST_LINES {
-        return Err(NO_SCRIPT);
+    if bytes.len() > MOST_BYTES {
+        return Err(ReadError::Fault(too_long(bytes)));
     }
     let mut lines = Lines::new(bytes);
-    if lines.next() != Some(TABLE_LINE) {
-        return Err(NO_SCRIPT);
-    }
+    let config = config(&mut lines)?;
     Ok(Script {
-        config: PLAIN,
+        config,
         auto: true,
-        commands: commands(alloc, lines)?,
+        commands: commands(alloc, &config, lines)?,
         schedule: Vec::new(alloc),
     })
 }
 
-/// How many line feeds the bytes have.
-fn line_feeds(bytes: &[u8]) -> usize
-    ensures { result ≡ count_by (λ byte. byte == 10) bytes.now }
+/// The fault of too many bytes, at the line of the first byte that is one too many.
+fn too_long(bytes: &[u8]) -> ScriptFault
+    requires { MOST_BYTES < length bytes.now }
+    ensures { result ≡ fault_at (1 + count_by (λ byte. byte == 10) (take MOST_BYTES bytes.now)) ScriptTooLong }
 {
-    bytes.iter().filter(|byte| **byte == b'\n').count()
+    Cause::ScriptTooLong.at(1 + line_feeds(&bytes[..MOST_BYTES]))
 }
 
-/// The commands of these lines, each with its worker. Behind the last line nothing may stand.
-fn commands(alloc: Global, mut lines: Lines) -> Result<Vec<(u32, Call)>, ReadError>
+/// How many line feeds the bytes have.
+fn line_feeds(bytes: &[u8]) -> u32
+    requires { length bytes.now ≤ MOST_BYTES }
+    ensures value { result ≡ count_by (λ byte. byte == 10) bytes.now }
+    ensures few { result ≤ MOST_BYTES }
+{
+    bytes.iter().filter(|byte| **byte == b'\n').count() as u32
+}
+
+/// The config of the table line, which is the first line that isn't skipped.
+fn config(lines: &mut Lines) -> Result<Config, ScriptFault>
+    ensures reading { MatchResult result
+        (λ config. said_from lines.old.number lines.old.lines ≡ said_with config lines.new.number lines.new.lines)
+        (λ fault. said_from lines.old.number lines.old.lines ≡ Err fault) }
+    ensures settled { IfOk result IsSettled }
+{
+    while let Some((number, line)) = lines.next()? {
+        let words = Words::new(line);
+        if !words.is_skipped() {
+            return at_line(number, table(words));
+        }
+    }
+    Err(Cause::NoTableLine.at(lines.number()))
+}
+
+/// The commands of the lines that are left, each with its worker.
+fn commands(alloc: Global, config: &Config, mut lines: Lines) -> Result<Vec<(u32, Call)>, ReadError>
     ensures commands { IfOk result
-        (λ commands. commands_of (pieces_at 10 lines.entry) ≡ Some commands.items) }
+        (λ commands. commands_from lines.entry.number config.now lines.entry.lines ≡ Ok commands.items) }
     ensures reason { IfErr result
-        (λ error. IsReasonFor error (commands_of (pieces_at 10 lines.entry))) }
+        (IsReasonFor (commands_from lines.entry.number config.now lines.entry.lines)) }
 {
     let mut commands = Vec::new(alloc);
-    while let Some(line) = lines.next() {
-        let Some(call) = command(line) else {
-            return Err(NO_SCRIPT);
-        };
-        commands.push((1, call))?;
-    }
-    if !lines.rest().is_empty() {
-        return Err(NO_SCRIPT);
+    while let Some((number, line)) = lines.next()? {
+        let words = Words::new(line);
+        if !words.is_skipped() {
+            commands.push(at_line(number, command(config.callers, words))?)?;
+        }
     }
     Ok(commands)
 }
 
-/// What a command line of worker 1 asks. `None` where it is no such line.
-fn command(line: &[u8]) -> Option<Call>
-    ensures { result ≡ command_of (words_of line.now) }
+/// The config that the words of a table line stand for.
+#[tactic(auto, unfolding(crate::specs::TableLines::table_of))]
+fn table(mut words: Words) -> Result<Config, Cause>
+    ensures value { result ≡ table_of words.entry }
+    ensures settled { IfOk result IsSettled }
 {
-    let mut words = Words::new(line);
-    if words.next()? != WORKER {
-        return None;
+    if words.next() != Some(TABLE) {
+        return Err(Cause::NoTableLine);
     }
-    let verb = words.next()?;
-    let call = if verb == BIND {
-        Call::Bind {
-            port: number(words.next()?)?,
-            owner: number(words.next()?)?,
-            once: false,
-        }
-    } else if verb == FIND {
-        Call::Find {
-            port: number(words.next()?)?,
-        }
-    } else if verb == RELEASE {
-        Call::Release {
-            port: number(words.next()?)?,
-            owner: number(words.next()?)?,
-        }
-    } else {
-        return None;
-    };
-    words.next().is_none().then_some(call)
+    if words.next() != Some(SINGLE) {
+        return Err(Cause::UnknownWord);
+    }
+    options(words)?.config()
 }
 
-/// A port or an owner: 1 to 20 digits, leading zeros allowed, that stand for less than 2^32.
-fn number(word: &[u8]) -> Option<u32>
-    ensures { result ≡ number_of word.now }
+/// The options of the words behind the kind, which are names each with its value.
+fn options(mut words: Words) -> Result<Options, Cause>
+    ensures value { result ≡ options_from no_options words.entry }
+    ensures allowed { IfOk result AreAllowed }
 {
-    if word.is_empty() || word.len() > MOST_DIGITS {
-        return None;
+    let mut options = Options::new();
+    while let Some(name) = words.next() {
+        let Some(value) = words.next() else {
+            return Err(Cause::UnknownWord);
+        };
+        options = options.with(setting(name, value)?);
     }
-    let mut value: u32 = 0;
-    for byte in word {
-        if !byte.is_ascii_digit() {
-            return None;
-        }
-        value = value.checked_mul(10)?.checked_add(u32::from(*byte - b'0'))?;
+    Ok(options)
+}
+
+/// What the option of this name is set to by its value.
+#[tactic(auto, unfolding(crate::specs::TableLines::setting_of))]
+fn setting(name: &[u8], value: &[u8]) -> Result<Setting, Cause>
+    ensures value { result ≡ setting_of name.now value.now }
+    ensures allowed { IfOk result IsAllowed }
+{
+    if name == HINT {
+        Ok(Setting::Hint(number_within(1, 65_536, value)?))
+    } else if name == MIN {
+        Ok(Setting::Min(number_within(1, 65_536, value)?))
+    } else if name == PAGES {
+        Ok(Setting::Pages(number_within(4, 4096, value)?))
+    } else if name == SEED {
+        Ok(Setting::Seed(number_within(0, u32::MAX, value)?))
+    } else if name == REWALKS {
+        Ok(Setting::Rewalks(number_within(0, 255, value)?))
+    } else if name == HASH {
+        Ok(Setting::Hashing(hash(value)?))
+    } else {
+        Err(Cause::UnknownWord)
     }
-    Some(value)
+}
+
+/// The hash of this name.
+fn hash(value: &[u8]) -> Result<Hash, Cause>
+    ensures { result ≡ hash_of value.now }
+{
+    if value == MIX {
+        Ok(Hash::Mix)
+    } else if value == LOW {
+        Ok(Hash::Low)
+    } else {
+        Err(Cause::UnknownWord)
+    }
+}
+
+/// The command that the words of a line stand for: its worker, and what that asks.
+#[tactic(auto, unfolding(crate::specs::CommandLines::command_of))]
+fn command(callers: u32, mut words: Words) -> Result<(u32, Call), Cause>
+    ensures { result ≡ command_of callers words.entry }
+{
+    let worker = words.next().ok_or(Cause::UnknownWord)?;
+    if is_schedule(worker) {
+        return Err(Cause::UnknownWord);
+    }
+    let worker = number_within(1, callers, worker)?;
+    Ok((worker, call(words)?))
+}
+
+/// Whether the word begins a line of a schedule, of which there are none yet.
+fn is_schedule(word: &[u8]) -> bool
+    ensures { result ≡ is_schedule word.now }
+{
+    word == STEP || word == SKIP || word == FINISH
+}
+
+/// What a verb asks with the words behind it.
+#[tactic(auto, unfolding(crate::specs::CommandLines::call_of))]
+fn call(mut words: Words) -> Result<Call, Cause>
+    ensures { result ≡ call_of words.entry }
+{
+    let verb = words.next().ok_or(Cause::UnknownWord)?;
+    if verb == BIND {
+        bind(words)
+    } else if verb == FIND {
+        find(words)
+    } else if verb == RELEASE {
+        release(words)
+    } else {
+        Err(Cause::UnknownWord)
+    }
+}
+
+/// A bind of these words.
+#[tactic(auto, unfolding(crate::specs::CommandLines::bind_of))]
+fn bind(mut words: Words) -> Result<Call, Cause>
+    ensures { result ≡ bind_of words.entry }
+{
+    let port = words.number(0, u32::MAX)?;
+    let owner = words.number(0, u32::MAX)?;
+    words.end()?;
+    Ok(Call::Bind {
+        port,
+        owner,
+        once: false,
+    })
+}
+
+/// A look-up of these words.
+#[tactic(auto, unfolding(crate::specs::CommandLines::find_of))]
+fn find(mut words: Words) -> Result<Call, Cause>
+    ensures { result ≡ find_of words.entry }
+{
+    let port = words.number(0, u32::MAX)?;
+    words.end()?;
+    Ok(Call::Find { port })
+}
+
+/// A release of these words.
+#[tactic(auto, unfolding(crate::specs::CommandLines::release_of))]
+fn release(mut words: Words) -> Result<Call, Cause>
+    ensures { result ≡ release_of words.entry }
+{
+    let port = words.number(0, u32::MAX)?;
+    let owner = words.number(0, u32::MAX)?;
+    words.end()?;
+    Ok(Call::Release { port, owner })
 }

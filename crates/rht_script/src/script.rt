@@ -1,10 +1,16 @@
 //! What a script says, as plain data.
 
-ghost use Rattle.std.specs.Prelude.{◌≡◌};
-ghost use Rattle.rht_script.specs.declared.script.ReadError.TheVariants.{Memory};
+ghost use Rattle.std.specs.Prelude.{◌≡◌, ◌↔◌, IsTrue};
+ghost use Rattle.rht_script.specs.declared.script.ReadError.TheVariants.{Fault, Memory};
+ghost use Rattle.std.specs.List.{list_all};
+ghost use Rattle.rht_script.specs.Sound.{IsSound, is_sound_command, is_sound_call, is_sound_line};
+ghost use Rattle.rht_script.specs.Spelling.{is_within};
+
+#[cfg(test)]
+mod tests;
 
 use rht_model::Call;
-use rht_words::Config;
+use rht_words::{Config, Kind};
 use std::alloc::{AllocError, AllocFailed};
 
 /// A script: what the table is opened with, and what the workers do.
@@ -18,6 +24,77 @@ pub struct Script {
     pub commands: Vec<(u32, Call)>,
     /// The schedule that a replay follows.
     pub schedule: Vec<Sched>,
+}
+
+/// The greatest number of lines of a script, and of its commands.
+pub(crate) const MOST_LINES: usize = 1_000_000;
+
+/// The greatest number that a line of a schedule has.
+const MOST_EVENTS: u32 = 1_000_000;
+
+impl Script {
+    /// Whether the script can be run: a table can be opened with its config, and each command and
+    /// each line of its schedule fits that table and its workers.
+    pub fn is_sound(&self) -> bool
+        ensures { IsTrue result ↔ IsSound self.now }
+    {
+        self.config.is_settled()
+            && self.commands.len() <= MOST_LINES
+            && are_sound_commands(&self.config, &self.commands)
+            && are_sound_lines(&self.config, &self.schedule)
+    }
+}
+
+/// Whether each command is a worker's, and its call can be run.
+fn are_sound_commands(config: &Config, commands: &[(u32, Call)]) -> bool
+    ensures { result ≡ list_all (is_sound_command config.now) commands.now }
+{
+    commands
+        .iter()
+        .all(|command| is_sound_command(config, *command))
+}
+
+/// Whether each line of the schedule is a worker's, and its number is within its limits.
+fn are_sound_lines(config: &Config, schedule: &[Sched]) -> bool
+    ensures { result ≡ list_all (is_sound_line config.now) schedule.now }
+{
+    schedule.iter().all(|line| is_sound_line(config, *line))
+}
+
+/// Whether the command is a worker's, and its call can be run.
+fn is_sound_command(config: &Config, command: (u32, Call)) -> bool
+    ensures { result ≡ is_sound_command config.now command }
+{
+    is_within(1, config.callers, command.0) && is_sound_call(config, command.1)
+}
+
+/// Whether a table of this config serves the call.
+fn is_sound_call(config: &Config, call: Call) -> bool
+    ensures { result ≡ is_sound_call config.now call }
+{
+    match call {
+        Call::Bind { once, .. } => !once,
+        Call::Rebind { .. } => config.kind == Kind::Single,
+        Call::Walk { from, limit } => from.is_none() && limit == config.nodes,
+        _ => true,
+    }
+}
+
+/// Whether the line of a schedule is a worker's, and its number is within its limits.
+fn is_sound_line(config: &Config, line: Sched) -> bool
+    ensures { result ≡ is_sound_line config.now line }
+{
+    let (Sched::Step { worker, number }
+    | Sched::Skip { worker, number }
+    | Sched::Finish { worker, number }) = line;
+    is_within(1, config.callers, worker) && is_within(1, MOST_EVENTS, number)
+}
+
+/// Whether the number is one of those from the least to the greatest.
+fn is_within(least: u32, greatest: u32, number: u32) -> bool
+    ensures { result ≡ is_within least greatest number }
+{
+    least <= number && number <= greatest
 }
 
 /// A line of a schedule, of a worker counted from 1.
@@ -34,7 +111,7 @@ pub enum Sched {
 /// The first fault of bytes that are no script.
 #[derive(Clone, Copy, Debug, PartialEq, Eq)]
 pub struct ScriptFault {
-    /// The line at fault, counted from 1; 0 where no line is told.
+    /// The line at fault, counted from 1.
     pub line: u32,
     /// The cause, from 1 to 9.
     pub cause: u8,
@@ -47,6 +124,14 @@ pub enum ReadError {
     Fault(ScriptFault),
     /// Memory ran out.
     Memory,
+}
+
+impl From<ScriptFault> for ReadError {
+    ghost from_gives = { λ fault error. error ≡ Fault fault };
+
+    fn from(fault: ScriptFault) -> ReadError {
+        ReadError::Fault(fault)
+    }
 }
 
 impl From<AllocError> for ReadError {

@@ -1,66 +1,92 @@
 //! The two cursors that a script is taken apart by: over the lines of its bytes, and over the words
 //! of a line. All that is known of places in the input stands here.
 
-ghost use Rattle.std.specs.Prelude.{◌≡◌, ◌==◌, [], ◌∷◌, MatchOption, position};
-ghost use Rattle.rht_script.specs.Grammar.{pieces_at, words_of};
+ghost use Rattle.std.specs.Prelude.{◌≡◌, ◌≢◌, ◌+◌, ◌==◌, [], ◌∷◌, MatchOption, Ok, Err, not, position};
+ghost use Rattle.rht_script.specs.CommandLines.{number_first, end_of};
+ghost use Rattle.rht_script.specs.Spelling.{lines_of, words_of, is_blank, is_skipped};
+ghost use Rattle.rht_script.specs.Cursors.{TakesNext, Reads, BeginsWord};
 
+use super::numbers::number_within;
+use crate::cause::Cause;
+use crate::script::{MOST_LINES, ScriptFault};
 use std::marker::Model;
 
-/// The lines of a text that are left, each ended by a line feed.
+/// The greatest number of bytes of a line without its line feed.
+const MOST_IN_LINE: usize = 256;
+
+/// The lines of a text that are left.
 #[derive(Debug, Drop)]
 pub struct Lines<'a> {
     rest: &'a [u8],
+    /// How many lines were taken.
+    taken: u32,
 }
 
 impl<'a> Model for Lines<'a> {
-    ghost use Rattle.std.specs.Prelude.{ℕ, List};
+    ghost use Rattle.std.specs.Prelude.{◌+◌, ◌≤◌};
+    ghost use Rattle.rht_script.specs.Spelling.{lines_of};
+    ghost use Rattle.rht_script.specs.Cursors.{Unread};
 
-    ghost Value = { List ℕ };
+    ghost Value = { Unread };
 
-    ghost view = { λ lines. lines.rest.now };
+    ghost view = { λ lines. record { number = lines.taken + 1; lines = lines_of lines.rest.now } };
+
+    ghost invariant = { λ lines. lines.taken ≤ 1000000 };
 }
 
 impl<'a> Lines<'a> {
     /// The lines of these bytes.
     pub fn new(bytes: &'a [u8]) -> Self
-        ensures { result ≡ bytes.now }
+        ensures { result ≡ record { number = 1; lines = lines_of bytes.now } }
     {
-        Lines { rest: bytes }
+        Lines {
+            rest: bytes,
+            taken: 0,
+        }
     }
 
-    /// The next line, without its line feed. `None` where no line feed is left.
-    pub fn next(&mut self) -> Option<&'a [u8]>
-        ensures { MatchOption result
-            ((pieces_at 10 self.old ≡ self.old ∷ []) × (self.new ≡ self.old))
-            (λ line. pieces_at 10 self.old ≡ line.now ∷ pieces_at 10 self.new) }
+    /// The number of the next line.
+    pub fn number(&self) -> u32
+        ensures { result ≡ self.now.number }
     {
-        let (line, rest) = split_once(self.rest, b'\n')?;
+        self.taken + 1
+    }
+
+    /// The next line without its line feed, with its number. `None` where no line is left. A line
+    /// that is one too many, or too long, is a fault, and isn't taken.
+    pub fn next(&mut self) -> Result<Option<(u32, &'a [u8])>, ScriptFault>
+        ensures { TakesNext self.old self.new result }
+    {
+        if self.rest.is_empty() {
+            return Ok(None);
+        }
+        let number = self.number();
+        let (line, rest) = first_line(self.rest);
+        if number as usize > MOST_LINES {
+            return Err(Cause::TooManyLines.at(number));
+        }
+        if line.len() > MOST_IN_LINE {
+            return Err(Cause::LineTooLong.at(number));
+        }
         self.rest = rest;
-        Some(line)
-    }
-
-    /// The bytes that are left.
-    pub fn rest(&self) -> &'a [u8]
-        ensures { result.now ≡ self.now }
-    {
-        self.rest
+        self.taken = number;
+        Ok(Some((number, line)))
     }
 }
 
-/// The words of a line that are left. A single space parts two words, so a word may be empty.
+/// The words of a line that are left.
 #[derive(Debug, Drop)]
 pub struct Words<'a> {
-    /// The words with the spaces between them. `None` behind the last word.
-    rest: Option<&'a [u8]>,
+    rest: &'a [u8],
 }
 
 impl<'a> Model for Words<'a> {
     ghost use Rattle.std.specs.Prelude.{ℕ, List};
-    ghost use Rattle.rht_script.specs.Cursors.{words_left};
+    ghost use Rattle.rht_script.specs.Spelling.{words_of};
 
     ghost Value = { List (List ℕ) };
 
-    ghost view = { λ words. words_left words.rest };
+    ghost view = { λ words. words_of words.rest.now };
 }
 
 impl<'a> Words<'a> {
@@ -68,7 +94,17 @@ impl<'a> Words<'a> {
     pub fn new(line: &'a [u8]) -> Self
         ensures { result ≡ words_of line.now }
     {
-        Words { rest: Some(line) }
+        Words { rest: line }
+    }
+
+    /// Whether the line is skipped: it has no words, or is a comment.
+    pub fn is_skipped(&self) -> bool
+        ensures { result ≡ is_skipped self.now }
+    {
+        match (Words { rest: self.rest }).next() {
+            Some(word) => word.first() == Some(&b'#'),
+            None => true,
+        }
     }
 
     /// The next word. `None` where there is none left.
@@ -77,33 +113,89 @@ impl<'a> Words<'a> {
             ((self.old ≡ []) × (self.new ≡ []))
             (λ word. self.old ≡ word.now ∷ self.new) }
     {
-        let line = self.rest?;
-        match split_once(line, b' ') {
-            Some((word, rest)) => {
-                self.rest = Some(rest);
-                Some(word)
-            }
-            None => {
-                self.rest = None;
-                Some(line)
-            }
+        let (word, rest) = first_word(self.rest)?;
+        self.rest = rest;
+        Some(word)
+    }
+
+    /// The next word's number, which is one from the least to the greatest. After an `Err` the
+    /// words are of no more use.
+    pub fn number(&mut self, least: u32, greatest: u32) -> Result<u32, Cause>
+        ensures { Reads result self.new (number_first least greatest self.old) }
+    {
+        match self.next() {
+            Some(word) => number_within(least, greatest, word),
+            None => Err(Cause::UnknownWord),
+        }
+    }
+
+    /// Whether no word is left over.
+    pub fn end(&mut self) -> Result<(), Cause>
+        ensures { result ≡ end_of self.old }
+    {
+        match self.next() {
+            None => Ok(()),
+            Some(_) => Err(Cause::UnknownWord),
         }
     }
 }
 
-/// What stands before the first such byte, and what stands behind it. `None` where there is none.
-fn split_once(text: &[u8], separator: u8) -> Option<(&[u8], &[u8])>
-    ensures { MatchOption result
-        (pieces_at separator text.now ≡ text.now ∷ [])
-        (λ parts. pieces_at separator text.now ≡ parts.0.now ∷ pieces_at separator parts.1.now) }
+/// The first line, and what stands behind its line feed.
+fn first_line(text: &[u8]) -> (&[u8], &[u8])
+    requires { text.now ≢ [] }
+    ensures { lines_of text.now ≡ result.0.now ∷ lines_of result.1.now }
 {
-    let end = position_of(text, separator)?;
-    Some((&text[..end], &text[end + 1..]))
+    match line_feed_at(text) {
+        Some(end) => (&text[..end], &text[end + 1..]),
+        None => (text, &[]),
+    }
 }
 
-/// The place of the first such byte.
-fn position_of(text: &[u8], wanted: u8) -> Option<usize>
-    ensures { result ≡ position (λ byte. byte == wanted) text.now }
+/// The first word, and what stands behind the blank that ends it.
+fn first_word(line: &[u8]) -> Option<(&[u8], &[u8])>
+    ensures { MatchOption result
+        (words_of line.now ≡ [])
+        (λ parts. words_of line.now ≡ parts.0.now ∷ words_of parts.1.now) }
 {
-    text.iter().position(|byte| *byte == wanted)
+    let start = letter_at(line)?;
+    Some(split_word(&line[start..]))
+}
+
+/// The word that the text begins with, and what stands behind the blank that ends it.
+fn split_word(text: &[u8]) -> (&[u8], &[u8])
+    requires { BeginsWord text.now }
+    ensures { words_of text.now ≡ result.0.now ∷ words_of result.1.now }
+{
+    match blank_at(text) {
+        Some(end) => (&text[..end], &text[end + 1..]),
+        None => (text, &[]),
+    }
+}
+
+/// The place of the first line feed.
+fn line_feed_at(text: &[u8]) -> Option<usize>
+    ensures { result ≡ position (λ byte. byte == 10) text.now }
+{
+    text.iter().position(|byte| *byte == b'\n')
+}
+
+/// The place of the first byte that is no blank.
+fn letter_at(text: &[u8]) -> Option<usize>
+    ensures { result ≡ position (λ byte. not (is_blank byte)) text.now }
+{
+    text.iter().position(|byte| !is_blank(*byte))
+}
+
+/// The place of the first blank.
+fn blank_at(text: &[u8]) -> Option<usize>
+    ensures { result ≡ position is_blank text.now }
+{
+    text.iter().position(|byte| is_blank(*byte))
+}
+
+/// Whether the byte parts words: a space, a tab or a carriage return.
+fn is_blank(byte: u8) -> bool
+    ensures { result ≡ is_blank byte }
+{
+    byte == b' ' || byte == b'\t' || byte == b'\r'
 }

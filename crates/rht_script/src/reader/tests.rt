@@ -1,114 +1,317 @@
-//! Inputs that are scripts and inputs that are none, at each edge of the form.
+//! Inputs that are scripts and inputs that are none. What is wanted of each was worked out by hand
+//! from the rules of scripts, and stands beside it.
 
 use super::*;
+use rht_words::Kind;
 use std::alloc::AllocError;
+use std::process::Abort;
 use std::test::Fail;
 
-/// What reading bytes that are no script ends with.
-const REFUSED: Option<ReadError> = Some(ReadError::Fault(ScriptFault { line: 0, cause: 2 }));
+/// What a table line without options stands for.
+const PLAIN: Config = Config {
+    kind: Kind::Single,
+    nodes: 4096,
+    pages: 256,
+    callers: 1,
+    hint: 0,
+    min: 4,
+    max: 0,
+    seed: 1,
+    rewalks: 8,
+    hash: Hash::Mix,
+    shrink: false,
+};
+
+/// Inputs that are no script: the line of the first fault, and its cause.
+const FAULTS: &[(&str, u32, u8)] = &[
+    // There is no table line: each line is skipped, or the first that isn't is another.
+    ("", 1, 1),
+    ("\n", 2, 1),
+    (" \t\r\n\n", 3, 1),
+    ("# table single", 2, 1),
+    ("# table single\n", 2, 1),
+    ("1 find 80\n", 1, 1),
+    ("\n# a\n \n1 find 80\n", 4, 1),
+    ("tables single\n", 1, 1),
+    ("Table single\n", 1, 1),
+    ("table# single\n", 1, 1),
+    // Words of the table line that can't stand there, are missing, or aren't known yet.
+    ("table\n", 1, 2),
+    ("table #\n", 1, 2),
+    ("table double\n", 1, 2),
+    ("table listed\n", 1, 2),
+    ("table single single\n", 1, 2),
+    ("table single 96\n", 1, 2),
+    ("table single max 4\n", 1, 2),
+    ("table single nodes 16\n", 1, 2),
+    ("table single workers 2\n", 1, 2),
+    ("table single shrink on\n", 1, 2),
+    ("table single work auto\n", 1, 2),
+    ("table single form 2\n", 1, 2),
+    ("table single hint\n", 1, 2),
+    ("table single hint 96 seed\n", 1, 2),
+    ("table single hint 96 97\n", 1, 2),
+    ("table single hash\n", 1, 2),
+    ("table single hash 1\n", 1, 2),
+    ("table single hash Low\n", 1, 2),
+    // Numbers of the table line.
+    ("table single hint x\n", 1, 3),
+    ("table single min +4\n", 1, 3),
+    ("table single pages 0x10\n", 1, 3),
+    ("table single seed -1\n", 1, 3),
+    ("table single rewalks 000000000000000000008\n", 1, 3),
+    ("table single hint 0\n", 1, 4),
+    ("table single hint 65537\n", 1, 4),
+    ("table single min 0\n", 1, 4),
+    ("table single min 65537\n", 1, 4),
+    ("table single pages 3\n", 1, 4),
+    ("table single pages 4097\n", 1, 4),
+    ("table single seed 4294967296\n", 1, 4),
+    ("table single rewalks 256\n", 1, 4),
+    // 2^64 + 8 and 2^64.
+    ("table single rewalks 18446744073709551624\n", 1, 4),
+    ("table single seed 18446744073709551616\n", 1, 4),
+    // Options that don't agree.
+    ("table single hint 96 hint 96\n", 1, 8),
+    ("table single min 4 seed 1 min 4\n", 1, 8),
+    ("table single pages 4 pages 4\n", 1, 8),
+    ("table single seed 1 seed 2 seed 3\n", 1, 8),
+    ("table single rewalks 8 rewalks 8\n", 1, 8),
+    ("table single hash low hash low\n", 1, 8),
+    // 300 * 4 / 3 = 400, rounded up to 512; 4 pages have 256 buckets.
+    ("table single pages 4 hint 300\n", 1, 8),
+    ("table single hint 300 pages 4\n", 1, 8),
+    ("table single pages 4 min 257\n", 1, 8),
+    // 65,536 * 4 / 3 = 87,381, rounded up to 131,072, which is 2,048 pages.
+    ("table single hint 65536\n", 1, 8),
+    ("table single hint 65536 pages 2047\n", 1, 8),
+    // In the table line: the leftmost word first, and the whole line last.
+    ("table listed hint x\n", 1, 2),
+    ("table single speed x\n", 1, 2),
+    ("table single hint x speed 1\n", 1, 3),
+    ("table single hint 0 seed x\n", 1, 4),
+    ("table single seed x hint 0\n", 1, 3),
+    ("table single hint 0 max 4\n", 1, 4),
+    ("table single hint 96 hint\n", 1, 2),
+    ("table single hint 96 hint x\n", 1, 3),
+    ("table single hint 96 hint 0\n", 1, 4),
+    ("table single hint 96 hint 96 max 4\n", 1, 2),
+    ("table single pages 4 hint 300 seed x\n", 1, 3),
+    // Words of a command line that can't stand there, are missing, or are too many.
+    ("table single\n1\n", 2, 2),
+    ("table single\n1 lookup 80\n", 2, 2),
+    ("table single\n1 Find 80\n", 2, 2),
+    ("table single\n1 80 find\n", 2, 2),
+    ("table single\n1 all 80\n", 2, 2),
+    ("table single\n1 rebind 80 1 2\n", 2, 2),
+    ("table single\n1 count\n", 2, 2),
+    ("table single\n1 work\n", 2, 2),
+    ("table single\n1 walk\n", 2, 2),
+    ("table single\n1 tidy\n", 2, 2),
+    ("table single\n1 bind\n", 2, 2),
+    ("table single\n1 bind 80", 2, 2),
+    ("table single\n1 bind 80 100 7\n", 2, 2),
+    ("table single\n1 find\n", 2, 2),
+    ("table single\n1 find 80 100\n", 2, 2),
+    ("table single\n1 find 80 # who?\n", 2, 2),
+    ("table single\n1 release 80\n", 2, 2),
+    ("table single\n1 release 80 100 7\n", 2, 2),
+    // A form feed parts no words.
+    ("table single\n1 find\u{c}80\n", 2, 2),
+    // There are no lines of a schedule yet, whatever follows their first word.
+    ("table single\nstep 1 5\n", 2, 2),
+    ("table single\nskip x\n", 2, 2),
+    ("table single\nfinish\n", 2, 2),
+    // Numbers of a command line.
+    ("table single\nstepped 1 5\n", 2, 3),
+    ("table single\nbind 80 100\n", 2, 3),
+    ("table single\n-1 find 80\n", 2, 3),
+    ("table single\n1: find 80\n", 2, 3),
+    ("table single\n1 find http\n", 2, 3),
+    ("table single\n1 find 8o\n", 2, 3),
+    ("table single\n1 find 80#\n", 2, 3),
+    ("table single\n1 find \u{e9}\n", 2, 3),
+    ("table single\n1 find 000000000000000000080\n", 2, 3),
+    ("table single\n1 bind 80 x\n", 2, 3),
+    ("table single\n1 release x 100\n", 2, 3),
+    ("table single\n0 find 80\n", 2, 4),
+    ("table single\n2 find 1\n", 2, 4),
+    ("table single\n99999999999999999999 find 80\n", 2, 4),
+    (
+        "table single\n1 bind 0 7\n1 bind 4294967295 8\n1 find 4294967296\n",
+        4,
+        4,
+    ),
+    ("table single\n1 bind 80 4294967296\n", 2, 4),
+    // 2^64 + 80, and the greatest number of 20 digits.
+    ("table single\n1 find 18446744073709551696\n", 2, 4),
+    ("table single\n1 find 99999999999999999999\n", 2, 4),
+    // In a command line: the leftmost word first.
+    ("table single\nx lookup\n", 2, 3),
+    ("table single\n2 lookup x\n", 2, 4),
+    ("table single\n1 lookup x\n", 2, 2),
+    ("table single\n1 bind x\n", 2, 3),
+    ("table single\n1 bind 4294967296\n", 2, 4),
+    ("table single\n1 bind x 4294967296\n", 2, 3),
+    ("table single\n1 bind 4294967296 x\n", 2, 4),
+    ("table single\n1 find x 100\n", 2, 3),
+    ("table single\n1 bind 80 4294967296 7\n", 2, 4),
+    // The first line at fault, with those that are skipped counted too.
+    ("table single\n1 find x\n1 lookup\n", 2, 3),
+    ("\n# a\ntable single\n\n# b\n 1 find\n2 find\n", 6, 2),
+    ("table\n1 find\n", 1, 2),
+];
+
+/// Asserts that this is the first fault of the bytes.
+fn assert_fault(rt: &impl Abort, alloc: Global, bytes: &[u8], line: u32, cause: u8) {
+    let fault = Some(ReadError::Fault(ScriptFault { line, cause }));
+    assert_eq!(rt;
+        read(alloc, bytes).err(),
+        fault,
+        "line {line}, cause {cause}"
+    );
+}
 
 #[test]
-fn reads_scripts(rt: HostRuntime) -> Result<(), Fail> {
-    let accepted: [(&str, &[(u32, Call)]); 7] = [
-        ("table single\n", &[]),
-        (
-            "table single\n1 bind 80 5\n",
-            &[(
+fn finds_the_first_fault(rt: HostRuntime) {
+    for (text, line, cause) in FAULTS {
+        let fault = Some(ReadError::Fault(ScriptFault {
+            line: *line,
+            cause: *cause,
+        }));
+        assert_eq!(rt;
+            read(rt.alloc(), text.as_bytes()).err(),
+            fault,
+            "at {text:?}"
+        );
+        assert_eq!(rt;
+            slow::read(rt.alloc(), text.as_bytes()).err(),
+            fault,
+            "at {text:?}"
+        );
+    }
+}
+
+/// Scripts: the config that each stands for, and its commands.
+const SCRIPTS: &[(&str, Config, &[(u32, Call)])] = &[
+    ("table single", PLAIN, &[]),
+    ("table single\n", PLAIN, &[]),
+    ("\n# a\n \t\r\n\ttable  single \r\n#b\n\n", PLAIN, &[]),
+    ("  # caf\u{e9}\ntable single\n#", PLAIN, &[]),
+    ("table single hint 96\n", Config { hint: 96, ..PLAIN }, &[]),
+    ("table single min 1\n", PLAIN, &[]),
+    ("table single min 3\n", PLAIN, &[]),
+    ("table single min 5\n", Config { min: 8, ..PLAIN }, &[]),
+    ("table single min 128\n", Config { min: 128, ..PLAIN }, &[]),
+    ("table single min 129\n", Config { min: 256, ..PLAIN }, &[]),
+    ("table single hash mix\n", PLAIN, &[]),
+    (
+        "table single hash low rewalks 0 seed 0 pages 4\n",
+        Config {
+            hash: Hash::Low,
+            rewalks: 0,
+            seed: 0,
+            pages: 4,
+            ..PLAIN
+        },
+        &[],
+    ),
+    // The first table has 131,072 buckets, which is 2,048 pages.
+    (
+        "table single seed 4294967295 hint 65536 rewalks 255 min 65536 pages 2048\n",
+        Config {
+            seed: 4294967295,
+            hint: 65536,
+            rewalks: 255,
+            min: 65536,
+            pages: 2048,
+            ..PLAIN
+        },
+        &[],
+    ),
+    // 192 * 4 / 3 = 256 buckets have room in 4 pages.
+    (
+        "table single pages 00004 hint 192 min 256\n",
+        Config {
+            pages: 4,
+            hint: 192,
+            min: 256,
+            ..PLAIN
+        },
+        &[],
+    ),
+    (
+        "table single\n1 bind 80 100\n1 find 80\n1 release 80 100",
+        PLAIN,
+        &[
+            (
                 1,
                 Call::Bind {
                     port: 80,
-                    owner: 5,
+                    owner: 100,
                     once: false,
                 },
-            )],
-        ),
-        ("table single\n1 find 80\n", &[(1, Call::Find { port: 80 })]),
-        (
-            "table single\n1 release 80 5\n",
-            &[(1, Call::Release { port: 80, owner: 5 })],
-        ),
-        (
-            "table single\n1 find 0\n1 find 4294967295\n",
-            &[
-                (1, Call::Find { port: 0 }),
-                (1, Call::Find { port: 4294967295 }),
-            ],
-        ),
-        (
-            "table single\n1 find 00000000000000000080\n",
-            &[(1, Call::Find { port: 80 })],
-        ),
-        (
-            "table single\n1 bind 1 2\n1 release 1 2\n1 find 1\n",
-            &[
-                (
-                    1,
-                    Call::Bind {
-                        port: 1,
-                        owner: 2,
-                        once: false,
-                    },
-                ),
-                (1, Call::Release { port: 1, owner: 2 }),
-                (1, Call::Find { port: 1 }),
-            ],
-        ),
-    ];
-    for (text, commands) in accepted {
+            ),
+            (1, Call::Find { port: 80 }),
+            (
+                1,
+                Call::Release {
+                    port: 80,
+                    owner: 100,
+                },
+            ),
+        ],
+    ),
+    (
+        "table single\r\n\r\n\t1 find\t0 \r\n# b\n00000000000000000001 find 00000000004294967295\n\n",
+        PLAIN,
+        &[
+            (1, Call::Find { port: 0 }),
+            (1, Call::Find { port: 4294967295 }),
+        ],
+    ),
+];
+
+#[test]
+fn reads_scripts(rt: HostRuntime) -> Result<(), Fail> {
+    for (text, config, commands) in SCRIPTS {
         let script = read(rt.alloc(), text.as_bytes()).ok().ok_or("refused")?;
-        assert_eq!(rt; script.commands.as_slice(), commands, "at {text:?}");
-        let config = script.config;
-        assert_eq!(rt;
-            (config.nodes, config.pages, config.callers),
-            (4096, 256, 1)
-        );
-        assert_eq!(rt; (config.min, config.seed, config.rewalks), (4, 1, 8));
+        assert_eq!(rt; script.config, *config, "at {text:?}");
+        assert_eq!(rt; script.commands.as_slice(), *commands, "at {text:?}");
         assert!(rt; script.auto && script.schedule.is_empty());
+        assert!(rt; script.is_sound(), "at {text:?}");
+        let slow = slow::read(rt.alloc(), text.as_bytes())
+            .ok()
+            .ok_or("refused")?;
+        assert_eq!(rt; slow.config, *config, "at {text:?}");
+        assert_eq!(rt; slow.commands.as_slice(), *commands, "at {text:?}");
     }
     Ok(())
 }
 
+/// Such a byte so many times, and then the text.
+fn padded(alloc: Global, byte: u8, count: usize, text: &[u8]) -> Result<Vec<u8>, AllocError> {
+    let mut bytes = vec![in alloc; byte; count]?;
+    bytes.extend_from_slice(text)?;
+    Ok(bytes)
+}
+
 #[test]
-fn refuses_other_bytes(rt: HostRuntime) {
-    let refused = [
-        "",
-        "table single",
-        "\n",
-        "table listed\n",
-        "table  single\n",
-        "table single \n",
-        "table\n1 find 80\n",
-        "1 find 80\n",
-        "table single\n\n",
-        "table single\n1 find 80",
-        "table single\n1 find 80\n\n",
-        "table single\n1  find 80\n",
-        "table single\n1 find\t80\n",
-        "table single\n 1 find 80\n",
-        "table single\n1 find 80 \n",
-        "table single\n1 find 80\r\n",
-        "table single\n2 find 80\n",
-        "table single\n1 all 80\n",
-        "table single\n1 Find 80\n",
-        "table single\n1 find\n",
-        "table single\n1 find 80 5\n",
-        "table single\n1 bind 80\n",
-        "table single\n1 bind 80 5 6\n",
-        "table single\n1 release 80\n",
-        "table single\n1 find 4294967296\n",
-        "table single\n1 find 000000000000000000080\n",
-        "table single\n1 find 99999999999999999999\n",
-        "table single\n1 find 8a\n",
-        "table single\n1 find -1\n",
-        "table single\n1 find \n",
-    ];
-    for text in refused {
-        assert_eq!(rt;
-            read(rt.alloc(), text.as_bytes()).err(),
-            REFUSED,
-            "at {text:?}"
-        );
-    }
+fn reads_lines_of_256_bytes(rt: HostRuntime) -> Result<(), Fail> {
+    let alloc = rt.alloc();
+    // The text has 12 bytes.
+    let table = padded(alloc, b' ', 244, b"table single\n")?;
+    assert!(rt; read(alloc, &table).is_ok());
+    let table = padded(alloc, b' ', 245, b"table single\n")?;
+    assert_fault(&rt, alloc, &table, 1, 6);
+    // A line that is too long is so before anything else that is wrong with it, or skips it.
+    let other = padded(alloc, b'x', 257, b"\ntable single\n")?;
+    assert_fault(&rt, alloc, &other, 1, 6);
+    let comment = padded(alloc, b'#', 257, b"")?;
+    assert_fault(&rt, alloc, &comment, 1, 6);
+    let comment = padded(alloc, b'#', 256, b"\ntable single\n1 lookup\n")?;
+    assert_fault(&rt, alloc, &comment, 3, 2);
+    Ok(())
 }
 
 /// The table line, and then so many lines.
@@ -122,26 +325,44 @@ fn repeated(alloc: Global, line: &[u8], count: usize) -> Result<Vec<u8>, AllocEr
 
 #[test]
 fn reads_a_million_lines(rt: HostRuntime) -> Result<(), Fail> {
-    let mut bytes = repeated(rt.alloc(), b"1 bind 80 5\n", 999_999)?;
-    let script = read(rt.alloc(), bytes.as_slice()).ok().ok_or("refused")?;
+    let alloc = rt.alloc();
+    let mut bytes = repeated(alloc, b"1 bind 80 5\n", 999_999)?;
+    let script = read(alloc, &bytes).ok().ok_or("refused")?;
     assert_eq!(rt; script.commands.len(), 999_999);
-    bytes.extend_from_slice(b"1 find 80\n")?;
-    assert_eq!(rt; read(rt.alloc(), bytes.as_slice()).err(), REFUSED);
+    // One line more, also where it is blank.
+    bytes.extend_from_slice(b"\n")?;
+    assert_fault(&rt, alloc, &bytes, 1_000_001, 5);
+    // A line that is too long besides is one too many first.
+    bytes.extend_from_slice(&padded(alloc, b'x', 257, b"")?)?;
+    assert_fault(&rt, alloc, &bytes, 1_000_001, 5);
+    // Blank lines alone: a million of them, and one more.
+    let mut blank = vec![in alloc; b'\n'; 1_000_000]?;
+    assert_fault(&rt, alloc, &blank, 1_000_001, 1);
+    blank.push(b'\n')?;
+    assert_fault(&rt, alloc, &blank, 1_000_001, 5);
+    // A fault in an earlier line comes first.
+    let mut faulty = repeated(alloc, b"\n", 999_998)?;
+    faulty.extend_from_slice(b"1 find x\n1 lookup\n")?;
+    assert_fault(&rt, alloc, &faulty, 1_000_000, 3);
     Ok(())
 }
 
 #[test]
 fn reads_sixteen_mebibytes(rt: HostRuntime) -> Result<(), Fail> {
+    let alloc = rt.alloc();
     // The table line has 13 bytes, each line 28, and the last one 23: 16,777,216 in all.
-    let mut bytes = repeated(rt.alloc(), b"1 find 00000000000000000080\n", 599_185)?;
+    let mut bytes = repeated(alloc, b"1 find 00000000000000000080\n", 599_185)?;
     bytes.extend_from_slice(b"1 find 000000000000080\n")?;
     assert_eq!(rt; bytes.len(), 16_777_216);
-    let script = read(rt.alloc(), bytes.as_slice()).ok().ok_or("refused")?;
+    let script = read(alloc, &bytes).ok().ok_or("refused")?;
     assert_eq!(rt; script.commands.len(), 599_186);
-    // One more digit in the last line.
-    bytes.truncate(16_777_193);
-    bytes.extend_from_slice(b"1 find 0000000000000080\n")?;
-    assert_eq!(rt; bytes.len(), 16_777_217);
-    assert_eq!(rt; read(rt.alloc(), bytes.as_slice()).err(), REFUSED);
+    // One byte more stands behind 599,187 line feeds.
+    bytes.push(b'\n')?;
+    assert_fault(&rt, alloc, &bytes, 599_188, 9);
+    // Too many bytes come before any other fault, as no table line and a line that is too long.
+    let mut bytes = vec![in alloc; b'x'; 16_777_217]?;
+    assert_fault(&rt, alloc, &bytes, 1, 9);
+    bytes.pop();
+    assert_fault(&rt, alloc, &bytes, 1, 6);
     Ok(())
 }

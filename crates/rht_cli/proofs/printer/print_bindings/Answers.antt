@@ -14,8 +14,8 @@ returns-clause-text g c =
     let pairs = c.in_ok-closed.ensures.pairs in
     let keys : closed.keys ≡ length (listed c.args.registry.now) =
     c.in_ok-closed.ensures.keys ∙ sym (length-map c.args.registry.now (λ (pair : ℕ × ℕ). (pair.0, pair.1 ∷ []))) in
-    let same : closed_text closed ≡ bindings_text (listed c.args.registry.now) =
+    let same : closed_text closed ≡ bindings_text c.args.size (listed c.args.registry.now) =
     ap (λ (l : List (ℕ × List ℕ)). flat_map port_line l ++ last_line closed.size closed.keys) pairs
     ∙ ap (λ size. flat_map port_line (listed c.args.registry.now) ++ last_line size closed.keys) c.in_ok-closed.ensures.size
-    ∙ ap (λ keys. flat_map port_line (listed c.args.registry.now) ++ last_line 64 keys) keys in
+    ∙ ap (λ keys. flat_map port_line (listed c.args.registry.now) ++ last_line c.args.size keys) keys in
     subst (λ (l : List ℕ). Prints g.O.Sink.held g.O.Sink.faults c.args.out.now c.add_closed.new.out c.map_err.result c.args.text.now c.add_closed.new.text l) same (search rules)

@@ -1,13 +1,13 @@
-use Rattle.std.proofs.Common.{◌≡◌, ◌++◌, length}
-use Rattle.std.specs.Option.{option_map}
-use Rattle.rht_script.specs.Grammar.{pieces_at, commands_of}
+use Rattle.std.proofs.Common.{◌≡◌, length}
+use Rattle.rht_script.specs.Grammar.{commands_from}
+use Rattle.rht_script.proofs.CommandsSoFar.{with_front}
 use Rattle.rht_script.proofs.reader.commands.Given as goal
 
--- the commands so far, and then those of the lines that are left, are those of all lines
-abbrev pub invariant-loop-line : goal.invariant-loop-line
-invariant-loop-line l =
-    option_map (λ more. l.commands.items ++ more) (commands_of (pieces_at 10 l.lines)) ≡ commands_of (pieces_at 10 l.initial.lines)
+-- the commands so far and those of the lines that are left are those of all lines
+abbrev pub invariant-loop-commands : goal.invariant-loop-commands
+invariant-loop-commands l =
+    with_front l.commands.items (commands_from l.lines.number l.config l.lines.lines) ≡ commands_from l.initial.lines.number l.config l.initial.lines.lines
 
 -- the lines that are left
-abbrev pub decreases-loop-line : goal.decreases-loop-line
-decreases-loop-line l = length (pieces_at 10 l.lines)
+abbrev pub decreases-loop-commands : goal.decreases-loop-commands
+decreases-loop-commands l = length l.lines.lines

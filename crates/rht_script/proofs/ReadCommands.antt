@@ -1,0 +1,179 @@
+-- What holds of each command that is read: it holds of what a command line asks, and so, by induction over the
+-- lines, of all commands of a script; and there are no more commands than a script may have lines.
+use Rattle.std.proofs.Common.{◌≡◌, ℕ, ◌+◌, ◌≤◌, Bool, true, false, not, cond, Result, Ok, Err, List, [], ◌∷◌, length, codes, refl, arith}
+use Rattle.std.specs.Prelude.{IfOk, nat_lt}
+use Rattle.std.specs.List.{AllByRecursion, list_all}
+use Rattle.std.proofs.lemmas.Bool.{ltb-false, and_from}
+use Rattle.rht_words.specs.declared.config.Config.{Config}
+use Rattle.rht_model.specs.declared.history.Call.{Call}
+use Rattle.rht_model.specs.declared.history.Call.TheVariants.{Bind, Find, Release}
+use Rattle.rht_script.specs.declared.script.ScriptFault.{ScriptFault}
+use Rattle.rht_script.specs.declared.cause.Cause.{Cause}
+use Rattle.rht_script.specs.declared.cause.Cause.TheVariants.{BadNumber, OutOfRange, UnknownWord, TooManyLines, LineTooLong}
+use Rattle.rht_script.specs.Grammar.{most_bytes, most_lines, most_in_line, at_line, words_in, commands_from, Said, said_from, reading_of}
+use Rattle.rht_script.specs.TableLines.{table_of}
+use Rattle.rht_script.specs.CommandLines.{number_first, end_of, bind_of, find_of, release_of, call_of, is_schedule, command_of}
+use Rattle.rht_script.specs.Spelling.{◌>>=◌, is_word, is_number, value_of, is_within, number_of, most, lines_of, words_of, is_skipped}
+use Rattle.rht_script.specs.Sound.{is_sound_call, is_sound_command}
+
+-- ---- what holds of a value holds on the way to it
+
+IfOk-then : {A B E : Type 0} (P : A → Type 0) (Q : B → Type 0) (read : Result A E) (next : A → Result B E) → IfOk read P
+    → ((value : A) → P value → IfOk (next value) Q) → IfOk (read >>= next) Q
+IfOk-then P Q (Ok value) next holds goes_on = goes_on value holds
+IfOk-then P Q (Err fault) next holds goes_on = tt
+
+IfOk-after : {A B E : Type 0} (Q : B → Type 0) (read : Result A E) (next : A → Result B E) → ((value : A) → IfOk (next value) Q) → IfOk (read >>= next) Q
+IfOk-after Q (Ok value) next goes_on = goes_on value
+IfOk-after Q (Err fault) next goes_on = tt
+
+IfOk-cond : {A E : Type 0} (P : A → Type 0) (b : Bool) (x y : Result A E) → IfOk x P → IfOk y P → IfOk (cond b x y) P
+IfOk-cond P true x y first second = first
+IfOk-cond P false x y first second = second
+
+IfOk-at_line : {A : Type 0} (P : A → Type 0) (number : ℕ) (read : Result A Cause) → IfOk read P → IfOk (at_line number read) P
+IfOk-at_line P number (Ok value) holds = holds
+IfOk-at_line P number (Err cause) holds = tt
+
+-- what is read at a value that was read
+pub IfOk-at : {A E : Type 0} (P : A → Type 0) (read : Result A E) (value : A) → read ≡ Ok value → IfOk read P → P value
+IfOk-at P read value is holds = rw is at holds
+
+-- ---- a command line
+
+module _ (Q : Call → Type 0) (bind : (port owner : ℕ) → Q (Bind port owner false)) (find : (port : ℕ) → Q (Find port))
+    (release : (port owner : ℕ) → Q (Release port owner)) where
+  bind_holds : (words : List (List ℕ)) → IfOk (bind_of words) Q
+  unfolding bind_of
+  bind_holds words =
+      IfOk-after Q (number_first 0 most words) _ (λ port.
+      IfOk-after Q (number_first 0 most port.1) _ (λ owner.
+      IfOk-after Q (end_of owner.1) _ (λ end. bind port.0 owner.0)))
+
+  find_holds : (words : List (List ℕ)) → IfOk (find_of words) Q
+  unfolding find_of
+  find_holds words =
+      IfOk-after Q (number_first 0 most words) _ (λ port.
+      IfOk-after Q (end_of port.1) _ (λ end. find port.0))
+
+  release_holds : (words : List (List ℕ)) → IfOk (release_of words) Q
+  unfolding release_of
+  release_holds words =
+      IfOk-after Q (number_first 0 most words) _ (λ port.
+      IfOk-after Q (number_first 0 most port.1) _ (λ owner.
+      IfOk-after Q (end_of owner.1) _ (λ end. release port.0 owner.0)))
+
+  -- what holds of each call that can be written holds of what a verb asks
+  pub call_holds : (words : List (List ℕ)) → IfOk (call_of words) Q
+  unfolding call_of
+  call_holds [] = tt
+  call_holds (verb ∷ words) =
+      IfOk-cond Q (is_word verb (codes "bind")) _ _ (bind_holds words)
+      (IfOk-cond Q (is_word verb (codes "find")) _ _ (find_holds words)
+      (IfOk-cond Q (is_word verb (codes "release")) _ (Err UnknownWord) (release_holds words) tt))
+
+-- a number that is read is within its limits
+pub number_within : (least greatest : ℕ) (word : List ℕ) → IfOk (number_of least greatest word) (λ number. is_within least greatest number ≡ true)
+unfolding number_of
+number_within least greatest word =
+    by_test (not (is_number word)) (is_within least greatest (value_of word)) refl
+  where
+    by_test : (no_number within : Bool) → is_within least greatest (value_of word) ≡ within
+        → IfOk (cond no_number (Err BadNumber) (cond within (Ok (value_of word)) (Err OutOfRange))) (λ number. is_within least greatest number ≡ true)
+    by_test true within is = tt
+    by_test false true is = is
+    by_test false false is = tt
+
+module _ (P : ℕ × Call → Type 0) (Q : Call → Type 0) (callers : ℕ)
+    (both : (worker : ℕ) (call : Call) → is_within 1 callers worker ≡ true → Q call → P (worker, call))
+    (each : (words : List (List ℕ)) → IfOk (call_of words) Q) where
+  -- what holds of a worker's calls holds of a command line
+  pub command_holds : (words : List (List ℕ)) → IfOk (command_of callers words) P
+  unfolding command_of
+  command_holds [] = tt
+  command_holds (worker ∷ words) =
+      IfOk-cond P (is_schedule worker) (Err UnknownWord) _ tt
+      (IfOk-then (λ number. is_within 1 callers number ≡ true) P (number_of 1 callers worker) _ (number_within 1 callers worker) (λ number within.
+      IfOk-then Q P (call_of words) _ (each words) (λ call holds. both number call within holds)))
+
+-- ---- all command lines
+
+-- These are commands of lines that are counted on from this number.
+pub record AreCommands (P : ℕ × Call → Type 0) (number : ℕ) (commands : List (ℕ × Call)) : Type 0 where
+  pub each : AllByRecursion P commands
+  pub few : length commands + number ≤ 1000001
+
+words_few : (number : ℕ) (line : List ℕ) → IfOk (words_in number line) (λ words. number ≤ most_lines)
+words_few number line = by_test (nat_lt most_lines number) refl
+  where
+    by_test : (many : Bool) → nat_lt most_lines number ≡ many
+        → IfOk (cond many (Err TooManyLines) (cond (nat_lt most_in_line (length line)) (Err LineTooLong) (Ok (words_of line)))) (λ words. number ≤ most_lines)
+    by_test true is = tt
+    by_test false is = IfOk-cond (λ words. number ≤ most_lines) (nat_lt most_in_line (length line)) (Err LineTooLong) (Ok (words_of line)) tt (ltb-false most_lines number is)
+
+module _ (P : ℕ × Call → Type 0) (config : Config) (each : (words : List (List ℕ)) → IfOk (command_of config.callers words) P) where
+  -- By induction over the lines: a line that is skipped has no command, and any other has one more.
+  pub commands_hold : (number : ℕ) (lines : List (List ℕ)) → number ≤ 1000001 → IfOk (commands_from number config lines) (AreCommands P number)
+  commands_hold number [] few = record { each = tt; few = omega arith }
+  commands_hold number (line ∷ lines) few =
+      IfOk-then (λ (words : List (List ℕ)). number ≤ most_lines) (AreCommands P number) (at_line number (words_in number line)) _
+      (IfOk-at_line (λ words. number ≤ most_lines) number (words_in number line) (words_few number line)) (λ words here.
+      let behind = commands_hold (number + 1) lines (omega (arith, here)) in
+      IfOk-cond (AreCommands P number) (is_skipped words) (commands_from (number + 1) config lines) _
+      (earlier (commands_from (number + 1) config lines) behind)
+      (IfOk-then P (AreCommands P number) (at_line number (command_of config.callers words)) _
+      (IfOk-at_line P number (command_of config.callers words) (each words)) (λ command holds.
+      IfOk-then (AreCommands P (number + 1)) (AreCommands P number) (commands_from (number + 1) config lines) _ behind (λ commands are.
+      record { each = (holds, are.each); few = (let more = are.few in omega arith) }))))
+    where
+      earlier : (read : Result (List (ℕ × Call)) ScriptFault) → IfOk read (AreCommands P (number + 1)) → IfOk read (AreCommands P number)
+      earlier (Ok commands) are = record { each = are.each; few = (let more = are.few in omega arith) }
+      earlier (Err fault) are = tt
+
+-- ---- a whole script
+
+module _ (P : Config → ℕ × Call → Type 0) (each : (config : Config) (words : List (List ℕ)) → IfOk (command_of config.callers words) (P config)) where
+  -- what is said has such commands, and no more of them than a script may have lines
+  abbrev AreSaid : Said → Type 0
+  AreSaid said = AreCommands (P said.config) 1 said.commands
+
+  -- By induction over the lines up to the table line.
+  said_hold : (number : ℕ) (lines : List (List ℕ)) → 1 ≤ number → number ≤ 1000001 → IfOk (said_from number lines) AreSaid
+  said_hold number [] first few = tt
+  said_hold number (line ∷ lines) first few =
+      IfOk-then (λ (words : List (List ℕ)). number ≤ most_lines) AreSaid (at_line number (words_in number line)) _
+      (IfOk-at_line (λ words. number ≤ most_lines) number (words_in number line) (words_few number line)) (λ words here.
+      IfOk-cond AreSaid (is_skipped words) (said_from (number + 1) lines) _
+      (said_hold (number + 1) lines (omega arith) (omega (arith, here)))
+      (IfOk-after AreSaid (at_line number (table_of words)) _ (λ config.
+      IfOk-then (AreCommands (P config) (number + 1)) AreSaid (commands_from (number + 1) config lines) _
+      (commands_hold (P config) config (each config) (number + 1) lines (omega (arith, here))) (λ commands are.
+      record { each = are.each; few = (let more = are.few in omega arith) }))))
+
+  pub reading_holds : (bytes : List ℕ) (said : Said) → reading_of bytes ≡ Ok said → AreCommands (P said.config) 1 said.commands
+  unfolding reading_of
+  reading_holds bytes said read =
+      IfOk-at AreSaid (reading_of bytes) said read
+      (IfOk-cond AreSaid (nat_lt most_bytes (length bytes)) _ (said_from 1 (lines_of bytes)) tt (said_hold 1 (lines_of bytes) (omega arith) (omega arith)))
+
+-- ---- sound commands
+
+abbrev IsSoundCommand : Config → ℕ × Call → Type 0
+IsSoundCommand config command = is_sound_command config command ≡ true
+
+list_all-each : (test : ℕ × Call → Bool) (commands : List (ℕ × Call)) → AllByRecursion (λ command. test command ≡ true) commands → list_all test commands ≡ true
+list_all-each test [] each = refl
+list_all-each test (command ∷ commands) each = and_from (test command) (list_all test commands) each.0 (list_all-each test commands each.1)
+
+sound_each : (config : Config) (words : List (List ℕ)) → IfOk (command_of config.callers words) (IsSoundCommand config)
+sound_each config =
+    command_holds (IsSoundCommand config) (λ call. is_sound_call config call ≡ true) config.callers
+    (λ worker call within sound. and_from (is_within 1 config.callers worker) (is_sound_call config call) within sound)
+    (call_holds (λ call. is_sound_call config call ≡ true) (λ port owner. refl) (λ port. refl) (λ port owner. refl))
+
+-- the commands that are read are sound, and few enough
+pub commands_sound : (bytes : List ℕ) (said : Said) → reading_of bytes ≡ Ok said
+    → (list_all (is_sound_command said.config) said.commands ≡ true) × (length said.commands ≤ most_lines)
+commands_sound bytes said read =
+    let are = reading_holds IsSoundCommand sound_each bytes said read in
+    (list_all-each (is_sound_command said.config) said.commands are.each, (let few = are.few in omega arith))

@@ -1,0 +1,45 @@
+-- The two ways to read bytes: those that are too many have a fault, which the front of them tells, and any others
+-- are read line by line. Where the
+-- commands of a config are read, what is said is read; and what stops the one stops the other.
+use Rattle.std.proofs.Common.{◌≡◌, ℕ, ◌+◌, ◌<◌, ◌≤◌, ◌==◌, Result, Ok, Err, List, length, take, refl, ◌++◌, ◌∙◌, sym, ap, arith, length-append}
+use Rattle.std.specs.Prelude.{count_by}
+use Rattle.std.proofs.lemmas.Bool.{lt-ltb, le-ltb}
+use Rattle.std.proofs.lemmas.List.{take-append-le}
+use Rattle.rht_words.specs.declared.config.Config.{Config}
+use Rattle.rht_model.specs.declared.history.Call.{Call}
+use Rattle.rht_script.specs.declared.script.ScriptFault.{ScriptFault}
+use Rattle.rht_script.specs.declared.script.ReadError.{ReadError}
+use Rattle.rht_script.specs.declared.script.ReadError.TheVariants.{Fault, Memory}
+use Rattle.rht_script.specs.declared.cause.Cause.TheVariants.{ScriptTooLong}
+use Rattle.rht_script.specs.Grammar.{most_bytes, fault_at, Said, commands_from, said_with, said_from, reading_of}
+use Rattle.rht_script.specs.Spelling.{lines_of}
+use Rattle.rht_script.specs.Reading.{IsReasonFor}
+
+module _ (bytes : List ℕ) where
+  pub reading_of-long : most_bytes < length bytes
+      → reading_of bytes ≡ Err (fault_at (1 + count_by (λ byte. byte == 10) (take most_bytes bytes)) ScriptTooLong)
+  unfolding reading_of
+  reading_of-long long = rw (lt-ltb most_bytes (length bytes) long) refl
+
+  pub reading_of-lines : length bytes ≤ most_bytes → reading_of bytes ≡ said_from 1 (lines_of bytes)
+  unfolding reading_of
+  reading_of-lines short = rw (le-ltb most_bytes (length bytes) short) refl
+
+-- of too many bytes the front tells the fault, whatever comes behind it
+pub reading_of-front : (bytes front behind : List ℕ) → bytes ≡ front ++ behind → most_bytes < length front → reading_of bytes ≡ reading_of front
+reading_of-front bytes front behind is long =
+    let longer : most_bytes < length bytes = omega (arith, ap (λ (l : List ℕ). length l) is, length-append front behind) in
+    let first : take most_bytes bytes ≡ take most_bytes front = ap (take most_bytes) is ∙ take-append-le most_bytes front behind (omega arith) in
+    reading_of-long bytes longer
+    ∙ ap (λ (l : List ℕ). Err (fault_at (1 + count_by (λ byte. byte == 10) l) ScriptTooLong)) first
+    ∙ sym (reading_of-long front long)
+
+module _ (config : Config) (number : ℕ) (lines : List (List ℕ)) where
+  pub said_with-commands : (commands : List (ℕ × Call)) → commands_from number config lines ≡ Ok commands
+      → said_with config number lines ≡ Ok (record { config = config; commands = commands })
+  said_with-commands commands read = rw read refl
+
+  pub said_with-reason : (reading : Result Said ScriptFault) (error : ReadError) → reading ≡ said_with config number lines
+      → IsReasonFor (commands_from number config lines) error → IsReasonFor reading error
+  said_with-reason reading (Fault fault) is stopped = rw (is, stopped) refl
+  said_with-reason reading Memory is stopped = tt

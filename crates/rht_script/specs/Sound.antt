@@ -1,0 +1,43 @@
+-- Which scripts can be run: those whose config a table can be opened with, and whose lines fit it.
+use Rattle.std.specs.Prelude.{ℕ, ◌≤◌, IsTrue, Bool, true, false, ◌&&◌, ◌==◌, not, is_none, vec_len}
+use Rattle.std.specs.List.{list_all}
+use Rattle.rht_words.specs.declared.config.Config.{Config}
+use Rattle.rht_words.specs.declared.config.Kind.{Kind}
+use Rattle.rht_words.specs.declared.config.Kind.TheVariants.{Single, Listed}
+use Rattle.rht_words.specs.Settled.{IsSettled}
+use Rattle.rht_model.specs.declared.history.Call.{Call}
+use Rattle.rht_model.specs.declared.history.Call.TheVariants.{Bind, Rebind, Walk}
+use Rattle.rht_script.specs.declared.script.Script.{Script}
+use Rattle.rht_script.specs.declared.script.Sched.{Sched}
+use Rattle.rht_script.specs.declared.script.Sched.TheVariants.{Step, Skip, Finish}
+use Rattle.rht_script.specs.Grammar.{most_lines}
+use Rattle.rht_script.specs.Spelling.{is_within}
+
+-- a port has at most one owner
+abbrev pub is_single : Kind → Bool
+is_single Single = true
+is_single Listed = false
+
+-- a bind is tried until it ends, a rebind is in a table of one owner each, and a walk goes over the whole table
+abbrev pub is_sound_call : Config → Call → Bool
+is_sound_call config (Bind port owner once) = not once
+is_sound_call config (Rebind port owner new) = is_single config.kind
+is_sound_call config (Walk from limit) = is_none from && limit == config.nodes
+is_sound_call config _ = true
+
+-- the command is a worker's, and its call can be run
+abbrev pub is_sound_command : Config → ℕ × Call → Bool
+is_sound_command config command = is_within 1 config.callers command.0 && is_sound_call config command.1
+
+-- the line of a schedule is a worker's, and its number is within its limits
+abbrev pub is_sound_line : Config → Sched → Bool
+is_sound_line config (Step worker number) = is_within 1 config.callers worker && is_within 1 1000000 number
+is_sound_line config (Skip worker number) = is_within 1 config.callers worker && is_within 1 1000000 number
+is_sound_line config (Finish worker number) = is_within 1 config.callers worker && is_within 1 1000000 number
+
+-- The config is settled, and each command and each line of the schedule fits it.
+pub record IsSound (script : Script) : Type 0 where
+  pub settled : IsSettled script.config
+  pub few : vec_len script.commands ≤ most_lines
+  pub commands : IsTrue (list_all (is_sound_command script.config) script.commands.items)
+  pub schedule : IsTrue (list_all (is_sound_line script.config) script.schedule.items)

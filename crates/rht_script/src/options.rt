@@ -1,0 +1,128 @@
+//! The options of a table line, and the config that they stand for.
+//!
+//! Stands on `rht_words`, which rounds sizes and says how large a first table is.
+
+ghost use Rattle.std.specs.Prelude.{◌≡◌, IfOk};
+ghost use Rattle.rht_words.specs.Settled.{IsSettled};
+ghost use Rattle.rht_script.specs.TableLines.{no_options, with_setting, configured, config_of};
+ghost use Rattle.rht_script.specs.Allowed.{AreAllowed, IsAllowed};
+
+use crate::cause::Cause;
+use rht_words::{Config, Hash, Kind, rounded_up, starting_size};
+
+/// An option with its value.
+#[derive(Clone, Copy, Debug, PartialEq, Eq)]
+pub(crate) enum Setting {
+    Hint(u32),
+    Min(u32),
+    Pages(u32),
+    Seed(u32),
+    Rewalks(u32),
+    Hashing(Hash),
+}
+
+/// What is set so far, and whether an option was set twice.
+#[derive(Clone, Copy, Debug, PartialEq, Eq)]
+pub(crate) struct Options {
+    pub(crate) hint: Option<u32>,
+    pub(crate) min: Option<u32>,
+    pub(crate) pages: Option<u32>,
+    pub(crate) seed: Option<u32>,
+    pub(crate) rewalks: Option<u32>,
+    pub(crate) hash: Option<Hash>,
+    pub(crate) twice: bool,
+}
+
+impl Options {
+    /// Nothing is set.
+    pub(crate) fn new() -> Self
+        ensures value { result ≡ no_options }
+        ensures allowed { AreAllowed result }
+    {
+        Options {
+            hint: None,
+            min: None,
+            pages: None,
+            seed: None,
+            rewalks: None,
+            hash: None,
+            twice: false,
+        }
+    }
+
+    /// The options with a further setting.
+    pub(crate) fn with(self, setting: Setting) -> Self
+        requires options { AreAllowed self }
+        requires setting { IsAllowed setting }
+        ensures value { result ≡ with_setting self setting }
+        ensures allowed { AreAllowed result }
+    {
+        match setting {
+            Setting::Hint(hint) => Options {
+                hint: Some(hint),
+                twice: self.twice || self.hint.is_some(),
+                ..self
+            },
+            Setting::Min(min) => Options {
+                min: Some(min),
+                twice: self.twice || self.min.is_some(),
+                ..self
+            },
+            Setting::Pages(pages) => Options {
+                pages: Some(pages),
+                twice: self.twice || self.pages.is_some(),
+                ..self
+            },
+            Setting::Seed(seed) => Options {
+                seed: Some(seed),
+                twice: self.twice || self.seed.is_some(),
+                ..self
+            },
+            Setting::Rewalks(rewalks) => Options {
+                rewalks: Some(rewalks),
+                twice: self.twice || self.rewalks.is_some(),
+                ..self
+            },
+            Setting::Hashing(hash) => Options {
+                hash: Some(hash),
+                twice: self.twice || self.hash.is_some(),
+                ..self
+            },
+        }
+    }
+
+    /// The config of these options. It is settled, so a table can be opened with it.
+    #[tactic(auto, unfolding(crate::specs::TableLines::config_of))]
+    pub(crate) fn config(self) -> Result<Config, Cause>
+        requires { AreAllowed self }
+        ensures value { result ≡ config_of self }
+        ensures settled { IfOk result IsSettled }
+    {
+        let config = self.configured();
+        if self.twice || starting_size(config.hint, config.min, config.max) > 64 * config.pages {
+            return Err(Cause::OptionsDisagree);
+        }
+        Ok(config)
+    }
+
+    /// What a table is opened with, also where the options don't agree.
+    #[tactic(auto, unfolding(crate::specs::TableLines::configured))]
+    fn configured(self) -> Config
+        requires { AreAllowed self }
+        ensures { result ≡ configured self }
+    {
+        Config {
+            kind: Kind::Single,
+            nodes: 4096,
+            pages: self.pages.unwrap_or(256),
+            callers: 1,
+            hint: self.hint.unwrap_or(0),
+            min: rounded_up(self.min.unwrap_or(4)).max(4),
+            max: 0,
+            seed: self.seed.unwrap_or(1),
+            rewalks: self.rewalks.unwrap_or(8),
+            hash: self.hash.unwrap_or(Hash::Mix),
+            shrink: false,
+        }
+    }
+}

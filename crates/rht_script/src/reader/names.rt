@@ -1,0 +1,47 @@
+//! The words of scripts that have a meaning.
+
+/// The first word of the table line.
+pub const TABLE: &[u8] = b"table";
+
+/// The kind of a table in which a port has at most one owner.
+pub const SINGLE: &[u8] = b"single";
+
+/// How many ports are expected.
+pub const HINT: &[u8] = b"hint";
+
+/// The least size in buckets.
+pub const MIN: &[u8] = b"min";
+
+/// The pages that buckets are kept in.
+pub const PAGES: &[u8] = b"pages";
+
+/// The seed of the first table's hash.
+pub const SEED: &[u8] = b"seed";
+
+/// How often a look-up walks one bucket again.
+pub const REWALKS: &[u8] = b"rewalks";
+
+/// Which hash picks the bucket of a port.
+pub const HASH: &[u8] = b"hash";
+
+/// The hash that mixes port and seed.
+pub const MIX: &[u8] = b"mix";
+
+/// The hash that is the port itself.
+pub const LOW: &[u8] = b"low";
+
+/// The verb that binds a port to an owner.
+pub const BIND: &[u8] = b"bind";
+
+/// The verb that looks a port up.
+pub const FIND: &[u8] = b"find";
+
+/// The verb that takes a binding out.
+pub const RELEASE: &[u8] = b"release";
+
+/// The first words of the lines of a schedule.
+pub const STEP: &[u8] = b"step";
+
+pub const SKIP: &[u8] = b"skip";
+
+pub const FINISH: &[u8] = b"finish";

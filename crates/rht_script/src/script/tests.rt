@@ -1,0 +1,159 @@
+//! Scripts that can be run and scripts that can't, made by hand.
+
+use super::*;
+use rht_model::Cursor;
+use rht_words::Hash;
+use std::test::Fail;
+
+const CONFIG: Config = Config {
+    kind: Kind::Single,
+    nodes: 16,
+    pages: 4,
+    callers: 2,
+    hint: 0,
+    min: 4,
+    max: 0,
+    seed: 1,
+    rewalks: 8,
+    hash: Hash::Mix,
+    shrink: false,
+};
+
+/// A cursor, which no script's walk has.
+const CURSOR: Cursor = Cursor {
+    serial: 0,
+    bucket: 0,
+};
+
+#[test]
+fn tells_scripts_that_can_be_run(rt: HostRuntime) -> Result<(), Fail> {
+    let listed = Config {
+        kind: Kind::Listed,
+        ..CONFIG
+    };
+    let find = Call::Find { port: 80 };
+    let rebind = Call::Rebind {
+        port: 80,
+        owner: 1,
+        new: 2,
+    };
+    let last = Sched::Finish {
+        worker: 2,
+        number: 1_000_000,
+    };
+    let cases = [
+        (CONFIG, (2, find), last, true),
+        // The config isn't settled: 5 is no power of two, and 4 pages have 256 buckets.
+        (Config { min: 5, ..CONFIG }, (2, find), last, false),
+        (
+            Config {
+                hint: 300,
+                ..CONFIG
+            },
+            (2, find),
+            last,
+            false,
+        ),
+        // Workers are counted from 1, and there are two.
+        (CONFIG, (0, find), last, false),
+        (CONFIG, (3, find), last, false),
+        (
+            CONFIG,
+            (2, find),
+            Sched::Step {
+                worker: 0,
+                number: 1,
+            },
+            false,
+        ),
+        (
+            CONFIG,
+            (2, find),
+            Sched::Skip {
+                worker: 3,
+                number: 1,
+            },
+            false,
+        ),
+        (
+            CONFIG,
+            (2, find),
+            Sched::Step {
+                worker: 1,
+                number: 0,
+            },
+            false,
+        ),
+        (
+            CONFIG,
+            (2, find),
+            Sched::Skip {
+                worker: 1,
+                number: 1_000_001,
+            },
+            false,
+        ),
+        // A bind is tried until it ends, a rebind needs one owner each, and a walk goes over all.
+        (
+            CONFIG,
+            (
+                1,
+                Call::Bind {
+                    port: 80,
+                    owner: 1,
+                    once: true,
+                },
+            ),
+            last,
+            false,
+        ),
+        (CONFIG, (1, rebind), last, true),
+        (listed, (1, rebind), last, false),
+        (
+            CONFIG,
+            (
+                1,
+                Call::Walk {
+                    from: None,
+                    limit: 16,
+                },
+            ),
+            last,
+            true,
+        ),
+        (
+            CONFIG,
+            (
+                1,
+                Call::Walk {
+                    from: None,
+                    limit: 15,
+                },
+            ),
+            last,
+            false,
+        ),
+        (
+            CONFIG,
+            (
+                1,
+                Call::Walk {
+                    from: Some(CURSOR),
+                    limit: 16,
+                },
+            ),
+            last,
+            false,
+        ),
+    ];
+    for (config, command, line, sound) in cases {
+        let script = Script {
+            config,
+            auto: true,
+            commands: vec![in rt.alloc(); command]?,
+            schedule: vec![in rt.alloc(); line]?,
+        };
+        assert_eq!(rt; script.is_sound(), sound, "at {script:?}");
+    }
+    Ok(())
+}
