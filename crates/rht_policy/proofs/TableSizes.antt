@@ -5,7 +5,7 @@ use Rattle.std.proofs.Common.{◌≡◌, ◌≢◌, ℕ, ◌*◌, ◌/◌, ◌�
 use Rattle.std.specs.Int.{IsPowerOfTwo}
 use Rattle.std.proofs.lemmas.Bool.{cases_lt, cases_eq, eq-eqb, ne_eqb}
 use Rattle.rht_words.specs.Sizes.{rounded_up, starting_size, wished_size, cut_size, powers, IsLeastSize, IsGreatestSize, IsSizeUpTo}
-use Rattle.rht_words.proofs.Rounding.{powers-rise, rounded_up-least, rounded_down-greatest}
+use Rattle.rht_words.proofs.Rounding.{rounded_up-least, rounded_down-greatest}
 use Rattle.rht_policy.specs.Sizes.{shrunk_size}
 
 -- ---- sizes that callers have

@@ -1,5 +1,5 @@
 -- The words as a function of what they are there for. An operation changes it at one address.
-use Rattle.std.proofs.Common.{◌≡◌, ◌≢◌, ℕ, ◌<◌, List, length, refl, sym, ◌∙◌, ap, arith, slice_index}
+use Rattle.std.proofs.Common.{◌≡◌, ◌≢◌, ℕ, List, length, ap, slice_index}
 use Rattle.rht_words.specs.Operations.{op_place, old_of, word_after, applied}
 use Rattle.rht_words.specs.Places.{Address, IsAddress, place_of, words_in, word_at}
 use Rattle.rht_words.specs.declared.op.Op.{Op}

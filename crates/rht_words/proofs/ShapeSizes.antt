@@ -1,5 +1,5 @@
 -- What a shape is read as is the size of a table, or its double.
-use Rattle.std.proofs.Common.{ℕ, min, max, ◌^◌, refl, arith}
+use Rattle.std.proofs.Common.{min, max, ◌^◌, refl, arith}
 use Rattle.rht_words.specs.Shapes.{size_of}
 use Rattle.rht_words.specs.Sizes.{IsSizeUpTo}
 use Rattle.rht_words.specs.declared.shape.Shape.{Shape}
