@@ -28,6 +28,8 @@ pub mod TracesInRuns
 pub mod TracedCallers
 -- in every run a bind takes one node at most
 pub mod NodesTaken
+-- while a node is being taken, each node below was found taken
+pub mod NodesSeen
 -- what the words don't say: who holds what, and which nodes each bucket and each port has
 pub mod Ghosts
 -- what is true of words and ghosts after each event of each run
