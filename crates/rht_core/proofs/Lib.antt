@@ -58,6 +58,8 @@ pub mod Invariants
 pub mod InvariantRuns
 -- what the words stand for is what the ghost says
 pub mod BoundPorts
+-- a count of ports that is loaded is at most the ports bound and the other callers in mid-call
+pub mod FullTables
 -- what an operation does to what the words stand for
 pub mod StepBindings
 -- the operations of one call while nobody else does anything
