@@ -60,6 +60,8 @@ pub mod InvariantRuns
 pub mod BoundPorts
 -- a count of ports that is loaded is at most the ports bound and the other callers in mid-call
 pub mod FullTables
+-- in every run each call that has ended has a reply with its cause
+pub mod CausesInRuns
 -- what an operation does to what the words stand for
 pub mod StepBindings
 -- the operations of one call while nobody else does anything
