@@ -28,6 +28,8 @@ pub mod TracesInRuns
 pub mod TracedCallers
 -- in every run a bind takes one node at most
 pub mod NodesTaken
+-- while a node is being taken, each node below was found taken
+pub mod NodesSeen
 -- what the words don't say: who holds what, and which nodes each bucket and each port has
 pub mod Ghosts
 -- what is true of words and ghosts after each event of each run
@@ -56,6 +58,10 @@ pub mod Invariants
 pub mod InvariantRuns
 -- what the words stand for is what the ghost says
 pub mod BoundPorts
+-- a count of ports that is loaded is at most the ports bound and the other callers in mid-call
+pub mod FullTables
+-- in every run each call that has ended has a reply with its cause
+pub mod CausesInRuns
 -- what an operation does to what the words stand for
 pub mod StepBindings
 -- the operations of one call while nobody else does anything

@@ -1,5 +1,6 @@
 //! The laws of every run. Each function is empty, and its clause is the law.
 
+ghost use Rattle.rht_core.specs.Causes.{Causes};
 ghost use Rattle.rht_core.specs.Laws.{Extends, InRange, Enrolled, NotEnrolled, Replies, Remembers, AtEvents, TakenAlone, WordsFit};
 
 use rht_policy::Mix;
@@ -64,4 +65,14 @@ pub fn at_events<M: Mix>()
 /// that node, nor that it was given back.
 pub fn taken_alone<M: Mix>()
     ensures { TakenAlone M M.mix_of }
+{}
+
+/// In every run a call that was refused for want of nodes or of room has its cause in its own
+/// operations. One that was answered `NoNode` found the bit of each node clear, each at some event of
+/// its own. One that was answered `TooBig` loaded that count, which is as many ports as the table may
+/// hold or more, and there the ports bound and the other callers in mid-call were at least so many.
+/// It doesn't say that all nodes were taken at one event, or that so many ports were bound, and it
+/// says nothing of the other replies.
+pub fn causes<M: Mix>()
+    ensures { Causes M M.mix_of }
 {}

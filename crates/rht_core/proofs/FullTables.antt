@@ -1,0 +1,238 @@
+-- Whoever loads the count of ports finds no more than the ports bound there and the other callers in
+-- mid-call.
+--
+-- The count is the nodes in chains, and the callers that have raised it for a node that they haven't
+-- linked yet. Each node in a chain is what the port of its key is bound to, and all that it is bound
+-- to: so there are as many different ports bound. A caller that has raised the count stands before
+-- its publishing store: so it is in a call, and it isn't the one that loads.
+use Rattle.std.proofs.Common.{◌≡◌, ◌≢◌, ℕ, zero, suc, ◌+◌, ◌<◌, ◌≤◌, ◌==◌, ◌&&◌, not, Bool, true, false, List, [], ◌∷◌, ◌++◌, length, map, take, refl, sym, ap, ◌∙◌, arith}
+use Rattle.std.specs.Prelude.{Some, count_by}
+use Rattle.std.specs.List.{AllByRecursion, range_with_len}
+use Rattle.std.proofs.lemmas.Bool.{and_from, ne_eqb}
+use Rattle.std.proofs.lemmas.List.Sums.{sum_by_push}
+use Rattle.rht_words.specs.declared.op.Op.TheVariants.{Load}
+use Rattle.rht_words.specs.declared.env.Env.{Env}
+use Rattle.rht_words.specs.Operations.{old_of}
+use Rattle.rht_words.specs.Ports.{owner_of}
+use Rattle.rht_words.specs.Places.{PortCount, Node, OwnerWord, place_of}
+use Rattle.rht_words.proofs.Members.{count_below, one_if}
+use Rattle.rht_bind.specs.Bind.{plan_at}
+use Rattle.rht_bind.specs.declared.bind.BindAt.{BindAt}
+use Rattle.rht_bind.specs.declared.bind.BindAt.TheVariants as at
+use Rattle.rht_core.specs.declared.event.Event.{Event}
+use Rattle.rht_core.specs.declared.local.Local.{Local}
+use Rattle.rht_core.specs.declared.local.Local.TheVariants.{Idle, Finding, Binding}
+use Rattle.rht_core.specs.Locals.{is_idle, plan_of}
+use Rattle.rht_core.specs.Runs.{Core, local_of, planned, run_of}
+use Rattle.rht_core.specs.Traces.{Did}
+use Rattle.rht_core.specs.StandsFor.{stands_for}
+use Rattle.rht_core.specs.Laws.{IsRecorded}
+use Rattle.rht_core.specs.Causes.{IsNoneOf, AreDistinct, AreBound, others_in_call, CountedAt}
+use Rattle.rht_core.proofs.Worlds.{planned-some}
+use Rattle.rht_core.proofs.Ghosts.{Owner, First, Ghost, is_first}
+use Rattle.rht_core.proofs.Wholes.{key_of, firsts, raisers, Whole}
+use Rattle.rht_core.proofs.Steps.{mem}
+use Rattle.rht_core.proofs.BindSteps.{BindKnows}
+use Rattle.rht_core.proofs.Invariants.{CallerKnows}
+use Rattle.rht_core.proofs.InvariantRuns.{has_inv}
+use Rattle.rht_core.proofs.BoundPorts.{stands_for_bound}
+
+-- ---- how many
+
+-- where one property implies another, no more numbers have the one
+count_below-le : (has more : ℕ → Bool) (bound : ℕ) → ((n : ℕ) → has n ≡ true → more n ≡ true)
+    → count_below has bound ≤ count_below more bound
+count_below-le has more zero implies = omega arith
+count_below-le has more (suc n) implies =
+    let below = count_below-le has more n implies in
+    let here : one_if (has n) ≤ one_if (more n) = by_case (has n) refl in
+    omega arith
+  where
+    by_case : (b : Bool) → has n ≡ b → one_if b ≤ one_if (more n)
+    by_case true is = let one : one_if (more n) ≡ 1 = ap one_if (implies n is) in omega arith
+    by_case false is = omega arith
+
+-- a range with one more number has that one last
+range-push : (from n last : ℕ) → from + n ≡ last
+    → range_with_len from (suc n) ≡ range_with_len from n ++ last ∷ []
+range-push from zero last is = let same : from ≡ last = omega arith in ap (λ x. x ∷ []) same
+range-push from (suc n) last is = ap (λ xs. from ∷ xs) (range-push (from + 1) n last (omega arith))
+
+-- numbers below a bound are counted alike in a list and by recursion
+count_by-range : (has : ℕ → Bool) (bound : ℕ) → count_by has (range_with_len 0 bound) ≡ count_below has bound
+count_by-range has zero = refl
+count_by-range has (suc n) =
+    ap (count_by has) (range-push 0 n n (omega arith)) ∙ sum_by_push (λ x. one_if (has x)) (range_with_len 0 n) n
+    ∙ ap (λ below. below + one_if (has n)) (count_by-range has n)
+
+-- ---- the ports that are bound
+
+-- what has a property that this number hasn't is another number
+none_of : (P : ℕ → Type 0) (x : ℕ) → ((y : ℕ) → P y → x ≢ y) → (ys : List ℕ) → AllByRecursion P ys
+    → IsNoneOf ys x
+none_of P x other [] all = tt
+none_of P x other (y ∷ ys) all = (other y all.0, none_of P x other ys all.1)
+
+all_weaker : (P Q : ℕ → Type 0) → ((x : ℕ) → P x → Q x) → (xs : List ℕ) → AllByRecursion P xs
+    → AllByRecursion Q xs
+all_weaker P Q weaker [] all = tt
+all_weaker P Q weaker (x ∷ xs) all = (weaker x all.0, all_weaker P Q weaker xs all.1)
+
+-- a node of which this is said is in the chain of a bucket
+first_in : (owner : Owner) → is_first owner ≡ true → (j : ℕ) × (owner ≡ First j)
+first_in (First j) is = (j, refl)
+first_in _ is = absurd (cc)
+
+module _ (env : Env) (mix : ℕ → ℕ → ℕ → ℕ) (words : List ℕ) (G : Ghost)
+    (whole : Whole env mix (mem env mix words) G) where
+  abbrev in_chain : ℕ → Bool
+  in_chain node = is_first (G.node node)
+
+  -- the port is bound to a node below this one, and to no other
+  abbrev IsBoundBelow : ℕ → ℕ → Type 0
+  IsBoundBelow bound port = (node : ℕ) × (node < bound) × (G.bound port ≡ node ∷ [])
+
+  -- as many different ports as there are nodes in chains below a bound, each bound to such a node
+  record PortsBelow (bound : ℕ) : Type 0 where
+    ports : List ℕ
+    distinct : AreDistinct ports
+    each : AllByRecursion (IsBoundBelow bound) ports
+    many : length ports ≡ count_below in_chain bound
+
+  -- what is bound below a bound is so below the next one
+  further : (n : ℕ) (ports : List ℕ) → AllByRecursion (IsBoundBelow n) ports
+      → AllByRecursion (IsBoundBelow (suc n)) ports
+  further n ports all =
+      all_weaker (IsBoundBelow n) (IsBoundBelow (suc n))
+      (λ port bound. let below = bound.1 in (bound.0, omega arith, bound.2)) ports all
+
+  -- the port of one more node in a chain is another one, since it is bound to that node
+  one_more : (n : ℕ) → PortsBelow n → (in_it : Bool) → in_chain n ≡ in_it → PortsBelow (suc n)
+  one_more n before true is =
+      let first = first_in (G.node n) is in
+      let here = whole.owned.first_at n first.0 first.1 in
+      let port = key_of (mem env mix words) n in
+      record {
+        ports = port ∷ before.ports;
+        distinct = (
+          none_of (IsBoundBelow n) port (λ other below same.
+              let q : ◌≡◌ {A = List ℕ} (n ∷ []) (below.0 ∷ []) = sym here.bound_to ∙ ap G.bound same ∙ below.2 in
+              let node : n ≡ below.0 = (cc) in
+              let less = below.1 in
+              absurd (omega arith)) before.ports before.each,
+          before.distinct,
+        );
+        each = ((n, omega arith, here.bound_to), further n before.ports before.each);
+        many = let many = before.many in let one : one_if (in_chain n) ≡ 1 = ap one_if is in omega arith;
+      }
+  one_more n before false is = record {
+    ports = before.ports;
+    distinct = before.distinct;
+    each = further n before.ports before.each;
+    many = let many = before.many in let none : one_if (in_chain n) ≡ 0 = ap one_if is in omega arith;
+  }
+
+  ports_below : (bound : ℕ) → PortsBelow bound
+  ports_below zero = record { ports = []; distinct = tt; each = tt; many = refl }
+  ports_below (suc n) = one_more n (ports_below n) (in_chain n) refl
+
+  -- a port that is bound to a node has that node's owner
+  is_bound : (bound port : ℕ) → IsBoundBelow bound port → stands_for env.geometry words port ≢ []
+  is_bound bound port (node, below, is) empty =
+      let owners : stands_for env.geometry words port ≡ owner_of (mem env mix words (Node node OwnerWord)) ∷ [] =
+      stands_for_bound env mix words G whole port
+      ∙ ap (map (λ n. owner_of (mem env mix words (Node n OwnerWord)))) is in
+      absurd (cc)
+
+  -- so many different ports are bound as there are nodes in chains
+  pub firsts-AreBound : AreBound (stands_for env.geometry words) (firsts env mix G)
+  firsts-AreBound =
+      let nodes = env.geometry.nodes in
+      let all = ports_below nodes in
+      record {
+        ports = all.ports;
+        distinct = all.distinct;
+        bound =
+            all_weaker (IsBoundBelow nodes) (λ port. stands_for env.geometry words port ≢ []) (is_bound nodes)
+            all.ports all.each;
+        many = all.many;
+      }
+
+-- ---- the callers that have raised the count
+
+module _ (M : Type 0) (mix : ℕ → ℕ → ℕ → ℕ) (env : Env) where
+  -- a bind that loads a word hasn't raised the count
+  bind_loads-unraised : (c port owner place : ℕ) (state : BindAt) (words : List ℕ) (G : Ghost)
+      → (e : Env) → plan_at e port owner state ≡ Load place
+      → BindKnows env mix c port owner state (mem env mix words) G → G.raised c ≡ false
+  bind_loads-unraised c port owner place (at.Taking take) words G e is known = known.own.0
+  bind_loads-unraised c port owner place (at.Key node) words G e is known = known.own.0
+  bind_loads-unraised c port owner place (at.Owner node) words G e is known = known.own.0
+  bind_loads-unraised c port owner place (at.ListLink node) words G e is known = known.own.0
+  bind_loads-unraised c port owner place (at.CurrentTable node) words G e is known = known.own.0
+  bind_loads-unraised c port owner place (at.Shape node table) words G e is known = known.own.0
+  bind_loads-unraised c port owner place (at.Seed node table shape) words G e is known = known.own.0
+  bind_loads-unraised c port owner place (at.Locking node table shape lock) words G e is known = known.own.0
+  bind_loads-unraised c port owner place (at.Walking table claimed walk) words G e is known = known.own.0
+  bind_loads-unraised c port owner place (at.FoundOwner claimed found) words G e is known = known.own.0
+  bind_loads-unraised c port owner place (at.Future table claimed) words G e is known = known.own.0
+  bind_loads-unraised c port owner place (at.Count claimed) words G e is known = known.own.0
+  bind_loads-unraised c port owner place (at.Link claimed) words G e is known = known.own.0
+  bind_loads-unraised c port owner place (at.Raise claimed) words G e is known = known.own.0
+  bind_loads-unraised c port owner place (at.Publish claimed kick) words G e is known = absurd (cc)
+  bind_loads-unraised c port owner place (at.Unlocking node unlock next) words G e is known = known.own.0
+  bind_loads-unraised c port owner place (at.Giving give reply) words G e is known = known.own.0
+
+  loads-unraised : (c place : ℕ) (local : Local M) (words : List ℕ) (G : Ghost) → plan_of local ≡ Some (Load place)
+      → CallerKnows env mix M c local (mem env mix words) G → G.raised c ≡ false
+  loads-unraised c place Idle words G is known = known.0
+  loads-unraised c place (Finding m) words G is known = known.1.own.0
+  loads-unraised c place (Binding m) words G is known =
+      let plan : plan_at m.env m.port m.owner m.at ≡ Load place = cc in
+      bind_loads-unraised c m.port m.owner place m.at words G m.env plan known.1
+
+  -- who has raised the count is in a call
+  raised-busy : (c : ℕ) (local : Local M) (words : List ℕ) (G : Ghost) → G.raised c ≡ true
+      → CallerKnows env mix M c local (mem env mix words) G → not (is_idle local) ≡ true
+  raised-busy c Idle words G is known = let unraised = known.0 in absurd (cc)
+  raised-busy c (Finding m) words G is known = refl
+  raised-busy c (Binding m) words G is known = refl
+
+  -- the callers that have raised the count are others in mid-call
+  raisers-others : (core : Core M) (c : ℕ) (G : Ghost) → core.env ≡ env → G.raised c ≡ false
+      → ((d : ℕ) → CallerKnows env mix M d (local_of core d) (mem env mix core.words) G)
+      → raisers env mix G ≤ others_in_call core c
+  raisers-others core c G same unraised each =
+      let other : ℕ → Bool = λ d. not (d == c) && not (is_idle (local_of core d)) in
+      let counted : others_in_call core c ≡ count_below other env.geometry.callers =
+      count_by-range other core.env.geometry.callers ∙ ap (λ (e : Env). count_below other e.geometry.callers) same in
+      let fewer = count_below-le G.raised other env.geometry.callers (λ d is.
+      let differ : d ≢ c = λ e. let here : G.raised c ≡ true = ap G.raised (sym e) ∙ is in cc in
+      and_from (not (d == c)) (not (is_idle (local_of core d))) (ap not (ne_eqb d c differ))
+      (raised-busy d (local_of core d) core.words G is (each d))) in
+      omega arith
+
+  -- ---- the load of the count
+
+  -- what such an operation found is no more than the ports bound at its event and the other callers in mid-call there
+  pub counted_at : (events : List Event) (c count : ℕ) (did : Did)
+      → did.op ≡ Load (place_of env.geometry PortCount) → did.old ≡ count
+      → IsRecorded M mix env events c did → CountedAt M mix env events c count did
+  counted_at events c count did loaded found is =
+      let before = take did.index events in
+      let core : Core M = (run_of mix env before).core in
+      let has = has_inv env mix M before in
+      let G = has.ghost in
+      let place = place_of env.geometry PortCount in
+      let plans : planned core.enrolled core.locals c ≡ Some (Load place) = is.plan ∙ ap Some loaded in
+      let can = planned-some core.enrolled core.locals c (Load place) plans in
+      let unraised = loads-unraised c place (local_of core c) core.words G can.plan (has.inv.each c) in
+      let others = raisers-others core c G has.inv.same_env unraised has.inv.each in
+      let word : mem env mix core.words PortCount ≡ count =
+      sym (ap (old_of core.words) loaded) ∙ is.found ∙ found in
+      let counted = has.inv.whole.counted in
+      record {
+        bound = firsts env mix G;
+        are_bound = firsts-AreBound env mix core.words G has.inv.whole;
+        enough = omega arith;
+      }

@@ -1,0 +1,5 @@
+use Rattle.rht_core.proofs.CausesInRuns.{causes}
+use Rattle.rht_core.proofs.laws.causes.Goals as goal
+
+pub returns : goal.returns
+returns g c = causes g.row.M.Denot g.M.Mix.mix_of
