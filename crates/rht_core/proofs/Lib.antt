@@ -72,3 +72,5 @@ pub mod AloneRuns
 pub mod FirstNodes
 -- a state that has just been opened is sound
 pub mod OpenedStates
+-- one call alone meets the model, and has its cause
+pub mod AloneLaw

@@ -1,5 +1,6 @@
 //! The laws of every run. Each function is empty, and its clause is the law.
 
+ghost use Rattle.rht_core.specs.Alone.{Alone};
 ghost use Rattle.rht_core.specs.Causes.{Causes};
 ghost use Rattle.rht_core.specs.Laws.{Extends, InRange, Enrolled, NotEnrolled, Replies, Remembers, AtEvents, TakenAlone, WordsFit};
 
@@ -75,4 +76,13 @@ pub fn taken_alone<M: Mix>()
 /// says nothing of the other replies.
 pub fn causes<M: Mix>()
     ensures { Causes M M.mix_of }
+{}
+
+/// A call whose events stand together in a run, while no other caller is in the middle of a call,
+/// meets the model once it has ended: its reply is the answer of the call on what the words stood for
+/// before, and they stand then for the bindings that it leaves; or it is a refusal that the call may
+/// give, with its cause, and the bindings are as before. The run's other events are arbitrary. It
+/// doesn't say that the call ends, and nothing of calls whose events mix.
+pub fn alone<M: Mix>()
+    ensures { Alone M M.mix_of }
 {}

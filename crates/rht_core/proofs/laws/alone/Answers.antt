@@ -1,0 +1,5 @@
+use Rattle.rht_core.proofs.AloneLaw.{alone}
+use Rattle.rht_core.proofs.laws.alone.Goals as goal
+
+pub returns : goal.returns
+returns g c = alone g.row.M.Denot g.M.Mix.mix_of
