@@ -15,11 +15,10 @@ use Rattle.rht_policy.specs.Mix.{bucket_of}
 use Rattle.rht_policy.specs.Thresholds.{is_above_75, is_above_max}
 use Rattle.rht_nest.specs.Place.{bucket_place}
 use Rattle.rht_arena.specs.TakeNode.{TakeNodeModel, take_node_new, take_node_plan, take_node_after}
-use Rattle.rht_arena.specs.GiveNode.{GiveNodeModel, give_node_plan}
+use Rattle.rht_arena.specs.GiveNode.{give_node_plan}
 use Rattle.rht_chain.specs.Lock.{LockModel, lock_new, lock_plan, lock_after}
 use Rattle.rht_chain.specs.LockedWalk.{LockedWalkModel, locked_walk_new, locked_walk_plan, locked_walk_after}
 use Rattle.rht_chain.specs.Unlock.{unlock_plan}
-use Rattle.rht_chain.specs.declared.locked.Locked.{Locked}
 use Rattle.rht_chain.specs.declared.locked.Then.{Then}
 use Rattle.rht_chain.specs.declared.locked.Then.TheVariants.{Table, Answer}
 use Rattle.rht_chain.specs.declared.locked_walk.Seen.{Seen}

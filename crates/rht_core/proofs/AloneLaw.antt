@@ -2,15 +2,10 @@
 use Rattle.std.proofs.Common.{◌≡◌, ℕ, List, [], ◌∷◌, ◌++◌, map, sym, ◌∙◌, ap, subst}
 use Rattle.std.specs.List.{AllByRecursion}
 use Rattle.std.proofs.lemmas.List.{map-append}
-use Rattle.rht_words.specs.declared.env.Env.{Env}
-use Rattle.rht_model.specs.declared.history.Call.{Call}
-use Rattle.rht_core.specs.declared.event.Event.{Event}
-use Rattle.rht_core.specs.declared.event.Event.TheVariants.{Begin, Step}
-use Rattle.rht_core.specs.declared.book.Finished.{Finished}
-use Rattle.rht_core.specs.Runs.{World, run_of, IsAdmitted}
+use Rattle.rht_core.specs.Runs.{World, run_of}
 use Rattle.rht_core.specs.Traces.{Past, traced_of}
 use Rattle.rht_core.specs.Causes.{HasCause}
-use Rattle.rht_core.specs.Alone.{Alone, IsQuiet, call_events}
+use Rattle.rht_core.specs.Alone.{Alone, call_events}
 use Rattle.rht_core.proofs.Worlds.{IsAdmitted-parts}
 use Rattle.rht_core.proofs.TracesInRuns.{remembers}
 use Rattle.rht_core.proofs.CausesInRuns.{causes}
@@ -29,9 +24,9 @@ module _ (M : Type 0) (mix : ℕ → ℕ → ℕ → ℕ) where
       let was = remembers M mix env start parts.0 in
       let is = remembers M mix env after admitted in
       let finished : ((run_of {M = M} mix env after).books c).finished ≡ ((run_of {M = M} mix env start).books c).finished ++ past.done ∷ []
-            = sym (ap (λ (w : World M). (w.books c).finished) is.world) ∙ sym (is.traces c).past ∙ ap (map (λ p. p.done)) more
-                ∙ map-append (λ (p : Past). p.done) ((traced_of {M = M} mix env start).traces c).past (past ∷ [])
-                ∙ ap (λ l. l ++ past.done ∷ []) ((was.traces c).past ∙ ap (λ (w : World M). (w.books c).finished) was.world) in
+      = sym (ap (λ (w : World M). (w.books c).finished) is.world) ∙ sym (is.traces c).past ∙ ap (map (λ p. p.done)) more
+      ∙ map-append (λ (p : Past). p.done) ((traced_of {M = M} mix env start).traces c).past (past ∷ [])
+      ∙ ap (λ l. l ++ past.done ∷ []) ((was.traces c).past ∙ ap (λ (w : World M). (w.books c).finished) was.world) in
       record {
         model = meets_alone M mix env start c call count past.done quiet parts.1.0.1 finished;
         cause = last_of_all (HasCause M mix env after c) ((traced_of {M = M} mix env start).traces c).past past

@@ -1,7 +1,7 @@
 -- A call alone meets the model: by induction over its operations, either it hasn't ended, and the bindings are those before it,
 -- or it has ended, and meets the model; and further steps of a caller that is idle change nothing.
-use Rattle.std.proofs.Common.{◌≡◌, ◌≢◌, ℕ, zero, suc, ◌+◌, ◌^◌, ◌<◌, ◌≤◌, List, [], ◌∷◌, ◌++◌, length, length-append, replicate, map, Option, Some, None, Bool, true, false, cond, refl, sym, ◌∙◌, ap, subst, inl, inr, ◌⊎◌, nat_lt, arith}
-use Rattle.std.proofs.lemmas.Bool.{ltb-true, lt-ltb}
+use Rattle.std.proofs.Common.{◌≡◌, ℕ, zero, suc, ◌+◌, ◌^◌, ◌<◌, List, [], ◌∷◌, ◌++◌, length, replicate, Option, Some, None, Bool, true, cond, refl, sym, ◌∙◌, ap, subst, inl, inr, ◌⊎◌, nat_lt, arith}
+use Rattle.std.proofs.lemmas.Bool.{lt-ltb}
 use Rattle.std.proofs.lemmas.List.{append_cancel_left, append_assoc, append-nil, replicate-append-replicate}
 use Rattle.rht_words.specs.declared.env.Env.{Env}
 use Rattle.rht_words.specs.declared.op.Op.{Op}
@@ -27,13 +27,13 @@ use Rattle.rht_core.specs.declared.book.Finished.{Finished}
 use Rattle.rht_core.specs.declared.local.Local.{Local}
 use Rattle.rht_core.specs.declared.local.Local.TheVariants.{Idle, Finding, Binding}
 use Rattle.rht_core.specs.Locals.{is_idle, machine_of, binding_of, plan_of, local_after, found_next, bound_next}
-use Rattle.rht_core.specs.Runs.{Core, World, Seen, seen, local_of, local_in, planned, beginning, world_step, run_of, opening, IsSound, IsAdmitted, IsAdmittedCall, book_after, finished_with}
+use Rattle.rht_core.specs.Runs.{World, Seen, seen, local_of, planned, beginning, world_step, run_of, IsSound, IsAdmittedCall, book_after, finished_with}
 use Rattle.rht_core.specs.Laws.{seen_begin, seen_step}
 use Rattle.rht_core.specs.StandsFor.{stands_for}
 use Rattle.rht_core.specs.Alone.{MeetsModel, IsQuiet, bindings_at, call_events}
-use Rattle.rht_core.proofs.Worlds.{CanBegin, beginning-some, CanStep, planned-some, run_of-push, begin_none, begin_self, step_none, step_self, step_words}
+use Rattle.rht_core.proofs.Worlds.{beginning-some, run_of-push, begin_none, begin_self, step_none, step_self, step_words}
 use Rattle.rht_core.proofs.Steps.{by_test, mem}
-use Rattle.rht_core.proofs.Invariants.{Inv, home-within, CallerKnows}
+use Rattle.rht_core.proofs.Invariants.{home-within, CallerKnows}
 use Rattle.rht_core.proofs.InvariantRuns.{HasInv, has_inv, sound_in}
 use Rattle.rht_core.proofs.AloneSteps.{bind_progress, BindAlone, bind_alone, find_progress, FindAlone, find_alone}
 
@@ -189,19 +189,19 @@ module _ (L : Type 0) (mix : ℕ → ℕ → ℕ → ℕ) (env : Env) (start : L
         → (call ≡ calls.Find m.port) → FindAlone env before kind m.port r (applied words (find_plan m)) → Status (next events)
     found_on m is (at, Go) r same alone =
         goes_on (find_plan m) (Finding (record m { at = at })) (ap plan_of is)
-          (ap (λ l. local_after mix l (old_of words (find_plan m))) is ∙ ap (λ q. found_next (record m { at = q.0 }, q.1)) (sym r)) (same, alone.1) alone.0
+        (ap (λ l. local_after mix l (old_of words (find_plan m))) is ∙ ap (λ q. found_next (record m { at = q.0 }, q.1)) (sym r)) (same, alone.1) alone.0
     found_on m is (at, Done reply) r same alone =
         ends_now (find_plan m) reply (ap plan_of is)
-          (ap (λ l. local_after mix l (old_of words (find_plan m))) is ∙ ap (λ q. found_next (record m { at = q.0 }, q.1)) (sym r)) (rw same alone)
+        (ap (λ l. local_after mix l (old_of words (find_plan m))) is ∙ ap (λ q. found_next (record m { at = q.0 }, q.1)) (sym r)) (rw same alone)
 
     bound_on : (m : BindModel) → local_of w.core c ≡ Binding m → (r : BindAt × Next Reply) → r ≡ bind_at.after_at mix m.env m.port m.at (old_of words (bind_plan m))
         → (call ≡ calls.Bind m.port m.owner m.once) → m.owner < 2 ^ 32 → kind ≡ Single → BindAlone env before (calls.Bind m.port m.owner m.once) r (applied words (bind_plan m)) → Status (next events)
     bound_on m is (at, Go) r same small single alone =
         goes_on (bind_plan m) (Binding (record m { at = at })) (ap plan_of is)
-          (ap (λ l. local_after mix l (old_of words (bind_plan m))) is ∙ ap (λ q. bound_next (record m { at = q.0 }, q.1)) (sym r)) (same, small, single, rw same alone.1) alone.0
+        (ap (λ l. local_after mix l (old_of words (bind_plan m))) is ∙ ap (λ q. bound_next (record m { at = q.0 }, q.1)) (sym r)) (same, small, single, rw same alone.1) alone.0
     bound_on m is (at, Done reply) r same small single alone =
         ends_now (bind_plan m) reply (ap plan_of is)
-          (ap (λ l. local_after mix l (old_of words (bind_plan m))) is ∙ ap (λ q. bound_next (record m { at = q.0 }, q.1)) (sym r)) (subst (λ k. MeetsModel k before (stands_for env.geometry (applied words (bind_plan m))) call reply) (sym single) (subst (λ a. MeetsModel Single before (stands_for env.geometry (applied words (bind_plan m))) a reply) (sym same) alone))
+        (ap (λ l. local_after mix l (old_of words (bind_plan m))) is ∙ ap (λ q. bound_next (record m { at = q.0 }, q.1)) (sym r)) (subst (λ k. MeetsModel k before (stands_for env.geometry (applied words (bind_plan m))) call reply) (sym single) (subst (λ a. MeetsModel Single before (stands_for env.geometry (applied words (bind_plan m))) a reply) (sym same) alone))
 
     going_on : Status (next events)
     going_on = go (local_of w.core c) refl going.doing (has.inv.each c)
@@ -210,12 +210,12 @@ module _ (L : Type 0) (mix : ℕ → ℕ → ℕ → ℕ) (env : Env) (start : L
         go Idle is doing knows = absurd doing
         go (Finding m) is doing knows =
             found_on m is (find_at.after_at mix m.env m.port m.at (old_of words (find_plan m))) refl doing.0
-              (subst (λ e. FindAlone env before kind m.port (find_at.after_at mix e m.port m.at (old_of words (find_at.plan_at e m.at))) (applied words (find_at.plan_at e m.at))) (sym knows.0)
-                (find_alone env mix c m.port before words has.ghost all has.inv.whole low (home-within env mix m.port) going.agree kind m.at knows.1 doing.1))
+            (subst (λ e. FindAlone env before kind m.port (find_at.after_at mix e m.port m.at (old_of words (find_at.plan_at e m.at))) (applied words (find_at.plan_at e m.at))) (sym knows.0)
+            (find_alone env mix c m.port before words has.ghost all has.inv.whole low (home-within env mix m.port) going.agree kind m.at knows.1 doing.1))
         go (Binding m) is doing knows =
             bound_on m is (bind_at.after_at mix m.env m.port m.at (old_of words (bind_plan m))) refl doing.0 doing.1 doing.2
-              (subst (λ e. BindAlone env before (calls.Bind m.port m.owner m.once) (bind_at.after_at mix e m.port m.at (old_of words (bind_at.plan_at e m.port m.owner m.at))) (applied words (bind_at.plan_at e m.port m.owner m.at))) (sym knows.0)
-                (bind_alone env mix c m.port before words has.ghost all has.inv.whole low (home-within env mix m.port) going.agree m.owner m.once doing.1 m.at knows.1 (rw doing.0 at doing.3)))
+            (subst (λ e. BindAlone env before (calls.Bind m.port m.owner m.once) (bind_at.after_at mix e m.port m.at (old_of words (bind_at.plan_at e m.port m.owner m.at))) (applied words (bind_at.plan_at e m.port m.owner m.at))) (sym knows.0)
+            (bind_alone env mix c m.port before words has.ghost all has.inv.whole low (home-within env mix m.port) going.agree m.owner m.once doing.1 m.at knows.1 (rw doing.0 at doing.3)))
 
   -- each step keeps what there is to say
   status_next : (events : List Event) → Status events → Status (next events)
@@ -237,9 +237,11 @@ module _ (L : Type 0) (mix : ℕ → ℕ → ℕ → ℕ) (env : Env) (start : L
     where
       as_machine : (first : Local L) → ◌≡◌ {A = Option (Local L)} (Some first) (Some machine) → IsDoing first → IsDoing machine
       as_machine first e doing = let same : first ≡ machine = (cc) in subst IsDoing same doing
+
       bind_first : (port owner : ℕ) (once : Bool) → call ≡ calls.Bind port owner once → owner < 2 ^ 32 → (k : Kind) → kind ≡ k → binding_of env c port owner once k ≡ Some machine → IsDoing machine
       bind_first port owner once e l Single s is = as_machine (Binding (bind_new env c port owner once)) is (e, l, s, tt)
       bind_first port owner once e l Listed s is = absurd (cc)
+
       go : (asked : Call) → call ≡ asked → IsAdmittedCall asked → machine_of env c asked ≡ Some machine → IsDoing machine
       go (calls.Find port) e l is = as_machine (Finding (find_new env c port)) is (e, tt)
       go (calls.Bind port owner once) e l is = bind_first port owner once e l.1 kind refl is
@@ -256,6 +258,7 @@ module _ (L : Type 0) (mix : ℕ → ℕ → ℕ → ℕ) (env : Env) (start : L
     where
       w0 : World L
       w0 = world start
+
       go : (machine : Option (Local L)) → beginning (world start).core.env (world start).core.enrolled (world start).core.locals c call ≡ machine → Status began
       go None is =
           let same : ◌≡◌ {A = World L} (world began) (world start) = pushed_begin ∙ begin_none L mix (world start) c call is in
@@ -268,7 +271,7 @@ module _ (L : Type 0) (mix : ℕ → ℕ → ℕ → ℕ) (env : Env) (start : L
           let sound = sound_in env mix L start in
           let low : c < length (world start).core.locals = omega (arith, can.below, sound.few_enrolled, sound.all_locals) in
           let here : ◌≡◌ {A = Seen L} (seen (world began) c) (seen_begin call machine (seen (world start) c))
-                = ap (λ (v : World L). seen v c) pushed_begin ∙ begin_self L mix (world start) c call machine is low in
+          = ap (λ (v : World L). seen v c) pushed_begin ∙ begin_self L mix (world start) c call machine is low in
           let inv = (has_inv env mix L start).inv in
           inl (record {
             agree = λ port. ap (λ (v : World L). stands_for env.geometry v.core.words port) pushed_begin;
@@ -283,7 +286,7 @@ module _ (L : Type 0) (mix : ℕ → ℕ → ℕ → ℕ) (env : Env) (start : L
   status_after zero quiet small = subst Status (sym (append-nil began)) (first_status quiet small)
   status_after (suc count) quiet small =
       subst Status (append_assoc began (replicate count (StepOf c)) (StepOf c ∷ []) ∙ ap (λ l. began ++ l) (one_more count))
-        (status_next (began ++ replicate count (StepOf c)) (status_after count quiet small))
+      (status_next (began ++ replicate count (StepOf c)) (status_after count quiet small))
     where
       one_more : (n : ℕ) → replicate n (StepOf c) ++ StepOf c ∷ [] ≡ replicate (suc n) (StepOf c)
       one_more n = replicate-append-replicate n 1 (StepOf c) ∙ ap (λ k. replicate k (StepOf c)) {x = n + 1} {y = suc n} (omega arith)
@@ -298,6 +301,7 @@ module _ (L : Type 0) (mix : ℕ → ℕ → ℕ → ℕ) (env : Env) (start : L
     where
       after : List Event
       after = start ++ call_events L mix c call count
+
       go : Status (start ++ call_events L mix c call count) → MeetsModel kind before (bindings_at L mix env (start ++ call_events L mix c call count)) call done.reply
       go (inl going) = let e : old ++ [] ≡ old ++ done ∷ [] = append-nil old ∙ sym going.past ∙ is in let q = append_cancel_left old [] (done ∷ []) e in absurd (cc)
       go (inr (inl ended)) =

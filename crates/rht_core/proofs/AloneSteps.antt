@@ -1,11 +1,11 @@
 -- What the operations of one call make of the bindings while nobody else does anything. Until its last operation they are those
 -- before the call, and from the state on at which its answer is known the reply is the answer on them, or a refusal.
-use Rattle.std.proofs.Common.{◌≡◌, ◌≢◌, ℕ, ◌+◌, ◌*◌, ◌%◌, ◌^◌, ◌<◌, ◌==◌, List, [], ◌∷◌, length, map, min, Option, Some, None, Bool, true, false, cond, refl, sym, ◌∙◌, ap, subst, inl, inr, ◌⊎◌, arith}
+use Rattle.std.proofs.Common.{◌≡◌, ℕ, ◌*◌, ◌^◌, ◌<◌, ◌==◌, List, [], ◌∷◌, length, min, Option, Some, None, Bool, false, cond, refl, sym, ◌∙◌, ap, inl, inr, ◌⊎◌}
 use Rattle.std.proofs.lemmas.Bool.{cases_eq, eq-eqb, ne_eqb}
 use Rattle.std.proofs.Math.Nat.{mod-eq_of_lt}
 use Rattle.rht_words.specs.declared.env.Env.{Env}
 use Rattle.rht_words.specs.declared.op.Op.{Op}
-use Rattle.rht_words.specs.declared.op.Op.TheVariants.{Load, Store}
+use Rattle.rht_words.specs.declared.op.Op.TheVariants.{Store}
 use Rattle.rht_words.specs.declared.config.Kind.{Kind}
 use Rattle.rht_words.specs.declared.config.Kind.TheVariants.{Single}
 use Rattle.rht_words.specs.declared.machine.Next.{Next}
@@ -15,15 +15,14 @@ use Rattle.rht_words.specs.declared.machine.Start.TheVariants as starts
 use Rattle.rht_words.specs.Links.{slot_of, node_of, link_of}
 use Rattle.rht_words.specs.Ports.{word_of, owner_of}
 use Rattle.rht_words.specs.Operations.{old_of, applied}
-use Rattle.rht_words.specs.Places.{Node, NodeWord, KeyWord, OwnerWord, ListLink, FutureWord, PageWord, Slot, place_of, words_in, word_at}
-use Rattle.rht_words.proofs.Memory.{Memory, IsWrite, is_write}
+use Rattle.rht_words.specs.Places.{Node, OwnerWord, PageWord, words_in}
+use Rattle.rht_words.proofs.Memory.{Memory, is_write}
 use Rattle.rht_words.proofs.Members.{In}
 use Rattle.rht_policy.specs.Thresholds.{is_above_max}
 use Rattle.rht_arena.specs.TakeNode.{TakeNodeModel, take_node_plan, take_node_after}
 use Rattle.rht_chain.specs.Lock.{LockModel, lock_plan, lock_after}
 use Rattle.rht_chain.specs.LockedWalk.{LockedWalkModel, locked_walk_new, locked_walk_plan, locked_walk_after}
 use Rattle.rht_chain.specs.declared.locked.Locked.{Locked}
-use Rattle.rht_chain.specs.declared.locked.Then.{Then}
 use Rattle.rht_chain.specs.declared.locked.Then.TheVariants.{Table, Answer}
 use Rattle.rht_chain.specs.declared.locked_walk.Seen.{Seen}
 use Rattle.rht_model.specs.declared.history.Call.{Call}
@@ -41,13 +40,13 @@ use Rattle.rht_find.specs.declared.find.FindAt.{FindAt}
 use Rattle.rht_find.specs.declared.find.FindAt.TheVariants as finds
 use Rattle.rht_find.specs.Find as find_at
 use Rattle.rht_core.specs.StandsFor.{stands_for}
-use Rattle.rht_core.specs.Alone.{IsAnsweredBy, IsRefusedWith, MeetsModel}
-use Rattle.rht_core.proofs.Ghosts.{Bucket, Owner, First, Ghost}
-use Rattle.rht_core.proofs.Wholes.{key_of, home, place_at, Whole}
-use Rattle.rht_core.proofs.Knowledge.{AllMean, Means, NoKey}
+use Rattle.rht_core.specs.Alone.{IsAnsweredBy, MeetsModel}
+use Rattle.rht_core.proofs.Ghosts.{Ghost}
+use Rattle.rht_core.proofs.Wholes.{key_of, home, Whole}
+use Rattle.rht_core.proofs.Knowledge.{NoKey}
 use Rattle.rht_core.proofs.Linking.{missed_unbound, link_head}
-use Rattle.rht_core.proofs.Steps.{Links, by_test, mem, Step}
-use Rattle.rht_core.proofs.BindSteps.{BindKnows, BindNext, bind_own, bind_step, publish_ready}
+use Rattle.rht_core.proofs.Steps.{by_test, mem}
+use Rattle.rht_core.proofs.BindSteps.{BindKnows, BindNext, bind_step, publish_ready}
 use Rattle.rht_core.proofs.FindSteps.{FindKnows, FindNext, find_step}
 use Rattle.rht_core.proofs.BoundPorts.{stands_for_bound}
 use Rattle.rht_core.proofs.StepBindings.{owners_in, quiet_step, linked_bindings}
@@ -110,8 +109,9 @@ module _ (env : Env) (mix : ℕ → ℕ → ℕ → ℕ) (c port : ℕ) (before 
     exists_determined o bound = inl (record {
       answer = ap (λ owners. Some (plain (bind_reply Single owners))) bound;
       bindings = λ other. elim (cases_eq other port) [
-          inl e ↦ ap before e ∙ bound ∙ sym (ap (λ t. cond t (owners_bound Single owner (before port)) (before other)) (eq-eqb other port e) ∙ ap (owners_bound Single owner) bound)
-        | inr ne ↦ sym (ap (λ t. cond t (owners_bound Single owner (before port)) (before other)) (ne_eqb other port ne)) ];
+        | inl e ↦ ap before e ∙ bound ∙ sym (ap (λ t. cond t (owners_bound Single owner (before port)) (before other)) (eq-eqb other port e) ∙ ap (owners_bound Single owner) bound)
+        | inr ne ↦ sym (ap (λ t. cond t (owners_bound Single owner (before port)) (before other)) (ne_eqb other port ne))
+      ];
     })
 
     ends : (reply : Reply) (after : List ℕ) → Agree (stands_for env.geometry after) before → IsDetermined before call reply → MeetsModel Single before (stands_for env.geometry after) call reply
@@ -151,8 +151,8 @@ module _ (env : Env) (mix : ℕ → ℕ → ℕ → ℕ) (c port : ℕ) (before 
     still_at : (at : BindAt) → G.raised c ≡ false → BindKnows env mix c port owner at M G → Agree (stands_for env.geometry (applied words (op_at at))) before
     still_at at lowered known =
         agree-trans (stands_for env.geometry (applied words (op_at at))) (stands_for env.geometry words) before
-          (quiet_step env mix c words G (op_at at) (BindNext env mix c port owner (bind_at.after_at mix env port at (old_of words (op_at at)))) whole lowered
-            (bind_step env mix c port owner within words G all whole low at known)) agree
+        (quiet_step env mix c words G (op_at at) (BindNext env mix c port owner (bind_at.after_at mix env port at (old_of words (op_at at)))) whole lowered
+        (bind_step env mix c port owner within words G all whole low at known)) agree
 
     -- each operation of a bind that is alone
     pub bind_alone : (at : BindAt) → BindKnows env mix c port owner at M G → bind_progress before call at
@@ -169,15 +169,17 @@ module _ (env : Env) (mix : ℕ → ℕ → ℕ → ℕ) (c port : ℕ) (before 
         (still_at (binds.Locking n table shape lock) known.own.0 known, lock_progress n table shape (lock_after lock (old_of words (lock_plan lock))))
     bind_alone (binds.Walking table claimed walk) known progress =
         (still_at (binds.Walking table claimed walk) known.own.0 known, walk_progress table claimed (locked_walk_after walk (old_of words (locked_walk_plan walk))))
-    bind_alone (binds.FoundOwner claimed found) known progress =
-        (still_at (binds.FoundOwner claimed found) known.own.0 known,
-         exists_determined (owner_of (M (Node found OwnerWord))) (found_owner found known.lock.1.0.1 known.lock.1.0.2))
+    bind_alone (binds.FoundOwner claimed found) known progress = (
+      still_at (binds.FoundOwner claimed found) known.own.0 known,
+      exists_determined (owner_of (M (Node found OwnerWord))) (found_owner found known.lock.1.0.1 known.lock.1.0.2),
+    )
     bind_alone (binds.Future table claimed) known progress =
         (still_at (binds.Future table claimed) known.own.0 known, future_progress claimed (slot_of (old_of words (op_at (binds.Future table claimed)))))
     bind_alone (binds.Count claimed) known progress =
-        let count = old_of words (op_at (binds.Count claimed)) in
-        (still_at (binds.Count claimed) known.own.0 known,
-         by_test (λ t. bind_progress before call (cond t (bind_at.unlocking claimed (Answer (replies.TooBig count))) (binds.Link claimed))) (is_above_max (min count 65536) env.config.max) (λ t. inr tt) (λ t. tt))
+        let count = old_of words (op_at (binds.Count claimed)) in (
+          still_at (binds.Count claimed) known.own.0 known,
+          by_test (λ t. bind_progress before call (cond t (bind_at.unlocking claimed (Answer (replies.TooBig count))) (binds.Link claimed))) (is_above_max (min count 65536) env.config.max) (λ t. inr tt) (λ t. tt),
+        )
     bind_alone (binds.Link claimed) known progress = (still_at (binds.Link claimed) known.own.0 known, tt)
     bind_alone (binds.Raise claimed) known progress = (still_at (binds.Raise claimed) known.own.0 known, tt)
     bind_alone (binds.Publish claimed kick) known progress =
@@ -189,7 +191,7 @@ module _ (env : Env) (mix : ℕ → ℕ → ℕ → ℕ) (c port : ℕ) (before 
         let bound = linked_bindings env mix c words (applied words op) G n port whole ready made in
         let has = known.own.1.1.0 in
         let word : owner_of (mem env mix (applied words op) (Node n OwnerWord)) ≡ owner
-              = ap owner_of (write.others (Node n OwnerWord) has.1 (λ e. cc) ∙ known.own.1.1.1.1.0.1) ∙ mod-eq_of_lt {n = owner} {m = 2 ^ 32} small in
+        = ap owner_of (write.others (Node n OwnerWord) has.1 (λ e. cc) ∙ known.own.1.1.1.1.0.1) ∙ mod-eq_of_lt {n = owner} {m = 2 ^ 32} small in
         let none : before port ≡ [] = sym (agree port) ∙ bound.0 in
         inl (record {
           answer = ap (λ owners. Some (plain (bind_reply Single owners))) none;
@@ -237,8 +239,8 @@ module _ (env : Env) (mix : ℕ → ℕ → ℕ → ℕ) (c port : ℕ) (before 
     find_still : (at : FindAt) → FindKnows env mix c port at M G → Agree (stands_for env.geometry (applied words (find_op at))) before
     find_still at known =
         agree-trans (stands_for env.geometry (applied words (find_op at))) (stands_for env.geometry words) before
-          (quiet_step env mix c words G (find_op at) (FindNext env mix c port (find_at.after_at mix env port at (old_of words (find_op at)))) whole known.own.0
-            (find_step env mix c port within words G all whole at known)) agree
+        (quiet_step env mix c words G (find_op at) (FindNext env mix c port (find_at.after_at mix env port at (old_of words (find_op at)))) whole known.own.0
+        (find_step env mix c port within words G all whole at known)) agree
 
     -- each operation of a look-up that is alone
     pub find_alone : (at : FindAt) → FindKnows env mix c port at M G → find_progress before kind port at
@@ -254,9 +256,10 @@ module _ (env : Env) (mix : ℕ → ℕ → ℕ → ℕ) (c port : ℕ) (before 
         (find_still (finds.Future table bucket) known, missing_progress bucket (slot_of (old_of words (find_op (finds.Future table bucket)))) (missed_owner known.lock.1.0.1))
     find_alone (finds.FirstOwner bucket node) known progress = (find_still (finds.FirstOwner bucket node) known, tt)
     find_alone (finds.ListLink bucket node owner) known progress =
-        let found = known.lock.1.0 in
-        (find_still (finds.ListLink bucket node owner) known,
-         found_out bucket owner (node_of env.geometry.nodes (old_of words (find_op (finds.ListLink bucket node owner)))) (found_owner node found.1 found.2 ∙ ap (λ o. o ∷ []) known.lock.1.1.0.2))
+        let found = known.lock.1.0 in (
+          find_still (finds.ListLink bucket node owner) known,
+          found_out bucket owner (node_of env.geometry.nodes (old_of words (find_op (finds.ListLink bucket node owner)))) (found_owner node found.1 found.2 ∙ ap (λ o. o ∷ []) known.lock.1.1.0.2),
+        )
     find_alone (finds.LaterOwner bucket node owner) known progress = absurd known.fits
     find_alone (finds.Unlocking unlock (Table table)) known progress = absurd known.fits
     find_alone (finds.Unlocking unlock (Answer reply)) known progress =

@@ -1,6 +1,5 @@
 -- What a bind knows in each state, and that each of its operations leads from what it knows to what it knows next.
-use Rattle.std.proofs.Common.{◌≡◌, ◌≢◌, ℕ, ◌+◌, ◌*◌, ◌/◌, ◌%◌, ◌^◌, ◌<◌, ◌==◌, List, [], ◌∷◌, ◌++◌, length, min, Option, Some, None, Bool, true, false, cond, refl, sym, ◌∙◌, ap, subst, inl, inr, ◌⊎◌, arith}
-use Rattle.std.proofs.lemmas.Bool.{cases_eq}
+use Rattle.std.proofs.Common.{◌≡◌, ◌≢◌, ℕ, ◌+◌, ◌*◌, ◌/◌, ◌%◌, ◌^◌, ◌<◌, List, [], ◌∷◌, length, min, Option, Some, None, Bool, true, false, cond, refl, sym, ◌∙◌, ap, subst, inl, inr}
 use Rattle.rht_words.specs.declared.env.Env.{Env}
 use Rattle.rht_words.specs.declared.op.Op.{Op}
 use Rattle.rht_words.specs.declared.op.Op.TheVariants.{Load, Store, Add, Or}
@@ -11,8 +10,8 @@ use Rattle.rht_words.specs.declared.machine.Start.TheVariants as starts
 use Rattle.rht_words.specs.Links.{link_of, head_of, table_of, slot_of}
 use Rattle.rht_words.specs.Maps.{bit_of}
 use Rattle.rht_words.specs.Ports.{word_of, owner_of}
-use Rattle.rht_words.specs.Operations.{op_place, old_of, word_after, applied}
-use Rattle.rht_words.specs.Places.{Address, CurrentTable, PortCount, Slot, ShapeWord, SeedWord, FutureWord, Node, NodeWord, ChainLink, KeyWord, OwnerWord, ListLink, PageWord, NodeMap, IsAddress, place_of, words_in, word_at}
+use Rattle.rht_words.specs.Operations.{old_of, word_after, applied}
+use Rattle.rht_words.specs.Places.{CurrentTable, PortCount, Slot, ShapeWord, SeedWord, FutureWord, Node, NodeWord, ChainLink, KeyWord, OwnerWord, ListLink, PageWord, NodeMap, place_of, words_in}
 use Rattle.rht_words.proofs.Memory.{Memory, IsWrite, is_write}
 use Rattle.rht_words.proofs.Members.{In}
 use Rattle.rht_policy.specs.Mix.{bucket_of}
@@ -21,7 +20,6 @@ use Rattle.rht_nest.specs.Place.{bucket_place}
 use Rattle.rht_arena.specs.TakeNode.{TakeNodeModel, take_node_plan, take_node_after}
 use Rattle.rht_chain.specs.Lock.{LockModel, lock_plan, lock_after, IsEven}
 use Rattle.rht_chain.specs.LockedWalk.{LockedWalkModel, locked_walk_new, locked_walk_plan, locked_walk_after}
-use Rattle.rht_chain.specs.declared.locked.Then.{Then}
 use Rattle.rht_chain.specs.declared.locked.Then.TheVariants.{Table, Answer}
 use Rattle.rht_chain.specs.declared.locked_walk.Seen.{Seen}
 use Rattle.rht_model.specs.declared.history.Reply.{Reply}
@@ -29,15 +27,15 @@ use Rattle.rht_model.specs.declared.history.Reply.TheVariants.{Exists, TooBig}
 use Rattle.rht_bind.specs.declared.bind.Claimed.{Claimed}
 use Rattle.rht_bind.specs.declared.bind.BindAt.{BindAt}
 use Rattle.rht_bind.specs.declared.bind.BindAt.TheVariants as at
-use Rattle.rht_bind.specs.Bind.{plan_at, after_at, node_taken, lock_of, lock_taken, began_walk, walk_or_seen, walk_seen, found_or_not, walk_taken, unlocking, future_or_count, checked_count, kicks, after_unlock}
-use Rattle.rht_core.proofs.Ghosts.{put, put-same, put-other, put-all, Bucket, Owner, Free, Held, First, Ghost}
-use Rattle.rht_core.proofs.Wholes.{chain_of, key_of, shape_word, home, place_at, Whole}
-use Rattle.rht_core.proofs.Knowledge.{Fact, Has, WordIs, Locks, Stands, Differs, Missed, Found, OwnerIs, Raised, OnlyNode, OnlyLock, Means, AllMean, HasNode, HoldsLock, NoKey}
+use Rattle.rht_bind.specs.Bind.{plan_at, after_at, node_taken, lock_of, lock_taken, walk_or_seen, found_or_not, walk_taken, unlocking, future_or_count, checked_count, after_unlock}
+use Rattle.rht_core.proofs.Ghosts.{put, put-same, put-all, Held, First, Ghost}
+use Rattle.rht_core.proofs.Wholes.{shape_word, home, place_at, Whole}
+use Rattle.rht_core.proofs.Knowledge.{Fact, Has, WordIs, Locks, Missed, Found, Raised, OnlyNode, OnlyLock, Means, AllMean, HasNode, NoKey}
 use Rattle.rht_core.proofs.QuietMoves.{drop_lock, count_up, with_holder, with_raised}
-use Rattle.rht_core.proofs.Linking.{IsReady, link_head, linked, linked_bucket}
-use Rattle.rht_core.proofs.Steps.{Move, Reads, TakesLock, DropsLock, Raises, Links, by_test, mem, Step, reads, step-map, AllOwn, own-kept, node-kept, ghost_after}
-use Rattle.rht_core.proofs.PieceSteps.{LockKnows, lock_step, walk_facts_at, seen_facts, IsWalk, WalkKnows, StartKnows, walk_start, walk_step}
-use Rattle.rht_core.proofs.NodeSteps.{nothing_held, node_held, IsTaking, TakeKnows, take_step, give_step, fill_step}
+use Rattle.rht_core.proofs.Linking.{IsReady, link_head, linked_bucket}
+use Rattle.rht_core.proofs.Steps.{DropsLock, Raises, Links, by_test, mem, Step, reads, step-map, AllOwn, own-kept, node-kept}
+use Rattle.rht_core.proofs.PieceSteps.{LockKnows, lock_step, walk_facts_at, seen_facts, WalkKnows, StartKnows, walk_start, walk_step}
+use Rattle.rht_core.proofs.NodeSteps.{nothing_held, IsTaking, TakeKnows, take_step, give_step, fill_step}
 
 module _ (env : Env) (mix : ℕ → ℕ → ℕ → ℕ) (c : ℕ) (port owner : ℕ) where
   -- the bucket of the port
@@ -245,6 +243,7 @@ module _ (env : Env) (mix : ℕ → ℕ → ℕ → ℕ) (c : ℕ) (port owner :
           no_node : ((other : ℕ) → G.node other ≡ Held c → Some claimed.node ≡ Some other) → (other : ℕ) → put G.node claimed.node (First j) other ≡ Held c → ◌≡◌ {A = Option ℕ} None (Some other)
           no_node only other = put-all (λ i o. o ≡ Held c → ◌≡◌ {A = Option ℕ} None (Some i)) G.node claimed.node (First j)
               (λ h. absurd (cc)) (λ i ne h. let q = only i h in absurd (ne (cc))) other
+
           no_lock : (other : ℕ) → (put G.bucket j (linked_bucket env mix (G.bucket j) claimed.node) other).holder ≡ Some c → ◌≡◌ {A = Option ℕ} None (Some other)
           no_lock other = put-all (λ i b. b.holder ≡ Some c → ◌≡◌ {A = Option ℕ} None (Some i)) G.bucket j (linked_bucket env mix (G.bucket j) claimed.node)
               (λ h. absurd (cc)) (λ i ne h. let q = known.lock.0 i h in absurd (ne (cc))) other
@@ -254,29 +253,33 @@ module _ (env : Env) (mix : ℕ → ℕ → ℕ → ℕ) (c : ℕ) (port owner :
           → BindStep (at.Locking n table shape (record { place = p; at = lock_at }))
       locking_step n table shape p lock_at is known =
           subst (λ q. Step env mix c words G (lock_plan (record { place = q; at = lock_at }))
-                  (BindNext (lock_taken env port n table shape (lock_after (record { place = q; at = lock_at }) (old_of words (lock_plan (record { place = q; at = lock_at })))).0
-                                                               (lock_after (record { place = q; at = lock_at }) (old_of words (lock_plan (record { place = q; at = lock_at })))).1, Go)))
-            (sym is)
-            (let r = lock_after (record { place = place; at = lock_at }) (old_of words (lock_plan (record { place = place; at = lock_at }))) in
-             step-map env mix c words G (lock_plan (record { place = place; at = lock_at }))
-              (LockKnows env mix c port (filled false n) (filled_own n) within r)
-              (BindNext (lock_taken env port n table shape r.0 r.1, Go))
-              (λ M' G' w k. lock_next n table shape r M' G' w known.fits.0 known.fits.1 k)
-              (lock_step env mix c port (filled false n) (filled_own n) within words G all whole known.own lock_at known.fits.3 known.lock))
+          (BindNext (
+            lock_taken env port n table shape (lock_after (record { place = q; at = lock_at }) (old_of words (lock_plan (record { place = q; at = lock_at })))).0
+                (lock_after (record { place = q; at = lock_at }) (old_of words (lock_plan (record { place = q; at = lock_at })))).1,
+            Go,
+          )))
+          (sym is)
+          (let r = lock_after (record { place = place; at = lock_at }) (old_of words (lock_plan (record { place = place; at = lock_at }))) in
+          step-map env mix c words G (lock_plan (record { place = place; at = lock_at }))
+          (LockKnows env mix c port (filled false n) (filled_own n) within r)
+          (BindNext (lock_taken env port n table shape r.0 r.1, Go))
+          (λ M' G' w k. lock_next n table shape r M' G' w known.fits.0 known.fits.1 k)
+          (lock_step env mix c port (filled false n) (filled_own n) within words G all whole known.own lock_at known.fits.3 known.lock))
 
       walking_step : (table : ℕ) (claimed : Claimed) (walk : LockedWalkModel) → BindKnows (at.Walking table claimed walk) M G → BindStep (at.Walking table claimed walk)
       walking_step table claimed walk known =
           subst (λ w. Step env mix c words G (locked_walk_plan w) (BindNext (walk_taken table claimed (locked_walk_after w (old_of words (locked_walk_plan w))).0 (locked_walk_after w (old_of words (locked_walk_plan w))).1, Go)))
-            (sym same)
-            (let r = locked_walk_after here (old_of words (locked_walk_plan here)) in
-             step-map env mix c words G (locked_walk_plan here)
-              (WalkKnows env mix c port (filled false claimed.node) (filled_own claimed.node) within claimed.bucket.word r)
-              (BindNext (walk_taken table claimed r.0 r.1, Go))
-              (λ M' G' w k. walk_next table claimed r M' G' known.fits.0 known.fits.1 known.fits.2 k)
-              (walk_step env mix c port (filled false claimed.node) (filled_own claimed.node) within words G all whole known.own claimed.bucket.word walk.before walk.length walk.at known.lock))
+          (sym same)
+          (let r = locked_walk_after here (old_of words (locked_walk_plan here)) in
+          step-map env mix c words G (locked_walk_plan here)
+          (WalkKnows env mix c port (filled false claimed.node) (filled_own claimed.node) within claimed.bucket.word r)
+          (BindNext (walk_taken table claimed r.0 r.1, Go))
+          (λ M' G' w k. walk_next table claimed r M' G' known.fits.0 known.fits.1 known.fits.2 k)
+          (walk_step env mix c port (filled false claimed.node) (filled_own claimed.node) within words G all whole known.own claimed.bucket.word walk.before walk.length walk.at known.lock))
         where
           here : LockedWalkModel
           here = record { geometry = env.geometry; key = port; before = walk.before; length = walk.length; at = walk.at }
+
           same : walk ≡ here
           same = rw known.fits.3 (rw known.fits.4 refl)
 
@@ -284,90 +287,116 @@ module _ (env : Env) (mix : ℕ → ℕ → ℕ → ℕ) (c : ℕ) (port owner :
       pub bind_step : (at : BindAt) → BindKnows at M G → BindStep at
       bind_step (at.Taking take) known =
           subst (λ t. Step env mix c words G (take_node_plan t) (BindNext (node_taken (take_node_after t (old_of words (take_node_plan t))).0 (take_node_after t (old_of words (take_node_plan t))).1)))
-            (sym same)
-            (let r = take_node_after here (old_of words (take_node_plan here)) in
-             step-map env mix c words G (take_node_plan here) (TakeKnows env mix c r) (BindNext (node_taken r.0 r.1))
-              (λ M' G' w k. take_next r M' G' k)
-              (take_step env mix c words G all whole take.at known.fits.1 (known.own.0, (known.own.1.0, (known.lock.0, tt)))))
+          (sym same)
+          (let r = take_node_after here (old_of words (take_node_plan here)) in
+          step-map env mix c words G (take_node_plan here) (TakeKnows env mix c r) (BindNext (node_taken r.0 r.1))
+          (λ M' G' w k. take_next r M' G' k)
+          (take_step env mix c words G all whole take.at known.fits.1 (known.own.0, (known.own.1.0, (known.lock.0, tt)))))
         where
           here : TakeNodeModel
           here = record { geometry = env.geometry; at = take.at }
+
           same : take ≡ here
           same = rw known.fits.0 refl
       bind_step (at.Key n) known =
           let has = known.own.1.1.0 in
           fill_step env mix c words G all whole n KeyWord (word_of port) (BindNext (at.Owner n, Go)) has
-            (λ M' write. record { own = (known.own.0, (known.own.1.0, (has, ((has, write.same), tt)))); lock = known.lock; fits = tt })
+          (λ M' write. record { own = (known.own.0, (known.own.1.0, (has, ((has, write.same), tt)))); lock = known.lock; fits = tt })
       bind_step (at.Owner n) known =
           let has = known.own.1.1.0 in
           fill_step env mix c words G all whole n OwnerWord owner (BindNext (at.ListLink n, Go)) has
-            (λ M' write. record {
-              own = (known.own.0, (known.own.1.0, (has, (kept n OwnerWord KeyWord (word_of port) owner M' write (λ e. cc) has known.own.1.1.1.0, ((has, write.same), tt)))));
-              lock = known.lock;
-              fits = tt;
-            })
+          (λ M' write. record {
+            own = (known.own.0, (known.own.1.0, (has, (kept n OwnerWord KeyWord (word_of port) owner M' write (λ e. cc) has known.own.1.1.1.0, ((has, write.same), tt)))));
+            lock = known.lock;
+            fits = tt;
+          })
       bind_step (at.ListLink n) known =
           let has = known.own.1.1.0 in
           fill_step env mix c words G all whole n ListLink 0 (BindNext (at.CurrentTable n, Go)) has
-            (λ M' write. record {
-              own = (known.own.0, (known.own.1.0, (has, (kept n ListLink KeyWord (word_of port) 0 M' write (λ e. cc) has known.own.1.1.1.0,
-                     (kept n ListLink OwnerWord owner 0 M' write (λ e. cc) has known.own.1.1.1.1.0, ((has, write.same), tt))))));
-              lock = known.lock;
-              fits = tt;
-            })
+          (λ M' write. record {
+            own = (
+              known.own.0,
+              (
+                known.own.1.0,
+                (
+                  has,
+                  (
+                    kept n ListLink KeyWord (word_of port) 0 M' write (λ e. cc) has known.own.1.1.1.0,
+                    (kept n ListLink OwnerWord owner 0 M' write (λ e. cc) has known.own.1.1.1.1.0, ((has, write.same), tt)),
+                  ),
+                ),
+              ),
+            );
+            lock = known.lock;
+            fits = tt;
+          })
       bind_step (at.CurrentTable n) known =
           let op = Load (place_of env.geometry CurrentTable) in
           loads op (at.Shape n (table_of (old_of words op)), Go) refl
-            (record { own = known.own; lock = known.lock; fits = ap table_of whole.tables.current_word })
+          (record { own = known.own; lock = known.lock; fits = ap table_of whole.tables.current_word })
       bind_step (at.Shape n table) known =
           let op = Load (place_of env.geometry (Slot table ShapeWord)) in
           loads op (at.Seed n table (old_of words op), Go) refl
-            (record { own = known.own; lock = known.lock; fits = (known.fits, ap (λ t. M (Slot t ShapeWord)) known.fits ∙ whole.tables.shape_is) })
+          (record { own = known.own; lock = known.lock; fits = (known.fits, ap (λ t. M (Slot t ShapeWord)) known.fits ∙ whole.tables.shape_is) })
       bind_step (at.Seed n table shape) known =
           let op = Load (place_of env.geometry (Slot table SeedWord)) in
           let seed : old_of words op ≡ env.config.seed = ap (λ t. M (Slot t SeedWord)) known.fits.0 ∙ whole.tables.seed_is in
           let here : bucket_place env.geometry shape (bucket_of mix port shape (old_of words op)) ≡ place
-                = ap (λ s. bucket_place env.geometry s (bucket_of mix port s (old_of words op))) known.fits.1 ∙ ap (λ s. bucket_place env.geometry (shape_word env mix) (bucket_of mix port (shape_word env mix) s)) seed in
+          = ap (λ s. bucket_place env.geometry s (bucket_of mix port s (old_of words op))) known.fits.1 ∙ ap (λ s. bucket_place env.geometry (shape_word env mix) (bucket_of mix port (shape_word env mix) s)) seed in
           loads op (at.Locking n table shape (lock_of mix env port shape (old_of words op)), Go) refl
-            (record { own = known.own; lock = known.lock; fits = (known.fits.0, known.fits.1, here, tt) })
+          (record { own = known.own; lock = known.lock; fits = (known.fits.0, known.fits.1, here, tt) })
       bind_step (at.Locking n table shape lock) known = locking_step n table shape lock.place lock.at known.fits.2 known
       bind_step (at.Walking table claimed walk) known = walking_step table claimed walk known
       bind_step (at.FoundOwner claimed found) known =
           let op = Load (place_of env.geometry (Node found OwnerWord)) in
           let holds = known.lock.1.0.0 in
           loads op (unlocking claimed (Answer (Exists (owner_of (old_of words op)))), Go) refl
-            (record { own = (known.own.0, (known.own.1.0, (known.own.1.1.0, tt))); lock = (known.lock.0, (holds, tt)); fits = known.fits })
+          (record { own = (known.own.0, (known.own.1.0, (known.own.1.1.0, tt))); lock = (known.lock.0, (holds, tt)); fits = known.fits })
       bind_step (at.Future table claimed) known =
           let op = Load (place_of env.geometry (Slot table FutureWord)) in
           let none : old_of words op ≡ 0 = ap (λ t. M (Slot t FutureWord)) known.fits.0 ∙ whole.tables.future_is in
           let next : future_or_count claimed (slot_of (old_of words op)) ≡ at.Count claimed = ap (λ f. future_or_count claimed (slot_of f)) none in
           loads op (future_or_count claimed (slot_of (old_of words op)), Go) refl
-            (rw next (record { own = known.own; lock = known.lock; fits = (known.fits.1, known.fits.2) }))
+          (rw next (record { own = known.own; lock = known.lock; fits = (known.fits.1, known.fits.2) }))
       bind_step (at.Count claimed) known =
           let op = Load (place_of env.geometry PortCount) in
           let count = old_of words op in
           loads op (checked_count env claimed count, Go) refl
-            (by_test (λ t. BindKnows (cond t (unlocking claimed (Answer (TooBig count))) (at.Link claimed)) M G) (is_above_max (min count 65536) env.config.max)
-              (λ t. record { own = (known.own.0, (known.own.1.0, (known.own.1.1.0, tt))); lock = (known.lock.0, (known.lock.1.0.0, tt)); fits = known.fits.1 })
-              (λ t. record { own = known.own; lock = known.lock; fits = known.fits }))
+          (by_test (λ t. BindKnows (cond t (unlocking claimed (Answer (TooBig count))) (at.Link claimed)) M G) (is_above_max (min count 65536) env.config.max)
+          (λ t. record { own = (known.own.0, (known.own.1.0, (known.own.1.1.0, tt))); lock = (known.lock.0, (known.lock.1.0.0, tt)); fits = known.fits.1 })
+          (λ t. record { own = known.own; lock = known.lock; fits = known.fits }))
       bind_step (at.Link claimed) known =
           let n = claimed.node in
           let has = known.own.1.1.0 in
           fill_step env mix c words G all whole n ChainLink (first_link claimed) (BindNext (at.Raise claimed, Go)) has
-            (λ M' write. record {
-              own = (known.own.0, (known.own.1.0, (has, (kept n ChainLink KeyWord (word_of port) (first_link claimed) M' write (λ e. cc) has known.own.1.1.1.0,
-                     (kept n ChainLink OwnerWord owner (first_link claimed) M' write (λ e. cc) has known.own.1.1.1.1.0,
-                     (kept n ChainLink ListLink 0 (first_link claimed) M' write (λ e. cc) has known.own.1.1.1.1.1.0, ((has, write.same), tt)))))));
-              lock = (known.lock.0, ((known.lock.1.0.0, missed_still M' write (G.bucket j).nodes (whole.owned.member j) known.lock.1.0.1), tt));
-              fits = known.fits;
-            })
+          (λ M' write. record {
+            own = (
+              known.own.0,
+              (
+                known.own.1.0,
+                (
+                  has,
+                  (
+                    kept n ChainLink KeyWord (word_of port) (first_link claimed) M' write (λ e. cc) has known.own.1.1.1.0,
+                    (
+                      kept n ChainLink OwnerWord owner (first_link claimed) M' write (λ e. cc) has known.own.1.1.1.1.0,
+                      (kept n ChainLink ListLink 0 (first_link claimed) M' write (λ e. cc) has known.own.1.1.1.1.1.0, ((has, write.same), tt)),
+                    ),
+                  ),
+                ),
+              ),
+            );
+            lock = (known.lock.0, ((known.lock.1.0.0, missed_still M' write (G.bucket j).nodes (whole.owned.member j) known.lock.1.0.1), tt));
+            fits = known.fits;
+          })
         where
           missed_still : (M' : Memory) → IsWrite env.geometry M M' (Node claimed.node ChainLink) (first_link claimed) → (nodes : List ℕ)
               → ((m : ℕ) → In m nodes → G.node m ≡ First j) → NoKey M port nodes → NoKey M' port nodes
           missed_still M' write [] first none = tt
-          missed_still M' write (m ∷ nodes) first none =
-              ((λ same. none.0 (sym (write.others (Node m KeyWord) (whole.owned.first_at m j (first m (inl refl))).among (λ e. cc)) ∙ same)),
-               missed_still M' write nodes (λ k i. first k (inr i)) none.1)
+          missed_still M' write (m ∷ nodes) first none = (
+            (λ same. none.0 (sym (write.others (Node m KeyWord) (whole.owned.first_at m j (first m (inl refl))).among (λ e. cc)) ∙ same)),
+            missed_still M' write nodes (λ k i. first k (inr i)) none.1,
+          )
       bind_step (at.Raise claimed) known =
           let op = Add (place_of env.geometry PortCount) 1 in
           let M' = mem env mix (applied words op) in
@@ -377,9 +406,12 @@ module _ (env : Env) (mix : ℕ → ℕ → ℕ → ℕ) (c : ℕ) (port owner :
             ready = tt;
             made = count_up env mix c M M' G whole low known.own.0 write;
             knows = record {
-              own = (put-same G.raised c true, node-kept env mix c M M' G (with_raised env mix G c true)
-                      (OnlyNode (Some claimed.node) ∷ Has claimed.node ∷ WordIs claimed.node KeyWord (word_of port) ∷ WordIs claimed.node OwnerWord owner ∷ WordIs claimed.node ListLink 0 ∷ WordIs claimed.node ChainLink (first_link claimed) ∷ [])
-                      (tt, (tt, (tt, (tt, (tt, (tt, tt)))))) (λ n w l. write.others (Node n w) l (λ e. cc)) (λ n. refl) known.own.1);
+              own = (
+                put-same G.raised c true,
+                node-kept env mix c M M' G (with_raised env mix G c true)
+                    (OnlyNode (Some claimed.node) ∷ Has claimed.node ∷ WordIs claimed.node KeyWord (word_of port) ∷ WordIs claimed.node OwnerWord owner ∷ WordIs claimed.node ListLink 0 ∷ WordIs claimed.node ChainLink (first_link claimed) ∷ [])
+                    (tt, (tt, (tt, (tt, (tt, (tt, tt)))))) (λ n w l. write.others (Node n w) l (λ e. cc)) (λ n. refl) known.own.1,
+              );
               lock = (known.lock.0, ((known.lock.1.0.0, still_missed M' write (G.bucket j).nodes (whole.owned.member j) known.lock.1.0.1), tt));
               fits = known.fits;
             };
@@ -388,14 +420,15 @@ module _ (env : Env) (mix : ℕ → ℕ → ℕ → ℕ) (c : ℕ) (port owner :
           still_missed : (M' : Memory) → IsWrite env.geometry M M' PortCount ((M PortCount + 1) % 2 ^ 64) → (nodes : List ℕ)
               → ((m : ℕ) → In m nodes → G.node m ≡ First j) → NoKey M port nodes → NoKey M' port nodes
           still_missed M' write [] first none = tt
-          still_missed M' write (m ∷ nodes) first none =
-              ((λ same. none.0 (sym (write.others (Node m KeyWord) (whole.owned.first_at m j (first m (inl refl))).among (λ e. cc)) ∙ same)),
-               still_missed M' write nodes (λ k i. first k (inr i)) none.1)
+          still_missed M' write (m ∷ nodes) first none = (
+            (λ same. none.0 (sym (write.others (Node m KeyWord) (whole.owned.first_at m j (first m (inl refl))).among (λ e. cc)) ∙ same)),
+            still_missed M' write nodes (λ k i. first k (inr i)) none.1,
+          )
       bind_step (at.Publish claimed kick) known = publish_step claimed kick known
       bind_step (at.Unlocking n unlock (Table table)) known = absurd known.fits
       bind_step (at.Unlocking n unlock (Answer reply)) known =
           subst (λ p. Step env mix c words G (Store p unlock.word) (BindNext (after_unlock env n (Answer reply), Go)))
-            (sym known.fits) (unlock_step n unlock.word reply known.own known.lock)
+          (sym known.fits) (unlock_step n unlock.word reply known.own known.lock)
       bind_step (at.Giving give reply) known =
           subst (λ g. Step env mix c words G (Or (place_of g (NodeMap (give.node / 64))) (bit_of (give.node % 64))) (λ M' G'. AllMean env mix c M' G' nothing_held))
-            (sym known.fits) (give_step env mix c words G all whole give.node (known.own.0, (known.own.1.0, (known.lock.0, (known.own.1.1.0, tt)))))
+          (sym known.fits) (give_step env mix c words G all whole give.node (known.own.0, (known.own.1.0, (known.lock.0, (known.own.1.1.0, tt)))))

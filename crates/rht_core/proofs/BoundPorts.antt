@@ -1,8 +1,8 @@
 -- What the words stand for is what the ghost says: the owner of the node to which each port is bound.
 -- The table in force is the one table; the nodes met in each bucket are the bucket's nodes; and of all these at most one has
 -- the port's key, the one to which the port is bound.
-use Rattle.std.proofs.Common.{◌≡◌, ◌≢◌, ◌↔◌, ℕ, zero, suc, ◌+◌, ◌-◌, ◌*◌, ◌/◌, ◌%◌, ◌^◌, ◌<◌, ◌≤◌, ◌==◌, List, [], ◌∷◌, ◌++◌, length, map, min, Option, Some, None, Bool, true, false, cond, refl, sym, ◌∙◌, ap, subst, inl, inr, ◌⊎◌, slice_index, arith}
-use Rattle.std.proofs.lemmas.Bool.{cases_eq, cases_lt, eqb-true, eq-eqb}
+use Rattle.std.proofs.Common.{◌≡◌, ℕ, zero, suc, ◌+◌, ◌-◌, ◌*◌, ◌%◌, ◌^◌, ◌<◌, ◌≤◌, List, [], ◌∷◌, ◌++◌, length, map, Option, Some, None, Bool, true, false, cond, refl, sym, ◌∙◌, ap, subst, inl, inr, ◌⊎◌, slice_index, arith}
+use Rattle.std.proofs.lemmas.Bool.{cases_eq, eqb-true, eq-eqb}
 use Rattle.std.proofs.lemmas.Bool.Decides.{nat_tests}
 use Rattle.std.proofs.lemmas.List.{append-nil}
 use Rattle.std.proofs.Math.Nat.{mod-lt}
@@ -11,21 +11,19 @@ use Rattle.rht_words.specs.declared.env.Env.{Env}
 use Rattle.rht_words.specs.declared.geometry.Geometry.{Geometry}
 use Rattle.rht_words.proofs.Memory.{Memory}
 use Rattle.rht_words.proofs.ShapeSizes.{IsSizeUpTo-size_of}
-use Rattle.rht_words.specs.Links.{link_of, node_of, head_of, marker_of, table_of, slot_of}
-use Rattle.rht_words.specs.Ports.{word_of, owner_of}
+use Rattle.rht_words.specs.Links.{node_of, head_of, marker_of}
+use Rattle.rht_words.specs.Ports.{owner_of}
 use Rattle.rht_words.specs.Shapes.{size_of, unpacked}
 use Rattle.rht_words.specs.Chains.{IsSegment}
-use Rattle.rht_words.specs.Opening.{first_size, first_shape}
-use Rattle.rht_words.specs.Places.{CurrentTable, Slot, ShapeWord, FutureWord, Node, ChainLink, KeyWord, OwnerWord, ListLink, PageWord, word_at}
+use Rattle.rht_words.specs.Places.{Node, OwnerWord, ListLink}
 use Rattle.rht_words.proofs.LinksRead.{links_tell_apart}
-use Rattle.rht_words.proofs.Members.{In, NotIn, Distinct, AllBelow, count_below, count_below-most, length-count_below}
+use Rattle.rht_words.proofs.Members.{In, AllBelow, count_below-most, length-count_below}
 use Rattle.rht_policy.specs.Mix.{bucket_of}
 use Rattle.rht_nest.specs.Place.{bucket_place, bucket_index}
-use Rattle.rht_core.specs.StandsFor.{tables_from, in_force, chain_from, bucket_nodes, shape_of, table_nodes, has_key, first_node, owners_from, stands_for}
-use Rattle.rht_core.proofs.Ghosts.{Bucket, Owner, First, Ghost, lock_bit}
-use Rattle.rht_core.proofs.Wholes.{chain_of, key_of, shape_word, home, place_at, Whole, IsFirstAt}
-use Rattle.rht_core.proofs.Steps.{by_test, mem}
-use Rattle.rht_core.proofs.Invariants.{home-within}
+use Rattle.rht_core.specs.StandsFor.{in_force, chain_from, bucket_nodes, table_nodes, has_key, first_node, owners_from, stands_for}
+use Rattle.rht_core.proofs.Ghosts.{Ghost, lock_bit}
+use Rattle.rht_core.proofs.Wholes.{chain_of, key_of, shape_word, place_at, Whole}
+use Rattle.rht_core.proofs.Steps.{mem}
 
 -- ---- lists
 
@@ -51,14 +49,16 @@ in-flat_map f x y (z ∷ ys) (inr i) j = in-append_right x (f z) (flat_map f ys)
 from-flat_map : (f : ℕ → List ℕ) (x : ℕ) (ys : List ℕ) → In x (flat_map f ys) → (y : ℕ) × In y ys × In x (f y)
 from-flat_map f x [] i = absurd i
 from-flat_map f x (z ∷ ys) i = elim (in-append_parts x (f z) (flat_map f ys) i) [
-    inl l ↦ (z, inl refl, l)
-  | inr r ↦ let rest = from-flat_map f x ys r in (rest.0, inr rest.1, rest.2) ]
+  | inl l ↦ (z, inl refl, l)
+  | inr r ↦ let rest = from-flat_map f x ys r in (rest.0, inr rest.1, rest.2)
+]
 
 in-range : (a n x : ℕ) → a ≤ x → x < a + n → In x (range_with_len a n)
 in-range a zero x low high = absurd (omega arith)
 in-range a (suc n) x low high = elim (cases_eq x a) [
-    inl e ↦ inl e
-  | inr ne ↦ inr (in-range (a + 1) n x (omega arith) (omega arith)) ]
+  | inl e ↦ inl e
+  | inr ne ↦ inr (in-range (a + 1) n x (omega arith) (omega arith))
+]
 
 from-range : (a n x : ℕ) → In x (range_with_len a n) → (a ≤ x) × (x < a + n)
 from-range a zero x i = absurd i
@@ -113,7 +113,7 @@ module _ (env : Env) (mix : ℕ → ℕ → ℕ → ℕ) (words : List ℕ) (G :
   chain_met zero link (n ∷ nodes) stop fuel ends among s = absurd (omega arith)
   chain_met (suc left) link (n ∷ nodes) stop fuel ends among s =
       rw (ap (node_of g.nodes) s.0 ∙ links_tell_apart.link_names g.nodes n (among n (inl refl)))
-        (ap (λ rest. n ∷ rest) (chain_met left (chain_of M n) nodes stop (omega arith) ends (λ m i. among m (inr i)) s.1))
+      (ap (λ rest. n ∷ rest) (chain_met left (chain_of M n) nodes stop (omega arith) ends (λ m i. among m (inr i)) s.1))
 
   -- a bucket's word with its lock leads to the same first link
   head_of-locked : (place plain : ℕ) (holder : Option ℕ) → plain % 2 ≡ 0 → head_of place (plain + lock_bit holder) ≡ head_of place plain
@@ -128,9 +128,9 @@ module _ (env : Env) (mix : ℕ → ℕ → ℕ → ℕ) (words : List ℕ) (G :
       let few = length-count_below (λ n. true) g.nodes b.nodes right.chained.distinct (all_below_from g.nodes b.nodes among) (λ n i. refl) in
       let most = count_below-most (λ n. true) g.nodes in
       let first : head_of (place_at env mix j) (slice_index words (place_at env mix j)) ≡ head_of (place_at env mix j) b.plain
-            = ap (head_of (place_at env mix j)) right.locked.word_is ∙ head_of-locked (place_at env mix j) b.plain b.holder right.locked.even in
+      = ap (head_of (place_at env mix j)) right.locked.word_is ∙ head_of-locked (place_at env mix j) b.plain b.holder right.locked.even in
       rw first (chain_met g.nodes (head_of (place_at env mix j) b.plain) b.nodes (marker_of (place_at env mix j)) (omega (arith, few, most))
-        (links_tell_apart.marker_names_no_node g.nodes (place_at env mix j)) among right.chained.segment)
+      (links_tell_apart.marker_names_no_node g.nodes (place_at env mix j)) among right.chained.segment)
 
   -- ---- the one table
 
@@ -150,7 +150,7 @@ module _ (env : Env) (mix : ℕ → ℕ → ℕ → ℕ) (words : List ℕ) (G :
   table_met : table_nodes g words 0 ≡ all_nodes
   table_met = rw whole.tables.shape_is
       (flat_map-same (λ bucket. bucket_nodes g words (bucket_place g (shape_word env mix) bucket)) (λ bucket. (G.bucket (index bucket)).nodes) (range_with_len 0 size)
-        (λ bucket i. bucket_met (index bucket) (index-within bucket)))
+      (λ bucket i. bucket_met (index bucket) (index-within bucket)))
 
   one_in_force : in_force g words ≡ 0 ∷ []
   one_in_force = rw whole.tables.current_word (rw whole.tables.future_is refl)
@@ -169,10 +169,12 @@ module _ (env : Env) (mix : ℕ → ℕ → ℕ → ℕ) (words : List ℕ) (G :
   bound_met port n behind b =
       let to = whole.owned.bound_to port n behind b in
       let at = whole.owned.first_at n to.bucket to.first in
-      let bucket = bucket_of mix (key_of M n) (shape_word env mix) env.config.seed in
-      (in-flat_map (λ x. (G.bucket (index x)).nodes) n bucket (range_with_len 0 size)
-        (in-range 0 size bucket (omega arith) (let low = bucket_below (key_of M n) in omega (arith, low)))
-        (subst (λ j. In n (G.bucket j).nodes) at.at_home at.there), to.key_is)
+      let bucket = bucket_of mix (key_of M n) (shape_word env mix) env.config.seed in (
+        in-flat_map (λ x. (G.bucket (index x)).nodes) n bucket (range_with_len 0 size)
+            (in-range 0 size bucket (omega arith) (let low = bucket_below (key_of M n) in omega (arith, low)))
+            (subst (λ j. In n (G.bucket j).nodes) at.at_home at.there),
+        to.key_is,
+      )
     where
       bucket_below : (k : ℕ) → bucket_of mix k (shape_word env mix) env.config.seed < size
       bucket_below k = mod-lt (mix k 0 (env.config.seed % 2 ^ 32)) {m = size} (let size_is = IsSizeUpTo-size_of (unpacked (shape_word env mix)) in omega (arith, size_is.least))
@@ -205,7 +207,7 @@ module _ (env : Env) (mix : ℕ → ℕ → ℕ → ℕ) (words : List ℕ) (G :
       let within = g.within in
       let some : g.nodes ≡ suc (g.nodes - 1) = omega (arith, within.nodes_within.0) in
       subst (λ fuel. owners_from g words fuel (Some n) ≡ owner_of (M (Node n OwnerWord)) ∷ []) (sym some)
-        (ap (λ rest. owner_of (M (Node n OwnerWord)) ∷ rest) (rw none (no_more (g.nodes - 1))))
+      (ap (λ rest. owner_of (M (Node n OwnerWord)) ∷ rest) (rw none (no_more (g.nodes - 1))))
     where
       no_more : (fuel : ℕ) → owners_from g words fuel (node_of g.nodes 0) ≡ []
       no_more zero = refl
@@ -225,4 +227,4 @@ module _ (env : Env) (mix : ℕ → ℕ → ℕ → ℕ) (words : List ℕ) (G :
           let to = whole.owned.bound_to port n behind b in
           let at = whole.owned.first_at n to.bucket to.first in
           ap (owners_from g words g.nodes) (first_bound port (n ∷ behind) b) ∙ one_owner n at.no_list
-            ∙ ap (λ rest. owner_of (M (Node n OwnerWord)) ∷ map (λ m. owner_of (M (Node m OwnerWord))) rest) (sym to.alone)
+          ∙ ap (λ rest. owner_of (M (Node n OwnerWord)) ∷ map (λ m. owner_of (M (Node m OwnerWord))) rest) (sym to.alone)

@@ -1,5 +1,5 @@
 -- What a look-up knows in each state, and that each of its operations leads from what it knows to what it knows next.
-use Rattle.std.proofs.Common.{◌≡◌, ◌≢◌, ℕ, ◌+◌, ◌*◌, ◌<◌, ◌==◌, List, [], ◌∷◌, length, Option, Some, None, Bool, true, false, cond, refl, sym, ◌∙◌, ap, subst, arith}
+use Rattle.std.proofs.Common.{◌≡◌, ℕ, ◌*◌, ◌<◌, List, [], ◌∷◌, length, Option, Some, None, false, refl, sym, ◌∙◌, ap, subst}
 use Rattle.rht_words.specs.declared.env.Env.{Env}
 use Rattle.rht_words.specs.declared.op.Op.{Op}
 use Rattle.rht_words.specs.declared.op.Op.TheVariants.{Load, Store}
@@ -9,8 +9,8 @@ use Rattle.rht_words.specs.declared.machine.Start.{Start}
 use Rattle.rht_words.specs.declared.machine.Start.TheVariants as starts
 use Rattle.rht_words.specs.Links.{table_of, slot_of, node_of}
 use Rattle.rht_words.specs.Ports.{word_of, owner_of}
-use Rattle.rht_words.specs.Operations.{op_place, old_of, word_after, applied}
-use Rattle.rht_words.specs.Places.{Address, CurrentTable, Slot, ShapeWord, SeedWord, FutureWord, Node, NodeWord, OwnerWord, ListLink, PageWord, IsAddress, place_of, words_in, word_at}
+use Rattle.rht_words.specs.Operations.{old_of, word_after, applied}
+use Rattle.rht_words.specs.Places.{CurrentTable, Slot, ShapeWord, SeedWord, FutureWord, Node, OwnerWord, ListLink, PageWord, place_of, words_in}
 use Rattle.rht_words.proofs.Memory.{Memory, IsWrite, is_write}
 use Rattle.rht_policy.specs.Mix.{bucket_of}
 use Rattle.rht_nest.specs.Place.{bucket_place}
@@ -18,7 +18,6 @@ use Rattle.rht_chain.specs.Lock.{LockModel, lock_plan, lock_after, IsEven}
 use Rattle.rht_chain.specs.declared.lock.LockAt.{LockAt}
 use Rattle.rht_chain.specs.LockedWalk.{LockedWalkModel, locked_walk_new, locked_walk_plan, locked_walk_after}
 use Rattle.rht_chain.specs.declared.locked.Locked.{Locked}
-use Rattle.rht_chain.specs.declared.locked.Then.{Then}
 use Rattle.rht_chain.specs.declared.locked.Then.TheVariants.{Table, Answer}
 use Rattle.rht_chain.specs.declared.locked_walk.Seen.{Seen}
 use Rattle.rht_model.specs.declared.history.Reply.{Reply}
@@ -26,11 +25,11 @@ use Rattle.rht_model.specs.declared.history.Reply.TheVariants.{Found as FoundRep
 use Rattle.rht_find.specs.declared.find.FindAt.{FindAt}
 use Rattle.rht_find.specs.declared.find.FindAt.TheVariants as at
 use Rattle.rht_find.specs.Find.{plan_at, after_at, lock_of, lock_taken, walk_or_seen, found_or_not, walk_taken, unlocking, next_table, list_followed}
-use Rattle.rht_core.proofs.Ghosts.{put, put-all, Bucket, Ghost}
+use Rattle.rht_core.proofs.Ghosts.{put, put-all, Ghost}
 use Rattle.rht_core.proofs.Wholes.{shape_word, home, place_at, Whole}
-use Rattle.rht_core.proofs.Knowledge.{Fact, Locks, Missed, Found, OwnerIs, Raised, OnlyNode, OnlyLock, Means, AllMean}
-use Rattle.rht_core.proofs.QuietMoves.{drop_lock, with_holder}
-use Rattle.rht_core.proofs.Steps.{DropsLock, mem, Step, reads, step-map, AllOwn, own-kept}
+use Rattle.rht_core.proofs.Knowledge.{Fact, Locks, Missed, Found, OwnerIs, Raised, OnlyNode, OnlyLock, AllMean}
+use Rattle.rht_core.proofs.QuietMoves.{drop_lock}
+use Rattle.rht_core.proofs.Steps.{DropsLock, mem, Step, reads, step-map, AllOwn}
 use Rattle.rht_core.proofs.PieceSteps.{LockKnows, lock_step, walk_facts_at, seen_facts, WalkKnows, StartKnows, walk_start, walk_step}
 use Rattle.rht_core.proofs.NodeSteps.{nothing_held}
 
@@ -143,29 +142,33 @@ module _ (env : Env) (mix : ℕ → ℕ → ℕ → ℕ) (c : ℕ) (port : ℕ) 
           → FindStep (at.Locking table (record { place = p; at = lock_at }))
       locking_step table p lock_at is known =
           subst (λ q. Step env mix c words G (lock_plan (record { place = q; at = lock_at }))
-                  (FindNext (lock_taken env port table (lock_after (record { place = q; at = lock_at }) (old_of words (lock_plan (record { place = q; at = lock_at })))).0
-                                                       (lock_after (record { place = q; at = lock_at }) (old_of words (lock_plan (record { place = q; at = lock_at })))).1, Go)))
-            (sym is)
-            (let r = lock_after (record { place = place; at = lock_at }) (old_of words (lock_plan (record { place = place; at = lock_at }))) in
-             step-map env mix c words G (lock_plan (record { place = place; at = lock_at }))
-              (LockKnows env mix c port no_node nothing_own within r)
-              (FindNext (lock_taken env port table r.0 r.1, Go))
-              (λ M' G' w k. lock_next table r M' G' w known.fits.0 k)
-              (lock_step env mix c port no_node nothing_own within words G all whole known.own lock_at known.fits.2 known.lock))
+          (FindNext (
+            lock_taken env port table (lock_after (record { place = q; at = lock_at }) (old_of words (lock_plan (record { place = q; at = lock_at })))).0
+                (lock_after (record { place = q; at = lock_at }) (old_of words (lock_plan (record { place = q; at = lock_at })))).1,
+            Go,
+          )))
+          (sym is)
+          (let r = lock_after (record { place = place; at = lock_at }) (old_of words (lock_plan (record { place = place; at = lock_at }))) in
+          step-map env mix c words G (lock_plan (record { place = place; at = lock_at }))
+          (LockKnows env mix c port no_node nothing_own within r)
+          (FindNext (lock_taken env port table r.0 r.1, Go))
+          (λ M' G' w k. lock_next table r M' G' w known.fits.0 k)
+          (lock_step env mix c port no_node nothing_own within words G all whole known.own lock_at known.fits.2 known.lock))
 
       walking_step : (table : ℕ) (bucket : Locked) (walk : LockedWalkModel) → FindKnows (at.Walking table bucket walk) M G → FindStep (at.Walking table bucket walk)
       walking_step table bucket walk known =
           subst (λ w. Step env mix c words G (locked_walk_plan w) (FindNext (walk_taken table bucket (locked_walk_after w (old_of words (locked_walk_plan w))).0 (locked_walk_after w (old_of words (locked_walk_plan w))).1, Go)))
-            (sym same)
-            (let r = locked_walk_after here (old_of words (locked_walk_plan here)) in
-             step-map env mix c words G (locked_walk_plan here)
-              (WalkKnows env mix c port no_node nothing_own within bucket.word r)
-              (FindNext (walk_taken table bucket r.0 r.1, Go))
-              (λ M' G' w k. walk_next table bucket r M' G' known.fits.0 known.fits.1 k)
-              (walk_step env mix c port no_node nothing_own within words G all whole known.own bucket.word walk.before walk.length walk.at known.lock))
+          (sym same)
+          (let r = locked_walk_after here (old_of words (locked_walk_plan here)) in
+          step-map env mix c words G (locked_walk_plan here)
+          (WalkKnows env mix c port no_node nothing_own within bucket.word r)
+          (FindNext (walk_taken table bucket r.0 r.1, Go))
+          (λ M' G' w k. walk_next table bucket r M' G' known.fits.0 known.fits.1 k)
+          (walk_step env mix c port no_node nothing_own within words G all whole known.own bucket.word walk.before walk.length walk.at known.lock))
         where
           here : LockedWalkModel
           here = record { geometry = env.geometry; key = port; before = walk.before; length = walk.length; at = walk.at }
+
           same : walk ≡ here
           same = rw known.fits.2 (rw known.fits.3 refl)
 
@@ -174,18 +177,18 @@ module _ (env : Env) (mix : ℕ → ℕ → ℕ → ℕ) (c : ℕ) (port : ℕ) 
       find_step at.CurrentTable known =
           let op = Load (place_of env.geometry CurrentTable) in
           loads op (at.Shape (table_of (old_of words op)), Go) refl
-            (record { own = known.own; lock = known.lock; fits = ap table_of whole.tables.current_word })
+          (record { own = known.own; lock = known.lock; fits = ap table_of whole.tables.current_word })
       find_step (at.Shape table) known =
           let op = Load (place_of env.geometry (Slot table ShapeWord)) in
           loads op (at.Seed table (old_of words op), Go) refl
-            (record { own = known.own; lock = known.lock; fits = (known.fits, ap (λ t. M (Slot t ShapeWord)) known.fits ∙ whole.tables.shape_is) })
+          (record { own = known.own; lock = known.lock; fits = (known.fits, ap (λ t. M (Slot t ShapeWord)) known.fits ∙ whole.tables.shape_is) })
       find_step (at.Seed table shape) known =
           let op = Load (place_of env.geometry (Slot table SeedWord)) in
           let seed : old_of words op ≡ env.config.seed = ap (λ t. M (Slot t SeedWord)) known.fits.0 ∙ whole.tables.seed_is in
           let here : bucket_place env.geometry shape (bucket_of mix port shape (old_of words op)) ≡ place
-                = ap (λ s. bucket_place env.geometry s (bucket_of mix port s (old_of words op))) known.fits.1 ∙ ap (λ s. bucket_place env.geometry (shape_word env mix) (bucket_of mix port (shape_word env mix) s)) seed in
+          = ap (λ s. bucket_place env.geometry s (bucket_of mix port s (old_of words op))) known.fits.1 ∙ ap (λ s. bucket_place env.geometry (shape_word env mix) (bucket_of mix port (shape_word env mix) s)) seed in
           loads op (at.Locking table (lock_of mix env port shape (old_of words op)), Go) refl
-            (record { own = known.own; lock = known.lock; fits = (known.fits.0, here, tt) })
+          (record { own = known.own; lock = known.lock; fits = (known.fits.0, here, tt) })
       find_step (at.Locking table lock) known = locking_step table lock.place lock.at known.fits.1 known
       find_step (at.Walking table bucket walk) known = walking_step table bucket walk known
       find_step (at.Future table bucket) known =
@@ -193,22 +196,22 @@ module _ (env : Env) (mix : ℕ → ℕ → ℕ → ℕ) (c : ℕ) (port : ℕ) 
           let none : old_of words op ≡ 0 = ap (λ t. M (Slot t FutureWord)) known.fits.0 ∙ whole.tables.future_is in
           let next : unlocking bucket (next_table (slot_of (old_of words op))) ≡ unlocking bucket (Answer Missing) = ap (λ f. unlocking bucket (next_table (slot_of f))) none in
           loads op (unlocking bucket (next_table (slot_of (old_of words op))), Go) refl
-            (rw next (record { own = known.own; lock = (known.lock.0, (known.lock.1.0.0, tt)); fits = known.fits.1 }))
+          (rw next (record { own = known.own; lock = (known.lock.0, (known.lock.1.0.0, tt)); fits = known.fits.1 }))
       find_step (at.FirstOwner bucket node) known =
           let op = Load (place_of env.geometry (Node node OwnerWord)) in
           let found = known.lock.1.0 in
           loads op (at.ListLink bucket node (owner_of (old_of words op)), Go) refl
-            (record { own = known.own; lock = (known.lock.0, (found, ((found.0, found.1, refl), tt))); fits = known.fits })
+          (record { own = known.own; lock = (known.lock.0, (found, ((found.0, found.1, refl), tt))); fits = known.fits })
       find_step (at.ListLink bucket node owner) known =
           let op = Load (place_of env.geometry (Node node ListLink)) in
           let found = known.lock.1.0 in
           let none : old_of words op ≡ 0 = (whole.owned.first_at node j (whole.owned.member j node found.1)).no_list in
           let next : list_followed bucket owner (node_of env.geometry.nodes (old_of words op)) ≡ unlocking bucket (Answer (FoundReply owner))
-                = ap (λ l. list_followed bucket owner (node_of env.geometry.nodes l)) none in
+          = ap (λ l. list_followed bucket owner (node_of env.geometry.nodes l)) none in
           loads op (list_followed bucket owner (node_of env.geometry.nodes (old_of words op)), Go) refl
-            (rw next (record { own = known.own; lock = (known.lock.0, (found.0, tt)); fits = known.fits }))
+          (rw next (record { own = known.own; lock = (known.lock.0, (found.0, tt)); fits = known.fits }))
       find_step (at.LaterOwner bucket node owner) known = absurd known.fits
       find_step (at.Unlocking unlock (Table table)) known = absurd known.fits
       find_step (at.Unlocking unlock (Answer reply)) known =
           subst (λ p. Step env mix c words G (Store p unlock.word) (FindNext (at.Unlocking unlock (Answer reply), Done reply)))
-            (sym known.fits) (unlock_step unlock.word known.own known.lock)
+          (sym known.fits) (unlock_step unlock.word known.own known.lock)

@@ -1,15 +1,14 @@
 -- What a step leaves of the whole where it writes elsewhere.
-use Rattle.std.proofs.Common.{◌≡◌, ◌≢◌, ◌↔◌, ℕ, ◌+◌, ◌*◌, ◌/◌, ◌%◌, ◌<◌, List, [], ◌∷◌, Option, Some, None, refl, sym, ◌∙◌, ap, arith}
-use Rattle.std.specs.Int.{bit_at}
+use Rattle.std.proofs.Common.{◌≡◌, ◌≢◌, ℕ, ◌/◌, ◌<◌, refl, sym, ◌∙◌, ap, arith}
 use Rattle.rht_words.specs.declared.env.Env.{Env}
-use Rattle.rht_words.specs.Places.{Address, CurrentTable, PortCount, Slot, SlotWord, ShapeWord, SeedWord, FutureWord, NodeMap, Node, NodeWord, ChainLink, KeyWord, OwnerWord, ListLink, PageWord, map_words, IsAddress}
+use Rattle.rht_words.specs.Places.{Address, CurrentTable, Slot, SlotWord, ShapeWord, SeedWord, FutureWord, NodeMap, Node, ListLink, PageWord, map_words}
 use Rattle.rht_words.proofs.Memory.{Memory, IsWrite}
-use Rattle.rht_words.proofs.Members.{In, count_below, count_below-same}
+use Rattle.rht_words.proofs.Members.{In}
 use Rattle.rht_words.proofs.ChainLemmas.{IsSegment-members}
 use Rattle.rht_words.specs.Links.{head_of, marker_of}
-use Rattle.rht_core.proofs.Ghosts.{Bucket, Owner, Free, Held, First, Ghost, lock_bit, is_first}
-use Rattle.rht_core.proofs.Wholes.{chain_of, key_of, shape_word, home, place_at, OneTable, BucketRight, LockedRight, ChainedRight, IsFirstAt, IsBoundTo, Owned, ArenaRight, Whole, firsts, raisers}
-use Rattle.rht_core.proofs.Knowledge.{Rely, HasNode}
+use Rattle.rht_core.proofs.Ghosts.{Bucket, First, Ghost}
+use Rattle.rht_core.proofs.Wholes.{chain_of, key_of, home, place_at, OneTable, BucketRight, ChainedRight, Owned, ArenaRight, Whole}
+use Rattle.rht_core.proofs.Knowledge.{Rely}
 
 module _ (env : Env) (mix : ℕ → ℕ → ℕ → ℕ) where
   -- what everybody but this caller can count on

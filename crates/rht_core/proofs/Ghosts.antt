@@ -1,7 +1,7 @@
 -- What the words of a run don't say, or say only to who follows every link: who holds each lock, node,
 -- page and slot, which nodes each bucket has, and which nodes each port is bound to.
 -- It stands in no definition of a run. The invariant says that there is such a ghost after each event.
-use Rattle.std.proofs.Common.{◌≡◌, ◌≢◌, ℕ, List, [], ◌∷◌, refl, sym, ◌∙◌, inl, inr, ◌⊎◌, Bool, true, false, cond, Option, Some, None, ◌==◌}
+use Rattle.std.proofs.Common.{◌≡◌, ◌≢◌, ℕ, List, refl, inl, inr, Bool, true, false, cond, Option, Some, None, ◌==◌}
 use Rattle.std.proofs.lemmas.Bool.{cases_eq, eqb-true, eq-eqb}
 
 -- ---- functions changed at one place

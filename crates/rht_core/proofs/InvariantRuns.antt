@@ -1,25 +1,22 @@
 -- The invariant holds at opening, and so after each event of each run.
-use Rattle.std.proofs.Common.{◌≡◌, ◌≢◌, ◌↔◌, ℕ, ◌+◌, ◌*◌, ◌/◌, ◌%◌, ◌<◌, List, [], ◌∷◌, ◌++◌, length, get_or, replicate, Option, Some, None, Bool, true, false, refl, sym, ◌∙◌, ap, subst, inl, inr, ◌⊎◌, arith}
+use Rattle.std.proofs.Common.{◌≡◌, ℕ, ◌/◌, List, [], replicate, None, false, refl, sym, ◌∙◌, subst, inl, inr, arith}
 use Rattle.std.proofs.lemmas.Bool.{cases_lt}
 use Rattle.std.proofs.lemmas.List.{get_or-replicate, get_or_past, length-replicate}
 use Rattle.rht_words.specs.declared.env.Env.{Env}
-use Rattle.rht_words.specs.Places.{Address, CurrentTable, PortCount, Slot, ShapeWord, SeedWord, FutureWord, NodeMap, PageWord, IsAddress, map_words}
+use Rattle.rht_words.specs.Places.{Address, CurrentTable, PortCount, Slot, ShapeWord, SeedWord, FutureWord, NodeMap, PageWord, IsAddress}
 use Rattle.rht_words.specs.Opening.{opening_word, opening_words, first_shape}
 use Rattle.rht_words.proofs.OpeningLaws.{stand_in_place, opens_free}
-use Rattle.rht_words.proofs.Memory.{Memory}
-use Rattle.rht_words.proofs.Members.{count_below, count_below-none}
+use Rattle.rht_words.proofs.Members.{count_below-none}
 use Rattle.rht_core.specs.declared.event.Event.{Event}
 use Rattle.rht_core.specs.declared.local.Local.{Local}
 use Rattle.rht_core.specs.declared.local.Local.TheVariants.{Idle}
-use Rattle.rht_core.specs.Runs.{Core, World, core_step, local_of, local_in, opening, opening_core, run_of, world_step, IsSound}
+use Rattle.rht_core.specs.Runs.{Core, World, local_in, opening_core, run_of, IsSound}
 use Rattle.rht_core.proofs.Worlds.{induct_by_last, run_of-push}
 use Rattle.rht_core.proofs.RangesInRuns.{runs-in, IsInRange-stays}
-use Rattle.rht_core.proofs.Ghosts.{Bucket, Owner, Free, Held, First, Ghost, Table, PageFree, SlotFree, is_first}
-use Rattle.rht_core.proofs.Wholes.{home, place_at, Whole, firsts, raisers}
-use Rattle.rht_core.proofs.Knowledge.{AllMean}
+use Rattle.rht_core.proofs.Ghosts.{Bucket, Free, Ghost, PageFree, SlotFree, is_first}
+use Rattle.rht_core.proofs.Wholes.{Whole}
 use Rattle.rht_core.proofs.Steps.{mem}
-use Rattle.rht_core.proofs.NodeSteps.{nothing_held}
-use Rattle.rht_core.proofs.Invariants.{Inv, Kept, kept, CallerKnows}
+use Rattle.rht_core.proofs.Invariants.{Inv, kept}
 
 -- a bucket without nodes that nobody has locked
 abbrev pub empty_bucket : Bucket
@@ -68,9 +65,11 @@ module _ (env : Env) (mix : ℕ → ℕ → ℕ → ℕ) where
       bits = λ n l. let free = (opens_free env).nodes n in
           rw (opened (NodeMap (n / 64)) (omega arith)) ((λ set. refl), (λ e. free.1 l));
     };
-    counted = opened PortCount tt ∙ sym (omega (arith,
-        count_below-none (λ n. is_first Free) env.geometry.nodes (λ n l. refl),
-        count_below-none (λ c. false) env.geometry.callers (λ c l. refl)));
+    counted = opened PortCount tt ∙ sym (omega (
+      arith,
+      count_below-none (λ n. is_first Free) env.geometry.nodes (λ n l. refl),
+      count_below-none (λ c. false) env.geometry.callers (λ c l. refl),
+    ));
   }
 
   module _ (L : Type 0) where
@@ -78,8 +77,9 @@ module _ (env : Env) (mix : ℕ → ℕ → ℕ → ℕ) where
     idle_at_opening c =
         let idle : Local L = Idle in
         elim (cases_lt c env.geometry.callers) [
-          inl l ↦ get_or-replicate env.geometry.callers c idle idle l
-        | inr past ↦ get_or_past (replicate env.geometry.callers idle) c idle (rw (length-replicate env.geometry.callers idle) past) ]
+          | inl l ↦ get_or-replicate env.geometry.callers c idle idle l
+          | inr past ↦ get_or_past (replicate env.geometry.callers idle) c idle (rw (length-replicate env.geometry.callers idle) past)
+        ]
 
     opening_inv : Inv env mix L (opening_core env) (opening_ghost env)
     opening_inv = record {
@@ -101,6 +101,6 @@ module _ (env : Env) (mix : ℕ → ℕ → ℕ → ℕ) where
     has_inv events = induct_by_last (λ es. HasInv (run_of mix env es).core)
         (record { ghost = opening_ghost env; inv = opening_inv })
         (λ es event has.
-            let k = kept env mix L (run_of mix env es).core has.ghost event (sound_in es) has.inv in
-            subst (λ (w : World L). HasInv w.core) (sym (run_of-push L mix env es event)) (record { ghost = k.ghost; inv = k.inv }))
+        let k = kept env mix L (run_of mix env es).core has.ghost event (sound_in es) has.inv in
+        subst (λ (w : World L). HasInv w.core) (sym (run_of-push L mix env es event)) (record { ghost = k.ghost; inv = k.inv }))
         events

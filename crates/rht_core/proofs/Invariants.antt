@@ -1,8 +1,8 @@
 -- The invariant of every run: there is a ghost of which the whole is true, and each caller knows what its state says.
 -- It holds at opening. A step of a caller keeps the whole and leads to what that caller's next state says; and since nobody's
 -- rights are touched by others, all others still know what they knew.
-use Rattle.std.proofs.Common.{◌≡◌, ◌≢◌, ◌↔◌, ℕ, ◌+◌, ◌-◌, ◌*◌, ◌/◌, ◌%◌, ◌<◌, ◌≤◌, ◌==◌, List, [], ◌∷◌, length, get_or, set, Option, Some, None, Bool, true, false, cond, refl, sym, ◌∙◌, ap, subst, min, inl, inr, ◌⊎◌, nat_lt, ◌&&◌, arith}
-use Rattle.std.proofs.lemmas.Bool.{cases_eq, ltb-true}
+use Rattle.std.proofs.Common.{◌≡◌, ◌≢◌, ℕ, ◌*◌, ◌<◌, List, length, set, Option, Some, None, true, refl, sym, subst, inl, inr, ◌⊎◌, arith}
+use Rattle.std.proofs.lemmas.Bool.{cases_eq}
 use Rattle.std.proofs.lemmas.List.{get_or-set_same, get_or-set_other}
 use Rattle.rht_words.specs.declared.env.Env.{Env}
 use Rattle.rht_words.specs.declared.op.Op.{Op}
@@ -10,9 +10,9 @@ use Rattle.rht_words.specs.declared.machine.Next.{Next}
 use Rattle.rht_words.specs.declared.machine.Next.TheVariants.{Go, Done}
 use Rattle.rht_words.specs.declared.config.Kind.{Kind}
 use Rattle.rht_words.specs.declared.config.Kind.TheVariants.{Single, Listed}
-use Rattle.rht_words.specs.Operations.{op_place, old_of, word_after, applied}
-use Rattle.rht_words.specs.Places.{Address, EnrolledCallers, words_in, word_at}
-use Rattle.rht_words.proofs.Memory.{Memory, IsWrite, is_write}
+use Rattle.rht_words.specs.Operations.{old_of, word_after, applied}
+use Rattle.rht_words.specs.Places.{EnrolledCallers, words_in, word_at}
+use Rattle.rht_words.proofs.Memory.{Memory, is_write}
 use Rattle.rht_model.specs.declared.history.Call.{Call}
 use Rattle.rht_model.specs.declared.history.Call.TheVariants as calls
 use Rattle.rht_model.specs.declared.history.Reply.{Reply}
@@ -27,12 +27,11 @@ use Rattle.rht_core.specs.declared.event.Event.TheVariants.{Enroll, Begin, Step 
 use Rattle.rht_core.specs.declared.local.Local.{Local}
 use Rattle.rht_core.specs.declared.local.Local.TheVariants.{Idle, Finding, Binding}
 use Rattle.rht_core.specs.Locals.{is_idle, machine_of, binding_of, plan_of, found_next, bound_next, local_after}
-use Rattle.rht_core.specs.Runs.{Core, core_step, local_of, local_in, beginning, with_machine, begun, planned, performed, with_step, enrolling, enrolled_after, IsSound}
-use Rattle.rht_core.proofs.Worlds.{CanBegin, beginning-some, CanStep, planned-some}
+use Rattle.rht_core.specs.Runs.{Core, core_step, local_of, local_in, beginning, planned, enrolling, IsSound}
+use Rattle.rht_core.proofs.Worlds.{beginning-some, planned-some}
 use Rattle.rht_core.proofs.Ghosts.{Ghost}
 use Rattle.rht_core.proofs.Wholes.{home, Whole}
-use Rattle.rht_core.proofs.Knowledge.{Fact, AllMean, AllMean-rely, Rely}
-use Rattle.rht_core.proofs.Frames.{Others, Made}
+use Rattle.rht_core.proofs.Knowledge.{AllMean, AllMean-rely, Rely}
 use Rattle.rht_core.proofs.QuietMoves.{aside}
 use Rattle.rht_core.proofs.Steps.{Move, mem, Step, step-map, ghost_after}
 use Rattle.rht_core.proofs.NodeSteps.{nothing_held}
@@ -54,16 +53,22 @@ module _ (env : Env) (mix : ℕ → ℕ → ℕ → ℕ) where
     -- others leave what a caller knows
     pub CallerKnows-rely : (c : ℕ) (local : Local L) (M M' : Memory) (G G' : Ghost) → Whole env mix M G → Rely env mix c M G M' G' → CallerKnows c local M G → CallerKnows c local M' G'
     CallerKnows-rely c Idle M M' G G' whole rely known = AllMean-rely env mix c M M' G G' whole.owned.member rely nothing_held known
-    CallerKnows-rely c (Finding m) M M' G G' whole rely known = (known.0, record {
-      own = AllMean-rely env mix c M M' G G' whole.owned.member rely no_node known.1.own;
-      lock = AllMean-rely env mix c M M' G G' whole.owned.member rely (find_lock env mix c m.port m.at) known.1.lock;
-      fits = known.1.fits;
-    })
-    CallerKnows-rely c (Binding m) M M' G G' whole rely known = (known.0, record {
-      own = AllMean-rely env mix c M M' G G' whole.owned.member rely (bind_own env mix c m.port m.owner m.at) known.1.own;
-      lock = AllMean-rely env mix c M M' G G' whole.owned.member rely (bind_lock env mix c m.port m.owner m.at) known.1.lock;
-      fits = known.1.fits;
-    })
+    CallerKnows-rely c (Finding m) M M' G G' whole rely known = (
+      known.0,
+      record {
+        own = AllMean-rely env mix c M M' G G' whole.owned.member rely no_node known.1.own;
+        lock = AllMean-rely env mix c M M' G G' whole.owned.member rely (find_lock env mix c m.port m.at) known.1.lock;
+        fits = known.1.fits;
+      },
+    )
+    CallerKnows-rely c (Binding m) M M' G G' whole rely known = (
+      known.0,
+      record {
+        own = AllMean-rely env mix c M M' G G' whole.owned.member rely (bind_own env mix c m.port m.owner m.at) known.1.own;
+        lock = AllMean-rely env mix c M M' G G' whole.owned.member rely (bind_lock env mix c m.port m.owner m.at) known.1.lock;
+        fits = known.1.fits;
+      },
+    )
 
     rw_machine : (c : ℕ) (machine : Local L) (M : Memory) (G : Ghost) (first : Local L) → machine ≡ first → CallerKnows c first M G → CallerKnows c machine M G
     rw_machine c machine M G first same known = rw same known
@@ -91,18 +96,18 @@ module _ (env : Env) (mix : ℕ → ℕ → ℕ → ℕ) where
         let here : find_plan m ≡ op = (cc) in
         let r = find_at.after_at mix m.env m.port m.at (old_of words (find_plan m)) in
         subst (λ o. Step env mix c words G o (CallerKnows c (local_after mix (Finding m) (old_of words o)).0)) here
-          (step-map env mix c words G (find_plan m) (FindNext env mix c m.port r) (CallerKnows c (found_next (record m { at = r.0 }, r.1)).0)
-            (λ M' G' w k. found_knows c m r M' G' known.0 k)
-            (subst (λ e. Step env mix c words G (find_at.plan_at e m.at) (FindNext env mix c m.port (find_at.after_at mix e m.port m.at (old_of words (find_at.plan_at e m.at))))) (sym known.0)
-              (find_step env mix c m.port (home-within m.port) words G all whole m.at known.1)))
+        (step-map env mix c words G (find_plan m) (FindNext env mix c m.port r) (CallerKnows c (found_next (record m { at = r.0 }, r.1)).0)
+        (λ M' G' w k. found_knows c m r M' G' known.0 k)
+        (subst (λ e. Step env mix c words G (find_at.plan_at e m.at) (FindNext env mix c m.port (find_at.after_at mix e m.port m.at (old_of words (find_at.plan_at e m.at))))) (sym known.0)
+        (find_step env mix c m.port (home-within m.port) words G all whole m.at known.1)))
     caller_step c (Binding m) op words G all whole low plans known =
         let here : bind_plan m ≡ op = (cc) in
         let r = bind_at.after_at mix m.env m.port m.at (old_of words (bind_plan m)) in
         subst (λ o. Step env mix c words G o (CallerKnows c (local_after mix (Binding m) (old_of words o)).0)) here
-          (step-map env mix c words G (bind_plan m) (BindNext env mix c m.port m.owner r) (CallerKnows c (bound_next (record m { at = r.0 }, r.1)).0)
-            (λ M' G' w k. bound_knows c m r M' G' known.0 k)
-            (subst (λ e. Step env mix c words G (bind_at.plan_at e m.port m.owner m.at) (BindNext env mix c m.port m.owner (bind_at.after_at mix e m.port m.at (old_of words (bind_at.plan_at e m.port m.owner m.at))))) (sym known.0)
-              (bind_step env mix c m.port m.owner (home-within m.port) words G all whole low m.at known.1)))
+        (step-map env mix c words G (bind_plan m) (BindNext env mix c m.port m.owner r) (CallerKnows c (bound_next (record m { at = r.0 }, r.1)).0)
+        (λ M' G' w k. bound_knows c m r M' G' known.0 k)
+        (subst (λ e. Step env mix c words G (bind_at.plan_at e m.port m.owner m.at) (BindNext env mix c m.port m.owner (bind_at.after_at mix e m.port m.at (old_of words (bind_at.plan_at e m.port m.owner m.at))))) (sym known.0)
+        (bind_step env mix c m.port m.owner (home-within m.port) words G all whole low m.at known.1)))
 
     -- ---- one event
 
@@ -120,6 +125,7 @@ module _ (env : Env) (mix : ℕ → ℕ → ℕ → ℕ) where
       where
         first : CallerKnows c (Binding (bind_new env c port owner once)) M G
         first = (refl, record { own = (known.0, (known.1.0, tt)); lock = (known.1.1.0, tt); fits = (refl, (let within = env.geometry.within in omega (arith, within.nodes_within.0))) })
+
         go : (kind : Kind) → binding_of env c port owner once kind ≡ Some machine → CallerKnows c machine M G
         go Single e = rw_machine c machine M G (Binding (bind_new env c port owner once)) (cc) first
         go Listed e = absurd (cc)
@@ -162,8 +168,9 @@ module _ (env : Env) (mix : ℕ → ℕ → ℕ → ℕ) where
             same_env = inv.same_env;
             whole = inv.whole;
             each = λ k. elim (cases_eq k c) [
-                inl e ↦ rw e (rw (local-same core.locals c machine low) knows)
-              | inr ne ↦ rw (local-other core.locals c k machine ne) (inv.each k) ];
+              | inl e ↦ rw e (rw (local-same core.locals c machine low) knows)
+              | inr ne ↦ rw (local-other core.locals c k machine ne) (inv.each k)
+            ];
           });
           moved = inl refl;
         }
@@ -194,9 +201,10 @@ module _ (env : Env) (mix : ℕ → ℕ → ℕ → ℕ) where
             same_env = inv.same_env;
             whole = step.made.whole;
             each = λ k. elim (cases_eq k c) [
-                inl e ↦ rw e (rw (local-same core.locals c next low) step.knows)
+              | inl e ↦ rw e (rw (local-same core.locals c next low) step.knows)
               | inr ne ↦ rw (local-other core.locals c k next ne)
-                  (CallerKnows-rely k (local_of core k) (mem env mix core.words) (mem env mix (applied core.words op)) G G' inv.whole (step.made.others k ne) (inv.each k)) ];
+                  (CallerKnows-rely k (local_of core k) (mem env mix core.words) (mem env mix (applied core.words op)) G G' inv.whole (step.made.others k ne) (inv.each k))
+            ];
           });
           moved = inr (c, step.move, refl);
         }
@@ -208,7 +216,7 @@ module _ (env : Env) (mix : ℕ → ℕ → ℕ → ℕ) where
         let M' = mem env mix (applied core.words op) in
         let write = is_write env.geometry core.words EnrolledCallers op all tt refl in
         let kept = aside env mix EnrolledCallers (word_after (word_at env.geometry core.words EnrolledCallers) op) (mem env mix core.words) M' G inv.whole write
-              (λ e. cc) (λ s e. cc) (λ j e. cc) (λ n w e. cc) (λ i e. cc) (λ e. cc) in
+        (λ e. cc) (λ s e. cc) (λ j e. cc) (λ n w e. cc) (λ i e. cc) (λ e. cc) in
         record {
           ghost = G;
           inv = record {

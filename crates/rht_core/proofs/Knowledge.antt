@@ -1,13 +1,13 @@
 -- What a caller knows in each state, as facts, and why nobody else's step takes a fact away.
 -- A fact speaks of words and ghosts on which the caller holds the right, or which nobody changes.
-use Rattle.std.proofs.Common.{◌≡◌, ◌≢◌, ℕ, ◌+◌, ◌<◌, List, [], ◌∷◌, ◌++◌, length, Option, Some, None, Bool, refl, sym, ◌∙◌, ap, ◌⊎◌, inl, inr}
+use Rattle.std.proofs.Common.{◌≡◌, ◌≢◌, ℕ, ◌<◌, List, [], ◌∷◌, ◌++◌, Option, Some, None, Bool, refl, sym, ◌∙◌, ap, inl, inr}
 use Rattle.rht_words.specs.declared.env.Env.{Env}
 use Rattle.rht_words.specs.Ports.{owner_of}
-use Rattle.rht_words.specs.Places.{Address, Node, NodeWord, ChainLink, KeyWord, OwnerWord, ListLink}
+use Rattle.rht_words.specs.Places.{Node, NodeWord, KeyWord, OwnerWord}
 use Rattle.rht_words.proofs.Memory.{Memory}
 use Rattle.rht_words.proofs.Members.{In, in-front}
-use Rattle.rht_core.proofs.Ghosts.{Bucket, Owner, Held, First, Ghost}
-use Rattle.rht_core.proofs.Wholes.{chain_of, key_of, shape_word, home, place_at}
+use Rattle.rht_core.proofs.Ghosts.{Bucket, Held, First, Ghost}
+use Rattle.rht_core.proofs.Wholes.{key_of, home}
 
 -- none of these nodes has the key
 abbrev pub NoKey : Memory → ℕ → List ℕ → Type 0
@@ -141,9 +141,10 @@ module _ (env : Env) (mix : ℕ → ℕ → ℕ → ℕ) where
         (HoldsLock-rely c M M' G G' port word rely means.0, stands_stay port word node before means.0 means.1)
     Means-rely (Differs port word node) means =
         (HoldsLock-rely c M M' G G' port word rely means.0, in_stays port word node means.0 means.1, λ same. means.2 (sym (words_stay port node means.1).0 ∙ same))
-    Means-rely (Missed port word) means =
-        (HoldsLock-rely c M M' G G' port word rely means.0,
-         rw (nodes_stay port word means.0) (NoKey-rely c M M' G G' port (home env mix port) (bucket_for G port).nodes rely (members (home env mix port)) means.1))
+    Means-rely (Missed port word) means = (
+      HoldsLock-rely c M M' G G' port word rely means.0,
+      rw (nodes_stay port word means.0) (NoKey-rely c M M' G G' port (home env mix port) (bucket_for G port).nodes rely (members (home env mix port)) means.1),
+    )
     Means-rely (Found port word node) means =
         (HoldsLock-rely c M M' G G' port word rely means.0, in_stays port word node means.0 means.1, (words_stay port node means.1).0 ∙ means.2)
     Means-rely (OwnerIs port word node owner) means =

@@ -1,19 +1,18 @@
 -- The store that makes a node the first of its bucket's chain, and unlocks the bucket. From it on the port is bound.
-use Rattle.std.proofs.Common.{◌≡◌, ◌≢◌, ◌↔◌, ℕ, ◌+◌, ◌*◌, ◌/◌, ◌%◌, ◌^◌, ◌<◌, List, [], ◌∷◌, Option, Some, None, Bool, true, false, refl, sym, ◌∙◌, ap, inl, inr, ◌⊎◌, subst, arith}
+use Rattle.std.proofs.Common.{◌≡◌, ◌≢◌, ◌↔◌, ℕ, ◌+◌, ◌*◌, ◌/◌, ◌%◌, ◌<◌, List, [], ◌∷◌, Option, Some, None, true, false, refl, sym, ◌∙◌, ap, inl, inr, subst, arith}
 use Rattle.std.specs.Int.{bit_at}
-use Rattle.std.proofs.lemmas.Bool.{cases_eq}
 use Rattle.std.proofs.lemmas.Bool.Decides.{nat_tests}
 use Rattle.rht_words.specs.declared.env.Env.{Env}
 use Rattle.rht_words.specs.Links.{link_of, head_of, marker_of}
 use Rattle.rht_words.specs.Chains.{IsSegment}
-use Rattle.rht_words.specs.Places.{Address, CurrentTable, PortCount, Slot, SlotWord, NodeMap, Node, NodeWord, ChainLink, KeyWord, OwnerWord, ListLink, PageWord, map_words, IsAddress}
+use Rattle.rht_words.specs.Places.{PortCount, NodeMap, Node, NodeWord, ChainLink, KeyWord, OwnerWord, ListLink, PageWord}
 use Rattle.rht_words.proofs.Memory.{Memory, IsWrite}
-use Rattle.rht_words.proofs.Members.{In, NotIn, Distinct, not_in_from, count_below, count_below-more}
+use Rattle.rht_words.proofs.Members.{In, NotIn, not_in_from, count_below-more}
 use Rattle.rht_words.proofs.ChainLemmas.{IsSegment-members}
-use Rattle.rht_core.proofs.Ghosts.{put, put-same, put-other, put-all, Bucket, Owner, Free, Held, First, Ghost, lock_bit, is_first}
-use Rattle.rht_core.proofs.Wholes.{chain_of, key_of, home, place_at, OneTable, BucketRight, LockedRight, ChainedRight, IsFirstAt, IsBoundTo, Owned, ArenaRight, IsBuilt, Whole, firsts, raisers}
-use Rattle.rht_core.proofs.Knowledge.{Rely, HasNode, NoKey, HoldsLock}
-use Rattle.rht_core.proofs.Frames.{Others, Made, OneTable-write, BucketRight-frame}
+use Rattle.rht_core.proofs.Ghosts.{put, put-same, put-other, put-all, Bucket, Free, Held, First, Ghost, is_first}
+use Rattle.rht_core.proofs.Wholes.{chain_of, key_of, home, place_at, BucketRight, IsFirstAt, IsBoundTo, Owned, ArenaRight, IsBuilt, Whole, firsts, raisers}
+use Rattle.rht_core.proofs.Knowledge.{HasNode, NoKey}
+use Rattle.rht_core.proofs.Frames.{Made, OneTable-write, BucketRight-frame}
 use Rattle.rht_core.proofs.QuietMoves.{held_not_first, held_by_one}
 
 module _ (env : Env) (mix : ℕ → ℕ → ℕ → ℕ) where
@@ -89,8 +88,8 @@ module _ (env : Env) (mix : ℕ → ℕ → ℕ → ℕ) where
     linked_right =
         let old = whole.buckets here ready.among in
         let rest : IsSegment (chain_of M') (head_of (place_at env mix here) (G.bucket here).plain) (G.bucket here).nodes (marker_of (place_at env mix here))
-              = IsSegment-members (chain_of M) (chain_of M') (head_of (place_at env mix here) (G.bucket here).plain) (G.bucket here).nodes (marker_of (place_at env mix here))
-                (λ m i. first_word m here ChainLink (whole.owned.member here m i)) old.chained.segment in
+        = IsSegment-members (chain_of M) (chain_of M') (head_of (place_at env mix here) (G.bucket here).plain) (G.bucket here).nodes (marker_of (place_at env mix here))
+        (λ m i. first_word m here ChainLink (whole.owned.member here m i)) old.chained.segment in
         let behind : chain_of M' n ≡ head_of (place_at env mix here) (G.bucket here).plain = word_same n ChainLink ready.has.1 ∙ ready.chain in
         record {
           locked = record { word_is = write.same ∙ omega arith; even = omega arith; none_out = old.locked.none_out; none_armed = old.locked.none_armed };
@@ -101,8 +100,9 @@ module _ (env : Env) (mix : ℕ → ℕ → ℕ → ℕ) where
     linked_owned = record {
       member = λ j m. put-all (λ i b. In m b.nodes → put G.node n (First here) m ≡ First i) G.bucket here (linked_bucket (G.bucket here) n)
           (λ i. elim i [
-              inl e ↦ rw e (put-same G.node n (First here))
-            | inr k ↦ let f = whole.owned.member here m k in put-other G.node n (First here) m (first_differs m here f) ∙ f ])
+            | inl e ↦ rw e (put-same G.node n (First here))
+            | inr k ↦ let f = whole.owned.member here m k in put-other G.node n (First here) m (first_differs m here f) ∙ f
+          ])
           (λ i ne k. let f = whole.owned.member i m k in put-other G.node n (First here) m (first_differs m i f) ∙ f) j;
       first_at = λ m j. put-all (λ k o. o ≡ First j → IsFirstAt env mix M' G' k j) G.node n (First here)
           (λ f. let e : here ≡ j = (cc) in rw (sym e) new_first)
@@ -130,6 +130,7 @@ module _ (env : Env) (mix : ℕ → ℕ → ℕ → ℕ) where
           bound_to = ap (put G.bound port (n ∷ [])) (word_same n KeyWord ready.has.1 ∙ ready.key) ∙ put-same G.bound port (n ∷ []);
           no_list = word_same n ListLink ready.has.1 ∙ ready.list;
         }
+
         old_first : (k j : ℕ) → k ≢ n → G.node k ≡ First j → IsFirstAt env mix M' G' k j
         old_first k j ne f =
             let at = whole.owned.first_at k j f in
@@ -148,9 +149,9 @@ module _ (env : Env) (mix : ℕ → ℕ → ℕ → ℕ) where
       built = put-all (λ k o. IsBuilt env mix o) G.node n (First here) tt (λ k ne. whole.arena.built k);
       bits = λ m l. rw (write.others (NodeMap (m / 64)) (omega arith) (λ e. cc))
           (put-all (λ k o. k < env.geometry.nodes → (bit_at (M (NodeMap (k / 64))) (k % 64) ≡ 1) ↔ (o ≡ Free)) G.node n (First here)
-            (λ k. let old = whole.arena.bits n k in
-                ((λ set. let q = sym ready.has.0 ∙ old.0 set in absurd (cc)), (λ e. absurd (cc))))
-            (λ k ne j. whole.arena.bits k j) m l);
+          (λ k. let old = whole.arena.bits n k in
+          ((λ set. let q = sym ready.has.0 ∙ old.0 set in absurd (cc)), (λ e. absurd (cc))))
+          (λ k ne j. whole.arena.bits k j) m l);
     }
 
     one_more_first : firsts env mix G' ≡ firsts env mix G + 1
@@ -168,7 +169,7 @@ module _ (env : Env) (mix : ℕ → ℕ → ℕ → ℕ) where
         buckets = put-all (λ i b. i < 64 * env.geometry.pages → BucketRight env mix M' i b) G.bucket here (linked_bucket (G.bucket here) n)
             (λ l. linked_right)
             (λ i ne l. BucketRight-frame env mix M M' i (G.bucket i) (write.others (PageWord i) l (λ e. ne (cc)))
-                (λ m k. first_word m i ChainLink (whole.owned.member i m k)) (whole.buckets i l));
+            (λ m k. first_word m i ChainLink (whole.owned.member i m k)) (whole.buckets i l));
         owned = linked_owned;
         arena = linked_arena;
         counted = write.others PortCount tt (λ e. cc) ∙ omega (arith, whole.counted, one_more_first, one_less_raiser);

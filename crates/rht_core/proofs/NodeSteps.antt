@@ -1,26 +1,25 @@
 -- The operations that take a node and give it back, and those that write a word of a node which the caller has.
-use Rattle.std.proofs.Common.{◌≡◌, ◌≢◌, ◌↔◌, ℕ, ◌+◌, ◌*◌, ◌/◌, ◌%◌, ◌^◌, ◌<◌, ◌==◌, List, [], ◌∷◌, ◌++◌, length, Option, Some, None, Bool, true, false, cond, refl, sym, ◌∙◌, ap, subst, inl, inr, ◌⊎◌, bit_and, bit_or, nat_lt, arith}
+use Rattle.std.proofs.Common.{◌≡◌, ℕ, ◌+◌, ◌*◌, ◌/◌, ◌%◌, ◌<◌, ◌==◌, List, [], ◌∷◌, length, Option, Some, None, false, cond, refl, sym, ◌∙◌, inl, inr, bit_and, nat_lt, arith}
 use Rattle.std.proofs.lemmas.Bool.{cases_eq, eqb-true, eqb-false, ltb-true}
 use Rattle.std.proofs.lemmas.Nat.Bits.{bit_at-lt}
 use Rattle.std.specs.Int.{bit_at, bit_not, trailing_zeros, w64}
 use Rattle.rht_words.specs.declared.env.Env.{Env}
-use Rattle.rht_words.specs.declared.op.Op.{Op}
 use Rattle.rht_words.specs.declared.op.Op.TheVariants.{Load, Store, And, Or}
 use Rattle.rht_words.specs.declared.machine.Next.{Next}
 use Rattle.rht_words.specs.declared.machine.Next.TheVariants.{Go, Done}
-use Rattle.rht_words.specs.Maps.{bit_of, bits_above, lowest_free, map_bits, IsBitIn}
-use Rattle.rht_words.specs.Operations.{op_place, old_of, word_after, applied}
-use Rattle.rht_words.specs.Places.{Address, Node, NodeWord, ChainLink, KeyWord, OwnerWord, ListLink, NodeMap, map_words, IsAddress, place_of, words_in, word_at}
+use Rattle.rht_words.specs.Maps.{bit_of, bits_above, map_bits}
+use Rattle.rht_words.specs.Operations.{old_of, applied}
+use Rattle.rht_words.specs.Places.{Node, NodeWord, NodeMap, map_words, place_of, words_in}
 use Rattle.rht_words.proofs.LowestBits.{lowest_is_in}
 use Rattle.rht_words.proofs.Memory.{Memory, IsWrite, is_write}
 use Rattle.rht_arena.specs.TakeNode.{TakeNodeModel, take_node_plan, take_node_after, next_word, claim_in, claim_among, IsInRange}
 use Rattle.rht_arena.specs.declared.take_node.TakeNodeAt.{TakeNodeAt}
 use Rattle.rht_arena.specs.declared.take_node.TakeNodeAt.TheVariants as takes
-use Rattle.rht_core.proofs.Ghosts.{put, put-same, put-other, put-all, Bucket, Owner, Free, Held, First, Ghost}
-use Rattle.rht_core.proofs.Wholes.{home, place_at, Whole}
-use Rattle.rht_core.proofs.Knowledge.{Fact, Has, WordIs, Locks, Stands, Differs, Missed, Found, OwnerIs, Raised, OnlyNode, OnlyLock, Means, AllMean, HasNode}
-use Rattle.rht_core.proofs.QuietMoves.{fill, take_node, give_node, retouch, cleared_bit, cleared_other, with_owner}
-use Rattle.rht_core.proofs.Steps.{Move, Reads, TakesNode, GivesNode, by_test, mem, Step, reads, ghost_after}
+use Rattle.rht_core.proofs.Ghosts.{put, put-same, put-all, Free, Held, Ghost}
+use Rattle.rht_core.proofs.Wholes.{Whole}
+use Rattle.rht_core.proofs.Knowledge.{Fact, Has, Raised, OnlyNode, OnlyLock, AllMean, HasNode}
+use Rattle.rht_core.proofs.QuietMoves.{fill, take_node, give_node, retouch, cleared_bit, cleared_other}
+use Rattle.rht_core.proofs.Steps.{Reads, TakesNode, GivesNode, by_test, mem, Step, reads}
 
 -- what is known by a caller that has nothing, and by one that has a node alone
 abbrev pub nothing_held : List Fact
@@ -45,15 +44,15 @@ module _ (env : Env) (mix : ℕ → ℕ → ℕ → ℕ) (c : ℕ) where
   next_knows at index M G means =
       let take : TakeNodeModel = record { geometry = env.geometry; at = at } in
       by_test (λ t. TakeKnows (cond t (record take { at = takes.MapWord (index + 1) }, Go) (take, Done None)) M G) (nat_lt (index + 1) (map_words env.geometry.nodes))
-        (λ t. (means, (refl, ltb-true (index + 1) (map_words env.geometry.nodes) t))) (λ t. means)
+      (λ t. (means, (refl, ltb-true (index + 1) (map_words env.geometry.nodes) t))) (λ t. means)
 
   claim_knows : (at : TakeNodeAt) (index word : ℕ) (M : Memory) (G : Ghost) → AllMean env mix c M G nothing_held → TakeKnows (claim_among (record { geometry = env.geometry; at = at }) index word) M G
   claim_knows at index word M G means =
       let take : TakeNodeModel = record { geometry = env.geometry; at = at } in
       let free = bit_and word (map_bits env.geometry.nodes index) in
       by_test (λ t. (free == 0) ≡ t → TakeKnows (claim_in take index (cond t None (Some (trailing_zeros w64 free)))) M G) (free == 0)
-        (λ t e. next_knows at index M G means)
-        (λ t e. (means, (refl, lowest_is_in env.geometry.nodes index word (let ne = eqb-false free 0 t in omega (arith, ne))))) refl
+      (λ t e. next_knows at index M G means)
+      (λ t e. (means, (refl, lowest_is_in env.geometry.nodes index word (let ne = eqb-false free 0 t in omega (arith, ne))))) refl
 
   module _ (words : List ℕ) (G : Ghost) (all : length words ≡ words_in env.geometry) (whole : Whole env mix (mem env mix words) G) where
     abbrev M : Memory
@@ -61,12 +60,12 @@ module _ (env : Env) (mix : ℕ → ℕ → ℕ → ℕ) (c : ℕ) where
 
     pub take_step : (at : TakeNodeAt) → IsInRange env.geometry at → AllMean env mix c M G nothing_held
         → let take : TakeNodeModel = record { geometry = env.geometry; at = at } in
-          Step env mix c words G (take_node_plan take) (TakeKnows (take_node_after take (old_of words (take_node_plan take))))
+        Step env mix c words G (take_node_plan take) (TakeKnows (take_node_after take (old_of words (take_node_plan take))))
     take_step (takes.MapWord index) range means =
         let op = Load (place_of env.geometry (NodeMap index)) in
         let take : TakeNodeModel = record { geometry = env.geometry; at = takes.MapWord index } in
         reads env mix c words G op (TakeKnows (claim_among take index (old_of words op))) whole refl
-          (claim_knows (takes.MapWord index) index (old_of words op) M G means)
+        (claim_knows (takes.MapWord index) index (old_of words op) M G means)
     take_step (takes.Claim index bit) range means =
         let op = And (place_of env.geometry (NodeMap index)) (bit_not w64 (bit_of bit)) in
         let take : TakeNodeModel = record { geometry = env.geometry; at = takes.Claim index bit } in
@@ -75,24 +74,25 @@ module _ (env : Env) (mix : ℕ → ℕ → ℕ → ℕ) (c : ℕ) where
         let low : index < map_words env.geometry.nodes = omega (arith, range.within, range.below) in
         let write : IsWrite env.geometry M M' (NodeMap index) (bit_and word (bit_not w64 (bit_of bit))) = is_write env.geometry words (NodeMap index) op all low refl in
         by_test (λ t. (bit_at word bit == 1) ≡ t → Step env mix c words G op (TakeKnows (cond t (take, Done (Some (64 * index + bit))) (claim_among take index (bit_and word (bits_above bit)))))) (bit_at word bit == 1)
-          (λ t e. let made = take_node env mix c index bit M M' G whole range (eqb-true (bit_at word bit) 1 t) write in
-              record {
-                move = TakesNode (64 * index + bit);
-                ready = tt;
-                made = made.0;
-                knows = (means.0, (only_this means.1.0, (means.1.1.0, ((put-same G.node (64 * index + bit) (Held c), range.below), tt))));
-              })
-          (λ t e. let clear : bit_at word bit ≡ 0 = (let less = bit_at-lt word bit in let ne = eqb-false (bit_at word bit) 1 t in omega (arith, less, ne)) in
-              let same : (k : ℕ) → k < 64 → bit_at (bit_and word (bit_not w64 (bit_of bit))) k ≡ bit_at word k
-                    = λ k l. elim (cases_eq k bit) [
-                        inl q ↦ rw q (cleared_bit env mix word bit range.within ∙ sym clear)
-                      | inr ne ↦ cleared_other env mix word bit k range.within l ne ] in
-              record {
-                move = Reads;
-                ready = tt;
-                made = retouch env mix c index (bit_and word (bit_not w64 (bit_of bit))) M M' G whole low write same;
-                knows = claim_knows (takes.Claim index bit) index (bit_and word (bits_above bit)) M' G means;
-              }) refl
+        (λ t e. let made = take_node env mix c index bit M M' G whole range (eqb-true (bit_at word bit) 1 t) write in
+        record {
+          move = TakesNode (64 * index + bit);
+          ready = tt;
+          made = made.0;
+          knows = (means.0, (only_this means.1.0, (means.1.1.0, ((put-same G.node (64 * index + bit) (Held c), range.below), tt))));
+        })
+        (λ t e. let clear : bit_at word bit ≡ 0 = (let less = bit_at-lt word bit in let ne = eqb-false (bit_at word bit) 1 t in omega (arith, less, ne)) in
+        let same : (k : ℕ) → k < 64 → bit_at (bit_and word (bit_not w64 (bit_of bit))) k ≡ bit_at word k
+        = λ k l. elim (cases_eq k bit) [
+          | inl q ↦ rw q (cleared_bit env mix word bit range.within ∙ sym clear)
+          | inr ne ↦ cleared_other env mix word bit k range.within l ne
+        ] in
+        record {
+          move = Reads;
+          ready = tt;
+          made = retouch env mix c index (bit_and word (bit_not w64 (bit_of bit))) M M' G whole low write same;
+          knows = claim_knows (takes.Claim index bit) index (bit_and word (bits_above bit)) M' G means;
+        }) refl
       where
         only_this : ((other : ℕ) → G.node other ≡ Held c → ◌≡◌ {A = Option ℕ} None (Some other)) → (other : ℕ) → put G.node (64 * index + bit) (Held c) other ≡ Held c → Some (64 * index + bit) ≡ Some other
         only_this none other = put-all (λ i o. o ≡ Held c → Some (64 * index + bit) ≡ Some i) G.node (64 * index + bit) (Held c)

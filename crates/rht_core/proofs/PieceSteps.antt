@@ -1,19 +1,17 @@
 -- The operations of the pieces: the lock, the walk under it, and the taking of a node.
-use Rattle.std.proofs.Common.{◌≡◌, ◌≢◌, ◌↔◌, ℕ, ◌+◌, ◌*◌, ◌/◌, ◌%◌, ◌^◌, ◌<◌, ◌==◌, List, [], ◌∷◌, ◌++◌, length, Option, Some, None, Bool, true, false, cond, refl, sym, ◌∙◌, ap, subst, inl, inr, ◌⊎◌, bit_and, arith}
+use Rattle.std.proofs.Common.{◌≡◌, ◌≢◌, ℕ, ◌+◌, ◌*◌, ◌%◌, ◌<◌, ◌==◌, List, [], ◌∷◌, ◌++◌, length, Option, Some, None, false, cond, refl, sym, ◌∙◌, subst, inl, arith}
 use Rattle.std.proofs.Math.Seq.{append_snoc}
 use Rattle.std.proofs.lemmas.Bool.{eqb-true, eqb-false, eq-eqb}
-use Rattle.std.specs.Int.{bit_at, bit_not, w64}
 use Rattle.rht_words.specs.declared.env.Env.{Env}
-use Rattle.rht_words.specs.declared.op.Op.{Op}
-use Rattle.rht_words.specs.declared.op.Op.TheVariants.{Load, Exchange, And}
+use Rattle.rht_words.specs.declared.op.Op.TheVariants.{Load, Exchange}
 use Rattle.rht_words.specs.declared.machine.Next.{Next}
 use Rattle.rht_words.specs.declared.machine.Next.TheVariants.{Go, Done}
 use Rattle.rht_words.specs.declared.machine.Start.{Start}
 use Rattle.rht_words.specs.declared.machine.Start.TheVariants as starts
 use Rattle.rht_words.specs.Links.{link_of, node_of, head_of, marker_of}
 use Rattle.rht_words.specs.Chains.{IsSegment}
-use Rattle.rht_words.specs.Operations.{op_place, old_of, word_after, applied}
-use Rattle.rht_words.specs.Places.{Address, Node, NodeWord, ChainLink, KeyWord, OwnerWord, ListLink, PageWord, NodeMap, IsAddress, place_of, words_in, word_at}
+use Rattle.rht_words.specs.Operations.{old_of, word_after, applied}
+use Rattle.rht_words.specs.Places.{Node, ChainLink, KeyWord, PageWord, place_of, words_in, word_at}
 use Rattle.rht_words.proofs.LinksRead.{links_tell_apart}
 use Rattle.rht_words.proofs.Memory.{Memory, IsWrite, is_write}
 use Rattle.rht_words.proofs.Members.{In, in-middle}
@@ -25,11 +23,11 @@ use Rattle.rht_chain.specs.LockedWalk.{LockedWalkModel, locked_walk_new, locked_
 use Rattle.rht_chain.specs.declared.locked_walk.Seen.{Seen}
 use Rattle.rht_chain.specs.declared.locked_walk.LockedWalkAt.{LockedWalkAt}
 use Rattle.rht_chain.specs.declared.locked_walk.LockedWalkAt.TheVariants as walks
-use Rattle.rht_core.proofs.Ghosts.{put, put-same, put-other, put-all, Bucket, Owner, Free, Held, First, Ghost}
+use Rattle.rht_core.proofs.Ghosts.{put, put-same, put-all, Ghost}
 use Rattle.rht_core.proofs.Wholes.{chain_of, key_of, home, place_at, Whole}
-use Rattle.rht_core.proofs.Knowledge.{Fact, Has, WordIs, Locks, Stands, Differs, Missed, Found, OwnerIs, Raised, OnlyNode, OnlyLock, Means, AllMean, HasNode, HoldsLock, NoKey, StandsAt, last_of}
+use Rattle.rht_core.proofs.Knowledge.{Fact, Locks, Stands, Differs, Missed, Found, OnlyLock, AllMean, HoldsLock, NoKey, StandsAt, last_of}
 use Rattle.rht_core.proofs.QuietMoves.{take_lock, with_holder}
-use Rattle.rht_core.proofs.Steps.{Move, Reads, TakesLock, by_test, mem, Step, reads, AllOwn, own-kept, ghost_after}
+use Rattle.rht_core.proofs.Steps.{TakesLock, by_test, mem, Step, reads, AllOwn, own-kept}
 
 -- what is known at a state of the walk, of the bucket of a port whose word was this before it was locked
 abbrev pub walk_facts_at : ℕ → ℕ → Option ℕ → LockedWalkAt → List Fact
@@ -84,6 +82,7 @@ module _ (env : Env) (mix : ℕ → ℕ → ℕ → ℕ) (c : ℕ) (port : ℕ) 
       where
         first : ℕ
         first = head_of place word
+
         go : (nodes : List ℕ) → (G.bucket j).nodes ≡ nodes → IsSegment (chain_of M) first (G.bucket j).nodes (marker_of place)
             → StartKnows word (walk_from env.geometry port first (node_of env.geometry.nodes first)) M G
         go [] e s =
@@ -92,7 +91,7 @@ module _ (env : Env) (mix : ℕ → ℕ → ℕ → ℕ) (c : ℕ) (port : ℕ) 
         go (m ∷ nodes) e s =
             let split = subst (λ l. IsSegment (chain_of M) first l (marker_of place)) e s in
             rw (link_names first m split.0 (rw e (inl refl)))
-              (mine, (knows.0, ((knows.1.0, record { front = []; rear = nodes; split = e; passed = tt; last = refl }), tt)), (refl, refl))
+            (mine, (knows.0, ((knows.1.0, record { front = []; rear = nodes; split = e; passed = tt; last = refl }), tt)), (refl, refl))
 
     NoKey-more : (nodes : List ℕ) (node : ℕ) → NoKey M port nodes → key_of M node ≢ port → NoKey M port (nodes ++ node ∷ [])
     NoKey-more [] node none differs = (differs, tt)
@@ -111,6 +110,7 @@ module _ (env : Env) (mix : ℕ → ℕ → ℕ → ℕ) (c : ℕ) (port : ℕ) 
       where
         front : List ℕ
         front = stands.front
+
         go : (rear : List ℕ) → (G.bucket j).nodes ≡ front ++ node ∷ rear → IsSegment (chain_of M) (head_of place (G.bucket j).plain) (front ++ node ∷ stands.rear) (marker_of place)
             → WalkKnows word (followed walk node (chain_of M node) (node_of walk.geometry.nodes (chain_of M node))) M G
         go [] e s0 =
@@ -123,14 +123,27 @@ module _ (env : Env) (mix : ℕ → ℕ → ℕ → ℕ) (c : ℕ) (port : ℕ) 
             let cut = IsSegment-cut (chain_of M) front node (next ∷ rear) (head_of place (G.bucket j).plain) (marker_of place) s in
             let more : (G.bucket j).nodes ≡ (front ++ node ∷ []) ++ next ∷ rear = e ∙ sym (append_snoc front node (next ∷ rear)) in
             let names : node_of walk.geometry.nodes (chain_of M node) ≡ Some next
-                  = rw is.0 (link_names (chain_of M node) next cut.1.0 (rw more (in-middle next (front ++ node ∷ []) rear))) in
-            rw names (mine, (only.0, ((holds, record {
-                front = front ++ node ∷ [];
-                rear = rear;
-                split = more;
-                passed = NoKey-more front node stands.passed differs;
-                last = last_of-more front node;
-              }), tt)), is)
+            = rw is.0 (link_names (chain_of M node) next cut.1.0 (rw more (in-middle next (front ++ node ∷ []) rear))) in
+            rw names (
+              mine,
+              (
+                only.0,
+                (
+                  (
+                    holds,
+                    record {
+                      front = front ++ node ∷ [];
+                      rear = rear;
+                      split = more;
+                      passed = NoKey-more front node stands.passed differs;
+                      last = last_of-more front node;
+                    },
+                  ),
+                  tt,
+                ),
+              ),
+              is,
+            )
 
   -- ---- the lock
 
@@ -153,36 +166,39 @@ module _ (env : Env) (mix : ℕ → ℕ → ℕ → ℕ) (c : ℕ) (port : ℕ) 
     lock_step locks.Word even only =
         let word = old_of words (Load place) in
         by_test (λ t. Step env mix c words G (Load place) (LockKnows (cond t (record { place = place; at = locks.Word }, Go) (record { place = place; at = locks.Exchange word }, Go)))) (word % 2 == 1)
-          (λ t. reads env mix c words G (Load place) (LockKnows (record { place = place; at = locks.Word }, Go)) whole refl (mine, only, refl, tt))
-          (λ t. reads env mix c words G (Load place) (LockKnows (record { place = place; at = locks.Exchange word }, Go)) whole refl
-              (lock_knows_even locks.Word word (mine, only, refl, tt) t))
+        (λ t. reads env mix c words G (Load place) (LockKnows (record { place = place; at = locks.Word }, Go)) whole refl (mine, only, refl, tt))
+        (λ t. reads env mix c words G (Load place) (LockKnows (record { place = place; at = locks.Exchange word }, Go)) whole refl
+        (lock_knows_even locks.Word word (mine, only, refl, tt) t))
     lock_step (locks.Exchange found) even only =
         let op = Exchange place found (found + 1) in
         let word = old_of words op in
         by_test (λ t. (word == found) ≡ t → Step env mix c words G op (LockKnows (cond t (record { place = place; at = locks.Exchange found }, Done found) (record { place = place; at = locks.Word }, Go)))) (word == found)
-          (λ t e. taken (eqb-true word found t))
-          (λ t e. reads env mix c words G op (LockKnows (record { place = place; at = locks.Word }, Go)) whole
-              (rw t refl) (mine, only, refl, tt)) refl
+        (λ t e. taken (eqb-true word found t))
+        (λ t e. reads env mix c words G op (LockKnows (record { place = place; at = locks.Word }, Go)) whole
+        (rw t refl) (mine, only, refl, tt)) refl
       where
         taken : old_of words (Exchange place found (found + 1)) ≡ found → Step env mix c words G (Exchange place found (found + 1)) (LockKnows (record { place = place; at = locks.Exchange found }, Done found))
         taken same =
             let op = Exchange place found (found + 1) in
             let write : IsWrite env.geometry M (mem env mix (applied words op)) (PageWord j) (found + 1)
-                  = subst (λ v. IsWrite env.geometry M (mem env mix (applied words op)) (PageWord j) v) (written same)
-                      (is_write env.geometry words (PageWord j) op all within refl) in
+            = subst (λ v. IsWrite env.geometry M (mem env mix (applied words op)) (PageWord j) v) (written same)
+            (is_write env.geometry words (PageWord j) op all within refl) in
             let made = take_lock env mix c j found M (mem env mix (applied words op)) G whole within same even write in
             record {
               move = TakesLock j;
               ready = tt;
               made = made.0;
-              knows = (own-kept env mix c M (mem env mix (applied words op)) G (with_holder env mix G j (Some c)) own all_own
-                          (λ n w l. write.others (Node n w) l (λ e. cc)) (λ n. refl) refl mine,
-                       (only_this, ((rw (put-same G.bucket j (record (G.bucket j) { holder = Some c })) refl, rw (put-same G.bucket j (record (G.bucket j) { holder = Some c })) made.1), tt)),
-                       refl);
+              knows = (
+                own-kept env mix c M (mem env mix (applied words op)) G (with_holder env mix G j (Some c)) own all_own
+                    (λ n w l. write.others (Node n w) l (λ e. cc)) (λ n. refl) refl mine,
+                (only_this, ((rw (put-same G.bucket j (record (G.bucket j) { holder = Some c })) refl, rw (put-same G.bucket j (record (G.bucket j) { holder = Some c })) made.1), tt)),
+                refl,
+              );
             }
           where
             written : old_of words (Exchange place found (found + 1)) ≡ found → word_after (word_at env.geometry words (PageWord j)) (Exchange place found (found + 1)) ≡ found + 1
             written s = rw s (rw (eq-eqb found found refl) refl)
+
             only_this : (other : ℕ) → (put G.bucket j (record (G.bucket j) { holder = Some c }) other).holder ≡ Some c → Some j ≡ Some other
             only_this other = put-all (λ i b. b.holder ≡ Some c → Some j ≡ Some i) G.bucket j (record (G.bucket j) { holder = Some c })
                 (λ h. refl) (λ i ne h. let none = only.0 i h in absurd (cc)) other
@@ -191,19 +207,19 @@ module _ (env : Env) (mix : ℕ → ℕ → ℕ → ℕ) (c : ℕ) (port : ℕ) 
 
     pub walk_step : (word : ℕ) (before : Option ℕ) (count : ℕ) (at : LockedWalkAt) → AllMean env mix c M G (OnlyLock (Some j) ∷ walk_facts_at port word before at)
         → let walk : LockedWalkModel = record { geometry = env.geometry; key = port; before = before; length = count; at = at } in
-          Step env mix c words G (locked_walk_plan walk) (WalkKnows word (locked_walk_after walk (old_of words (locked_walk_plan walk))))
+        Step env mix c words G (locked_walk_plan walk) (WalkKnows word (locked_walk_after walk (old_of words (locked_walk_plan walk))))
     walk_step word before count (walks.Key node) knows =
         let op = Load (place_of env.geometry (Node node KeyWord)) in
         let walk : LockedWalkModel = record { geometry = env.geometry; key = port; before = before; length = count; at = walks.Key node } in
         let key = old_of words op in
         let stands = knows.1.0 in
         by_test (λ t. (key == port) ≡ t → Step env mix c words G op (WalkKnows word (cond t (counted walk, Done (found_at (counted walk) node)) (record (counted walk) { at = walks.ChainLink node }, Go)))) (key == port)
-          (λ t e. reads env mix c words G op (WalkKnows word (counted walk, Done (found_at (counted walk) node))) whole refl
-              (mine, (knows.0, ((stands.0, rw stands.1.split (in-middle node stands.1.front stands.1.rear), eqb-true key port t), tt))))
-          (λ t e. reads env mix c words G op (WalkKnows word (record (counted walk) { at = walks.ChainLink node }, Go)) whole refl
-              (mine, (knows.0, (stands, ((stands.0, rw stands.1.split (in-middle node stands.1.front stands.1.rear), eqb-false key port t), tt))), (refl, refl))) refl
+        (λ t e. reads env mix c words G op (WalkKnows word (counted walk, Done (found_at (counted walk) node))) whole refl
+        (mine, (knows.0, ((stands.0, rw stands.1.split (in-middle node stands.1.front stands.1.rear), eqb-true key port t), tt))))
+        (λ t e. reads env mix c words G op (WalkKnows word (record (counted walk) { at = walks.ChainLink node }, Go)) whole refl
+        (mine, (knows.0, (stands, ((stands.0, rw stands.1.split (in-middle node stands.1.front stands.1.rear), eqb-false key port t), tt))), (refl, refl))) refl
     walk_step word before count (walks.ChainLink node) knows =
         let op = Load (place_of env.geometry (Node node ChainLink)) in
         let walk : LockedWalkModel = record { geometry = env.geometry; key = port; before = before; length = count; at = walks.ChainLink node } in
         reads env mix c words G op (WalkKnows word (followed walk node (old_of words op) (node_of env.geometry.nodes (old_of words op)))) whole refl
-          (walk_on M G whole word node walk (refl, refl) mine (knows.0, tt) knows.1.0.0 knows.1.0.1 knows.1.1.0.2)
+        (walk_on M G whole word node walk (refl, refl) mine (knows.0, tt) knows.1.0.0 knows.1.0.1 knows.1.1.0.2)

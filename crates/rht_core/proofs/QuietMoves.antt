@@ -1,19 +1,19 @@
 -- The moves of a bind and a look-up that change nothing that others see: a word of a node that the caller has, the lock of
 -- a bucket, the bit of a node, the count of ports.
-use Rattle.std.proofs.Common.{◌≡◌, ◌≢◌, ◌↔◌, ℕ, ◌+◌, ◌-◌, ◌*◌, ◌/◌, ◌%◌, ◌^◌, ◌<◌, ◌≤◌, List, [], ◌∷◌, Option, Some, None, Bool, true, false, refl, sym, ◌∙◌, ap, inl, inr, ◌⊎◌, bit_and, bit_or, subst, arith}
+use Rattle.std.proofs.Common.{◌≡◌, ◌≢◌, ◌↔◌, ℕ, ◌+◌, ◌*◌, ◌/◌, ◌%◌, ◌^◌, ◌<◌, Option, Some, None, Bool, true, false, refl, sym, ◌∙◌, ap, inl, inr, bit_and, bit_or, subst, arith}
 use Rattle.std.specs.Int.{bit_at, bit_not, w64}
 use Rattle.std.proofs.lemmas.Bool.{cases_eq}
 use Rattle.std.proofs.lemmas.Nat.{one_shl}
 use Rattle.std.proofs.lemmas.Nat.Bits.{bit_at_set_same, bit_at_set_other, bit_at_clear_same, bit_at_clear_other}
 use Rattle.rht_words.specs.declared.env.Env.{Env}
 use Rattle.rht_words.specs.Maps.{bit_of, IsBitIn}
-use Rattle.rht_words.specs.Places.{Address, CurrentTable, PortCount, Slot, SlotWord, NodeMap, Node, NodeWord, ChainLink, KeyWord, OwnerWord, ListLink, PageWord, map_words, IsAddress}
+use Rattle.rht_words.specs.Places.{Address, CurrentTable, PortCount, Slot, SlotWord, NodeMap, Node, NodeWord, ChainLink, KeyWord, OwnerWord, ListLink, PageWord, map_words}
 use Rattle.rht_words.proofs.Memory.{Memory, IsWrite}
-use Rattle.rht_words.proofs.Members.{In, count_below, count_below-same, count_below-more, count_below-most}
-use Rattle.rht_core.proofs.Ghosts.{put, put-same, put-other, put-all, Bucket, Owner, Free, Held, First, Leaving, Behind, Taken, Gone, Ghost, lock_bit, is_first}
-use Rattle.rht_core.proofs.Wholes.{chain_of, key_of, home, place_at, OneTable, BucketRight, LockedRight, ChainedRight, Owned, ArenaRight, IsBuilt, Whole, firsts, raisers}
+use Rattle.rht_words.proofs.Members.{In, count_below-same, count_below-more, count_below-most}
+use Rattle.rht_core.proofs.Ghosts.{put, put-same, put-other, put-all, Owner, Free, Held, First, Leaving, Behind, Taken, Gone, Ghost, lock_bit, is_first}
+use Rattle.rht_core.proofs.Wholes.{chain_of, BucketRight, ArenaRight, IsBuilt, Whole, firsts, raisers}
 use Rattle.rht_core.proofs.Knowledge.{Rely, HasNode}
-use Rattle.rht_core.proofs.Frames.{Others, Made, OneTable-write, BucketRight-frame, ChainedRight-frame, SameFirsts, SameChains, Owned-frame, ArenaRight-frame}
+use Rattle.rht_core.proofs.Frames.{Others, Made, OneTable-write, BucketRight-frame, ChainedRight-frame, SameChains, Owned-frame, ArenaRight-frame}
 
 module _ (env : Env) (mix : ℕ → ℕ → ℕ → ℕ) where
   -- one owner is not another
@@ -29,10 +29,10 @@ module _ (env : Env) (mix : ℕ → ℕ → ℕ → ℕ) where
       → IsWrite env.geometry M M' (Node n w) v → Made env mix d M G M' G
   fill d n w v M M' G whole has write =
       let others_node : (m : ℕ) (u : NodeWord) → m < env.geometry.nodes → m ≢ n → M' (Node m u) ≡ M (Node m u)
-            = λ m u l ne. write.others (Node m u) l (λ e. ne (cc)) in
+      = λ m u l ne. write.others (Node m u) l (λ e. ne (cc)) in
       let first_differs : (m j : ℕ) → G.node m ≡ First j → m ≢ n = λ m j first e. held_not_first (G.node n) d j has.0 (ap G.node (sym e) ∙ first) in
       let first_same : (m j : ℕ) (u : NodeWord) → G.node m ≡ First j → M' (Node m u) ≡ M (Node m u)
-            = λ m j u first. others_node m u (whole.owned.first_at m j first).among (first_differs m j first) in
+      = λ m j u first. others_node m u (whole.owned.first_at m j first).among (first_differs m j first) in
       record {
         whole = record {
           tables = OneTable-write env mix M M' G G (Node n w) v write (λ e. cc) (λ s e. cc) refl refl whole.tables;
@@ -74,12 +74,12 @@ module _ (env : Env) (mix : ℕ → ℕ → ℕ → ℕ) where
   relocked j v holder M M' G whole l is write =
       let links : (n : ℕ) → n < env.geometry.nodes → chain_of M' n ≡ chain_of M n = λ n m. write.others (Node n ChainLink) m (λ e. cc) in
       let member_links : (i n : ℕ) → In n (G.bucket i).nodes → chain_of M' n ≡ chain_of M n
-            = λ i n k. links n (whole.owned.first_at n i (whole.owned.member i n k)).among in
+      = λ i n k. links n (whole.owned.first_at n i (whole.owned.member i n k)).among in
       record {
         tables = OneTable-write env mix M M' G (with_holder G j holder) (PageWord j) v write (λ e. cc) (λ s e. cc) refl refl whole.tables;
         buckets = put-all (λ i b. i < 64 * env.geometry.pages → BucketRight env mix M' i b) G.bucket j (record (G.bucket j) { holder = holder })
             (λ k. let old = whole.buckets j l in
-                let kept = ChainedRight-frame env mix M M' j (G.bucket j) (member_links j) old.chained in record {
+            let kept = ChainedRight-frame env mix M M' j (G.bucket j) (member_links j) old.chained in record {
               locked = record { word_is = write.same ∙ is; even = old.locked.even; none_out = old.locked.none_out; none_armed = old.locked.none_armed };
               chained = record { segment = kept.segment; distinct = kept.distinct };
             })
@@ -117,13 +117,15 @@ module _ (env : Env) (mix : ℕ → ℕ → ℕ → ℕ) where
       → IsWrite env.geometry M M' (PageWord j) (v + 1) → Made env mix d M G M' (with_holder G j (Some d)) × ((G.bucket j).plain ≡ v)
   take_lock d j v M M' G whole l found even write =
       let right = (whole.buckets j l).locked in
-      let free = nobody_holds (G.bucket j).holder (G.bucket j).plain v (sym found ∙ right.word_is) even right.even in
-      (record {
-        whole = relocked j (v + 1) (Some d) M M' G whole l (ap (λ p. p + 1) (sym free.1)) write;
-        others = relocked_others d j (v + 1) (Some d) M M' G whole
-            (λ c ne h. let e : ◌≡◌ {A = Option ℕ} None (Some c) = sym free.0 ∙ h in cc)
-            (λ c ne h. ne (cc)) write;
-      }, free.1)
+      let free = nobody_holds (G.bucket j).holder (G.bucket j).plain v (sym found ∙ right.word_is) even right.even in (
+        record {
+          whole = relocked j (v + 1) (Some d) M M' G whole l (ap (λ p. p + 1) (sym free.1)) write;
+          others = relocked_others d j (v + 1) (Some d) M M' G whole
+              (λ c ne h. let e : ◌≡◌ {A = Option ℕ} None (Some c) = sym free.0 ∙ h in cc)
+              (λ c ne h. ne (cc)) write;
+        },
+        free.1,
+      )
 
   -- the holder's store of the word without the lock
   pub drop_lock : (d j v : ℕ) (M M' : Memory) (G : Ghost) → Whole env mix M G → j < 64 * env.geometry.pages → (G.bucket j).holder ≡ Some d → (G.bucket j).plain ≡ v
@@ -186,15 +188,16 @@ module _ (env : Env) (mix : ℕ → ℕ → ℕ → ℕ) where
     built = put-all (λ k o. IsBuilt env mix o) G.node (64 * i + b) owner is_built (λ k ne. whole.arena.built k);
     bits = λ m l. put-all (λ n o. n < env.geometry.nodes → (bit_at (M' (NodeMap (n / 64))) (n % 64) ≡ 1) ↔ (o ≡ Free)) G.node (64 * i + b) owner
         (λ k. let word : (64 * i + b) / 64 ≡ i = omega (arith, at.within) in
-              let bit : (64 * i + b) % 64 ≡ b = omega (arith, at.within) in
-              rw word (rw bit (rw write.same here)))
+        let bit : (64 * i + b) % 64 ≡ b = omega (arith, at.within) in
+        rw word (rw bit (rw write.same here)))
         (λ n ne k. elim (cases_eq (n / 64) i) [
-            inl e ↦ let old = whole.arena.bits n k in
+          | inl e ↦ let old = whole.arena.bits n k in
               let differs : n % 64 ≢ b = λ q. ne (omega arith) in
               let same : bit_at (M' (NodeMap (n / 64))) (n % 64) ≡ bit_at (M (NodeMap (n / 64))) (n % 64)
-                    = ap (λ x. bit_at (M' (NodeMap x)) (n % 64)) e ∙ ap (λ w. bit_at w (n % 64)) write.same ∙ others (n % 64) (omega arith) differs ∙ ap (λ x. bit_at (M (NodeMap x)) (n % 64)) (sym e) in
+              = ap (λ x. bit_at (M' (NodeMap x)) (n % 64)) e ∙ ap (λ w. bit_at w (n % 64)) write.same ∙ others (n % 64) (omega arith) differs ∙ ap (λ x. bit_at (M (NodeMap x)) (n % 64)) (sym e) in
               rw same old
-          | inr other ↦ rw (write.others (NodeMap (n / 64)) (omega arith) (λ e. other (cc))) (whole.arena.bits n k) ])
+          | inr other ↦ rw (write.others (NodeMap (n / 64)) (omega arith) (λ e. other (cc))) (whole.arena.bits n k)
+        ])
         m l;
   }
 
@@ -207,7 +210,7 @@ module _ (env : Env) (mix : ℕ → ℕ → ℕ → ℕ) where
   reowned i b value owner M M' G whole at is_built write was now here others =
       let n = 64 * i + b in
       let links : (m j : ℕ) → In m (G.bucket j).nodes → chain_of M' m ≡ chain_of M m
-            = λ m j k. write.others (Node m ChainLink) (whole.owned.first_at m j (whole.owned.member j m k)).among (λ e. cc) in
+      = λ m j k. write.others (Node m ChainLink) (whole.owned.first_at m j (whole.owned.member j m k)).among (λ e. cc) in
       record {
         tables = OneTable-write env mix M M' G (with_owner G n owner) (NodeMap i) value write (λ e. cc) (λ s e. cc) refl refl whole.tables;
         buckets = λ j l. BucketRight-frame env mix M M' j (G.bucket j) (write.others (PageWord j) l (λ e. cc)) (λ m k. links m j k) (whole.buckets j l);
@@ -225,7 +228,7 @@ module _ (env : Env) (mix : ℕ → ℕ → ℕ → ℕ) where
       → ((k : ℕ) → k < 64 → bit_at value k ≡ bit_at (M (NodeMap i)) k) → Made env mix d M G M' G
   retouch d i value M M' G whole l write same =
       let first_word : (m j : ℕ) (w : NodeWord) → G.node m ≡ First j → M' (Node m w) ≡ M (Node m w)
-            = λ m j w f. write.others (Node m w) (whole.owned.first_at m j f).among (λ e. cc) in
+      = λ m j w f. write.others (Node m w) (whole.owned.first_at m j f).among (λ e. cc) in
       record {
         whole = record {
           tables = OneTable-write env mix M M' G G (NodeMap i) value write (λ e. cc) (λ s e. cc) refl refl whole.tables;
@@ -237,11 +240,12 @@ module _ (env : Env) (mix : ℕ → ℕ → ℕ → ℕ) where
           arena = record {
             built = whole.arena.built;
             bits = λ n k. elim (cases_eq (n / 64) i) [
-                inl e ↦
+              | inl e ↦
                   let bit : bit_at (M' (NodeMap (n / 64))) (n % 64) ≡ bit_at (M (NodeMap (n / 64))) (n % 64)
-                        = ap (λ x. bit_at (M' (NodeMap x)) (n % 64)) e ∙ ap (λ w. bit_at w (n % 64)) write.same ∙ same (n % 64) (omega arith) ∙ ap (λ x. bit_at (M (NodeMap x)) (n % 64)) (sym e) in
+                  = ap (λ x. bit_at (M' (NodeMap x)) (n % 64)) e ∙ ap (λ w. bit_at w (n % 64)) write.same ∙ same (n % 64) (omega arith) ∙ ap (λ x. bit_at (M (NodeMap x)) (n % 64)) (sym e) in
                   rw bit (whole.arena.bits n k)
-              | inr other ↦ rw (write.others (NodeMap (n / 64)) (omega arith) (λ e. other (cc))) (whole.arena.bits n k) ];
+              | inr other ↦ rw (write.others (NodeMap (n / 64)) (omega arith) (λ e. other (cc))) (whole.arena.bits n k)
+            ];
           };
           counted = write.others PortCount tt (λ e. cc) ∙ whole.counted;
         };
@@ -264,20 +268,22 @@ module _ (env : Env) (mix : ℕ → ℕ → ℕ → ℕ) where
       let word : n / 64 ≡ i = omega (arith, at.within) in
       let bit : n % 64 ≡ b = omega (arith, at.within) in
       let free : G.node n ≡ Free = (whole.arena.bits n at.below).0 (rw word (rw bit found)) in
-      let was : (j : ℕ) → G.node n ≡ First j → ⊥ = λ j f. let e = sym free ∙ f in cc in
-      (record {
-        whole = reowned i b (bit_and (M (NodeMap i)) (bit_not w64 (bit_of b))) (Held d) M M' G whole at tt write was (λ j f. cc)
-            ((λ set. absurd (omega (arith, cleared_bit (M (NodeMap i)) b at.within, set))), (λ e. absurd (cc)))
-            (λ k l ne. cleared_other (M (NodeMap i)) b k at.within l ne);
-        others = λ c ne. record {
-          locks = λ j h. refl;
-          words = λ m j f. let l = (whole.owned.first_at m j f).among in (write.others (Node m KeyWord) l (λ e. cc), write.others (Node m OwnerWord) l (λ e. cc));
-          nodes = λ m has. (put-other G.node n (Held d) m (λ e. let q = sym free ∙ ap G.node (sym e) ∙ has.0 in cc) ∙ has.0, λ w. write.others (Node m w) has.1 (λ e. cc));
-          raised = refl;
-          no_node = λ m. put-all (λ k o. o ≡ Held c → G.node k ≡ Held c) G.node n (Held d) (λ e. absurd (ne (cc))) (λ k kn h. h) m;
-          no_lock = λ j h. h;
-        };
-      }, free)
+      let was : (j : ℕ) → G.node n ≡ First j → ⊥ = λ j f. let e = sym free ∙ f in cc in (
+        record {
+          whole = reowned i b (bit_and (M (NodeMap i)) (bit_not w64 (bit_of b))) (Held d) M M' G whole at tt write was (λ j f. cc)
+              ((λ set. absurd (omega (arith, cleared_bit (M (NodeMap i)) b at.within, set))), (λ e. absurd (cc)))
+              (λ k l ne. cleared_other (M (NodeMap i)) b k at.within l ne);
+          others = λ c ne. record {
+            locks = λ j h. refl;
+            words = λ m j f. let l = (whole.owned.first_at m j f).among in (write.others (Node m KeyWord) l (λ e. cc), write.others (Node m OwnerWord) l (λ e. cc));
+            nodes = λ m has. (put-other G.node n (Held d) m (λ e. let q = sym free ∙ ap G.node (sym e) ∙ has.0 in cc) ∙ has.0, λ w. write.others (Node m w) has.1 (λ e. cc));
+            raised = refl;
+            no_node = λ m. put-all (λ k o. o ≡ Held c → G.node k ≡ Held c) G.node n (Held d) (λ e. absurd (ne (cc))) (λ k kn h. h) m;
+            no_lock = λ j h. h;
+          };
+        },
+        free,
+      )
 
   -- the or that sets the bit of a node which the caller has
   pub give_node : (d n : ℕ) (M M' : Memory) (G : Ghost) → Whole env mix M G → HasNode env mix d G n
@@ -289,9 +295,9 @@ module _ (env : Env) (mix : ℕ → ℕ → ℕ → ℕ) where
       let parts : 64 * i + b ≡ n = omega arith in
       let was : (j : ℕ) → G.node n ≡ First j → ⊥ = λ j f. held_not_first (G.node n) d j has.0 f in
       let made = reowned i b (bit_or (M (NodeMap i)) (bit_of b)) Free M M' G whole (record { within = omega arith; below = omega (arith, has.1) }) tt write
-            (λ j f. was j (ap G.node (sym parts) ∙ f)) (λ j f. cc)
-            ((λ set. refl), (λ e. set_bit (M (NodeMap i)) b (omega arith)))
-            (λ k l ne. set_other (M (NodeMap i)) b k (omega arith) ne) in
+      (λ j f. was j (ap G.node (sym parts) ∙ f)) (λ j f. cc)
+      ((λ set. refl), (λ e. set_bit (M (NodeMap i)) b (omega arith)))
+      (λ k l ne. set_other (M (NodeMap i)) b k (omega arith) ne) in
       record {
         whole = rw parts at made;
         others = λ c ne. record {
@@ -317,9 +323,9 @@ module _ (env : Env) (mix : ℕ → ℕ → ℕ → ℕ) where
       let few = count_below-most (λ n. is_first (G.node n)) env.geometry.nodes in
       let fewer = count_below-most G.raised env.geometry.callers in
       let more : raisers env mix (with_raised G d true) ≡ raisers env mix G + 1
-            = count_below-more G.raised (put G.raised d true) d env.geometry.callers l low (put-same G.raised d true) (λ n ne. put-other G.raised d true n ne) in
+      = count_below-more G.raised (put G.raised d true) d env.geometry.callers l low (put-same G.raised d true) (λ n ne. put-other G.raised d true n ne) in
       let next : (M PortCount + 1) % 2 ^ 64 ≡ firsts env mix G + (raisers env mix G + 1)
-            = omega (arith, whole.counted, few, fewer, within.nodes_within.1, within.callers_within.1) in
+      = omega (arith, whole.counted, few, fewer, within.nodes_within.1, within.callers_within.1) in
       record {
         whole = record {
           tables = OneTable-write env mix M M' G (with_raised G d true) PortCount ((M PortCount + 1) % 2 ^ 64) write (λ e. cc) (λ s e. cc) refl refl whole.tables;
@@ -351,21 +357,23 @@ module _ (env : Env) (mix : ℕ → ℕ → ℕ → ℕ) where
       → Whole env mix M' G × ((c : ℕ) → Rely env mix c M G M' G)
   aside a v M M' G whole write current slot page node map count =
       let first_word : (m j : ℕ) (w : NodeWord) → G.node m ≡ First j → M' (Node m w) ≡ M (Node m w)
-            = λ m j w f. write.others (Node m w) (whole.owned.first_at m j f).among (node m w) in
-      (record {
-        tables = OneTable-write env mix M M' G G a v write current slot refl refl whole.tables;
-        buckets = λ j k. BucketRight-frame env mix M M' j (G.bucket j) (write.others (PageWord j) k (page j))
-            (λ m n. first_word m j ChainLink (whole.owned.member j m n)) (whole.buckets j k);
-        owned = Owned-frame env mix M M' G G
-            (record { nodes = λ j. refl; firsts_before = λ m j f. f; firsts_after = λ m j f. f; bound = λ port. refl })
-            (record { keys = λ m j f. first_word m j KeyWord f; lists = λ m j f. first_word m j ListLink f }) whole.owned;
-        arena = ArenaRight-frame env mix M M' G G (λ i k. write.others (NodeMap i) k (map i)) (λ m. refl) whole.arena;
-        counted = write.others PortCount tt count ∙ whole.counted;
-      }, λ c. record {
-        locks = λ j h. refl;
-        words = λ m j f. (first_word m j KeyWord f, first_word m j OwnerWord f);
-        nodes = λ m has. (has.0, λ w. write.others (Node m w) has.1 (node m w));
-        raised = refl;
-        no_node = λ m h. h;
-        no_lock = λ j h. h;
-      })
+      = λ m j w f. write.others (Node m w) (whole.owned.first_at m j f).among (node m w) in (
+        record {
+          tables = OneTable-write env mix M M' G G a v write current slot refl refl whole.tables;
+          buckets = λ j k. BucketRight-frame env mix M M' j (G.bucket j) (write.others (PageWord j) k (page j))
+              (λ m n. first_word m j ChainLink (whole.owned.member j m n)) (whole.buckets j k);
+          owned = Owned-frame env mix M M' G G
+              (record { nodes = λ j. refl; firsts_before = λ m j f. f; firsts_after = λ m j f. f; bound = λ port. refl })
+              (record { keys = λ m j f. first_word m j KeyWord f; lists = λ m j f. first_word m j ListLink f }) whole.owned;
+          arena = ArenaRight-frame env mix M M' G G (λ i k. write.others (NodeMap i) k (map i)) (λ m. refl) whole.arena;
+          counted = write.others PortCount tt count ∙ whole.counted;
+        },
+        λ c. record {
+          locks = λ j h. refl;
+          words = λ m j f. (first_word m j KeyWord f, first_word m j OwnerWord f);
+          nodes = λ m has. (has.0, λ w. write.others (Node m w) has.1 (node m w));
+          raised = refl;
+          no_node = λ m h. h;
+          no_lock = λ j h. h;
+        },
+      )

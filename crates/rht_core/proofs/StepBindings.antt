@@ -1,18 +1,16 @@
 -- What an operation does to what the words stand for: nothing, unless it binds a port.
-use Rattle.std.proofs.Common.{◌≡◌, ◌≢◌, ℕ, suc, ◌+◌, ◌*◌, ◌^◌, ◌%◌, ◌<◌, ◌==◌, List, [], ◌∷◌, length, map, Option, Some, None, Bool, true, false, cond, refl, sym, ◌∙◌, ap, subst, inl, inr, ◌⊎◌, arith}
+use Rattle.std.proofs.Common.{◌≡◌, ◌≢◌, ℕ, suc, List, [], ◌∷◌, map, false, cond, refl, sym, ◌∙◌, ap, inl, inr, arith}
 use Rattle.std.proofs.lemmas.Bool.{cases_eq, eq-eqb, ne_eqb}
 use Rattle.rht_words.specs.declared.env.Env.{Env}
 use Rattle.rht_words.specs.declared.op.Op.{Op}
-use Rattle.rht_words.specs.Ports.{word_of, owner_of}
-use Rattle.rht_words.specs.Operations.{old_of, applied}
-use Rattle.rht_words.specs.Places.{Node, KeyWord, OwnerWord}
+use Rattle.rht_words.specs.Ports.{owner_of}
+use Rattle.rht_words.specs.Operations.{applied}
+use Rattle.rht_words.specs.Places.{Node, OwnerWord}
 use Rattle.rht_words.proofs.Memory.{Memory}
-use Rattle.rht_words.proofs.Members.{In}
-use Rattle.rht_model.specs.Multimap.{Multimap, Agree, with_owners}
+use Rattle.rht_model.specs.Multimap.{Agree, with_owners}
 use Rattle.rht_core.specs.StandsFor.{stands_for}
-use Rattle.rht_core.proofs.Ghosts.{put, put-same, put-other, Bucket, Owner, First, Ghost}
-use Rattle.rht_core.proofs.Wholes.{key_of, home, Whole}
-use Rattle.rht_core.proofs.Knowledge.{Rely, NoKey}
+use Rattle.rht_core.proofs.Ghosts.{put, put-same, put-other, Ghost}
+use Rattle.rht_core.proofs.Wholes.{Whole}
 use Rattle.rht_core.proofs.Frames.{Made}
 use Rattle.rht_core.proofs.Linking.{IsReady, missed_unbound}
 use Rattle.rht_core.proofs.Steps.{Move, Reads, TakesNode, GivesNode, TakesLock, DropsLock, Raises, Links, mem, Step, ghost_after, ReadyFor}
@@ -38,9 +36,9 @@ module _ (env : Env) (mix : ℕ → ℕ → ℕ → ℕ) where
       → (port : ℕ) → G'.bound port ≡ G.bound port → stands_for env.geometry words' port ≡ stands_for env.geometry words port
   same_bindings d words words' G G' whole made port bound =
       stands_for_bound env mix words' G' made.whole port
-        ∙ ap (owners_in (mem env mix words')) bound
-        ∙ owner_stays d (mem env mix words) (mem env mix words') G G' whole made port (G.bound port) refl
-        ∙ sym (stands_for_bound env mix words G whole port)
+      ∙ ap (owners_in (mem env mix words')) bound
+      ∙ owner_stays d (mem env mix words) (mem env mix words') G G' whole made port (G.bound port) refl
+      ∙ sym (stands_for_bound env mix words G whole port)
 
   -- an operation of a caller that hasn't raised the count changes no bindings
   pub quiet_step : (c : ℕ) (words : List ℕ) (G : Ghost) (op : Op) (Knows : Memory → Ghost → Type 0) → Whole env mix (mem env mix words) G → G.raised c ≡ false
@@ -61,14 +59,16 @@ module _ (env : Env) (mix : ℕ → ℕ → ℕ → ℕ) where
   pub linked_bindings : (c : ℕ) (words words' : List ℕ) (G : Ghost) (n port : ℕ) → Whole env mix (mem env mix words) G → IsReady env mix c n port (mem env mix words) G
       → Made env mix c (mem env mix words) G (mem env mix words') (ghost_after env mix c (Links n port) G)
       → (stands_for env.geometry words port ≡ [])
-        × Agree (stands_for env.geometry words') (with_owners (stands_for env.geometry words) port (owner_of (mem env mix words' (Node n OwnerWord)) ∷ []))
-  linked_bindings c words words' G n port whole ready made =
-      (stands_for_bound env mix words G whole port ∙ ap (owners_in (mem env mix words)) (missed_unbound env mix (mem env mix words) G port whole ready.none),
-       λ other. elim (cases_eq other port) [
-         inl e ↦
-           stands_for_bound env mix words' (ghost_after env mix c (Links n port) G) made.whole other
-             ∙ ap (owners_in (mem env mix words')) (ap (put G.bound port (n ∷ [])) e ∙ put-same G.bound port (n ∷ []))
-             ∙ sym (ap (λ t. cond t (owner_of (mem env mix words' (Node n OwnerWord)) ∷ []) (stands_for env.geometry words other)) (eq-eqb other port e))
-       | inr ne ↦
-           same_bindings c words words' G (ghost_after env mix c (Links n port) G) whole made other (put-other G.bound port (n ∷ []) other ne)
-             ∙ sym (ap (λ t. cond t (owner_of (mem env mix words' (Node n OwnerWord)) ∷ []) (stands_for env.geometry words other)) (ne_eqb other port ne)) ])
+      × Agree (stands_for env.geometry words') (with_owners (stands_for env.geometry words) port (owner_of (mem env mix words' (Node n OwnerWord)) ∷ []))
+  linked_bindings c words words' G n port whole ready made = (
+    stands_for_bound env mix words G whole port ∙ ap (owners_in (mem env mix words)) (missed_unbound env mix (mem env mix words) G port whole ready.none),
+    λ other. elim (cases_eq other port) [
+      | inl e ↦
+          stands_for_bound env mix words' (ghost_after env mix c (Links n port) G) made.whole other
+          ∙ ap (owners_in (mem env mix words')) (ap (put G.bound port (n ∷ [])) e ∙ put-same G.bound port (n ∷ []))
+          ∙ sym (ap (λ t. cond t (owner_of (mem env mix words' (Node n OwnerWord)) ∷ []) (stands_for env.geometry words other)) (eq-eqb other port e))
+      | inr ne ↦
+          same_bindings c words words' G (ghost_after env mix c (Links n port) G) whole made other (put-other G.bound port (n ∷ []) other ne)
+          ∙ sym (ap (λ t. cond t (owner_of (mem env mix words' (Node n OwnerWord)) ∷ []) (stands_for env.geometry words other)) (ne_eqb other port ne))
+    ],
+  )

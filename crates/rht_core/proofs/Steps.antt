@@ -1,16 +1,15 @@
 -- What one operation of a caller makes of the words, the ghost and the caller's knowledge.
-use Rattle.std.proofs.Common.{◌≡◌, ◌≢◌, ◌↔◌, ℕ, ◌+◌, ◌*◌, ◌/◌, ◌%◌, ◌^◌, ◌<◌, ◌==◌, List, [], ◌∷◌, length, Option, Some, None, Bool, true, false, cond, refl, sym, ◌∙◌, ap, inl, inr, ◌⊎◌, arith}
+use Rattle.std.proofs.Common.{◌≡◌, ℕ, ◌<◌, List, [], ◌∷◌, Some, None, Bool, true, false, refl, sym, ◌∙◌}
 use Rattle.std.proofs.lemmas.List.{set-get_or}
 use Rattle.rht_words.specs.declared.env.Env.{Env}
 use Rattle.rht_words.specs.declared.op.Op.{Op}
-use Rattle.rht_words.specs.declared.op.Op.TheVariants.{Load}
 use Rattle.rht_words.specs.Operations.{op_place, old_of, word_after, applied}
-use Rattle.rht_words.specs.Places.{Address, Node, NodeWord, ChainLink, KeyWord, OwnerWord, ListLink, PageWord, IsAddress, place_of, words_in, word_at}
-use Rattle.rht_words.proofs.Memory.{Memory, IsWrite, is_write}
-use Rattle.rht_core.proofs.Ghosts.{put, Bucket, Owner, Free, Held, First, Ghost}
+use Rattle.rht_words.specs.Places.{Node, NodeWord, word_at}
+use Rattle.rht_words.proofs.Memory.{Memory}
+use Rattle.rht_core.proofs.Ghosts.{Free, Held, Ghost}
 use Rattle.rht_core.proofs.Wholes.{home, Whole}
-use Rattle.rht_core.proofs.Knowledge.{Fact, Has, WordIs, Locks, Stands, Differs, Missed, Found, OwnerIs, Raised, OnlyNode, OnlyLock, Means, AllMean, HasNode}
-use Rattle.rht_core.proofs.Frames.{Others, Made, still}
+use Rattle.rht_core.proofs.Knowledge.{Fact, Has, WordIs, Locks, Stands, Differs, Missed, Found, OwnerIs, Raised, OnlyNode, OnlyLock, Means, AllMean}
+use Rattle.rht_core.proofs.Frames.{Made, still}
 use Rattle.rht_core.proofs.QuietMoves.{with_holder, with_owner, with_raised}
 use Rattle.rht_core.proofs.Linking.{linked, IsReady}
 

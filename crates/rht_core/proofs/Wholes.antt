@@ -1,11 +1,11 @@
 -- What is true of the words and the ghost after each event of each run. So far one table is attached, and each port has one owner.
-use Rattle.std.proofs.Common.{◌≡◌, ◌≢◌, ◌↔◌, ℕ, ◌+◌, ◌*◌, ◌/◌, ◌%◌, ◌<◌, List, [], ◌∷◌, Option, Some, None, length}
+use Rattle.std.proofs.Common.{◌≡◌, ◌↔◌, ℕ, ◌+◌, ◌*◌, ◌/◌, ◌%◌, ◌<◌, List, [], ◌∷◌, None}
 use Rattle.std.specs.Int.{bit_at}
 use Rattle.rht_words.specs.declared.env.Env.{Env}
 use Rattle.rht_words.specs.Links.{head_of, marker_of}
 use Rattle.rht_words.specs.Shapes.{packed}
 use Rattle.rht_words.specs.Opening.{first_shape}
-use Rattle.rht_words.specs.Places.{Address, CurrentTable, PortCount, Slot, ShapeWord, SeedWord, FutureWord, NodeMap, Node, ChainLink, KeyWord, ListLink, PageWord, place_of}
+use Rattle.rht_words.specs.Places.{CurrentTable, PortCount, Slot, ShapeWord, SeedWord, FutureWord, NodeMap, Node, ChainLink, KeyWord, ListLink, PageWord, place_of}
 use Rattle.rht_words.specs.Chains.{IsSegment}
 use Rattle.rht_words.proofs.Memory.{Memory}
 use Rattle.rht_words.proofs.Members.{In, Distinct, count_below}

@@ -9,10 +9,9 @@ use Rattle.rht_model.specs.Answers.{plain, answer_of, bindings_after, MayRefuse}
 use Rattle.rht_model.specs.Histories.{without_kick}
 use Rattle.rht_core.specs.declared.event.Event.{Event}
 use Rattle.rht_core.specs.declared.event.Event.TheVariants.{Begin, Step}
-use Rattle.rht_core.specs.declared.book.Finished.{Finished}
 use Rattle.rht_core.specs.Locals.{is_idle}
-use Rattle.rht_core.specs.Runs.{World, local_of, run_of, IsAdmitted}
-use Rattle.rht_core.specs.Traces.{Past, Traced, traced_of}
+use Rattle.rht_core.specs.Runs.{local_of, run_of, IsAdmitted}
+use Rattle.rht_core.specs.Traces.{Past, traced_of}
 use Rattle.rht_core.specs.StandsFor.{stands_for}
 use Rattle.rht_core.specs.Causes.{HasCause}
 
