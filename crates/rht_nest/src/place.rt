@@ -7,7 +7,7 @@ ghost use Rattle.rht_words.specs.declared.machine.Start.TheVariants.{Done};
 ghost use Rattle.rht_nest.specs.Place.{bucket_place};
 ghost use Rattle.rht_nest.specs.declared.place.Bucket.TheVariants.{At};
 
-use rht_words::{Geometry, Next, Op, Shape, Start};
+use rht_words::{Geometry, Shape, Start};
 
 /// Where a bucket was found to be.
 #[derive(Clone, Copy, Debug, PartialEq, Eq)]
@@ -18,9 +18,10 @@ pub enum Bucket {
     Absent(usize),
 }
 
-/// Looks for the place of a bucket in the pages of a table that isn't flat. No such table is made,
-/// so there is no such machine. The kernel's counterpart is `__rht_bucket_nested`.
-#[derive(Clone, Copy, Debug, PartialEq, Eq)]
+/// Looks for the place of a bucket in the pages of a table that isn't flat. No such table is made
+/// yet, so there is no such machine and none of its operations: `new` is always done. The kernel's
+/// counterpart is `__rht_bucket_nested`.
+#[derive(Clone, Copy)]
 pub enum Place {}
 
 impl Place {
@@ -34,17 +35,5 @@ impl Place {
         let index = 64 * u64::from(Shape::from(shape).page) + u64::from(bucket);
         let last = 64 * geometry.pages - 1;
         Start::Done(Bucket::At(geometry.page_word(0, index.min(u64::from(last)) as u32)))
-    }
-
-    /// The next operation.
-    #[inline(always)]
-    pub fn plan(&self) -> Op {
-        match *self {}
-    }
-
-    /// Takes in the word's old value.
-    #[inline(always)]
-    pub fn take(&mut self, _old: u64) -> Next<Bucket> {
-        match *self {}
     }
 }
