@@ -88,7 +88,7 @@ find-none p (y ∷ xs) x e i = go (p y) refl e i (λ f k. find-none p xs x f k)
     go false q f (inr i) rest = rest f i
 
 -- the first of a list
-abbrev head_or_none : List ℕ → Option ℕ
+abbrev pub head_or_none : List ℕ → Option ℕ
 head_or_none [] = None
 head_or_none (x ∷ xs) = Some x
 
@@ -182,7 +182,7 @@ module _ (env : Env) (mix : ℕ → ℕ → ℕ → ℕ) (words : List ℕ) (G :
   -- ---- what the words stand for
 
   -- the first node with the port's key is the one to which the port is bound
-  first_bound : (port : ℕ) (bound : List ℕ) → G.bound port ≡ bound → first_node g words port ≡ head_or_none bound
+  pub first_bound : (port : ℕ) (bound : List ℕ) → G.bound port ≡ bound → first_node g words port ≡ head_or_none bound
   first_bound port bound is = rw all_met (go (find (has_key g words port) all_nodes) bound refl is)
     where
       go : (found : Option ℕ) (nodes : List ℕ) → find (has_key g words port) all_nodes ≡ found → G.bound port ≡ nodes → found ≡ head_or_none nodes

@@ -59,7 +59,7 @@ range-push from zero last is = let same : from ≡ last = omega arith in ap (λ 
 range-push from (suc n) last is = ap (λ xs. from ∷ xs) (range-push (from + 1) n last (omega arith))
 
 -- numbers below a bound are counted alike in a list and by recursion
-count_by-range : (has : ℕ → Bool) (bound : ℕ) → count_by has (range_with_len 0 bound) ≡ count_below has bound
+pub count_by-range : (has : ℕ → Bool) (bound : ℕ) → count_by has (range_with_len 0 bound) ≡ count_below has bound
 count_by-range has zero = refl
 count_by-range has (suc n) =
     ap (count_by has) (range-push 0 n n (omega arith)) ∙ sum_by_push (λ x. one_if (has x)) (range_with_len 0 n) n

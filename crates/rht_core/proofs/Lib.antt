@@ -74,3 +74,5 @@ pub mod FirstNodes
 pub mod OpenedStates
 -- one call alone meets the model, and has its cause
 pub mod AloneLaw
+-- the count of ports, and a table that nobody uses
+pub mod Counts

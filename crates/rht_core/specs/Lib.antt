@@ -12,3 +12,5 @@ pub mod Laws
 pub mod Causes
 -- one call alone
 pub mod Alone
+-- what the count of ports counts, and a table that nobody uses
+pub mod Counts

@@ -2,6 +2,7 @@
 
 ghost use Rattle.rht_core.specs.Alone.{Alone};
 ghost use Rattle.rht_core.specs.Causes.{Causes};
+ghost use Rattle.rht_core.specs.Counts.{Counted, AtRest};
 ghost use Rattle.rht_core.specs.Laws.{Extends, InRange, Enrolled, NotEnrolled, Replies, Remembers, AtEvents, TakenAlone, WordsFit};
 
 use rht_policy::Mix;
@@ -85,4 +86,18 @@ pub fn causes<M: Mix>()
 /// doesn't say that the call ends, and nothing of calls whose events mix.
 pub fn alone<M: Mix>()
     ensures { Alone M M.mix_of }
+{}
+
+/// In every run the count of ports is the number of ports that are bound, and of the callers that have
+/// raised it for a node which they link next. So it is never too low. It doesn't say which ports they
+/// are.
+pub fn counted<M: Mix>()
+    ensures { Counted M M.mix_of }
+{}
+
+/// In every run, while nobody is in a call, no bucket is locked, each node is free or the first one of
+/// a port, and the count is the number of ports that are bound. It doesn't say that such a moment
+/// comes.
+pub fn at_rest<M: Mix>()
+    ensures { AtRest M M.mix_of }
 {}

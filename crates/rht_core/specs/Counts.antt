@@ -1,0 +1,64 @@
+-- What the count of ports counts, and what a table is like while nobody is in a call.
+use Rattle.std.specs.Prelude.{◌≡◌, ℕ, ◌+◌, ◌*◌, ◌/◌, ◌%◌, ◌<◌, ◌≤◌, ◌⊎◌, Bool, true, false, Some, List, count_by}
+use Rattle.std.specs.List.{range_with_len}
+use Rattle.std.specs.Int.{bit_at}
+use Rattle.rht_words.specs.declared.env.Env.{Env}
+use Rattle.rht_words.specs.declared.geometry.Geometry.{Geometry}
+use Rattle.rht_words.specs.Places.{PortCount, NodeMap, PageWord, word_at}
+use Rattle.rht_model.specs.Multimap.{Multimap}
+use Rattle.rht_bind.specs.declared.bind.BindAt.{BindAt}
+use Rattle.rht_bind.specs.declared.bind.BindAt.TheVariants.{Publish}
+use Rattle.rht_core.specs.declared.event.Event.{Event}
+use Rattle.rht_core.specs.declared.local.Local.{Local}
+use Rattle.rht_core.specs.declared.local.Local.TheVariants.{Binding}
+use Rattle.rht_core.specs.Runs.{Core, local_of, run_of, IsAdmitted}
+use Rattle.rht_core.specs.StandsFor.{first_node, stands_for}
+use Rattle.rht_core.specs.Causes.{AreBound}
+use Rattle.rht_core.specs.Alone.{IsQuiet}
+
+-- so many ports are bound, and no more
+pub record AreAllBound (bindings : Multimap) (count : ℕ) : Type 0 where
+  pub are : AreBound bindings count
+  pub most : (more : ℕ) → AreBound bindings more → more ≤ count
+
+-- the bind has raised the count, and links its node next
+abbrev pub is_linking : BindAt → Bool
+is_linking (Publish claimed kick) = true
+is_linking _ = false
+
+-- the caller has raised the count for a node that it hasn't linked yet
+abbrev pub is_raising : {M : Type 0} → Local M → Bool
+is_raising (Binding m) = is_linking m.at
+is_raising _ = false
+
+-- how many callers have
+abbrev pub raising : {M : Type 0} → Core M → ℕ
+raising core = count_by (λ c. is_raising (local_of core c)) (range_with_len 0 core.env.geometry.callers)
+
+-- the count of ports is the number of ports bound, and of the callers that have raised it for a node that they haven't linked yet
+pub record IsCounted {M : Type 0} (env : Env) (core : Core M) : Type 0 where
+  pub bound : ℕ
+  pub all_bound : AreAllBound (stands_for env.geometry core.words) bound
+  pub counted : word_at env.geometry core.words PortCount ≡ bound + raising core
+
+-- the node is free, or the first node of a port
+abbrev pub IsFreeOrBound : Geometry → List ℕ → ℕ → Type 0
+IsFreeOrBound g words node =
+    (bit_at (word_at g words (NodeMap (node / 64))) (node % 64) ≡ 1) ⊎ ((port : ℕ) × (first_node g words port ≡ Some node))
+
+-- no bucket is locked, no node is out, and the count of ports is the number of those bound
+pub record IsAtRest (g : Geometry) (words : List ℕ) : Type 0 where
+  pub unlocked : (index : ℕ) → index < 64 * g.pages → word_at g words (PageWord index) % 2 ≡ 0
+  pub nodes : (node : ℕ) → node < g.nodes → IsFreeOrBound g words node
+  pub counted : AreAllBound (stands_for g words) (word_at g words PortCount)
+
+module _ (M : Type 0) (mix : ℕ → ℕ → ℕ → ℕ) where
+  -- in every run the count of ports counts
+  abbrev pub Counted : Type 0
+  Counted = (env : Env) (events : List Event) → IsAdmitted env.config.kind events → IsCounted env (run_of {M = M} mix env events).core
+
+  -- in every run the table is at rest while nobody is in a call
+  abbrev pub AtRest : Type 0
+  AtRest =
+      (env : Env) (events : List Event) → IsAdmitted env.config.kind events → IsQuiet M mix env events
+      → IsAtRest env.geometry (run_of {M = M} mix env events).core.words
