@@ -26,6 +26,8 @@ pub mod RepliesInRuns
 pub mod TracesInRuns
 -- what each caller keeps of itself and of its trace holds in every run
 pub mod TracedCallers
+-- what machines keep of their calls' operations holds of each call in every run
+pub mod TracedCalls
 -- in every run a bind takes one node at most
 pub mod NodesTaken
 -- while a node is being taken, each node below was found taken

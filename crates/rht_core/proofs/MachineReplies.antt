@@ -34,10 +34,16 @@ abbrev pub IsThenOf : (Reply → Type 0) → Then Reply → Type 0
 IsThenOf P (Table table) = Unit {0}
 IsThenOf P (Answer reply) = P reply
 
--- it goes on, or answers so
-abbrev pub IsNextOf : (Reply → Type 0) → Next Reply → Type 0
-IsNextOf P Go = Unit {0}
-IsNextOf P (Done reply) = P reply
+-- what holds of a machine that goes on in this state, or of one that has answered this
+abbrev pub GoesOrEnds : {S : Type 0} → (S → Type 0) → (Reply → Type 0) → S × Next Reply → Type 0
+GoesOrEnds Goes Ends (state, Go) = Goes state
+GoesOrEnds Goes Ends (state, Done reply) = Ends reply
+
+pub GoesOrEnds-weaker : {S : Type 0} (Goes Went : S → Type 0) (Ends Ended : Reply → Type 0) → ((state : S) → Goes state → Went state)
+    → ((reply : Reply) → Ends reply → Ended reply)
+    → (next : S × Next Reply) → GoesOrEnds Goes Ends next → GoesOrEnds Went Ended next
+GoesOrEnds-weaker Goes Went Ends Ended goes ends (state, Go) so = goes state so
+GoesOrEnds-weaker Goes Went Ends Ended goes ends (state, Done reply) so = ends reply so
 
 -- ---- a look-up
 
@@ -77,24 +83,20 @@ list_followed-holds : (bucket : Locked) (owner : ℕ) (next : Option ℕ)
 list_followed-holds bucket owner None = tt
 list_followed-holds bucket owner (Some node) = tt
 
--- the state after it holds such a reply, and so does the answer
+-- where it goes on the state after it holds such a reply, and where it answers it answers one
 pub find_after-replies : (mix : ℕ → ℕ → ℕ → ℕ) (env : Env) (port : ℕ) (at : FindAt) (word : ℕ)
     → HoldsFindReply at
-    → HoldsFindReply (find.after_at mix env port at word).0 × IsNextOf IsFindReply (find.after_at mix env port at word).1
-find_after-replies mix env port find_at.CurrentTable word holds = (tt, tt)
-find_after-replies mix env port (find_at.Shape table) word holds = (tt, tt)
-find_after-replies mix env port (find_at.Seed table shape) word holds = (tt, tt)
+    → GoesOrEnds HoldsFindReply IsFindReply (find.after_at mix env port at word)
 find_after-replies mix env port (find_at.Locking table lock) word holds =
-    (lock_taken-holds env port table (lock_after lock word).0 (lock_after lock word).1, tt)
+    lock_taken-holds env port table (lock_after lock word).0 (lock_after lock word).1
 find_after-replies mix env port (find_at.Walking table bucket walk) word holds =
-    (walk_taken-holds table bucket (locked_walk_after walk word).0 (locked_walk_after walk word).1, tt)
-find_after-replies mix env port (find_at.Future table bucket) word holds = (next_table-of (slot_of word), tt)
-find_after-replies mix env port (find_at.FirstOwner bucket node) word holds = (tt, tt)
+    walk_taken-holds table bucket (locked_walk_after walk word).0 (locked_walk_after walk word).1
+find_after-replies mix env port (find_at.Future table bucket) word holds = next_table-of (slot_of word)
 find_after-replies mix env port (find_at.ListLink bucket node owner) word holds =
-    (list_followed-holds bucket owner (node_of env.geometry.nodes word), tt)
-find_after-replies mix env port (find_at.LaterOwner bucket node owner) word holds = (tt, tt)
-find_after-replies mix env port (find_at.Unlocking unlock (Table table)) word holds = (tt, tt)
-find_after-replies mix env port (find_at.Unlocking unlock (Answer reply)) word holds = (holds, holds)
+    list_followed-holds bucket owner (node_of env.geometry.nodes word)
+find_after-replies mix env port (find_at.Unlocking unlock (Table table)) word holds = tt
+find_after-replies mix env port (find_at.Unlocking unlock (Answer reply)) word holds = holds
+find_after-replies mix env port _ word holds = tt
 
 -- ---- a bind
 
@@ -117,10 +119,10 @@ HoldsBindReply _ = Unit {0}
 
 module _ where
   node_taken-replies : (take : TakeNodeModel) (next : Next (Option ℕ))
-      → HoldsBindReply (bind.node_taken take next).0 × IsNextOf IsBindReply (bind.node_taken take next).1
-  node_taken-replies take Go = (tt, tt)
-  node_taken-replies take (Done None) = (tt, tt)
-  node_taken-replies take (Done (Some node)) = (tt, tt)
+      → GoesOrEnds HoldsBindReply IsBindReply (bind.node_taken take next)
+  node_taken-replies take Go = tt
+  node_taken-replies take (Done None) = tt
+  node_taken-replies take (Done (Some node)) = tt
 
   bound_or_not-holds : (table : ℕ) (claimed : Claimed) (found : Option ℕ)
       → HoldsBindReply (bind.found_or_not table claimed found)
@@ -160,29 +162,20 @@ module _ where
   after_unlock-holds env node (Table table) holds = tt
   after_unlock-holds env node (Answer reply) holds = holds
 
--- the state after it holds such a refusal, and the answer is one of a bind's
+-- where it goes on the state after it holds such a refusal, and where it answers it answers one of a bind's replies
 pub bind_after-replies : (mix : ℕ → ℕ → ℕ → ℕ) (env : Env) (port : ℕ) (at : BindAt) (word : ℕ)
     → HoldsBindReply at
-    → HoldsBindReply (bind.after_at mix env port at word).0 × IsNextOf IsBindReply (bind.after_at mix env port at word).1
+    → GoesOrEnds HoldsBindReply IsBindReply (bind.after_at mix env port at word)
 bind_after-replies mix env port (bind_at.Taking take) word holds =
     node_taken-replies (take_node_after take word).0 (take_node_after take word).1
-bind_after-replies mix env port (bind_at.Key node) word holds = (tt, tt)
-bind_after-replies mix env port (bind_at.Owner node) word holds = (tt, tt)
-bind_after-replies mix env port (bind_at.ListLink node) word holds = (tt, tt)
-bind_after-replies mix env port (bind_at.CurrentTable node) word holds = (tt, tt)
-bind_after-replies mix env port (bind_at.Shape node table) word holds = (tt, tt)
-bind_after-replies mix env port (bind_at.Seed node table shape) word holds = (tt, tt)
 bind_after-replies mix env port (bind_at.Locking node table shape lock) word holds =
-    (bind_lock-holds env port node table shape (lock_after lock word).0 (lock_after lock word).1, tt)
+    bind_lock-holds env port node table shape (lock_after lock word).0 (lock_after lock word).1
 bind_after-replies mix env port (bind_at.Walking table claimed walk) word holds =
-    (bind_walked-holds table claimed (locked_walk_after walk word).0 (locked_walk_after walk word).1, tt)
-bind_after-replies mix env port (bind_at.FoundOwner claimed found) word holds = (tt, tt)
+    bind_walked-holds table claimed (locked_walk_after walk word).0 (locked_walk_after walk word).1
 bind_after-replies mix env port (bind_at.Future table claimed) word holds =
-    (future_or_count-holds claimed (slot_of word), tt)
-bind_after-replies mix env port (bind_at.Count claimed) word holds = (checked_count-holds env claimed word, tt)
-bind_after-replies mix env port (bind_at.Link claimed) word holds = (tt, tt)
-bind_after-replies mix env port (bind_at.Raise claimed) word holds = (tt, tt)
-bind_after-replies mix env port (bind_at.Publish claimed kick) word holds = (tt, tt)
+    future_or_count-holds claimed (slot_of word)
+bind_after-replies mix env port (bind_at.Count claimed) word holds = checked_count-holds env claimed word
 bind_after-replies mix env port (bind_at.Unlocking node unlock next) word holds =
-    (after_unlock-holds env node next holds, tt)
-bind_after-replies mix env port (bind_at.Giving give reply) word holds = (holds, refuses_bind reply holds)
+    after_unlock-holds env node next holds
+bind_after-replies mix env port (bind_at.Giving give reply) word holds = refuses_bind reply holds
+bind_after-replies mix env port _ word holds = tt

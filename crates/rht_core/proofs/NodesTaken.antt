@@ -2,9 +2,8 @@
 -- What a bind holds is read off its state: none while it takes one, and from then on the node that the
 -- state names. A step takes a node exactly where the taking ends with one. Each other And of the taking
 -- finds its bit cleared, and no other state performs an And.
-use Rattle.std.proofs.Common.{◌≡◌, ◌≢◌, ℕ, ◌+◌, ◌*◌, ◌/◌, ◌%◌, ◌^◌, ◌<◌, inl, inr, Bool, true, List, [], ◌∷◌, ◌++◌, refl, sym, ap, ◌∙◌, subst, arith}
+use Rattle.std.proofs.Common.{◌≡◌, ◌≢◌, ℕ, ◌+◌, ◌*◌, ◌/◌, ◌%◌, ◌^◌, ◌<◌, inl, inr, List, [], ◌∷◌, ◌++◌, refl, sym, ap, ◌∙◌, subst, arith}
 use Rattle.std.specs.Prelude.{Option, Some, None, ◌==◌, nat_lt, min, bit_and}
-use Rattle.std.specs.List.{AllByRecursion}
 use Rattle.std.specs.Int.{bit_at, bit_not, w64}
 use Rattle.std.proofs.Math.Pow.{pow-lt}
 use Rattle.std.proofs.lemmas.Bool.{cond_both, cases_order, eqb-true, eqb-false}
@@ -12,8 +11,6 @@ use Rattle.rht_words.specs.declared.op.Op.{Op}
 use Rattle.rht_words.specs.declared.op.Op.TheVariants.{Load, And}
 use Rattle.rht_words.specs.declared.env.Env.{Env}
 use Rattle.rht_words.specs.declared.geometry.Geometry.{Geometry}
-use Rattle.rht_words.specs.declared.config.Kind.{Kind}
-use Rattle.rht_words.specs.declared.config.Kind.TheVariants.{Single, Listed}
 use Rattle.rht_words.specs.declared.machine.Next.{Next}
 use Rattle.rht_words.specs.declared.machine.Next.TheVariants.{Go, Done}
 use Rattle.rht_words.specs.declared.machine.Start.{Start}
@@ -23,8 +20,6 @@ use Rattle.rht_words.specs.Ports.{word_of}
 use Rattle.rht_words.specs.Maps.{bits_above, bit_of, lowest_free}
 use Rattle.rht_words.specs.Places.{NodeMap, map_words, place_of}
 use Rattle.rht_policy.specs.Thresholds.{is_above_max}
-use Rattle.rht_model.specs.declared.history.Call.{Call}
-use Rattle.rht_model.specs.declared.history.Call.TheVariants.{Bind, Find}
 use Rattle.rht_model.specs.declared.history.Reply.{Reply}
 use Rattle.rht_model.specs.declared.history.Reply.TheVariants.{Bound, Exists, TooBig, NoNode}
 use Rattle.rht_arena.specs.TakeNode.{TakeNodeModel, take_node_plan, take_node_after, plan_at as take_plan_at, after_at as take_after_at, next_word, claim_in, IsInRange as IsTakeInRange, IsNodeIn}
@@ -39,25 +34,19 @@ use Rattle.rht_chain.specs.declared.locked_walk.LockedWalkAt.TheVariants as walk
 use Rattle.rht_chain.specs.declared.locked_walk.Seen.{Seen as WalkSeen}
 use Rattle.rht_chain.specs.declared.locked.Then.{Then}
 use Rattle.rht_chain.specs.declared.locked.Then.TheVariants.{Table, Answer}
-use Rattle.rht_find.specs.Find.{FindModel, find_after, find_plan, plan_at as find_plan_at}
+use Rattle.rht_find.specs.Find.{plan_at as find_plan_at, after_at as find_after_at}
 use Rattle.rht_find.specs.declared.find.FindAt.{FindAt}
 use Rattle.rht_find.specs.declared.find.FindAt.TheVariants as find_at
-use Rattle.rht_bind.specs.Bind.{BindModel, bind_after, plan_at, after_at, node_taken, lock_taken, walk_taken, walk_or_seen, found_or_not, future_or_count, checked_count, after_unlock, IsInRange as IsBindInRange}
+use Rattle.rht_bind.specs.Bind.{after_at, node_taken, lock_taken, walk_taken, walk_or_seen, found_or_not, future_or_count, checked_count, after_unlock}
 use Rattle.rht_bind.specs.declared.bind.Claimed.{Claimed}
 use Rattle.rht_bind.specs.declared.bind.BindAt.{BindAt}
 use Rattle.rht_bind.specs.declared.bind.BindAt.TheVariants as at
-use Rattle.rht_core.specs.declared.book.Book.{Book}
-use Rattle.rht_core.specs.declared.local.Local.{Local}
-use Rattle.rht_core.specs.declared.local.Local.TheVariants.{Idle, Finding, Binding}
-use Rattle.rht_core.specs.Locals.{is_idle, machine_of, binding_of, plan_of, local_after, found_next, bound_next}
-use Rattle.rht_core.specs.declared.event.Event.{Event}
-use Rattle.rht_core.specs.Runs.{Seen, seen}
-use Rattle.rht_core.specs.Traces.{Did, Past, Trace, trace_begun, trace_did, traced_of}
-use Rattle.rht_core.specs.Laws.{IsLocalIn, IsBindPieceIn, seen_begin, IsTake, IsNoTake, TakesNone, TakesOne, IsTakenBy, IsTakenIn, TakenAlone}
+use Rattle.rht_core.specs.Traces.{Did}
+use Rattle.rht_core.specs.Laws.{IsFindReply, IsTake, IsNoTake, TakesNone, TakesOne, IsTakenBy, IsTakenIn, TakenAlone}
 use Rattle.rht_core.proofs.PieceRanges.{take_after-in}
-use Rattle.rht_core.proofs.MachineReplies.{IsRefusal, HoldsBindReply}
-use Rattle.rht_core.proofs.RepliesInRuns.{IsRight, kept-right, all_push}
-use Rattle.rht_core.proofs.TracedCallers.{IsKeptTraced, traced_callers_keep}
+use Rattle.rht_core.proofs.MachineReplies.{GoesOrEnds, GoesOrEnds-weaker, IsRefusal, HoldsFindReply, find_after-replies}
+use Rattle.rht_core.proofs.RepliesInRuns.{all_push}
+use Rattle.rht_core.proofs.TracedCalls.{FindDoes, BindDoes, calls_keep}
 
 -- ---- one more step
 
@@ -262,24 +251,30 @@ refusal_with_node (Exists owner) is = tt
 refusal_with_node (TooBig count) is = tt
 refusal_with_node _ is = absurd is
 
--- what a bind has taken once it goes on, and what it answers
-abbrev GoesAs : Geometry → List Did → BindAt × Next Reply → Type 0
-GoesAs g steps (state, Go) = HasTaken g (node_held state) steps
-GoesAs g steps (state, Done reply) = IsTakenBy g reply steps
-
 with_node : (g : Geometry) (node : ℕ) (steps : List Did) (reply : Reply) → IsWithNode reply
     → HasTaken g (Some node) steps → IsTakenBy g reply steps
 with_node g node steps NoNode is taken = absurd is
 with_node g node steps _ is taken = (node, taken.0, taken.1)
 
-module _ (mix : ℕ → ℕ → ℕ → ℕ) (env : Env) (port owner : ℕ) where
+module _ (mix : ℕ → ℕ → ℕ → ℕ) (env : Env) where
   abbrev g : Geometry
   g = env.geometry
+
+  -- what the steps of a look-up and of a bind have taken so far
+  abbrev FindTakes : FindAt → List Did → Type 0
+  FindTakes state steps = TakesNone g steps
+
+  abbrev BindTakes : BindAt → List Did → Type 0
+  BindTakes state steps = HasTaken g (node_held state) steps
+
+  -- what a bind has taken once it goes on, and once it has answered
+  abbrev BindGoes : List Did → BindAt × Next Reply → Type 0
+  BindGoes steps next = GoesOrEnds (λ state. BindTakes state steps) (λ reply. IsTakenBy g reply steps) next
 
   -- a state that holds a node keeps it
   keeps : (state : BindAt) (node : ℕ) (steps : List Did) (did : Did) → node_held state ≡ Some node
       → IsNoTake g did
-      → HasTaken g (Some node) steps → HasTaken g (node_held state) (steps ++ did ∷ [])
+      → HasTaken g (Some node) steps → BindTakes state (steps ++ did ∷ [])
   keeps state node steps did is takes_none taken =
       subst (λ (held : Option ℕ). HasTaken g held (steps ++ did ∷ [])) (sym is)
       (HasTaken-push g (Some node) steps did taken takes_none)
@@ -290,181 +285,82 @@ module _ (mix : ℕ → ℕ → ℕ → ℕ) (env : Env) (port owner : ℕ) wher
 
   taking-goes : (take : TakeNodeModel) (next : Next (Option ℕ)) (steps : List Did) (did : Did)
       → TookAs g did.op did.old next → IsNodeIn g next
-      → TakesNone g steps → GoesAs g (steps ++ did ∷ []) (node_taken take next)
+      → TakesNone g steps → BindGoes (steps ++ did ∷ []) (node_taken take next)
   taking-goes take Go steps did took node_in none = all_push (IsNoTake g) steps did none took
   taking-goes take (Done None) steps did took node_in none = all_push (IsNoTake g) steps did none took
   taking-goes take (Done (Some node)) steps did took node_in none =
       (node_in, TakesOne-last g node steps did none took)
 
   -- A case a state. All but the taking perform no And.
-  bind-goes : (state : BindAt) (steps : List Did) (did : Did) → did.op ≡ plan_at env port owner state
-      → ((take : TakeNodeModel) → state ≡ at.Taking take → (take.geometry ≡ g) × IsTakeInRange take.geometry take.at)
-      → HoldsBindReply state → HasTaken g (node_held state) steps
-      → GoesAs g (steps ++ did ∷ []) (after_at mix env port state did.old)
-  bind-goes (at.Taking take) steps did is range holds taken =
-      let in_range = range take refl in
-      let took = take_took take take.at did.old in_range.1 in
-      let here : TookAs g did.op did.old (take_node_after take did.old).1 =
-      subst (λ (o : Op). TookAs g o did.old (take_node_after take did.old).1) (sym is)
-      (subst (λ (h : Geometry). TookAs h (take_node_plan take) did.old (take_node_after take did.old).1) in_range.0 took) in
-      let stays = take_after-in take did.old in_range.1 in
-      taking-goes (take_node_after take did.old).0 (take_node_after take did.old).1 steps did here
-      (subst (λ (h : Geometry). IsNodeIn h (take_node_after take did.old).1) in_range.0 stays.node) taken
-  bind-goes (at.Key node) steps did is range holds taken = kept_by node steps did is tt taken
-  bind-goes (at.Owner node) steps did is range holds taken = kept_by node steps did is tt taken
-  bind-goes (at.ListLink node) steps did is range holds taken = kept_by node steps did is tt taken
-  bind-goes (at.CurrentTable node) steps did is range holds taken = kept_by node steps did is tt taken
-  bind-goes (at.Shape node table) steps did is range holds taken = kept_by node steps did is tt taken
-  bind-goes (at.Seed node table shape) steps did is range holds taken = kept_by node steps did is tt taken
-  bind-goes (at.Locking node table shape lock) steps did is range holds taken =
+  bind-goes : (port owner : ℕ) (state : BindAt) (steps : List Did) (did : Did)
+      → BindDoes env port owner state did
+      → BindTakes state steps
+      → BindGoes (steps ++ did ∷ []) (after_at mix env port state did.old)
+  bind-goes port owner (at.Taking take) steps did does taken =
+      let same = does.within.range in
+      let in_range = does.within.piece in
+      let after = take_node_after take did.old in
+      let took = take_took take take.at did.old in_range in
+      let here : TookAs g did.op did.old after.1 =
+      subst (λ (o : Op). TookAs g o did.old after.1) (sym does.planned)
+      (subst (λ (h : Geometry). TookAs h (take_node_plan take) did.old after.1) same took) in
+      let stays = take_after-in take did.old in_range in
+      taking-goes after.0 after.1 steps did here (subst (λ (h : Geometry). IsNodeIn h after.1) same stays.node) taken
+  bind-goes port owner (at.Key node) steps did does taken = kept_by node steps did does.planned tt taken
+  bind-goes port owner (at.Owner node) steps did does taken = kept_by node steps did does.planned tt taken
+  bind-goes port owner (at.ListLink node) steps did does taken = kept_by node steps did does.planned tt taken
+  bind-goes port owner (at.CurrentTable node) steps did does taken =
+      kept_by node steps did does.planned tt taken
+  bind-goes port owner (at.Shape node table) steps did does taken =
+      kept_by node steps did does.planned tt taken
+  bind-goes port owner (at.Seed node table shape) steps did does taken =
+      kept_by node steps did does.planned tt taken
+  bind-goes port owner (at.Locking node table shape lock) steps did does taken =
       keeps _ node steps did
       (lock_taken-held env port node table shape (lock_after lock did.old).0 (lock_after lock did.old).1)
-      (no_and_as g did is (lock_no_and lock.place lock.at)) taken
-  bind-goes (at.Walking table claimed walk) steps did is range holds taken =
+      (no_and_as g did does.planned (lock_no_and lock.place lock.at)) taken
+  bind-goes port owner (at.Walking table claimed walk) steps did does taken =
       keeps _ claimed.node steps did
       (walk_taken-held table claimed (locked_walk_after walk did.old).0 (locked_walk_after walk did.old).1)
-      (no_and_as g did is (walk_no_and walk.geometry walk.at)) taken
-  bind-goes (at.FoundOwner claimed found) steps did is range holds taken =
-      kept_by claimed.node steps did is tt taken
-  bind-goes (at.Future table claimed) steps did is range holds taken =
-      keeps _ claimed.node steps did (future_or_count-held claimed (slot_of did.old)) (no_and_as g did is tt)
-      taken
-  bind-goes (at.Count claimed) steps did is range holds taken =
-      keeps _ claimed.node steps did (checked_count-held env claimed did.old) (no_and_as g did is tt) taken
-  bind-goes (at.Link claimed) steps did is range holds taken = kept_by claimed.node steps did is tt taken
-  bind-goes (at.Raise claimed) steps did is range holds taken = kept_by claimed.node steps did is tt taken
-  bind-goes (at.Publish claimed kick) steps did is range holds taken =
-      with_node g claimed.node _ (Bound kick) tt (kept_by claimed.node steps did is tt taken)
-  bind-goes (at.Unlocking node unlock next) steps did is range holds taken =
-      keeps _ node steps did (after_unlock-held env node next) (no_and_as g did is tt) taken
-  bind-goes (at.Giving give reply) steps did is range holds taken =
-      with_node g give.node _ reply (refusal_with_node reply holds) (kept_by give.node steps did is tt taken)
+      (no_and_as g did does.planned (walk_no_and walk.geometry walk.at)) taken
+  bind-goes port owner (at.FoundOwner claimed found) steps did does taken =
+      kept_by claimed.node steps did does.planned tt taken
+  bind-goes port owner (at.Future table claimed) steps did does taken =
+      keeps _ claimed.node steps did (future_or_count-held claimed (slot_of did.old))
+      (no_and_as g did does.planned tt) taken
+  bind-goes port owner (at.Count claimed) steps did does taken =
+      keeps _ claimed.node steps did (checked_count-held env claimed did.old)
+      (no_and_as g did does.planned tt) taken
+  bind-goes port owner (at.Link claimed) steps did does taken =
+      kept_by claimed.node steps did does.planned tt taken
+  bind-goes port owner (at.Raise claimed) steps did does taken =
+      kept_by claimed.node steps did does.planned tt taken
+  bind-goes port owner (at.Publish claimed kick) steps did does taken =
+      with_node g claimed.node _ (Bound kick) tt (kept_by claimed.node steps did does.planned tt taken)
+  bind-goes port owner (at.Unlocking node unlock next) steps did does taken =
+      keeps _ node steps did (after_unlock-held env node next) (no_and_as g did does.planned tt) taken
+  bind-goes port owner (at.Giving give reply) steps did does taken =
+      with_node g give.node _ reply (refusal_with_node reply does.holds)
+      (kept_by give.node steps did does.planned tt taken)
+
+  -- a look-up takes none
+  find-goes : (port : ℕ) (state : FindAt) (steps : List Did) (did : Did) → FindDoes env state did
+      → TakesNone g steps
+      → GoesOrEnds (λ next. TakesNone g (steps ++ did ∷ [])) (λ reply. TakesNone g (steps ++ did ∷ [])) (find_after_at mix env port state did.old)
+  find-goes port state steps did does none =
+      let still = all_push (IsNoTake g) steps did none (no_and_as g did does.planned (find_no_and env state)) in
+      GoesOrEnds-weaker HoldsFindReply _ IsFindReply _ (λ next holds. still) (λ reply is. still) (find_after_at mix env port state did.old)
+      (find_after-replies mix env port state did.old does.holds)
 
 -- ---- runs
 
-module _ (M : Type 0) (mix : ℕ → ℕ → ℕ → ℕ) (env : Env) where
-  abbrev IsTakenPast : Past → Type 0
-  IsTakenPast past = IsTakenIn env.geometry past.done.call past.done.reply past.steps
-
-  -- what the steps of the call in progress have taken
-  abbrev HasTakenNow : Local M → List Did → Type 0
-  HasTakenNow Idle steps = Unit {0}
-  HasTakenNow (Finding m) steps = TakesNone env.geometry steps
-  HasTakenNow (Binding m) steps = HasTaken env.geometry (node_held m.at) steps
-
-  -- what a caller keeps of itself and of its trace
-  pub record IsTaking (c : ℕ) (here : Seen M) (trace : Trace) : Type 0 where
-    pub right : IsRight M mix env c here
-    pub past : AllByRecursion IsTakenPast trace.past
-    pub now : HasTakenNow here.local trace.steps
-
-  -- ---- the beginning of a call
-
-  abbrev BeginsTaking : Option (Local M) → Type 0
-  BeginsTaking None = Unit {0}
-  BeginsTaking (Some machine) = HasTakenNow machine []
-
-  binding-takes : (c port owner : ℕ) (once : Bool) (kind : Kind)
-      → BeginsTaking (binding_of env c port owner once kind)
-  binding-takes c port owner once Single = tt
-  binding-takes c port owner once Listed = tt
-
-  machine-takes : (c : ℕ) (call : Call) → BeginsTaking (machine_of env c call)
-  machine-takes c (Find port) = tt
-  machine-takes c (Bind port owner once) = binding-takes c port owner once env.config.kind
-  machine-takes c _ = tt
-
-  begins-takes : (c : ℕ) (call : Call) (machine : Local M) (index : ℕ) (here : Seen M) (trace : Trace)
-      → is_idle here.local ≡ true
-      → machine_of env c call ≡ Some machine → IsTaking c here trace
-      → IsTaking c (seen_begin call machine here) (trace_begun index trace)
-  begins-takes c call machine index here trace idle is taking = record {
-    right = (kept-right M mix env).begins c call machine here idle is taking.right;
-    past = taking.past;
-    now = subst BeginsTaking is (machine-takes c call);
-  }
-
-  -- ---- a step of a call
-
-  -- a call that ends
-  ended-takes : (trace : Trace) (did : Did) (in_progress : Option Call) (call : Call) (reply : Reply)
-      → in_progress ≡ Some call
-      → IsTakenIn env.geometry call reply (trace.steps ++ did ∷ []) → AllByRecursion IsTakenPast trace.past
-      → AllByRecursion IsTakenPast (trace_did in_progress did (Some reply) trace).past
-  ended-takes trace did in_progress call reply is takes past =
-      subst (λ (o : Option Call). AllByRecursion IsTakenPast (trace_did o did (Some reply) trace).past) (sym is)
-      (all_push IsTakenPast trace.past
-      (record {
-        done = record { call = call; reply = reply; owners = []; pairs = [] };
-        begin = trace.begin;
-        steps = trace.steps ++ did ∷ [];
-      })
-      past takes)
-
-  -- the past calls and the steps now, once a machine has gone on or ended
-  record GoesOn (trace : Trace) (local : Local M) : Type 0 where
-    past : AllByRecursion IsTakenPast trace.past
-    now : HasTakenNow local trace.steps
-
-  found-takes : (m : FindModel) (next : Next Reply) (book : Book) (trace : Trace) (did : Did)
-      → book.call ≡ Some (Find m.port)
-      → TakesNone env.geometry (trace.steps ++ did ∷ []) → AllByRecursion IsTakenPast trace.past
-      → GoesOn (trace_did book.call did (found_next {M = M} (m, next)).1 trace) (found_next {M = M} (m, next)).0
-  found-takes m Go book trace did is takes past = record { past = past; now = takes }
-  found-takes m (Done reply) book trace did is takes past =
-      record { past = ended-takes trace did book.call (Find m.port) reply is takes past; now = tt }
-
-  bound-takes : (m : BindModel) (next : Next Reply) (book : Book) (trace : Trace) (did : Did)
-      → book.call ≡ Some (Bind m.port m.owner m.once)
-      → GoesAs env.geometry (trace.steps ++ did ∷ []) (m.at, next) → AllByRecursion IsTakenPast trace.past
-      → GoesOn (trace_did book.call did (bound_next {M = M} (m, next)).1 trace) (bound_next {M = M} (m, next)).0
-  bound-takes m Go book trace did is takes past = record { past = past; now = takes }
-  bound-takes m (Done reply) book trace did is takes past =
-      record { past = ended-takes trace did book.call (Bind m.port m.owner m.once) reply is takes past; now = tt }
-
-  local-takes : (c : ℕ) (local : Local M) (book : Book) (trace : Trace) (did : Did)
-      → plan_of local ≡ Some did.op → IsLocalIn env c local
-      → IsTaking c (record { local = local; book = book }) trace
-      → GoesOn (trace_did book.call did (local_after mix local did.old).1 trace) (local_after mix local did.old).0
-  local-takes c Idle book trace did plan within taking = absurd (cc)
-  local-takes c (Finding m) book trace did plan within taking =
-      let is : find_plan m ≡ did.op = cc in
-      let takes =
-      all_push (IsNoTake env.geometry) trace.steps did taking.now
-      (no_and env.geometry did (subst IsNoAnd is (find_no_and m.env m.at))) in
-      found-takes (find_after mix m did.old).0 (find_after mix m did.old).1 book trace did
-      taking.right.progress.call takes taking.past
-  local-takes c (Binding m) book trace did plan within taking =
-      let is : did.op ≡ plan_at m.env m.port m.owner m.at = cc in
-      let back = sym within.same_env in
-      let geometry : env.geometry ≡ m.env.geometry = ap (λ (e : Env). e.geometry) back in
-      let taken : HasTaken m.env.geometry (node_held m.at) trace.steps =
-      subst (λ (h : Geometry). HasTaken h (node_held m.at) trace.steps) geometry taking.now in
-      let range : (take : TakeNodeModel) → m.at ≡ at.Taking take
-      → (take.geometry ≡ m.env.geometry) × IsTakeInRange take.geometry take.at =
-      λ take same. (
-        subst (λ (state : BindAt). IsBindInRange m.env state) same
-            (subst (λ (e : Env). IsBindInRange e m.at) back within.range),
-        subst (IsBindPieceIn env.geometry) same within.piece,
-      ) in
-      let goes = bind-goes mix m.env m.port m.owner m.at trace.steps did is range taking.right.holds taken in
-      bound-takes (bind_after mix m did.old).0 (bind_after mix m did.old).1 book trace did
-      taking.right.progress.call
-      (subst (λ (h : Geometry). GoesAs h (trace.steps ++ did ∷ []) (after_at mix m.env m.port m.at did.old)) (sym geometry) goes)
-      taking.past
-
-  kept-taking : IsKeptTraced M mix env IsTaking
-  kept-taking = record {
-    opens = λ c. record { right = (kept-right M mix env).opens c; past = tt; now = tt };
-    begins = begins-takes;
-    steps = λ c did here trace plan within taking.
-        let goes = local-takes c here.local here.book trace did plan within taking in
-        record { right = (kept-right M mix env).steps c did.op did.old here plan taking.right; past = goes.past; now = goes.now };
-  }
-
-  pub runs-taking : (events : List Event) (c : ℕ)
-      → IsTaking c (seen (traced_of mix env events).world c) ((traced_of {M = M} mix env events).traces c)
-  runs-taking events c = traced_callers_keep M mix env IsTaking kept-taking events c
-
 pub taken_alone : (M : Type 0) (mix : ℕ → ℕ → ℕ → ℕ) → TakenAlone M mix
-taken_alone M mix env events admitted c = (runs-taking M mix env events c).past
+taken_alone M mix env events admitted c =
+    (calls_keep M mix env (FindTakes mix env) (BindTakes mix env) (IsTakenIn env.geometry)
+    record {
+      find_begins = tt;
+      bind_begins = tt;
+      find_goes = find-goes mix env;
+      bind_goes = λ port owner once. bind-goes mix env port owner;
+    }
+    events c).past

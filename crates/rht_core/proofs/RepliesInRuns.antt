@@ -22,7 +22,7 @@ use Rattle.rht_core.specs.declared.local.Local.TheVariants.{Idle, Finding, Bindi
 use Rattle.rht_core.specs.Locals.{is_idle, machine_of, binding_of, plan_of, found_next, bound_next}
 use Rattle.rht_core.specs.Runs.{Seen, seen, book_begun, book_after, finished_with, run_of}
 use Rattle.rht_core.specs.Laws.{IsFindReply, IsBindReply, IsReplyTo, IsAnswered, IsBookOfFind, IsBookOfBind, IsBookOf, Replies, seen_begin, seen_step}
-use Rattle.rht_core.proofs.MachineReplies.{IsNextOf, HoldsFindReply, HoldsBindReply, find_after-replies, bind_after-replies}
+use Rattle.rht_core.proofs.MachineReplies.{GoesOrEnds, HoldsFindReply, HoldsBindReply, find_after-replies, bind_after-replies}
 use Rattle.rht_core.proofs.CallersInRuns.{IsKept, callers_keep}
 
 -- one more at the end of a list of which it holds
@@ -79,16 +79,15 @@ module _ (M : Type 0) (mix : ℕ → ℕ → ℕ → ℕ) (env : Env) where
   -- ---- a step of a call
 
   found-right : (c : ℕ) (m : FindModel) (next : Next Reply) (book : Book) → IsBookOfFind env c m book
-      → HoldsFindReply m.at
-      → IsNextOf IsFindReply next → AllByRecursion IsAnswered book.finished
+      → GoesOrEnds HoldsFindReply IsFindReply (m.at, next) → AllByRecursion IsAnswered book.finished
       → IsRight c (record { local = (found_next {M = M} (m, next)).0; book = book_after (found_next {M = M} (m, next)).1 book })
-  found-right c m Go book of holds answer all =
+  found-right c m Go book of holds all =
       record {
         finished = all;
         progress = record { same_env = of.same_env; same_caller = of.same_caller; call = of.call };
         holds = holds;
       }
-  found-right c m (Done reply) book of holds answer all =
+  found-right c m (Done reply) book of answer all =
       record {
         finished = ended book (Find m.port) reply of.call answer all;
         progress = record { call = refl; steps = refl };
@@ -96,16 +95,15 @@ module _ (M : Type 0) (mix : ℕ → ℕ → ℕ → ℕ) (env : Env) where
       }
 
   bound-right : (c : ℕ) (m : BindModel) (next : Next Reply) (book : Book) → IsBookOfBind env c m book
-      → HoldsBindReply m.at
-      → IsNextOf IsBindReply next → AllByRecursion IsAnswered book.finished
+      → GoesOrEnds HoldsBindReply IsBindReply (m.at, next) → AllByRecursion IsAnswered book.finished
       → IsRight c (record { local = (bound_next {M = M} (m, next)).0; book = book_after (bound_next {M = M} (m, next)).1 book })
-  bound-right c m Go book of holds answer all =
+  bound-right c m Go book of holds all =
       record {
         finished = all;
         progress = record { same_env = of.same_env; same_caller = of.same_caller; call = of.call };
         holds = holds;
       }
-  bound-right c m (Done reply) book of holds answer all =
+  bound-right c m (Done reply) book of answer all =
       record {
         finished = ended book (Bind m.port m.owner m.once) reply of.call answer all;
         progress = record { call = refl; steps = refl };
@@ -117,15 +115,13 @@ module _ (M : Type 0) (mix : ℕ → ℕ → ℕ → ℕ) (env : Env) where
       → IsRight c (seen_step mix old (record { local = local; book = book }))
   local_after-right c Idle book op old plan right = absurd (cc)
   local_after-right c (Finding m) book op old plan right =
-      let next = find_after-replies mix m.env m.port m.at old right.holds in
       found-right c (find_after mix m old).0 (find_after mix m old).1 book
       record { same_env = right.progress.same_env; same_caller = right.progress.same_caller; call = right.progress.call }
-      next.0 next.1 right.finished
+      (find_after-replies mix m.env m.port m.at old right.holds) right.finished
   local_after-right c (Binding m) book op old plan right =
-      let next = bind_after-replies mix m.env m.port m.at old right.holds in
       bound-right c (bind_after mix m old).0 (bind_after mix m old).1 book
       record { same_env = right.progress.same_env; same_caller = right.progress.same_caller; call = right.progress.call }
-      next.0 next.1 right.finished
+      (bind_after-replies mix m.env m.port m.at old right.holds) right.finished
 
   pub kept-right : IsKept M mix env IsRight
   kept-right = record {
