@@ -4,10 +4,14 @@
 -- the one at which it stands was taken; and while its state holds a refusal, what the refusal says.
 -- So when it answers all of that was seen. How the run stood at the event of the operation that loaded
 -- the count of ports follows from the law that each recorded operation stands in the run at its event.
-use Rattle.std.proofs.Common.{◌≡◌, ℕ, ◌≤◌, inl, inr, List, [], ◌∷◌, ◌++◌, min, refl, sym, subst, arith}
+use Rattle.std.proofs.Common.{◌≡◌, ℕ, ◌≤◌, List, [], ◌∷◌, ◌++◌, map, min, refl, sym, subst, arith}
 use Rattle.std.specs.Prelude.{Option, Some, None}
-use Rattle.std.specs.List.{AllByRecursion}
+use Rattle.std.specs.List.{AllByRecursion, Any}
 use Rattle.std.proofs.lemmas.Bool.{cond_both, leb-true}
+use Rattle.std.proofs.lemmas.List.{map-append}
+use Rattle.std.proofs.lemmas.List.Elements.{All-from_recursion}
+use Rattle.std.proofs.lemmas.List.Quantifiers.{Any-push}
+use Rattle.rht_words.specs.Machines.{Performed}
 use Rattle.rht_words.specs.declared.op.Op.TheVariants.{Load}
 use Rattle.rht_words.specs.declared.env.Env.{Env}
 use Rattle.rht_words.specs.declared.geometry.Geometry.{Geometry}
@@ -35,13 +39,13 @@ use Rattle.rht_bind.specs.declared.bind.Claimed.{Claimed}
 use Rattle.rht_bind.specs.declared.bind.BindAt.{BindAt}
 use Rattle.rht_bind.specs.declared.bind.BindAt.TheVariants as at
 use Rattle.rht_core.specs.declared.event.Event.{Event}
-use Rattle.rht_core.specs.Traces.{Did, Past, traced_of}
+use Rattle.rht_core.specs.Traces.{Did, Past, performed_of, traced_of}
 use Rattle.rht_core.specs.Laws.{IsFindReply, IsRecorded, IsPastCall}
-use Rattle.rht_core.specs.Causes.{SomeDid, SawFull, HasCauseIn, HasCause, Causes}
+use Rattle.rht_core.specs.Causes.{SawFull, HasCauseIn, HasCause, Causes}
 use Rattle.rht_core.proofs.MachineReplies.{GoesOrEnds, GoesOrEnds-weaker, HoldsFindReply, find_after-replies}
 use Rattle.rht_core.proofs.TracesInRuns.{at_events}
 use Rattle.rht_core.proofs.TracedCalls.{FindDoes, BindDoes, calls_keep}
-use Rattle.rht_core.proofs.NodesSeen.{some_push, some_last, first_unseen, SawAllBelow, SawAllBelow-push, SawSoFar, take-saw}
+use Rattle.rht_core.proofs.NodesSeen.{Any-append_left, first_unseen, SawAllBelow, SawAllBelow-push, SawSoFar, take-saw}
 use Rattle.rht_core.proofs.FullTables.{counted_at}
 
 -- ---- what a bind has seen
@@ -55,8 +59,8 @@ module _ (env : Env) where
 
   -- what the operations of a call saw for it to have this reply
   abbrev pub SawFor : Reply → List Did → Type 0
-  SawFor NoNode steps = SawAllBelow env.geometry env.geometry.nodes steps
-  SawFor (TooBig count) steps = SomeDid (LoadedFull count) steps
+  SawFor NoNode steps = SawAllBelow env.geometry env.geometry.nodes (map performed_of steps)
+  SawFor (TooBig count) steps = Any (LoadedFull count) steps
   SawFor _ steps = Unit {0}
 
   abbrev SawForThen : Then Reply → List Did → Type 0
@@ -65,7 +69,7 @@ module _ (env : Env) where
 
   -- what a bind has seen so far
   abbrev SawAt : BindAt → List Did → Type 0
-  SawAt (at.Taking take) steps = SawAllBelow env.geometry (first_unseen take.at) steps
+  SawAt (at.Taking take) steps = SawAllBelow env.geometry (first_unseen take.at) (map performed_of steps)
   SawAt (at.Unlocking node unlock next) steps = SawForThen next steps
   SawAt (at.Giving give reply) steps = SawFor reply steps
   SawAt _ steps = Unit {0}
@@ -76,14 +80,17 @@ module _ (env : Env) where
 
   SawFor-push : (reply : Reply) (steps : List Did) (did : Did) → SawFor reply steps
       → SawFor reply (steps ++ did ∷ [])
-  SawFor-push NoNode steps did saw = SawAllBelow-push env.geometry env.geometry.nodes steps did saw
-  SawFor-push (TooBig count) steps did saw = some_push (LoadedFull count) steps did saw
+  SawFor-push NoNode steps did saw =
+      let before = map performed_of steps in
+      subst (SawAllBelow env.geometry env.geometry.nodes) (sym (map-append performed_of steps (did ∷ [])))
+      (SawAllBelow-push env.geometry env.geometry.nodes before (performed_of did) saw)
+  SawFor-push (TooBig count) steps did saw = Any-append_left (LoadedFull count) steps (did ∷ []) saw
   SawFor-push _ steps did saw = tt
 
   -- ---- an operation of a bind
 
   node_taken-saw : (take : TakeNodeModel) (next : Next (Option ℕ)) (steps : List Did)
-      → SawSoFar env.geometry steps (take, next)
+      → SawSoFar env.geometry (map performed_of steps) (take, next)
       → SawNext steps (node_taken take next)
   node_taken-saw take Go steps saw = saw
   node_taken-saw take (Done None) steps saw = saw
@@ -132,7 +139,7 @@ module _ (env : Env) where
       (λ state. SawAt state (steps ++ did ∷ []))
       (λ t.
       let full : most_ports env.config.max ≤ min count 65536 = leb-true (most_ports env.config.max) (min count 65536) t in
-      some_last (LoadedFull count) steps did record { loaded = is; found = refl; full = omega arith })
+      Any-push (LoadedFull count) steps did record { loaded = is; found = refl; full = omega arith })
       (λ f. tt)
 
   -- A case a state. The taking and the load of the count see something, and behind a refusal nothing is forgotten.
@@ -142,10 +149,12 @@ module _ (env : Env) where
   bind-saw mix port owner (at.Taking take) steps did does saw =
       let all = steps ++ did ∷ [] in
       let same = does.within.range in
-      let before = subst (λ (h : Geometry). SawAllBelow h (first_unseen take.at) steps) (sym same) saw in
-      let after = take-saw take take.at steps did does.planned does.within.piece before in
+      let before = map performed_of steps in
+      let saw_below = subst (λ (h : Geometry). SawAllBelow h (first_unseen take.at) before) (sym same) saw in
+      let after = take-saw take take.at before (performed_of did) does.planned does.within.piece saw_below in
+      let here = subst (λ (h : Geometry). SawSoFar h (before ++ performed_of did ∷ []) (take_node_after take did.old)) same after in
       node_taken-saw (take_node_after take did.old).0 (take_node_after take did.old).1 all
-      (subst (λ (h : Geometry). SawSoFar h all (take_node_after take did.old)) same after)
+      (subst (λ (list : List Performed). SawSoFar env.geometry list (take_node_after take did.old)) (sym (map-append performed_of steps (did ∷ []))) here)
   bind-saw mix port owner (at.Key node) steps did does saw = tt
   bind-saw mix port owner (at.Owner node) steps did does saw = tt
   bind-saw mix port owner (at.ListLink node) steps did does saw = tt
@@ -206,16 +215,20 @@ module _ (M : Type 0) (mix : ℕ → ℕ → ℕ → ℕ) (env : Env) where
 
     -- how the run stood at the event is known of each operation
     full-saw : (count : ℕ) (steps : List Did) → AllByRecursion IsRecordedHere steps
-        → SomeDid (LoadedFull env count) steps → SomeDid (SawFull M mix env events c count) steps
-    full-saw count [] recorded some = absurd some
-    full-saw count (did ∷ steps) recorded (inl now) =
-        inl record {
-          loaded = now.loaded;
-          found = now.found;
-          full = now.full;
-          counted = counted_at M mix env events c count did now.loaded now.found recorded.0;
-        }
-    full-saw count (did ∷ steps) recorded (inr later) = inr (full-saw count steps recorded.1 later)
+        → Any (LoadedFull env count) steps → Any (SawFull M mix env events c count) steps
+    full-saw count steps recorded (k, did, within, is, full) =
+        let was = subst IsRecordedHere is (All-from_recursion IsRecordedHere steps recorded k did within) in (
+          k,
+          did,
+          within,
+          is,
+          record {
+            loaded = full.loaded;
+            found = full.found;
+            full = full.full;
+            counted = counted_at M mix env events c count did full.loaded full.found was;
+          },
+        )
 
     cause_of : (reply : Reply) (steps : List Did) → SawFor env reply steps → AllByRecursion IsRecordedHere steps
         → HasCauseIn M mix env events c reply steps

@@ -4,9 +4,12 @@
 -- The taking goes through the nodes in rising order. It leaves a node behind where its bit was clear
 -- in the word that a load of it found, or an And that was to clear this bit or a lower one: behind a
 -- lost And it goes on with the bits above the lost one that were set there.
-use Rattle.std.proofs.Common.{◌≡◌, ℕ, ◌+◌, ◌-◌, ◌*◌, ◌/◌, ◌%◌, ◌^◌, ◌<◌, ◌≤◌, inl, inr, List, [], ◌∷◌, ◌++◌, sym, ap, ◌∙◌, subst, arith}
+use Rattle.std.proofs.Common.{◌≡◌, ℕ, ◌+◌, ◌-◌, ◌*◌, ◌/◌, ◌%◌, ◌^◌, ◌<◌, ◌≤◌, inl, inr, List, [], ◌∷◌, ◌++◌, length-append, sym, ap, ◌∙◌, subst, arith}
 use Rattle.std.specs.Prelude.{Option, Some, None, ◌==◌, nat_lt, min, bit_and}
+use Rattle.std.specs.List.{Any}
 use Rattle.std.specs.Int.{bit_at, trailing_zeros, w64}
+use Rattle.std.proofs.lemmas.List.{get_or_append_left}
+use Rattle.std.proofs.lemmas.List.Quantifiers.{Any-push}
 use Rattle.std.proofs.Math.Pow.{pow_mono}
 use Rattle.std.proofs.lemmas.Bool.{cases_lt, cases_order, cond_both, eqb-true, eqb-false, ltb-true, ltb-false}
 use Rattle.std.proofs.lemmas.Nat.{and_le_r, pow_pos}
@@ -15,26 +18,19 @@ use Rattle.rht_words.specs.declared.geometry.Geometry.{Geometry}
 use Rattle.rht_words.specs.declared.machine.Next.{Next}
 use Rattle.rht_words.specs.declared.machine.Next.TheVariants.{Go, Done}
 use Rattle.rht_words.specs.Operations.{op_place}
+use Rattle.rht_words.specs.Machines.{Performed}
 use Rattle.rht_words.specs.Maps.{map_bits, bits_above, lowest_free, IsBitIn}
 use Rattle.rht_words.specs.Places.{NodeMap, map_words, place_of}
 use Rattle.rht_words.proofs.LowestBits.{lowest_is_in}
 use Rattle.rht_arena.specs.TakeNode.{TakeNodeModel, plan_at, after_at, claim_in, IsInRange}
 use Rattle.rht_arena.specs.declared.take_node.TakeNodeAt.{TakeNodeAt}
 use Rattle.rht_arena.specs.declared.take_node.TakeNodeAt.TheVariants.{MapWord, Claim}
-use Rattle.rht_core.specs.Traces.{Did}
-use Rattle.rht_core.specs.Causes.{SomeDid, SawTaken}
+use Rattle.rht_arena.specs.Laws.{SeesTaken}
 
--- ---- one of the operations
-
--- an operation that was so is among one more
-pub some_push : (So : Did → Type 0) (steps : List Did) (did : Did) → SomeDid So steps → SomeDid So (steps ++ did ∷ [])
-some_push So [] did some = absurd some
-some_push So (first ∷ steps) did (inl now) = inl now
-some_push So (first ∷ steps) did (inr later) = inr (some_push So steps did later)
-
-pub some_last : (So : Did → Type 0) (steps : List Did) (did : Did) → So did → SomeDid So (steps ++ did ∷ [])
-some_last So [] did so = inl so
-some_last So (first ∷ steps) did so = inr (some_last So steps did so)
+-- what was so of one is so of one of more
+pub Any-append_left : {X : Type 0} (P : X → Type 0) (xs ys : List X) → Any P xs → Any P (xs ++ ys)
+Any-append_left P xs ys some =
+    (some.0, some.1, omega (arith, length-append xs ys, some.2), get_or_append_left xs ys some.1 some.0 some.2 ∙ some.3, some.4)
 
 -- ---- the lowest free bit
 
@@ -80,47 +76,47 @@ first_unseen (MapWord index) = 64 * index
 first_unseen (Claim index bit) = 64 * index + bit
 
 -- each node below this one was found taken by one of these operations
-abbrev pub SawAllBelow : Geometry → ℕ → List Did → Type 0
-SawAllBelow g bound steps = (node : ℕ) → node < bound → SomeDid (SawTaken g node) steps
+abbrev pub SawAllBelow : Geometry → ℕ → List Performed → Type 0
+SawAllBelow g bound steps = (node : ℕ) → node < bound → Any (SeesTaken g node) steps
 
 -- what was seen stays seen
-pub SawAllBelow-push : (g : Geometry) (bound : ℕ) (steps : List Did) (did : Did) → SawAllBelow g bound steps
+pub SawAllBelow-push : (g : Geometry) (bound : ℕ) (steps : List Performed) (did : Performed) → SawAllBelow g bound steps
     → SawAllBelow g bound (steps ++ did ∷ [])
-SawAllBelow-push g bound steps did saw node l = some_push (SawTaken g node) steps did (saw node l)
+SawAllBelow-push g bound steps did saw node l = Any-append_left (SeesTaken g node) steps (did ∷ []) (saw node l)
 
 -- where the taking goes on the nodes below its own were seen, and where it finds none all were
-abbrev pub SawSoFar : Geometry → List Did → TakeNodeModel × Next (Option ℕ) → Type 0
+abbrev pub SawSoFar : Geometry → List Performed → TakeNodeModel × Next (Option ℕ) → Type 0
 SawSoFar g steps (take, Go) = SawAllBelow g (first_unseen take.at) steps
 SawSoFar g steps (take, Done None) = SawAllBelow g g.nodes steps
 SawSoFar g steps (take, Done (Some node)) = Unit {0}
 
 -- an operation on a word of the map that finds a bit clear sees the bit's node taken
-sees_taken : (g : Geometry) (did : Did) (index bit : ℕ) → bit < 64
+sees_taken : (g : Geometry) (did : Performed) (index bit : ℕ) → bit < 64
     → op_place did.op ≡ place_of g (NodeMap index)
-    → bit_at did.old bit ≡ 0 → SawTaken g (64 * index + bit) did
+    → bit_at did.old bit ≡ 0 → SeesTaken g (64 * index + bit) did
 sees_taken g did index bit low place clear =
     let word : (64 * index + bit) / 64 ≡ index = omega arith in
     let in_word : (64 * index + bit) % 64 ≡ bit = omega arith in
-    record { on_map = rw word place; clear = rw in_word clear }
+    record { place = rw word place; taken = rw in_word clear }
 
 -- the nodes of a word are seen one by one
-saw_word : (g : Geometry) (steps : List Did) (index until : ℕ) → SawAllBelow g (64 * index) steps
-    → ((bit : ℕ) → bit < until → SomeDid (SawTaken g (64 * index + bit)) steps)
+saw_word : (g : Geometry) (steps : List Performed) (index until : ℕ) → SawAllBelow g (64 * index) steps
+    → ((bit : ℕ) → bit < until → Any (SeesTaken g (64 * index + bit)) steps)
     → SawAllBelow g (64 * index + until) steps
 saw_word g steps index until before here node l = elim (cases_lt node (64 * index)) [
   | inl earlier ↦ before node earlier
   | inr later ↦
       let is : 64 * index + (node - 64 * index) ≡ node = omega arith in
-      subst (λ n. SomeDid (SawTaken g n) steps) is (here (node - 64 * index) (omega arith))
+      subst (λ n. Any (SeesTaken g n) steps) is (here (node - 64 * index) (omega arith))
 ]
 
-module _ (take : TakeNodeModel) (steps : List Did) (index word : ℕ) where
+module _ (take : TakeNodeModel) (steps : List Performed) (index word : ℕ) where
   abbrev g : Geometry
   g = take.geometry
 
   -- where each clear bit of the word was seen, the taking may go on from its lowest free one
   claim_in-saw : index < map_words g.nodes → SawAllBelow g (64 * index) steps
-      → ((bit : ℕ) → bit < 64 → bit_at word bit ≡ 0 → SomeDid (SawTaken g (64 * index + bit)) steps)
+      → ((bit : ℕ) → bit < 64 → bit_at word bit ≡ 0 → Any (SeesTaken g (64 * index + bit)) steps)
       → (lowest : Option ℕ) → IsLowest g.nodes index word lowest → SawSoFar g steps (claim_in take index lowest)
   claim_in-saw range before here None clear =
       cond_both (nat_lt (index + 1) (map_words g.nodes)) _ _ (SawSoFar g steps)
@@ -138,7 +134,7 @@ module _ (take : TakeNodeModel) (steps : List Did) (index word : ℕ) where
       (λ other l. here other (let within = lowest.0.within in omega arith) (lowest.1 other l))
 
 -- each operation of the taking sees what is between the node at which it stands and the next
-pub take-saw : (take : TakeNodeModel) (state : TakeNodeAt) (steps : List Did) (did : Did)
+pub take-saw : (take : TakeNodeModel) (state : TakeNodeAt) (steps : List Performed) (did : Performed)
     → did.op ≡ plan_at take.geometry state
     → IsInRange take.geometry state → SawAllBelow take.geometry (first_unseen state) steps
     → SawSoFar take.geometry (steps ++ did ∷ []) (after_at take state did.old)
@@ -147,7 +143,7 @@ take-saw take (MapWord index) steps did is range saw =
     let all = steps ++ did ∷ [] in
     claim_in-saw take all index did.old range (SawAllBelow-push g (64 * index) steps did saw)
     (λ bit low clear.
-    some_last (SawTaken g (64 * index + bit)) steps did (sees_taken g did index bit low (ap op_place is) clear))
+    Any-push (SeesTaken g (64 * index + bit)) steps did (sees_taken g did index bit low (ap op_place is) clear))
     (lowest_free g.nodes index did.old) (lowest_free-is g.nodes index did.old)
 take-saw take (Claim index bit) steps did is range saw =
     let g = take.geometry in
@@ -156,9 +152,9 @@ take-saw take (Claim index bit) steps did is range saw =
     let within = range.within in
     let below = range.below in
     let before : SawAllBelow g (64 * index + bit) all = SawAllBelow-push g (64 * index + bit) steps did saw in
-    let here : (place : ℕ) → place < 64 → bit_at did.old place ≡ 0 → SomeDid (SawTaken g (64 * index + place)) all =
+    let here : (place : ℕ) → place < 64 → bit_at did.old place ≡ 0 → Any (SeesTaken g (64 * index + place)) all =
     λ place low clear.
-    some_last (SawTaken g (64 * index + place)) steps did (sees_taken g did index place low (ap op_place is) clear) in
+    Any-push (SeesTaken g (64 * index + place)) steps did (sees_taken g did index place low (ap op_place is) clear) in
     cond_both (bit_at did.old bit == 1) _ _ (SawSoFar g all) (λ t. tt)
     (λ f.
     let lost = eqb-false (bit_at did.old bit) 1 f in

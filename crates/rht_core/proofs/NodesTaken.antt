@@ -2,13 +2,13 @@
 -- What a bind holds is read off its state: none while it takes one, and from then on the node that the
 -- state names. A step takes a node exactly where the taking ends with one. Each other And of the taking
 -- finds its bit cleared, and no other state performs an And.
-use Rattle.std.proofs.Common.{◌≡◌, ◌≢◌, ℕ, ◌+◌, ◌*◌, ◌/◌, ◌%◌, ◌^◌, ◌<◌, inl, inr, List, [], ◌∷◌, ◌++◌, refl, sym, ap, ◌∙◌, subst, arith}
+use Rattle.std.proofs.Common.{◌≡◌, ◌≢◌, ℕ, ◌+◌, ◌*◌, ◌^◌, ◌<◌, inl, inr, List, [], ◌∷◌, ◌++◌, refl, sym, ap, ◌∙◌, subst, arith}
 use Rattle.std.specs.Prelude.{Option, Some, None, ◌==◌, nat_lt, min, bit_and}
 use Rattle.std.specs.Int.{bit_at, bit_not, w64}
 use Rattle.std.proofs.Math.Pow.{pow-lt}
 use Rattle.std.proofs.lemmas.Bool.{cond_both, cases_order, eqb-true, eqb-false}
 use Rattle.rht_words.specs.declared.op.Op.{Op}
-use Rattle.rht_words.specs.declared.op.Op.TheVariants.{Load, And}
+use Rattle.rht_words.specs.declared.op.Op.TheVariants.{And}
 use Rattle.rht_words.specs.declared.env.Env.{Env}
 use Rattle.rht_words.specs.declared.geometry.Geometry.{Geometry}
 use Rattle.rht_words.specs.declared.machine.Next.{Next}
@@ -18,11 +18,13 @@ use Rattle.rht_words.specs.declared.machine.Start.TheVariants as starts
 use Rattle.rht_words.specs.Links.{slot_of}
 use Rattle.rht_words.specs.Ports.{word_of}
 use Rattle.rht_words.specs.Maps.{bits_above, bit_of, lowest_free}
-use Rattle.rht_words.specs.Places.{NodeMap, map_words, place_of}
+use Rattle.rht_words.specs.Places.{map_words}
 use Rattle.rht_policy.specs.Thresholds.{is_above_max}
 use Rattle.rht_model.specs.declared.history.Reply.{Reply}
 use Rattle.rht_model.specs.declared.history.Reply.TheVariants.{Bound, Exists, TooBig, NoNode}
-use Rattle.rht_arena.specs.TakeNode.{TakeNodeModel, take_node_plan, take_node_after, plan_at as take_plan_at, after_at as take_after_at, next_word, claim_in, IsInRange as IsTakeInRange, IsNodeIn}
+use Rattle.rht_arena.specs.TakeNode.{TakeNodeModel, take_node_after, plan_at as take_plan_at, after_at as take_after_at, next_word, claim_in, IsInRange as IsTakeInRange}
+use Rattle.rht_arena.specs.Laws.{map_bit, IsTaking}
+use Rattle.rht_arena.proofs.TakenWereFree.{claims}
 use Rattle.rht_arena.specs.declared.take_node.TakeNodeAt.{TakeNodeAt}
 use Rattle.rht_arena.specs.declared.take_node.TakeNodeAt.TheVariants.{MapWord, Claim}
 use Rattle.rht_chain.specs.Lock.{LockModel, lock_plan_at, lock_after}
@@ -42,8 +44,7 @@ use Rattle.rht_bind.specs.declared.bind.Claimed.{Claimed}
 use Rattle.rht_bind.specs.declared.bind.BindAt.{BindAt}
 use Rattle.rht_bind.specs.declared.bind.BindAt.TheVariants as at
 use Rattle.rht_core.specs.Traces.{Did}
-use Rattle.rht_core.specs.Laws.{IsFindReply, IsTake, IsNoTake, TakesNone, TakesOne, IsTakenBy, IsTakenIn, TakenAlone}
-use Rattle.rht_core.proofs.PieceRanges.{take_after-in}
+use Rattle.rht_core.specs.Laws.{IsFindReply, IsNoTake, TakesNone, TakesOne, IsTakenBy, IsTakenIn, TakenAlone}
 use Rattle.rht_core.proofs.MachineReplies.{GoesOrEnds, GoesOrEnds-weaker, IsRefusal, HoldsFindReply, find_after-replies}
 use Rattle.rht_core.proofs.RepliesInRuns.{all_push}
 use Rattle.rht_core.proofs.TracedCalls.{FindDoes, BindDoes, calls_keep}
@@ -59,7 +60,7 @@ TakesOne-push g node (first ∷ steps) did (inr later) takes_none =
     inr (later.0, TakesOne-push g node steps did later.1 takes_none)
 
 TakesOne-last : (g : Geometry) (node : ℕ) (steps : List Did) (did : Did) → TakesNone g steps
-    → IsTake g node did.op did.old → TakesOne g node (steps ++ did ∷ [])
+    → IsTaking g node did.old did.op → TakesOne g node (steps ++ did ∷ [])
 TakesOne-last g node [] did none takes = inl (takes, tt)
 TakesOne-last g node (first ∷ steps) did none takes = inr (none.0, TakesOne-last g node steps did none.1 takes)
 
@@ -71,7 +72,7 @@ IsNoAnd (And place mask) = ⊥
 IsNoAnd _ = Unit {0}
 
 no_and : (g : Geometry) (did : Did) → IsNoAnd did.op → IsNoTake g did
-no_and g did takes_none node takes = subst IsNoAnd takes.clears takes_none
+no_and g did takes_none node claim set = subst IsNoAnd claim takes_none
 
 no_and_as : (g : Geometry) (did : Did) {op : Op} → did.op ≡ op → IsNoAnd op → IsNoTake g did
 no_and_as g did is other = no_and g did (subst IsNoAnd (sym is) other)
@@ -114,60 +115,44 @@ same_bit bit other low other_low same =
     ]
 
 -- the And on this bit takes a node only where the bit was set
-claim_lost : (g : Geometry) (index bit old : ℕ) → bit < 64 → bit_at old bit ≢ 1
-    → (node : ℕ) → IsTake g node (And (place_of g (NodeMap index)) (bit_not w64 (bit_of bit))) old → ⊥
-claim_lost g index bit old low lost node takes =
-    let masks : bit_not w64 (bit_of bit) ≡ bit_not w64 (bit_of (node % 64)) = cc (takes.clears) in
-    let is : bit ≡ node % 64 = same_bit bit (node % 64) low (omega arith) masks in
-    lost (ap (bit_at old) is ∙ takes.free)
-
--- and where it was, the node of that bit
-claim_won : (g : Geometry) (index bit old : ℕ) → bit < 64 → bit_at old bit ≡ 1
-    → IsTake g (64 * index + bit) (And (place_of g (NodeMap index)) (bit_not w64 (bit_of bit))) old
-claim_won g index bit old low won =
-    let index_is : index ≡ (64 * index + bit) / 64 = omega arith in
-    let bit_is : bit ≡ (64 * index + bit) % 64 = omega arith in
-    record {
-      clears =
-          ap (λ (i : ℕ). And (place_of g (NodeMap i)) (bit_not w64 (bit_of bit))) index_is
-          ∙ ap (λ (b : ℕ). And (place_of g (NodeMap ((64 * index + bit) / 64))) (bit_not w64 (bit_of b))) bit_is;
-      free = ap (bit_at old) (sym bit_is) ∙ won;
-    }
+claim_lost : (g : Geometry) (index bit : ℕ) (did : Did) → did.op ≡ take_plan_at g (Claim index bit) → bit < 64
+    → bit_at did.old bit ≢ 1
+    → IsNoTake g did
+claim_lost g index bit did is low lost node claim set =
+    let masks : bit_not w64 (bit_of bit) ≡ bit_not w64 (bit_of (map_bit node)) = cc in
+    lost (ap (bit_at did.old) (same_bit bit (map_bit node) low (omega arith) masks) ∙ set)
 
 -- where the taking goes on or finds none free the operation took none, and else the node that it answers
-abbrev TookAs : Geometry → Op → ℕ → Next (Option ℕ) → Type 0
-TookAs g op old Go = (node : ℕ) → IsTake g node op old → ⊥
-TookAs g op old (Done None) = (node : ℕ) → IsTake g node op old → ⊥
-TookAs g op old (Done (Some node)) = IsTake g node op old
+abbrev TookAs : Geometry → Did → Next (Option ℕ) → Type 0
+TookAs g did Go = IsNoTake g did
+TookAs g did (Done None) = IsNoTake g did
+TookAs g did (Done (Some node)) = IsTaking g node did.old did.op
 
-module _ (take : TakeNodeModel) (op : Op) (old : ℕ) (none : (node : ℕ) → IsTake take.geometry node op old → ⊥)
-  where
-    next_word-took : (index : ℕ) → TookAs take.geometry op old (next_word take index).1
-    next_word-took index =
-        cond_both (nat_lt (index + 1) (map_words take.geometry.nodes)) _ _
-        (λ (next : TakeNodeModel × Next (Option ℕ)). TookAs take.geometry op old next.1)
-        (λ t. none) (λ f. none)
+module _ (take : TakeNodeModel) (did : Did) (none : IsNoTake take.geometry did) where
+  next_word-took : (index : ℕ) → TookAs take.geometry did (next_word take index).1
+  next_word-took index =
+      cond_both (nat_lt (index + 1) (map_words take.geometry.nodes)) _ _
+      (λ (next : TakeNodeModel × Next (Option ℕ)). TookAs take.geometry did next.1)
+      (λ t. none) (λ f. none)
 
-    claim_in-took : (index : ℕ) (lowest : Option ℕ) → TookAs take.geometry op old (claim_in take index lowest).1
-    claim_in-took index None = next_word-took index
-    claim_in-took index (Some bit) = none
+  claim_in-took : (index : ℕ) (lowest : Option ℕ) → TookAs take.geometry did (claim_in take index lowest).1
+  claim_in-took index None = next_word-took index
+  claim_in-took index (Some bit) = none
 
-load_takes_none : (g : Geometry) (place old : ℕ) (node : ℕ) → IsTake g node (Load place) old → ⊥
-load_takes_none g place old node takes = absurd (cc (takes.clears))
-
-take_took : (take : TakeNodeModel) (state : TakeNodeAt) (old : ℕ) → IsTakeInRange take.geometry state
-    → TookAs take.geometry (take_plan_at take.geometry state) old (take_after_at take state old).1
-take_took take (MapWord index) old range =
-    claim_in-took take _ old (load_takes_none take.geometry (place_of take.geometry (NodeMap index)) old) index
-    (lowest_free take.geometry.nodes index old)
-take_took take (Claim index bit) old range =
+take_took : (take : TakeNodeModel) (state : TakeNodeAt) (did : Did) → did.op ≡ take_plan_at take.geometry state
+    → IsTakeInRange take.geometry state
+    → TookAs take.geometry did (take_after_at take state did.old).1
+take_took take (MapWord index) did is range =
+    claim_in-took take did (no_and_as take.geometry did is tt) index (lowest_free take.geometry.nodes index did.old)
+take_took take (Claim index bit) did is range =
     let g = take.geometry in
-    let op = take_plan_at g (Claim index bit) in
-    cond_both (bit_at old bit == 1) _ _ (λ (next : TakeNodeModel × Next (Option ℕ)). TookAs g op old next.1)
-    (λ t. claim_won g index bit old range.within (eqb-true (bit_at old bit) 1 t))
+    cond_both (bit_at did.old bit == 1) _ _ (λ (next : TakeNodeModel × Next (Option ℕ)). TookAs g did next.1)
+    (λ t.
+    subst (λ (op : Op). IsTaking g (64 * index + bit) did.old op) (sym is)
+    (claims g index bit did.old range (eqb-true (bit_at did.old bit) 1 t)))
     (λ f.
-    let lost = claim_lost g index bit old range.within (eqb-false (bit_at old bit) 1 f) in
-    claim_in-took take op old lost index (lowest_free g.nodes index (bit_and old (bits_above bit))))
+    let lost = claim_lost g index bit did is range.within (eqb-false (bit_at did.old bit) 1 f) in
+    claim_in-took take did lost index (lowest_free g.nodes index (bit_and did.old (bits_above bit))))
 
 -- ---- a bind
 
@@ -194,13 +179,12 @@ node_held (at.Giving give reply) = Some give.node
 -- its steps took that one, and none where it holds none
 abbrev pub HasTaken : Geometry → Option ℕ → List Did → Type 0
 HasTaken g None steps = TakesNone g steps
-HasTaken g (Some node) steps = (node < g.nodes) × TakesOne g node steps
+HasTaken g (Some node) steps = TakesOne g node steps
 
 HasTaken-push : (g : Geometry) (held : Option ℕ) (steps : List Did) (did : Did) → HasTaken g held steps
     → IsNoTake g did → HasTaken g held (steps ++ did ∷ [])
 HasTaken-push g None steps did taken takes_none = all_push (IsNoTake g) steps did taken takes_none
-HasTaken-push g (Some node) steps did taken takes_none =
-    (taken.0, TakesOne-push g node steps did taken.1 takes_none)
+HasTaken-push g (Some node) steps did taken takes_none = TakesOne-push g node steps did taken takes_none
 
 found_or_not-held : (table : ℕ) (claimed : Claimed) (found : Option ℕ)
     → node_held (found_or_not table claimed found) ≡ Some claimed.node
@@ -254,7 +238,7 @@ refusal_with_node _ is = absurd is
 with_node : (g : Geometry) (node : ℕ) (steps : List Did) (reply : Reply) → IsWithNode reply
     → HasTaken g (Some node) steps → IsTakenBy g reply steps
 with_node g node steps NoNode is taken = absurd is
-with_node g node steps _ is taken = (node, taken.0, taken.1)
+with_node g node steps _ is taken = (node, taken)
 
 module _ (mix : ℕ → ℕ → ℕ → ℕ) (env : Env) where
   abbrev g : Geometry
@@ -284,12 +268,11 @@ module _ (mix : ℕ → ℕ → ℕ → ℕ) (env : Env) where
   kept_by node steps did is other taken = HasTaken-push g (Some node) steps did taken (no_and_as g did is other)
 
   taking-goes : (take : TakeNodeModel) (next : Next (Option ℕ)) (steps : List Did) (did : Did)
-      → TookAs g did.op did.old next → IsNodeIn g next
+      → TookAs g did next
       → TakesNone g steps → BindGoes (steps ++ did ∷ []) (node_taken take next)
-  taking-goes take Go steps did took node_in none = all_push (IsNoTake g) steps did none took
-  taking-goes take (Done None) steps did took node_in none = all_push (IsNoTake g) steps did none took
-  taking-goes take (Done (Some node)) steps did took node_in none =
-      (node_in, TakesOne-last g node steps did none took)
+  taking-goes take Go steps did took none = all_push (IsNoTake g) steps did none took
+  taking-goes take (Done None) steps did took none = all_push (IsNoTake g) steps did none took
+  taking-goes take (Done (Some node)) steps did took none = TakesOne-last g node steps did none took
 
   -- A case a state. All but the taking perform no And.
   bind-goes : (port owner : ℕ) (state : BindAt) (steps : List Did) (did : Did)
@@ -297,15 +280,9 @@ module _ (mix : ℕ → ℕ → ℕ → ℕ) (env : Env) where
       → BindTakes state steps
       → BindGoes (steps ++ did ∷ []) (after_at mix env port state did.old)
   bind-goes port owner (at.Taking take) steps did does taken =
-      let same = does.within.range in
-      let in_range = does.within.piece in
       let after = take_node_after take did.old in
-      let took = take_took take take.at did.old in_range in
-      let here : TookAs g did.op did.old after.1 =
-      subst (λ (o : Op). TookAs g o did.old after.1) (sym does.planned)
-      (subst (λ (h : Geometry). TookAs h (take_node_plan take) did.old after.1) same took) in
-      let stays = take_after-in take did.old in_range in
-      taking-goes after.0 after.1 steps did here (subst (λ (h : Geometry). IsNodeIn h after.1) same stays.node) taken
+      let took = take_took take take.at did does.planned does.within.piece in
+      taking-goes after.0 after.1 steps did (subst (λ (h : Geometry). TookAs h did after.1) does.within.range took) taken
   bind-goes port owner (at.Key node) steps did does taken = kept_by node steps did does.planned tt taken
   bind-goes port owner (at.Owner node) steps did does taken = kept_by node steps did does.planned tt taken
   bind-goes port owner (at.ListLink node) steps did does taken = kept_by node steps did does.planned tt taken
