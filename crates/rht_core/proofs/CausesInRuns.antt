@@ -5,7 +5,7 @@
 -- So when it answers all of that was seen. How the run stood at the event of the operation that loaded
 -- the count of ports follows from the law that each recorded operation stands in the run at its event.
 use Rattle.std.proofs.Common.{◌≡◌, ℕ, ◌≤◌, List, [], ◌∷◌, ◌++◌, map, min, refl, sym, subst, arith}
-use Rattle.std.specs.Prelude.{Option, Some, None}
+use Rattle.std.specs.Prelude.{Option, Some, None, IfSome, IsSome, if◌then◌else◌}
 use Rattle.std.specs.List.{AllByRecursion, Any}
 use Rattle.std.proofs.lemmas.Bool.{cond_both, leb-true}
 use Rattle.std.proofs.lemmas.List.{map-append}
@@ -17,32 +17,24 @@ use Rattle.rht_words.specs.declared.env.Env.{Env}
 use Rattle.rht_words.specs.declared.geometry.Geometry.{Geometry}
 use Rattle.rht_words.specs.declared.machine.Next.{Next}
 use Rattle.rht_words.specs.declared.machine.Next.TheVariants.{Go, Done}
-use Rattle.rht_words.specs.declared.machine.Start.{Start}
-use Rattle.rht_words.specs.declared.machine.Start.TheVariants as starts
-use Rattle.rht_words.specs.Links.{slot_of}
-use Rattle.rht_words.specs.Ports.{word_of}
 use Rattle.rht_words.specs.Places.{PortCount, place_of}
 use Rattle.rht_policy.specs.Sizes.{most_ports}
 use Rattle.rht_policy.specs.Thresholds.{is_above_max}
 use Rattle.rht_model.specs.declared.history.Reply.{Reply}
 use Rattle.rht_model.specs.declared.history.Reply.TheVariants.{NoNode, TooBig, Found, Missing}
 use Rattle.rht_arena.specs.TakeNode.{TakeNodeModel, take_node_after}
-use Rattle.rht_chain.specs.Lock.{LockModel, lock_after}
-use Rattle.rht_chain.specs.LockedWalk.{LockedWalkModel, locked_walk_new, locked_walk_after}
-use Rattle.rht_chain.specs.declared.locked_walk.Seen.{Seen as WalkSeen}
-use Rattle.rht_chain.specs.declared.locked.Then.{Then}
-use Rattle.rht_chain.specs.declared.locked.Then.TheVariants.{Table, Answer}
 use Rattle.rht_find.specs.Find.{after_at as find_after_at}
 use Rattle.rht_find.specs.declared.find.FindAt.{FindAt}
-use Rattle.rht_bind.specs.Bind.{after_at, node_taken, lock_taken, walk_taken, walk_or_seen, found_or_not, future_or_count, checked_count, unlocking, after_unlock}
-use Rattle.rht_bind.specs.declared.bind.Claimed.{Claimed}
+use Rattle.rht_bind.specs.Bind.{plan_at, after_at, node_taken}
 use Rattle.rht_bind.specs.declared.bind.BindAt.{BindAt}
 use Rattle.rht_bind.specs.declared.bind.BindAt.TheVariants as at
 use Rattle.rht_core.specs.declared.event.Event.{Event}
 use Rattle.rht_core.specs.Traces.{Did, Past, performed_of, traced_of}
 use Rattle.rht_core.specs.Laws.{IsFindReply, IsRecorded, IsPastCall}
 use Rattle.rht_core.specs.Causes.{SawFull, HasCauseIn, HasCause, Causes}
-use Rattle.rht_core.proofs.MachineReplies.{GoesOrEnds, GoesOrEnds-weaker, HoldsFindReply, find_after-replies}
+use Rattle.rht_core.proofs.MachinesGoOn.{GoesOrEnds, GoesOrEnds-weaker}
+use Rattle.rht_core.proofs.HeldByBinds.{bind_node, bind_reply, reply_after, HoldsSo, bind_after-so}
+use Rattle.rht_core.proofs.MachineReplies.{HoldsFindReply, find_after-replies}
 use Rattle.rht_core.proofs.TracesInRuns.{at_events}
 use Rattle.rht_core.proofs.TracedCalls.{FindDoes, BindDoes, calls_keep}
 use Rattle.rht_core.proofs.NodesSeen.{Any-append_left, first_unseen, SawAllBelow, SawAllBelow-push, SawSoFar, take-saw}
@@ -63,16 +55,13 @@ module _ (env : Env) where
   SawFor (TooBig count) steps = Any (LoadedFull count) steps
   SawFor _ steps = Unit {0}
 
-  abbrev SawForThen : Then Reply → List Did → Type 0
-  SawForThen (Table table) steps = Unit {0}
-  SawForThen (Answer reply) steps = SawFor reply steps
+  abbrev SawForReply : Option Reply → List Did → Type 0
+  SawForReply reply steps = IfSome reply (λ r. SawFor r steps)
 
   -- what a bind has seen so far
   abbrev SawAt : BindAt → List Did → Type 0
   SawAt (at.Taking take) steps = SawAllBelow env.geometry (first_unseen take.at) (map performed_of steps)
-  SawAt (at.Unlocking node unlock next) steps = SawForThen next steps
-  SawAt (at.Giving give reply) steps = SawFor reply steps
-  SawAt _ steps = Unit {0}
+  SawAt state steps = SawForReply (bind_reply state) steps
 
   -- what it has seen once it goes on, and once it has answered
   abbrev SawNext : List Did → BindAt × Next Reply → Type 0
@@ -96,85 +85,64 @@ module _ (env : Env) where
   node_taken-saw take (Done None) steps saw = saw
   node_taken-saw take (Done (Some node)) steps saw = tt
 
-  found_or_not-saw : (table : ℕ) (claimed : Claimed) (found : Option ℕ) (steps : List Did)
-      → SawAt (found_or_not table claimed found) steps
-  found_or_not-saw table claimed None steps = tt
-  found_or_not-saw table claimed (Some node) steps = tt
-
-  walk_or_seen-saw : (table : ℕ) (claimed : Claimed) (start : Start LockedWalkModel WalkSeen) (steps : List Did)
-      → SawAt (walk_or_seen table claimed start) steps
-  walk_or_seen-saw table claimed (starts.Running walk) steps = tt
-  walk_or_seen-saw table claimed (starts.Done seen) steps = found_or_not-saw table claimed seen.found steps
-
-  lock_taken-saw : (port node table shape : ℕ) (lock : LockModel) (next : Next ℕ) (steps : List Did)
-      → SawAt (lock_taken env port node table shape lock next) steps
-  lock_taken-saw port node table shape lock Go steps = tt
-  lock_taken-saw port node table shape lock (Done word) steps =
-      walk_or_seen-saw table
-      (record { node = node; shape = shape; bucket = record { place = lock.place; word = word } })
-      (locked_walk_new env.geometry lock.place word (word_of port)) steps
-
-  walk_taken-saw : (table : ℕ) (claimed : Claimed) (walk : LockedWalkModel) (next : Next WalkSeen) (steps : List Did)
-      → SawAt (walk_taken table claimed walk next) steps
-  walk_taken-saw table claimed walk Go steps = tt
-  walk_taken-saw table claimed walk (Done seen) steps = found_or_not-saw table claimed seen.found steps
-
-  future_or_count-saw : (claimed : Claimed) (future : Option ℕ) (steps : List Did)
-      → SawAt (future_or_count claimed future) steps
-  future_or_count-saw claimed None steps = tt
-  future_or_count-saw claimed (Some table) steps = tt
-
-  after_unlock-saw : (node : ℕ) (next : Then Reply) (steps : List Did) (did : Did) → SawForThen next steps
-      → SawAt (after_unlock env node next) (steps ++ did ∷ [])
-  after_unlock-saw node (Table table) steps did saw = tt
-  after_unlock-saw node (Answer reply) steps did saw = SawFor-push reply steps did saw
+  SawForReply-push : (reply : Option Reply) (steps : List Did) (did : Did) → SawForReply reply steps
+      → SawForReply reply (steps ++ did ∷ [])
+  SawForReply-push None steps did saw = tt
+  SawForReply-push (Some reply) steps did saw = SawFor-push reply steps did saw
 
   -- a count that refuses the bind was loaded by this operation
-  checked_count-saw : (claimed : Claimed) (steps : List Did) (did : Did)
-      → did.op ≡ Load (place_of env.geometry PortCount)
-      → SawAt (checked_count env claimed did.old) (steps ++ did ∷ [])
-  checked_count-saw claimed steps did is =
+  count-saw : (steps : List Did) (did : Did) → did.op ≡ Load (place_of env.geometry PortCount)
+      → let full = is_above_max (min did.old 65536) env.config.max in
+      SawForReply (if full then Some (TooBig did.old) else None) (steps ++ did ∷ [])
+  count-saw steps did is =
       let count = did.old in
-      cond_both (is_above_max (min count 65536) env.config.max) (unlocking claimed (Answer (TooBig count))) (at.Link claimed)
-      (λ state. SawAt state (steps ++ did ∷ []))
+      cond_both (is_above_max (min count 65536) env.config.max) (Some (TooBig count)) None (λ reply. SawForReply reply (steps ++ did ∷ []))
       (λ t.
       let full : most_ports env.config.max ≤ min count 65536 = leb-true (most_ports env.config.max) (min count 65536) t in
       Any-push (LoadedFull count) steps did record { loaded = is; found = refl; full = omega arith })
       (λ f. tt)
 
-  -- A case a state. The taking and the load of the count see something, and behind a refusal nothing is forgotten.
-  bind-saw : (mix : ℕ → ℕ → ℕ → ℕ) (port owner : ℕ) (state : BindAt) (steps : List Did) (did : Did)
-      → BindDoes env port owner state did
-      → SawAt state steps → SawNext (steps ++ did ∷ []) (after_at mix env port state did.old)
-  bind-saw mix port owner (at.Taking take) steps did does saw =
-      let all = steps ++ did ∷ [] in
-      let same = does.within.range in
-      let before = map performed_of steps in
-      let saw_below = subst (λ (h : Geometry). SawAllBelow h (first_unseen take.at) before) (sym same) saw in
-      let after = take-saw take take.at before (performed_of did) does.planned does.within.piece saw_below in
-      let here = subst (λ (h : Geometry). SawSoFar h (before ++ performed_of did ∷ []) (take_node_after take did.old)) same after in
-      node_taken-saw (take_node_after take did.old).0 (take_node_after take did.old).1 all
-      (subst (λ (list : List Performed). SawSoFar env.geometry list (take_node_after take did.old)) (sym (map-append performed_of steps (did ∷ []))) here)
-  bind-saw mix port owner (at.Key node) steps did does saw = tt
-  bind-saw mix port owner (at.Owner node) steps did does saw = tt
-  bind-saw mix port owner (at.ListLink node) steps did does saw = tt
-  bind-saw mix port owner (at.CurrentTable node) steps did does saw = tt
-  bind-saw mix port owner (at.Shape node table) steps did does saw = tt
-  bind-saw mix port owner (at.Seed node table shape) steps did does saw = tt
-  bind-saw mix port owner (at.Locking node table shape lock) steps did does saw =
-      lock_taken-saw port node table shape (lock_after lock did.old).0 (lock_after lock did.old).1 (steps ++ did ∷ [])
-  bind-saw mix port owner (at.Walking table claimed walk) steps did does saw =
-      walk_taken-saw table claimed (locked_walk_after walk did.old).0 (locked_walk_after walk did.old).1 (steps ++ did ∷ [])
-  bind-saw mix port owner (at.FoundOwner claimed found) steps did does saw = tt
-  bind-saw mix port owner (at.Future table claimed) steps did does saw =
-      future_or_count-saw claimed (slot_of did.old) (steps ++ did ∷ [])
-  bind-saw mix port owner (at.Count claimed) steps did does saw = checked_count-saw claimed steps did does.planned
-  bind-saw mix port owner (at.Link claimed) steps did does saw = tt
-  bind-saw mix port owner (at.Raise claimed) steps did does saw = tt
-  bind-saw mix port owner (at.Publish claimed kick) steps did does saw = tt
-  bind-saw mix port owner (at.Unlocking node unlock next) steps did does saw =
-      after_unlock-saw node next steps did saw
-  bind-saw mix port owner (at.Giving give reply) steps did does saw = SawFor-push reply steps did saw
+  -- Of the replies that come of an operation, `TooBig` alone tells what was seen; a reply that the bind has had is not forgotten.
+  reply_after-saw : (port owner : ℕ) (state : BindAt) (steps : List Did) (did : Did)
+      → did.op ≡ plan_at env port owner state
+      → IsSome (bind_node state) → SawAt state steps
+      → SawForReply (reply_after env state did.old) (steps ++ did ∷ [])
+  reply_after-saw port owner (at.Taking take) steps did is has saw = absurd (cc)
+  reply_after-saw port owner (at.FoundOwner claimed found) steps did is has saw = tt
+  reply_after-saw port owner (at.Count claimed) steps did is has saw = count-saw steps did is
+  reply_after-saw port owner (at.Publish claimed kick) steps did is has saw = tt
+  reply_after-saw port owner state steps did is has saw = SawForReply-push (bind_reply state) steps did saw
+
+  SawForReply-at : (state : BindAt) (steps : List Did) → IsSome (bind_node state)
+      → SawForReply (bind_reply state) steps
+      → SawAt state steps
+  SawForReply-at (at.Taking take) steps has saw = absurd (cc)
+  SawForReply-at _ steps has saw = saw
+
+  module _ (mix : ℕ → ℕ → ℕ → ℕ) (port owner : ℕ) where
+    with_node-saw : (state : BindAt) (steps : List Did) (did : Did) → BindDoes env port owner state did
+        → IsSome (bind_node state)
+        → SawAt state steps → SawNext (steps ++ did ∷ []) (after_at mix env port state did.old)
+    with_node-saw state steps did does has saw =
+        let all = steps ++ did ∷ [] in
+        let So = λ (node : Option ℕ) (reply : Option Reply). IsSome node × SawForReply reply all in
+        GoesOrEnds-weaker (HoldsSo So) _ (λ (reply : Reply). So (bind_node state) (Some reply)) _ (λ next so. SawForReply-at next all so.0 so.1)
+        (λ reply so. so.1)
+        (after_at mix env port state did.old)
+        (bind_after-so So mix env port state did.old has (has, reply_after-saw port owner state steps did does.planned has saw))
+
+    bind-saw : (state : BindAt) (steps : List Did) (did : Did) → BindDoes env port owner state did
+        → SawAt state steps → SawNext (steps ++ did ∷ []) (after_at mix env port state did.old)
+    bind-saw (at.Taking take) steps did does saw =
+        let all = steps ++ did ∷ [] in
+        let same = does.within.range in
+        let before = map performed_of steps in
+        let saw_below = subst (λ (h : Geometry). SawAllBelow h (first_unseen take.at) before) (sym same) saw in
+        let after = take-saw take take.at before (performed_of did) does.planned does.within.piece saw_below in
+        let here = subst (λ (h : Geometry). SawSoFar h (before ++ performed_of did ∷ []) (take_node_after take did.old)) same after in
+        node_taken-saw (take_node_after take did.old).0 (take_node_after take did.old).1 all
+        (subst (λ (list : List Performed). SawSoFar env.geometry list (take_node_after take did.old)) (sym (map-append performed_of steps (did ∷ []))) here)
+    bind-saw state steps did does saw = with_node-saw state steps did does refl saw
 
   -- of a look-up's replies nothing is said
   find_reply-saw : (reply : Reply) (steps : List Did) → IsFindReply reply → SawFor reply steps

@@ -18,6 +18,10 @@ pub mod CallsInProgress
 pub mod CallersNotEnrolled
 -- what each caller keeps of itself holds in every run
 pub mod CallersInRuns
+-- a machine goes on in a state, or has answered
+pub mod MachinesGoOn
+-- the node that a bind has taken, and the reply that it is going to answer
+pub mod HeldByBinds
 -- what a look-up and a bind answer
 pub mod MachineReplies
 -- in every run each call that has ended has a reply of its kind

@@ -3,7 +3,7 @@
 -- state names. A step takes a node exactly where the taking ends with one. Each other And of the taking
 -- finds its bit cleared, and no other state performs an And.
 use Rattle.std.proofs.Common.{◌≡◌, ◌≢◌, ℕ, ◌+◌, ◌*◌, ◌^◌, ◌<◌, inl, inr, List, [], ◌∷◌, ◌++◌, refl, sym, ap, ◌∙◌, subst, arith}
-use Rattle.std.specs.Prelude.{Option, Some, None, ◌==◌, nat_lt, min, bit_and}
+use Rattle.std.specs.Prelude.{Option, Some, None, IsSome, ◌==◌, nat_lt, bit_and}
 use Rattle.std.specs.Int.{bit_at, bit_not, w64}
 use Rattle.std.proofs.Math.Pow.{pow-lt}
 use Rattle.std.proofs.lemmas.Bool.{cond_both, cases_order, eqb-true, eqb-false}
@@ -13,39 +13,32 @@ use Rattle.rht_words.specs.declared.env.Env.{Env}
 use Rattle.rht_words.specs.declared.geometry.Geometry.{Geometry}
 use Rattle.rht_words.specs.declared.machine.Next.{Next}
 use Rattle.rht_words.specs.declared.machine.Next.TheVariants.{Go, Done}
-use Rattle.rht_words.specs.declared.machine.Start.{Start}
-use Rattle.rht_words.specs.declared.machine.Start.TheVariants as starts
-use Rattle.rht_words.specs.Links.{slot_of}
-use Rattle.rht_words.specs.Ports.{word_of}
 use Rattle.rht_words.specs.Maps.{bits_above, bit_of, lowest_free}
 use Rattle.rht_words.specs.Places.{map_words}
-use Rattle.rht_policy.specs.Thresholds.{is_above_max}
 use Rattle.rht_model.specs.declared.history.Reply.{Reply}
-use Rattle.rht_model.specs.declared.history.Reply.TheVariants.{Bound, Exists, TooBig, NoNode}
+use Rattle.rht_model.specs.declared.history.Reply.TheVariants.{NoNode}
 use Rattle.rht_arena.specs.TakeNode.{TakeNodeModel, take_node_after, plan_at as take_plan_at, after_at as take_after_at, next_word, claim_in, IsInRange as IsTakeInRange}
 use Rattle.rht_arena.specs.Laws.{map_bit, IsTaking}
 use Rattle.rht_arena.proofs.TakenWereFree.{claims}
 use Rattle.rht_arena.specs.declared.take_node.TakeNodeAt.{TakeNodeAt}
 use Rattle.rht_arena.specs.declared.take_node.TakeNodeAt.TheVariants.{MapWord, Claim}
-use Rattle.rht_chain.specs.Lock.{LockModel, lock_plan_at, lock_after}
+use Rattle.rht_chain.specs.Lock.{lock_plan_at}
 use Rattle.rht_chain.specs.declared.lock.LockAt.{LockAt}
 use Rattle.rht_chain.specs.declared.lock.LockAt.TheVariants as lock_at
-use Rattle.rht_chain.specs.LockedWalk.{LockedWalkModel, walk_plan_at, locked_walk_new, locked_walk_after}
+use Rattle.rht_chain.specs.LockedWalk.{walk_plan_at}
 use Rattle.rht_chain.specs.declared.locked_walk.LockedWalkAt.{LockedWalkAt}
 use Rattle.rht_chain.specs.declared.locked_walk.LockedWalkAt.TheVariants as walk_at
-use Rattle.rht_chain.specs.declared.locked_walk.Seen.{Seen as WalkSeen}
-use Rattle.rht_chain.specs.declared.locked.Then.{Then}
-use Rattle.rht_chain.specs.declared.locked.Then.TheVariants.{Table, Answer}
 use Rattle.rht_find.specs.Find.{plan_at as find_plan_at, after_at as find_after_at}
 use Rattle.rht_find.specs.declared.find.FindAt.{FindAt}
 use Rattle.rht_find.specs.declared.find.FindAt.TheVariants as find_at
-use Rattle.rht_bind.specs.Bind.{after_at, node_taken, lock_taken, walk_taken, walk_or_seen, found_or_not, future_or_count, checked_count, after_unlock}
-use Rattle.rht_bind.specs.declared.bind.Claimed.{Claimed}
+use Rattle.rht_bind.specs.Bind.{plan_at as bind_plan_at, after_at, node_taken}
 use Rattle.rht_bind.specs.declared.bind.BindAt.{BindAt}
 use Rattle.rht_bind.specs.declared.bind.BindAt.TheVariants as at
 use Rattle.rht_core.specs.Traces.{Did}
 use Rattle.rht_core.specs.Laws.{IsFindReply, IsNoTake, TakesNone, TakesOne, IsTakenBy, IsTakenIn, TakenAlone}
-use Rattle.rht_core.proofs.MachineReplies.{GoesOrEnds, GoesOrEnds-weaker, IsRefusal, HoldsFindReply, find_after-replies}
+use Rattle.rht_core.proofs.MachinesGoOn.{GoesOrEnds, GoesOrEnds-weaker}
+use Rattle.rht_core.proofs.HeldByBinds.{bind_node, HoldsSo, bind_after-so}
+use Rattle.rht_core.proofs.MachineReplies.{HoldsFindReply, IsReplyWithNode, IsNoneOrWithNode, find_after-replies, reply_after-with_node}
 use Rattle.rht_core.proofs.RepliesInRuns.{all_push}
 use Rattle.rht_core.proofs.TracedCalls.{FindDoes, BindDoes, calls_keep}
 
@@ -86,16 +79,9 @@ walk_no_and g (walk_at.Key node) = tt
 walk_no_and g (walk_at.ChainLink node) = tt
 
 find_no_and : (env : Env) (state : FindAt) → IsNoAnd (find_plan_at env state)
-find_no_and env find_at.CurrentTable = tt
-find_no_and env (find_at.Shape table) = tt
-find_no_and env (find_at.Seed table shape) = tt
 find_no_and env (find_at.Locking table lock) = lock_no_and lock.place lock.at
 find_no_and env (find_at.Walking table bucket walk) = walk_no_and walk.geometry walk.at
-find_no_and env (find_at.Future table bucket) = tt
-find_no_and env (find_at.FirstOwner bucket node) = tt
-find_no_and env (find_at.ListLink bucket node owner) = tt
-find_no_and env (find_at.LaterOwner bucket node owner) = tt
-find_no_and env (find_at.Unlocking unlock next) = tt
+find_no_and env _ = tt
 
 -- ---- the taking of a node
 
@@ -156,89 +142,29 @@ take_took take (Claim index bit) did is range =
 
 -- ---- a bind
 
--- the node that a bind has taken
-abbrev pub node_held : BindAt → Option ℕ
-node_held (at.Taking take) = None
-node_held (at.Key node) = Some node
-node_held (at.Owner node) = Some node
-node_held (at.ListLink node) = Some node
-node_held (at.CurrentTable node) = Some node
-node_held (at.Shape node table) = Some node
-node_held (at.Seed node table shape) = Some node
-node_held (at.Locking node table shape lock) = Some node
-node_held (at.Walking table claimed walk) = Some claimed.node
-node_held (at.FoundOwner claimed found) = Some claimed.node
-node_held (at.Future table claimed) = Some claimed.node
-node_held (at.Count claimed) = Some claimed.node
-node_held (at.Link claimed) = Some claimed.node
-node_held (at.Raise claimed) = Some claimed.node
-node_held (at.Publish claimed kick) = Some claimed.node
-node_held (at.Unlocking node unlock next) = Some node
-node_held (at.Giving give reply) = Some give.node
+bind_no_and : (env : Env) (port owner : ℕ) (state : BindAt) → IsSome (bind_node state)
+    → IsNoAnd (bind_plan_at env port owner state)
+bind_no_and env port owner (at.Taking take) has = absurd (cc)
+bind_no_and env port owner (at.Locking node table shape lock) has = lock_no_and lock.place lock.at
+bind_no_and env port owner (at.Walking table claimed walk) has = walk_no_and walk.geometry walk.at
+bind_no_and env port owner _ has = tt
 
--- its steps took that one, and none where it holds none
-abbrev pub HasTaken : Geometry → Option ℕ → List Did → Type 0
+-- the steps took the node that the bind has, and none where it has none
+abbrev HasTaken : Geometry → Option ℕ → List Did → Type 0
 HasTaken g None steps = TakesNone g steps
 HasTaken g (Some node) steps = TakesOne g node steps
 
-HasTaken-push : (g : Geometry) (held : Option ℕ) (steps : List Did) (did : Did) → HasTaken g held steps
-    → IsNoTake g did → HasTaken g held (steps ++ did ∷ [])
+HasTaken-push : (g : Geometry) (node : Option ℕ) (steps : List Did) (did : Did) → HasTaken g node steps
+    → IsNoTake g did → HasTaken g node (steps ++ did ∷ [])
 HasTaken-push g None steps did taken takes_none = all_push (IsNoTake g) steps did taken takes_none
 HasTaken-push g (Some node) steps did taken takes_none = TakesOne-push g node steps did taken takes_none
 
-found_or_not-held : (table : ℕ) (claimed : Claimed) (found : Option ℕ)
-    → node_held (found_or_not table claimed found) ≡ Some claimed.node
-found_or_not-held table claimed None = refl
-found_or_not-held table claimed (Some node) = refl
-
-walk_or_seen-held : (table : ℕ) (claimed : Claimed) (start : Start LockedWalkModel WalkSeen)
-    → node_held (walk_or_seen table claimed start) ≡ Some claimed.node
-walk_or_seen-held table claimed (starts.Running walk) = refl
-walk_or_seen-held table claimed (starts.Done seen) = found_or_not-held table claimed seen.found
-
-lock_taken-held : (env : Env) (port node table shape : ℕ) (lock : LockModel) (next : Next ℕ)
-    → node_held (lock_taken env port node table shape lock next) ≡ Some node
-lock_taken-held env port node table shape lock Go = refl
-lock_taken-held env port node table shape lock (Done word) =
-    walk_or_seen-held table
-    (record { node = node; shape = shape; bucket = record { place = lock.place; word = word } })
-    (locked_walk_new env.geometry lock.place word (word_of port))
-
-walk_taken-held : (table : ℕ) (claimed : Claimed) (walk : LockedWalkModel) (next : Next WalkSeen)
-    → node_held (walk_taken table claimed walk next) ≡ Some claimed.node
-walk_taken-held table claimed walk Go = refl
-walk_taken-held table claimed walk (Done seen) = found_or_not-held table claimed seen.found
-
-future_or_count-held : (claimed : Claimed) (future : Option ℕ)
-    → node_held (future_or_count claimed future) ≡ Some claimed.node
-future_or_count-held claimed None = refl
-future_or_count-held claimed (Some table) = refl
-
-checked_count-held : (env : Env) (claimed : Claimed) (count : ℕ)
-    → node_held (checked_count env claimed count) ≡ Some claimed.node
-checked_count-held env claimed count =
-    cond_both (is_above_max (min count 65536) env.config.max) _ _ (λ state. node_held state ≡ Some claimed.node)
-    (λ t. refl) (λ f. refl)
-
-after_unlock-held : (env : Env) (node : ℕ) (next : Then Reply)
-    → node_held (after_unlock env node next) ≡ Some node
-after_unlock-held env node (Table table) = refl
-after_unlock-held env node (Answer reply) = refl
-
--- a reply that comes with a node
-abbrev IsWithNode : Reply → Type 0
-IsWithNode NoNode = ⊥
-IsWithNode _ = Unit {0}
-
-refusal_with_node : (reply : Reply) → IsRefusal reply → IsWithNode reply
-refusal_with_node (Exists owner) is = tt
-refusal_with_node (TooBig count) is = tt
-refusal_with_node _ is = absurd is
-
-with_node : (g : Geometry) (node : ℕ) (steps : List Did) (reply : Reply) → IsWithNode reply
-    → HasTaken g (Some node) steps → IsTakenBy g reply steps
-with_node g node steps NoNode is taken = absurd is
-with_node g node steps _ is taken = (node, taken)
+with_node : (g : Geometry) (node : Option ℕ) (steps : List Did) (reply : Reply) → IsSome node
+    → IsReplyWithNode reply
+    → HasTaken g node steps → IsTakenBy g reply steps
+with_node g None steps reply has is taken = absurd (cc)
+with_node g (Some node) steps NoNode has is taken = absurd is
+with_node g (Some node) steps _ has is taken = (node, taken)
 
 module _ (mix : ℕ → ℕ → ℕ → ℕ) (env : Env) where
   abbrev g : Geometry
@@ -249,23 +175,11 @@ module _ (mix : ℕ → ℕ → ℕ → ℕ) (env : Env) where
   FindTakes state steps = TakesNone g steps
 
   abbrev BindTakes : BindAt → List Did → Type 0
-  BindTakes state steps = HasTaken g (node_held state) steps
+  BindTakes state steps = HasTaken g (bind_node state) steps
 
   -- what a bind has taken once it goes on, and once it has answered
   abbrev BindGoes : List Did → BindAt × Next Reply → Type 0
   BindGoes steps next = GoesOrEnds (λ state. BindTakes state steps) (λ reply. IsTakenBy g reply steps) next
-
-  -- a state that holds a node keeps it
-  keeps : (state : BindAt) (node : ℕ) (steps : List Did) (did : Did) → node_held state ≡ Some node
-      → IsNoTake g did
-      → HasTaken g (Some node) steps → BindTakes state (steps ++ did ∷ [])
-  keeps state node steps did is takes_none taken =
-      subst (λ (held : Option ℕ). HasTaken g held (steps ++ did ∷ [])) (sym is)
-      (HasTaken-push g (Some node) steps did taken takes_none)
-
-  kept_by : (node : ℕ) (steps : List Did) (did : Did) {op : Op} → did.op ≡ op → IsNoAnd op
-      → HasTaken g (Some node) steps → HasTaken g (Some node) (steps ++ did ∷ [])
-  kept_by node steps did is other taken = HasTaken-push g (Some node) steps did taken (no_and_as g did is other)
 
   taking-goes : (take : TakeNodeModel) (next : Next (Option ℕ)) (steps : List Did) (did : Did)
       → TookAs g did next
@@ -274,7 +188,20 @@ module _ (mix : ℕ → ℕ → ℕ → ℕ) (env : Env) where
   taking-goes take (Done None) steps did took none = all_push (IsNoTake g) steps did none took
   taking-goes take (Done (Some node)) steps did took none = TakesOne-last g node steps did none took
 
-  -- A case a state. All but the taking perform no And.
+  -- a bind that has its node performs no And, so the node stays the one that it took
+  with_node-goes : (port owner : ℕ) (state : BindAt) (steps : List Did) (did : Did)
+      → BindDoes env port owner state did
+      → IsSome (bind_node state) → BindTakes state steps
+      → BindGoes (steps ++ did ∷ []) (after_at mix env port state did.old)
+  with_node-goes port owner state steps did does has taken =
+      let all = steps ++ did ∷ [] in
+      let still = HasTaken-push g (bind_node state) steps did taken (no_and_as g did does.planned (bind_no_and env port owner state has)) in
+      let So = λ (node : Option ℕ) (reply : Option Reply). HasTaken g node all × IsNoneOrWithNode reply in
+      GoesOrEnds-weaker (HoldsSo So) _ (λ (reply : Reply). So (bind_node state) (Some reply)) _ (λ next so. so.0)
+      (λ reply so. with_node g (bind_node state) all reply has so.1 so.0)
+      (after_at mix env port state did.old)
+      (bind_after-so So mix env port state did.old has (still, reply_after-with_node env state did.old does.holds))
+
   bind-goes : (port owner : ℕ) (state : BindAt) (steps : List Did) (did : Did)
       → BindDoes env port owner state did
       → BindTakes state steps
@@ -283,42 +210,7 @@ module _ (mix : ℕ → ℕ → ℕ → ℕ) (env : Env) where
       let after = take_node_after take did.old in
       let took = take_took take take.at did does.planned does.within.piece in
       taking-goes after.0 after.1 steps did (subst (λ (h : Geometry). TookAs h did after.1) does.within.range took) taken
-  bind-goes port owner (at.Key node) steps did does taken = kept_by node steps did does.planned tt taken
-  bind-goes port owner (at.Owner node) steps did does taken = kept_by node steps did does.planned tt taken
-  bind-goes port owner (at.ListLink node) steps did does taken = kept_by node steps did does.planned tt taken
-  bind-goes port owner (at.CurrentTable node) steps did does taken =
-      kept_by node steps did does.planned tt taken
-  bind-goes port owner (at.Shape node table) steps did does taken =
-      kept_by node steps did does.planned tt taken
-  bind-goes port owner (at.Seed node table shape) steps did does taken =
-      kept_by node steps did does.planned tt taken
-  bind-goes port owner (at.Locking node table shape lock) steps did does taken =
-      keeps _ node steps did
-      (lock_taken-held env port node table shape (lock_after lock did.old).0 (lock_after lock did.old).1)
-      (no_and_as g did does.planned (lock_no_and lock.place lock.at)) taken
-  bind-goes port owner (at.Walking table claimed walk) steps did does taken =
-      keeps _ claimed.node steps did
-      (walk_taken-held table claimed (locked_walk_after walk did.old).0 (locked_walk_after walk did.old).1)
-      (no_and_as g did does.planned (walk_no_and walk.geometry walk.at)) taken
-  bind-goes port owner (at.FoundOwner claimed found) steps did does taken =
-      kept_by claimed.node steps did does.planned tt taken
-  bind-goes port owner (at.Future table claimed) steps did does taken =
-      keeps _ claimed.node steps did (future_or_count-held claimed (slot_of did.old))
-      (no_and_as g did does.planned tt) taken
-  bind-goes port owner (at.Count claimed) steps did does taken =
-      keeps _ claimed.node steps did (checked_count-held env claimed did.old)
-      (no_and_as g did does.planned tt) taken
-  bind-goes port owner (at.Link claimed) steps did does taken =
-      kept_by claimed.node steps did does.planned tt taken
-  bind-goes port owner (at.Raise claimed) steps did does taken =
-      kept_by claimed.node steps did does.planned tt taken
-  bind-goes port owner (at.Publish claimed kick) steps did does taken =
-      with_node g claimed.node _ (Bound kick) tt (kept_by claimed.node steps did does.planned tt taken)
-  bind-goes port owner (at.Unlocking node unlock next) steps did does taken =
-      keeps _ node steps did (after_unlock-held env node next) (no_and_as g did does.planned tt) taken
-  bind-goes port owner (at.Giving give reply) steps did does taken =
-      with_node g give.node _ reply (refusal_with_node reply does.holds)
-      (kept_by give.node steps did does.planned tt taken)
+  bind-goes port owner state steps did does taken = with_node-goes port owner state steps did does refl taken
 
   -- a look-up takes none
   find-goes : (port : ℕ) (state : FindAt) (steps : List Did) (did : Did) → FindDoes env state did

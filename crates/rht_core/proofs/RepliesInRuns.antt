@@ -22,7 +22,8 @@ use Rattle.rht_core.specs.declared.local.Local.TheVariants.{Idle, Finding, Bindi
 use Rattle.rht_core.specs.Locals.{is_idle, machine_of, binding_of, plan_of, found_next, bound_next}
 use Rattle.rht_core.specs.Runs.{Seen, seen, book_begun, book_after, finished_with, run_of}
 use Rattle.rht_core.specs.Laws.{IsFindReply, IsBindReply, IsReplyTo, IsAnswered, IsBookOfFind, IsBookOfBind, IsBookOf, Replies, seen_begin, seen_step}
-use Rattle.rht_core.proofs.MachineReplies.{GoesOrEnds, HoldsFindReply, HoldsBindReply, find_after-replies, bind_after-replies}
+use Rattle.rht_core.proofs.MachinesGoOn.{GoesOrEnds}
+use Rattle.rht_core.proofs.MachineReplies.{HoldsFindReply, HoldsBindReply, find_after-replies, bind_after-replies}
 use Rattle.rht_core.proofs.CallersInRuns.{IsKept, callers_keep}
 
 -- one more at the end of a list of which it holds

@@ -34,7 +34,8 @@ use Rattle.rht_core.specs.Traces.{Did, Past, Trace, Traced, trace_begun, trace_d
 use Rattle.rht_core.specs.Laws.{IsLocalIn, seen_begin}
 use Rattle.rht_core.proofs.FindRanges.{IsFindAtIn}
 use Rattle.rht_core.proofs.BindRanges.{IsBindAtIn}
-use Rattle.rht_core.proofs.MachineReplies.{GoesOrEnds, HoldsFindReply, HoldsBindReply}
+use Rattle.rht_core.proofs.MachinesGoOn.{GoesOrEnds}
+use Rattle.rht_core.proofs.MachineReplies.{HoldsFindReply, HoldsBindReply}
 use Rattle.rht_core.proofs.RepliesInRuns.{IsRight, kept-right, all_push}
 use Rattle.rht_core.proofs.TracedCallers.{IsKeptTraced, traced_callers_keep}
 
@@ -44,7 +45,7 @@ pub record FindDoes (env : Env) (state : FindAt) (did : Did) : Type 0 where
   pub within : IsFindAtIn env state
   pub holds : HoldsFindReply state
 
--- a bind in this state performs this operation; its state is in range, and the reply that it holds is a refusal
+-- a bind in this state performs this operation; its state is in range, and the reply that it holds is one of a bind with a node
 pub record BindDoes (env : Env) (port owner : ℕ) (state : BindAt) (did : Did) : Type 0 where
   pub planned : did.op ≡ bind.plan_at env port owner state
   pub within : IsBindAtIn env state

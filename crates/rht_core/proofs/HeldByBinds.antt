@@ -1,0 +1,133 @@
+-- What a bind holds is read off its state: the node that it has taken, and the reply that it is going to answer.
+--
+-- From the taking on it keeps its node. A reply comes of three operations: of the load of an owner, of the
+-- load of a count that is too great, and of the store that binds; it is kept until it is answered.
+-- So what a law says of binds has to be looked at where they take a node, and where a reply comes.
+-- No other operation changes what a bind holds, whichever state it leads to.
+use Rattle.std.proofs.Common.{ℕ, Bool, true, false, cond}
+use Rattle.std.specs.Prelude.{Option, Some, None, IsSome, min, if◌then◌else◌}
+use Rattle.rht_words.specs.declared.env.Env.{Env}
+use Rattle.rht_words.specs.declared.machine.Next.{Next}
+use Rattle.rht_words.specs.declared.machine.Next.TheVariants.{Go, Done}
+use Rattle.rht_words.specs.declared.machine.Start.{Start}
+use Rattle.rht_words.specs.declared.machine.Start.TheVariants as starts
+use Rattle.rht_words.specs.Links.{slot_of}
+use Rattle.rht_words.specs.Ports.{word_of, owner_of}
+use Rattle.rht_policy.specs.Thresholds.{is_above_max}
+use Rattle.rht_model.specs.declared.history.Reply.{Reply}
+use Rattle.rht_model.specs.declared.history.Reply.TheVariants.{Bound, Exists, TooBig}
+use Rattle.rht_chain.specs.Lock.{LockModel, lock_after}
+use Rattle.rht_chain.specs.LockedWalk.{LockedWalkModel, locked_walk_new, locked_walk_after}
+use Rattle.rht_chain.specs.declared.locked_walk.Seen.{Seen}
+use Rattle.rht_chain.specs.declared.locked.Then.{Then}
+use Rattle.rht_chain.specs.declared.locked.Then.TheVariants.{Table, Answer}
+use Rattle.rht_bind.specs.Bind.{after_at, lock_taken, walk_taken, walk_or_seen, found_or_not, unlocking, future_or_count, after_unlock}
+use Rattle.rht_bind.specs.declared.bind.Claimed.{Claimed}
+use Rattle.rht_bind.specs.declared.bind.BindAt.{BindAt}
+use Rattle.rht_bind.specs.declared.bind.BindAt.TheVariants as at
+use Rattle.rht_core.proofs.MachinesGoOn.{GoesOrEnds}
+
+-- the node that a bind has taken
+abbrev pub bind_node : BindAt → Option ℕ
+bind_node (at.Taking take) = None
+bind_node (at.Key node) = Some node
+bind_node (at.Owner node) = Some node
+bind_node (at.ListLink node) = Some node
+bind_node (at.CurrentTable node) = Some node
+bind_node (at.Shape node table) = Some node
+bind_node (at.Seed node table shape) = Some node
+bind_node (at.Locking node table shape lock) = Some node
+bind_node (at.Walking table claimed walk) = Some claimed.node
+bind_node (at.FoundOwner claimed found) = Some claimed.node
+bind_node (at.Future table claimed) = Some claimed.node
+bind_node (at.Count claimed) = Some claimed.node
+bind_node (at.Link claimed) = Some claimed.node
+bind_node (at.Raise claimed) = Some claimed.node
+bind_node (at.Publish claimed kick) = Some claimed.node
+bind_node (at.Unlocking node unlock next) = Some node
+bind_node (at.Giving give reply) = Some give.node
+
+-- the reply that comes behind an unlocking
+abbrev reply_of : Then Reply → Option Reply
+reply_of (Table table) = None
+reply_of (Answer reply) = Some reply
+
+-- the reply that a bind is going to answer
+abbrev pub bind_reply : BindAt → Option Reply
+bind_reply (at.Unlocking node unlock next) = reply_of next
+bind_reply (at.Giving give reply) = Some reply
+bind_reply _ = None
+
+-- the reply that it has once it has found this word
+abbrev pub reply_after : Env → BindAt → ℕ → Option Reply
+reply_after env (at.FoundOwner claimed found) word = Some (Exists (owner_of word))
+reply_after env (at.Count claimed) word =
+    if is_above_max (min word 65536) env.config.max then Some (TooBig word) else None
+reply_after env (at.Publish claimed kick) word = Some (Bound kick)
+reply_after env state word = bind_reply state
+
+-- `So` is anything that may be said of a node and a reply
+module _ (So : Option ℕ → Option Reply → Type 0) where
+  -- it is so of what a state holds
+  abbrev pub HoldsSo : BindAt → Type 0
+  HoldsSo state = So (bind_node state) (bind_reply state)
+
+  found_or_not-so : (table : ℕ) (claimed : Claimed) (found : Option ℕ) → So (Some claimed.node) None
+      → HoldsSo (found_or_not table claimed found)
+  found_or_not-so table claimed None so = so
+  found_or_not-so table claimed (Some node) so = so
+
+  walk_or_seen-so : (table : ℕ) (claimed : Claimed) (start : Start LockedWalkModel Seen)
+      → So (Some claimed.node) None
+      → HoldsSo (walk_or_seen table claimed start)
+  walk_or_seen-so table claimed (starts.Running walk) so = so
+  walk_or_seen-so table claimed (starts.Done seen) so = found_or_not-so table claimed seen.found so
+
+  lock_taken-so : (env : Env) (port node table shape : ℕ) (lock : LockModel) (next : Next ℕ) → So (Some node) None
+      → HoldsSo (lock_taken env port node table shape lock next)
+  lock_taken-so env port node table shape lock Go so = so
+  lock_taken-so env port node table shape lock (Done word) so =
+      walk_or_seen-so table
+      (record { node = node; shape = shape; bucket = record { place = lock.place; word = word } })
+      (locked_walk_new env.geometry lock.place word (word_of port)) so
+
+  walk_taken-so : (table : ℕ) (claimed : Claimed) (walk : LockedWalkModel) (next : Next Seen)
+      → So (Some claimed.node) None
+      → HoldsSo (walk_taken table claimed walk next)
+  walk_taken-so table claimed walk Go so = so
+  walk_taken-so table claimed walk (Done seen) so = found_or_not-so table claimed seen.found so
+
+  future_or_count-so : (claimed : Claimed) (future : Option ℕ) → So (Some claimed.node) None
+      → HoldsSo (future_or_count claimed future)
+  future_or_count-so claimed None so = so
+  future_or_count-so claimed (Some table) so = so
+
+  -- one test chooses the state and the reply
+  checked_count-so : (claimed : Claimed) (count : ℕ) (full : Bool)
+      → So (Some claimed.node) (cond full (Some (TooBig count)) None)
+      → HoldsSo (cond full (unlocking claimed (Answer (TooBig count))) (at.Link claimed))
+  checked_count-so claimed count true so = so
+  checked_count-so claimed count false so = so
+
+  after_unlock-so : (env : Env) (node : ℕ) (next : Then Reply) → So (Some node) (reply_of next)
+      → HoldsSo (after_unlock env node next)
+  after_unlock-so env node (Table table) so = so
+  after_unlock-so env node (Answer reply) so = so
+
+  -- Where it is so of the node and of the reply that a bind has after an operation, it is so of what its next
+  -- state holds, or of its answer.
+  pub bind_after-so : (mix : ℕ → ℕ → ℕ → ℕ) (env : Env) (port : ℕ) (state : BindAt) (word : ℕ)
+      → IsSome (bind_node state)
+      → So (bind_node state) (reply_after env state word)
+      → GoesOrEnds HoldsSo (λ reply. So (bind_node state) (Some reply)) (after_at mix env port state word)
+  bind_after-so mix env port (at.Taking take) word has so = absurd (cc)
+  bind_after-so mix env port (at.Locking node table shape lock) word has so =
+      lock_taken-so env port node table shape (lock_after lock word).0 (lock_after lock word).1 so
+  bind_after-so mix env port (at.Walking table claimed walk) word has so =
+      walk_taken-so table claimed (locked_walk_after walk word).0 (locked_walk_after walk word).1 so
+  bind_after-so mix env port (at.Future table claimed) word has so =
+      future_or_count-so claimed (slot_of word) so
+  bind_after-so mix env port (at.Count claimed) word has so =
+      checked_count-so claimed word (is_above_max (min word 65536) env.config.max) so
+  bind_after-so mix env port (at.Unlocking node unlock next) word has so = after_unlock-so env node next so
+  bind_after-so mix env port _ word has so = so
