@@ -35,7 +35,7 @@ use Rattle.rht_core.specs.Causes.{SawFull, HasCauseIn, HasCause, Causes}
 use Rattle.rht_core.proofs.MachinesGoOn.{GoesOrEnds, GoesOrEnds-weaker}
 use Rattle.rht_core.proofs.HeldByBinds.{bind_node, bind_reply, reply_after, HoldsSo, bind_after-so}
 use Rattle.rht_core.proofs.MachineReplies.{HoldsFindReply, find_after-replies}
-use Rattle.rht_core.proofs.TracesInRuns.{at_events}
+use Rattle.rht_core.proofs.TracesAtEvents.{at_events}
 use Rattle.rht_core.proofs.TracedCalls.{FindDoes, BindDoes, calls_keep}
 use Rattle.rht_core.proofs.NodesSeen.{Any-append_left, first_unseen, SawAllBelow, SawAllBelow-push, SawSoFar, take-saw}
 use Rattle.rht_core.proofs.FullTables.{counted_at}

@@ -16,8 +16,10 @@ pub mod WordsInRuns
 pub mod CallsInProgress
 -- in every run a caller that isn't enrolled has done nothing
 pub mod CallersNotEnrolled
--- what each caller keeps of itself holds in every run
-pub mod CallersInRuns
+-- a run with its traces, event by event
+pub mod TracedRuns
+-- what each caller keeps of itself and of its trace holds in every run
+pub mod TracedCallers
 -- a machine goes on in a state, or has answered
 pub mod MachinesGoOn
 -- the node that a bind has taken, and the reply that it is going to answer
@@ -26,10 +28,10 @@ pub mod HeldByBinds
 pub mod MachineReplies
 -- in every run each call that has ended has a reply of its kind
 pub mod RepliesInRuns
--- in every run the traces remember each call, and say what happened
+-- in every run the traces remember each call
 pub mod TracesInRuns
--- what each caller keeps of itself and of its trace holds in every run
-pub mod TracedCallers
+-- in every run the traces say what happened at which event
+pub mod TracesAtEvents
 -- what machines keep of their calls' operations holds of each call in every run
 pub mod TracedCalls
 -- in every run a bind takes one node at most

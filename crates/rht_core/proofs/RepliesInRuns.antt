@@ -24,7 +24,7 @@ use Rattle.rht_core.specs.Runs.{Seen, seen, book_begun, book_after, finished_wit
 use Rattle.rht_core.specs.Laws.{IsFindReply, IsBindReply, IsReplyTo, IsAnswered, IsBookOfFind, IsBookOfBind, IsBookOf, Replies, seen_begin, seen_step}
 use Rattle.rht_core.proofs.MachinesGoOn.{GoesOrEnds}
 use Rattle.rht_core.proofs.MachineReplies.{HoldsFindReply, HoldsBindReply, find_after-replies, bind_after-replies}
-use Rattle.rht_core.proofs.CallersInRuns.{IsKept, callers_keep}
+use Rattle.rht_core.proofs.TracedCallers.{IsKept, callers_keep}
 
 -- one more at the end of a list of which it holds
 pub all_push : {A : Type 0} (P : A → Type 0) (xs : List A) (x : A) → AllByRecursion P xs → P x

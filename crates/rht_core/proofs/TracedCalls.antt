@@ -193,20 +193,21 @@ module _ (M : Type 0) (mix : ℕ → ℕ → ℕ → ℕ) (env : Env) (Finds : F
 
       -- ---- runs
 
-      kept-so : IsKeptTraced M mix env IsKeeping
+      kept-so : IsKeptTraced M mix env (λ events. IsKeeping)
       kept-so = record {
         opens = λ c. record {
           right = (kept-right M mix env).opens c;
           calls = record { past = tt; now = tt };
         };
-        begins = begins-so;
-        steps = λ c did here trace plan within keeping. record {
-          right = (kept-right M mix env).steps c did.op did.old here plan keeping.right;
-          calls = local-so c here.local here.book trace did plan within keeping;
+        stays = λ events event c here trace keeping. keeping;
+        begins = λ events c call machine index here trace now. begins-so c call machine index here trace;
+        steps = λ events c did here trace made keeping. record {
+          right = (kept-right M mix env).steps c did.op did.old here made.plan keeping.right;
+          calls = local-so c here.local here.book trace did made.plan made.within keeping;
         };
       }
 
       -- so what machines keep holds of the calls of every caller in every run
       pub calls_keep : (events : List Event) (c : ℕ)
           → let r : Traced M = traced_of mix env events in CallsAreSo (local_of r.world.core c) (r.traces c)
-      calls_keep events c = (traced_callers_keep M mix env IsKeeping kept-so events c).calls
+      calls_keep events c = (traced_callers_keep M mix env (λ past. IsKeeping) kept-so events c).calls
