@@ -25,6 +25,17 @@ put-other f j v i ne = go (i == j) refl
 pub put-all : {A : Type 0} → (P : ℕ → A → Type 0) (f : ℕ → A) (j : ℕ) (v : A) → P j v → ((i : ℕ) → i ≢ j → P i (f i)) → (i : ℕ) → P i (put f j v i)
 put-all P f j v here other i = elim (cases_eq i j) as (λ t. P i (put f j v i)) [ inl e ↦ rw (e, put-same f j v) here | inr ne ↦ rw (put-other f j v i ne) (other i ne) ]
 
+-- who had one thing alone has none once it is another's, and who had none has this one alone once it is its own
+module _ {A : Type 0} (f : ℕ → A) (j : ℕ) (v : A) (Mine : A → Type 0) where
+  pub put-none : (Mine v → ⊥) → ((i : ℕ) → Mine (f i) → Some j ≡ Some i) → (i : ℕ) → Mine (put f j v i)
+      → ◌≡◌ {A = Option ℕ} None (Some i)
+  put-none not_mine only = put-all (λ i a. Mine a → ◌≡◌ {A = Option ℕ} None (Some i)) f j v (λ mine. absurd (not_mine mine))
+      (λ i ne mine. let q = only i mine in absurd (ne (cc)))
+
+  pub put-only : ((i : ℕ) → Mine (f i) → ◌≡◌ {A = Option ℕ} None (Some i)) → (i : ℕ) → Mine (put f j v i)
+      → Some j ≡ Some i
+  put-only none = put-all (λ i a. Mine a → Some j ≡ Some i) f j v (λ mine. refl) (λ i ne mine. let q = none i mine in absurd (cc))
+
 -- ---- ghosts
 
 -- a table that has been attached, and what its slot says
