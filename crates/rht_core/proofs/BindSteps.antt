@@ -25,10 +25,10 @@ use Rattle.rht_bind.specs.declared.bind.Claimed.{Claimed}
 use Rattle.rht_bind.specs.declared.bind.BindAt.{BindAt}
 use Rattle.rht_bind.specs.declared.bind.BindAt.TheVariants as at
 use Rattle.rht_bind.specs.Bind.{plan_at, after_at, node_taken, lock_of, lock_taken, walk_or_seen, found_or_not, walk_taken, unlocking, future_or_count, checked_count, after_unlock}
-use Rattle.rht_core.proofs.Ghosts.{put, put-same, put-none, Held, First, Ghost}
+use Rattle.rht_core.proofs.Ghosts.{put, put-same, put-none, Held, First, Ghost, with_raised}
 use Rattle.rht_core.proofs.Wholes.{key_of, shape_word, home, place_at, Whole}
 use Rattle.rht_core.proofs.Knowledge.{Fact, Has, WordIs, Locks, Missed, Found, Raised, OnlyNode, OnlyLock, Means, AllMean, HasNode, NoKey, NoKey-same}
-use Rattle.rht_core.proofs.QuietMoves.{count_up, with_raised}
+use Rattle.rht_core.proofs.QuietMoves.{count_up}
 use Rattle.rht_core.proofs.Linking.{IsReady, link_head, linked_bucket}
 use Rattle.rht_core.proofs.Steps.{Raises, Links, by_test, mem, Step, reads, step-map, AllOwn, node-kept}
 use Rattle.rht_core.proofs.PieceSteps.{LockKnows, lock_step, unlock_step, walk_facts_at, seen_facts, WalkKnows, StartKnows, walk_start, walk_step, seed_place}
@@ -341,7 +341,7 @@ module _ (env : Env) (mix : ℕ → ℕ → ℕ → ℕ) (c : ℕ) (port owner :
             knows = record {
               own = (
                 put-same G.raised c true,
-                node-kept env mix c M M' G (with_raised env mix G c true)
+                node-kept env mix c M M' G (with_raised G c true)
                     (OnlyNode (Some claimed.node) ∷ Has claimed.node ∷ WordIs claimed.node KeyWord (word_of port) ∷ WordIs claimed.node OwnerWord owner ∷ WordIs claimed.node ListLink 0 ∷ WordIs claimed.node ChainLink (first_link claimed) ∷ [])
                     (tt, (tt, (tt, (tt, (tt, (tt, tt)))))) (λ n w l. write.others (Node n w) l (λ e. cc)) (λ n. refl) known.own.1,
               );

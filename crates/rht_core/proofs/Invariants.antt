@@ -216,7 +216,7 @@ module _ (env : Env) (mix : ℕ → ℕ → ℕ → ℕ) where
         let M' = mem env mix (applied core.words op) in
         let write = is_write env.geometry core.words EnrolledCallers op all tt refl in
         let kept = aside env mix EnrolledCallers (word_after (word_at env.geometry core.words EnrolledCallers) op) (mem env mix core.words) M' G inv.whole write
-        (λ e. cc) (λ s e. cc) (λ j e. cc) (λ n w e. cc) (λ i e. cc) (λ e. cc) in
+        ((λ e. cc), (λ s e. cc)) (λ j e. cc) (λ n w e. cc) (λ i e. cc) (λ e. cc) in
         record {
           ghost = G;
           inv = record {

@@ -46,7 +46,9 @@ pub mod Wholes
 pub mod Knowledge
 -- what a step leaves where it writes elsewhere
 pub mod Frames
--- moves that others do not see
+-- a node's words are written, and nodes are taken and given back
+pub mod NodeMoves
+-- locks are taken and dropped, and the count is raised
 pub mod QuietMoves
 -- the store that binds a port
 pub mod Linking

@@ -11,6 +11,7 @@ use Rattle.rht_words.specs.Maps.{bit_of, bits_above, map_bits}
 use Rattle.rht_words.specs.Operations.{old_of, applied}
 use Rattle.rht_words.specs.Places.{Node, NodeWord, NodeMap, map_words, place_of, words_in}
 use Rattle.rht_words.proofs.LowestBits.{lowest_is_in}
+use Rattle.rht_words.proofs.FreeBits.{bit_at-cleared, bit_at-cleared_other}
 use Rattle.rht_words.proofs.Memory.{Memory, IsWrite, is_write}
 use Rattle.rht_arena.specs.TakeNode.{TakeNodeModel, take_node_plan, take_node_after, next_word, claim_in, claim_among, IsInRange}
 use Rattle.rht_arena.specs.declared.take_node.TakeNodeAt.{TakeNodeAt}
@@ -18,7 +19,7 @@ use Rattle.rht_arena.specs.declared.take_node.TakeNodeAt.TheVariants as takes
 use Rattle.rht_core.proofs.Ghosts.{put, put-same, put-none, put-only, Free, Held, Ghost}
 use Rattle.rht_core.proofs.Wholes.{Whole}
 use Rattle.rht_core.proofs.Knowledge.{Fact, Has, Raised, OnlyNode, OnlyLock, AllMean, HasNode}
-use Rattle.rht_core.proofs.QuietMoves.{fill, take_node, give_node, retouch, cleared_bit, cleared_other}
+use Rattle.rht_core.proofs.NodeMoves.{fill, take_node, give_node, retouch}
 use Rattle.rht_core.proofs.Steps.{Reads, TakesNode, GivesNode, by_test, mem, Step, reads}
 
 -- what is known by a caller that has nothing, and by one that has a node alone
@@ -85,8 +86,8 @@ module _ (env : Env) (mix : ℕ → ℕ → ℕ → ℕ) (c : ℕ) where
         (λ t e. let clear : bit_at word bit ≡ 0 = (let less = bit_at-lt word bit in let ne = eqb-false (bit_at word bit) 1 t in omega (arith, less, ne)) in
         let same : (k : ℕ) → k < 64 → bit_at (bit_and word (bit_not w64 (bit_of bit))) k ≡ bit_at word k
         = λ k l. elim (cases_eq k bit) [
-          | inl q ↦ rw q (cleared_bit env mix word bit range.within ∙ sym clear)
-          | inr ne ↦ cleared_other env mix word bit k range.within l ne
+          | inl q ↦ rw q (bit_at-cleared word bit range.within ∙ sym clear)
+          | inr ne ↦ bit_at-cleared_other word bit k range.within l ne
         ] in
         record {
           move = Reads;

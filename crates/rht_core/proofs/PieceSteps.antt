@@ -25,10 +25,10 @@ use Rattle.rht_chain.specs.LockedWalk.{LockedWalkModel, locked_walk_new, locked_
 use Rattle.rht_chain.specs.declared.locked_walk.Seen.{Seen}
 use Rattle.rht_chain.specs.declared.locked_walk.LockedWalkAt.{LockedWalkAt}
 use Rattle.rht_chain.specs.declared.locked_walk.LockedWalkAt.TheVariants as walks
-use Rattle.rht_core.proofs.Ghosts.{put, put-same, put-none, put-only, Ghost}
+use Rattle.rht_core.proofs.Ghosts.{put, put-same, put-none, put-only, Ghost, with_holder}
 use Rattle.rht_core.proofs.Wholes.{chain_of, key_of, shape_word, home, place_at, Whole}
 use Rattle.rht_core.proofs.Knowledge.{Fact, Locks, Stands, Differs, Missed, Found, OnlyLock, AllMean, HoldsLock, NoKey, StandsAt, last_of}
-use Rattle.rht_core.proofs.QuietMoves.{take_lock, drop_lock, with_holder}
+use Rattle.rht_core.proofs.QuietMoves.{take_lock, drop_lock}
 use Rattle.rht_core.proofs.Steps.{TakesLock, DropsLock, by_test, mem, Step, reads, AllOwn, own-kept}
 
 -- what is known at a state of the walk, of the bucket of a port whose word was this before it was locked
@@ -192,7 +192,7 @@ module _ (env : Env) (mix : ℕ → ℕ → ℕ → ℕ) (c : ℕ) (port : ℕ) 
               ready = tt;
               made = made.0;
               knows = (
-                own-kept env mix c M (mem env mix (applied words op)) G (with_holder env mix G j (Some c)) own all_own
+                own-kept env mix c M (mem env mix (applied words op)) G (with_holder G j (Some c)) own all_own
                     (λ n w l. write.others (Node n w) l (λ e. cc)) (λ n. refl) refl mine,
                 (only_this, ((rw (put-same G.bucket j (record (G.bucket j) { holder = Some c })) refl, rw (put-same G.bucket j (record (G.bucket j) { holder = Some c })) made.1), tt)),
                 refl,
@@ -225,7 +225,7 @@ module _ (env : Env) (mix : ℕ → ℕ → ℕ → ℕ) (c : ℕ) (port : ℕ) 
           ready = tt;
           made = drop_lock env mix c j word M M' G whole within holds.0 holds.1 write;
           knows = (
-            own-kept env mix c M M' G (with_holder env mix G j None) own all_own (λ n w l. write.others (Node n w) l (λ e. cc)) (λ n. refl) refl mine,
+            own-kept env mix c M M' G (with_holder G j None) own all_own (λ n w l. write.others (Node n w) l (λ e. cc)) (λ n. refl) refl mine,
             (put-none G.bucket j (record (G.bucket j) { holder = None }) (λ b. b.holder ≡ Some c) (λ h. cc) knows.0, tt),
           );
         }

@@ -7,11 +7,10 @@ use Rattle.rht_words.specs.declared.op.Op.{Op}
 use Rattle.rht_words.specs.Operations.{op_place, old_of, word_after, applied}
 use Rattle.rht_words.specs.Places.{Node, NodeWord, word_at}
 use Rattle.rht_words.proofs.Memory.{Memory}
-use Rattle.rht_core.proofs.Ghosts.{Free, Held, Ghost}
+use Rattle.rht_core.proofs.Ghosts.{Free, Held, Ghost, with_holder, with_owner, with_raised}
 use Rattle.rht_core.proofs.Wholes.{home, Whole}
 use Rattle.rht_core.proofs.Knowledge.{Fact, Has, WordIs, Raised, OnlyNode, Means, AllMean}
 use Rattle.rht_core.proofs.Frames.{Made, still}
-use Rattle.rht_core.proofs.QuietMoves.{with_holder, with_owner, with_raised}
 use Rattle.rht_core.proofs.Linking.{linked, IsReady}
 
 -- What an operation does beside what it finds: nothing that others see, a node taken or given back, a lock taken or dropped,
@@ -38,11 +37,11 @@ module _ (env : Env) (mix : ℕ → ℕ → ℕ → ℕ) where
   -- the ghost after a move of a caller
   abbrev pub ghost_after : ℕ → Move → Ghost → Ghost
   ghost_after c Reads G = G
-  ghost_after c (TakesNode n) G = with_owner env mix G n (Held c)
-  ghost_after c (GivesNode n) G = with_owner env mix G n Free
-  ghost_after c (TakesLock j) G = with_holder env mix G j (Some c)
-  ghost_after c (DropsLock j) G = with_holder env mix G j None
-  ghost_after c Raises G = with_raised env mix G c true
+  ghost_after c (TakesNode n) G = with_owner G n (Held c)
+  ghost_after c (GivesNode n) G = with_owner G n Free
+  ghost_after c (TakesLock j) G = with_holder G j (Some c)
+  ghost_after c (DropsLock j) G = with_holder G j None
+  ghost_after c Raises G = with_raised G c true
   ghost_after c (Links n port) G = linked env mix G c (home env mix port) n port
 
   -- the words as a memory
