@@ -9,7 +9,8 @@ use Rattle.rht_words.specs.declared.env.Env.{Env}
 use Rattle.rht_words.specs.Maps.{bit_of, IsBitIn}
 use Rattle.rht_words.specs.Places.{Address, CurrentTable, PortCount, Slot, SlotWord, NodeMap, Node, NodeWord, ChainLink, KeyWord, OwnerWord, ListLink, PageWord, map_words}
 use Rattle.rht_words.proofs.Memory.{Memory, IsWrite}
-use Rattle.rht_words.proofs.Members.{In, count_below-same, count_below-more, count_below-most}
+use Rattle.rht_words.specs.Members.{In}
+use Rattle.rht_words.proofs.Members.{count_below-same, count_below-more, count_below-most}
 use Rattle.rht_core.proofs.Ghosts.{put, put-same, put-other, put-all, Owner, Free, Held, First, Leaving, Behind, Taken, Gone, Ghost, lock_bit, is_first}
 use Rattle.rht_core.proofs.Wholes.{chain_of, BucketRight, ArenaRight, IsBuilt, Whole, firsts, raisers}
 use Rattle.rht_core.proofs.Knowledge.{Rely, HasNode}

@@ -7,6 +7,7 @@ use Rattle.rht_words.specs.declared.op.Op.TheVariants.{Load}
 use Rattle.rht_words.specs.declared.env.Env.{Env}
 use Rattle.rht_words.specs.declared.geometry.Geometry.{Geometry}
 use Rattle.rht_words.specs.Operations.{op_place}
+use Rattle.rht_words.specs.Members.{IsDistinct}
 use Rattle.rht_words.specs.Places.{NodeMap, PortCount, place_of}
 use Rattle.rht_policy.specs.Sizes.{most_ports}
 use Rattle.rht_model.specs.declared.history.Reply.{Reply}
@@ -28,20 +29,10 @@ pub record SawTaken (g : Geometry) (node : ℕ) (did : Did) : Type 0 where
   pub on_map : op_place did.op ≡ place_of g (NodeMap (node / 64))
   pub clear : bit_at did.old (node % 64) ≡ 0
 
--- none of these is the number
-abbrev pub IsNoneOf : List ℕ → ℕ → Type 0
-IsNoneOf [] x = Unit {0}
-IsNoneOf (y ∷ ys) x = (x ≢ y) × IsNoneOf ys x
-
--- no number comes twice
-abbrev pub AreDistinct : List ℕ → Type 0
-AreDistinct [] = Unit {0}
-AreDistinct (x ∷ xs) = IsNoneOf xs x × AreDistinct xs
-
 -- so many different ports are bound
 pub record AreBound (bindings : Multimap) (count : ℕ) : Type 0 where
   pub ports : List ℕ
-  pub distinct : AreDistinct ports
+  pub distinct : IsDistinct ports
   pub bound : AllByRecursion (λ port. bindings port ≢ []) ports
   pub many : length ports ≡ count
 
