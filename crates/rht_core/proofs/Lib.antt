@@ -1,7 +1,5 @@
 -- what an event does to each caller, and inductions over the events of a run
 pub mod Worlds
--- the pieces that machines hold stay in range
-pub mod PieceRanges
 -- a look-up stays in range
 pub mod FindRanges
 -- a bind stays in range

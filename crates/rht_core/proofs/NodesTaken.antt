@@ -54,7 +54,7 @@ use Rattle.rht_core.specs.declared.event.Event.{Event}
 use Rattle.rht_core.specs.Runs.{Seen, seen}
 use Rattle.rht_core.specs.Traces.{Did, Past, Trace, trace_begun, trace_did, traced_of}
 use Rattle.rht_core.specs.Laws.{IsLocalIn, IsBindPieceIn, seen_begin, IsTake, IsNoTake, TakesNone, TakesOne, IsTakenBy, IsTakenIn, TakenAlone}
-use Rattle.rht_core.proofs.PieceRanges.{take_after-in}
+use Rattle.rht_arena.proofs.TakingStays.{take_after-in}
 use Rattle.rht_core.proofs.MachineReplies.{IsRefusal, HoldsBindReply}
 use Rattle.rht_core.proofs.RepliesInRuns.{IsRight, kept-right, all_push}
 use Rattle.rht_core.proofs.TracedCallers.{IsKeptTraced, traced_callers_keep}
