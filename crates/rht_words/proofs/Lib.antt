@@ -20,6 +20,8 @@ pub mod BitChanges
 pub mod OpeningLaws
 -- the words as a function of what they are there for, and one write to it
 pub mod Memory
+-- what holds of each element of a list, or of one of them
+pub mod EachElement
 -- lists without repeats, and how many numbers below a bound have a property
 pub mod Members
 -- what is kept step by step holds at a machine's end
