@@ -17,7 +17,7 @@ use Rattle.rht_words.specs.Ports.{word_of, owner_of}
 use Rattle.rht_words.specs.Operations.{old_of, applied}
 use Rattle.rht_words.specs.Places.{Node, OwnerWord, PageWord, words_in}
 use Rattle.rht_words.proofs.Memory.{Memory, is_write}
-use Rattle.rht_words.proofs.Members.{In}
+use Rattle.rht_words.specs.Members.{In}
 use Rattle.rht_policy.specs.Thresholds.{is_above_max}
 use Rattle.rht_arena.specs.TakeNode.{TakeNodeModel, take_node_plan, take_node_after}
 use Rattle.rht_chain.specs.Lock.{LockModel, lock_plan, lock_after}

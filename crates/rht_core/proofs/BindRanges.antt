@@ -10,6 +10,7 @@ use Rattle.rht_words.specs.declared.machine.Next.TheVariants.{Go, Done}
 use Rattle.rht_words.specs.Links.{node_of, slot_of, head_of}
 use Rattle.rht_words.specs.Ports.{word_of}
 use Rattle.rht_words.specs.Places.{CurrentTable, PortCount, Slot, NodeMap, Node, ShapeWord, SeedWord, FutureWord, ChainLink, KeyWord, OwnerWord, ListLink}
+use Rattle.rht_words.proofs.LinksRead.{node_of-in, slot_of-in, IsSlotOrNone}
 use Rattle.rht_policy.specs.Mix.{bucket_of}
 use Rattle.rht_policy.specs.Thresholds.{is_above_max}
 use Rattle.rht_model.specs.declared.history.Reply.{Reply}
@@ -22,12 +23,14 @@ use Rattle.rht_chain.specs.LockedWalk.{LockedWalkModel, walk_from, walk_plan_at,
 use Rattle.rht_chain.specs.declared.locked_walk.Seen.{Seen}
 use Rattle.rht_chain.specs.declared.locked.Then.{Then}
 use Rattle.rht_chain.specs.declared.locked.Then.TheVariants.{Table, Answer}
+use Rattle.rht_arena.proofs.TakingStays.{take_after-in}
+use Rattle.rht_chain.proofs.PiecesStay.{lock_after-in, walk_after-in}
+use Rattle.rht_nest.proofs.BucketsApart.{bucket_place-in}
 use Rattle.rht_bind.specs.Bind.{plan_at, after_at, node_taken, lock_taken, walk_taken, walk_or_seen, found_or_not, unlocking, future_or_count, checked_count, after_unlock, IsInRange, IsClaimedIn, IsTableOf}
 use Rattle.rht_bind.specs.declared.bind.Claimed.{Claimed}
 use Rattle.rht_bind.specs.declared.bind.BindAt.{BindAt}
 use Rattle.rht_bind.specs.declared.bind.BindAt.TheVariants as at
 use Rattle.rht_core.specs.Laws.{IsBucketPlace, IsBindPieceIn, IsPlannedIn}
-use Rattle.rht_core.proofs.PieceRanges.{node_of-in, slot_of-in, bucket_place-in, IsSlotOrNone, lock_after-in, walk_after-in, take_after-in}
 use Rattle.rht_core.proofs.FindRanges.{planned-at, planned_bucket, planned_lock, planned_walk}
 
 -- what the taking of a node performs is on a word of the map of nodes, and so is the giving back

@@ -17,7 +17,8 @@ use Rattle.rht_words.specs.Shapes.{size_of, unpacked}
 use Rattle.rht_words.specs.Chains.{IsSegment}
 use Rattle.rht_words.specs.Places.{Node, OwnerWord, ListLink}
 use Rattle.rht_words.proofs.LinksRead.{links_tell_apart}
-use Rattle.rht_words.proofs.Members.{In, AllBelow, count_below-most, length-count_below}
+use Rattle.rht_words.specs.Members.{In}
+use Rattle.rht_words.proofs.Members.{In-AllByRecursion, count_below-most, length-count_below}
 use Rattle.rht_policy.specs.Mix.{bucket_of}
 use Rattle.rht_nest.specs.Place.{bucket_place, bucket_index}
 use Rattle.rht_core.specs.StandsFor.{in_force, chain_from, bucket_nodes, table_nodes, has_key, first_node, owners_from, stands_for}
@@ -94,10 +95,6 @@ head_or_none (x ∷ xs) = Some x
 
 -- ---- one chain
 
-all_below_from : (bound : ℕ) (xs : List ℕ) → ((x : ℕ) → In x xs → x < bound) → AllBelow bound xs
-all_below_from bound [] all = tt
-all_below_from bound (x ∷ xs) all = (all x (inl refl), all_below_from bound xs (λ y i. all y (inr i)))
-
 module _ (env : Env) (mix : ℕ → ℕ → ℕ → ℕ) (words : List ℕ) (G : Ghost) (whole : Whole env mix (mem env mix words) G) where
   abbrev g : Geometry
   g = env.geometry
@@ -125,7 +122,7 @@ module _ (env : Env) (mix : ℕ → ℕ → ℕ → ℕ) (words : List ℕ) (G :
       let right = whole.buckets j l in
       let b = G.bucket j in
       let among : (n : ℕ) → In n b.nodes → n < g.nodes = λ n i. (whole.owned.first_at n j (whole.owned.member j n i)).among in
-      let few = length-count_below (λ n. true) g.nodes b.nodes right.chained.distinct (all_below_from g.nodes b.nodes among) (λ n i. refl) in
+      let few = length-count_below (λ n. true) g.nodes b.nodes right.chained.distinct (In-AllByRecursion (λ n. n < g.nodes) b.nodes among) (λ n i. refl) in
       let most = count_below-most (λ n. true) g.nodes in
       let first : head_of (place_at env mix j) (slice_index words (place_at env mix j)) ≡ head_of (place_at env mix j) b.plain
       = ap (head_of (place_at env mix j)) right.locked.word_is ∙ head_of-locked (place_at env mix j) b.plain b.holder right.locked.even in

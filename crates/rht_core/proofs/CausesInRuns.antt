@@ -18,11 +18,13 @@ use Rattle.rht_words.specs.declared.geometry.Geometry.{Geometry}
 use Rattle.rht_words.specs.declared.machine.Next.{Next}
 use Rattle.rht_words.specs.declared.machine.Next.TheVariants.{Go, Done}
 use Rattle.rht_words.specs.Places.{PortCount, place_of}
+use Rattle.rht_words.proofs.EachElement.{Any-append_left}
 use Rattle.rht_policy.specs.Sizes.{most_ports}
 use Rattle.rht_policy.specs.Thresholds.{is_above_max}
 use Rattle.rht_model.specs.declared.history.Reply.{Reply}
 use Rattle.rht_model.specs.declared.history.Reply.TheVariants.{NoNode, TooBig, Found, Missing}
 use Rattle.rht_arena.specs.TakeNode.{TakeNodeModel, take_node_after}
+use Rattle.rht_arena.proofs.NodesSeen.{first_unseen, SawAllBelow, SawAllBelow-push, SawSoFar, take_after-saw}
 use Rattle.rht_find.specs.Find.{after_at as find_after_at}
 use Rattle.rht_find.specs.declared.find.FindAt.{FindAt}
 use Rattle.rht_bind.specs.Bind.{plan_at, after_at, node_taken}
@@ -37,7 +39,6 @@ use Rattle.rht_core.proofs.HeldByBinds.{bind_node, bind_reply, reply_after, Hold
 use Rattle.rht_core.proofs.MachineReplies.{HoldsFindReply, find_after-replies}
 use Rattle.rht_core.proofs.TracesAtEvents.{at_events}
 use Rattle.rht_core.proofs.TracedCalls.{FindDoes, BindDoes, calls_keep}
-use Rattle.rht_core.proofs.NodesSeen.{Any-append_left, first_unseen, SawAllBelow, SawAllBelow-push, SawSoFar, take-saw}
 use Rattle.rht_core.proofs.FullTables.{counted_at}
 
 -- ---- what a bind has seen
@@ -138,7 +139,7 @@ module _ (env : Env) where
         let same = does.within.range in
         let before = map performed_of steps in
         let saw_below = subst (λ (h : Geometry). SawAllBelow h (first_unseen take.at) before) (sym same) saw in
-        let after = take-saw take take.at before (performed_of did) does.planned does.within.piece saw_below in
+        let after = take_after-saw take take.at before (performed_of did) does.planned does.within.piece saw_below in
         let here = subst (λ (h : Geometry). SawSoFar h (before ++ performed_of did ∷ []) (take_node_after take did.old)) same after in
         node_taken-saw (take_node_after take did.old).0 (take_node_after take did.old).1 all
         (subst (λ (list : List Performed). SawSoFar env.geometry list (take_node_after take did.old)) (sym (map-append performed_of steps (did ∷ []))) here)

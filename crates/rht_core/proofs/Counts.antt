@@ -7,7 +7,8 @@ use Rattle.std.specs.List.{AllByRecursion, range_with_len}
 use Rattle.rht_words.specs.declared.env.Env.{Env}
 use Rattle.rht_words.specs.Ports.{owner_of}
 use Rattle.rht_words.specs.Places.{PortCount, Node, OwnerWord, PageWord, word_at}
-use Rattle.rht_words.proofs.Members.{In, NotIn, Distinct, AllBelow, count_below-same, count_below-none, length-count_below}
+use Rattle.rht_words.specs.Members.{In, NotIn, IsDistinct}
+use Rattle.rht_words.proofs.Members.{count_below-same, count_below-none, length-count_below}
 use Rattle.rht_bind.specs.declared.bind.BindAt.{BindAt}
 use Rattle.rht_bind.specs.declared.bind.BindAt.TheVariants as at
 use Rattle.rht_core.specs.declared.local.Local.{Local}
@@ -15,7 +16,6 @@ use Rattle.rht_core.specs.declared.local.Local.TheVariants.{Idle, Finding, Bindi
 use Rattle.rht_core.specs.Locals.{is_idle}
 use Rattle.rht_core.specs.Runs.{Core, local_of, run_of}
 use Rattle.rht_core.specs.StandsFor.{stands_for}
-use Rattle.rht_core.specs.Causes.{IsNoneOf, AreDistinct}
 use Rattle.rht_core.specs.Counts.{AreAllBound, is_linking, is_raising, raising, IsFreeOrBound, Counted, AtRest}
 use Rattle.rht_core.proofs.Ghosts.{Owner, Free, Held, First, Leaving, Behind, Taken, Gone, Ghost, lock_bit, is_first}
 use Rattle.rht_core.proofs.Wholes.{key_of, firsts, raisers, IsBuilt, Whole}
@@ -58,16 +58,16 @@ module _ (env : Env) (mix : ℕ → ℕ → ℕ → ℕ) (words : List ℕ) (G :
           }
 
   -- different bound ports have different nodes
-  other_nodes : (port : ℕ) (ports : List ℕ) → IsNoneOf ports port → HasFirst port → AllByRecursion HasFirst ports → NotIn (node_of_port port) (map node_of_port ports)
+  other_nodes : (port : ℕ) (ports : List ℕ) → NotIn port ports → HasFirst port → AllByRecursion HasFirst ports → NotIn (node_of_port port) (map node_of_port ports)
   other_nodes port [] none here all = tt
   other_nodes port (q ∷ ports) none here all =
       ((λ same. none.0 (sym here.key ∙ ap (key_of (mem env mix words)) same ∙ all.0.key)), other_nodes port ports none.1 here all.1)
 
-  nodes_distinct : (ports : List ℕ) → AreDistinct ports → AllByRecursion HasFirst ports → Distinct (map node_of_port ports)
+  nodes_distinct : (ports : List ℕ) → IsDistinct ports → AllByRecursion HasFirst ports → IsDistinct (map node_of_port ports)
   nodes_distinct [] distinct all = tt
   nodes_distinct (port ∷ ports) distinct all = (other_nodes port ports distinct.0 all.0 all.1, nodes_distinct ports distinct.1 all.1)
 
-  nodes_below : (ports : List ℕ) → AllByRecursion HasFirst ports → AllBelow env.geometry.nodes (map node_of_port ports)
+  nodes_below : (ports : List ℕ) → AllByRecursion HasFirst ports → AllByRecursion (λ n. n < env.geometry.nodes) (map node_of_port ports)
   nodes_below [] all = tt
   nodes_below (port ∷ ports) all = (all.0.among, nodes_below ports all.1)
 

@@ -11,6 +11,7 @@ use Rattle.rht_words.specs.Ports.{word_of}
 use Rattle.rht_words.specs.declared.op.Op.{Op}
 use Rattle.rht_words.specs.Operations.{op_place}
 use Rattle.rht_words.specs.Places.{Address, CurrentTable, EnrolledCallers, Slot, Node, ShapeWord, SeedWord, FutureWord, ChainLink, KeyWord, OwnerWord, ListLink, IsAddress, place_of, words_in}
+use Rattle.rht_words.proofs.LinksRead.{node_of-in, slot_of-in, IsSlotOrNone}
 use Rattle.rht_words.proofs.PlacesApart.{parts_in_order, place_of-apart, place_of-below}
 use Rattle.rht_policy.specs.Mix.{bucket_of}
 use Rattle.rht_chain.specs.Lock.{LockModel, lock_plan_at, lock_after, IsEven}
@@ -22,11 +23,12 @@ use Rattle.rht_chain.specs.declared.locked_walk.LockedWalkAt.TheVariants as walk
 use Rattle.rht_chain.specs.declared.locked_walk.Seen.{Seen}
 use Rattle.rht_chain.specs.declared.locked.Locked.{Locked}
 use Rattle.rht_chain.specs.declared.locked.Then.TheVariants.{Table, Answer}
+use Rattle.rht_chain.proofs.PiecesStay.{lock_after-in, walk_after-in}
+use Rattle.rht_nest.proofs.BucketsApart.{bucket_place-in}
 use Rattle.rht_find.specs.Find.{plan_at, after_at, lock_taken, walk_taken, walk_or_seen, found_or_not, unlocking, next_table, list_followed, IsInRange}
 use Rattle.rht_find.specs.declared.find.FindAt.{FindAt}
 use Rattle.rht_find.specs.declared.find.FindAt.TheVariants as at
 use Rattle.rht_core.specs.Laws.{IsBucketPlace, IsFindPieceIn, IsPlannedIn}
-use Rattle.rht_core.proofs.PieceRanges.{node_of-in, slot_of-in, bucket_place-in, IsSlotOrNone, lock_after-in, walk_after-in}
 
 -- the word isn't that of the enrolled callers
 abbrev pub IsOtherWord : Address → Type 0

@@ -3,7 +3,7 @@ use Rattle.std.proofs.Common.{◌≡◌, ◌≢◌, ℕ, ◌+◌, ◌*◌, ◌/�
 use Rattle.rht_words.specs.declared.env.Env.{Env}
 use Rattle.rht_words.specs.Places.{Address, CurrentTable, PortCount, Slot, SlotWord, ShapeWord, SeedWord, FutureWord, NodeMap, Node, NodeWord, ChainLink, KeyWord, OwnerWord, ListLink, PageWord}
 use Rattle.rht_words.proofs.Memory.{Memory, IsWrite}
-use Rattle.rht_words.proofs.Members.{In}
+use Rattle.rht_words.specs.Members.{In}
 use Rattle.rht_words.proofs.ChainLemmas.{IsSegment-members}
 use Rattle.rht_words.specs.Links.{head_of, marker_of}
 use Rattle.rht_core.proofs.Ghosts.{Bucket, First, Ghost}

@@ -15,7 +15,8 @@ use Rattle.rht_words.specs.declared.env.Env.{Env}
 use Rattle.rht_words.specs.Operations.{old_of}
 use Rattle.rht_words.specs.Ports.{owner_of}
 use Rattle.rht_words.specs.Places.{PortCount, Node, OwnerWord, place_of}
-use Rattle.rht_words.proofs.Members.{count_below, one_if}
+use Rattle.rht_words.specs.Members.{NotIn, IsDistinct}
+use Rattle.rht_words.proofs.Members.{count_below, one_if, not_in_from, AllByRecursion-In}
 use Rattle.rht_bind.specs.Bind.{plan_at}
 use Rattle.rht_bind.specs.declared.bind.BindAt.{BindAt}
 use Rattle.rht_bind.specs.declared.bind.BindAt.TheVariants as at
@@ -27,7 +28,7 @@ use Rattle.rht_core.specs.Runs.{Core, local_of, planned, run_of}
 use Rattle.rht_core.specs.Traces.{Did}
 use Rattle.rht_core.specs.StandsFor.{stands_for}
 use Rattle.rht_core.specs.Laws.{IsRecorded}
-use Rattle.rht_core.specs.Causes.{IsNoneOf, AreDistinct, AreBound, others_in_call, CountedAt}
+use Rattle.rht_core.specs.Causes.{AreBound, others_in_call, CountedAt}
 use Rattle.rht_core.proofs.Worlds.{planned-some}
 use Rattle.rht_core.proofs.Ghosts.{Owner, First, Ghost, is_first}
 use Rattle.rht_core.proofs.Wholes.{key_of, firsts, raisers, Whole}
@@ -69,9 +70,8 @@ count_by-range has (suc n) =
 
 -- what has a property that this number hasn't is another number
 none_of : (P : ℕ → Type 0) (x : ℕ) → ((y : ℕ) → P y → x ≢ y) → (ys : List ℕ) → AllByRecursion P ys
-    → IsNoneOf ys x
-none_of P x other [] all = tt
-none_of P x other (y ∷ ys) all = (other y all.0, none_of P x other ys all.1)
+    → NotIn x ys
+none_of P x other ys all = not_in_from x ys (λ i. other x (AllByRecursion-In P x ys all i) refl)
 
 all_weaker : (P Q : ℕ → Type 0) → ((x : ℕ) → P x → Q x) → (xs : List ℕ) → AllByRecursion P xs
     → AllByRecursion Q xs
@@ -95,7 +95,7 @@ module _ (env : Env) (mix : ℕ → ℕ → ℕ → ℕ) (words : List ℕ) (G :
   -- as many different ports as there are nodes in chains below a bound, each bound to such a node
   record PortsBelow (bound : ℕ) : Type 0 where
     ports : List ℕ
-    distinct : AreDistinct ports
+    distinct : IsDistinct ports
     each : AllByRecursion (IsBoundBelow bound) ports
     many : length ports ≡ count_below in_chain bound
 

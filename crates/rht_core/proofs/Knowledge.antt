@@ -5,7 +5,8 @@ use Rattle.rht_words.specs.declared.env.Env.{Env}
 use Rattle.rht_words.specs.Ports.{owner_of}
 use Rattle.rht_words.specs.Places.{Node, NodeWord, KeyWord, OwnerWord}
 use Rattle.rht_words.proofs.Memory.{Memory}
-use Rattle.rht_words.proofs.Members.{In, in-front}
+use Rattle.rht_words.specs.Members.{In}
+use Rattle.rht_words.proofs.Members.{in-front}
 use Rattle.rht_core.proofs.Ghosts.{Bucket, Held, First, Ghost}
 use Rattle.rht_core.proofs.Wholes.{key_of, home}
 

@@ -1,7 +1,5 @@
 -- what an event does to each caller, and inductions over the events of a run
 pub mod Worlds
--- the pieces that machines hold stay in range
-pub mod PieceRanges
 -- a look-up stays in range
 pub mod FindRanges
 -- a bind stays in range
@@ -36,8 +34,6 @@ pub mod TracesAtEvents
 pub mod TracedCalls
 -- in every run a bind takes one node at most
 pub mod NodesTaken
--- while a node is being taken, each node below was found taken
-pub mod NodesSeen
 -- what the words don't say: who holds what, and which nodes each bucket and each port has
 pub mod Ghosts
 -- what is true of words and ghosts after each event of each run

@@ -7,7 +7,8 @@ use Rattle.rht_words.specs.Links.{link_of, head_of, marker_of}
 use Rattle.rht_words.specs.Chains.{IsSegment}
 use Rattle.rht_words.specs.Places.{PortCount, NodeMap, Node, NodeWord, ChainLink, KeyWord, OwnerWord, ListLink, PageWord}
 use Rattle.rht_words.proofs.Memory.{Memory, IsWrite}
-use Rattle.rht_words.proofs.Members.{In, NotIn, not_in_from, count_below-more}
+use Rattle.rht_words.specs.Members.{In, NotIn}
+use Rattle.rht_words.proofs.Members.{not_in_from, count_below-more}
 use Rattle.rht_words.proofs.ChainLemmas.{IsSegment-members}
 use Rattle.rht_core.proofs.Ghosts.{put, put-same, put-other, put-all, Bucket, Free, Held, First, Ghost, is_first, held_not_first, held_by_one}
 use Rattle.rht_core.proofs.Wholes.{chain_of, key_of, home, place_at, BucketRight, IsFirstAt, IsBoundTo, Owned, ArenaRight, IsBuilt, Whole, firsts, raisers}

@@ -14,7 +14,8 @@ use Rattle.rht_words.specs.Operations.{old_of, word_after, applied}
 use Rattle.rht_words.specs.Places.{Slot, SeedWord, Node, ChainLink, KeyWord, PageWord, place_of, words_in, word_at}
 use Rattle.rht_words.proofs.LinksRead.{links_tell_apart}
 use Rattle.rht_words.proofs.Memory.{Memory, IsWrite, is_write}
-use Rattle.rht_words.proofs.Members.{In, in-middle}
+use Rattle.rht_words.specs.Members.{In}
+use Rattle.rht_words.proofs.Members.{in-middle}
 use Rattle.rht_words.proofs.ChainLemmas.{IsSegment-cut}
 use Rattle.rht_policy.specs.Mix.{bucket_of}
 use Rattle.rht_nest.specs.Place.{bucket_place}

@@ -1,9 +1,10 @@
 -- Why a call was refused, as rows of one definition over the call's own operations.
 -- A reply of which nothing is said here has its cause. Rows are added with the calls and refusals that they speak of.
-use Rattle.std.specs.Prelude.{◌≡◌, ◌≢◌, ℕ, ◌+◌, ◌<◌, ◌≤◌, ◌==◌, ◌&&◌, not, List, [], ◌∷◌, length, map, take, count_by}
+use Rattle.std.specs.Prelude.{◌≡◌, ◌≢◌, ℕ, ◌+◌, ◌<◌, ◌≤◌, ◌==◌, ◌&&◌, not, List, [], length, map, take, count_by}
 use Rattle.std.specs.List.{AllByRecursion, Any, range_with_len}
 use Rattle.rht_words.specs.declared.op.Op.TheVariants.{Load}
 use Rattle.rht_words.specs.declared.env.Env.{Env}
+use Rattle.rht_words.specs.Members.{IsDistinct}
 use Rattle.rht_words.specs.Places.{PortCount, place_of}
 use Rattle.rht_policy.specs.Sizes.{most_ports}
 use Rattle.rht_model.specs.declared.history.Reply.{Reply}
@@ -16,20 +17,10 @@ use Rattle.rht_core.specs.Runs.{Core, local_of, run_of, IsAdmitted}
 use Rattle.rht_core.specs.Traces.{Did, Past, performed_of, traced_of}
 use Rattle.rht_core.specs.StandsFor.{stands_for}
 
--- none of these is the number
-abbrev pub IsNoneOf : List ℕ → ℕ → Type 0
-IsNoneOf [] x = Unit {0}
-IsNoneOf (y ∷ ys) x = (x ≢ y) × IsNoneOf ys x
-
--- no number comes twice
-abbrev pub AreDistinct : List ℕ → Type 0
-AreDistinct [] = Unit {0}
-AreDistinct (x ∷ xs) = IsNoneOf xs x × AreDistinct xs
-
 -- so many different ports are bound
 pub record AreBound (bindings : Multimap) (count : ℕ) : Type 0 where
   pub ports : List ℕ
-  pub distinct : AreDistinct ports
+  pub distinct : IsDistinct ports
   pub bound : AllByRecursion (λ port. bindings port ≢ []) ports
   pub many : length ports ≡ count
 
