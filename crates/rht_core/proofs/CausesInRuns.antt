@@ -35,7 +35,7 @@ use Rattle.rht_core.specs.Traces.{Did, Past, performed_of, traced_of}
 use Rattle.rht_core.specs.Laws.{IsFindReply, IsRecorded, IsPastCall}
 use Rattle.rht_core.specs.Causes.{SawFull, HasCauseIn, HasCause, Causes}
 use Rattle.rht_core.proofs.MachinesGoOn.{GoesOrEnds, GoesOrEnds-weaker}
-use Rattle.rht_core.proofs.HeldByBinds.{bind_node, bind_reply, reply_after, HoldsSo, bind_after-so}
+use Rattle.rht_core.proofs.HeldByBinds.{node_of_bind, reply_of_bind, bind_reply_after, HoldsSo, bind_after-so}
 use Rattle.rht_core.proofs.MachineReplies.{HoldsFindReply, find_after-replies}
 use Rattle.rht_core.proofs.TracesAtEvents.{at_events}
 use Rattle.rht_core.proofs.TracedCalls.{FindDoes, BindDoes, calls_keep}
@@ -62,7 +62,7 @@ module _ (env : Env) where
   -- what a bind has seen so far
   abbrev SawAt : BindAt → List Did → Type 0
   SawAt (at.Taking take) steps = SawAllBelow env.geometry (first_unseen take.at) (map performed_of steps)
-  SawAt state steps = SawForReply (bind_reply state) steps
+  SawAt state steps = SawForReply (reply_of_bind state) steps
 
   -- what it has seen once it goes on, and once it has answered
   abbrev SawNext : List Did → BindAt × Next Reply → Type 0
@@ -104,33 +104,33 @@ module _ (env : Env) where
       (λ f. tt)
 
   -- Of the replies that come of an operation, `TooBig` alone tells what was seen; a reply that the bind has had is not forgotten.
-  reply_after-saw : (port owner : ℕ) (state : BindAt) (steps : List Did) (did : Did)
+  bind_reply_after-saw : (port owner : ℕ) (state : BindAt) (steps : List Did) (did : Did)
       → did.op ≡ plan_at env port owner state
-      → IsSome (bind_node state) → SawAt state steps
-      → SawForReply (reply_after env state did.old) (steps ++ did ∷ [])
-  reply_after-saw port owner (at.Taking take) steps did is has saw = absurd (cc)
-  reply_after-saw port owner (at.FoundOwner claimed found) steps did is has saw = tt
-  reply_after-saw port owner (at.Count claimed) steps did is has saw = count-saw steps did is
-  reply_after-saw port owner (at.Publish claimed kick) steps did is has saw = tt
-  reply_after-saw port owner state steps did is has saw = SawForReply-push (bind_reply state) steps did saw
+      → IsSome (node_of_bind state) → SawAt state steps
+      → SawForReply (bind_reply_after env state did.old) (steps ++ did ∷ [])
+  bind_reply_after-saw port owner (at.Taking take) steps did is has saw = absurd (cc)
+  bind_reply_after-saw port owner (at.FoundOwner claimed found) steps did is has saw = tt
+  bind_reply_after-saw port owner (at.Count claimed) steps did is has saw = count-saw steps did is
+  bind_reply_after-saw port owner (at.Publish claimed kick) steps did is has saw = tt
+  bind_reply_after-saw port owner state steps did is has saw = SawForReply-push (reply_of_bind state) steps did saw
 
-  SawForReply-at : (state : BindAt) (steps : List Did) → IsSome (bind_node state)
-      → SawForReply (bind_reply state) steps
+  SawForReply-at : (state : BindAt) (steps : List Did) → IsSome (node_of_bind state)
+      → SawForReply (reply_of_bind state) steps
       → SawAt state steps
   SawForReply-at (at.Taking take) steps has saw = absurd (cc)
   SawForReply-at _ steps has saw = saw
 
   module _ (mix : ℕ → ℕ → ℕ → ℕ) (port owner : ℕ) where
     with_node-saw : (state : BindAt) (steps : List Did) (did : Did) → BindDoes env port owner state did
-        → IsSome (bind_node state)
+        → IsSome (node_of_bind state)
         → SawAt state steps → SawNext (steps ++ did ∷ []) (after_at mix env port state did.old)
     with_node-saw state steps did does has saw =
         let all = steps ++ did ∷ [] in
         let So = λ (node : Option ℕ) (reply : Option Reply). IsSome node × SawForReply reply all in
-        GoesOrEnds-weaker (HoldsSo So) _ (λ (reply : Reply). So (bind_node state) (Some reply)) _ (λ next so. SawForReply-at next all so.0 so.1)
+        GoesOrEnds-weaker (HoldsSo So) _ (λ (reply : Reply). So (node_of_bind state) (Some reply)) _ (λ next so. SawForReply-at next all so.0 so.1)
         (λ reply so. so.1)
         (after_at mix env port state did.old)
-        (bind_after-so So mix env port state did.old has (has, reply_after-saw port owner state steps did does.planned has saw))
+        (bind_after-so So mix env port state did.old has (has, bind_reply_after-saw port owner state steps did does.planned has saw))
 
     bind-saw : (state : BindAt) (steps : List Did) (did : Did) → BindDoes env port owner state did
         → SawAt state steps → SawNext (steps ++ did ∷ []) (after_at mix env port state did.old)

@@ -25,52 +25,47 @@ use Rattle.rht_bind.specs.Bind.{after_at, lock_taken, walk_taken, walk_or_seen, 
 use Rattle.rht_bind.specs.declared.bind.Claimed.{Claimed}
 use Rattle.rht_bind.specs.declared.bind.BindAt.{BindAt}
 use Rattle.rht_bind.specs.declared.bind.BindAt.TheVariants as at
-use Rattle.rht_core.proofs.MachinesGoOn.{GoesOrEnds}
+use Rattle.rht_core.proofs.MachinesGoOn.{GoesOrEnds, reply_behind}
 
 -- the node that a bind has taken
-abbrev pub bind_node : BindAt → Option ℕ
-bind_node (at.Taking take) = None
-bind_node (at.Key node) = Some node
-bind_node (at.Owner node) = Some node
-bind_node (at.ListLink node) = Some node
-bind_node (at.CurrentTable node) = Some node
-bind_node (at.Shape node table) = Some node
-bind_node (at.Seed node table shape) = Some node
-bind_node (at.Locking node table shape lock) = Some node
-bind_node (at.Walking table claimed walk) = Some claimed.node
-bind_node (at.FoundOwner claimed found) = Some claimed.node
-bind_node (at.Future table claimed) = Some claimed.node
-bind_node (at.Count claimed) = Some claimed.node
-bind_node (at.Link claimed) = Some claimed.node
-bind_node (at.Raise claimed) = Some claimed.node
-bind_node (at.Publish claimed kick) = Some claimed.node
-bind_node (at.Unlocking node unlock next) = Some node
-bind_node (at.Giving give reply) = Some give.node
-
--- the reply that comes behind an unlocking
-abbrev reply_of : Then Reply → Option Reply
-reply_of (Table table) = None
-reply_of (Answer reply) = Some reply
+abbrev pub node_of_bind : BindAt → Option ℕ
+node_of_bind (at.Taking take) = None
+node_of_bind (at.Key node) = Some node
+node_of_bind (at.Owner node) = Some node
+node_of_bind (at.ListLink node) = Some node
+node_of_bind (at.CurrentTable node) = Some node
+node_of_bind (at.Shape node table) = Some node
+node_of_bind (at.Seed node table shape) = Some node
+node_of_bind (at.Locking node table shape lock) = Some node
+node_of_bind (at.Walking table claimed walk) = Some claimed.node
+node_of_bind (at.FoundOwner claimed found) = Some claimed.node
+node_of_bind (at.Future table claimed) = Some claimed.node
+node_of_bind (at.Count claimed) = Some claimed.node
+node_of_bind (at.Link claimed) = Some claimed.node
+node_of_bind (at.Raise claimed) = Some claimed.node
+node_of_bind (at.Publish claimed kick) = Some claimed.node
+node_of_bind (at.Unlocking node unlock next) = Some node
+node_of_bind (at.Giving give reply) = Some give.node
 
 -- the reply that a bind is going to answer
-abbrev pub bind_reply : BindAt → Option Reply
-bind_reply (at.Unlocking node unlock next) = reply_of next
-bind_reply (at.Giving give reply) = Some reply
-bind_reply _ = None
+abbrev pub reply_of_bind : BindAt → Option Reply
+reply_of_bind (at.Unlocking node unlock next) = reply_behind next
+reply_of_bind (at.Giving give reply) = Some reply
+reply_of_bind _ = None
 
 -- the reply that it has once it has found this word
-abbrev pub reply_after : Env → BindAt → ℕ → Option Reply
-reply_after env (at.FoundOwner claimed found) word = Some (Exists (owner_of word))
-reply_after env (at.Count claimed) word =
+abbrev pub bind_reply_after : Env → BindAt → ℕ → Option Reply
+bind_reply_after env (at.FoundOwner claimed found) word = Some (Exists (owner_of word))
+bind_reply_after env (at.Count claimed) word =
     if is_above_max (min word 65536) env.config.max then Some (TooBig word) else None
-reply_after env (at.Publish claimed kick) word = Some (Bound kick)
-reply_after env state word = bind_reply state
+bind_reply_after env (at.Publish claimed kick) word = Some (Bound kick)
+bind_reply_after env state word = reply_of_bind state
 
 -- `So` is anything that may be said of a node and a reply
 module _ (So : Option ℕ → Option Reply → Type 0) where
   -- it is so of what a state holds
   abbrev pub HoldsSo : BindAt → Type 0
-  HoldsSo state = So (bind_node state) (bind_reply state)
+  HoldsSo state = So (node_of_bind state) (reply_of_bind state)
 
   found_or_not-so : (table : ℕ) (claimed : Claimed) (found : Option ℕ) → So (Some claimed.node) None
       → HoldsSo (found_or_not table claimed found)
@@ -109,7 +104,7 @@ module _ (So : Option ℕ → Option Reply → Type 0) where
   checked_count-so claimed count true so = so
   checked_count-so claimed count false so = so
 
-  after_unlock-so : (env : Env) (node : ℕ) (next : Then Reply) → So (Some node) (reply_of next)
+  after_unlock-so : (env : Env) (node : ℕ) (next : Then Reply) → So (Some node) (reply_behind next)
       → HoldsSo (after_unlock env node next)
   after_unlock-so env node (Table table) so = so
   after_unlock-so env node (Answer reply) so = so
@@ -117,9 +112,9 @@ module _ (So : Option ℕ → Option Reply → Type 0) where
   -- Where it is so of the node and of the reply that a bind has after an operation, it is so of what its next
   -- state holds, or of its answer.
   pub bind_after-so : (mix : ℕ → ℕ → ℕ → ℕ) (env : Env) (port : ℕ) (state : BindAt) (word : ℕ)
-      → IsSome (bind_node state)
-      → So (bind_node state) (reply_after env state word)
-      → GoesOrEnds HoldsSo (λ reply. So (bind_node state) (Some reply)) (after_at mix env port state word)
+      → IsSome (node_of_bind state)
+      → So (node_of_bind state) (bind_reply_after env state word)
+      → GoesOrEnds HoldsSo (λ reply. So (node_of_bind state) (Some reply)) (after_at mix env port state word)
   bind_after-so mix env port (at.Taking take) word has so = absurd (cc)
   bind_after-so mix env port (at.Locking node table shape lock) word has so =
       lock_taken-so env port node table shape (lock_after lock word).0 (lock_after lock word).1 so

@@ -20,6 +20,8 @@ pub mod TracedRuns
 pub mod TracedCallers
 -- a machine goes on in a state, or has answered
 pub mod MachinesGoOn
+-- the reply that a look-up is going to answer
+pub mod HeldByFinds
 -- the node that a bind has taken, and the reply that it is going to answer
 pub mod HeldByBinds
 -- what a look-up and a bind answer

@@ -1,7 +1,10 @@
--- A machine that was told a word goes on in a state, or has answered.
+-- A machine that was told a word goes on in a state, or has answered. The answer may stand in its state before.
+use Rattle.std.specs.Prelude.{Option, Some, None}
 use Rattle.rht_words.specs.declared.machine.Next.{Next}
 use Rattle.rht_words.specs.declared.machine.Next.TheVariants.{Go, Done}
 use Rattle.rht_model.specs.declared.history.Reply.{Reply}
+use Rattle.rht_chain.specs.declared.locked.Then.{Then}
+use Rattle.rht_chain.specs.declared.locked.Then.TheVariants.{Table, Answer}
 
 -- what holds of the state in which it goes on, or of its answer
 abbrev pub GoesOrEnds : {S : Type 0} → (S → Type 0) → (Reply → Type 0) → S × Next Reply → Type 0
@@ -14,3 +17,8 @@ pub GoesOrEnds-weaker : {S : Type 0} (Goes Went : S → Type 0) (Ends Ended : Re
     → (next : S × Next Reply) → GoesOrEnds Goes Ends next → GoesOrEnds Went Ended next
 GoesOrEnds-weaker Goes Went Ends Ended goes ends (state, Go) so = goes state so
 GoesOrEnds-weaker Goes Went Ends Ended goes ends (state, Done reply) so = ends reply so
+
+-- the reply that comes behind an unlocking
+abbrev pub reply_behind : Then Reply → Option Reply
+reply_behind (Table table) = None
+reply_behind (Answer reply) = Some reply

@@ -37,8 +37,8 @@ use Rattle.rht_bind.specs.declared.bind.BindAt.TheVariants as at
 use Rattle.rht_core.specs.Traces.{Did}
 use Rattle.rht_core.specs.Laws.{IsFindReply, IsNoTake, TakesNone, TakesOne, IsTakenBy, IsTakenIn, TakenAlone}
 use Rattle.rht_core.proofs.MachinesGoOn.{GoesOrEnds, GoesOrEnds-weaker}
-use Rattle.rht_core.proofs.HeldByBinds.{bind_node, HoldsSo, bind_after-so}
-use Rattle.rht_core.proofs.MachineReplies.{HoldsFindReply, IsReplyWithNode, IsNoneOrWithNode, find_after-replies, reply_after-with_node}
+use Rattle.rht_core.proofs.HeldByBinds.{node_of_bind, HoldsSo, bind_after-so}
+use Rattle.rht_core.proofs.MachineReplies.{HoldsFindReply, IsReplyWithNode, IsNoneOrWithNode, find_after-replies, bind_reply_after-with_node}
 use Rattle.rht_core.proofs.RepliesInRuns.{all_push}
 use Rattle.rht_core.proofs.TracedCalls.{FindDoes, BindDoes, calls_keep}
 
@@ -142,7 +142,7 @@ take_took take (Claim index bit) did is range =
 
 -- ---- a bind
 
-bind_no_and : (env : Env) (port owner : ℕ) (state : BindAt) → IsSome (bind_node state)
+bind_no_and : (env : Env) (port owner : ℕ) (state : BindAt) → IsSome (node_of_bind state)
     → IsNoAnd (bind_plan_at env port owner state)
 bind_no_and env port owner (at.Taking take) has = absurd (cc)
 bind_no_and env port owner (at.Locking node table shape lock) has = lock_no_and lock.place lock.at
@@ -175,7 +175,7 @@ module _ (mix : ℕ → ℕ → ℕ → ℕ) (env : Env) where
   FindTakes state steps = TakesNone g steps
 
   abbrev BindTakes : BindAt → List Did → Type 0
-  BindTakes state steps = HasTaken g (bind_node state) steps
+  BindTakes state steps = HasTaken g (node_of_bind state) steps
 
   -- what a bind has taken once it goes on, and once it has answered
   abbrev BindGoes : List Did → BindAt × Next Reply → Type 0
@@ -191,16 +191,16 @@ module _ (mix : ℕ → ℕ → ℕ → ℕ) (env : Env) where
   -- a bind that has its node performs no And, so the node stays the one that it took
   with_node-goes : (port owner : ℕ) (state : BindAt) (steps : List Did) (did : Did)
       → BindDoes env port owner state did
-      → IsSome (bind_node state) → BindTakes state steps
+      → IsSome (node_of_bind state) → BindTakes state steps
       → BindGoes (steps ++ did ∷ []) (after_at mix env port state did.old)
   with_node-goes port owner state steps did does has taken =
       let all = steps ++ did ∷ [] in
-      let still = HasTaken-push g (bind_node state) steps did taken (no_and_as g did does.planned (bind_no_and env port owner state has)) in
+      let still = HasTaken-push g (node_of_bind state) steps did taken (no_and_as g did does.planned (bind_no_and env port owner state has)) in
       let So = λ (node : Option ℕ) (reply : Option Reply). HasTaken g node all × IsNoneOrWithNode reply in
-      GoesOrEnds-weaker (HoldsSo So) _ (λ (reply : Reply). So (bind_node state) (Some reply)) _ (λ next so. so.0)
-      (λ reply so. with_node g (bind_node state) all reply has so.1 so.0)
+      GoesOrEnds-weaker (HoldsSo So) _ (λ (reply : Reply). So (node_of_bind state) (Some reply)) _ (λ next so. so.0)
+      (λ reply so. with_node g (node_of_bind state) all reply has so.1 so.0)
       (after_at mix env port state did.old)
-      (bind_after-so So mix env port state did.old has (still, reply_after-with_node env state did.old does.holds))
+      (bind_after-so So mix env port state did.old has (still, bind_reply_after-with_node env state did.old does.holds))
 
   bind-goes : (port owner : ℕ) (state : BindAt) (steps : List Did) (did : Did)
       → BindDoes env port owner state did
