@@ -1,7 +1,5 @@
 -- The invariant holds at opening, and so after each event of each run.
-use Rattle.std.proofs.Common.{◌≡◌, ℕ, ◌/◌, List, [], replicate, None, false, refl, sym, ◌∙◌, subst, inl, inr, arith}
-use Rattle.std.proofs.lemmas.Bool.{cases_lt}
-use Rattle.std.proofs.lemmas.List.{get_or-replicate, get_or_past, length-replicate}
+use Rattle.std.proofs.Common.{◌≡◌, ℕ, ◌/◌, List, [], replicate, None, false, refl, sym, ◌∙◌, subst, arith}
 use Rattle.rht_words.specs.declared.env.Env.{Env}
 use Rattle.rht_words.specs.Places.{Address, CurrentTable, PortCount, Slot, ShapeWord, SeedWord, FutureWord, NodeMap, PageWord, IsAddress}
 use Rattle.rht_words.specs.Opening.{opening_word, opening_words, first_shape}
@@ -12,7 +10,7 @@ use Rattle.rht_core.specs.declared.local.Local.{Local}
 use Rattle.rht_core.specs.declared.local.Local.TheVariants.{Idle}
 use Rattle.rht_core.specs.Runs.{Core, World, local_in, opening_core, run_of, IsSound}
 use Rattle.rht_core.proofs.Worlds.{induct_by_last, run_of-push}
-use Rattle.rht_core.proofs.RangesInRuns.{runs-in, IsInRange-stays}
+use Rattle.rht_core.proofs.RangesInRuns.{runs-in, IsInRange-stays, each_replicate}
 use Rattle.rht_core.proofs.Ghosts.{Bucket, Free, Ghost, PageFree, SlotFree, is_first}
 use Rattle.rht_core.proofs.Wholes.{Whole}
 use Rattle.rht_core.proofs.Steps.{mem}
@@ -74,12 +72,7 @@ module _ (env : Env) (mix : ℕ → ℕ → ℕ → ℕ) where
 
   module _ (L : Type 0) where
     idle_at_opening : (c : ℕ) → ◌≡◌ {A = Local L} (local_in (replicate env.geometry.callers Idle) c) Idle
-    idle_at_opening c =
-        let idle : Local L = Idle in
-        elim (cases_lt c env.geometry.callers) [
-          | inl l ↦ get_or-replicate env.geometry.callers c idle idle l
-          | inr past ↦ get_or_past (replicate env.geometry.callers idle) c idle (rw (length-replicate env.geometry.callers idle) past)
-        ]
+    idle_at_opening c = each_replicate (λ (local : Local L). local ≡ Idle) env.geometry.callers c Idle refl
 
     opening_inv : Inv env mix L (opening_core env) (opening_ghost env)
     opening_inv = record {

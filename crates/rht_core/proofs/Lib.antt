@@ -1,5 +1,7 @@
 -- what an event does to each caller, and inductions over the events of a run
 pub mod Worlds
+-- a call begins as a look-up or a bind, is busy, and goes on or ends
+pub mod CallsInProgress
 -- a look-up stays in range
 pub mod FindRanges
 -- a bind stays in range
@@ -10,8 +12,6 @@ pub mod RangesInRuns
 pub mod StoredWords
 -- in every run each word has 64 bits
 pub mod WordsInRuns
--- a call begins busy, and goes on or ends
-pub mod CallsInProgress
 -- in every run a caller that isn't enrolled has done nothing
 pub mod CallersNotEnrolled
 -- a run with its traces, event by event

@@ -1,13 +1,11 @@
 -- In every run each call that has ended has a reply of its kind, and what a caller works at is the
 -- call of its book. A caller keeps this of itself: it begins with the call that its book gets, and
 -- the reply that ends it is its machine's.
-use Rattle.std.proofs.Common.{◌≡◌, ℕ, Bool, true, List, [], ◌∷◌, ◌++◌, refl, sym, subst}
-use Rattle.std.specs.Prelude.{Option, Some, None}
+use Rattle.std.proofs.Common.{◌≡◌, ℕ, true, List, [], ◌∷◌, ◌++◌, refl, sym, subst}
+use Rattle.std.specs.Prelude.{Option, Some}
 use Rattle.std.specs.List.{AllByRecursion}
 use Rattle.rht_words.specs.declared.op.Op.{Op}
 use Rattle.rht_words.specs.declared.env.Env.{Env}
-use Rattle.rht_words.specs.declared.config.Kind.{Kind}
-use Rattle.rht_words.specs.declared.config.Kind.TheVariants.{Single, Listed}
 use Rattle.rht_words.specs.declared.machine.Next.{Next}
 use Rattle.rht_words.specs.declared.machine.Next.TheVariants.{Go, Done}
 use Rattle.rht_model.specs.declared.history.Call.{Call}
@@ -19,11 +17,12 @@ use Rattle.rht_core.specs.declared.event.Event.{Event}
 use Rattle.rht_core.specs.declared.book.Book.{Book}
 use Rattle.rht_core.specs.declared.local.Local.{Local}
 use Rattle.rht_core.specs.declared.local.Local.TheVariants.{Idle, Finding, Binding}
-use Rattle.rht_core.specs.Locals.{is_idle, machine_of, binding_of, plan_of, found_next, bound_next}
+use Rattle.rht_core.specs.Locals.{is_idle, machine_of, plan_of, found_next, bound_next}
 use Rattle.rht_core.specs.Runs.{Seen, seen, book_begun, book_after, finished_with, run_of}
 use Rattle.rht_core.specs.Laws.{IsFindReply, IsBindReply, IsReplyTo, IsAnswered, IsBookOfFind, IsBookOfBind, IsBookOf, Replies, seen_begin, seen_step}
 use Rattle.rht_core.proofs.MachinesGoOn.{GoesOrEnds}
 use Rattle.rht_core.proofs.MachineReplies.{HoldsFindReply, HoldsBindReply, find_after-replies, bind_after-replies}
+use Rattle.rht_core.proofs.CallsInProgress.{begins_so}
 use Rattle.rht_core.proofs.TracedCallers.{IsKept, callers_keep}
 
 -- one more at the end of a list of which it holds
@@ -56,25 +55,15 @@ module _ (M : Type 0) (mix : ℕ → ℕ → ℕ → ℕ) (env : Env) where
 
   -- ---- the beginning of a call
 
-  abbrev BeginsRight : ℕ → Call → Book → Option (Local M) → Type 0
-  BeginsRight c call book None = Unit {0}
-  BeginsRight c call book (Some machine) = IsBookOf env c machine (book_begun call book) × HoldsReply machine
-
-  binding-right : (c port owner : ℕ) (once : Bool) (book : Book) (kind : Kind)
-      → BeginsRight c (Bind port owner once) book (binding_of env c port owner once kind)
-  binding-right c port owner once book Single = (record { same_env = refl; same_caller = refl; call = refl }, tt)
-  binding-right c port owner once book Listed = tt
-
-  machine-right : (c : ℕ) (call : Call) (book : Book) → BeginsRight c call book (machine_of env c call)
-  machine-right c (Find port) book = (record { same_env = refl; same_caller = refl; call = refl }, tt)
-  machine-right c (Bind port owner once) book = binding-right c port owner once book env.config.kind
-  machine-right c _ book = tt
-
   begins-right : (c : ℕ) (call : Call) (machine : Local M) (here : Seen M) → is_idle here.local ≡ true
       → machine_of env c call ≡ Some machine
       → IsRight c here → IsRight c (seen_begin call machine here)
   begins-right c call machine here idle is right =
-      let begun = subst (BeginsRight c call here.book) is (machine-right c call here.book) in
+      let begun =
+      begins_so M env c (λ asked first. IsBookOf env c first (book_begun asked here.book) × HoldsReply first)
+      (λ port. (record { same_env = refl; same_caller = refl; call = refl }, tt))
+      (λ port owner once single. (record { same_env = refl; same_caller = refl; call = refl }, tt))
+      call machine is in
       record { finished = right.finished; progress = begun.0; holds = begun.1 }
 
   -- ---- a step of a call

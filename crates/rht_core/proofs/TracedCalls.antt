@@ -5,11 +5,9 @@
 -- operation of a machine leads to one more of them, and where it ends the call, to what is kept of an ended one.
 -- What callers keep besides is known here once for all: that each is right, and that its state is in range.
 use Rattle.std.proofs.Common.{◌≡◌, ℕ, Bool, true, List, [], ◌∷◌, ◌++◌, sym, subst}
-use Rattle.std.specs.Prelude.{Option, Some, None}
+use Rattle.std.specs.Prelude.{Option, Some}
 use Rattle.std.specs.List.{AllByRecursion}
 use Rattle.rht_words.specs.declared.env.Env.{Env}
-use Rattle.rht_words.specs.declared.config.Kind.{Kind}
-use Rattle.rht_words.specs.declared.config.Kind.TheVariants.{Single, Listed}
 use Rattle.rht_words.specs.declared.machine.Next.{Next}
 use Rattle.rht_words.specs.declared.machine.Next.TheVariants.{Go, Done}
 use Rattle.rht_model.specs.declared.history.Call.{Call}
@@ -28,10 +26,11 @@ use Rattle.rht_core.specs.declared.event.Event.{Event}
 use Rattle.rht_core.specs.declared.book.Book.{Book}
 use Rattle.rht_core.specs.declared.local.Local.{Local}
 use Rattle.rht_core.specs.declared.local.Local.TheVariants.{Idle, Finding, Binding}
-use Rattle.rht_core.specs.Locals.{is_idle, machine_of, binding_of, plan_of, local_after, found_next, bound_next}
+use Rattle.rht_core.specs.Locals.{is_idle, machine_of, plan_of, local_after, found_next, bound_next}
 use Rattle.rht_core.specs.Runs.{Seen, local_of}
 use Rattle.rht_core.specs.Traces.{Did, Past, Trace, Traced, trace_begun, trace_did, traced_of}
 use Rattle.rht_core.specs.Laws.{IsLocalIn, seen_begin}
+use Rattle.rht_core.proofs.CallsInProgress.{begins_so}
 use Rattle.rht_core.proofs.FindRanges.{IsFindAtIn}
 use Rattle.rht_core.proofs.BindRanges.{IsBindAtIn}
 use Rattle.rht_core.proofs.MachinesGoOn.{GoesOrEnds}
@@ -129,27 +128,13 @@ module _ (M : Type 0) (mix : ℕ → ℕ → ℕ → ℕ) (env : Env) (Finds : F
     module _ (keep : CallsKeep) where
       -- ---- the beginning of a call
 
-      abbrev BeginsSo : Option (Local M) → Type 0
-      BeginsSo None = Unit {0}
-      BeginsSo (Some machine) = IsNowSo machine []
-
-      binding-begins : (c port owner : ℕ) (once : Bool) (kind : Kind)
-          → BeginsSo (binding_of env c port owner once kind)
-      binding-begins c port owner once Single = keep.bind_begins
-      binding-begins c port owner once Listed = tt
-
-      machine-begins : (c : ℕ) (call : Call) → BeginsSo (machine_of env c call)
-      machine-begins c (Find port) = keep.find_begins
-      machine-begins c (Bind port owner once) = binding-begins c port owner once env.config.kind
-      machine-begins c _ = tt
-
       begins-so : (c : ℕ) (call : Call) (machine : Local M) (index : ℕ) (here : Seen M) (trace : Trace)
           → is_idle here.local ≡ true
           → machine_of env c call ≡ Some machine → IsKeeping c here trace
           → IsKeeping c (seen_begin call machine here) (trace_begun index trace)
       begins-so c call machine index here trace idle is keeping = record {
         right = (kept-right M mix env).begins c call machine here idle is keeping.right;
-        calls = record { past = keeping.calls.past; now = subst BeginsSo is (machine-begins c call) };
+        calls = record { past = keeping.calls.past; now = begins_so M env c (λ asked first. IsNowSo first []) (λ port. keep.find_begins) (λ port owner once single. keep.bind_begins) call machine is };
       }
 
       -- each machine works in the table of the run, where what has to be shown of it is said

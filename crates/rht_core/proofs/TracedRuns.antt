@@ -1,8 +1,7 @@
 -- A run with its traces, event by event: the world beside the traces is the run's, and an event of a caller
 -- changes its trace and no other one.
-use Rattle.std.proofs.Common.{◌≡◌, ◌≢◌, ℕ, ◌+◌, cond, List, [], ◌∷◌, ◌++◌, length, refl, sym, ap, ◌∙◌}
+use Rattle.std.proofs.Common.{◌≡◌, ◌≢◌, ℕ, ◌+◌, List, [], ◌∷◌, ◌++◌, length, refl, sym, ap, ◌∙◌}
 use Rattle.std.specs.Prelude.{Option, Some, None}
-use Rattle.std.proofs.lemmas.Bool.{eq-eqb, ne_eqb}
 use Rattle.std.proofs.lemmas.List.{length_push}
 use Rattle.rht_words.specs.declared.op.Op.{Op}
 use Rattle.rht_words.specs.declared.env.Env.{Env}
@@ -13,8 +12,8 @@ use Rattle.rht_core.specs.declared.event.Event.TheVariants.{Begin, Step}
 use Rattle.rht_core.specs.declared.local.Local.{Local}
 use Rattle.rht_core.specs.Locals.{local_after}
 use Rattle.rht_core.specs.Runs.{World, local_of, beginning, planned, with_step, run_from, run_of, opening}
-use Rattle.rht_core.specs.Traces.{Trace, Traced, trace_at, trace_begun, trace_did, traces_begun, traces_stepped, traces_after, traced_step, traced_from, traced_of}
-use Rattle.rht_core.proofs.Worlds.{induct_by_last}
+use Rattle.rht_core.specs.Traces.{Trace, Traced, trace_begun, trace_did, traces_begun, traces_stepped, traces_after, traced_step, traced_from, traced_of}
+use Rattle.rht_core.proofs.Worlds.{induct_by_last, changed-same, changed-other}
 
 -- ---- runs
 
@@ -53,13 +52,6 @@ module _ (M : Type 0) (mix : ℕ → ℕ → ℕ → ℕ) where
 
 -- ---- what an event does to a trace
 
-pub trace_at-same : (traces : ℕ → Trace) (c : ℕ) (trace : Trace) → trace_at traces c trace c ≡ trace
-trace_at-same traces c trace = ap (λ v. cond v trace (traces c)) (eq-eqb c c refl)
-
-pub trace_at-other : (traces : ℕ → Trace) (c : ℕ) (trace : Trace) (k : ℕ) → k ≢ c
-    → trace_at traces c trace k ≡ traces k
-trace_at-other traces c trace k n = ap (λ v. cond v trace (traces k)) (ne_eqb k c n)
-
 module _ (M : Type 0) (mix : ℕ → ℕ → ℕ → ℕ) (r : Traced M) (c : ℕ) where
   module _ (call : Call) where
     abbrev beginning_in : Option (Local M)
@@ -71,11 +63,11 @@ module _ (M : Type 0) (mix : ℕ → ℕ → ℕ → ℕ) (r : Traced M) (c : �
     pub trace_begin_self : (machine : Local M) → beginning_in ≡ Some machine
         → traces_after mix r (Begin c call) c ≡ trace_begun r.count (r.traces c)
     trace_begin_self machine is =
-        ap (λ o. traces_begun r c o c) is ∙ trace_at-same r.traces c (trace_begun r.count (r.traces c))
+        ap (λ o. traces_begun r c o c) is ∙ changed-same r.traces c (trace_begun r.count (r.traces c))
 
     begun_other : (k : ℕ) → k ≢ c → (machine : Option (Local M)) → traces_begun r c machine k ≡ r.traces k
     begun_other k other None = refl
-    begun_other k other (Some machine) = trace_at-other r.traces c (trace_begun r.count (r.traces c)) k other
+    begun_other k other (Some machine) = changed-other r.traces c (trace_begun r.count (r.traces c)) k other
 
     pub trace_begin_other : (k : ℕ) → k ≢ c → traces_after mix r (Begin c call) k ≡ r.traces k
     trace_begin_other k other = begun_other k other beginning_in
@@ -98,11 +90,11 @@ module _ (M : Type 0) (mix : ℕ → ℕ → ℕ → ℕ) (r : Traced M) (c : �
   trace_step_none is = ap traces_with is
 
   pub trace_step_self : (op : Op) → planned_in ≡ Some op → traces_after mix r (Step c) c ≡ trace_with op
-  trace_step_self op is = ap (λ o. traces_with o c) is ∙ trace_at-same r.traces c (trace_with op)
+  trace_step_self op is = ap (λ o. traces_with o c) is ∙ changed-same r.traces c (trace_with op)
 
   stepped_other : (k : ℕ) → k ≢ c → (op : Option Op) → traces_with op k ≡ r.traces k
   stepped_other k other None = refl
-  stepped_other k other (Some op) = trace_at-other r.traces c (trace_with op) k other
+  stepped_other k other (Some op) = changed-other r.traces c (trace_with op) k other
 
   pub trace_step_other : (k : ℕ) → k ≢ c → traces_after mix r (Step c) k ≡ r.traces k
   trace_step_other k other = stepped_other k other planned_in

@@ -1,7 +1,7 @@
 -- In every run each word has 64 bits, where the table's seed has 32.
 -- At opening the words are small. A caller holds words that it was told, and the port and the owner of
 -- an admitted call; so what it stores fits, and it is told words that fit.
-use Rattle.std.proofs.Common.{◌≡◌, ℕ, zero, suc, ◌-◌, ◌*◌, ◌^◌, ◌<◌, Bool, List, [], ◌∷◌, get_or, map, min, refl, sym, subst, arith}
+use Rattle.std.proofs.Common.{◌≡◌, ℕ, zero, suc, ◌-◌, ◌*◌, ◌^◌, ◌<◌, List, [], ◌∷◌, get_or, map, min, refl, sym, subst, arith}
 use Rattle.std.specs.Prelude.{Option, Some, None, ◌==◌}
 use Rattle.std.specs.List.{AllByRecursion}
 use Rattle.std.proofs.Math.Pow.{pow_mono}
@@ -9,8 +9,6 @@ use Rattle.std.proofs.lemmas.Bool.{cond_both}
 use Rattle.std.proofs.lemmas.Nat.{trailing_le}
 use Rattle.rht_words.specs.declared.op.Op.{Op}
 use Rattle.rht_words.specs.declared.env.Env.{Env}
-use Rattle.rht_words.specs.declared.config.Kind.{Kind}
-use Rattle.rht_words.specs.declared.config.Kind.TheVariants.{Single, Listed}
 use Rattle.rht_words.specs.declared.machine.Next.{Next}
 use Rattle.rht_words.specs.declared.machine.Next.TheVariants.{Go, Done}
 use Rattle.rht_words.specs.Operations.{op_place, old_of, applied}
@@ -18,7 +16,6 @@ use Rattle.rht_words.specs.Maps.{map_bits}
 use Rattle.rht_words.specs.Opening.{first_size, first_slot, opening_word}
 use Rattle.rht_words.specs.Places.{Address, NextSerial, Slot, NodeMap, PageMap, SlotWord, ShapeWord, SeedWord, StateWord, address_at}
 use Rattle.rht_model.specs.declared.history.Call.{Call}
-use Rattle.rht_model.specs.declared.history.Call.TheVariants.{Bind, Find}
 use Rattle.rht_model.specs.declared.history.Reply.{Reply}
 use Rattle.rht_find.specs.Find.{FindModel, find_after}
 use Rattle.rht_bind.specs.Bind.{BindModel, bind_after, IsInRange as IsBindInRange}
@@ -26,9 +23,10 @@ use Rattle.rht_core.specs.declared.event.Event.{Event}
 use Rattle.rht_core.specs.declared.event.Event.TheVariants.{Enroll, Begin, Step}
 use Rattle.rht_core.specs.declared.local.Local.{Local}
 use Rattle.rht_core.specs.declared.local.Local.TheVariants.{Idle, Finding, Binding}
-use Rattle.rht_core.specs.Locals.{machine_of, binding_of, plan_of, local_after, found_next, bound_next}
+use Rattle.rht_core.specs.Locals.{machine_of, plan_of, local_after, found_next, bound_next}
 use Rattle.rht_core.specs.Runs.{Core, World, local_of, beginning, with_machine, planned, with_step, enrolling, world_step, run_of, opening, IsAdmitted, IsAdmittedCall, IsAdmittedEvent}
 use Rattle.rht_core.specs.Laws.{IsLocalIn, IsFindPieceIn, IsBindPieceIn, WordsFit}
+use Rattle.rht_core.proofs.CallsInProgress.{begins_so}
 use Rattle.rht_core.proofs.Worlds.{beginning-some, planned-some, run_keeps_admitted}
 use Rattle.rht_core.proofs.RangesInRuns.{StaysIn, opens-in, stays-in, has_place, each_set, each_replicate, all_set}
 use Rattle.rht_core.proofs.StoredWords.{Fits, OpFits, word_after-fits, FindFits, find_after-fits, find_plan-fits, BindFits, bind_after-fits, bind_plan-fits}
@@ -73,19 +71,11 @@ module _ (M : Type 0) where
   LocalFits (Finding m) = FindFits m.at
   LocalFits (Binding m) = (m.port < 2 ^ 32) × (m.owner < 2 ^ 32) × BindFits m.at
 
-  abbrev MachineFits : Option (Local M) → Type 0
-  MachineFits None = Unit {0}
-  MachineFits (Some machine) = LocalFits machine
-
-  binding-fits : (env : Env) (c port owner : ℕ) (once : Bool) (kind : Kind) → port < 2 ^ 32 → owner < 2 ^ 32
-      → MachineFits (binding_of env c port owner once kind)
-  binding-fits env c port owner once Single small low = (small, low, tt)
-  binding-fits env c port owner once Listed small low = tt
-
-  machine-fits : (env : Env) (c : ℕ) (call : Call) → IsAdmittedCall call → MachineFits (machine_of env c call)
-  machine-fits env c (Find port) admitted = tt
-  machine-fits env c (Bind port owner once) admitted = binding-fits env c port owner once env.config.kind admitted.0 admitted.1
-  machine-fits env c _ admitted = tt
+  begins-fit : (env : Env) (c : ℕ) (call : Call) (machine : Local M) → machine_of env c call ≡ Some machine
+      → IsAdmittedCall call → LocalFits machine
+  begins-fit env c =
+      begins_so M env c (λ call machine. IsAdmittedCall call → LocalFits machine) (λ port admitted. tt)
+      (λ port owner once single admitted. (admitted.0, admitted.1, tt))
 
   found-fits : (m : FindModel) (next : Next Reply) → FindFits m.at → LocalFits (found_next (m, next)).0
   found-fits m Go fits = fits
@@ -150,7 +140,7 @@ module _ (M : Type 0) (mix : ℕ → ℕ → ℕ → ℕ) (env : Env) where
   begin-fit core c call None admitted is fit k = fit.locals k
   begin-fit core c call (Some machine) admitted is fit k =
       let can = beginning-some core.env core.enrolled core.locals c call machine is in
-      let fits = subst (MachineFits M) can.machine_is (machine-fits M core.env c call admitted) in
+      let fits = begins-fit M core.env c call machine can.machine_is admitted in
       each_set (λ _. LocalFits M) Idle core.locals c machine (has_place M mix env core c fit.stays can.below) fits fit.locals k
 
   record StepFits (core : Core M) : Type 0 where

@@ -1,7 +1,7 @@
 -- What an event does to the words and to each caller, and inductions over the events of a run.
 -- An event of one caller changes what that caller sees of itself and nothing that another sees. All
 -- else that holds of runs goes through these equations.
-use Rattle.std.proofs.Common.{◌≡◌, ◌≢◌, ℕ, ◌<◌, ◌≤◌, Bool, true, false, cond, ◌&&◌, nat_lt, List, [], ◌∷◌, ◌++◌, length, take, refl, sym, ap, ◌∙◌, subst, append_assoc}
+use Rattle.std.proofs.Common.{◌≡◌, ◌≢◌, ℕ, ◌<◌, ◌≤◌, Bool, true, false, cond, ◌&&◌, ◌==◌, nat_lt, List, [], ◌∷◌, ◌++◌, length, take, refl, sym, ap, ◌∙◌, subst, append_assoc}
 use Rattle.std.specs.Prelude.{Option, Some, None, slice_set}
 use Rattle.std.proofs.lemmas.Bool.{eq-eqb, ne_eqb, ltb-true, lt-ltb, and_parts, and_from}
 use Rattle.std.proofs.lemmas.List.{append-nil, take-append-le, get_or-set_same, get_or-set_other}
@@ -58,13 +58,13 @@ IsAdmitted-parts kind [] rest p = (tt, p)
 IsAdmitted-parts kind (event ∷ past) rest p =
     let parts = IsAdmitted-parts kind past rest p.1 in ((p.0, parts.0), parts.1)
 
--- ---- books
+-- ---- functions changed at one place
 
-pub book_at-same : (books : ℕ → Book) (c : ℕ) (book : Book) → book_at books c book c ≡ book
-book_at-same books c book = ap (λ v. cond v book (books c)) (eq-eqb c c refl)
+pub changed-same : {A : Type 0} (f : ℕ → A) (c : ℕ) (a : A) → cond (c == c) a (f c) ≡ a
+changed-same f c a = ap (λ v. cond v a (f c)) (eq-eqb c c refl)
 
-pub book_at-other : (books : ℕ → Book) (c : ℕ) (book : Book) (k : ℕ) → k ≢ c → book_at books c book k ≡ books k
-book_at-other books c book k n = ap (λ v. cond v book (books k)) (ne_eqb k c n)
+pub changed-other : {A : Type 0} (f : ℕ → A) (c : ℕ) (a : A) (k : ℕ) → k ≢ c → cond (k == c) a (f k) ≡ f k
+changed-other f c a k n = ap (λ v. cond v a (f k)) (ne_eqb k c n)
 
 -- ---- what a caller begins with and plans
 
@@ -155,7 +155,7 @@ module _ (M : Type 0) (mix : ℕ → ℕ → ℕ → ℕ) (w : World M) where
         let local : local_in (slice_set w.core.locals c machine) c ≡ machine =
         get_or-set_same w.core.locals c machine Idle below in
         let book : book_at w.books c (book_begun call (w.books c)) c ≡ book_begun call (w.books c) =
-        book_at-same w.books c (book_begun call (w.books c)) in
+        changed-same w.books c (book_begun call (w.books c)) in
         ap (λ o. seen (began_with o) c) is ∙ (λ i. pair (local i) (book i))
 
     -- another caller sees nothing of it
@@ -165,7 +165,7 @@ module _ (M : Type 0) (mix : ℕ → ℕ → ℕ → ℕ) (w : World M) where
         let local : local_in (slice_set w.core.locals c machine) k ≡ local_of w.core k =
         get_or-set_other w.core.locals c k machine Idle other in
         let book : book_at w.books c (book_begun call (w.books c)) k ≡ w.books k =
-        book_at-other w.books c (book_begun call (w.books c)) k other in
+        changed-other w.books c (book_begun call (w.books c)) k other in
         (λ i. pair (local i) (book i))
 
     pub begin_other : (k : ℕ) → k ≢ c → seen (world_step mix w (Begin c call)) k ≡ seen w k
@@ -200,7 +200,7 @@ module _ (M : Type 0) (mix : ℕ → ℕ → ℕ → ℕ) (w : World M) where
         let local : local_in (slice_set w.core.locals c next.0) c ≡ next.0 =
         get_or-set_same w.core.locals c next.0 Idle below in
         let book : book_at w.books c (book_after next.1 (w.books c)) c ≡ book_after next.1 (w.books c) =
-        book_at-same w.books c (book_after next.1 (w.books c)) in
+        changed-same w.books c (book_after next.1 (w.books c)) in
         ap (λ o. seen (stepped_with o) c) is ∙ (λ i. pair (local i) (book i))
 
     -- another caller sees nothing of it
@@ -211,7 +211,7 @@ module _ (M : Type 0) (mix : ℕ → ℕ → ℕ → ℕ) (w : World M) where
         let local : local_in (slice_set w.core.locals c next.0) k ≡ local_of w.core k =
         get_or-set_other w.core.locals c k next.0 Idle other in
         let book : book_at w.books c (book_after next.1 (w.books c)) k ≡ w.books k =
-        book_at-other w.books c (book_after next.1 (w.books c)) k other in
+        changed-other w.books c (book_after next.1 (w.books c)) k other in
         (λ i. pair (local i) (book i))
 
     pub step_other : (k : ℕ) → k ≢ c → seen (world_step mix w (Step c)) k ≡ seen w k
