@@ -150,7 +150,7 @@ module _ (env : Env) (mix : ℕ → ℕ → ℕ → ℕ) (c port : ℕ) (before 
         → BindAlone env before call (bind_at.after_at mix env port at (old_of words (op_at at))) (applied words (op_at at))
     with_node_alone at has early lowered known progress =
         goes_alone (bind_at.after_at mix env port at (old_of words (op_at at))) (applied words (op_at at)) (still_at at lowered known)
-        (bind_after-so (λ node reply. IfSome reply (IsDetermined before call)) mix env port at (old_of words (op_at at)) has (determined_after at early known progress))
+        (bind_after-so (λ node word reply. IfSome reply (IsDetermined before call)) mix env port at (old_of words (op_at at)) has (determined_after at early known progress))
 
     -- each operation of a bind that is alone
     pub bind_alone : (at : BindAt) → BindKnows env mix c port owner at M G → bind_progress before call at
@@ -219,4 +219,4 @@ module _ (env : Env) (mix : ℕ → ℕ → ℕ → ℕ) (c port : ℕ) (before 
         → FindAlone env before kind port (find_at.after_at mix env port at (old_of words (find_op at))) (applied words (find_op at))
     find_alone at known progress =
         finds_alone (find_at.after_at mix env port at (old_of words (find_op at))) (applied words (find_op at)) (find_still at known)
-        (find_after-so (λ reply. IfSome reply (IsFoundOut before kind port)) mix env port at (old_of words (find_op at)) (found_out_after at known progress))
+        (find_after-so (λ word reply. IfSome reply (IsFoundOut before kind port)) mix env port at (old_of words (find_op at)) (found_out_after at known progress))

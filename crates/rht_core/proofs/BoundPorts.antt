@@ -61,11 +61,6 @@ in-range a (suc n) x low high = elim (cases_eq x a) [
   | inr ne ↦ inr (in-range (a + 1) n x (omega arith) (omega arith))
 ]
 
-from-range : (a n x : ℕ) → In x (range_with_len a n) → (a ≤ x) × (x < a + n)
-from-range a zero x i = absurd i
-from-range a (suc n) x (inl e) = (omega arith, omega arith)
-from-range a (suc n) x (inr i) = let rest = from-range (a + 1) n x i in (omega arith, omega arith)
-
 flat_map-same : (f h : ℕ → List ℕ) (xs : List ℕ) → ((x : ℕ) → In x xs → f x ≡ h x) → flat_map f xs ≡ flat_map h xs
 flat_map-same f h [] same = refl
 flat_map-same f h (x ∷ xs) same = rw (same x (inl refl)) (rw (flat_map-same f h xs (λ y i. same y (inr i))) refl)

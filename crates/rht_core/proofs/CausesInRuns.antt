@@ -35,7 +35,7 @@ use Rattle.rht_core.specs.Traces.{Did, Past, performed_of, traced_of}
 use Rattle.rht_core.specs.Laws.{IsFindReply, IsRecorded, IsPastCall}
 use Rattle.rht_core.specs.Causes.{SawFull, HasCauseIn, HasCause, Causes}
 use Rattle.rht_core.proofs.MachinesGoOn.{GoesOrEnds, GoesOrEnds-weaker}
-use Rattle.rht_core.proofs.HeldByBinds.{node_of_bind, reply_of_bind, bind_reply_after, HoldsSo, bind_after-so}
+use Rattle.rht_core.proofs.HeldByBinds.{node_of_bind, reply_of_bind, bind_word_after, bind_reply_after, HoldsSo, bind_after-so}
 use Rattle.rht_core.proofs.MachineReplies.{HoldsFindReply, find_after-replies}
 use Rattle.rht_core.proofs.TracesAtEvents.{at_events}
 use Rattle.rht_core.proofs.TracedCalls.{FindDoes, BindDoes, calls_keep}
@@ -126,8 +126,8 @@ module _ (env : Env) where
         → SawAt state steps → SawNext (steps ++ did ∷ []) (after_at mix env port state did.old)
     with_node-saw state steps did does has saw =
         let all = steps ++ did ∷ [] in
-        let So = λ (node : Option ℕ) (reply : Option Reply). IsSome node × SawForReply reply all in
-        GoesOrEnds-weaker (HoldsSo So) _ (λ (reply : Reply). So (node_of_bind state) (Some reply)) _ (λ next so. SawForReply-at next all so.0 so.1)
+        let So = λ (node word : Option ℕ) (reply : Option Reply). IsSome node × SawForReply reply all in
+        GoesOrEnds-weaker (HoldsSo So) _ (λ (reply : Reply). So (node_of_bind state) (bind_word_after state did.old) (Some reply)) _ (λ next so. SawForReply-at next all so.0 so.1)
         (λ reply so. so.1)
         (after_at mix env port state did.old)
         (bind_after-so So mix env port state did.old has (has, bind_reply_after-saw port owner state steps did does.planned has saw))

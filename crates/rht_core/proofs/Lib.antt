@@ -2,6 +2,12 @@
 pub mod Worlds
 -- a call begins as a look-up or a bind, is busy, and goes on or ends
 pub mod CallsInProgress
+-- a machine goes on in a state, or has answered
+pub mod MachinesGoOn
+-- the word that a look-up's lock has found, and the reply that it is going to answer
+pub mod HeldByFinds
+-- the node that a bind has taken, the word that its lock has found, and the reply that it is going to answer
+pub mod HeldByBinds
 -- a look-up stays in range
 pub mod FindRanges
 -- a bind stays in range
@@ -18,12 +24,6 @@ pub mod CallersNotEnrolled
 pub mod TracedRuns
 -- what each caller keeps of itself and of its trace holds in every run
 pub mod TracedCallers
--- a machine goes on in a state, or has answered
-pub mod MachinesGoOn
--- the reply that a look-up is going to answer
-pub mod HeldByFinds
--- the node that a bind has taken, and the reply that it is going to answer
-pub mod HeldByBinds
 -- what a look-up and a bind answer
 pub mod MachineReplies
 -- in every run each call that has ended has a reply of its kind

@@ -52,7 +52,7 @@ pub find_after-replies : (mix : ℕ → ℕ → ℕ → ℕ) (env : Env) (port :
     → HoldsFindReply state
     → GoesOrEnds HoldsFindReply IsFindReply (find.after_at mix env port state word)
 find_after-replies mix env port state word holds =
-    find_after-so IsNoneOrFound mix env port state word (find_reply_after-found env state word holds)
+    find_after-so (λ held. IsNoneOrFound) mix env port state word (find_reply_after-found env state word holds)
 
 -- ---- a bind
 
@@ -97,7 +97,7 @@ module _ (mix : ℕ → ℕ → ℕ → ℕ) (env : Env) (port : ℕ) where
   with_node-replies state word has holds =
       GoesOrEnds-weaker HoldsBindReply HoldsBindReply IsReplyWithNode IsBindReply (λ next is. is) with_node_replies
       (bind.after_at mix env port state word)
-      (bind_after-so (λ node. IsNoneOrWithNode) mix env port state word has (bind_reply_after-with_node env state word holds))
+      (bind_after-so (λ node held. IsNoneOrWithNode) mix env port state word has (bind_reply_after-with_node env state word holds))
 
   -- a bind that goes on holds such a reply, and one that answers answers one of a bind's
   pub bind_after-replies : (state : BindAt) (word : ℕ) → HoldsBindReply state

@@ -37,7 +37,7 @@ use Rattle.rht_bind.specs.declared.bind.BindAt.TheVariants as at
 use Rattle.rht_core.specs.Traces.{Did}
 use Rattle.rht_core.specs.Laws.{IsFindReply, IsNoTake, TakesNone, TakesOne, IsTakenBy, IsTakenIn, TakenAlone}
 use Rattle.rht_core.proofs.MachinesGoOn.{GoesOrEnds, GoesOrEnds-weaker}
-use Rattle.rht_core.proofs.HeldByBinds.{node_of_bind, HoldsSo, bind_after-so}
+use Rattle.rht_core.proofs.HeldByBinds.{node_of_bind, bind_word_after, HoldsSo, bind_after-so}
 use Rattle.rht_core.proofs.MachineReplies.{HoldsFindReply, IsReplyWithNode, IsNoneOrWithNode, find_after-replies, bind_reply_after-with_node}
 use Rattle.rht_core.proofs.RepliesInRuns.{all_push}
 use Rattle.rht_core.proofs.TracedCalls.{FindDoes, BindDoes, calls_keep}
@@ -196,8 +196,8 @@ module _ (mix : ℕ → ℕ → ℕ → ℕ) (env : Env) where
   with_node-goes port owner state steps did does has taken =
       let all = steps ++ did ∷ [] in
       let still = HasTaken-push g (node_of_bind state) steps did taken (no_and_as g did does.planned (bind_no_and env port owner state has)) in
-      let So = λ (node : Option ℕ) (reply : Option Reply). HasTaken g node all × IsNoneOrWithNode reply in
-      GoesOrEnds-weaker (HoldsSo So) _ (λ (reply : Reply). So (node_of_bind state) (Some reply)) _ (λ next so. so.0)
+      let So = λ (node word : Option ℕ) (reply : Option Reply). HasTaken g node all × IsNoneOrWithNode reply in
+      GoesOrEnds-weaker (HoldsSo So) _ (λ (reply : Reply). So (node_of_bind state) (bind_word_after state did.old) (Some reply)) _ (λ next so. so.0)
       (λ reply so. with_node g (node_of_bind state) all reply has so.1 so.0)
       (after_at mix env port state did.old)
       (bind_after-so So mix env port state did.old has (still, bind_reply_after-with_node env state did.old does.holds))

@@ -26,6 +26,7 @@ use Rattle.rht_core.specs.declared.local.Local.TheVariants.{Idle, Finding, Bindi
 use Rattle.rht_core.specs.Locals.{machine_of, plan_of, local_after, found_next, bound_next}
 use Rattle.rht_core.specs.Runs.{Core, World, local_of, beginning, with_machine, planned, with_step, enrolling, world_step, run_of, opening, IsAdmitted, IsAdmittedCall, IsAdmittedEvent}
 use Rattle.rht_core.specs.Laws.{IsLocalIn, IsFindPieceIn, IsBindPieceIn, WordsFit}
+use Rattle.rht_core.proofs.MachinesGoOn.{GoesOrEnds}
 use Rattle.rht_core.proofs.CallsInProgress.{begins_so}
 use Rattle.rht_core.proofs.Worlds.{beginning-some, planned-some, run_keeps_admitted}
 use Rattle.rht_core.proofs.RangesInRuns.{StaysIn, opens-in, stays-in, has_place, each_set, each_replicate, all_set}
@@ -77,14 +78,16 @@ module _ (M : Type 0) where
       begins_so M env c (λ call machine. IsAdmittedCall call → LocalFits machine) (λ port admitted. tt)
       (λ port owner once single admitted. (admitted.0, admitted.1, tt))
 
-  found-fits : (m : FindModel) (next : Next Reply) → FindFits m.at → LocalFits (found_next (m, next)).0
+  found-fits : (m : FindModel) (next : Next Reply) → GoesOrEnds FindFits (λ reply. Unit {0}) (m.at, next)
+      → LocalFits (found_next (m, next)).0
   found-fits m Go fits = fits
   found-fits m (Done reply) fits = tt
 
-  bound-fits : (m : BindModel) (next : Next Reply) → (m.port < 2 ^ 32) × (m.owner < 2 ^ 32) × BindFits m.at
+  bound-fits : (m : BindModel) (next : Next Reply) → m.port < 2 ^ 32 → m.owner < 2 ^ 32
+      → GoesOrEnds BindFits (λ reply. Unit {0}) (m.at, next)
       → LocalFits (bound_next (m, next)).0
-  bound-fits m Go fits = fits
-  bound-fits m (Done reply) fits = tt
+  bound-fits m Go small low fits = (small, low, fits)
+  bound-fits m (Done reply) small low fits = tt
 
   local_after-fits : (mix : ℕ → ℕ → ℕ → ℕ) (local : Local M) (old : ℕ) → LocalFits local → Fits old
       → LocalFits (local_after mix local old).0
@@ -92,8 +95,7 @@ module _ (M : Type 0) where
   local_after-fits mix (Finding m) old fits told =
       found-fits (find_after mix m old).0 (find_after mix m old).1 (find_after-fits mix m.env m.port m.at old fits told)
   local_after-fits mix (Binding m) old fits told =
-      bound-fits (bind_after mix m old).0 (bind_after mix m old).1
-      (fits.0, fits.1, bind_after-fits mix m.env m.port m.at old fits.2 told)
+      bound-fits (bind_after mix m old).0 (bind_after mix m old).1 fits.0 fits.1 (bind_after-fits mix m.env m.port m.at old fits.2 told)
 
   abbrev PlanFits : Option Op → Type 0
   PlanFits None = Unit {0}
