@@ -5,6 +5,7 @@ use Rattle.std.specs.List.{All, last_or}
 use Rattle.rht_words.specs.Links.{link_of}
 use Rattle.rht_words.specs.Chains.{IsSegment}
 use Rattle.rht_words.specs.Members.{In, IsDistinct}
+use Rattle.rht_words.proofs.EachElement.{last_or-All}
 use Rattle.rht_words.proofs.Members.{NotIn-All}
 
 -- two segments, of which the second begins where the first one stops
@@ -49,15 +50,6 @@ pub IsSegment-store : (chain stored : ℕ → ℕ) (off : ℕ) (nodes : List ℕ
     → IsSegment chain link nodes stop → IsSegment stored link nodes stop
 IsSegment-store chain stored off nodes link stop others apart segment =
     IsSegment-same chain stored nodes link stop (λ k d l. others (get_or nodes k d) (apart k d l)) segment
-
--- what holds of all nodes of a list holds of its last one
-pub last_or-All : (P : ℕ → Type 0) (node last : ℕ) (nodes behind : List ℕ)
-    → last_or (Some node) nodes ≡ Some last → All P ((node ∷ nodes) ++ behind) → P last
-last_or-All P node last [] behind is all =
-    let same : node ≡ last = cc in
-    subst P same (All-head P node behind all)
-last_or-All P node last (next ∷ nodes) behind is all =
-    last_or-All P next last nodes behind is (All-tail P node ((next ∷ nodes) ++ behind) all)
 
 -- The link behind the last node of a segment is stored, and what is behind it then is another segment. By induction
 -- over the nodes before the last one, whose links stay.
