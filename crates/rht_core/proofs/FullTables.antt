@@ -17,6 +17,7 @@ use Rattle.rht_words.specs.Ports.{owner_of}
 use Rattle.rht_words.specs.Places.{PortCount, Node, OwnerWord, place_of}
 use Rattle.rht_words.specs.Members.{NotIn, IsDistinct}
 use Rattle.rht_words.proofs.Members.{count_below, one_if, not_in_from, AllByRecursion-In}
+use Rattle.rht_words.proofs.EachElement.{AllByRecursion-weaker}
 use Rattle.rht_bind.specs.Bind.{plan_at}
 use Rattle.rht_bind.specs.declared.bind.BindAt.{BindAt}
 use Rattle.rht_bind.specs.declared.bind.BindAt.TheVariants as at
@@ -74,11 +75,6 @@ none_of : (P : ℕ → Type 0) (x : ℕ) → ((y : ℕ) → P y → x ≢ y) →
     → NotIn x ys
 none_of P x other ys all = not_in_from x ys (λ i. other x (AllByRecursion-In P x ys all i) refl)
 
-all_weaker : (P Q : ℕ → Type 0) → ((x : ℕ) → P x → Q x) → (xs : List ℕ) → AllByRecursion P xs
-    → AllByRecursion Q xs
-all_weaker P Q weaker [] all = tt
-all_weaker P Q weaker (x ∷ xs) all = (weaker x all.0, all_weaker P Q weaker xs all.1)
-
 -- a node of which this is said is in the chain of a bucket
 first_in : (owner : Owner) → is_first owner ≡ true → (j : ℕ) × (owner ≡ First j)
 first_in (First j) is = (j, refl)
@@ -104,7 +100,7 @@ module _ (env : Env) (mix : ℕ → ℕ → ℕ → ℕ) (words : List ℕ) (G :
   further : (n : ℕ) (ports : List ℕ) → AllByRecursion (IsBoundBelow n) ports
       → AllByRecursion (IsBoundBelow (suc n)) ports
   further n ports all =
-      all_weaker (IsBoundBelow n) (IsBoundBelow (suc n))
+      AllByRecursion-weaker (IsBoundBelow n) (IsBoundBelow (suc n))
       (λ port bound. let below = bound.1 in (bound.0, omega arith, bound.2)) ports all
 
   -- the port of one more node in a chain is another one, since it is bound to that node
@@ -154,7 +150,7 @@ module _ (env : Env) (mix : ℕ → ℕ → ℕ → ℕ) (words : List ℕ) (G :
         ports = all.ports;
         distinct = all.distinct;
         bound =
-            all_weaker (IsBoundBelow nodes) (λ port. stands_for env.geometry words port ≢ []) (is_bound nodes)
+            AllByRecursion-weaker (IsBoundBelow nodes) (λ port. stands_for env.geometry words port ≢ []) (is_bound nodes)
             all.ports all.each;
         many = all.many;
       }

@@ -5,12 +5,13 @@ use Rattle.rht_words.specs.Places.{Address, CurrentTable, PortCount, Slot, Shape
 use Rattle.rht_words.specs.Opening.{opening_word, opening_words, first_shape}
 use Rattle.rht_words.proofs.OpeningLaws.{stand_in_place, opens_free}
 use Rattle.rht_words.proofs.Members.{count_below-none}
+use Rattle.rht_words.proofs.EachElement.{each_replicate}
 use Rattle.rht_core.specs.declared.event.Event.{Event}
 use Rattle.rht_core.specs.declared.local.Local.{Local}
 use Rattle.rht_core.specs.declared.local.Local.TheVariants.{Idle}
 use Rattle.rht_core.specs.Runs.{Core, World, local_in, opening_core, run_of, IsSound}
 use Rattle.rht_core.proofs.Worlds.{induct_by_last, run_of-push}
-use Rattle.rht_core.proofs.RangesInRuns.{runs-in, IsInRange-stays, each_replicate}
+use Rattle.rht_core.proofs.RangesInRuns.{runs-in, IsInRange-stays}
 use Rattle.rht_core.proofs.Ghosts.{Bucket, Free, Ghost, PageFree, SlotFree, is_first}
 use Rattle.rht_core.proofs.Wholes.{Whole}
 use Rattle.rht_core.proofs.Steps.{mem}

@@ -15,6 +15,7 @@ use Rattle.rht_words.specs.declared.machine.Next.{Next}
 use Rattle.rht_words.specs.declared.machine.Next.TheVariants.{Go, Done}
 use Rattle.rht_words.specs.Maps.{bits_above, bit_of, lowest_free}
 use Rattle.rht_words.specs.Places.{map_words}
+use Rattle.rht_words.proofs.EachElement.{AllByRecursion-push}
 use Rattle.rht_model.specs.declared.history.Reply.{Reply}
 use Rattle.rht_model.specs.declared.history.Reply.TheVariants.{NoNode}
 use Rattle.rht_arena.specs.TakeNode.{TakeNodeModel, take_node_after, plan_at as take_plan_at, after_at as take_after_at, next_word, claim_in, IsInRange as IsTakeInRange}
@@ -39,7 +40,6 @@ use Rattle.rht_core.specs.Laws.{IsFindReply, IsNoTake, TakesNone, TakesOne, IsTa
 use Rattle.rht_core.proofs.MachinesGoOn.{GoesOrEnds, GoesOrEnds-weaker}
 use Rattle.rht_core.proofs.HeldByBinds.{node_of_bind, bind_word_after, HoldsSo, bind_after-so}
 use Rattle.rht_core.proofs.MachineReplies.{HoldsFindReply, IsReplyWithNode, IsNoneOrWithNode, find_after-replies, bind_reply_after-with_node}
-use Rattle.rht_core.proofs.RepliesInRuns.{all_push}
 use Rattle.rht_core.proofs.TracedCalls.{FindDoes, BindDoes, calls_keep}
 
 -- ---- one more step
@@ -48,7 +48,7 @@ TakesOne-push : (g : Geometry) (node : ℕ) (steps : List Did) (did : Did) → T
     → IsNoTake g did → TakesOne g node (steps ++ did ∷ [])
 TakesOne-push g node [] did takes takes_none = absurd takes
 TakesOne-push g node (first ∷ steps) did (inl now) takes_none =
-    inl (now.0, all_push (IsNoTake g) steps did now.1 takes_none)
+    inl (now.0, AllByRecursion-push (IsNoTake g) steps did now.1 takes_none)
 TakesOne-push g node (first ∷ steps) did (inr later) takes_none =
     inr (later.0, TakesOne-push g node steps did later.1 takes_none)
 
@@ -156,7 +156,7 @@ HasTaken g (Some node) steps = TakesOne g node steps
 
 HasTaken-push : (g : Geometry) (node : Option ℕ) (steps : List Did) (did : Did) → HasTaken g node steps
     → IsNoTake g did → HasTaken g node (steps ++ did ∷ [])
-HasTaken-push g None steps did taken takes_none = all_push (IsNoTake g) steps did taken takes_none
+HasTaken-push g None steps did taken takes_none = AllByRecursion-push (IsNoTake g) steps did taken takes_none
 HasTaken-push g (Some node) steps did taken takes_none = TakesOne-push g node steps did taken takes_none
 
 with_node : (g : Geometry) (node : Option ℕ) (steps : List Did) (reply : Reply) → IsSome node
@@ -184,8 +184,8 @@ module _ (mix : ℕ → ℕ → ℕ → ℕ) (env : Env) where
   taking-goes : (take : TakeNodeModel) (next : Next (Option ℕ)) (steps : List Did) (did : Did)
       → TookAs g did next
       → TakesNone g steps → BindGoes (steps ++ did ∷ []) (node_taken take next)
-  taking-goes take Go steps did took none = all_push (IsNoTake g) steps did none took
-  taking-goes take (Done None) steps did took none = all_push (IsNoTake g) steps did none took
+  taking-goes take Go steps did took none = AllByRecursion-push (IsNoTake g) steps did none took
+  taking-goes take (Done None) steps did took none = AllByRecursion-push (IsNoTake g) steps did none took
   taking-goes take (Done (Some node)) steps did took none = TakesOne-last g node steps did none took
 
   -- a bind that has its node performs no And, so the node stays the one that it took
@@ -217,7 +217,7 @@ module _ (mix : ℕ → ℕ → ℕ → ℕ) (env : Env) where
       → TakesNone g steps
       → GoesOrEnds (λ next. TakesNone g (steps ++ did ∷ [])) (λ reply. TakesNone g (steps ++ did ∷ [])) (find_after_at mix env port state did.old)
   find-goes port state steps did does none =
-      let still = all_push (IsNoTake g) steps did none (no_and_as g did does.planned (find_no_and env state)) in
+      let still = AllByRecursion-push (IsNoTake g) steps did none (no_and_as g did does.planned (find_no_and env state)) in
       GoesOrEnds-weaker HoldsFindReply _ IsFindReply _ (λ next holds. still) (λ reply is. still) (find_after_at mix env port state did.old)
       (find_after-replies mix env port state did.old does.holds)
 

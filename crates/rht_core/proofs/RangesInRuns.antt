@@ -3,11 +3,11 @@
 -- It holds at opening, where every caller is idle. A call begins in range, and each machine stays in
 -- range whatever word it is told, so nothing has to be known of the words. Since no machine plans an
 -- operation on the word of the enrolled callers, an Enroll alone changes that word.
-use Rattle.std.proofs.Common.{◌≡◌, ℕ, zero, suc, ◌+◌, ◌<◌, ◌≤◌, inl, inr, List, [], ◌∷◌, length, get_or, set, replicate, refl, sym, ap, subst, ◌∙◌, arith}
+use Rattle.std.proofs.Common.{◌≡◌, ℕ, ◌+◌, ◌<◌, ◌≤◌, List, length, refl, sym, ap, subst, ◌∙◌, arith}
 use Rattle.std.specs.Prelude.{Option, Some, None, nat_lt, max, slice_set}
 use Rattle.std.specs.List.{AllByRecursion}
-use Rattle.std.proofs.lemmas.Bool.{cond_both, cases_eq, ltb-true}
-use Rattle.std.proofs.lemmas.List.{length-set, length-replicate, get_or-set_same, get_or-set_other}
+use Rattle.std.proofs.lemmas.Bool.{cond_both, ltb-true}
+use Rattle.std.proofs.lemmas.List.{length-set, length-replicate}
 use Rattle.rht_words.specs.declared.op.Op.{Op}
 use Rattle.rht_words.specs.declared.env.Env.{Env}
 use Rattle.rht_words.specs.declared.machine.Next.{Next}
@@ -17,6 +17,7 @@ use Rattle.rht_words.specs.declared.geometry.Geometry.{Geometry}
 use Rattle.rht_words.specs.Places.{EnrolledCallers, map_words, place_of, words_in, word_at}
 use Rattle.rht_words.proofs.WordChanges.{length-applied, applied-other}
 use Rattle.rht_words.proofs.OpeningLaws.{stand_in_place}
+use Rattle.rht_words.proofs.EachElement.{AllByRecursion-set, AllByRecursion-replicate, each_set, each_replicate}
 use Rattle.rht_model.specs.declared.history.Call.{Call}
 use Rattle.rht_model.specs.declared.history.Reply.{Reply}
 use Rattle.rht_find.specs.Find.{FindModel, find_after, plan_at as find_plan_at}
@@ -32,36 +33,6 @@ use Rattle.rht_core.proofs.FindRanges.{IsFindAtIn, find_after-in, find_planned-i
 use Rattle.rht_core.proofs.BindRanges.{IsBindAtIn, bind_after-in, bind_planned-in}
 use Rattle.rht_core.proofs.CallsInProgress.{begins_so}
 use Rattle.rht_core.proofs.Worlds.{CanBegin, beginning-some, planned-some, run_of-push, run_keeps}
-
--- ---- lists
-
--- what holds of each caller still does where one caller does something else
-pub each_set : {A : Type 0} (P : ℕ → A → Type 0) (default : A) (xs : List A) (c : ℕ) (x : A) → c < length xs
-    → P c x
-    → ((k : ℕ) → P k (get_or xs k default)) → (k : ℕ) → P k (get_or (set xs c x) k default)
-each_set P default xs c x below p each k = elim (cases_eq k c) [
-  | inl same ↦
-      subst (λ j. P j (get_or (set xs c x) j default)) (sym same)
-      (subst (P c) (sym (get_or-set_same xs c x default below)) p)
-  | inr other ↦ subst (P k) (sym (get_or-set_other xs c k x default other)) (each k)
-]
-
--- the same of a list's elements alone
-pub all_set : {A : Type 0} (P : A → Type 0) (xs : List A) (c : ℕ) (x : A) → P x → AllByRecursion P xs
-    → AllByRecursion P (set xs c x)
-all_set P [] c x p all = tt
-all_set P (y ∷ ys) zero x p all = (p, all.1)
-all_set P (y ∷ ys) (suc c) x p all = (all.0, all_set P ys c x p all.1)
-
-all_replicate : {A : Type 0} (P : A → Type 0) (n : ℕ) (x : A) → P x → AllByRecursion P (replicate n x)
-all_replicate P zero x p = tt
-all_replicate P (suc n) x p = (p, all_replicate P n x p)
-
--- one thing stands everywhere in a list of it, and behind its end too
-pub each_replicate : {A : Type 0} (P : A → Type 0) (n k : ℕ) (x : A) → P x → P (get_or (replicate n x) k x)
-each_replicate P zero k x p = p
-each_replicate P (suc n) zero x p = p
-each_replicate P (suc n) (suc k) x p = each_replicate P n k x p
 
 -- ---- what a caller does
 
@@ -159,7 +130,7 @@ module _ (M : Type 0) (mix : ℕ → ℕ → ℕ → ℕ) (env : Env) where
     all_words = (stand_in_place env).count;
     all_locals = length-replicate env.geometry.callers Idle;
     few_enrolled = omega arith;
-    all_local = all_replicate (IsLocalOf env) env.geometry.callers Idle tt;
+    all_local = AllByRecursion-replicate (IsLocalOf env) env.geometry.callers Idle tt;
     locals = λ c. each_replicate (IsLocalIn env c) env.geometry.callers c Idle tt;
   }
 
@@ -175,7 +146,7 @@ module _ (M : Type 0) (mix : ℕ → ℕ → ℕ → ℕ) (env : Env) where
     all_words = stays.all_words;
     all_locals = length-set core.locals c local ∙ stays.all_locals;
     few_enrolled = stays.few_enrolled;
-    all_local = all_set (IsLocalOf env) core.locals c local (IsLocalOf-in M env c local within) stays.all_local;
+    all_local = AllByRecursion-set (IsLocalOf env) core.locals c local (IsLocalOf-in M env c local within) stays.all_local;
     locals = each_set (IsLocalIn env) Idle core.locals c local (has_place core c stays enrolled) within stays.locals;
   }
 

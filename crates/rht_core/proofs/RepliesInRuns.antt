@@ -1,13 +1,14 @@
 -- In every run each call that has ended has a reply of its kind, and what a caller works at is the
 -- call of its book. A caller keeps this of itself: it begins with the call that its book gets, and
 -- the reply that ends it is its machine's.
-use Rattle.std.proofs.Common.{◌≡◌, ℕ, true, List, [], ◌∷◌, ◌++◌, refl, sym, subst}
+use Rattle.std.proofs.Common.{◌≡◌, ℕ, true, List, [], ◌++◌, refl, sym, subst}
 use Rattle.std.specs.Prelude.{Option, Some}
 use Rattle.std.specs.List.{AllByRecursion}
 use Rattle.rht_words.specs.declared.op.Op.{Op}
 use Rattle.rht_words.specs.declared.env.Env.{Env}
 use Rattle.rht_words.specs.declared.machine.Next.{Next}
 use Rattle.rht_words.specs.declared.machine.Next.TheVariants.{Go, Done}
+use Rattle.rht_words.proofs.EachElement.{AllByRecursion-push}
 use Rattle.rht_model.specs.declared.history.Call.{Call}
 use Rattle.rht_model.specs.declared.history.Call.TheVariants.{Bind, Find}
 use Rattle.rht_model.specs.declared.history.Reply.{Reply}
@@ -25,19 +26,13 @@ use Rattle.rht_core.proofs.MachineReplies.{HoldsFindReply, HoldsBindReply, find_
 use Rattle.rht_core.proofs.CallsInProgress.{begins_so}
 use Rattle.rht_core.proofs.TracedCallers.{IsKept, callers_keep}
 
--- one more at the end of a list of which it holds
-pub all_push : {A : Type 0} (P : A → Type 0) (xs : List A) (x : A) → AllByRecursion P xs → P x
-    → AllByRecursion P (xs ++ x ∷ [])
-all_push P [] x all p = (p, tt)
-all_push P (y ∷ ys) x all p = (all.0, all_push P ys x all.1 p)
-
 -- a call that ends with a reply of its kind
 ended : (book : Book) (call : Call) (reply : Reply) → book.call ≡ Some call → IsReplyTo call reply
     → AllByRecursion IsAnswered book.finished
     → AllByRecursion IsAnswered (book_after (Some reply) book).finished
 ended book call reply is fits all =
     subst (λ (o : Option Call). AllByRecursion IsAnswered (book.finished ++ finished_with o reply)) (sym is)
-    (all_push IsAnswered book.finished (record { call = call; reply = reply; owners = []; pairs = [] }) all
+    (AllByRecursion-push IsAnswered book.finished (record { call = call; reply = reply; owners = []; pairs = [] }) all
     record { reply = fits; owners = refl; pairs = refl })
 
 module _ (M : Type 0) (mix : ℕ → ℕ → ℕ → ℕ) (env : Env) where

@@ -9,6 +9,7 @@ use Rattle.std.proofs.lemmas.Bool.{cases_eq}
 use Rattle.rht_words.specs.declared.op.Op.{Op}
 use Rattle.rht_words.specs.declared.env.Env.{Env}
 use Rattle.rht_words.specs.Operations.{old_of}
+use Rattle.rht_words.proofs.EachElement.{each_replicate, slice_get-push_last}
 use Rattle.rht_model.specs.declared.history.Call.{Call}
 use Rattle.rht_model.specs.declared.history.Reply.{Reply}
 use Rattle.rht_core.specs.declared.event.Event.{Event}
@@ -20,13 +21,8 @@ use Rattle.rht_core.specs.Runs.{World, Seen, seen, local_of, new_book, beginning
 use Rattle.rht_core.specs.Traces.{Did, Trace, Traced, trace_begun, trace_did, traces_after, traced_step, traced_of}
 use Rattle.rht_core.specs.Laws.{IsLocalIn, IsRecorded, seen_begin, seen_step}
 use Rattle.rht_core.proofs.Worlds.{induct_by_last, take-push_all, beginning-some, planned-some, begin_none, begin_self, begin_other, step_none, step_self, step_other}
-use Rattle.rht_core.proofs.RangesInRuns.{StaysIn, runs-in, made_in, has_place, each_replicate}
+use Rattle.rht_core.proofs.RangesInRuns.{StaysIn, runs-in, made_in, has_place}
 use Rattle.rht_core.proofs.TracedRuns.{no_trace, traced_of-push, world-traced_of, count-traced_of, trace_with, trace_begin_none, trace_begin_self, trace_begin_other, trace_step_none, trace_step_self, trace_step_other}
-
--- one more stands last
-pub slice_get-push_last : {A : Type 0} (xs : List A) (x : A) → slice_get (xs ++ x ∷ []) (length xs) ≡ Some x
-slice_get-push_last [] x = refl
-slice_get-push_last (y ∷ ys) x = slice_get-push_last ys x
 
 module _ (M : Type 0) (mix : ℕ → ℕ → ℕ → ℕ) (env : Env) where
   -- the run of these events, with its traces

@@ -10,6 +10,7 @@ use Rattle.std.specs.List.{AllByRecursion}
 use Rattle.rht_words.specs.declared.env.Env.{Env}
 use Rattle.rht_words.specs.declared.machine.Next.{Next}
 use Rattle.rht_words.specs.declared.machine.Next.TheVariants.{Go, Done}
+use Rattle.rht_words.proofs.EachElement.{AllByRecursion-push}
 use Rattle.rht_model.specs.declared.history.Call.{Call}
 use Rattle.rht_model.specs.declared.history.Call.TheVariants.{Bind, Find}
 use Rattle.rht_model.specs.declared.history.Reply.{Reply}
@@ -35,7 +36,7 @@ use Rattle.rht_core.proofs.FindRanges.{IsFindAtIn}
 use Rattle.rht_core.proofs.BindRanges.{IsBindAtIn}
 use Rattle.rht_core.proofs.MachinesGoOn.{GoesOrEnds}
 use Rattle.rht_core.proofs.MachineReplies.{HoldsFindReply, HoldsBindReply}
-use Rattle.rht_core.proofs.RepliesInRuns.{IsRight, kept-right, all_push}
+use Rattle.rht_core.proofs.RepliesInRuns.{IsRight, kept-right}
 use Rattle.rht_core.proofs.TracedCallers.{IsKeptTraced, traced_callers_keep}
 
 -- a look-up in this state performs this operation; its state is in range, and the reply that it holds is one of a look-up's
@@ -98,7 +99,7 @@ module _ (M : Type 0) (mix : ℕ → ℕ → ℕ → ℕ) (env : Env) (Finds : F
         → AllByRecursion IsEndedSo (trace_did in_progress did (Some reply) trace).past
     ended trace did in_progress call reply is so past =
         subst (λ (o : Option Call). AllByRecursion IsEndedSo (trace_did o did (Some reply) trace).past) (sym is)
-        (all_push IsEndedSo trace.past
+        (AllByRecursion-push IsEndedSo trace.past
         (record {
           done = record { call = call; reply = reply; owners = []; pairs = [] };
           begin = trace.begin;

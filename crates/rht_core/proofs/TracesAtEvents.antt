@@ -1,7 +1,7 @@
 -- In every run the traces say what happened at which event.
 -- What a trace says of an event stays true while the run goes on, since the events before that one
 -- stay the first ones; and a step that is recorded now is the last event.
-use Rattle.std.proofs.Common.{◌≡◌, ℕ, zero, suc, ◌+◌, ◌≤◌, List, [], ◌∷◌, ◌++◌, length, take, refl, sym, ap, ◌∙◌, subst, arith}
+use Rattle.std.proofs.Common.{◌≡◌, ℕ, ◌+◌, ◌≤◌, List, [], ◌∷◌, ◌++◌, length, take, refl, sym, ap, ◌∙◌, subst, arith}
 use Rattle.std.specs.Prelude.{Option, Some, None, IfSome}
 use Rattle.std.specs.List.{AllByRecursion, slice_get}
 use Rattle.std.proofs.lemmas.List.{append-nil, length_push}
@@ -9,6 +9,7 @@ use Rattle.std.proofs.lemmas.Option.{slice_get_within, IfSome_then}
 use Rattle.rht_words.specs.declared.op.Op.{Op}
 use Rattle.rht_words.specs.declared.env.Env.{Env}
 use Rattle.rht_words.specs.Operations.{old_of}
+use Rattle.rht_words.proofs.EachElement.{AllByRecursion-push, AllByRecursion-last, AllByRecursion-weaker, slice_get-push, slice_get-push_last}
 use Rattle.rht_model.specs.declared.history.Call.{Call}
 use Rattle.rht_model.specs.declared.history.Reply.{Reply}
 use Rattle.rht_core.specs.declared.event.Event.{Event}
@@ -19,15 +20,7 @@ use Rattle.rht_core.specs.Runs.{World, planned, book_after, run_of}
 use Rattle.rht_core.specs.Traces.{Did, Past, Trace, Traced, trace_begun, trace_did, traced_of, IsRising, behind_steps, behind_call, behind_calls, AreInOrder}
 use Rattle.rht_core.specs.Laws.{IsInProgress, IsRecorded, IsAnsweredAt, IsPastCall, AtEvents}
 use Rattle.rht_core.proofs.Worlds.{take-push}
-use Rattle.rht_core.proofs.RepliesInRuns.{all_push}
-use Rattle.rht_core.proofs.TracedCallers.{reply_of, slice_get-push_last, traced_callers_keep}
-
--- what stood at a place stands there with one more at the end
-pub slice_get-push : {A : Type 0} (xs : List A) (x : A) (i : ℕ) (y : A) → slice_get xs i ≡ Some y
-    → slice_get (xs ++ x ∷ []) i ≡ Some y
-slice_get-push [] x i y is = absurd (cc)
-slice_get-push (z ∷ zs) x zero y is = is
-slice_get-push (z ∷ zs) x (suc i) y is = slice_get-push zs x i y is
+use Rattle.rht_core.proofs.TracedCallers.{reply_of, traced_callers_keep}
 
 -- one more step behind the others
 behind_steps-push : (from : ℕ) (steps : List Did) (did : Did)
@@ -53,16 +46,6 @@ AreInOrder-push : (from : ℕ) (calls : List Past) (past : Past) → AreInOrder 
 AreInOrder-push from [] past order behind rising = (behind, rising, tt)
 AreInOrder-push from (first ∷ calls) past order behind rising =
     (order.0, order.1, AreInOrder-push (behind_call first) calls past order.2 behind rising)
-
--- what holds of each element of a list holds of its last one
-all_last : {A : Type 0} (P : A → Type 0) (xs : List A) (x : A) → AllByRecursion P (xs ++ x ∷ []) → P x
-all_last P [] x all = all.0
-all_last P (y ∷ ys) x all = all_last P ys x all.1
-
-all_weaker : {A : Type 0} (P Q : A → Type 0) → ((x : A) → P x → Q x) → (xs : List A) → AllByRecursion P xs
-    → AllByRecursion Q xs
-all_weaker P Q weaker [] all = tt
-all_weaker P Q weaker (x ∷ xs) all = (weaker x all.0, all_weaker P Q weaker xs all.1)
 
 module _ (M : Type 0) (mix : ℕ → ℕ → ℕ → ℕ) (env : Env) where
   -- the operation that a caller plans in a world
@@ -103,7 +86,7 @@ module _ (M : Type 0) (mix : ℕ → ℕ → ℕ → ℕ) (env : Env) where
     answered-more : (c : ℕ) (past : Past) → IsAnsweredAt M mix env events c past
         → AllByRecursion (IsRecorded M mix env events c) past.steps → IsAnsweredAt M mix env more c past
     answered-more c past is recorded =
-        let last = all_last (IsRecorded M mix env events c) is.before is.last
+        let last = AllByRecursion-last (IsRecorded M mix env events c) is.before is.last
         (subst (AllByRecursion (IsRecorded M mix env events c)) is.steps_are recorded) in
         let within = slice_get_within events is.last.index (Step c) last.event in
         record {
@@ -119,7 +102,7 @@ module _ (M : Type 0) (mix : ℕ → ℕ → ℕ → ℕ) (env : Env) where
     past-more c past is = record {
       began = slice_get-push events event past.begin (Begin c past.done.call) is.began;
       answered = answered-more c past is.answered is.steps;
-      steps = all_weaker _ _ (recorded-more c) past.steps is.steps;
+      steps = AllByRecursion-weaker _ _ (recorded-more c) past.steps is.steps;
     }
 
     under_way-more : (c : ℕ) (trace : Trace) (call : Call) → IsUnderWay events c trace call
@@ -136,10 +119,10 @@ module _ (M : Type 0) (mix : ℕ → ℕ → ℕ → ℕ) (env : Env) where
     holds-more : (c : ℕ) (call : Option Call) (trace : Trace) → Holds events c call trace
         → Holds more c call trace
     holds-more c call trace holds = record {
-      past = all_weaker _ _ (past-more c) trace.past holds.past;
+      past = AllByRecursion-weaker _ _ (past-more c) trace.past holds.past;
       in_order = holds.in_order;
       past_ends = let ends = holds.past_ends in omega (arith, longer);
-      steps = all_weaker _ _ (recorded-more c) trace.steps holds.steps;
+      steps = AllByRecursion-weaker _ _ (recorded-more c) trace.steps holds.steps;
       progress = IfSome_then call holds.progress (under_way-more c trace);
     }
 
@@ -198,7 +181,7 @@ module _ (M : Type 0) (mix : ℕ → ℕ → ℕ → ℕ) (env : Env) where
         past = kept.past;
         in_order = kept.in_order;
         past_ends = kept.past_ends;
-        steps = all_push _ trace.steps did kept.steps recorded;
+        steps = AllByRecursion-push _ trace.steps did kept.steps recorded;
         progress =
             subst (λ (o : Option Call). IfSome o (IsUnderWay (events ++ Step c ∷ []) c (trace_did call did None trace)))
             (sym same) went;
@@ -223,10 +206,10 @@ module _ (M : Type 0) (mix : ℕ → ℕ → ℕ → ℕ) (env : Env) where
       } in
       record {
         past =
-            all_push _ trace.past ended kept.past
+            AllByRecursion-push _ trace.past ended kept.past
             record {
               began = went.is.began;
-              steps = all_push _ trace.steps did kept.steps recorded;
+              steps = AllByRecursion-push _ trace.steps did kept.steps recorded;
               answered = record { before = trace.steps; last = did; steps_are = refl; reply = gives };
             };
         in_order = AreInOrder-push 0 trace.past ended kept.in_order went.is.behind went.is.rising;

@@ -1,7 +1,7 @@
 -- In every run each word has 64 bits, where the table's seed has 32.
 -- At opening the words are small. A caller holds words that it was told, and the port and the owner of
 -- an admitted call; so what it stores fits, and it is told words that fit.
-use Rattle.std.proofs.Common.{◌≡◌, ℕ, zero, suc, ◌-◌, ◌*◌, ◌^◌, ◌<◌, List, [], ◌∷◌, get_or, map, min, refl, sym, subst, arith}
+use Rattle.std.proofs.Common.{◌≡◌, ℕ, ◌-◌, ◌*◌, ◌^◌, ◌<◌, List, min, refl, sym, subst, arith}
 use Rattle.std.specs.Prelude.{Option, Some, None, ◌==◌}
 use Rattle.std.specs.List.{AllByRecursion}
 use Rattle.std.proofs.Math.Pow.{pow_mono}
@@ -15,6 +15,7 @@ use Rattle.rht_words.specs.Operations.{op_place, old_of, applied}
 use Rattle.rht_words.specs.Maps.{map_bits}
 use Rattle.rht_words.specs.Opening.{first_size, first_slot, opening_word}
 use Rattle.rht_words.specs.Places.{Address, NextSerial, Slot, NodeMap, PageMap, SlotWord, ShapeWord, SeedWord, StateWord, address_at}
+use Rattle.rht_words.proofs.EachElement.{AllByRecursion-set, AllByRecursion-map, AllByRecursion-get_or, each_set, each_replicate}
 use Rattle.rht_model.specs.declared.history.Call.{Call}
 use Rattle.rht_model.specs.declared.history.Reply.{Reply}
 use Rattle.rht_find.specs.Find.{FindModel, find_after}
@@ -29,7 +30,7 @@ use Rattle.rht_core.specs.Laws.{IsLocalIn, IsFindPieceIn, IsBindPieceIn, WordsFi
 use Rattle.rht_core.proofs.MachinesGoOn.{GoesOrEnds}
 use Rattle.rht_core.proofs.CallsInProgress.{begins_so}
 use Rattle.rht_core.proofs.Worlds.{beginning-some, planned-some, run_keeps_admitted}
-use Rattle.rht_core.proofs.RangesInRuns.{StaysIn, opens-in, stays-in, has_place, each_set, each_replicate, all_set}
+use Rattle.rht_core.proofs.RangesInRuns.{StaysIn, opens-in, stays-in, has_place}
 use Rattle.rht_core.proofs.StoredWords.{Fits, OpFits, word_after-fits, FindFits, find_after-fits, find_plan-fits, BindFits, bind_after-fits, bind_plan-fits}
 
 -- ---- at opening
@@ -51,19 +52,7 @@ opening_word-fits env (NodeMap index) small = map_bits-fits env.geometry.nodes i
 opening_word-fits env (PageMap index) small = omega (arith, map_bits-fits env.geometry.pages index)
 opening_word-fits env _ small = omega arith
 
-all_map : {A B : Type 0} (P : B → Type 0) (f : A → B) → ((x : A) → P (f x)) → (xs : List A)
-    → AllByRecursion P (map f xs)
-all_map P f holds [] = tt
-all_map P f holds (x ∷ xs) = (holds x, all_map P f holds xs)
-
 -- ---- what callers hold
-
--- what holds of each element holds of the one at a place, and of the default
-all_get : {A : Type 0} (P : A → Type 0) (default : A) (xs : List A) (i : ℕ) → P default → AllByRecursion P xs
-    → P (get_or xs i default)
-all_get P default [] i d all = d
-all_get P default (x ∷ xs) zero d all = all.0
-all_get P default (x ∷ xs) (suc i) d all = all_get P default xs i d all.1
 
 module _ (M : Type 0) where
   -- the port and the owner have 32 bits, and the words that the state holds 64
@@ -124,7 +113,7 @@ module _ (M : Type 0) (mix : ℕ → ℕ → ℕ → ℕ) (env : Env) where
   opens-fit small = record {
     stays = opens-in M mix env;
     words =
-        all_map Fits (λ place. opening_word env (address_at env.geometry place))
+        AllByRecursion-map Fits (λ place. opening_word env (address_at env.geometry place))
         (λ place. opening_word-fits env (address_at env.geometry place) small) _;
     locals = λ c. each_replicate (LocalFits M) env.geometry.callers c Idle tt;
   }
@@ -133,8 +122,8 @@ module _ (M : Type 0) (mix : ℕ → ℕ → ℕ → ℕ) (env : Env) where
   applied-fit : (words : List ℕ) (op : Op) → OpFits op → AllByRecursion Fits words
       → AllByRecursion Fits (applied words op)
   applied-fit words op fits all =
-      all_set Fits words (op_place op) _
-      (word_after-fits (old_of words op) op (all_get Fits 0 words (op_place op) (omega arith) all) fits) all
+      AllByRecursion-set Fits words (op_place op) _
+      (word_after-fits (old_of words op) op (AllByRecursion-get_or Fits words (op_place op) 0 (omega arith) all) fits) all
 
   begin-fit : (core : Core M) (c : ℕ) (call : Call) (machine : Option (Local M)) → IsAdmittedCall call
       → beginning core.env core.enrolled core.locals c call ≡ machine → AllFit core
@@ -155,7 +144,7 @@ module _ (M : Type 0) (mix : ℕ → ℕ → ℕ → ℕ) (env : Env) where
   step-fit core c (Some op) is fit =
       let can = planned-some core.enrolled core.locals c op is in
       let op_fits = subst (PlanFits M) can.plan (plan_of-fits M env c (local_of core c) (fit.stays.locals c) (fit.locals c)) in
-      let old : Fits (old_of core.words op) = all_get Fits 0 core.words (op_place op) (omega arith) fit.words in
+      let old : Fits (old_of core.words op) = AllByRecursion-get_or Fits core.words (op_place op) 0 (omega arith) fit.words in
       let next = local_after mix (local_of core c) (old_of core.words op) in
       record {
         words = applied-fit core.words op op_fits fit.words;

@@ -10,6 +10,7 @@ use Rattle.rht_words.specs.declared.op.Op.{Op}
 use Rattle.rht_words.specs.declared.env.Env.{Env}
 use Rattle.rht_words.specs.declared.config.Kind.{Kind}
 use Rattle.rht_words.specs.Operations.{old_of, applied}
+use Rattle.rht_words.proofs.EachElement.{AllByRecursion-append}
 use Rattle.rht_model.specs.declared.history.Call.{Call}
 use Rattle.rht_core.specs.declared.event.Event.{Event}
 use Rattle.rht_core.specs.declared.event.Event.TheVariants.{Enroll, Begin, Step}
@@ -45,18 +46,6 @@ take-push events event n l = take-append-le n events (event ∷ []) l
 -- and before the one more there were all others
 pub take-push_all : (events : List Event) (event : Event) → take (length events) (events ++ event ∷ []) ≡ events
 take-push_all events event = take-append_seam events (event ∷ [])
-
--- events are admitted where each part is
-pub IsAdmitted-append : (kind : Kind) (past rest : List Event) → IsAdmitted kind past → IsAdmitted kind rest
-    → IsAdmitted kind (past ++ rest)
-IsAdmitted-append kind [] rest p q = q
-IsAdmitted-append kind (event ∷ past) rest p q = (p.0, IsAdmitted-append kind past rest p.1 q)
-
-pub IsAdmitted-parts : (kind : Kind) (past rest : List Event) → IsAdmitted kind (past ++ rest)
-    → IsAdmitted kind past × IsAdmitted kind rest
-IsAdmitted-parts kind [] rest p = (tt, p)
-IsAdmitted-parts kind (event ∷ past) rest p =
-    let parts = IsAdmitted-parts kind past rest p.1 in ((p.0, parts.0), parts.1)
 
 -- ---- functions changed at one place
 
@@ -246,6 +235,6 @@ module _ (M : Type 0) (mix : ℕ → ℕ → ℕ → ℕ) where
 
   pub extends : Extends M mix
   extends env events event admitted more = record {
-    admitted = IsAdmitted-append env.config.kind events (event ∷ []) admitted (more, tt);
+    admitted = AllByRecursion-append (IsAdmittedEvent env.config.kind) events (event ∷ []) admitted (more, tt);
     world = run_of-push env events event;
   }
