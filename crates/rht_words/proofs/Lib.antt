@@ -2,7 +2,7 @@
 pub mod Rounding
 -- the places of different things are different, and all are below the number of words
 pub mod PlacesApart
--- the first table of a settled config has a size that tables may have
+-- which numbers are sizes of tables, and that the first table of a settled config has such a size
 pub mod StartingSizes
 -- an operation changes the word of its address alone
 pub mod WordChanges
