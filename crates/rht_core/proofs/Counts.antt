@@ -9,9 +9,6 @@ use Rattle.rht_words.specs.Ports.{owner_of}
 use Rattle.rht_words.specs.Places.{PortCount, Node, OwnerWord, PageWord, word_at}
 use Rattle.rht_words.specs.Members.{In, NotIn, IsDistinct}
 use Rattle.rht_words.proofs.Members.{count_below-same, count_below-none, length-count_below}
-use Rattle.rht_core.specs.declared.local.Local.{Local}
-use Rattle.rht_core.specs.declared.local.Local.TheVariants.{Idle, Finding, Binding}
-use Rattle.rht_core.specs.Locals.{is_idle}
 use Rattle.rht_core.specs.Runs.{Core, local_of, run_of}
 use Rattle.rht_core.specs.StandsFor.{stands_for}
 use Rattle.rht_core.specs.Counts.{AreAllBound, is_raising, raising, IsFreeOrBound, Counted, AtRest}
@@ -20,7 +17,7 @@ use Rattle.rht_core.proofs.Wholes.{key_of, firsts, raisers, IsBuilt, Whole}
 use Rattle.rht_core.proofs.Knowledge.{AllMean}
 use Rattle.rht_core.proofs.Steps.{mem}
 use Rattle.rht_core.proofs.NodeSteps.{nothing_held}
-use Rattle.rht_core.proofs.Invariants.{Inv, CallerKnows}
+use Rattle.rht_core.proofs.Invariants.{Inv, idle_knows}
 use Rattle.rht_core.proofs.InvariantRuns.{has_inv}
 use Rattle.rht_core.proofs.BoundPorts.{stands_for_bound, first_bound}
 use Rattle.rht_core.proofs.FullTables.{count_by-range, firsts-AreBound, raises}
@@ -127,17 +124,12 @@ module _ (M : Type 0) (mix : ℕ → ℕ → ℕ → ℕ) where
         counted = has.inv.whole.counted ∙ ap (λ r. firsts env mix has.ghost + r) (sym (raising-raisers env core has.ghost has.inv));
       }
 
-  idle_knows : (env : Env) (c : ℕ) (local : Local M) (words : List ℕ) (G : Ghost) → is_idle local ≡ true → CallerKnows env mix M c local (mem env mix words) G → AllMean env mix c (mem env mix words) G nothing_held
-  idle_knows env c Idle words G idle known = known
-  idle_knows env c (Finding m) words G idle known = absurd (cc)
-  idle_knows env c (Binding m) words G idle known = absurd (cc)
-
   pub at_rest : AtRest M mix
   at_rest env events admitted quiet =
       let core : Core M = (run_of mix env events).core in
       let has = has_inv env mix M events in
       let G = has.ghost in
-      let knows : (c : ℕ) → AllMean env mix c (mem env mix core.words) G nothing_held = λ c. idle_knows env c (local_of core c) core.words G (quiet c) (has.inv.each c) in
+      let knows : (c : ℕ) → AllMean env mix c (mem env mix core.words) G nothing_held = λ c. idle_knows env mix M c (local_of core c) (mem env mix core.words) G (quiet c) (has.inv.each c) in
       let none_raised = count_below-none G.raised env.geometry.callers (λ c l. (knows c).0) in
       let all : word_at env.geometry core.words PortCount ≡ firsts env mix G = (let is = has.inv.whole.counted in omega (arith, is, none_raised)) in
       record {
