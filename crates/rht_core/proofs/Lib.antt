@@ -8,6 +8,8 @@ pub mod MachinesGoOn
 pub mod HeldByFinds
 -- the node that a bind has taken, the word that its lock has found, and the reply that it is going to answer
 pub mod HeldByBinds
+-- on which words the pieces of machines work
+pub mod PiecesPlanned
 -- a look-up stays in range
 pub mod FindRanges
 -- a bind stays in range
