@@ -8,13 +8,10 @@ use Rattle.rht_words.specs.declared.env.Env.{Env}
 use Rattle.rht_words.specs.declared.op.Op.{Op}
 use Rattle.rht_words.specs.declared.machine.Next.{Next}
 use Rattle.rht_words.specs.declared.machine.Next.TheVariants.{Go, Done}
-use Rattle.rht_words.specs.declared.config.Kind.{Kind}
-use Rattle.rht_words.specs.declared.config.Kind.TheVariants.{Single, Listed}
 use Rattle.rht_words.specs.Operations.{old_of, word_after, applied}
 use Rattle.rht_words.specs.Places.{EnrolledCallers, words_in, word_at}
 use Rattle.rht_words.proofs.Memory.{Memory, is_write}
 use Rattle.rht_model.specs.declared.history.Call.{Call}
-use Rattle.rht_model.specs.declared.history.Call.TheVariants as calls
 use Rattle.rht_model.specs.declared.history.Reply.{Reply}
 use Rattle.rht_find.specs.Find.{FindModel, find_new, find_plan, find_after}
 use Rattle.rht_find.specs.Find as find_at
@@ -26,8 +23,9 @@ use Rattle.rht_core.specs.declared.event.Event.{Event}
 use Rattle.rht_core.specs.declared.event.Event.TheVariants.{Enroll, Begin, Step as StepOf}
 use Rattle.rht_core.specs.declared.local.Local.{Local}
 use Rattle.rht_core.specs.declared.local.Local.TheVariants.{Idle, Finding, Binding}
-use Rattle.rht_core.specs.Locals.{is_idle, machine_of, binding_of, plan_of, found_next, bound_next, local_after}
+use Rattle.rht_core.specs.Locals.{is_idle, machine_of, plan_of, found_next, bound_next, local_after}
 use Rattle.rht_core.specs.Runs.{Core, core_step, local_of, local_in, beginning, planned, enrolling, IsSound}
+use Rattle.rht_core.proofs.CallsInProgress.{begins_so}
 use Rattle.rht_core.proofs.Worlds.{beginning-some, planned-some}
 use Rattle.rht_core.proofs.Ghosts.{Ghost}
 use Rattle.rht_core.proofs.Wholes.{home, Whole}
@@ -69,9 +67,6 @@ module _ (env : Env) (mix : ℕ → ℕ → ℕ → ℕ) where
         fits = known.1.fits;
       },
     )
-
-    rw_machine : (c : ℕ) (machine : Local L) (M : Memory) (G : Ghost) (first : Local L) → machine ≡ first → CallerKnows c first M G → CallerKnows c machine M G
-    rw_machine c machine M G first same known = rw same known
 
     -- ---- one operation of a caller
 
@@ -119,23 +114,18 @@ module _ (env : Env) (mix : ℕ → ℕ → ℕ → ℕ) where
 
     -- a caller that is given a call knows what the first state of its machine says
     begun_knows : (c : ℕ) (call : Call) (machine : Local L) (M : Memory) (G : Ghost) → machine_of env c call ≡ Some machine → AllMean env mix c M G nothing_held → CallerKnows c machine M G
-    begun_knows c (calls.Find port) machine M G is known = rw_machine c machine M G (Finding (find_new env c port)) (cc)
-        (refl, record { own = (known.0, (known.1.0, tt)); lock = (known.1.1.0, tt); fits = tt })
-    begun_knows c (calls.Bind port owner once) machine M G is known = go env.config.kind is
-      where
-        first : CallerKnows c (Binding (bind_new env c port owner once)) M G
-        first = (refl, record { own = (known.0, (known.1.0, tt)); lock = (known.1.1.0, tt); fits = (refl, (let within = env.geometry.within in omega (arith, within.nodes_within.0))) })
-
-        go : (kind : Kind) → binding_of env c port owner once kind ≡ Some machine → CallerKnows c machine M G
-        go Single e = rw_machine c machine M G (Binding (bind_new env c port owner once)) (cc) first
-        go Listed e = absurd (cc)
-    begun_knows c (calls.All port) machine M G is known = absurd (cc)
-    begun_knows c (calls.Release port owner) machine M G is known = absurd (cc)
-    begun_knows c (calls.Rebind port owner new) machine M G is known = absurd (cc)
-    begun_knows c (calls.Walk from limit) machine M G is known = absurd (cc)
-    begun_knows c calls.Work machine M G is known = absurd (cc)
-    begun_knows c calls.Tidy machine M G is known = absurd (cc)
-    begun_knows c calls.Count machine M G is known = absurd (cc)
+    begun_knows c call machine M G is known =
+        begins_so L env c (λ asked first. CallerKnows c first M G)
+        (λ port. (refl, record { own = (known.0, (known.1.0, tt)); lock = (known.1.1.0, tt); fits = tt }))
+        (λ port owner once single. (
+          refl,
+          record {
+            own = (known.0, (known.1.0, tt));
+            lock = (known.1.1.0, tt);
+            fits = (refl, (let within = env.geometry.within in omega (arith, within.nodes_within.0)));
+          },
+        ))
+        call machine is
 
     -- what another place of the list of callers says stays where one is changed
     local-same : (locals : List (Local L)) (c : ℕ) (local : Local L) → c < length locals → local_in (set locals c local) c ≡ local
@@ -216,7 +206,7 @@ module _ (env : Env) (mix : ℕ → ℕ → ℕ → ℕ) where
         let M' = mem env mix (applied core.words op) in
         let write = is_write env.geometry core.words EnrolledCallers op all tt refl in
         let kept = aside env mix EnrolledCallers (word_after (word_at env.geometry core.words EnrolledCallers) op) (mem env mix core.words) M' G inv.whole write
-        (λ e. cc) (λ s e. cc) (λ j e. cc) (λ n w e. cc) (λ i e. cc) (λ e. cc) in
+        ((λ e. cc), (λ s e. cc)) (λ j e. cc) (λ n w e. cc) (λ i e. cc) (λ e. cc) in
         record {
           ghost = G;
           inv = record {

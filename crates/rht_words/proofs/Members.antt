@@ -95,18 +95,13 @@ pub flat_map-same : (f h : ℕ → List ℕ) (xs : List ℕ) → ((x : ℕ) → 
 flat_map-same f h [] same = refl
 flat_map-same f h (x ∷ xs) same = rw (same x (inl refl)) (rw (flat_map-same f h xs (λ y i. same y (inr i))) refl)
 
--- the numbers of a range are those from its first on, as many as it has
+-- a number from the first of a range on, and below its end, is one of it
 pub In-range_with_len : (a n x : ℕ) → a ≤ x → x < a + n → In x (range_with_len a n)
 In-range_with_len a zero x low high = absurd (omega arith)
 In-range_with_len a (suc n) x low high = elim (cases_eq x a) [
   | inl e ↦ inl e
   | inr ne ↦ inr (In-range_with_len (a + 1) n x (omega arith) (omega arith))
 ]
-
-pub range_with_len-In : (a n x : ℕ) → In x (range_with_len a n) → (a ≤ x) × (x < a + n)
-range_with_len-In a zero x i = absurd i
-range_with_len-In a (suc n) x (inl e) = (omega arith, omega arith)
-range_with_len-In a (suc n) x (inr i) = let rest = range_with_len-In (a + 1) n x i in (omega arith, omega arith)
 
 -- what is found is a member that passes, and where nothing is found no member passes
 pub find-Some : (p : ℕ → Bool) (xs : List ℕ) (x : ℕ) → find p xs ≡ Some x → In x xs × (p x ≡ true)
