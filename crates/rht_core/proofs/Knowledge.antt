@@ -6,7 +6,7 @@ use Rattle.rht_words.specs.Ports.{owner_of}
 use Rattle.rht_words.specs.Places.{Node, NodeWord, KeyWord, OwnerWord}
 use Rattle.rht_words.proofs.Memory.{Memory}
 use Rattle.rht_words.specs.Members.{In}
-use Rattle.rht_words.proofs.Members.{in-front}
+use Rattle.rht_words.proofs.Members.{In-append_left}
 use Rattle.rht_core.proofs.Ghosts.{Bucket, Held, First, Ghost}
 use Rattle.rht_core.proofs.Wholes.{key_of, home}
 
@@ -136,7 +136,7 @@ module _ (env : Env) (mix : ℕ → ℕ → ℕ → ℕ) where
       rear = s.rear;
       split = nodes_stay port word holds ∙ s.split;
       passed = NoKey-rely c M M' G G' port (home env mix port) s.front rely
-          (λ other i. members (home env mix port) other (rw s.split (in-front other s.front (node ∷ s.rear) i))) s.passed;
+          (λ other i. members (home env mix port) other (rw s.split (In-append_left other s.front (node ∷ s.rear) i))) s.passed;
       last = s.last;
     }
 
