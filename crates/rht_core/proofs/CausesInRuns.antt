@@ -167,10 +167,10 @@ module _ (M : Type 0) (mix : ℕ → ℕ → ℕ → ℕ) (env : Env) where
   past-saw : (events : List Event) (c : ℕ)
       → AllByRecursion (λ (past : Past). SawFor env past.done.reply past.steps) ((traced_of {M = M} mix env events).traces c).past
   past-saw events c =
-      (calls_keep M mix env (λ state steps. Unit {0}) (SawAt env) (λ call. SawFor env)
+      (calls_keep M mix env (λ port state steps. Unit {0}) (λ port owner once. SawAt env) (λ call. SawFor env)
       record {
-        find_begins = tt;
-        bind_begins = λ node l. absurd (omega arith);
+        find_begins = λ port. tt;
+        bind_begins = λ port owner once node l. absurd (omega arith);
         find_goes = λ port state steps did does saw. find-saw env mix port state steps did does;
         bind_goes = λ port owner once. bind-saw env mix port owner;
       }

@@ -225,10 +225,10 @@ module _ (mix : ℕ → ℕ → ℕ → ℕ) (env : Env) where
 
 pub taken_alone : (M : Type 0) (mix : ℕ → ℕ → ℕ → ℕ) → TakenAlone M mix
 taken_alone M mix env events admitted c =
-    (calls_keep M mix env (FindTakes mix env) (BindTakes mix env) (IsTakenIn env.geometry)
+    (calls_keep M mix env (λ port. FindTakes mix env) (λ port owner once. BindTakes mix env) (IsTakenIn env.geometry)
     record {
-      find_begins = tt;
-      bind_begins = tt;
+      find_begins = λ port. tt;
+      bind_begins = λ port owner once. tt;
       find_goes = find-goes mix env;
       bind_goes = λ port owner once. bind-goes mix env port owner;
     }

@@ -51,24 +51,25 @@ pub record BindDoes (env : Env) (port owner : ℕ) (state : BindAt) (did : Did) 
   pub within : IsBindAtIn env state
   pub holds : HoldsBindReply state
 
--- `Finds` and `Binds` say what is kept of the operations of a call in progress, and `Ended` what is kept of those of a call that has ended
-module _ (M : Type 0) (mix : ℕ → ℕ → ℕ → ℕ) (env : Env) (Finds : FindAt → List Did → Type 0)
-    (Binds : BindAt → List Did → Type 0)
+-- `Finds` and `Binds` say what is kept of the operations of a call in progress, by what it was asked and where it stands, and
+-- `Ended` what is kept of those of a call that has ended
+module _ (M : Type 0) (mix : ℕ → ℕ → ℕ → ℕ) (env : Env) (Finds : ℕ → FindAt → List Did → Type 0)
+    (Binds : ℕ → ℕ → Bool → BindAt → List Did → Type 0)
     (Ended : Call → Reply → List Did → Type 0)
   where
     -- what has to be shown of the machines
     pub record CallsKeep : Type 0 where
-      pub find_begins : Finds CurrentTable []
-      pub bind_begins : Binds (Taking (take_node_new env.geometry)) []
+      pub find_begins : (port : ℕ) → Finds port CurrentTable []
+      pub bind_begins : (port owner : ℕ) (once : Bool) → Binds port owner once (Taking (take_node_new env.geometry)) []
       pub find_goes : (port : ℕ) (state : FindAt) (steps : List Did) (did : Did) → FindDoes env state did
-          → Finds state steps
+          → Finds port state steps
           → let all = steps ++ did ∷ [] in
-          GoesOrEnds (λ next. Finds next all) (λ reply. Ended (Find port) reply all) (find.after_at mix env port state did.old)
+          GoesOrEnds (λ next. Finds port next all) (λ reply. Ended (Find port) reply all) (find.after_at mix env port state did.old)
       pub bind_goes : (port owner : ℕ) (once : Bool) (state : BindAt) (steps : List Did) (did : Did)
           → BindDoes env port owner state did
-          → Binds state steps
+          → Binds port owner once state steps
           → let all = steps ++ did ∷ [] in
-          GoesOrEnds (λ next. Binds next all) (λ reply. Ended (Bind port owner once) reply all) (bind.after_at mix env port state did.old)
+          GoesOrEnds (λ next. Binds port owner once next all) (λ reply. Ended (Bind port owner once) reply all) (bind.after_at mix env port state did.old)
 
     -- what holds of a call that has ended
     abbrev pub IsEndedSo : Past → Type 0
@@ -77,8 +78,8 @@ module _ (M : Type 0) (mix : ℕ → ℕ → ℕ → ℕ) (env : Env) (Finds : F
     -- what holds of the operations of the call in progress
     abbrev pub IsNowSo : Local M → List Did → Type 0
     IsNowSo Idle steps = Unit {0}
-    IsNowSo (Finding m) steps = Finds m.at steps
-    IsNowSo (Binding m) steps = Binds m.at steps
+    IsNowSo (Finding m) steps = Finds m.port m.at steps
+    IsNowSo (Binding m) steps = Binds m.port m.owner m.once m.at steps
 
     -- what is kept of the calls of a caller
     pub record CallsAreSo (local : Local M) (trace : Trace) : Type 0 where
@@ -113,14 +114,14 @@ module _ (M : Type 0) (mix : ℕ → ℕ → ℕ → ℕ) (env : Env) (Finds : F
         all = trace.steps ++ did ∷ []
 
         found : (m : FindModel) (next : Next Reply) → in_progress ≡ Some (Find m.port)
-            → GoesOrEnds (λ state. Finds state all) (λ reply. Ended (Find m.port) reply all) (m.at, next)
+            → GoesOrEnds (λ state. Finds m.port state all) (λ reply. Ended (Find m.port) reply all) (m.at, next)
             → CallsAreSo (found_next (m, next)).0 (trace_did in_progress did (found_next {M = M} (m, next)).1 trace)
         found m Go is so = record { past = past; now = so }
         found m (Done reply) is so =
             record { past = ended trace did in_progress (Find m.port) reply is so past; now = tt }
 
         bound : (m : BindModel) (next : Next Reply) → in_progress ≡ Some (Bind m.port m.owner m.once)
-            → GoesOrEnds (λ state. Binds state all) (λ reply. Ended (Bind m.port m.owner m.once) reply all) (m.at, next)
+            → GoesOrEnds (λ state. Binds m.port m.owner m.once state all) (λ reply. Ended (Bind m.port m.owner m.once) reply all) (m.at, next)
             → CallsAreSo (bound_next (m, next)).0 (trace_did in_progress did (bound_next {M = M} (m, next)).1 trace)
         bound m Go is so = record { past = past; now = so }
         bound m (Done reply) is so =
@@ -135,7 +136,7 @@ module _ (M : Type 0) (mix : ℕ → ℕ → ℕ → ℕ) (env : Env) (Finds : F
           → IsKeeping c (seen_begin call machine here) (trace_begun index trace)
       begins-so c call machine index here trace idle is keeping = record {
         right = (kept-right M mix env).begins c call machine here idle is keeping.right;
-        calls = record { past = keeping.calls.past; now = begins_so M env c (λ asked first. IsNowSo first []) (λ port. keep.find_begins) (λ port owner once single. keep.bind_begins) call machine is };
+        calls = record { past = keeping.calls.past; now = begins_so M env c (λ asked first. IsNowSo first []) keep.find_begins (λ port owner once single. keep.bind_begins port owner once) call machine is };
       }
 
       -- each machine works in the table of the run, where what has to be shown of it is said
@@ -158,7 +159,7 @@ module _ (M : Type 0) (mix : ℕ → ℕ → ℕ → ℕ) (env : Env) (Finds : F
           found trace did book.call keeping.calls.past (find_after mix m did.old).0 (find_after mix m did.old).1
           keeping.right.progress.call
           (subst
-          (λ (e : Env). GoesOrEnds (λ next. Finds next all) (λ reply. Ended (Find m.port) reply all) (find.after_at mix e m.port m.at did.old))
+          (λ (e : Env). GoesOrEnds (λ next. Finds m.port next all) (λ reply. Ended (Find m.port) reply all) (find.after_at mix e m.port m.at did.old))
           (sym within.same_env) goes)
       local-so c (Binding m) book trace did plan within keeping =
           let all = trace.steps ++ did ∷ [] in
@@ -174,7 +175,7 @@ module _ (M : Type 0) (mix : ℕ → ℕ → ℕ → ℕ) (env : Env) (Finds : F
           bound trace did book.call keeping.calls.past (bind_after mix m did.old).0 (bind_after mix m did.old).1
           keeping.right.progress.call
           (subst
-          (λ (e : Env). GoesOrEnds (λ next. Binds next all) (λ reply. Ended (Bind m.port m.owner m.once) reply all) (bind.after_at mix e m.port m.at did.old))
+          (λ (e : Env). GoesOrEnds (λ next. Binds m.port m.owner m.once next all) (λ reply. Ended (Bind m.port m.owner m.once) reply all) (bind.after_at mix e m.port m.at did.old))
           (sym within.same_env) goes)
 
       -- ---- runs
