@@ -2,25 +2,26 @@
 -- What a bind holds is read off its state: none while it takes one, and from then on the node that the
 -- state names. A step takes a node exactly where the taking ends with one. Each other And of the taking
 -- finds its bit cleared, and no other state performs an And.
-use Rattle.std.proofs.Common.{◌≡◌, ◌≢◌, ℕ, ◌+◌, ◌*◌, ◌^◌, ◌<◌, inl, inr, List, [], ◌∷◌, ◌++◌, refl, sym, ap, ◌∙◌, subst, arith}
+use Rattle.std.proofs.Common.{◌≡◌, ◌≢◌, ℕ, ◌+◌, ◌*◌, ◌<◌, inl, inr, List, [], ◌∷◌, ◌++◌, refl, sym, ap, ◌∙◌, subst, arith}
 use Rattle.std.specs.Prelude.{Option, Some, None, IsSome, ◌==◌, nat_lt, bit_and}
-use Rattle.std.specs.Int.{bit_at, bit_not, w64}
-use Rattle.std.proofs.Math.Pow.{pow-lt}
-use Rattle.std.proofs.lemmas.Bool.{cond_both, cases_order, eqb-true, eqb-false}
+use Rattle.std.specs.Int.{bit_at}
+use Rattle.std.proofs.lemmas.Bool.{cond_both, cases_eq, eqb-true, eqb-false}
 use Rattle.rht_words.specs.declared.op.Op.{Op}
 use Rattle.rht_words.specs.declared.op.Op.TheVariants.{And}
 use Rattle.rht_words.specs.declared.env.Env.{Env}
 use Rattle.rht_words.specs.declared.geometry.Geometry.{Geometry}
 use Rattle.rht_words.specs.declared.machine.Next.{Next}
 use Rattle.rht_words.specs.declared.machine.Next.TheVariants.{Go, Done}
-use Rattle.rht_words.specs.Maps.{bits_above, bit_of, lowest_free}
+use Rattle.rht_words.specs.Maps.{bits_above, lowest_free}
 use Rattle.rht_words.specs.Places.{map_words}
+use Rattle.rht_words.specs.Operations.{word_after}
+use Rattle.rht_words.proofs.FreeBits.{bit_at-cleared_other}
 use Rattle.rht_words.proofs.EachElement.{AllByRecursion-push}
 use Rattle.rht_model.specs.declared.history.Reply.{Reply}
 use Rattle.rht_model.specs.declared.history.Reply.TheVariants.{NoNode}
 use Rattle.rht_arena.specs.TakeNode.{TakeNodeModel, take_node_after, plan_at as take_plan_at, after_at as take_after_at, next_word, claim_in, IsInRange as IsTakeInRange}
 use Rattle.rht_arena.specs.Laws.{map_bit, IsTaking}
-use Rattle.rht_arena.proofs.TakenWereFree.{claims}
+use Rattle.rht_arena.proofs.TakenWereFree.{claim_of-clears, claims}
 use Rattle.rht_arena.specs.declared.take_node.TakeNodeAt.{TakeNodeAt}
 use Rattle.rht_arena.specs.declared.take_node.TakeNodeAt.TheVariants.{MapWord, Claim}
 use Rattle.rht_chain.specs.Lock.{lock_plan_at}
@@ -85,28 +86,18 @@ find_no_and env _ = tt
 
 -- ---- the taking of a node
 
--- the masks that clear different bits are different
-same_bit : (bit other : ℕ) → bit < 64 → other < 64 → bit_not w64 (bit_of bit) ≡ bit_not w64 (bit_of other)
-    → bit ≡ other
-same_bit bit other low other_low same =
-    let first : 2 ^ bit < 2 ^ 64 = pow-lt low in
-    let second : 2 ^ other < 2 ^ 64 = pow-lt other_low in
-    let powers : 2 ^ bit ≡ 2 ^ other = omega arith in
-    elim (cases_order bit other) [
-      | inl is ↦ is
-      | inr differ ↦ elim differ [
-        | inl less ↦ absurd (omega (arith, pow-lt less))
-        | inr more ↦ absurd (omega (arith, pow-lt more))
-      ]
-    ]
-
--- the And on this bit takes a node only where the bit was set
+-- The And on this bit takes a node only where the bit was set: it leaves the bits of other nodes.
 claim_lost : (g : Geometry) (index bit : ℕ) (did : Did) → did.op ≡ take_plan_at g (Claim index bit) → bit < 64
     → bit_at did.old bit ≢ 1
     → IsNoTake g did
-claim_lost g index bit did is low lost node claim set =
-    let masks : bit_not w64 (bit_of bit) ≡ bit_not w64 (bit_of (map_bit node)) = cc in
-    lost (ap (bit_at did.old) (same_bit bit (map_bit node) low (omega arith) masks) ∙ set)
+claim_lost g index bit did is low lost node claim set = elim (cases_eq (map_bit node) bit) [
+  | inl same ↦ lost (ap (bit_at did.old) (sym same) ∙ set)
+  | inr other ↦
+      let stays = bit_at-cleared_other did.old bit (map_bit node) low (omega arith) other in
+      let cleared =
+      subst (λ (op : Op). bit_at (word_after did.old op) (map_bit node) ≡ 0) (sym claim ∙ is) (claim_of-clears g node did.old).bit in
+      absurd (omega (arith, stays, cleared, set))
+]
 
 -- where the taking goes on or finds none free the operation took none, and else the node that it answers
 abbrev TookAs : Geometry → Did → Next (Option ℕ) → Type 0

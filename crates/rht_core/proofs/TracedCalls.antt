@@ -130,22 +130,27 @@ module _ (M : Type 0) (mix : ℕ → ℕ → ℕ → ℕ) (env : Env) (Finds : �
     module _ (keep : CallsKeep) where
       -- ---- the beginning of a call
 
-      begins-so : (c : ℕ) (call : Call) (machine : Local M) (index : ℕ) (here : Seen M) (trace : Trace)
+      begins-keeping : (c : ℕ) (call : Call) (machine : Local M) (index : ℕ) (here : Seen M) (trace : Trace)
           → is_idle here.local ≡ true
           → machine_of env c call ≡ Some machine → IsKeeping c here trace
           → IsKeeping c (seen_begin call machine here) (trace_begun index trace)
-      begins-so c call machine index here trace idle is keeping = record {
+      begins-keeping c call machine index here trace idle is keeping = record {
         right = (kept-right M mix env).begins c call machine here idle is keeping.right;
-        calls = record { past = keeping.calls.past; now = begins_so M env c (λ asked first. IsNowSo first []) keep.find_begins (λ port owner once single. keep.bind_begins port owner once) call machine is };
+        calls = record {
+          past = keeping.calls.past;
+          now =
+              begins_so M env c (λ asked first. IsNowSo first []) keep.find_begins (λ port owner once single. keep.bind_begins port owner once)
+              call machine is;
+        };
       }
 
       -- each machine works in the table of the run, where what has to be shown of it is said
-      local-so : (c : ℕ) (local : Local M) (book : Book) (trace : Trace) (did : Did)
+      steps-keeping : (c : ℕ) (local : Local M) (book : Book) (trace : Trace) (did : Did)
           → plan_of local ≡ Some did.op → IsLocalIn env c local
           → IsKeeping c (record { local = local; book = book }) trace
           → CallsAreSo (local_after mix local did.old).0 (trace_did book.call did (local_after mix local did.old).1 trace)
-      local-so c Idle book trace did plan within keeping = absurd (cc)
-      local-so c (Finding m) book trace did plan within keeping =
+      steps-keeping c Idle book trace did plan within keeping = absurd (cc)
+      steps-keeping c (Finding m) book trace did plan within keeping =
           let all = trace.steps ++ did ∷ [] in
           let is : did.op ≡ find.plan_at m.env m.at = cc in
           let goes =
@@ -161,7 +166,7 @@ module _ (M : Type 0) (mix : ℕ → ℕ → ℕ → ℕ) (env : Env) (Finds : �
           (subst
           (λ (e : Env). GoesOrEnds (λ next. Finds m.port next all) (λ reply. Ended (Find m.port) reply all) (find.after_at mix e m.port m.at did.old))
           (sym within.same_env) goes)
-      local-so c (Binding m) book trace did plan within keeping =
+      steps-keeping c (Binding m) book trace did plan within keeping =
           let all = trace.steps ++ did ∷ [] in
           let is : did.op ≡ bind.plan_at m.env m.port m.owner m.at = cc in
           let goes =
@@ -180,21 +185,21 @@ module _ (M : Type 0) (mix : ℕ → ℕ → ℕ → ℕ) (env : Env) (Finds : �
 
       -- ---- runs
 
-      kept-so : IsKeptTraced M mix env (λ events. IsKeeping)
-      kept-so = record {
+      keeps : IsKeptTraced M mix env (λ events. IsKeeping)
+      keeps = record {
         opens = λ c. record {
           right = (kept-right M mix env).opens c;
           calls = record { past = tt; now = tt };
         };
         stays = λ events event c here trace keeping. keeping;
-        begins = λ events c call machine index here trace now. begins-so c call machine index here trace;
+        begins = λ events c call machine index here trace now. begins-keeping c call machine index here trace;
         steps = λ events c did here trace made keeping. record {
           right = (kept-right M mix env).steps c did.op did.old here made.plan keeping.right;
-          calls = local-so c here.local here.book trace did made.plan made.within keeping;
+          calls = steps-keeping c here.local here.book trace did made.plan made.within keeping;
         };
       }
 
       -- so what machines keep holds of the calls of every caller in every run
       pub calls_keep : (events : List Event) (c : ℕ)
           → let r : Traced M = traced_of mix env events in CallsAreSo (local_of r.world.core c) (r.traces c)
-      calls_keep events c = (traced_callers_keep M mix env (λ past. IsKeeping) kept-so events c).calls
+      calls_keep events c = (traced_callers_keep M mix env (λ past. IsKeeping) keeps events c).calls
