@@ -15,7 +15,8 @@ use Rattle.rht_words.specs.Chains.{IsSegment, HasChain, chain_in}
 use Rattle.rht_words.specs.Laws.{ChangesOneWord}
 use Rattle.rht_words.proofs.WordChanges.{changes_one_word}
 use Rattle.rht_words.proofs.LinksRead.{heads_come_back}
-use Rattle.rht_words.proofs.ChainLemmas.{IsSegment-same, IsSegment-relinked, last_or-All}
+use Rattle.rht_words.proofs.ChainLemmas.{IsSegment-same, IsSegment-relinked}
+use Rattle.rht_words.proofs.EachElement.{last_or-All}
 use Rattle.rht_words.proofs.MachineRuns.{ends_now, ends_later}
 use Rattle.rht_chain.specs.Relink.{relink_new, relink_plan, relink_after}
 use Rattle.rht_chain.specs.Laws.{CanRelink, IsRelinked, RelinksChains, relinking}

@@ -1,26 +1,14 @@
 -- What is worked out from the list of a chain's nodes is what is to be seen of it.
-use Rattle.std.proofs.Common.{◌≡◌, ℕ, ◌-◌, ◌+◌, ◌<◌, ◌≤◌, List, [], ◌∷◌, take, length, get_or, ltb, Some, None, Bool, refl, sym, ap, ◌∙◌, subst, arith}
+use Rattle.std.proofs.Common.{◌≡◌, ℕ, ◌+◌, ◌<◌, ◌≤◌, List, take, length, get_or, ltb, Some, None, Bool, sym, ap, ◌∙◌, subst, arith}
 use Rattle.std.proofs.lemmas.Bool.{cond_both, ltb-true, ltb-false}
 use Rattle.std.proofs.lemmas.List.{length-take-le, take_all}
 use Rattle.std.proofs.lemmas.List.Folds.{find_at}
 use Rattle.std.proofs.lemmas.Option.{slice_get-get_or, slice_get_past}
-use Rattle.std.specs.List.{find, position, before_first, position_or_len, last_or, slice_get}
+use Rattle.std.specs.List.{find, position, before_first, position_or_len, last_or}
 use Rattle.rht_words.specs.Links.{link_of}
 use Rattle.rht_chain.specs.declared.locked_walk.Seen.{Seen}
 use Rattle.rht_chain.specs.LockedWalk.{not_found}
 use Rattle.rht_chain.specs.Laws.{has_key, seen_in, seen_behind}
-
--- the last of a list is what stands at its last place
-last_or-Some : (node : ℕ) (nodes : List ℕ)
-    → last_or (Some node) nodes ≡ slice_get (node ∷ nodes) (length nodes)
-last_or-Some node [] = refl
-last_or-Some node (next ∷ nodes) = last_or-Some next nodes
-
-pub last_or-None : (nodes : List ℕ) → last_or None nodes ≡ slice_get nodes (length nodes - 1)
-last_or-None [] = refl
-last_or-None (node ∷ nodes) =
-    let place : length nodes ≡ length (node ∷ nodes) - 1 = omega arith in
-    last_or-Some node nodes ∙ ap (λ i. slice_get (node ∷ nodes) i) place
 
 module _ (key_of : ℕ → ℕ) (key : ℕ) (nodes : List ℕ) (stop : ℕ) where
   abbrev test : ℕ → Bool

@@ -1,5 +1,7 @@
 -- a lock is taken by an exchange from an even word alone
 pub mod LocksTaken
+-- whatever words they are told, a lock and a walk stay in range
+pub mod PiecesStay
 -- what is to be seen of a chain is its first node with the key
 pub mod FirstNodes
 -- a walk sees of its chain what is to be seen

@@ -1,7 +1,7 @@
 -- A walk begins in its chain, and each of its operations leaves it there or shows what there is to see.
 use Rattle.std.proofs.Common.{◌≡◌, ◌≢◌, ℕ, ◌+◌, ◌^◌, ◌<◌, List, [], ◌∷◌, ◌++◌, append_assoc, length, Option, Some, None, refl, sym, ap, ◌∙◌, subst, eqb, length-append, arith}
 use Rattle.std.proofs.lemmas.Bool.{cond_both, eqb-true, eqb-false}
-use Rattle.std.proofs.lemmas.List.Elements.{All-nil, All-cons, All-head, All-tail, All-push}
+use Rattle.std.proofs.lemmas.List.Elements.{All-nil, All-head, All-tail, All-push}
 use Rattle.std.proofs.lemmas.List.{length_push}
 use Rattle.std.specs.List.{All, last_or}
 use Rattle.rht_words.specs.declared.machine.Next.{Next}
@@ -10,28 +10,13 @@ use Rattle.rht_words.specs.declared.geometry.Geometry.{Geometry}
 use Rattle.rht_words.specs.Links.{head_of, node_of}
 use Rattle.rht_words.specs.Chains.{IsSegment, chain_in, key_in}
 use Rattle.rht_words.proofs.ChainLemmas.{IsSegment-cut, IsSegment-same}
+use Rattle.rht_words.proofs.EachElement.{All-cut, last_or-push}
 use Rattle.rht_words.proofs.LinksRead.{links_tell_apart}
 use Rattle.rht_chain.specs.declared.locked_walk.Seen.{Seen}
 use Rattle.rht_chain.specs.declared.locked_walk.LockedWalkAt.{LockedWalkAt}
 use Rattle.rht_chain.specs.declared.locked_walk.LockedWalkAt.TheVariants as at
 use Rattle.rht_chain.specs.LockedWalk.{LockedWalkModel, compared, found_at, followed, one_more, walk_from}
 use Rattle.rht_chain.specs.Laws.{CanWalk, IsWalking, AreSameIn, IsInChain, BeginsInChain, WalksStayInChain, stepped, node_at, loaded}
-
--- the last of a list with one more
-last_or-push : (first : Option ℕ) (nodes : List ℕ) (node : ℕ) → last_or first (nodes ++ node ∷ []) ≡ Some node
-last_or-push first [] node = refl
-last_or-push first (next ∷ nodes) node = last_or-push (Some next) nodes node
-
--- what holds of a list holds of what is behind its first part
-All-behind : (P : ℕ → Type 0) (front rest : List ℕ) → All P (front ++ rest) → All P rest
-All-behind P [] rest all = all
-All-behind P (node ∷ front) rest all = All-behind P front rest (All-tail P node (front ++ rest) all)
-
--- and of its first part
-All-front : (P : ℕ → Type 0) (front rest : List ℕ) → All P (front ++ rest) → All P front
-All-front P [] rest all = All-nil P
-All-front P (node ∷ front) rest all =
-    All-cons P node front (All-head P node (front ++ rest) all) (All-front P front rest (All-tail P node (front ++ rest) all))
 
 -- the nodes of which the key was loaded are the first ones of the chain
 loaded_first : (passed : List ℕ) (at : LockedWalkAt) (behind : List ℕ)
@@ -46,7 +31,7 @@ IsWalking-same g words other nodes m same walking =
     let Same : ℕ → Type 0 = λ node. key_in g other node ≡ key_in g words node in
     let first = loaded_first walking.passed m.at walking.behind in
     let keys : All Same (loaded walking.passed m.at) =
-    All-front Same (loaded walking.passed m.at) first.0 (subst (λ list. All Same list) (walking.split ∙ first.1) same.keys) in
+    (All-cut Same (loaded walking.passed m.at) first.0 (subst (λ list. All Same list) (walking.split ∙ first.1) same.keys)).0 in
     record {
       geometry = walking.geometry;
       passed = walking.passed;
@@ -158,7 +143,7 @@ module _ (g : Geometry) (words : List ℕ) (key stop : ℕ) where
   stays_at link nodes passed behind count before (at.ChainLink node) can split others before_is count_is =
       let segment =
       IsSegment-cut (chain_in g words) passed node behind link stop (subst (λ list. IsSegment (chain_in g words) link list stop) split can.segment) in
-      let within = All-behind (λ n. n < g.nodes) passed (node ∷ behind) (subst (λ list. All (λ n. n < g.nodes) list) split can.within) in
+      let within = (All-cut (λ n. n < g.nodes) passed (node ∷ behind) (subst (λ list. All (λ n. n < g.nodes) list) split can.within)).1 in
       link_loaded nodes passed node behind count before can.stops segment.1 (All-tail (λ n. n < g.nodes) node behind within) split others count_is
 
   -- a chain is begun at its first link

@@ -10,7 +10,8 @@ use Rattle.rht_words.specs.declared.geometry.Geometry.{Geometry}
 use Rattle.rht_words.specs.Links.{head_of, plain_of, node_of, link_of}
 use Rattle.rht_words.specs.Places.{Address, PageWord, Node, ChainLink, IsAddress, place_of, words_in, word_at}
 use Rattle.rht_words.specs.Operations.{old_of, word_after, applied}
-use Rattle.rht_words.specs.Chains.{IsSegment, IsDistinct, HasChain, chain_in, key_in}
+use Rattle.rht_words.specs.Chains.{IsSegment, HasChain, chain_in, key_in}
+use Rattle.rht_words.specs.Members.{IsDistinct}
 use Rattle.rht_words.specs.Machines.{EndsAlone}
 use Rattle.rht_chain.specs.declared.locked_walk.Seen.{Seen}
 use Rattle.rht_chain.specs.declared.locked_walk.LockedWalkAt.{LockedWalkAt}

@@ -1,5 +1,5 @@
 -- Walking a bucket's chain under its lock: what each state performs, and what comes after it.
-use Rattle.std.specs.Prelude.{◌≡◌, ℕ, ◌+◌, ◌-◌, ◌^◌, ◌<◌, ◌==◌, min, Option, None, Some, if◌then◌else◌}
+use Rattle.std.specs.Prelude.{◌≡◌, ℕ, ◌+◌, ◌-◌, ◌^◌, ◌<◌, ◌==◌, min, Option, None, Some, IfSome, if◌then◌else◌}
 use Rattle.rht_words.specs.declared.op.Op.{Op}
 use Rattle.rht_words.specs.declared.op.Op.TheVariants.{Load}
 use Rattle.rht_words.specs.declared.machine.Next.{Next}
@@ -72,8 +72,7 @@ locked_walk_after m word = walk_after_at m m.at word
 
 -- it is one of the nodes, where it is one
 abbrev pub IsNodeOrNone : Geometry → Option ℕ → Type 0
-IsNodeOrNone g None = Unit {0}
-IsNodeOrNone g (Some node) = node < g.nodes
+IsNodeOrNone g found = IfSome found (λ node. node < g.nodes)
 
 -- the walk stands at one of the nodes
 abbrev pub IsInRange : Geometry → Option ℕ → LockedWalkAt → Type 0

@@ -6,6 +6,7 @@ use Rattle.std.specs.List.{AllByRecursion, Contains}
 use Rattle.std.proofs.lemmas.Bool.{eq-eqb, ne_eqb, cases_eq}
 use Rattle.std.proofs.lemmas.List.Elements.{All-from_recursion}
 use Rattle.rht_words.specs.declared.config.Kind.TheVariants.{Single}
+use Rattle.rht_words.proofs.EachElement.{Contains-cons}
 use Rattle.rht_model.specs.declared.history.Call.{Call}
 use Rattle.rht_model.specs.declared.history.Call.TheVariants as calls
 use Rattle.rht_model.specs.Multimap.{Multimap, unbound}
@@ -18,12 +19,9 @@ use Rattle.rht_cli.specs.Printed.{bindings_of, onto_bound, bound_ports, last_pai
 
 -- ---- which ports are bound in the end
 
--- a port among others is among one more
-contains_more : (first port : ℕ) (ports : List ℕ) → Contains ports port → Contains (first ∷ ports) port
-contains_more first port ports among = (suc among.0, omega (arith, among.1), among.2)
-
+-- a port among others is among those and one that a call binds
 onto_more : (call : Call) (port : ℕ) (ports : List ℕ) → Contains ports port → Contains (onto_bound call ports) port
-onto_more (calls.Bind bound owner once) port ports among = contains_more bound port ports among
+onto_more (calls.Bind bound owner once) port ports among = Contains-cons bound port ports among
 onto_more (calls.Find other) port ports among = among
 onto_more (calls.All other) port ports among = among
 onto_more (calls.Release other owner) port ports among = among

@@ -2,19 +2,17 @@
 -- A pair at its place in the order is the only one of its port, since every pair before it has a
 -- lower port and every pair after it a higher one.
 use Rattle.std.proofs.Common.{◌≡◌, ℕ, zero, suc, ◌+◌, ◌<◌, ◌≤◌, eqb, cond, true, false, List, [], ◌∷◌, ◌++◌, length, get_or, take, drop, ltb, add-one, add-zero, drop-cons, length-drop, get_or-drop, refl, sym, ap, ◌∙◌, subst, inl, inr, arith}
-use Rattle.std.specs.List.{AllByRecursion, AllWithin, insert, remove}
+use Rattle.std.specs.List.{AllByRecursion, insert, remove}
 use Rattle.std.specs.List.Sorted.{IsPartitionedBy, IsPartitionPoint}
 use Rattle.std.proofs.lemmas.Bool.{eq-eqb, ne_eqb, cases_eq, ltb-true, ltb-false}
 use Rattle.std.proofs.lemmas.List.{take-append-drop, take_more, map-append}
-use Rattle.std.proofs.lemmas.List.Elements.{recursion_from_All, All-from_recursion}
+use Rattle.std.proofs.lemmas.List.Elements.{All-from_recursion}
 use Rattle.std.proofs.lemmas.List.Sorted.{IsPartitionedBy-ltb}
+use Rattle.rht_words.proofs.EachElement.{AllByRecursion-append, AllByRecursion-cut, AllByRecursion-take, AllByRecursion-drop, AllByRecursion-weaker}
 use Rattle.rht_model.specs.Multimap.{Multimap, with_owners}
 use Rattle.rht_model.specs.Listing.{added}
+use Rattle.rht_model.proofs.PlainPairs.{same_bindings}
 use Rattle.rht_cli.specs.Pairs.{bindings_in, listed, IsRising, IsPlace, IsGap, IsAt}
-
--- multimaps that agree at each port are one
-same_map : (first second : Multimap) → ((port : ℕ) → first port ≡ second port) → first ≡ second
-same_map first second agree = λ i port. agree port i
 
 -- pairs of higher ports say nothing of a port
 said_above : (port : ℕ) (pairs : List (ℕ × ℕ)) → AllByRecursion (λ pair. port < pair.0) pairs → bindings_in pairs port ≡ []
@@ -42,7 +40,7 @@ said_here port owner back = rw (eq-eqb port port refl) refl
 module _ (port : ℕ) (front back : List (ℕ × ℕ)) (below : AllByRecursion (λ pair. pair.0 < port) front) where
   -- with the port's pair, the pairs say its owner, and of other ports what they say without it
   with_pair : (owner : ℕ) → bindings_in (front ++ (port, owner) ∷ back) ≡ with_owners (bindings_in (front ++ back)) port (owner ∷ [])
-  with_pair owner = same_map _ _ (λ other. elim (cases_eq other port) [
+  with_pair owner = same_bindings _ _ (λ other. elim (cases_eq other port) [
     | inl same ↦ rw (eq-eqb other port same, same) (said_below port front ((port, owner) ∷ back) below ∙ said_here port owner back)
     | inr differs ↦ rw (ne_eqb other port differs) (said_beside other (port, owner) front back differs)
   ])
@@ -50,39 +48,30 @@ module _ (port : ℕ) (front back : List (ℕ × ℕ)) (below : AllByRecursion (
   -- without it they say nothing of the port, and of other ports what they say with it
   without_pair : (owner : ℕ) → AllByRecursion (λ pair. port < pair.0) back
       → bindings_in (front ++ back) ≡ with_owners (bindings_in (front ++ (port, owner) ∷ back)) port []
-  without_pair owner above = same_map _ _ (λ other. elim (cases_eq other port) [
+  without_pair owner above = same_bindings _ _ (λ other. elim (cases_eq other port) [
     | inl same ↦ rw (eq-eqb other port same, same) (said_below port front back below ∙ said_above port back above)
     | inr differs ↦ rw (ne_eqb other port differs) (sym (said_beside other (port, owner) front back differs))
   ])
 
--- the pairs of a part of a list
-all_append : (P : ℕ × ℕ → Type 0) (front back : List (ℕ × ℕ)) → AllByRecursion P (front ++ back) → AllByRecursion P front × AllByRecursion P back
-all_append P [] back all = (tt, all)
-all_append P (pair ∷ front) back all = let rest = all_append P front back all.1 in ((all.0, rest.0), rest.1)
-
-all_joined : (P : ℕ × ℕ → Type 0) (front back : List (ℕ × ℕ)) → AllByRecursion P front → AllByRecursion P back → AllByRecursion P (front ++ back)
-all_joined P [] back front_all back_all = back_all
-all_joined P (pair ∷ front) back front_all back_all = (front_all.0, all_joined P front back front_all.1 back_all)
-
 -- what is above a number is above a lower one
 all_above : (low high : ℕ) (pairs : List (ℕ × ℕ)) → low ≤ high → AllByRecursion (λ pair. high < pair.0) pairs → AllByRecursion (λ pair. low < pair.0) pairs
-all_above low high [] le all = tt
-all_above low high (pair ∷ pairs) le all = (omega (arith, all.0), all_above low high pairs le all.1)
+all_above low high pairs le all =
+    AllByRecursion-weaker (λ (pair : ℕ × ℕ). high < pair.0) (λ (pair : ℕ × ℕ). low < pair.0) (λ pair above. omega arith) pairs all
 
 -- a pair at its place keeps the order
 IsRising-with : (pair : ℕ × ℕ) (front back : List (ℕ × ℕ)) → AllByRecursion (λ other. other.0 < pair.0) front → AllByRecursion (λ other. pair.0 < other.0) back
     → IsRising (front ++ back) → IsRising (front ++ pair ∷ back)
 IsRising-with pair [] back below above rising = (above, rising)
 IsRising-with pair (first ∷ front) back below above rising =
-    let parts = all_append (λ other. first.0 < other.0) front back rising.0 in
-    (all_joined (λ other. first.0 < other.0) front (pair ∷ back) parts.0 (below.0, parts.1), IsRising-with pair front back below.1 above rising.1)
+    let parts = AllByRecursion-cut (λ other. first.0 < other.0) front back rising.0 in
+    (AllByRecursion-append (λ other. first.0 < other.0) front (pair ∷ back) parts.0 (below.0, parts.1), IsRising-with pair front back below.1 above rising.1)
 
 -- and so does the list without a pair
 IsRising-without : (pair : ℕ × ℕ) (front back : List (ℕ × ℕ)) → IsRising (front ++ pair ∷ back) → IsRising (front ++ back)
 IsRising-without pair [] back rising = rising.1
 IsRising-without pair (first ∷ front) back rising =
-    let parts = all_append (λ other. first.0 < other.0) front (pair ∷ back) rising.0 in
-    (all_joined (λ other. first.0 < other.0) front back parts.0 parts.1.1, IsRising-without pair front back rising.1)
+    let parts = AllByRecursion-cut (λ other. first.0 < other.0) front (pair ∷ back) rising.0 in
+    (AllByRecursion-append (λ other. first.0 < other.0) front back parts.0 parts.1.1, IsRising-without pair front back rising.1)
 
 -- in a gap of the port no pair has it
 pub unbound_at_gap : (pairs : List (ℕ × ℕ)) (port place : ℕ) → IsGap pairs port place → bindings_in pairs port ≡ []
@@ -132,23 +121,10 @@ IsRising-remove pairs port place owner at rising =
 
 -- owners that a port has anyway change nothing
 pub with_owners-same : (bindings : Multimap) (port : ℕ) (owners : List ℕ) → bindings port ≡ owners → bindings ≡ with_owners bindings port owners
-with_owners-same bindings port owners has = same_map _ _ (λ other. elim (cases_eq other port) [
+with_owners-same bindings port owners has = same_bindings _ _ (λ other. elim (cases_eq other port) [
   | inl same ↦ rw (eq-eqb other port same, same) has
   | inr differs ↦ rw (ne_eqb other port differs) refl
 ])
-
--- what holds within the first places holds of the pairs taken
-all_taken : (P : ℕ × ℕ → Type 0) (pairs : List (ℕ × ℕ)) (place : ℕ) → place ≤ length pairs → AllWithin P pairs 0 place → AllByRecursion P (take place pairs)
-all_taken P pairs zero within all = tt
-all_taken P [] (suc place) within all = tt
-all_taken P (pair ∷ pairs) (suc place) within all =
-    (all 0 pair (omega arith) (omega arith), all_taken P pairs place (omega arith) (λ k d low high. all (suc k) d (omega arith) (omega arith)))
-
--- what holds from a place on holds of the pairs left
-all_dropped : (P : ℕ × ℕ → Type 0) (pairs : List (ℕ × ℕ)) (place : ℕ) → AllWithin P pairs place (length pairs) → AllByRecursion P (drop place pairs)
-all_dropped P pairs zero all = recursion_from_All P pairs (λ k d lt. all k d (omega arith) lt)
-all_dropped P [] (suc place) all = tt
-all_dropped P (pair ∷ pairs) (suc place) all = all_dropped P pairs place (λ k d low high. all (suc k) d (omega arith) (omega arith))
 
 -- along rising pairs the ports don't fall
 rising_ports : (pairs : List (ℕ × ℕ)) → IsRising pairs → (i j : ℕ) (d : ℕ × ℕ) → i ≤ j → j < length pairs → (get_or pairs i d).0 ≤ (get_or pairs j d).0
@@ -168,8 +144,8 @@ pub IsPlace-from_search : (pairs : List (ℕ × ℕ)) (port place : ℕ) → pla
     → IsPartitionPoint (λ pair. ltb pair.0 port ≡ true) (λ pair. ltb pair.0 port ≡ false) pairs place → IsPlace pairs port place
 IsPlace-from_search pairs port place within found = record {
   within = within;
-  below = all_taken (λ pair. pair.0 < port) pairs place within (λ k d low high. ltb-true _ _ (found.0 k d low high));
-  others = all_dropped (λ pair. port ≤ pair.0) pairs place (λ k d low high. ltb-false _ _ (found.1 k d low high));
+  below = AllByRecursion-take (λ pair. pair.0 < port) pairs place within (λ k d low high. ltb-true _ _ (found.0 k d low high));
+  others = AllByRecursion-drop (λ pair. port ≤ pair.0) pairs place (λ k d low high. ltb-false _ _ (found.1 k d low high));
 }
 
 -- the pairs from a place on rise too

@@ -1,26 +1,21 @@
 -- The law of one call alone: it meets the model, and its reply has its cause in its own operations.
-use Rattle.std.proofs.Common.{◌≡◌, ℕ, List, [], ◌∷◌, ◌++◌, map, sym, ◌∙◌, ap, subst}
+use Rattle.std.proofs.Common.{◌≡◌, ℕ, [], ◌∷◌, ◌++◌, map, sym, ◌∙◌, ap, subst}
 use Rattle.std.specs.List.{AllByRecursion}
 use Rattle.std.proofs.lemmas.List.{map-append}
-use Rattle.rht_core.specs.Runs.{World, run_of}
+use Rattle.rht_words.proofs.EachElement.{AllByRecursion-last, AllByRecursion-cut}
+use Rattle.rht_core.specs.Runs.{IsAdmittedEvent, World, run_of}
 use Rattle.rht_core.specs.Traces.{Past, traced_of}
 use Rattle.rht_core.specs.Causes.{HasCause}
 use Rattle.rht_core.specs.Alone.{Alone, call_events}
-use Rattle.rht_core.proofs.Worlds.{IsAdmitted-parts}
 use Rattle.rht_core.proofs.TracesInRuns.{remembers}
 use Rattle.rht_core.proofs.CausesInRuns.{causes}
 use Rattle.rht_core.proofs.AloneRuns.{meets_alone}
 
 module _ (M : Type 0) (mix : ℕ → ℕ → ℕ → ℕ) where
-  -- what holds of all past calls holds of the last one
-  last_of_all : (P : Past → Type 0) (pasts : List Past) (past : Past) → AllByRecursion P (pasts ++ past ∷ []) → P past
-  last_of_all P [] past all = all.0
-  last_of_all P (first ∷ pasts) past all = last_of_all P pasts past all.1
-
   pub alone : Alone M mix
   alone env start c call count past admitted quiet more =
       let after = start ++ call_events M mix c call count in
-      let parts = IsAdmitted-parts env.config.kind start (call_events M mix c call count) admitted in
+      let parts = AllByRecursion-cut (IsAdmittedEvent env.config.kind) start (call_events M mix c call count) admitted in
       let was = remembers M mix env start parts.0 in
       let is = remembers M mix env after admitted in
       let finished : ((run_of {M = M} mix env after).books c).finished ≡ ((run_of {M = M} mix env start).books c).finished ++ past.done ∷ []
@@ -29,6 +24,6 @@ module _ (M : Type 0) (mix : ℕ → ℕ → ℕ → ℕ) where
       ∙ ap (λ l. l ++ past.done ∷ []) ((was.traces c).past ∙ ap (λ (w : World M). (w.books c).finished) was.world) in
       record {
         model = meets_alone M mix env start c call count past.done quiet parts.1.0.1 finished;
-        cause = last_of_all (HasCause M mix env after c) ((traced_of {M = M} mix env start).traces c).past past
+        cause = AllByRecursion-last (HasCause M mix env after c) ((traced_of {M = M} mix env start).traces c).past past
             (subst (AllByRecursion (HasCause M mix env after c)) more (causes M mix env after c admitted));
       }

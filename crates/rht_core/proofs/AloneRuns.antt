@@ -1,12 +1,11 @@
 -- A call alone meets the model: by induction over its operations, either it hasn't ended, and the bindings are those before it,
 -- or it has ended, and meets the model; and further steps of a caller that is idle change nothing.
-use Rattle.std.proofs.Common.{◌≡◌, ℕ, zero, suc, ◌+◌, ◌^◌, ◌<◌, List, [], ◌∷◌, ◌++◌, length, replicate, Option, Some, None, Bool, true, cond, refl, sym, ◌∙◌, ap, subst, inl, inr, ◌⊎◌, nat_lt, arith}
-use Rattle.std.proofs.lemmas.Bool.{lt-ltb}
+use Rattle.std.proofs.Common.{◌≡◌, ℕ, zero, suc, ◌+◌, ◌^◌, ◌<◌, List, [], ◌∷◌, ◌++◌, length, replicate, Option, Some, None, true, cond, refl, sym, ◌∙◌, ap, subst, inl, inr, ◌⊎◌, nat_lt, arith}
 use Rattle.std.proofs.lemmas.List.{append_cancel_left, append_assoc, append-nil, replicate-append-replicate}
 use Rattle.rht_words.specs.declared.env.Env.{Env}
 use Rattle.rht_words.specs.declared.op.Op.{Op}
 use Rattle.rht_words.specs.declared.config.Kind.{Kind}
-use Rattle.rht_words.specs.declared.config.Kind.TheVariants.{Single, Listed}
+use Rattle.rht_words.specs.declared.config.Kind.TheVariants.{Single}
 use Rattle.rht_words.specs.declared.machine.Next.{Next}
 use Rattle.rht_words.specs.declared.machine.Next.TheVariants.{Go, Done}
 use Rattle.rht_words.specs.Operations.{old_of, applied}
@@ -26,12 +25,13 @@ use Rattle.rht_core.specs.declared.event.Event.TheVariants.{Begin, Step as StepO
 use Rattle.rht_core.specs.declared.book.Finished.{Finished}
 use Rattle.rht_core.specs.declared.local.Local.{Local}
 use Rattle.rht_core.specs.declared.local.Local.TheVariants.{Idle, Finding, Binding}
-use Rattle.rht_core.specs.Locals.{is_idle, machine_of, binding_of, plan_of, local_after, found_next, bound_next}
+use Rattle.rht_core.specs.Locals.{is_idle, machine_of, plan_of, local_after, found_next, bound_next}
 use Rattle.rht_core.specs.Runs.{World, Seen, seen, local_of, planned, beginning, world_step, run_of, IsSound, IsAdmittedCall, book_after, finished_with}
 use Rattle.rht_core.specs.Laws.{seen_begin, seen_step}
 use Rattle.rht_core.specs.StandsFor.{stands_for}
 use Rattle.rht_core.specs.Alone.{MeetsModel, IsQuiet, bindings_at, call_events}
-use Rattle.rht_core.proofs.Worlds.{beginning-some, run_of-push, begin_none, begin_self, step_none, step_self, step_words}
+use Rattle.rht_core.proofs.CallsInProgress.{begins_so, idle_plans}
+use Rattle.rht_core.proofs.Worlds.{beginning-some, planned-enrolled, run_of-push, begin_none, begin_self, step_none, step_self, step_words}
 use Rattle.rht_core.proofs.Steps.{by_test, mem}
 use Rattle.rht_core.proofs.Invariants.{home-within, CallerKnows}
 use Rattle.rht_core.proofs.InvariantRuns.{HasInv, has_inv, sound_in}
@@ -94,12 +94,7 @@ module _ (L : Type 0) (mix : ℕ → ℕ → ℕ → ℕ) (env : Env) (start : L
   -- a step of a caller that is idle changes nothing
   idle_plans_none : (events : List Event) → is_idle (local_of (world events).core c) ≡ true → planned (world events).core.enrolled (world events).core.locals c ≡ None
   idle_plans_none events idle = by_test (λ t. cond t (plan_of (local_of (world events).core c)) None ≡ None) (nat_lt c (world events).core.enrolled)
-      (λ t. none (local_of (world events).core c) idle) (λ t. refl)
-    where
-      none : (local : Local L) → is_idle local ≡ true → ◌≡◌ {A = Option Op} (plan_of local) None
-      none Idle e = refl
-      none (Finding m) e = absurd (cc)
-      none (Binding m) e = absurd (cc)
+      (λ t. idle_plans L (local_of (world events).core c) idle) (λ t. refl)
 
   same_world : (events : List Event) → is_idle (local_of (world events).core c) ≡ true → ◌≡◌ {A = World L} (world (next events)) (world events)
   same_world events idle = pushed events ∙ step_none L mix (world events) c (idle_plans_none events idle)
@@ -147,7 +142,7 @@ module _ (L : Type 0) (mix : ℕ → ℕ → ℕ → ℕ) (env : Env) (start : L
     below = omega (arith, going.enrolled, sound.few_enrolled, sound.all_locals)
 
     plans : (op : Op) → plan_of (local_of w.core c) ≡ Some op → planned w.core.enrolled w.core.locals c ≡ Some op
-    plans op is = ap (λ t. cond t (plan_of (local_of w.core c)) None) (lt-ltb c w.core.enrolled going.enrolled) ∙ is
+    plans op is = planned-enrolled w.core.enrolled w.core.locals c going.enrolled ∙ is
 
     -- the world after the operation, as its caller sees it
     seen_after : (op : Op) → plan_of (local_of w.core c) ≡ Some op → ◌≡◌ {A = Seen L} (seen (world (next events)) c) (seen_step mix (old_of words op) (seen w c))
@@ -233,25 +228,9 @@ module _ (L : Type 0) (mix : ℕ → ℕ → ℕ → ℕ) (env : Env) (start : L
 
   -- a call whose numbers are in range begins with what its machine's first state says
   first_doing : IsAdmittedCall call → (machine : Local L) → machine_of env c call ≡ Some machine → IsDoing machine
-  first_doing small machine is = go call refl small is
-    where
-      as_machine : (first : Local L) → ◌≡◌ {A = Option (Local L)} (Some first) (Some machine) → IsDoing first → IsDoing machine
-      as_machine first e doing = let same : first ≡ machine = (cc) in subst IsDoing same doing
-
-      bind_first : (port owner : ℕ) (once : Bool) → call ≡ calls.Bind port owner once → owner < 2 ^ 32 → (k : Kind) → kind ≡ k → binding_of env c port owner once k ≡ Some machine → IsDoing machine
-      bind_first port owner once e l Single s is = as_machine (Binding (bind_new env c port owner once)) is (e, l, s, tt)
-      bind_first port owner once e l Listed s is = absurd (cc)
-
-      go : (asked : Call) → call ≡ asked → IsAdmittedCall asked → machine_of env c asked ≡ Some machine → IsDoing machine
-      go (calls.Find port) e l is = as_machine (Finding (find_new env c port)) is (e, tt)
-      go (calls.Bind port owner once) e l is = bind_first port owner once e l.1 kind refl is
-      go (calls.All port) e l is = absurd (cc)
-      go (calls.Release port owner) e l is = absurd (cc)
-      go (calls.Rebind port owner new) e l is = absurd (cc)
-      go (calls.Walk from limit) e l is = absurd (cc)
-      go calls.Work e l is = absurd (cc)
-      go calls.Tidy e l is = absurd (cc)
-      go calls.Count e l is = absurd (cc)
+  first_doing small machine is =
+      begins_so L env c (λ asked first. call ≡ asked → IsAdmittedCall asked → IsDoing first) (λ port e l. (e, tt)) (λ port owner once single e l. (e, l.1, single, tt))
+      call machine is refl small
 
   first_status : IsQuiet L mix env start → IsAdmittedCall call → Status began
   first_status quiet small = go (beginning w0.core.env w0.core.enrolled w0.core.locals c call) refl

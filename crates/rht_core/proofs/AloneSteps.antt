@@ -1,6 +1,7 @@
 -- What the operations of one call make of the bindings while nobody else does anything. Until its last operation they are those
 -- before the call, and from the state on at which its answer is known the reply is the answer on them, or a refusal.
 use Rattle.std.proofs.Common.{◌≡◌, ℕ, ◌*◌, ◌^◌, ◌<◌, ◌==◌, List, [], ◌∷◌, length, min, Option, Some, None, Bool, false, cond, refl, sym, ◌∙◌, ap, inl, inr, ◌⊎◌}
+use Rattle.std.specs.Prelude.{IfSome, IsSome, if◌then◌else◌}
 use Rattle.std.proofs.lemmas.Bool.{cases_eq, eq-eqb, ne_eqb}
 use Rattle.std.proofs.Math.Nat.{mod-eq_of_lt}
 use Rattle.rht_words.specs.declared.env.Env.{Env}
@@ -10,21 +11,14 @@ use Rattle.rht_words.specs.declared.config.Kind.{Kind}
 use Rattle.rht_words.specs.declared.config.Kind.TheVariants.{Single}
 use Rattle.rht_words.specs.declared.machine.Next.{Next}
 use Rattle.rht_words.specs.declared.machine.Next.TheVariants.{Go, Done}
-use Rattle.rht_words.specs.declared.machine.Start.{Start}
-use Rattle.rht_words.specs.declared.machine.Start.TheVariants as starts
 use Rattle.rht_words.specs.Links.{slot_of, node_of, link_of}
-use Rattle.rht_words.specs.Ports.{word_of, owner_of}
+use Rattle.rht_words.specs.Ports.{owner_of}
 use Rattle.rht_words.specs.Operations.{old_of, applied}
 use Rattle.rht_words.specs.Places.{Node, OwnerWord, PageWord, words_in}
 use Rattle.rht_words.proofs.Memory.{Memory, is_write}
-use Rattle.rht_words.proofs.Members.{In}
+use Rattle.rht_words.specs.Members.{In}
 use Rattle.rht_policy.specs.Thresholds.{is_above_max}
 use Rattle.rht_arena.specs.TakeNode.{TakeNodeModel, take_node_plan, take_node_after}
-use Rattle.rht_chain.specs.Lock.{LockModel, lock_plan, lock_after}
-use Rattle.rht_chain.specs.LockedWalk.{LockedWalkModel, locked_walk_new, locked_walk_plan, locked_walk_after}
-use Rattle.rht_chain.specs.declared.locked.Locked.{Locked}
-use Rattle.rht_chain.specs.declared.locked.Then.TheVariants.{Table, Answer}
-use Rattle.rht_chain.specs.declared.locked_walk.Seen.{Seen}
 use Rattle.rht_model.specs.declared.history.Call.{Call}
 use Rattle.rht_model.specs.declared.history.Call.TheVariants as calls
 use Rattle.rht_model.specs.declared.history.Reply.{Reply}
@@ -32,7 +26,6 @@ use Rattle.rht_model.specs.declared.history.Reply.TheVariants as replies
 use Rattle.rht_model.specs.Multimap.{Multimap, Agree, with_owners}
 use Rattle.rht_model.specs.Histories.{without_kick}
 use Rattle.rht_model.specs.Answers.{plain, bind_reply, find_reply, owners_bound, answer_of, bindings_after, MayRefuse}
-use Rattle.rht_bind.specs.declared.bind.Claimed.{Claimed}
 use Rattle.rht_bind.specs.declared.bind.BindAt.{BindAt}
 use Rattle.rht_bind.specs.declared.bind.BindAt.TheVariants as binds
 use Rattle.rht_bind.specs.Bind as bind_at
@@ -41,6 +34,10 @@ use Rattle.rht_find.specs.declared.find.FindAt.TheVariants as finds
 use Rattle.rht_find.specs.Find as find_at
 use Rattle.rht_core.specs.StandsFor.{stands_for}
 use Rattle.rht_core.specs.Alone.{IsAnsweredBy, MeetsModel}
+use Rattle.rht_core.specs.Counts.{is_linking}
+use Rattle.rht_core.proofs.MachinesGoOn.{GoesOrEnds}
+use Rattle.rht_core.proofs.HeldByFinds.{reply_of_find, future_reply, owner_reply, find_reply_after, find_after-so}
+use Rattle.rht_core.proofs.HeldByBinds.{node_of_bind, reply_of_bind, bind_reply_after, bind_after-so}
 use Rattle.rht_core.proofs.Ghosts.{Ghost}
 use Rattle.rht_core.proofs.Wholes.{key_of, home, Whole}
 use Rattle.rht_core.proofs.Knowledge.{NoKey}
@@ -61,9 +58,7 @@ IsDetermined before call reply = IsAnsweredBy Single before before call reply �
 
 -- what is known of its reply at a state
 abbrev pub bind_progress : Multimap → Call → BindAt → Type 0
-bind_progress before call (binds.Unlocking n unlock (Answer reply)) = IsDetermined before call reply
-bind_progress before call (binds.Giving give reply) = IsDetermined before call reply
-bind_progress before call _ = Unit {0}
+bind_progress before call at = IfSome (reply_of_bind at) (IsDetermined before call)
 
 -- what an operation of a bind leads to, with these words after it
 abbrev pub BindAlone : Env → Multimap → Call → BindAt × Next Reply → List ℕ → Type 0
@@ -72,11 +67,11 @@ BindAlone env before call (at, Done reply) after = MeetsModel Single before (sta
 
 -- the answer of a look-up on the bindings before
 abbrev pub IsFoundOut : Multimap → Kind → ℕ → Reply → Type 0
-IsFoundOut before kind port reply = answer_of kind before (calls.Find port) ≡ Some (plain reply)
+IsFoundOut before kind port reply =
+    (answer_of kind before (calls.Find port) ≡ Some (plain reply)) × (without_kick reply ≡ reply)
 
 abbrev pub find_progress : Multimap → Kind → ℕ → FindAt → Type 0
-find_progress before kind port (finds.Unlocking unlock (Answer reply)) = IsFoundOut before kind port reply × (without_kick reply ≡ reply)
-find_progress before kind port _ = Unit {0}
+find_progress before kind port at = IfSome (reply_of_find at) (IsFoundOut before kind port)
 
 abbrev pub FindAlone : Env → Multimap → Kind → ℕ → FindAt × Next Reply → List ℕ → Type 0
 FindAlone env before kind port (at, Go) after = Agree (stands_for env.geometry after) before × find_progress before kind port at
@@ -123,27 +118,6 @@ module _ (env : Env) (mix : ℕ → ℕ → ℕ → ℕ) (c port : ℕ) (before 
     take_alone (take, Done None) after still = inr (record { may = tt; bindings = still })
     take_alone (take, Done (Some n)) after still = (still, tt)
 
-    found_progress : (table : ℕ) (claimed : Claimed) (found : Option ℕ) → bind_progress before call (bind_at.found_or_not table claimed found)
-    found_progress table claimed None = tt
-    found_progress table claimed (Some node) = tt
-
-    start_progress : (table : ℕ) (claimed : Claimed) (start : Start LockedWalkModel Seen) → bind_progress before call (bind_at.walk_or_seen table claimed start)
-    start_progress table claimed (starts.Running walk) = tt
-    start_progress table claimed (starts.Done seen) = found_progress table claimed seen.found
-
-    lock_progress : (n table shape : ℕ) (r : LockModel × Next ℕ) → bind_progress before call (bind_at.lock_taken env port n table shape r.0 r.1)
-    lock_progress n table shape (lock, Go) = tt
-    lock_progress n table shape (lock, Done word) =
-        start_progress table (record { node = n; shape = shape; bucket = record { place = lock.place; word = word } }) (locked_walk_new env.geometry lock.place word (word_of port))
-
-    walk_progress : (table : ℕ) (claimed : Claimed) (r : LockedWalkModel × Next Seen) → bind_progress before call (bind_at.walk_taken table claimed r.0 r.1)
-    walk_progress table claimed (walk, Go) = tt
-    walk_progress table claimed (walk, Done seen) = found_progress table claimed seen.found
-
-    future_progress : (claimed : Claimed) (next : Option ℕ) → bind_progress before call (bind_at.future_or_count claimed next)
-    future_progress claimed None = tt
-    future_progress claimed (Some table) = tt
-
     abbrev op_at : BindAt → Op
     op_at at = bind_at.plan_at env port owner at
 
@@ -154,34 +128,35 @@ module _ (env : Env) (mix : ℕ → ℕ → ℕ → ℕ) (c port : ℕ) (before 
         (quiet_step env mix c words G (op_at at) (BindNext env mix c port owner (bind_at.after_at mix env port at (old_of words (op_at at)))) whole lowered
         (bind_step env mix c port owner within words G all whole low at known)) agree
 
+    -- the reply that it has after an operation before the store that binds is determined
+    determined_after : (at : BindAt) → is_linking at ≡ false → BindKnows env mix c port owner at M G → bind_progress before call at
+        → IfSome (bind_reply_after env at (old_of words (op_at at))) (IsDetermined before call)
+    determined_after (binds.FoundOwner claimed found) early known progress =
+        exists_determined (owner_of (M (Node found OwnerWord))) (found_owner found known.lock.1.0.1 known.lock.1.0.2)
+    determined_after (binds.Count claimed) early known progress =
+        let count = old_of words (op_at (binds.Count claimed)) in
+        by_test (λ t. IfSome (if t then Some (replies.TooBig count) else None) (IsDetermined before call)) (is_above_max (min count 65536) env.config.max) (λ t. inr tt) (λ t. tt)
+    determined_after (binds.Publish claimed kick) early known progress = absurd (cc)
+    determined_after _ early known progress = progress
+
+    -- where it goes on, or answers what is determined
+    goes_alone : (r : BindAt × Next Reply) (after : List ℕ) → Agree (stands_for env.geometry after) before
+        → GoesOrEnds (bind_progress before call) (IsDetermined before call) r → BindAlone env before call r after
+    goes_alone (at, Go) after still so = (still, so)
+    goes_alone (at, Done reply) after still so = ends reply after still so
+
+    with_node_alone : (at : BindAt) → IsSome (node_of_bind at) → is_linking at ≡ false → G.raised c ≡ false
+        → BindKnows env mix c port owner at M G → bind_progress before call at
+        → BindAlone env before call (bind_at.after_at mix env port at (old_of words (op_at at))) (applied words (op_at at))
+    with_node_alone at has early lowered known progress =
+        goes_alone (bind_at.after_at mix env port at (old_of words (op_at at))) (applied words (op_at at)) (still_at at lowered known)
+        (bind_after-so (λ node word reply. IfSome reply (IsDetermined before call)) mix env port at (old_of words (op_at at)) has (determined_after at early known progress))
+
     -- each operation of a bind that is alone
     pub bind_alone : (at : BindAt) → BindKnows env mix c port owner at M G → bind_progress before call at
         → BindAlone env before call (bind_at.after_at mix env port at (old_of words (op_at at))) (applied words (op_at at))
     bind_alone (binds.Taking take) known progress =
         take_alone (take_node_after take (old_of words (take_node_plan take))) (applied words (take_node_plan take)) (still_at (binds.Taking take) known.own.0 known)
-    bind_alone (binds.Key n) known progress = (still_at (binds.Key n) known.own.0 known, tt)
-    bind_alone (binds.Owner n) known progress = (still_at (binds.Owner n) known.own.0 known, tt)
-    bind_alone (binds.ListLink n) known progress = (still_at (binds.ListLink n) known.own.0 known, tt)
-    bind_alone (binds.CurrentTable n) known progress = (still_at (binds.CurrentTable n) known.own.0 known, tt)
-    bind_alone (binds.Shape n table) known progress = (still_at (binds.Shape n table) known.own.0 known, tt)
-    bind_alone (binds.Seed n table shape) known progress = (still_at (binds.Seed n table shape) known.own.0 known, tt)
-    bind_alone (binds.Locking n table shape lock) known progress =
-        (still_at (binds.Locking n table shape lock) known.own.0 known, lock_progress n table shape (lock_after lock (old_of words (lock_plan lock))))
-    bind_alone (binds.Walking table claimed walk) known progress =
-        (still_at (binds.Walking table claimed walk) known.own.0 known, walk_progress table claimed (locked_walk_after walk (old_of words (locked_walk_plan walk))))
-    bind_alone (binds.FoundOwner claimed found) known progress = (
-      still_at (binds.FoundOwner claimed found) known.own.0 known,
-      exists_determined (owner_of (M (Node found OwnerWord))) (found_owner found known.lock.1.0.1 known.lock.1.0.2),
-    )
-    bind_alone (binds.Future table claimed) known progress =
-        (still_at (binds.Future table claimed) known.own.0 known, future_progress claimed (slot_of (old_of words (op_at (binds.Future table claimed)))))
-    bind_alone (binds.Count claimed) known progress =
-        let count = old_of words (op_at (binds.Count claimed)) in (
-          still_at (binds.Count claimed) known.own.0 known,
-          by_test (λ t. bind_progress before call (cond t (bind_at.unlocking claimed (Answer (replies.TooBig count))) (binds.Link claimed))) (is_above_max (min count 65536) env.config.max) (λ t. inr tt) (λ t. tt),
-        )
-    bind_alone (binds.Link claimed) known progress = (still_at (binds.Link claimed) known.own.0 known, tt)
-    bind_alone (binds.Raise claimed) known progress = (still_at (binds.Raise claimed) known.own.0 known, tt)
     bind_alone (binds.Publish claimed kick) known progress =
         let n = claimed.node in
         let op = Store claimed.bucket.place (link_of n) in
@@ -200,38 +175,19 @@ module _ (env : Env) (mix : ℕ → ℕ → ℕ → ℕ) (c port : ℕ) (before 
               ∙ ap (λ rest. cond (other == port) (owner ∷ []) rest) (agree other)
               ∙ sym (ap (λ owners. cond (other == port) (owners_bound Single owner owners) (before other)) none);
         })
-    bind_alone (binds.Unlocking n unlock (Table table)) known progress = absurd known.fits
-    bind_alone (binds.Unlocking n unlock (Answer reply)) known progress = (still_at (binds.Unlocking n unlock (Answer reply)) known.own.0 known, progress)
-    bind_alone (binds.Giving give reply) known progress =
-        ends reply (applied words (op_at (binds.Giving give reply))) (still_at (binds.Giving give reply) known.own.0 known) progress
+    bind_alone at known progress = with_node_alone at refl refl known.own.0 known progress
 
   -- ---- a look-up
 
   module _ (kind : Kind) where
-    found_progress_of : (table : ℕ) (bucket : Locked) (found : Option ℕ) → find_progress before kind port (find_at.found_or_not table bucket found)
-    found_progress_of table bucket None = tt
-    found_progress_of table bucket (Some node) = tt
-
-    start_progress_of : (table : ℕ) (bucket : Locked) (start : Start LockedWalkModel Seen) → find_progress before kind port (find_at.walk_or_seen table bucket start)
-    start_progress_of table bucket (starts.Running walk) = tt
-    start_progress_of table bucket (starts.Done seen) = found_progress_of table bucket seen.found
-
-    lock_progress_of : (table : ℕ) (r : LockModel × Next ℕ) → find_progress before kind port (find_at.lock_taken env port table r.0 r.1)
-    lock_progress_of table (lock, Go) = tt
-    lock_progress_of table (lock, Done word) = start_progress_of table (record { place = lock.place; word = word }) (locked_walk_new env.geometry lock.place word (word_of port))
-
-    walk_progress_of : (table : ℕ) (bucket : Locked) (r : LockedWalkModel × Next Seen) → find_progress before kind port (find_at.walk_taken table bucket r.0 r.1)
-    walk_progress_of table bucket (walk, Go) = tt
-    walk_progress_of table bucket (walk, Done seen) = found_progress_of table bucket seen.found
-
     -- the port is missing from the bindings before
-    missing_progress : (bucket : Locked) (next : Option ℕ) → before port ≡ [] → find_progress before kind port (find_at.unlocking bucket (find_at.next_table next))
-    missing_progress bucket None none = (ap (λ owners. Some (plain (find_reply owners))) none, refl)
-    missing_progress bucket (Some table) none = tt
+    missing : (future : Option ℕ) → before port ≡ [] → IfSome (future_reply future) (IsFoundOut before kind port)
+    missing None none = (ap (λ owners. Some (plain (find_reply owners))) none, refl)
+    missing (Some table) none = tt
 
-    found_out : (bucket : Locked) (owner : ℕ) (next : Option ℕ) → before port ≡ owner ∷ [] → find_progress before kind port (find_at.list_followed bucket owner next)
-    found_out bucket owner None bound = (ap (λ owners. Some (plain (find_reply owners))) bound, refl)
-    found_out bucket owner (Some node) bound = tt
+    found_out : (owner : ℕ) (next : Option ℕ) → before port ≡ owner ∷ [] → IfSome (owner_reply owner next) (IsFoundOut before kind port)
+    found_out owner None bound = (ap (λ owners. Some (plain (find_reply owners))) bound, refl)
+    found_out owner (Some node) bound = tt
 
     abbrev find_op : FindAt → Op
     find_op at = find_at.plan_at env at
@@ -242,28 +198,25 @@ module _ (env : Env) (mix : ℕ → ℕ → ℕ → ℕ) (c port : ℕ) (before 
         (quiet_step env mix c words G (find_op at) (FindNext env mix c port (find_at.after_at mix env port at (old_of words (find_op at)))) whole known.own.0
         (find_step env mix c port within words G all whole at known)) agree
 
+    -- the reply that it has after an operation is the answer on the bindings before
+    found_out_after : (at : FindAt) → FindKnows env mix c port at M G → find_progress before kind port at
+        → IfSome (find_reply_after env at (old_of words (find_op at))) (IsFoundOut before kind port)
+    found_out_after (finds.Future table bucket) known progress =
+        missing (slot_of (old_of words (find_op (finds.Future table bucket)))) (missed_owner known.lock.1.0.1)
+    found_out_after (finds.ListLink bucket node owner) known progress =
+        let found = known.lock.1.0 in
+        found_out owner (node_of env.geometry.nodes (old_of words (find_op (finds.ListLink bucket node owner)))) (found_owner node found.1 found.2 ∙ ap (λ o. o ∷ []) known.lock.1.1.0.2)
+    found_out_after _ known progress = progress
+
+    finds_alone : (r : FindAt × Next Reply) (after : List ℕ) → Agree (stands_for env.geometry after) before
+        → GoesOrEnds (find_progress before kind port) (IsFoundOut before kind port) r → FindAlone env before kind port r after
+    finds_alone (at, Go) after still so = (still, so)
+    finds_alone (at, Done reply) after still so =
+        inl (record { answer = so.0 ∙ ap (λ r. Some (plain r)) (sym so.1); bindings = still })
+
     -- each operation of a look-up that is alone
     pub find_alone : (at : FindAt) → FindKnows env mix c port at M G → find_progress before kind port at
         → FindAlone env before kind port (find_at.after_at mix env port at (old_of words (find_op at))) (applied words (find_op at))
-    find_alone finds.CurrentTable known progress = (find_still finds.CurrentTable known, tt)
-    find_alone (finds.Shape table) known progress = (find_still (finds.Shape table) known, tt)
-    find_alone (finds.Seed table shape) known progress = (find_still (finds.Seed table shape) known, tt)
-    find_alone (finds.Locking table lock) known progress =
-        (find_still (finds.Locking table lock) known, lock_progress_of table (lock_after lock (old_of words (lock_plan lock))))
-    find_alone (finds.Walking table bucket walk) known progress =
-        (find_still (finds.Walking table bucket walk) known, walk_progress_of table bucket (locked_walk_after walk (old_of words (locked_walk_plan walk))))
-    find_alone (finds.Future table bucket) known progress =
-        (find_still (finds.Future table bucket) known, missing_progress bucket (slot_of (old_of words (find_op (finds.Future table bucket)))) (missed_owner known.lock.1.0.1))
-    find_alone (finds.FirstOwner bucket node) known progress = (find_still (finds.FirstOwner bucket node) known, tt)
-    find_alone (finds.ListLink bucket node owner) known progress =
-        let found = known.lock.1.0 in (
-          find_still (finds.ListLink bucket node owner) known,
-          found_out bucket owner (node_of env.geometry.nodes (old_of words (find_op (finds.ListLink bucket node owner)))) (found_owner node found.1 found.2 ∙ ap (λ o. o ∷ []) known.lock.1.1.0.2),
-        )
-    find_alone (finds.LaterOwner bucket node owner) known progress = absurd known.fits
-    find_alone (finds.Unlocking unlock (Table table)) known progress = absurd known.fits
-    find_alone (finds.Unlocking unlock (Answer reply)) known progress =
-        inl (record {
-          answer = progress.0 ∙ ap (λ r. Some (plain r)) (sym progress.1);
-          bindings = find_still (finds.Unlocking unlock (Answer reply)) known;
-        })
+    find_alone at known progress =
+        finds_alone (find_at.after_at mix env port at (old_of words (find_op at))) (applied words (find_op at)) (find_still at known)
+        (find_after-so (λ word reply. IfSome reply (IsFoundOut before kind port)) mix env port at (old_of words (find_op at)) (found_out_after at known progress))

@@ -1,6 +1,6 @@
 -- A bind stays in range whatever words it is told, and each of its operations is on one of the
 -- words, and never on that of the enrolled callers.
-use Rattle.std.proofs.Common.{◌≡◌, ℕ, ◌/◌, ◌<◌, refl, sym, subst, ◌∙◌, arith}
+use Rattle.std.proofs.Common.{◌≡◌, ℕ, ◌<◌, refl, sym, subst, ◌∙◌, arith}
 use Rattle.std.specs.Prelude.{Option, Some, None, min}
 use Rattle.std.proofs.lemmas.Bool.{cond_both}
 use Rattle.rht_words.specs.declared.env.Env.{Env}
@@ -9,36 +9,27 @@ use Rattle.rht_words.specs.declared.machine.Next.{Next}
 use Rattle.rht_words.specs.declared.machine.Next.TheVariants.{Go, Done}
 use Rattle.rht_words.specs.Links.{node_of, slot_of, head_of}
 use Rattle.rht_words.specs.Ports.{word_of}
-use Rattle.rht_words.specs.Places.{CurrentTable, PortCount, Slot, NodeMap, Node, ShapeWord, SeedWord, FutureWord, ChainLink, KeyWord, OwnerWord, ListLink}
+use Rattle.rht_words.specs.Places.{CurrentTable, PortCount, Slot, Node, ShapeWord, SeedWord, FutureWord, ChainLink, KeyWord, OwnerWord, ListLink}
+use Rattle.rht_words.proofs.LinksRead.{node_of-in, slot_of-in, IsSlotOrNone}
 use Rattle.rht_policy.specs.Mix.{bucket_of}
 use Rattle.rht_policy.specs.Thresholds.{is_above_max}
 use Rattle.rht_model.specs.declared.history.Reply.{Reply}
 use Rattle.rht_arena.specs.TakeNode.{TakeNodeModel, take_node_after, plan_at as take_plan_at, IsInRange as IsTakeInRange, IsNodeIn}
-use Rattle.rht_arena.specs.GiveNode.{GiveNodeModel, give_node_plan}
-use Rattle.rht_arena.specs.declared.take_node.TakeNodeAt.{TakeNodeAt}
-use Rattle.rht_arena.specs.declared.take_node.TakeNodeAt.TheVariants.{MapWord, Claim}
+use Rattle.rht_arena.specs.GiveNode.{give_node_plan}
 use Rattle.rht_chain.specs.Lock.{LockModel, lock_after, IsEven}
 use Rattle.rht_chain.specs.LockedWalk.{LockedWalkModel, walk_from, walk_plan_at, locked_walk_after, IsInRange as IsWalkInRange, IsNextIn, IsNodeOrNone}
 use Rattle.rht_chain.specs.declared.locked_walk.Seen.{Seen}
 use Rattle.rht_chain.specs.declared.locked.Then.{Then}
 use Rattle.rht_chain.specs.declared.locked.Then.TheVariants.{Table, Answer}
+use Rattle.rht_arena.proofs.TakingStays.{take_after-in}
+use Rattle.rht_chain.proofs.PiecesStay.{lock_after-in, walk_after-in}
+use Rattle.rht_nest.proofs.BucketsApart.{bucket_place-in}
 use Rattle.rht_bind.specs.Bind.{plan_at, after_at, node_taken, lock_taken, walk_taken, walk_or_seen, found_or_not, unlocking, future_or_count, checked_count, after_unlock, IsInRange, IsClaimedIn, IsTableOf}
 use Rattle.rht_bind.specs.declared.bind.Claimed.{Claimed}
 use Rattle.rht_bind.specs.declared.bind.BindAt.{BindAt}
 use Rattle.rht_bind.specs.declared.bind.BindAt.TheVariants as at
 use Rattle.rht_core.specs.Laws.{IsBucketPlace, IsBindPieceIn, IsPlannedIn}
-use Rattle.rht_core.proofs.PieceRanges.{node_of-in, slot_of-in, bucket_place-in, IsSlotOrNone, lock_after-in, walk_after-in, take_after-in}
-use Rattle.rht_core.proofs.FindRanges.{planned-at, planned_bucket, planned_lock, planned_walk}
-
--- what the taking of a node performs is on a word of the map of nodes, and so is the giving back
-planned_take : (g : Geometry) (state : TakeNodeAt) → IsTakeInRange g state → IsPlannedIn g (take_plan_at g state)
-planned_take g (MapWord index) range = planned-at g _ (NodeMap index) range tt refl
-planned_take g (Claim index bit) range =
-    let below = range.below in
-    planned-at g _ (NodeMap index) (omega arith) tt refl
-
-planned_give : (give : GiveNodeModel) → give.node < give.geometry.nodes → IsPlannedIn give.geometry (give_node_plan give)
-planned_give give below = planned-at give.geometry _ (NodeMap (give.node / 64)) (omega arith) tt refl
+use Rattle.rht_core.proofs.PiecesPlanned.{planned-at, planned_bucket, planned_lock, planned_walk, planned_take, planned_give}
 
 module _ (env : Env) where
   abbrev g : Geometry

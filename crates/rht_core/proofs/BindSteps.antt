@@ -1,5 +1,5 @@
 -- What a bind knows in each state, and that each of its operations leads from what it knows to what it knows next.
-use Rattle.std.proofs.Common.{◌≡◌, ◌≢◌, ℕ, ◌+◌, ◌*◌, ◌/◌, ◌%◌, ◌^◌, ◌<◌, List, [], ◌∷◌, length, min, Option, Some, None, Bool, true, false, cond, refl, sym, ◌∙◌, ap, subst, inl, inr}
+use Rattle.std.proofs.Common.{◌≡◌, ◌≢◌, ℕ, ◌+◌, ◌*◌, ◌/◌, ◌%◌, ◌^◌, ◌<◌, List, [], ◌∷◌, length, min, Option, Some, None, Bool, true, false, cond, refl, sym, ◌∙◌, ap, subst}
 use Rattle.rht_words.specs.declared.env.Env.{Env}
 use Rattle.rht_words.specs.declared.op.Op.{Op}
 use Rattle.rht_words.specs.declared.op.Op.TheVariants.{Load, Store, Add, Or}
@@ -13,10 +13,7 @@ use Rattle.rht_words.specs.Ports.{word_of, owner_of}
 use Rattle.rht_words.specs.Operations.{old_of, word_after, applied}
 use Rattle.rht_words.specs.Places.{CurrentTable, PortCount, Slot, ShapeWord, SeedWord, FutureWord, Node, NodeWord, ChainLink, KeyWord, OwnerWord, ListLink, PageWord, NodeMap, place_of, words_in}
 use Rattle.rht_words.proofs.Memory.{Memory, IsWrite, is_write}
-use Rattle.rht_words.proofs.Members.{In}
-use Rattle.rht_policy.specs.Mix.{bucket_of}
 use Rattle.rht_policy.specs.Thresholds.{is_above_max}
-use Rattle.rht_nest.specs.Place.{bucket_place}
 use Rattle.rht_arena.specs.TakeNode.{TakeNodeModel, take_node_plan, take_node_after}
 use Rattle.rht_chain.specs.Lock.{LockModel, lock_plan, lock_after, IsEven}
 use Rattle.rht_chain.specs.LockedWalk.{LockedWalkModel, locked_walk_new, locked_walk_plan, locked_walk_after}
@@ -28,13 +25,13 @@ use Rattle.rht_bind.specs.declared.bind.Claimed.{Claimed}
 use Rattle.rht_bind.specs.declared.bind.BindAt.{BindAt}
 use Rattle.rht_bind.specs.declared.bind.BindAt.TheVariants as at
 use Rattle.rht_bind.specs.Bind.{plan_at, after_at, node_taken, lock_of, lock_taken, walk_or_seen, found_or_not, walk_taken, unlocking, future_or_count, checked_count, after_unlock}
-use Rattle.rht_core.proofs.Ghosts.{put, put-same, put-all, Held, First, Ghost}
-use Rattle.rht_core.proofs.Wholes.{shape_word, home, place_at, Whole}
-use Rattle.rht_core.proofs.Knowledge.{Fact, Has, WordIs, Locks, Missed, Found, Raised, OnlyNode, OnlyLock, Means, AllMean, HasNode, NoKey}
-use Rattle.rht_core.proofs.QuietMoves.{drop_lock, count_up, with_holder, with_raised}
+use Rattle.rht_core.proofs.Ghosts.{put, put-same, put-none, Held, First, Ghost, with_raised}
+use Rattle.rht_core.proofs.Wholes.{key_of, shape_word, home, place_at, Whole}
+use Rattle.rht_core.proofs.Knowledge.{Fact, Has, WordIs, Locks, Missed, Found, Raised, OnlyNode, OnlyLock, Means, AllMean, HasNode, NoKey, NoKey-same}
+use Rattle.rht_core.proofs.QuietMoves.{count_up}
 use Rattle.rht_core.proofs.Linking.{IsReady, link_head, linked_bucket}
-use Rattle.rht_core.proofs.Steps.{DropsLock, Raises, Links, by_test, mem, Step, reads, step-map, AllOwn, own-kept, node-kept}
-use Rattle.rht_core.proofs.PieceSteps.{LockKnows, lock_step, walk_facts_at, seen_facts, WalkKnows, StartKnows, walk_start, walk_step}
+use Rattle.rht_core.proofs.Steps.{Raises, Links, by_test, mem, Step, reads, step-map, AllOwn, node-kept}
+use Rattle.rht_core.proofs.PieceSteps.{LockKnows, lock_step, unlock_step, walk_facts_at, seen_facts, WalkKnows, StartKnows, walk_start, walk_step, seed_place}
 use Rattle.rht_core.proofs.NodeSteps.{nothing_held, IsTaking, TakeKnows, take_step, give_step, fill_step}
 
 module _ (env : Env) (mix : ℕ → ℕ → ℕ → ℕ) (c : ℕ) (port owner : ℕ) where
@@ -186,29 +183,6 @@ module _ (env : Env) (mix : ℕ → ℕ → ℕ → ℕ) (c : ℕ) (port owner :
           → HasNode env mix c G n → Means env mix c M G (WordIs n u v) → Means env mix c M' G (WordIs n u v)
       kept n w u v value M' write differs has known = (has, write.others (Node n u) has.1 differs ∙ known.1)
 
-      -- the bucket's word without the lock is stored, and nothing else changes
-      unlock_step : (n word : ℕ) (reply : Reply) → AllMean env mix c M G (node_alone n) → AllMean env mix c M G (OnlyLock (Some j) ∷ Locks port word ∷ [])
-          → Step env mix c words G (Store place word) (BindKnows (at.Giving (record { geometry = env.geometry; node = n }) reply))
-      unlock_step n word reply own lock =
-          let op = Store place word in
-          let holds = lock.1.0 in
-          let write : IsWrite env.geometry M (mem env mix (applied words op)) (PageWord j) word = is_write env.geometry words (PageWord j) op all within refl in
-          record {
-            move = DropsLock j;
-            ready = tt;
-            made = drop_lock env mix c j word M (mem env mix (applied words op)) G whole within holds.0 holds.1 write;
-            knows = record {
-              own = own-kept env mix c M (mem env mix (applied words op)) G (with_holder env mix G j None) (node_alone n) (tt, (tt, (tt, tt)))
-                  (λ m w l. write.others (Node m w) l (λ e. cc)) (λ m. refl) refl own;
-              lock = (none_left, tt);
-              fits = refl;
-            };
-          }
-        where
-          none_left : (other : ℕ) → (put G.bucket j (record (G.bucket j) { holder = None }) other).holder ≡ Some c → ◌≡◌ {A = Option ℕ} None (Some other)
-          none_left other = put-all (λ i b. b.holder ≡ Some c → ◌≡◌ {A = Option ℕ} None (Some i)) G.bucket j (record (G.bucket j) { holder = None })
-              (λ h. absurd (cc)) (λ i ne h. let q = lock.0 i h in absurd (ne (cc))) other
-
       -- what it knows before it links its node
       pub publish_ready : (claimed : Claimed) (kick : Bool) → BindKnows (at.Publish claimed kick) M G → IsReady env mix c claimed.node port M G
       publish_ready claimed kick known =
@@ -241,63 +215,22 @@ module _ (env : Env) (mix : ℕ → ℕ → ℕ → ℕ) (c : ℕ) (port owner :
           }
         where
           no_node : ((other : ℕ) → G.node other ≡ Held c → Some claimed.node ≡ Some other) → (other : ℕ) → put G.node claimed.node (First j) other ≡ Held c → ◌≡◌ {A = Option ℕ} None (Some other)
-          no_node only other = put-all (λ i o. o ≡ Held c → ◌≡◌ {A = Option ℕ} None (Some i)) G.node claimed.node (First j)
-              (λ h. absurd (cc)) (λ i ne h. let q = only i h in absurd (ne (cc))) other
+          no_node = put-none G.node claimed.node (First j) (λ o. o ≡ Held c) (λ h. cc)
 
           no_lock : (other : ℕ) → (put G.bucket j (linked_bucket env mix (G.bucket j) claimed.node) other).holder ≡ Some c → ◌≡◌ {A = Option ℕ} None (Some other)
-          no_lock other = put-all (λ i b. b.holder ≡ Some c → ◌≡◌ {A = Option ℕ} None (Some i)) G.bucket j (linked_bucket env mix (G.bucket j) claimed.node)
-              (λ h. absurd (cc)) (λ i ne h. let q = known.lock.0 i h in absurd (ne (cc))) other
+          no_lock = put-none G.bucket j (linked_bucket env mix (G.bucket j) claimed.node) (λ b. b.holder ≡ Some c) (λ h. cc) known.lock.0
 
-      -- the lock, wherever its machine stands
-      locking_step : (n table shape p : ℕ) (lock_at : _) → p ≡ place → BindKnows (at.Locking n table shape (record { place = p; at = lock_at })) M G
-          → BindStep (at.Locking n table shape (record { place = p; at = lock_at }))
-      locking_step n table shape p lock_at is known =
-          subst (λ q. Step env mix c words G (lock_plan (record { place = q; at = lock_at }))
-          (BindNext (
-            lock_taken env port n table shape (lock_after (record { place = q; at = lock_at }) (old_of words (lock_plan (record { place = q; at = lock_at })))).0
-                (lock_after (record { place = q; at = lock_at }) (old_of words (lock_plan (record { place = q; at = lock_at })))).1,
-            Go,
-          )))
-          (sym is)
-          (let r = lock_after (record { place = place; at = lock_at }) (old_of words (lock_plan (record { place = place; at = lock_at }))) in
-          step-map env mix c words G (lock_plan (record { place = place; at = lock_at }))
-          (LockKnows env mix c port (filled false n) (filled_own n) within r)
-          (BindNext (lock_taken env port n table shape r.0 r.1, Go))
-          (λ M' G' w k. lock_next n table shape r M' G' w known.fits.0 known.fits.1 k)
-          (lock_step env mix c port (filled false n) (filled_own n) within words G all whole known.own lock_at known.fits.3 known.lock))
-
-      walking_step : (table : ℕ) (claimed : Claimed) (walk : LockedWalkModel) → BindKnows (at.Walking table claimed walk) M G → BindStep (at.Walking table claimed walk)
-      walking_step table claimed walk known =
-          subst (λ w. Step env mix c words G (locked_walk_plan w) (BindNext (walk_taken table claimed (locked_walk_after w (old_of words (locked_walk_plan w))).0 (locked_walk_after w (old_of words (locked_walk_plan w))).1, Go)))
-          (sym same)
-          (let r = locked_walk_after here (old_of words (locked_walk_plan here)) in
-          step-map env mix c words G (locked_walk_plan here)
-          (WalkKnows env mix c port (filled false claimed.node) (filled_own claimed.node) within claimed.bucket.word r)
-          (BindNext (walk_taken table claimed r.0 r.1, Go))
-          (λ M' G' w k. walk_next table claimed r M' G' known.fits.0 known.fits.1 known.fits.2 k)
-          (walk_step env mix c port (filled false claimed.node) (filled_own claimed.node) within words G all whole known.own claimed.bucket.word walk.before walk.length walk.at known.lock))
-        where
-          here : LockedWalkModel
-          here = record { geometry = env.geometry; key = port; before = walk.before; length = walk.length; at = walk.at }
-
-          same : walk ≡ here
-          same = rw known.fits.3 (rw known.fits.4 refl)
+      -- no node of the bucket has the port's key where only words of other kinds, or of the bind's own node, are written
+      missed_still : (M' : Memory) → ((m : ℕ) → m < env.geometry.nodes → key_of M' m ≡ key_of M m) → NoKey M port (G.bucket j).nodes → NoKey M' port (G.bucket j).nodes
+      missed_still M' same = NoKey-same M M' port (G.bucket j).nodes (λ m i. same m (whole.owned.first_at m j (whole.owned.member j m i)).among)
 
       -- each operation of a bind leads from what it knows to what it knows next
       pub bind_step : (at : BindAt) → BindKnows at M G → BindStep at
       bind_step (at.Taking take) known =
-          subst (λ t. Step env mix c words G (take_node_plan t) (BindNext (node_taken (take_node_after t (old_of words (take_node_plan t))).0 (take_node_after t (old_of words (take_node_plan t))).1)))
-          (sym same)
-          (let r = take_node_after here (old_of words (take_node_plan here)) in
-          step-map env mix c words G (take_node_plan here) (TakeKnows env mix c r) (BindNext (node_taken r.0 r.1))
+          let r = take_node_after take (old_of words (take_node_plan take)) in
+          step-map env mix c words G (take_node_plan take) (TakeKnows env mix c r) (BindNext (node_taken r.0 r.1))
           (λ M' G' w k. take_next r M' G' k)
-          (take_step env mix c words G all whole take.at known.fits.1 (known.own.0, (known.own.1.0, (known.lock.0, tt)))))
-        where
-          here : TakeNodeModel
-          here = record { geometry = env.geometry; at = take.at }
-
-          same : take ≡ here
-          same = rw known.fits.0 refl
+          (take_step env mix c words G all whole take known.fits (known.own.0, (known.own.1.0, (known.lock.0, tt))))
       bind_step (at.Key n) known =
           let has = known.own.1.1.0 in
           fill_step env mix c words G all whole n KeyWord (word_of port) (BindNext (at.Owner n, Go)) has
@@ -340,13 +273,21 @@ module _ (env : Env) (mix : ℕ → ℕ → ℕ → ℕ) (c : ℕ) (port owner :
           (record { own = known.own; lock = known.lock; fits = (known.fits, ap (λ t. M (Slot t ShapeWord)) known.fits ∙ whole.tables.shape_is) })
       bind_step (at.Seed n table shape) known =
           let op = Load (place_of env.geometry (Slot table SeedWord)) in
-          let seed : old_of words op ≡ env.config.seed = ap (λ t. M (Slot t SeedWord)) known.fits.0 ∙ whole.tables.seed_is in
-          let here : bucket_place env.geometry shape (bucket_of mix port shape (old_of words op)) ≡ place
-          = ap (λ s. bucket_place env.geometry s (bucket_of mix port s (old_of words op))) known.fits.1 ∙ ap (λ s. bucket_place env.geometry (shape_word env mix) (bucket_of mix port (shape_word env mix) s)) seed in
+          let here = seed_place env mix c port (filled false n) (filled_own n) within words G all whole known.own table shape known.fits.0 known.fits.1 in
           loads op (at.Locking n table shape (lock_of mix env port shape (old_of words op)), Go) refl
           (record { own = known.own; lock = known.lock; fits = (known.fits.0, known.fits.1, here, tt) })
-      bind_step (at.Locking n table shape lock) known = locking_step n table shape lock.place lock.at known.fits.2 known
-      bind_step (at.Walking table claimed walk) known = walking_step table claimed walk known
+      bind_step (at.Locking n table shape lock) known =
+          let r = lock_after lock (old_of words (lock_plan lock)) in
+          step-map env mix c words G (lock_plan lock) (LockKnows env mix c port (filled false n) (filled_own n) within r) (BindNext (lock_taken env port n table shape r.0 r.1, Go))
+          (λ M' G' w k. lock_next n table shape r M' G' w known.fits.0 known.fits.1 k)
+          (lock_step env mix c port (filled false n) (filled_own n) within words G all whole known.own lock known.fits.2 known.fits.3 known.lock)
+      bind_step (at.Walking table claimed walk) known =
+          let own = filled false claimed.node in
+          let r = locked_walk_after walk (old_of words (locked_walk_plan walk)) in
+          step-map env mix c words G (locked_walk_plan walk) (WalkKnows env mix c port own (filled_own claimed.node) within claimed.bucket.word r)
+          (BindNext (walk_taken table claimed r.0 r.1, Go))
+          (λ M' G' w k. walk_next table claimed r M' G' known.fits.0 known.fits.1 known.fits.2 k)
+          (walk_step env mix c port own (filled_own claimed.node) within words G all whole known.own claimed.bucket.word walk (known.fits.3, known.fits.4) known.lock)
       bind_step (at.FoundOwner claimed found) known =
           let op = Load (place_of env.geometry (Node found OwnerWord)) in
           let holds = known.lock.1.0.0 in
@@ -386,17 +327,9 @@ module _ (env : Env) (mix : ℕ → ℕ → ℕ → ℕ) (c : ℕ) (port owner :
                 ),
               ),
             );
-            lock = (known.lock.0, ((known.lock.1.0.0, missed_still M' write (G.bucket j).nodes (whole.owned.member j) known.lock.1.0.1), tt));
+            lock = (known.lock.0, ((known.lock.1.0.0, missed_still M' (λ m l. write.others (Node m KeyWord) l (λ e. cc)) known.lock.1.0.1), tt));
             fits = known.fits;
           })
-        where
-          missed_still : (M' : Memory) → IsWrite env.geometry M M' (Node claimed.node ChainLink) (first_link claimed) → (nodes : List ℕ)
-              → ((m : ℕ) → In m nodes → G.node m ≡ First j) → NoKey M port nodes → NoKey M' port nodes
-          missed_still M' write [] first none = tt
-          missed_still M' write (m ∷ nodes) first none = (
-            (λ same. none.0 (sym (write.others (Node m KeyWord) (whole.owned.first_at m j (first m (inl refl))).among (λ e. cc)) ∙ same)),
-            missed_still M' write nodes (λ k i. first k (inr i)) none.1,
-          )
       bind_step (at.Raise claimed) known =
           let op = Add (place_of env.geometry PortCount) 1 in
           let M' = mem env mix (applied words op) in
@@ -408,27 +341,22 @@ module _ (env : Env) (mix : ℕ → ℕ → ℕ → ℕ) (c : ℕ) (port owner :
             knows = record {
               own = (
                 put-same G.raised c true,
-                node-kept env mix c M M' G (with_raised env mix G c true)
+                node-kept env mix c M M' G (with_raised G c true)
                     (OnlyNode (Some claimed.node) ∷ Has claimed.node ∷ WordIs claimed.node KeyWord (word_of port) ∷ WordIs claimed.node OwnerWord owner ∷ WordIs claimed.node ListLink 0 ∷ WordIs claimed.node ChainLink (first_link claimed) ∷ [])
                     (tt, (tt, (tt, (tt, (tt, (tt, tt)))))) (λ n w l. write.others (Node n w) l (λ e. cc)) (λ n. refl) known.own.1,
               );
-              lock = (known.lock.0, ((known.lock.1.0.0, still_missed M' write (G.bucket j).nodes (whole.owned.member j) known.lock.1.0.1), tt));
+              lock = (known.lock.0, ((known.lock.1.0.0, missed_still M' (λ m l. write.others (Node m KeyWord) l (λ e. cc)) known.lock.1.0.1), tt));
               fits = known.fits;
             };
           }
-        where
-          still_missed : (M' : Memory) → IsWrite env.geometry M M' PortCount ((M PortCount + 1) % 2 ^ 64) → (nodes : List ℕ)
-              → ((m : ℕ) → In m nodes → G.node m ≡ First j) → NoKey M port nodes → NoKey M' port nodes
-          still_missed M' write [] first none = tt
-          still_missed M' write (m ∷ nodes) first none = (
-            (λ same. none.0 (sym (write.others (Node m KeyWord) (whole.owned.first_at m j (first m (inl refl))).among (λ e. cc)) ∙ same)),
-            still_missed M' write nodes (λ k i. first k (inr i)) none.1,
-          )
       bind_step (at.Publish claimed kick) known = publish_step claimed kick known
       bind_step (at.Unlocking n unlock (Table table)) known = absurd known.fits
       bind_step (at.Unlocking n unlock (Answer reply)) known =
           subst (λ p. Step env mix c words G (Store p unlock.word) (BindNext (after_unlock env n (Answer reply), Go)))
-          (sym known.fits) (unlock_step n unlock.word reply known.own known.lock)
+          (sym known.fits)
+          (step-map env mix c words G (Store place unlock.word) (λ M' G'. AllMean env mix c M' G' (node_alone n) × AllMean env mix c M' G' (OnlyLock None ∷ []))
+          (BindNext (after_unlock env n (Answer reply), Go)) (λ M' G' w k. record { own = k.0; lock = k.1; fits = refl })
+          (unlock_step env mix c port (node_alone n) (tt, (tt, (tt, tt))) within words G all whole known.own unlock.word known.lock))
       bind_step (at.Giving give reply) known =
           subst (λ g. Step env mix c words G (Or (place_of g (NodeMap (give.node / 64))) (bit_of (give.node % 64))) (λ M' G'. AllMean env mix c M' G' nothing_held))
           (sym known.fits) (give_step env mix c words G all whole give.node (known.own.0, (known.own.1.0, (known.lock.0, (known.own.1.1.0, tt)))))

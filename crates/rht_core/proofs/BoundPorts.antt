@@ -1,8 +1,8 @@
 -- What the words stand for is what the ghost says: the owner of the node to which each port is bound.
 -- The table in force is the one table; the nodes met in each bucket are the bucket's nodes; and of all these at most one has
 -- the port's key, the one to which the port is bound.
-use Rattle.std.proofs.Common.{◌≡◌, ℕ, zero, suc, ◌+◌, ◌-◌, ◌*◌, ◌%◌, ◌^◌, ◌<◌, ◌≤◌, List, [], ◌∷◌, ◌++◌, length, map, Option, Some, None, Bool, true, false, cond, refl, sym, ◌∙◌, ap, subst, inl, inr, ◌⊎◌, slice_index, arith}
-use Rattle.std.proofs.lemmas.Bool.{cases_eq, eqb-true, eq-eqb}
+use Rattle.std.proofs.Common.{◌≡◌, ℕ, zero, suc, ◌+◌, ◌-◌, ◌*◌, ◌%◌, ◌^◌, ◌<◌, ◌≤◌, List, [], ◌∷◌, length, map, Option, Some, None, true, refl, sym, ◌∙◌, ap, subst, inl, inr, slice_index, arith}
+use Rattle.std.proofs.lemmas.Bool.{eqb-true, eq-eqb}
 use Rattle.std.proofs.lemmas.Bool.Decides.{nat_tests}
 use Rattle.std.proofs.lemmas.List.{append-nil}
 use Rattle.std.proofs.Math.Nat.{mod-lt}
@@ -17,7 +17,8 @@ use Rattle.rht_words.specs.Shapes.{size_of, unpacked}
 use Rattle.rht_words.specs.Chains.{IsSegment}
 use Rattle.rht_words.specs.Places.{Node, OwnerWord, ListLink}
 use Rattle.rht_words.proofs.LinksRead.{links_tell_apart}
-use Rattle.rht_words.proofs.Members.{In, AllBelow, count_below-most, length-count_below}
+use Rattle.rht_words.specs.Members.{In}
+use Rattle.rht_words.proofs.Members.{In-flat_map, flat_map-In, In-range_with_len, flat_map-same, find-Some, find-None, In-AllByRecursion, count_below-most, length-count_below}
 use Rattle.rht_policy.specs.Mix.{bucket_of}
 use Rattle.rht_nest.specs.Place.{bucket_place, bucket_index}
 use Rattle.rht_core.specs.StandsFor.{in_force, chain_from, bucket_nodes, table_nodes, has_key, first_node, owners_from, stands_for}
@@ -25,78 +26,12 @@ use Rattle.rht_core.proofs.Ghosts.{Ghost, lock_bit}
 use Rattle.rht_core.proofs.Wholes.{chain_of, key_of, shape_word, place_at, Whole}
 use Rattle.rht_core.proofs.Steps.{mem}
 
--- ---- lists
-
-in-append_left : (x : ℕ) (xs ys : List ℕ) → In x xs → In x (xs ++ ys)
-in-append_left x [] ys i = absurd i
-in-append_left x (y ∷ xs) ys (inl e) = inl e
-in-append_left x (y ∷ xs) ys (inr i) = inr (in-append_left x xs ys i)
-
-in-append_right : (x : ℕ) (xs ys : List ℕ) → In x ys → In x (xs ++ ys)
-in-append_right x [] ys i = i
-in-append_right x (y ∷ xs) ys i = inr (in-append_right x xs ys i)
-
-in-append_parts : (x : ℕ) (xs ys : List ℕ) → In x (xs ++ ys) → In x xs ⊎ In x ys
-in-append_parts x [] ys i = inr i
-in-append_parts x (y ∷ xs) ys (inl e) = inl (inl e)
-in-append_parts x (y ∷ xs) ys (inr i) = elim (in-append_parts x xs ys i) [ inl l ↦ inl (inr l) | inr r ↦ inr r ]
-
-in-flat_map : (f : ℕ → List ℕ) (x y : ℕ) (ys : List ℕ) → In y ys → In x (f y) → In x (flat_map f ys)
-in-flat_map f x y [] i j = absurd i
-in-flat_map f x y (z ∷ ys) (inl e) j = in-append_left x (f z) (flat_map f ys) (rw (sym e) j)
-in-flat_map f x y (z ∷ ys) (inr i) j = in-append_right x (f z) (flat_map f ys) (in-flat_map f x y ys i j)
-
-from-flat_map : (f : ℕ → List ℕ) (x : ℕ) (ys : List ℕ) → In x (flat_map f ys) → (y : ℕ) × In y ys × In x (f y)
-from-flat_map f x [] i = absurd i
-from-flat_map f x (z ∷ ys) i = elim (in-append_parts x (f z) (flat_map f ys) i) [
-  | inl l ↦ (z, inl refl, l)
-  | inr r ↦ let rest = from-flat_map f x ys r in (rest.0, inr rest.1, rest.2)
-]
-
-in-range : (a n x : ℕ) → a ≤ x → x < a + n → In x (range_with_len a n)
-in-range a zero x low high = absurd (omega arith)
-in-range a (suc n) x low high = elim (cases_eq x a) [
-  | inl e ↦ inl e
-  | inr ne ↦ inr (in-range (a + 1) n x (omega arith) (omega arith))
-]
-
-from-range : (a n x : ℕ) → In x (range_with_len a n) → (a ≤ x) × (x < a + n)
-from-range a zero x i = absurd i
-from-range a (suc n) x (inl e) = (omega arith, omega arith)
-from-range a (suc n) x (inr i) = let rest = from-range (a + 1) n x i in (omega arith, omega arith)
-
-flat_map-same : (f h : ℕ → List ℕ) (xs : List ℕ) → ((x : ℕ) → In x xs → f x ≡ h x) → flat_map f xs ≡ flat_map h xs
-flat_map-same f h [] same = refl
-flat_map-same f h (x ∷ xs) same = rw (same x (inl refl)) (rw (flat_map-same f h xs (λ y i. same y (inr i))) refl)
-
--- what is found is a member that passes, and where a member passes something is found
-find-member : (p : ℕ → Bool) (xs : List ℕ) (x : ℕ) → find p xs ≡ Some x → In x xs × (p x ≡ true)
-find-member p [] x e = absurd (cc)
-find-member p (y ∷ xs) x e = go (p y) refl e (λ f. find-member p xs x f)
-  where
-    go : (b : Bool) → p y ≡ b → cond b (Some y) (find p xs) ≡ Some x → (find p xs ≡ Some x → In x xs × (p x ≡ true)) → In x (y ∷ xs) × (p x ≡ true)
-    go true q f rest = let same : y ≡ x = (cc) in (inl (sym same), ap p (sym same) ∙ q)
-    go false q f rest = let r = rest f in (inr r.0, r.1)
-
-find-none : (p : ℕ → Bool) (xs : List ℕ) (x : ℕ) → find p xs ≡ None → In x xs → p x ≡ false
-find-none p [] x e i = absurd i
-find-none p (y ∷ xs) x e i = go (p y) refl e i (λ f k. find-none p xs x f k)
-  where
-    go : (b : Bool) → p y ≡ b → cond b (Some y) (find p xs) ≡ None → In x (y ∷ xs) → (find p xs ≡ None → In x xs → p x ≡ false) → p x ≡ false
-    go true q f i rest = absurd (cc)
-    go false q f (inl s) rest = ap p s ∙ q
-    go false q f (inr i) rest = rest f i
-
 -- the first of a list
 abbrev pub head_or_none : List ℕ → Option ℕ
 head_or_none [] = None
 head_or_none (x ∷ xs) = Some x
 
 -- ---- one chain
-
-all_below_from : (bound : ℕ) (xs : List ℕ) → ((x : ℕ) → In x xs → x < bound) → AllBelow bound xs
-all_below_from bound [] all = tt
-all_below_from bound (x ∷ xs) all = (all x (inl refl), all_below_from bound xs (λ y i. all y (inr i)))
 
 module _ (env : Env) (mix : ℕ → ℕ → ℕ → ℕ) (words : List ℕ) (G : Ghost) (whole : Whole env mix (mem env mix words) G) where
   abbrev g : Geometry
@@ -125,7 +60,7 @@ module _ (env : Env) (mix : ℕ → ℕ → ℕ → ℕ) (words : List ℕ) (G :
       let right = whole.buckets j l in
       let b = G.bucket j in
       let among : (n : ℕ) → In n b.nodes → n < g.nodes = λ n i. (whole.owned.first_at n j (whole.owned.member j n i)).among in
-      let few = length-count_below (λ n. true) g.nodes b.nodes right.chained.distinct (all_below_from g.nodes b.nodes among) (λ n i. refl) in
+      let few = length-count_below (λ n. true) g.nodes b.nodes right.chained.distinct (In-AllByRecursion (λ n. n < g.nodes) b.nodes among) (λ n i. refl) in
       let most = count_below-most (λ n. true) g.nodes in
       let first : head_of (place_at env mix j) (slice_index words (place_at env mix j)) ≡ head_of (place_at env mix j) b.plain
       = ap (head_of (place_at env mix j)) right.locked.word_is ∙ head_of-locked (place_at env mix j) b.plain b.holder right.locked.even in
@@ -161,7 +96,7 @@ module _ (env : Env) (mix : ℕ → ℕ → ℕ → ℕ) (words : List ℕ) (G :
   -- a node that is met is the one to which its port is bound
   met_bound : (n : ℕ) → In n all_nodes → G.bound (key_of M n) ≡ n ∷ []
   met_bound n i =
-      let from = from-flat_map (λ bucket. (G.bucket (index bucket)).nodes) n (range_with_len 0 size) i in
+      let from = flat_map-In (λ bucket. (G.bucket (index bucket)).nodes) n (range_with_len 0 size) i in
       (whole.owned.first_at n (index from.0) (whole.owned.member (index from.0) n from.2)).bound_to
 
   -- a node to which a port is bound is met
@@ -170,8 +105,8 @@ module _ (env : Env) (mix : ℕ → ℕ → ℕ → ℕ) (words : List ℕ) (G :
       let to = whole.owned.bound_to port n behind b in
       let at = whole.owned.first_at n to.bucket to.first in
       let bucket = bucket_of mix (key_of M n) (shape_word env mix) env.config.seed in (
-        in-flat_map (λ x. (G.bucket (index x)).nodes) n bucket (range_with_len 0 size)
-            (in-range 0 size bucket (omega arith) (let low = bucket_below (key_of M n) in omega (arith, low)))
+        In-flat_map (λ x. (G.bucket (index x)).nodes) n bucket (range_with_len 0 size)
+            (In-range_with_len 0 size bucket (omega arith) (let low = bucket_below (key_of M n) in omega (arith, low)))
             (subst (λ j. In n (G.bucket j).nodes) at.at_home at.there),
         to.key_is,
       )
@@ -188,16 +123,16 @@ module _ (env : Env) (mix : ℕ → ℕ → ℕ → ℕ) (words : List ℕ) (G :
       go : (found : Option ℕ) (nodes : List ℕ) → find (has_key g words port) all_nodes ≡ found → G.bound port ≡ nodes → found ≡ head_or_none nodes
       go None [] f b = refl
       go (Some m) [] f b =
-          let member = find-member (has_key g words port) all_nodes m f in
+          let member = find-Some (has_key g words port) all_nodes m f in
           let key = eqb-true (key_of M m) port member.1 in
           let bound_m = met_bound m member.0 in
           let q : ◌≡◌ {A = List ℕ} [] (m ∷ []) = sym b ∙ ap G.bound (sym key) ∙ bound_m in absurd (cc)
       go None (n ∷ behind) f b =
           let met = bound_met port n behind b in
-          let never = find-none (has_key g words port) all_nodes n f met.0 in
+          let never = find-None (has_key g words port) all_nodes n f met.0 in
           let yes_ = eq-eqb (key_of M n) port met.1 in absurd (cc)
       go (Some m) (n ∷ behind) f b =
-          let member = find-member (has_key g words port) all_nodes m f in
+          let member = find-Some (has_key g words port) all_nodes m f in
           let key = eqb-true (key_of M m) port member.1 in
           let q : ◌≡◌ {A = List ℕ} (n ∷ behind) (m ∷ []) = sym b ∙ ap G.bound (sym key) ∙ met_bound m member.0 in
           let same : n ≡ m = (cc) in ap Some (sym same)

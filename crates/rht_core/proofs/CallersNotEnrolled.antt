@@ -6,6 +6,7 @@ use Rattle.std.proofs.lemmas.Bool.{cond_both}
 use Rattle.rht_words.specs.declared.op.Op.{Op}
 use Rattle.rht_words.specs.declared.env.Env.{Env}
 use Rattle.rht_words.specs.Operations.{old_of}
+use Rattle.rht_words.proofs.EachElement.{each_replicate}
 use Rattle.rht_model.specs.declared.history.Call.{Call}
 use Rattle.rht_core.specs.declared.event.Event.{Event}
 use Rattle.rht_core.specs.declared.event.Event.TheVariants.{Enroll, Begin, Step}
@@ -14,7 +15,7 @@ use Rattle.rht_core.specs.declared.local.Local.TheVariants.{Idle}
 use Rattle.rht_core.specs.Runs.{World, Seen, seen, new_book, beginning, planned, enrolling, enrolled_after, world_step, opening}
 use Rattle.rht_core.specs.Laws.{NotEnrolled}
 use Rattle.rht_core.proofs.Worlds.{beginning-some, planned-some, begin_none, begin_other, step_none, step_other, run_keeps}
-use Rattle.rht_core.proofs.RangesInRuns.{each_replicate, step-count}
+use Rattle.rht_core.proofs.RangesInRuns.{step-count}
 
 -- an enrolling takes no caller away
 enrolled_after-rises : (env : Env) (enrolled old : ℕ) → enrolled ≤ enrolled_after env enrolled old

@@ -11,8 +11,8 @@ use Rattle.rht_words.specs.declared.machine.Next.TheVariants.{Go, Done}
 use Rattle.rht_model.specs.declared.history.Call.{Call}
 use Rattle.rht_model.specs.declared.history.Call.TheVariants.{Bind, Find}
 use Rattle.rht_model.specs.declared.history.Reply.{Reply}
-use Rattle.rht_find.specs.Find.{FindModel, find_plan, find_after}
-use Rattle.rht_bind.specs.Bind.{BindModel, bind_plan, bind_after}
+use Rattle.rht_find.specs.Find.{FindModel, find_new, find_plan, find_after}
+use Rattle.rht_bind.specs.Bind.{BindModel, bind_new, bind_plan, bind_after}
 use Rattle.rht_core.specs.declared.local.Local.{Local}
 use Rattle.rht_core.specs.declared.local.Local.TheVariants.{Idle, Finding, Binding}
 use Rattle.rht_core.specs.Locals.{is_idle, machine_of, binding_of, plan_of, local_after, found_next, bound_next}
@@ -20,24 +20,33 @@ use Rattle.rht_core.specs.Locals.{is_idle, machine_of, binding_of, plan_of, loca
 module _ (M : Type 0) where
   -- ---- the beginning
 
-  abbrev IsBusy : Option (Local M) → Type 0
-  IsBusy None = Unit {0}
-  IsBusy (Some machine) = is_idle machine ≡ false
+  -- A call begins as a look-up or as a bind. What is so of these two is so of whatever begins.
+  module _ (env : Env) (c : ℕ) (So : Call → Local M → Type 0)
+      (find : (port : ℕ) → So (Find port) (Finding (find_new env c port)))
+      (bind : (port owner : ℕ) (once : Bool) → env.config.kind ≡ Single → So (Bind port owner once) (Binding (bind_new env c port owner once)))
+    where
+      abbrev BeginsSo : Call → Option (Local M) → Type 0
+      BeginsSo call None = Unit {0}
+      BeginsSo call (Some machine) = So call machine
 
-  binding-busy : (env : Env) (c port owner : ℕ) (once : Bool) (kind : Kind)
-      → IsBusy (binding_of env c port owner once kind)
-  binding-busy env c port owner once Single = refl
-  binding-busy env c port owner once Listed = tt
+      binding-so : (port owner : ℕ) (once : Bool) (kind : Kind) → env.config.kind ≡ kind
+          → BeginsSo (Bind port owner once) (binding_of env c port owner once kind)
+      binding-so port owner once Single is = bind port owner once is
+      binding-so port owner once Listed is = tt
 
-  machine-busy : (env : Env) (c : ℕ) (call : Call) → IsBusy (machine_of env c call)
-  machine-busy env c (Find port) = refl
-  machine-busy env c (Bind port owner once) = binding-busy env c port owner once env.config.kind
-  machine-busy env c _ = tt
+      machine-so : (call : Call) → BeginsSo call (machine_of env c call)
+      machine-so (Find port) = find port
+      machine-so (Bind port owner once) = binding-so port owner once env.config.kind refl
+      machine-so _ = tt
+
+      pub begins_so : (call : Call) (machine : Local M) → machine_of env c call ≡ Some machine → So call machine
+      begins_so call machine is = subst (BeginsSo call) is (machine-so call)
 
   -- who has begun a call is in it
   pub begins_busy : (env : Env) (c : ℕ) (call : Call) (machine : Local M) → machine_of env c call ≡ Some machine
       → is_idle machine ≡ false
-  begins_busy env c call machine is = subst IsBusy is (machine-busy env c call)
+  begins_busy env c =
+      begins_so env c (λ call machine. is_idle machine ≡ false) (λ port. refl) (λ port owner once single. refl)
 
   -- ---- the next operation
 

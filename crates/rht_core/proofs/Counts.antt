@@ -7,26 +7,20 @@ use Rattle.std.specs.List.{AllByRecursion, range_with_len}
 use Rattle.rht_words.specs.declared.env.Env.{Env}
 use Rattle.rht_words.specs.Ports.{owner_of}
 use Rattle.rht_words.specs.Places.{PortCount, Node, OwnerWord, PageWord, word_at}
-use Rattle.rht_words.proofs.Members.{In, NotIn, Distinct, AllBelow, count_below-same, count_below-none, length-count_below}
-use Rattle.rht_bind.specs.declared.bind.BindAt.{BindAt}
-use Rattle.rht_bind.specs.declared.bind.BindAt.TheVariants as at
-use Rattle.rht_core.specs.declared.local.Local.{Local}
-use Rattle.rht_core.specs.declared.local.Local.TheVariants.{Idle, Finding, Binding}
-use Rattle.rht_core.specs.Locals.{is_idle}
+use Rattle.rht_words.specs.Members.{In, NotIn, IsDistinct}
+use Rattle.rht_words.proofs.Members.{count_below-same, count_below-none, length-count_below}
 use Rattle.rht_core.specs.Runs.{Core, local_of, run_of}
 use Rattle.rht_core.specs.StandsFor.{stands_for}
-use Rattle.rht_core.specs.Causes.{IsNoneOf, AreDistinct}
-use Rattle.rht_core.specs.Counts.{AreAllBound, is_linking, is_raising, raising, IsFreeOrBound, Counted, AtRest}
+use Rattle.rht_core.specs.Counts.{AreAllBound, is_raising, raising, IsFreeOrBound, Counted, AtRest}
 use Rattle.rht_core.proofs.Ghosts.{Owner, Free, Held, First, Leaving, Behind, Taken, Gone, Ghost, lock_bit, is_first}
 use Rattle.rht_core.proofs.Wholes.{key_of, firsts, raisers, IsBuilt, Whole}
 use Rattle.rht_core.proofs.Knowledge.{AllMean}
 use Rattle.rht_core.proofs.Steps.{mem}
 use Rattle.rht_core.proofs.NodeSteps.{nothing_held}
-use Rattle.rht_core.proofs.BindSteps.{BindKnows}
-use Rattle.rht_core.proofs.Invariants.{Inv, CallerKnows}
+use Rattle.rht_core.proofs.Invariants.{Inv, idle_knows}
 use Rattle.rht_core.proofs.InvariantRuns.{has_inv}
 use Rattle.rht_core.proofs.BoundPorts.{stands_for_bound, first_bound}
-use Rattle.rht_core.proofs.FullTables.{count_by-range, firsts-AreBound}
+use Rattle.rht_core.proofs.FullTables.{count_by-range, firsts-AreBound, raises}
 
 module _ (env : Env) (mix : ℕ → ℕ → ℕ → ℕ) (words : List ℕ) (G : Ghost) (whole : Whole env mix (mem env mix words) G) where
   -- the node to which a port is bound; some node where it is bound to none
@@ -58,16 +52,16 @@ module _ (env : Env) (mix : ℕ → ℕ → ℕ → ℕ) (words : List ℕ) (G :
           }
 
   -- different bound ports have different nodes
-  other_nodes : (port : ℕ) (ports : List ℕ) → IsNoneOf ports port → HasFirst port → AllByRecursion HasFirst ports → NotIn (node_of_port port) (map node_of_port ports)
+  other_nodes : (port : ℕ) (ports : List ℕ) → NotIn port ports → HasFirst port → AllByRecursion HasFirst ports → NotIn (node_of_port port) (map node_of_port ports)
   other_nodes port [] none here all = tt
   other_nodes port (q ∷ ports) none here all =
       ((λ same. none.0 (sym here.key ∙ ap (key_of (mem env mix words)) same ∙ all.0.key)), other_nodes port ports none.1 here all.1)
 
-  nodes_distinct : (ports : List ℕ) → AreDistinct ports → AllByRecursion HasFirst ports → Distinct (map node_of_port ports)
+  nodes_distinct : (ports : List ℕ) → IsDistinct ports → AllByRecursion HasFirst ports → IsDistinct (map node_of_port ports)
   nodes_distinct [] distinct all = tt
   nodes_distinct (port ∷ ports) distinct all = (other_nodes port ports distinct.0 all.0 all.1, nodes_distinct ports distinct.1 all.1)
 
-  nodes_below : (ports : List ℕ) → AllByRecursion HasFirst ports → AllBelow env.geometry.nodes (map node_of_port ports)
+  nodes_below : (ports : List ℕ) → AllByRecursion HasFirst ports → AllByRecursion (λ n. n < env.geometry.nodes) (map node_of_port ports)
   nodes_below [] all = tt
   nodes_below (port ∷ ports) all = (all.0.among, nodes_below ports all.1)
 
@@ -112,35 +106,10 @@ module _ (env : Env) (mix : ℕ → ℕ → ℕ → ℕ) (words : List ℕ) (G :
       go Gone e b = absurd b
 
 module _ (M : Type 0) (mix : ℕ → ℕ → ℕ → ℕ) where
-  bind_raises : (env : Env) (c port owner : ℕ) (state : BindAt) (words : List ℕ) (G : Ghost) → BindKnows env mix c port owner state (mem env mix words) G → G.raised c ≡ is_linking state
-  bind_raises env c port owner (at.Taking take) words G known = known.own.0
-  bind_raises env c port owner (at.Key n) words G known = known.own.0
-  bind_raises env c port owner (at.Owner n) words G known = known.own.0
-  bind_raises env c port owner (at.ListLink n) words G known = known.own.0
-  bind_raises env c port owner (at.CurrentTable n) words G known = known.own.0
-  bind_raises env c port owner (at.Shape n table) words G known = known.own.0
-  bind_raises env c port owner (at.Seed n table shape) words G known = known.own.0
-  bind_raises env c port owner (at.Locking n table shape lock) words G known = known.own.0
-  bind_raises env c port owner (at.Walking table claimed walk) words G known = known.own.0
-  bind_raises env c port owner (at.FoundOwner claimed found) words G known = known.own.0
-  bind_raises env c port owner (at.Future table claimed) words G known = known.own.0
-  bind_raises env c port owner (at.Count claimed) words G known = known.own.0
-  bind_raises env c port owner (at.Link claimed) words G known = known.own.0
-  bind_raises env c port owner (at.Raise claimed) words G known = known.own.0
-  bind_raises env c port owner (at.Publish claimed kick) words G known = known.own.0
-  bind_raises env c port owner (at.Unlocking n unlock next) words G known = known.own.0
-  bind_raises env c port owner (at.Giving give reply) words G known = known.own.0
-
-  -- a caller has raised the count exactly where it links its node next
-  raises : (env : Env) (c : ℕ) (local : Local M) (words : List ℕ) (G : Ghost) → CallerKnows env mix M c local (mem env mix words) G → G.raised c ≡ is_raising local
-  raises env c Idle words G known = known.0
-  raises env c (Finding m) words G known = known.1.own.0
-  raises env c (Binding m) words G known = bind_raises env c m.port m.owner m.at words G known.1
-
   raising-raisers : (env : Env) (core : Core M) (G : Ghost) → Inv env mix M core G → raising core ≡ raisers env mix G
   raising-raisers env core G inv =
       ap (λ (e : Env). count_by_raising e) inv.same_env ∙ count_by-range (λ c. is_raising (local_of core c)) env.geometry.callers
-      ∙ count_below-same G.raised (λ c. is_raising (local_of core c)) env.geometry.callers (λ c l. sym (raises env c (local_of core c) core.words G (inv.each c)))
+      ∙ count_below-same G.raised (λ c. is_raising (local_of core c)) env.geometry.callers (λ c l. sym (raises M mix env c (local_of core c) core.words G (inv.each c)))
     where
       count_by_raising : Env → ℕ
       count_by_raising e = count_by (λ c. is_raising (local_of core c)) (range_with_len 0 e.geometry.callers)
@@ -155,17 +124,12 @@ module _ (M : Type 0) (mix : ℕ → ℕ → ℕ → ℕ) where
         counted = has.inv.whole.counted ∙ ap (λ r. firsts env mix has.ghost + r) (sym (raising-raisers env core has.ghost has.inv));
       }
 
-  idle_knows : (env : Env) (c : ℕ) (local : Local M) (words : List ℕ) (G : Ghost) → is_idle local ≡ true → CallerKnows env mix M c local (mem env mix words) G → AllMean env mix c (mem env mix words) G nothing_held
-  idle_knows env c Idle words G idle known = known
-  idle_knows env c (Finding m) words G idle known = absurd (cc)
-  idle_knows env c (Binding m) words G idle known = absurd (cc)
-
   pub at_rest : AtRest M mix
   at_rest env events admitted quiet =
       let core : Core M = (run_of mix env events).core in
       let has = has_inv env mix M events in
       let G = has.ghost in
-      let knows : (c : ℕ) → AllMean env mix c (mem env mix core.words) G nothing_held = λ c. idle_knows env c (local_of core c) core.words G (quiet c) (has.inv.each c) in
+      let knows : (c : ℕ) → AllMean env mix c (mem env mix core.words) G nothing_held = λ c. idle_knows env mix M c (local_of core c) (mem env mix core.words) G (quiet c) (has.inv.each c) in
       let none_raised = count_below-none G.raised env.geometry.callers (λ c l. (knows c).0) in
       let all : word_at env.geometry core.words PortCount ≡ firsts env mix G = (let is = has.inv.whole.counted in omega (arith, is, none_raised)) in
       record {

@@ -8,54 +8,21 @@ use Rattle.rht_words.specs.declared.machine.Next.{Next}
 use Rattle.rht_words.specs.declared.machine.Next.TheVariants.{Go, Done}
 use Rattle.rht_words.specs.Links.{node_of, slot_of, head_of}
 use Rattle.rht_words.specs.Ports.{word_of}
-use Rattle.rht_words.specs.declared.op.Op.{Op}
-use Rattle.rht_words.specs.Operations.{op_place}
-use Rattle.rht_words.specs.Places.{Address, CurrentTable, EnrolledCallers, Slot, Node, ShapeWord, SeedWord, FutureWord, ChainLink, KeyWord, OwnerWord, ListLink, IsAddress, place_of, words_in}
-use Rattle.rht_words.proofs.PlacesApart.{parts_in_order, place_of-apart, place_of-below}
+use Rattle.rht_words.specs.Places.{CurrentTable, Slot, Node, ShapeWord, SeedWord, FutureWord, OwnerWord, ListLink}
+use Rattle.rht_words.proofs.LinksRead.{node_of-in, slot_of-in, IsSlotOrNone}
 use Rattle.rht_policy.specs.Mix.{bucket_of}
-use Rattle.rht_chain.specs.Lock.{LockModel, lock_plan_at, lock_after, IsEven}
-use Rattle.rht_chain.specs.declared.lock.LockAt.{LockAt}
-use Rattle.rht_chain.specs.declared.lock.LockAt.TheVariants as lock_at
+use Rattle.rht_chain.specs.Lock.{LockModel, lock_after, IsEven}
 use Rattle.rht_chain.specs.LockedWalk.{LockedWalkModel, walk_from, walk_plan_at, locked_walk_after, IsInRange as IsWalkInRange, IsNextIn, IsNodeOrNone}
-use Rattle.rht_chain.specs.declared.locked_walk.LockedWalkAt.{LockedWalkAt}
-use Rattle.rht_chain.specs.declared.locked_walk.LockedWalkAt.TheVariants as walk_at
 use Rattle.rht_chain.specs.declared.locked_walk.Seen.{Seen}
 use Rattle.rht_chain.specs.declared.locked.Locked.{Locked}
 use Rattle.rht_chain.specs.declared.locked.Then.TheVariants.{Table, Answer}
+use Rattle.rht_chain.proofs.PiecesStay.{lock_after-in, walk_after-in}
+use Rattle.rht_nest.proofs.BucketsApart.{bucket_place-in}
 use Rattle.rht_find.specs.Find.{plan_at, after_at, lock_taken, walk_taken, walk_or_seen, found_or_not, unlocking, next_table, list_followed, IsInRange}
 use Rattle.rht_find.specs.declared.find.FindAt.{FindAt}
 use Rattle.rht_find.specs.declared.find.FindAt.TheVariants as at
 use Rattle.rht_core.specs.Laws.{IsBucketPlace, IsFindPieceIn, IsPlannedIn}
-use Rattle.rht_core.proofs.PieceRanges.{node_of-in, slot_of-in, bucket_place-in, IsSlotOrNone, lock_after-in, walk_after-in}
-
--- the word isn't that of the enrolled callers
-abbrev pub IsOtherWord : Address → Type 0
-IsOtherWord EnrolledCallers = ⊥
-IsOtherWord _ = Unit {0}
-
--- an operation on another word than that of the enrolled callers
-pub planned-at : (g : Geometry) (op : Op) (address : Address) → IsAddress g address → IsOtherWord address
-    → op_place op ≡ place_of g address → IsPlannedIn g op
-planned-at g op address there other is = record {
-  within = subst (λ place. place < words_in g) (sym is) (place_of-below g address there);
-  apart = λ same. subst IsOtherWord (place_of-apart g address EnrolledCallers there tt (sym is ∙ same)) other;
-}
-
--- an operation on the word of a bucket
-pub planned_bucket : (g : Geometry) (op : Op) → IsBucketPlace g (op_place op) → IsPlannedIn g op
-planned_bucket g op there =
-    let parts = parts_in_order g in record { within = there.1; apart = λ e. omega (arith, there.0) }
-
--- what a lock performs is on its bucket's word
-pub planned_lock : (g : Geometry) (place : ℕ) (at : LockAt) → IsBucketPlace g place → IsPlannedIn g (lock_plan_at place at)
-planned_lock g place lock_at.Word there = planned_bucket g _ there
-planned_lock g place (lock_at.Exchange word) there = planned_bucket g _ there
-
--- what a walk performs is on a word of a node
-pub planned_walk : (g : Geometry) (before : Option ℕ) (at : LockedWalkAt) → IsWalkInRange g before at
-    → IsPlannedIn g (walk_plan_at g at)
-planned_walk g before (walk_at.Key node) range = planned-at g _ (Node node KeyWord) range.0 tt refl
-planned_walk g before (walk_at.ChainLink node) range = planned-at g _ (Node node ChainLink) range.0 tt refl
+use Rattle.rht_core.proofs.PiecesPlanned.{planned-at, planned_bucket, planned_lock, planned_walk}
 
 module _ (env : Env) where
   abbrev g : Geometry

@@ -9,13 +9,10 @@ use Rattle.rht_words.specs.declared.machine.Start.{Start}
 use Rattle.rht_words.specs.declared.machine.Start.TheVariants as starts
 use Rattle.rht_words.specs.Links.{table_of, slot_of, node_of}
 use Rattle.rht_words.specs.Ports.{word_of, owner_of}
-use Rattle.rht_words.specs.Operations.{old_of, word_after, applied}
-use Rattle.rht_words.specs.Places.{CurrentTable, Slot, ShapeWord, SeedWord, FutureWord, Node, OwnerWord, ListLink, PageWord, place_of, words_in}
-use Rattle.rht_words.proofs.Memory.{Memory, IsWrite, is_write}
-use Rattle.rht_policy.specs.Mix.{bucket_of}
-use Rattle.rht_nest.specs.Place.{bucket_place}
+use Rattle.rht_words.specs.Operations.{old_of, word_after}
+use Rattle.rht_words.specs.Places.{CurrentTable, Slot, ShapeWord, SeedWord, FutureWord, Node, OwnerWord, ListLink, place_of, words_in}
+use Rattle.rht_words.proofs.Memory.{Memory}
 use Rattle.rht_chain.specs.Lock.{LockModel, lock_plan, lock_after, IsEven}
-use Rattle.rht_chain.specs.declared.lock.LockAt.{LockAt}
 use Rattle.rht_chain.specs.LockedWalk.{LockedWalkModel, locked_walk_new, locked_walk_plan, locked_walk_after}
 use Rattle.rht_chain.specs.declared.locked.Locked.{Locked}
 use Rattle.rht_chain.specs.declared.locked.Then.TheVariants.{Table, Answer}
@@ -25,12 +22,11 @@ use Rattle.rht_model.specs.declared.history.Reply.TheVariants.{Found as FoundRep
 use Rattle.rht_find.specs.declared.find.FindAt.{FindAt}
 use Rattle.rht_find.specs.declared.find.FindAt.TheVariants as at
 use Rattle.rht_find.specs.Find.{plan_at, after_at, lock_of, lock_taken, walk_or_seen, found_or_not, walk_taken, unlocking, next_table, list_followed}
-use Rattle.rht_core.proofs.Ghosts.{put, put-all, Ghost}
+use Rattle.rht_core.proofs.Ghosts.{Ghost}
 use Rattle.rht_core.proofs.Wholes.{shape_word, home, place_at, Whole}
 use Rattle.rht_core.proofs.Knowledge.{Fact, Locks, Missed, Found, OwnerIs, Raised, OnlyNode, OnlyLock, AllMean}
-use Rattle.rht_core.proofs.QuietMoves.{drop_lock}
-use Rattle.rht_core.proofs.Steps.{DropsLock, mem, Step, reads, step-map, AllOwn}
-use Rattle.rht_core.proofs.PieceSteps.{LockKnows, lock_step, walk_facts_at, seen_facts, WalkKnows, StartKnows, walk_start, walk_step}
+use Rattle.rht_core.proofs.Steps.{mem, Step, reads, step-map, AllOwn}
+use Rattle.rht_core.proofs.PieceSteps.{LockKnows, lock_step, unlock_step, walk_facts_at, seen_facts, WalkKnows, StartKnows, walk_start, walk_step, seed_place}
 use Rattle.rht_core.proofs.NodeSteps.{nothing_held}
 
 -- a look-up has no node
@@ -121,57 +117,6 @@ module _ (env : Env) (mix : ℕ → ℕ → ℕ → ℕ) (c : ℕ) (port : ℕ) 
       loads : (op : Op) (next : FindAt × Next Reply) → word_after (old_of words op) op ≡ old_of words op → FindNext next M G → Step env mix c words G op (FindNext next)
       loads op next same known = reads env mix c words G op (FindNext next) whole same known
 
-      unlock_step : (word : ℕ) → AllMean env mix c M G no_node → AllMean env mix c M G (OnlyLock (Some j) ∷ Locks port word ∷ [])
-          → Step env mix c words G (Store place word) (λ M' G'. AllMean env mix c M' G' nothing_held)
-      unlock_step word own lock =
-          let op = Store place word in
-          let holds = lock.1.0 in
-          let write : IsWrite env.geometry M (mem env mix (applied words op)) (PageWord j) word = is_write env.geometry words (PageWord j) op all within refl in
-          record {
-            move = DropsLock j;
-            ready = tt;
-            made = drop_lock env mix c j word M (mem env mix (applied words op)) G whole within holds.0 holds.1 write;
-            knows = (own.0, (own.1.0, (none_left, tt)));
-          }
-        where
-          none_left : (other : ℕ) → (put G.bucket j (record (G.bucket j) { holder = None }) other).holder ≡ Some c → ◌≡◌ {A = Option ℕ} None (Some other)
-          none_left other = put-all (λ i b. b.holder ≡ Some c → ◌≡◌ {A = Option ℕ} None (Some i)) G.bucket j (record (G.bucket j) { holder = None })
-              (λ h. absurd (cc)) (λ i ne h. let q = lock.0 i h in absurd (ne (cc))) other
-
-      locking_step : (table p : ℕ) (lock_at : LockAt) → p ≡ place → FindKnows (at.Locking table (record { place = p; at = lock_at })) M G
-          → FindStep (at.Locking table (record { place = p; at = lock_at }))
-      locking_step table p lock_at is known =
-          subst (λ q. Step env mix c words G (lock_plan (record { place = q; at = lock_at }))
-          (FindNext (
-            lock_taken env port table (lock_after (record { place = q; at = lock_at }) (old_of words (lock_plan (record { place = q; at = lock_at })))).0
-                (lock_after (record { place = q; at = lock_at }) (old_of words (lock_plan (record { place = q; at = lock_at })))).1,
-            Go,
-          )))
-          (sym is)
-          (let r = lock_after (record { place = place; at = lock_at }) (old_of words (lock_plan (record { place = place; at = lock_at }))) in
-          step-map env mix c words G (lock_plan (record { place = place; at = lock_at }))
-          (LockKnows env mix c port no_node nothing_own within r)
-          (FindNext (lock_taken env port table r.0 r.1, Go))
-          (λ M' G' w k. lock_next table r M' G' w known.fits.0 k)
-          (lock_step env mix c port no_node nothing_own within words G all whole known.own lock_at known.fits.2 known.lock))
-
-      walking_step : (table : ℕ) (bucket : Locked) (walk : LockedWalkModel) → FindKnows (at.Walking table bucket walk) M G → FindStep (at.Walking table bucket walk)
-      walking_step table bucket walk known =
-          subst (λ w. Step env mix c words G (locked_walk_plan w) (FindNext (walk_taken table bucket (locked_walk_after w (old_of words (locked_walk_plan w))).0 (locked_walk_after w (old_of words (locked_walk_plan w))).1, Go)))
-          (sym same)
-          (let r = locked_walk_after here (old_of words (locked_walk_plan here)) in
-          step-map env mix c words G (locked_walk_plan here)
-          (WalkKnows env mix c port no_node nothing_own within bucket.word r)
-          (FindNext (walk_taken table bucket r.0 r.1, Go))
-          (λ M' G' w k. walk_next table bucket r M' G' known.fits.0 known.fits.1 k)
-          (walk_step env mix c port no_node nothing_own within words G all whole known.own bucket.word walk.before walk.length walk.at known.lock))
-        where
-          here : LockedWalkModel
-          here = record { geometry = env.geometry; key = port; before = walk.before; length = walk.length; at = walk.at }
-
-          same : walk ≡ here
-          same = rw known.fits.2 (rw known.fits.3 refl)
-
       -- each operation of a look-up leads from what it knows to what it knows next
       pub find_step : (at : FindAt) → FindKnows at M G → FindStep at
       find_step at.CurrentTable known =
@@ -184,13 +129,19 @@ module _ (env : Env) (mix : ℕ → ℕ → ℕ → ℕ) (c : ℕ) (port : ℕ) 
           (record { own = known.own; lock = known.lock; fits = (known.fits, ap (λ t. M (Slot t ShapeWord)) known.fits ∙ whole.tables.shape_is) })
       find_step (at.Seed table shape) known =
           let op = Load (place_of env.geometry (Slot table SeedWord)) in
-          let seed : old_of words op ≡ env.config.seed = ap (λ t. M (Slot t SeedWord)) known.fits.0 ∙ whole.tables.seed_is in
-          let here : bucket_place env.geometry shape (bucket_of mix port shape (old_of words op)) ≡ place
-          = ap (λ s. bucket_place env.geometry s (bucket_of mix port s (old_of words op))) known.fits.1 ∙ ap (λ s. bucket_place env.geometry (shape_word env mix) (bucket_of mix port (shape_word env mix) s)) seed in
+          let here = seed_place env mix c port no_node nothing_own within words G all whole known.own table shape known.fits.0 known.fits.1 in
           loads op (at.Locking table (lock_of mix env port shape (old_of words op)), Go) refl
           (record { own = known.own; lock = known.lock; fits = (known.fits.0, here, tt) })
-      find_step (at.Locking table lock) known = locking_step table lock.place lock.at known.fits.1 known
-      find_step (at.Walking table bucket walk) known = walking_step table bucket walk known
+      find_step (at.Locking table lock) known =
+          let r = lock_after lock (old_of words (lock_plan lock)) in
+          step-map env mix c words G (lock_plan lock) (LockKnows env mix c port no_node nothing_own within r) (FindNext (lock_taken env port table r.0 r.1, Go))
+          (λ M' G' w k. lock_next table r M' G' w known.fits.0 k)
+          (lock_step env mix c port no_node nothing_own within words G all whole known.own lock known.fits.1 known.fits.2 known.lock)
+      find_step (at.Walking table bucket walk) known =
+          let r = locked_walk_after walk (old_of words (locked_walk_plan walk)) in
+          step-map env mix c words G (locked_walk_plan walk) (WalkKnows env mix c port no_node nothing_own within bucket.word r) (FindNext (walk_taken table bucket r.0 r.1, Go))
+          (λ M' G' w k. walk_next table bucket r M' G' known.fits.0 known.fits.1 k)
+          (walk_step env mix c port no_node nothing_own within words G all whole known.own bucket.word walk (known.fits.2, known.fits.3) known.lock)
       find_step (at.Future table bucket) known =
           let op = Load (place_of env.geometry (Slot table FutureWord)) in
           let none : old_of words op ≡ 0 = ap (λ t. M (Slot t FutureWord)) known.fits.0 ∙ whole.tables.future_is in
@@ -214,4 +165,7 @@ module _ (env : Env) (mix : ℕ → ℕ → ℕ → ℕ) (c : ℕ) (port : ℕ) 
       find_step (at.Unlocking unlock (Table table)) known = absurd known.fits
       find_step (at.Unlocking unlock (Answer reply)) known =
           subst (λ p. Step env mix c words G (Store p unlock.word) (FindNext (at.Unlocking unlock (Answer reply), Done reply)))
-          (sym known.fits) (unlock_step unlock.word known.own known.lock)
+          (sym known.fits)
+          (step-map env mix c words G (Store place unlock.word) (λ M' G'. AllMean env mix c M' G' no_node × AllMean env mix c M' G' (OnlyLock None ∷ []))
+          (λ M' G'. AllMean env mix c M' G' nothing_held) (λ M' G' w k. (k.0.0, (k.0.1.0, k.1)))
+          (unlock_step env mix c port no_node nothing_own within words G all whole known.own unlock.word known.lock))

@@ -15,7 +15,9 @@ use Rattle.rht_words.specs.declared.env.Env.{Env}
 use Rattle.rht_words.specs.Operations.{old_of}
 use Rattle.rht_words.specs.Ports.{owner_of}
 use Rattle.rht_words.specs.Places.{PortCount, Node, OwnerWord, place_of}
-use Rattle.rht_words.proofs.Members.{count_below, one_if}
+use Rattle.rht_words.specs.Members.{NotIn, IsDistinct}
+use Rattle.rht_words.proofs.Members.{count_below, one_if, not_in_from, AllByRecursion-In}
+use Rattle.rht_words.proofs.EachElement.{AllByRecursion-weaker}
 use Rattle.rht_bind.specs.Bind.{plan_at}
 use Rattle.rht_bind.specs.declared.bind.BindAt.{BindAt}
 use Rattle.rht_bind.specs.declared.bind.BindAt.TheVariants as at
@@ -27,7 +29,8 @@ use Rattle.rht_core.specs.Runs.{Core, local_of, planned, run_of}
 use Rattle.rht_core.specs.Traces.{Did}
 use Rattle.rht_core.specs.StandsFor.{stands_for}
 use Rattle.rht_core.specs.Laws.{IsRecorded}
-use Rattle.rht_core.specs.Causes.{IsNoneOf, AreDistinct, AreBound, others_in_call, CountedAt}
+use Rattle.rht_core.specs.Causes.{AreBound, others_in_call, CountedAt}
+use Rattle.rht_core.specs.Counts.{is_linking, is_raising}
 use Rattle.rht_core.proofs.Worlds.{planned-some}
 use Rattle.rht_core.proofs.Ghosts.{Owner, First, Ghost, is_first}
 use Rattle.rht_core.proofs.Wholes.{key_of, firsts, raisers, Whole}
@@ -69,14 +72,8 @@ count_by-range has (suc n) =
 
 -- what has a property that this number hasn't is another number
 none_of : (P : ℕ → Type 0) (x : ℕ) → ((y : ℕ) → P y → x ≢ y) → (ys : List ℕ) → AllByRecursion P ys
-    → IsNoneOf ys x
-none_of P x other [] all = tt
-none_of P x other (y ∷ ys) all = (other y all.0, none_of P x other ys all.1)
-
-all_weaker : (P Q : ℕ → Type 0) → ((x : ℕ) → P x → Q x) → (xs : List ℕ) → AllByRecursion P xs
-    → AllByRecursion Q xs
-all_weaker P Q weaker [] all = tt
-all_weaker P Q weaker (x ∷ xs) all = (weaker x all.0, all_weaker P Q weaker xs all.1)
+    → NotIn x ys
+none_of P x other ys all = not_in_from x ys (λ i. other x (AllByRecursion-In P x ys all i) refl)
 
 -- a node of which this is said is in the chain of a bucket
 first_in : (owner : Owner) → is_first owner ≡ true → (j : ℕ) × (owner ≡ First j)
@@ -95,7 +92,7 @@ module _ (env : Env) (mix : ℕ → ℕ → ℕ → ℕ) (words : List ℕ) (G :
   -- as many different ports as there are nodes in chains below a bound, each bound to such a node
   record PortsBelow (bound : ℕ) : Type 0 where
     ports : List ℕ
-    distinct : AreDistinct ports
+    distinct : IsDistinct ports
     each : AllByRecursion (IsBoundBelow bound) ports
     many : length ports ≡ count_below in_chain bound
 
@@ -103,7 +100,7 @@ module _ (env : Env) (mix : ℕ → ℕ → ℕ → ℕ) (words : List ℕ) (G :
   further : (n : ℕ) (ports : List ℕ) → AllByRecursion (IsBoundBelow n) ports
       → AllByRecursion (IsBoundBelow (suc n)) ports
   further n ports all =
-      all_weaker (IsBoundBelow n) (IsBoundBelow (suc n))
+      AllByRecursion-weaker (IsBoundBelow n) (IsBoundBelow (suc n))
       (λ port bound. let below = bound.1 in (bound.0, omega arith, bound.2)) ports all
 
   -- the port of one more node in a chain is another one, since it is bound to that node
@@ -153,7 +150,7 @@ module _ (env : Env) (mix : ℕ → ℕ → ℕ → ℕ) (words : List ℕ) (G :
         ports = all.ports;
         distinct = all.distinct;
         bound =
-            all_weaker (IsBoundBelow nodes) (λ port. stands_for env.geometry words port ≢ []) (is_bound nodes)
+            AllByRecursion-weaker (IsBoundBelow nodes) (λ port. stands_for env.geometry words port ≢ []) (is_bound nodes)
             all.ports all.each;
         many = all.many;
       }
@@ -161,35 +158,31 @@ module _ (env : Env) (mix : ℕ → ℕ → ℕ → ℕ) (words : List ℕ) (G :
 -- ---- the callers that have raised the count
 
 module _ (M : Type 0) (mix : ℕ → ℕ → ℕ → ℕ) (env : Env) where
-  -- a bind that loads a word hasn't raised the count
-  bind_loads-unraised : (c port owner place : ℕ) (state : BindAt) (words : List ℕ) (G : Ghost)
-      → (e : Env) → plan_at e port owner state ≡ Load place
-      → BindKnows env mix c port owner state (mem env mix words) G → G.raised c ≡ false
-  bind_loads-unraised c port owner place (at.Taking take) words G e is known = known.own.0
-  bind_loads-unraised c port owner place (at.Key node) words G e is known = known.own.0
-  bind_loads-unraised c port owner place (at.Owner node) words G e is known = known.own.0
-  bind_loads-unraised c port owner place (at.ListLink node) words G e is known = known.own.0
-  bind_loads-unraised c port owner place (at.CurrentTable node) words G e is known = known.own.0
-  bind_loads-unraised c port owner place (at.Shape node table) words G e is known = known.own.0
-  bind_loads-unraised c port owner place (at.Seed node table shape) words G e is known = known.own.0
-  bind_loads-unraised c port owner place (at.Locking node table shape lock) words G e is known = known.own.0
-  bind_loads-unraised c port owner place (at.Walking table claimed walk) words G e is known = known.own.0
-  bind_loads-unraised c port owner place (at.FoundOwner claimed found) words G e is known = known.own.0
-  bind_loads-unraised c port owner place (at.Future table claimed) words G e is known = known.own.0
-  bind_loads-unraised c port owner place (at.Count claimed) words G e is known = known.own.0
-  bind_loads-unraised c port owner place (at.Link claimed) words G e is known = known.own.0
-  bind_loads-unraised c port owner place (at.Raise claimed) words G e is known = known.own.0
-  bind_loads-unraised c port owner place (at.Publish claimed kick) words G e is known = absurd (cc)
-  bind_loads-unraised c port owner place (at.Unlocking node unlock next) words G e is known = known.own.0
-  bind_loads-unraised c port owner place (at.Giving give reply) words G e is known = known.own.0
+  -- a bind knows that it has raised the count where it links its node next, and there alone
+  bind_raises : (c port owner : ℕ) (state : BindAt) (words : List ℕ) (G : Ghost)
+      → BindKnows env mix c port owner state (mem env mix words) G → G.raised c ≡ is_linking state
+  bind_raises c port owner (at.Publish claimed kick) words G known = known.own.0
+  bind_raises c port owner _ words G known = known.own.0
 
-  loads-unraised : (c place : ℕ) (local : Local M) (words : List ℕ) (G : Ghost) → plan_of local ≡ Some (Load place)
-      → CallerKnows env mix M c local (mem env mix words) G → G.raised c ≡ false
-  loads-unraised c place Idle words G is known = known.0
-  loads-unraised c place (Finding m) words G is known = known.1.own.0
-  loads-unraised c place (Binding m) words G is known =
+  -- a caller has raised the count exactly where it links its node next
+  pub raises : (c : ℕ) (local : Local M) (words : List ℕ) (G : Ghost)
+      → CallerKnows env mix M c local (mem env mix words) G → G.raised c ≡ is_raising local
+  raises c Idle words G known = known.0
+  raises c (Finding m) words G known = known.1.own.0
+  raises c (Binding m) words G known = bind_raises c m.port m.owner m.at words G known.1
+
+  -- and there it loads nothing
+  bind_loads-unraised : (e : Env) (port owner place : ℕ) (state : BindAt) → plan_at e port owner state ≡ Load place
+      → is_linking state ≡ false
+  bind_loads-unraised e port owner place (at.Publish claimed kick) is = absurd (cc)
+  bind_loads-unraised e port owner place _ is = refl
+
+  loads-unraised : (place : ℕ) (local : Local M) → plan_of local ≡ Some (Load place) → is_raising local ≡ false
+  loads-unraised place Idle is = refl
+  loads-unraised place (Finding m) is = refl
+  loads-unraised place (Binding m) is =
       let plan : plan_at m.env m.port m.owner m.at ≡ Load place = cc in
-      bind_loads-unraised c m.port m.owner place m.at words G m.env plan known.1
+      bind_loads-unraised m.env m.port m.owner place m.at plan
 
   -- who has raised the count is in a call
   raised-busy : (c : ℕ) (local : Local M) (words : List ℕ) (G : Ghost) → G.raised c ≡ true
@@ -226,7 +219,7 @@ module _ (M : Type 0) (mix : ℕ → ℕ → ℕ → ℕ) (env : Env) where
       let place = place_of env.geometry PortCount in
       let plans : planned core.enrolled core.locals c ≡ Some (Load place) = is.plan ∙ ap Some loaded in
       let can = planned-some core.enrolled core.locals c (Load place) plans in
-      let unraised = loads-unraised c place (local_of core c) core.words G can.plan (has.inv.each c) in
+      let unraised = raises c (local_of core c) core.words G (has.inv.each c) ∙ loads-unraised place (local_of core c) can.plan in
       let others = raisers-others core c G has.inv.same_env unraised has.inv.each in
       let word : mem env mix core.words PortCount ≡ count =
       sym (ap (old_of core.words) loaded) ∙ is.found ∙ found in

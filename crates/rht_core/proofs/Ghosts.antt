@@ -1,7 +1,7 @@
 -- What the words of a run don't say, or say only to who follows every link: who holds each lock, node,
 -- page and slot, which nodes each bucket has, and which nodes each port is bound to.
 -- It stands in no definition of a run. The invariant says that there is such a ghost after each event.
-use Rattle.std.proofs.Common.{◌≡◌, ◌≢◌, ℕ, List, refl, inl, inr, Bool, true, false, cond, Option, Some, None, ◌==◌}
+use Rattle.std.proofs.Common.{◌≡◌, ◌≢◌, ℕ, List, refl, sym, ◌∙◌, inl, inr, Bool, true, false, cond, Option, Some, None, ◌==◌}
 use Rattle.std.proofs.lemmas.Bool.{cases_eq, eqb-true, eq-eqb}
 
 -- ---- functions changed at one place
@@ -24,6 +24,17 @@ put-other f j v i ne = go (i == j) refl
 -- what is true of the new value at the changed place, and of the old values elsewhere, is true everywhere
 pub put-all : {A : Type 0} → (P : ℕ → A → Type 0) (f : ℕ → A) (j : ℕ) (v : A) → P j v → ((i : ℕ) → i ≢ j → P i (f i)) → (i : ℕ) → P i (put f j v i)
 put-all P f j v here other i = elim (cases_eq i j) as (λ t. P i (put f j v i)) [ inl e ↦ rw (e, put-same f j v) here | inr ne ↦ rw (put-other f j v i ne) (other i ne) ]
+
+-- who had one thing alone has none once it is another's, and who had none has this one alone once it is its own
+module _ {A : Type 0} (f : ℕ → A) (j : ℕ) (v : A) (Mine : A → Type 0) where
+  pub put-none : (Mine v → ⊥) → ((i : ℕ) → Mine (f i) → Some j ≡ Some i) → (i : ℕ) → Mine (put f j v i)
+      → ◌≡◌ {A = Option ℕ} None (Some i)
+  put-none not_mine only = put-all (λ i a. Mine a → ◌≡◌ {A = Option ℕ} None (Some i)) f j v (λ mine. absurd (not_mine mine))
+      (λ i ne mine. let q = only i mine in absurd (ne (cc)))
+
+  pub put-only : ((i : ℕ) → Mine (f i) → ◌≡◌ {A = Option ℕ} None (Some i)) → (i : ℕ) → Mine (put f j v i)
+      → Some j ≡ Some i
+  put-only none = put-all (λ i a. Mine a → Some j ≡ Some i) f j v (λ mine. refl) (λ i ne mine. let q = none i mine in absurd (cc))
 
 -- ---- ghosts
 
@@ -92,3 +103,24 @@ lock_bit (Some c) = 1
 abbrev pub is_first : Owner → Bool
 is_first (First j) = true
 is_first _ = false
+
+-- one owner is not another
+pub held_not_first : (o : Owner) (d j : ℕ) → o ≡ Held d → o ≡ First j → ⊥
+held_not_first o d j held first = let e = sym held ∙ first in cc
+
+pub held_by_one : (o : Owner) (c d : ℕ) → o ≡ Held c → o ≡ Held d → c ≡ d
+held_by_one o c d first second = let e : Held c ≡ Held d = sym first ∙ second in cc
+
+-- ---- ghosts after a move
+
+-- a bucket with another holder
+abbrev pub with_holder : Ghost → ℕ → Option ℕ → Ghost
+with_holder G j holder = record G { bucket = put G.bucket j (record (G.bucket j) { holder = holder }) }
+
+-- a node with another owner
+abbrev pub with_owner : Ghost → ℕ → Owner → Ghost
+with_owner G n owner = record G { node = put G.node n owner }
+
+-- a caller that has raised the count, or has no longer
+abbrev pub with_raised : Ghost → ℕ → Bool → Ghost
+with_raised G d now = record G { raised = put G.raised d now }

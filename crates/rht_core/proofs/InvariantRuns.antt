@@ -1,12 +1,11 @@
 -- The invariant holds at opening, and so after each event of each run.
-use Rattle.std.proofs.Common.{◌≡◌, ℕ, ◌/◌, List, [], replicate, None, false, refl, sym, ◌∙◌, subst, inl, inr, arith}
-use Rattle.std.proofs.lemmas.Bool.{cases_lt}
-use Rattle.std.proofs.lemmas.List.{get_or-replicate, get_or_past, length-replicate}
+use Rattle.std.proofs.Common.{◌≡◌, ℕ, ◌/◌, List, [], replicate, None, false, refl, sym, ◌∙◌, subst, arith}
 use Rattle.rht_words.specs.declared.env.Env.{Env}
 use Rattle.rht_words.specs.Places.{Address, CurrentTable, PortCount, Slot, ShapeWord, SeedWord, FutureWord, NodeMap, PageWord, IsAddress}
 use Rattle.rht_words.specs.Opening.{opening_word, opening_words, first_shape}
 use Rattle.rht_words.proofs.OpeningLaws.{stand_in_place, opens_free}
 use Rattle.rht_words.proofs.Members.{count_below-none}
+use Rattle.rht_words.proofs.EachElement.{each_replicate}
 use Rattle.rht_core.specs.declared.event.Event.{Event}
 use Rattle.rht_core.specs.declared.local.Local.{Local}
 use Rattle.rht_core.specs.declared.local.Local.TheVariants.{Idle}
@@ -74,12 +73,7 @@ module _ (env : Env) (mix : ℕ → ℕ → ℕ → ℕ) where
 
   module _ (L : Type 0) where
     idle_at_opening : (c : ℕ) → ◌≡◌ {A = Local L} (local_in (replicate env.geometry.callers Idle) c) Idle
-    idle_at_opening c =
-        let idle : Local L = Idle in
-        elim (cases_lt c env.geometry.callers) [
-          | inl l ↦ get_or-replicate env.geometry.callers c idle idle l
-          | inr past ↦ get_or_past (replicate env.geometry.callers idle) c idle (rw (length-replicate env.geometry.callers idle) past)
-        ]
+    idle_at_opening c = each_replicate (λ (local : Local L). local ≡ Idle) env.geometry.callers c Idle refl
 
     opening_inv : Inv env mix L (opening_core env) (opening_ghost env)
     opening_inv = record {

@@ -1,20 +1,18 @@
 -- The invariant of every run: there is a ghost of which the whole is true, and each caller knows what its state says.
 -- It holds at opening. A step of a caller keeps the whole and leads to what that caller's next state says; and since nobody's
 -- rights are touched by others, all others still know what they knew.
-use Rattle.std.proofs.Common.{◌≡◌, ◌≢◌, ℕ, ◌*◌, ◌<◌, List, length, set, Option, Some, None, true, refl, sym, subst, inl, inr, ◌⊎◌, arith}
+use Rattle.std.proofs.Common.{◌≡◌, ℕ, ◌*◌, ◌<◌, List, length, Option, Some, None, true, refl, sym, subst, inl, inr, ◌⊎◌, arith}
 use Rattle.std.proofs.lemmas.Bool.{cases_eq}
 use Rattle.std.proofs.lemmas.List.{get_or-set_same, get_or-set_other}
 use Rattle.rht_words.specs.declared.env.Env.{Env}
 use Rattle.rht_words.specs.declared.op.Op.{Op}
 use Rattle.rht_words.specs.declared.machine.Next.{Next}
 use Rattle.rht_words.specs.declared.machine.Next.TheVariants.{Go, Done}
-use Rattle.rht_words.specs.declared.config.Kind.{Kind}
-use Rattle.rht_words.specs.declared.config.Kind.TheVariants.{Single, Listed}
 use Rattle.rht_words.specs.Operations.{old_of, word_after, applied}
 use Rattle.rht_words.specs.Places.{EnrolledCallers, words_in, word_at}
+use Rattle.rht_words.proofs.EachElement.{each_set}
 use Rattle.rht_words.proofs.Memory.{Memory, is_write}
 use Rattle.rht_model.specs.declared.history.Call.{Call}
-use Rattle.rht_model.specs.declared.history.Call.TheVariants as calls
 use Rattle.rht_model.specs.declared.history.Reply.{Reply}
 use Rattle.rht_find.specs.Find.{FindModel, find_new, find_plan, find_after}
 use Rattle.rht_find.specs.Find as find_at
@@ -26,8 +24,9 @@ use Rattle.rht_core.specs.declared.event.Event.{Event}
 use Rattle.rht_core.specs.declared.event.Event.TheVariants.{Enroll, Begin, Step as StepOf}
 use Rattle.rht_core.specs.declared.local.Local.{Local}
 use Rattle.rht_core.specs.declared.local.Local.TheVariants.{Idle, Finding, Binding}
-use Rattle.rht_core.specs.Locals.{is_idle, machine_of, binding_of, plan_of, found_next, bound_next, local_after}
-use Rattle.rht_core.specs.Runs.{Core, core_step, local_of, local_in, beginning, planned, enrolling, IsSound}
+use Rattle.rht_core.specs.Locals.{is_idle, machine_of, plan_of, found_next, bound_next, local_after}
+use Rattle.rht_core.specs.Runs.{Core, core_step, local_of, beginning, planned, enrolling, IsSound}
+use Rattle.rht_core.proofs.CallsInProgress.{begins_so}
 use Rattle.rht_core.proofs.Worlds.{beginning-some, planned-some}
 use Rattle.rht_core.proofs.Ghosts.{Ghost}
 use Rattle.rht_core.proofs.Wholes.{home, Whole}
@@ -69,9 +68,6 @@ module _ (env : Env) (mix : ℕ → ℕ → ℕ → ℕ) where
         fits = known.1.fits;
       },
     )
-
-    rw_machine : (c : ℕ) (machine : Local L) (M : Memory) (G : Ghost) (first : Local L) → machine ≡ first → CallerKnows c first M G → CallerKnows c machine M G
-    rw_machine c machine M G first same known = rw same known
 
     -- ---- one operation of a caller
 
@@ -119,30 +115,24 @@ module _ (env : Env) (mix : ℕ → ℕ → ℕ → ℕ) where
 
     -- a caller that is given a call knows what the first state of its machine says
     begun_knows : (c : ℕ) (call : Call) (machine : Local L) (M : Memory) (G : Ghost) → machine_of env c call ≡ Some machine → AllMean env mix c M G nothing_held → CallerKnows c machine M G
-    begun_knows c (calls.Find port) machine M G is known = rw_machine c machine M G (Finding (find_new env c port)) (cc)
-        (refl, record { own = (known.0, (known.1.0, tt)); lock = (known.1.1.0, tt); fits = tt })
-    begun_knows c (calls.Bind port owner once) machine M G is known = go env.config.kind is
-      where
-        first : CallerKnows c (Binding (bind_new env c port owner once)) M G
-        first = (refl, record { own = (known.0, (known.1.0, tt)); lock = (known.1.1.0, tt); fits = (refl, (let within = env.geometry.within in omega (arith, within.nodes_within.0))) })
+    begun_knows c call machine M G is known =
+        begins_so L env c (λ asked first. CallerKnows c first M G)
+        (λ port. (refl, record { own = (known.0, (known.1.0, tt)); lock = (known.1.1.0, tt); fits = tt }))
+        (λ port owner once single. (
+          refl,
+          record {
+            own = (known.0, (known.1.0, tt));
+            lock = (known.1.1.0, tt);
+            fits = (refl, (let within = env.geometry.within in omega (arith, within.nodes_within.0)));
+          },
+        ))
+        call machine is
 
-        go : (kind : Kind) → binding_of env c port owner once kind ≡ Some machine → CallerKnows c machine M G
-        go Single e = rw_machine c machine M G (Binding (bind_new env c port owner once)) (cc) first
-        go Listed e = absurd (cc)
-    begun_knows c (calls.All port) machine M G is known = absurd (cc)
-    begun_knows c (calls.Release port owner) machine M G is known = absurd (cc)
-    begun_knows c (calls.Rebind port owner new) machine M G is known = absurd (cc)
-    begun_knows c (calls.Walk from limit) machine M G is known = absurd (cc)
-    begun_knows c calls.Work machine M G is known = absurd (cc)
-    begun_knows c calls.Tidy machine M G is known = absurd (cc)
-    begun_knows c calls.Count machine M G is known = absurd (cc)
-
-    -- what another place of the list of callers says stays where one is changed
-    local-same : (locals : List (Local L)) (c : ℕ) (local : Local L) → c < length locals → local_in (set locals c local) c ≡ local
-    local-same locals c local l = get_or-set_same locals c local Idle l
-
-    local-other : (locals : List (Local L)) (c k : ℕ) (local : Local L) → k ≢ c → local_in (set locals c local) k ≡ local_in locals k
-    local-other locals c k local ne = get_or-set_other locals c k local Idle ne
+    -- a caller in no call has nothing
+    pub idle_knows : (c : ℕ) (local : Local L) (M : Memory) (G : Ghost) → is_idle local ≡ true → CallerKnows c local M G → AllMean env mix c M G nothing_held
+    idle_knows c Idle M G idle known = known
+    idle_knows c (Finding m) M G idle known = absurd (cc)
+    idle_knows c (Binding m) M G idle known = absurd (cc)
 
     -- what an event does to the ghost: nothing, or the move of a caller
     pub record Kept (core : Core L) (G : Ghost) (event : Event) : Type 0 where
@@ -160,25 +150,17 @@ module _ (env : Env) (mix : ℕ → ℕ → ℕ → ℕ) where
     begin_kept core G c call (Some machine) sound inv is =
         let can = beginning-some core.env core.enrolled core.locals c call machine is in
         let low : c < length core.locals = omega (arith, can.below, sound.few_enrolled, sound.all_locals) in
-        let idle : AllMean env mix c (mem env mix core.words) G nothing_held = knows_idle (local_of core c) can.idle (inv.each c) in
+        let idle = idle_knows c (local_of core c) (mem env mix core.words) G can.idle (inv.each c) in
         let knows : CallerKnows c machine (mem env mix core.words) G = begun_knows c call machine (mem env mix core.words) G (rw (sym inv.same_env) can.machine_is) idle in
         record {
           ghost = G;
           inv = rw is (record {
             same_env = inv.same_env;
             whole = inv.whole;
-            each = λ k. elim (cases_eq k c) [
-              | inl e ↦ rw e (rw (local-same core.locals c machine low) knows)
-              | inr ne ↦ rw (local-other core.locals c k machine ne) (inv.each k)
-            ];
+            each = each_set (λ k local. CallerKnows k local (mem env mix core.words) G) Idle core.locals c machine low knows inv.each;
           });
           moved = inl refl;
         }
-      where
-        knows_idle : (local : Local L) → is_idle local ≡ true → CallerKnows c local (mem env mix core.words) G → AllMean env mix c (mem env mix core.words) G nothing_held
-        knows_idle Idle e k = k
-        knows_idle (Finding m) e k = absurd (cc)
-        knows_idle (Binding m) e k = absurd (cc)
 
     step_kept : (core : Core L) (G : Ghost) (c : ℕ) (plan : Option Op) → IsSound core → Inv core G
         → planned core.enrolled core.locals c ≡ plan → Kept core G (StepOf c)
@@ -201,8 +183,8 @@ module _ (env : Env) (mix : ℕ → ℕ → ℕ → ℕ) where
             same_env = inv.same_env;
             whole = step.made.whole;
             each = λ k. elim (cases_eq k c) [
-              | inl e ↦ rw e (rw (local-same core.locals c next low) step.knows)
-              | inr ne ↦ rw (local-other core.locals c k next ne)
+              | inl e ↦ rw e (rw (get_or-set_same core.locals c next Idle low) step.knows)
+              | inr ne ↦ rw (get_or-set_other core.locals c k next Idle ne)
                   (CallerKnows-rely k (local_of core k) (mem env mix core.words) (mem env mix (applied core.words op)) G G' inv.whole (step.made.others k ne) (inv.each k))
             ];
           });
@@ -216,7 +198,7 @@ module _ (env : Env) (mix : ℕ → ℕ → ℕ → ℕ) where
         let M' = mem env mix (applied core.words op) in
         let write = is_write env.geometry core.words EnrolledCallers op all tt refl in
         let kept = aside env mix EnrolledCallers (word_after (word_at env.geometry core.words EnrolledCallers) op) (mem env mix core.words) M' G inv.whole write
-        (λ e. cc) (λ s e. cc) (λ j e. cc) (λ n w e. cc) (λ i e. cc) (λ e. cc) in
+        ((λ e. cc), (λ s e. cc)) (λ j e. cc) (λ n w e. cc) (λ i e. cc) (λ e. cc) in
         record {
           ghost = G;
           inv = record {

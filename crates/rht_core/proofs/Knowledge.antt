@@ -5,7 +5,8 @@ use Rattle.rht_words.specs.declared.env.Env.{Env}
 use Rattle.rht_words.specs.Ports.{owner_of}
 use Rattle.rht_words.specs.Places.{Node, NodeWord, KeyWord, OwnerWord}
 use Rattle.rht_words.proofs.Memory.{Memory}
-use Rattle.rht_words.proofs.Members.{In, in-front}
+use Rattle.rht_words.specs.Members.{In}
+use Rattle.rht_words.proofs.Members.{In-append_left}
 use Rattle.rht_core.proofs.Ghosts.{Bucket, Held, First, Ghost}
 use Rattle.rht_core.proofs.Wholes.{key_of, home}
 
@@ -13,6 +14,14 @@ use Rattle.rht_core.proofs.Wholes.{key_of, home}
 abbrev pub NoKey : Memory → ℕ → List ℕ → Type 0
 NoKey M key [] = Unit {0}
 NoKey M key (node ∷ nodes) = (key_of M node ≢ key) × NoKey M key nodes
+
+-- where their keys stay it is so still
+pub NoKey-same : (M M' : Memory) (key : ℕ) (nodes : List ℕ)
+    → ((node : ℕ) → In node nodes → key_of M' node ≡ key_of M node)
+    → NoKey M key nodes → NoKey M' key nodes
+NoKey-same M M' key [] same none = tt
+NoKey-same M M' key (node ∷ nodes) same none =
+    ((λ is. none.0 (sym (same node (inl refl)) ∙ is)), NoKey-same M M' key nodes (λ other i. same other (inr i)) none.1)
 
 -- the last of these nodes
 abbrev pub last_of : List ℕ → Option ℕ
@@ -100,9 +109,8 @@ module _ (env : Env) (mix : ℕ → ℕ → ℕ → ℕ) where
 
   NoKey-rely : (c : ℕ) (M M' : Memory) (G G' : Ghost) (key j : ℕ) (nodes : List ℕ) → Rely c M G M' G' → ((node : ℕ) → In node nodes → G.node node ≡ First j)
       → NoKey M key nodes → NoKey M' key nodes
-  NoKey-rely c M M' G G' key j [] rely firsts none = tt
-  NoKey-rely c M M' G G' key j (node ∷ nodes) rely firsts none =
-      ((λ same. none.0 (sym (rely.words node j (firsts node (inl refl))).0 ∙ same)), NoKey-rely c M M' G G' key j nodes rely (λ other i. firsts other (inr i)) none.1)
+  NoKey-rely c M M' G G' key j nodes rely firsts none =
+      NoKey-same M M' key nodes (λ node i. (rely.words node j (firsts node i)).0) none
 
   HoldsLock-rely : (c : ℕ) (M M' : Memory) (G G' : Ghost) (port word : ℕ) → Rely c M G M' G' → HoldsLock c G port word → HoldsLock c G' port word
   HoldsLock-rely c M M' G G' port word rely holds = rw (rely.locks (home env mix port) holds.0) holds
@@ -128,7 +136,7 @@ module _ (env : Env) (mix : ℕ → ℕ → ℕ → ℕ) where
       rear = s.rear;
       split = nodes_stay port word holds ∙ s.split;
       passed = NoKey-rely c M M' G G' port (home env mix port) s.front rely
-          (λ other i. members (home env mix port) other (rw s.split (in-front other s.front (node ∷ s.rear) i))) s.passed;
+          (λ other i. members (home env mix port) other (rw s.split (In-append_left other s.front (node ∷ s.rear) i))) s.passed;
       last = s.last;
     }
 

@@ -1,7 +1,15 @@
 -- what an event does to each caller, and inductions over the events of a run
 pub mod Worlds
--- the pieces that machines hold stay in range
-pub mod PieceRanges
+-- a call begins as a look-up or a bind, is busy, and goes on or ends
+pub mod CallsInProgress
+-- a machine goes on in a state, or has answered
+pub mod MachinesGoOn
+-- the word that a look-up's lock has found, and the reply that it is going to answer
+pub mod HeldByFinds
+-- the node that a bind has taken, the word that its lock has found, and the reply that it is going to answer
+pub mod HeldByBinds
+-- on which words the pieces of machines work
+pub mod PiecesPlanned
 -- a look-up stays in range
 pub mod FindRanges
 -- a bind stays in range
@@ -12,24 +20,24 @@ pub mod RangesInRuns
 pub mod StoredWords
 -- in every run each word has 64 bits
 pub mod WordsInRuns
--- a call begins busy, and goes on or ends
-pub mod CallsInProgress
 -- in every run a caller that isn't enrolled has done nothing
 pub mod CallersNotEnrolled
--- what each caller keeps of itself holds in every run
-pub mod CallersInRuns
+-- a run with its traces, event by event
+pub mod TracedRuns
+-- what each caller keeps of itself and of its trace holds in every run
+pub mod TracedCallers
 -- what a look-up and a bind answer
 pub mod MachineReplies
 -- in every run each call that has ended has a reply of its kind
 pub mod RepliesInRuns
--- in every run the traces remember each call, and say what happened
+-- in every run the traces remember each call
 pub mod TracesInRuns
--- what each caller keeps of itself and of its trace holds in every run
-pub mod TracedCallers
+-- in every run the traces say what happened at which event
+pub mod TracesAtEvents
+-- what machines keep of their calls' operations holds of each call in every run
+pub mod TracedCalls
 -- in every run a bind takes one node at most
 pub mod NodesTaken
--- while a node is being taken, each node below was found taken
-pub mod NodesSeen
 -- what the words don't say: who holds what, and which nodes each bucket and each port has
 pub mod Ghosts
 -- what is true of words and ghosts after each event of each run
@@ -38,7 +46,9 @@ pub mod Wholes
 pub mod Knowledge
 -- what a step leaves where it writes elsewhere
 pub mod Frames
--- moves that others do not see
+-- a node's words are written, and nodes are taken and given back
+pub mod NodeMoves
+-- locks are taken and dropped, and the count is raised
 pub mod QuietMoves
 -- the store that binds a port
 pub mod Linking

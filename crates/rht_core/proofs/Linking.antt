@@ -7,13 +7,13 @@ use Rattle.rht_words.specs.Links.{link_of, head_of, marker_of}
 use Rattle.rht_words.specs.Chains.{IsSegment}
 use Rattle.rht_words.specs.Places.{PortCount, NodeMap, Node, NodeWord, ChainLink, KeyWord, OwnerWord, ListLink, PageWord}
 use Rattle.rht_words.proofs.Memory.{Memory, IsWrite}
-use Rattle.rht_words.proofs.Members.{In, NotIn, not_in_from, count_below-more}
+use Rattle.rht_words.specs.Members.{In, NotIn}
+use Rattle.rht_words.proofs.Members.{not_in_from, count_below-more}
 use Rattle.rht_words.proofs.ChainLemmas.{IsSegment-members}
-use Rattle.rht_core.proofs.Ghosts.{put, put-same, put-other, put-all, Bucket, Free, Held, First, Ghost, is_first}
+use Rattle.rht_core.proofs.Ghosts.{put, put-same, put-other, put-all, Bucket, Free, Held, First, Ghost, is_first, held_not_first, held_by_one}
 use Rattle.rht_core.proofs.Wholes.{chain_of, key_of, home, place_at, BucketRight, IsFirstAt, IsBoundTo, Owned, ArenaRight, IsBuilt, Whole, firsts, raisers}
 use Rattle.rht_core.proofs.Knowledge.{HasNode, NoKey}
-use Rattle.rht_core.proofs.Frames.{Made, OneTable-write, BucketRight-frame}
-use Rattle.rht_core.proofs.QuietMoves.{held_not_first, held_by_one}
+use Rattle.rht_core.proofs.Frames.{Made, FirstsStay, firsts_stay, OneTable-write, BucketRight-frame}
 
 module _ (env : Env) (mix : ℕ → ℕ → ℕ → ℕ) where
   NoKey-in : (M : Memory) (key m : ℕ) (nodes : List ℕ) → NoKey M key nodes → In m nodes → key_of M m ≡ key → ⊥
@@ -73,13 +73,13 @@ module _ (env : Env) (mix : ℕ → ℕ → ℕ → ℕ) where
     unbound = missed_unbound M G port whole ready.none
 
     first_differs : (m j : ℕ) → G.node m ≡ First j → m ≢ n
-    first_differs m j first e = held_not_first env mix (G.node n) d j ready.has.0 (ap G.node (sym e) ∙ first)
+    first_differs m j first e = held_not_first (G.node n) d j ready.has.0 (ap G.node (sym e) ∙ first)
 
     word_same : (m : ℕ) (w : NodeWord) → m < env.geometry.nodes → M' (Node m w) ≡ M (Node m w)
     word_same m w l = write.others (Node m w) l (λ e. cc)
 
-    first_word : (m j : ℕ) (w : NodeWord) → G.node m ≡ First j → M' (Node m w) ≡ M (Node m w)
-    first_word m j w first = word_same m w (whole.owned.first_at m j first).among
+    first_word : FirstsStay env mix M G M'
+    first_word = firsts_stay env mix M M' G (PageWord here) (link_of n) whole write (λ m w e. cc)
 
     not_in : (j : ℕ) → NotIn n (G.bucket j).nodes
     not_in j = not_in_from n (G.bucket j).nodes (λ i. first_differs n j (whole.owned.member j n i) refl)
@@ -165,7 +165,7 @@ module _ (env : Env) (mix : ℕ → ℕ → ℕ → ℕ) where
     pub link_head : Made env mix d M G M' G'
     link_head = record {
       whole = record {
-        tables = OneTable-write env mix M M' G G' (PageWord here) (link_of n) write (λ e. cc) (λ s e. cc) refl refl whole.tables;
+        tables = OneTable-write env mix M M' G G' (PageWord here) (link_of n) write ((λ e. cc), (λ s e. cc)) refl refl whole.tables;
         buckets = put-all (λ i b. i < 64 * env.geometry.pages → BucketRight env mix M' i b) G.bucket here (linked_bucket (G.bucket here) n)
             (λ l. linked_right)
             (λ i ne l. BucketRight-frame env mix M M' i (G.bucket i) (write.others (PageWord i) l (λ e. ne (cc)))
@@ -177,7 +177,7 @@ module _ (env : Env) (mix : ℕ → ℕ → ℕ → ℕ) where
       others = λ c ne. record {
         locks = λ j h. put-other G.bucket here (linked_bucket (G.bucket here) n) j (λ e. let q : ◌≡◌ {A = Option ℕ} (Some d) (Some c) = sym ready.holder ∙ ap (λ i. (G.bucket i).holder) (sym e) ∙ h in ne (cc));
         words = λ m j f. (first_word m j KeyWord f, first_word m j OwnerWord f);
-        nodes = λ m has. (put-other G.node n (First here) m (λ e. ne (held_by_one env mix (G.node n) c d (ap G.node (sym e) ∙ has.0) ready.has.0)) ∙ has.0, λ w. word_same m w has.1);
+        nodes = λ m has. (put-other G.node n (First here) m (λ e. ne (held_by_one (G.node n) c d (ap G.node (sym e) ∙ has.0) ready.has.0)) ∙ has.0, λ w. word_same m w has.1);
         raised = put-other G.raised d false c ne;
         no_node = λ m. put-all (λ k o. o ≡ Held c → G.node k ≡ Held c) G.node n (First here) (λ e. absurd (cc)) (λ k kn h. h) m;
         no_lock = λ j. put-all (λ i b. b.holder ≡ Some c → (G.bucket i).holder ≡ Some c) G.bucket here (linked_bucket (G.bucket here) n) (λ e. absurd (cc)) (λ i ni h. h) j;

@@ -1,188 +1,107 @@
 -- What a look-up and a bind answer: replies of their kind, whatever words they are told.
 -- A reply that is answered behind an unlocking stands in the state meanwhile, so it is looked at there.
-use Rattle.std.proofs.Common.{ℕ}
-use Rattle.std.specs.Prelude.{Option, Some, None, min}
+use Rattle.std.proofs.Common.{ℕ, refl}
+use Rattle.std.specs.Prelude.{Option, Some, None, IfSome, IsSome, min}
 use Rattle.std.proofs.lemmas.Bool.{cond_both}
 use Rattle.rht_words.specs.declared.env.Env.{Env}
 use Rattle.rht_words.specs.declared.machine.Next.{Next}
 use Rattle.rht_words.specs.declared.machine.Next.TheVariants.{Go, Done}
-use Rattle.rht_words.specs.declared.machine.Start.{Start}
-use Rattle.rht_words.specs.declared.machine.Start.TheVariants as starts
 use Rattle.rht_words.specs.Links.{node_of, slot_of}
-use Rattle.rht_words.specs.Ports.{word_of}
 use Rattle.rht_policy.specs.Thresholds.{is_above_max}
 use Rattle.rht_model.specs.declared.history.Reply.{Reply}
-use Rattle.rht_model.specs.declared.history.Reply.TheVariants.{Exists, TooBig}
+use Rattle.rht_model.specs.declared.history.Reply.TheVariants.{Bound, Exists, TooBig}
 use Rattle.rht_arena.specs.TakeNode.{TakeNodeModel, take_node_after}
-use Rattle.rht_chain.specs.Lock.{LockModel, lock_after}
-use Rattle.rht_chain.specs.LockedWalk.{LockedWalkModel, locked_walk_new, locked_walk_after}
-use Rattle.rht_chain.specs.declared.locked_walk.Seen.{Seen}
-use Rattle.rht_chain.specs.declared.locked.Locked.{Locked}
-use Rattle.rht_chain.specs.declared.locked.Then.{Then}
-use Rattle.rht_chain.specs.declared.locked.Then.TheVariants.{Table, Answer}
 use Rattle.rht_find.specs.Find as find
 use Rattle.rht_find.specs.declared.find.FindAt.{FindAt}
 use Rattle.rht_find.specs.declared.find.FindAt.TheVariants as find_at
 use Rattle.rht_bind.specs.Bind as bind
-use Rattle.rht_bind.specs.declared.bind.Claimed.{Claimed}
 use Rattle.rht_bind.specs.declared.bind.BindAt.{BindAt}
 use Rattle.rht_bind.specs.declared.bind.BindAt.TheVariants as bind_at
 use Rattle.rht_core.specs.Laws.{IsFindReply, IsBindReply}
-
--- what comes behind an unlocking is a table or a reply of this kind
-abbrev pub IsThenOf : (Reply → Type 0) → Then Reply → Type 0
-IsThenOf P (Table table) = Unit {0}
-IsThenOf P (Answer reply) = P reply
-
--- it goes on, or answers so
-abbrev pub IsNextOf : (Reply → Type 0) → Next Reply → Type 0
-IsNextOf P Go = Unit {0}
-IsNextOf P (Done reply) = P reply
+use Rattle.rht_core.proofs.MachinesGoOn.{GoesOrEnds, GoesOrEnds-weaker}
+use Rattle.rht_core.proofs.HeldByFinds.{reply_of_find, future_reply, owner_reply, find_reply_after, find_after-so}
+use Rattle.rht_core.proofs.HeldByBinds.{node_of_bind, reply_of_bind, bind_reply_after, bind_after-so}
 
 -- ---- a look-up
 
--- the reply that its state holds is one of a look-up's
+-- the reply that it is going to answer, where there is one, is one of a look-up's
+abbrev pub IsNoneOrFound : Option Reply → Type 0
+IsNoneOrFound reply = IfSome reply IsFindReply
+
 abbrev pub HoldsFindReply : FindAt → Type 0
-HoldsFindReply (find_at.Unlocking unlock next) = IsThenOf IsFindReply next
-HoldsFindReply _ = Unit {0}
+HoldsFindReply state = IsNoneOrFound (reply_of_find state)
 
-found_or_not-holds : (table : ℕ) (bucket : Locked) (found : Option ℕ)
-    → HoldsFindReply (find.found_or_not table bucket found)
-found_or_not-holds table bucket None = tt
-found_or_not-holds table bucket (Some node) = tt
+future_reply-found : (future : Option ℕ) → IsNoneOrFound (future_reply future)
+future_reply-found None = tt
+future_reply-found (Some table) = tt
 
-walk_or_seen-holds : (table : ℕ) (bucket : Locked) (start : Start LockedWalkModel Seen)
-    → HoldsFindReply (find.walk_or_seen table bucket start)
-walk_or_seen-holds table bucket (starts.Running walk) = tt
-walk_or_seen-holds table bucket (starts.Done seen) = found_or_not-holds table bucket seen.found
+owner_reply-found : (owner : ℕ) (next : Option ℕ) → IsNoneOrFound (owner_reply owner next)
+owner_reply-found owner None = tt
+owner_reply-found owner (Some node) = tt
 
-lock_taken-holds : (env : Env) (port table : ℕ) (lock : LockModel) (next : Next ℕ)
-    → HoldsFindReply (find.lock_taken env port table lock next)
-lock_taken-holds env port table lock Go = tt
-lock_taken-holds env port table lock (Done word) =
-    walk_or_seen-holds table (record { place = lock.place; word = word })
-    (locked_walk_new env.geometry lock.place word (word_of port))
+-- and so is the one that it has after an operation
+find_reply_after-found : (env : Env) (state : FindAt) (word : ℕ) → HoldsFindReply state
+    → IsNoneOrFound (find_reply_after env state word)
+find_reply_after-found env (find_at.Future table bucket) word holds = future_reply-found (slot_of word)
+find_reply_after-found env (find_at.ListLink bucket node owner) word holds =
+    owner_reply-found owner (node_of env.geometry.nodes word)
+find_reply_after-found env state word holds = holds
 
-walk_taken-holds : (table : ℕ) (bucket : Locked) (walk : LockedWalkModel) (next : Next Seen)
-    → HoldsFindReply (find.walk_taken table bucket walk next)
-walk_taken-holds table bucket walk Go = tt
-walk_taken-holds table bucket walk (Done seen) = found_or_not-holds table bucket seen.found
-
-next_table-of : (future : Option ℕ) → IsThenOf IsFindReply (find.next_table future)
-next_table-of None = tt
-next_table-of (Some table) = tt
-
-list_followed-holds : (bucket : Locked) (owner : ℕ) (next : Option ℕ)
-    → HoldsFindReply (find.list_followed bucket owner next)
-list_followed-holds bucket owner None = tt
-list_followed-holds bucket owner (Some node) = tt
-
--- the state after it holds such a reply, and so does the answer
-pub find_after-replies : (mix : ℕ → ℕ → ℕ → ℕ) (env : Env) (port : ℕ) (at : FindAt) (word : ℕ)
-    → HoldsFindReply at
-    → HoldsFindReply (find.after_at mix env port at word).0 × IsNextOf IsFindReply (find.after_at mix env port at word).1
-find_after-replies mix env port find_at.CurrentTable word holds = (tt, tt)
-find_after-replies mix env port (find_at.Shape table) word holds = (tt, tt)
-find_after-replies mix env port (find_at.Seed table shape) word holds = (tt, tt)
-find_after-replies mix env port (find_at.Locking table lock) word holds =
-    (lock_taken-holds env port table (lock_after lock word).0 (lock_after lock word).1, tt)
-find_after-replies mix env port (find_at.Walking table bucket walk) word holds =
-    (walk_taken-holds table bucket (locked_walk_after walk word).0 (locked_walk_after walk word).1, tt)
-find_after-replies mix env port (find_at.Future table bucket) word holds = (next_table-of (slot_of word), tt)
-find_after-replies mix env port (find_at.FirstOwner bucket node) word holds = (tt, tt)
-find_after-replies mix env port (find_at.ListLink bucket node owner) word holds =
-    (list_followed-holds bucket owner (node_of env.geometry.nodes word), tt)
-find_after-replies mix env port (find_at.LaterOwner bucket node owner) word holds = (tt, tt)
-find_after-replies mix env port (find_at.Unlocking unlock (Table table)) word holds = (tt, tt)
-find_after-replies mix env port (find_at.Unlocking unlock (Answer reply)) word holds = (holds, holds)
+-- a look-up that goes on holds such a reply, and one that answers answers one
+pub find_after-replies : (mix : ℕ → ℕ → ℕ → ℕ) (env : Env) (port : ℕ) (state : FindAt) (word : ℕ)
+    → HoldsFindReply state
+    → GoesOrEnds HoldsFindReply IsFindReply (find.after_at mix env port state word)
+find_after-replies mix env port state word holds =
+    find_after-so (λ held. IsNoneOrFound) mix env port state word (find_reply_after-found env state word holds)
 
 -- ---- a bind
 
--- a refusal behind which the node is given back
-abbrev pub IsRefusal : Reply → Type 0
-IsRefusal (Exists owner) = Unit {0}
-IsRefusal (TooBig count) = Unit {0}
-IsRefusal _ = ⊥
+-- the replies that a bind may give that has taken a node
+abbrev pub IsReplyWithNode : Reply → Type 0
+IsReplyWithNode (Bound kick) = Unit {0}
+IsReplyWithNode (Exists owner) = Unit {0}
+IsReplyWithNode (TooBig count) = Unit {0}
+IsReplyWithNode _ = ⊥
 
-pub refuses_bind : (reply : Reply) → IsRefusal reply → IsBindReply reply
-refuses_bind (Exists owner) is = tt
-refuses_bind (TooBig count) is = tt
-refuses_bind _ is = absurd is
+with_node_replies : (reply : Reply) → IsReplyWithNode reply → IsBindReply reply
+with_node_replies (Bound kick) is = tt
+with_node_replies (Exists owner) is = tt
+with_node_replies (TooBig count) is = tt
+with_node_replies _ is = absurd is
 
--- the reply that its state holds is such a refusal
+-- the reply that it is going to answer, where there is one, is such a one
+abbrev pub IsNoneOrWithNode : Option Reply → Type 0
+IsNoneOrWithNode reply = IfSome reply IsReplyWithNode
+
 abbrev pub HoldsBindReply : BindAt → Type 0
-HoldsBindReply (bind_at.Unlocking node unlock next) = IsThenOf IsRefusal next
-HoldsBindReply (bind_at.Giving give reply) = IsRefusal reply
-HoldsBindReply _ = Unit {0}
+HoldsBindReply state = IsNoneOrWithNode (reply_of_bind state)
 
-module _ where
-  node_taken-replies : (take : TakeNodeModel) (next : Next (Option ℕ))
-      → HoldsBindReply (bind.node_taken take next).0 × IsNextOf IsBindReply (bind.node_taken take next).1
-  node_taken-replies take Go = (tt, tt)
-  node_taken-replies take (Done None) = (tt, tt)
-  node_taken-replies take (Done (Some node)) = (tt, tt)
+-- and so is the one that it has after an operation
+pub bind_reply_after-with_node : (env : Env) (state : BindAt) (word : ℕ) → HoldsBindReply state
+    → IsNoneOrWithNode (bind_reply_after env state word)
+bind_reply_after-with_node env (bind_at.FoundOwner claimed found) word holds = tt
+bind_reply_after-with_node env (bind_at.Count claimed) word holds =
+    cond_both (is_above_max (min word 65536) env.config.max) _ _ IsNoneOrWithNode (λ t. tt) (λ f. tt)
+bind_reply_after-with_node env (bind_at.Publish claimed kick) word holds = tt
+bind_reply_after-with_node env _ word holds = holds
 
-  bound_or_not-holds : (table : ℕ) (claimed : Claimed) (found : Option ℕ)
-      → HoldsBindReply (bind.found_or_not table claimed found)
-  bound_or_not-holds table claimed None = tt
-  bound_or_not-holds table claimed (Some node) = tt
+node_taken-replies : (take : TakeNodeModel) (next : Next (Option ℕ))
+    → GoesOrEnds HoldsBindReply IsBindReply (bind.node_taken take next)
+node_taken-replies take Go = tt
+node_taken-replies take (Done None) = tt
+node_taken-replies take (Done (Some node)) = tt
 
-  bind_walk-holds : (table : ℕ) (claimed : Claimed) (start : Start LockedWalkModel Seen)
-      → HoldsBindReply (bind.walk_or_seen table claimed start)
-  bind_walk-holds table claimed (starts.Running walk) = tt
-  bind_walk-holds table claimed (starts.Done seen) = bound_or_not-holds table claimed seen.found
+module _ (mix : ℕ → ℕ → ℕ → ℕ) (env : Env) (port : ℕ) where
+  with_node-replies : (state : BindAt) (word : ℕ) → IsSome (node_of_bind state) → HoldsBindReply state
+      → GoesOrEnds HoldsBindReply IsBindReply (bind.after_at mix env port state word)
+  with_node-replies state word has holds =
+      GoesOrEnds-weaker HoldsBindReply HoldsBindReply IsReplyWithNode IsBindReply (λ next is. is) with_node_replies
+      (bind.after_at mix env port state word)
+      (bind_after-so (λ node held. IsNoneOrWithNode) mix env port state word has (bind_reply_after-with_node env state word holds))
 
-  bind_lock-holds : (env : Env) (port node table shape : ℕ) (lock : LockModel) (next : Next ℕ)
-      → HoldsBindReply (bind.lock_taken env port node table shape lock next)
-  bind_lock-holds env port node table shape lock Go = tt
-  bind_lock-holds env port node table shape lock (Done word) =
-      bind_walk-holds table
-      (record { node = node; shape = shape; bucket = record { place = lock.place; word = word } })
-      (locked_walk_new env.geometry lock.place word (word_of port))
-
-  bind_walked-holds : (table : ℕ) (claimed : Claimed) (walk : LockedWalkModel) (next : Next Seen)
-      → HoldsBindReply (bind.walk_taken table claimed walk next)
-  bind_walked-holds table claimed walk Go = tt
-  bind_walked-holds table claimed walk (Done seen) = bound_or_not-holds table claimed seen.found
-
-  future_or_count-holds : (claimed : Claimed) (future : Option ℕ)
-      → HoldsBindReply (bind.future_or_count claimed future)
-  future_or_count-holds claimed None = tt
-  future_or_count-holds claimed (Some table) = tt
-
-  checked_count-holds : (env : Env) (claimed : Claimed) (count : ℕ)
-      → HoldsBindReply (bind.checked_count env claimed count)
-  checked_count-holds env claimed count =
-      cond_both (is_above_max (min count 65536) env.config.max) _ _ HoldsBindReply (λ t. tt) (λ f. tt)
-
-  after_unlock-holds : (env : Env) (node : ℕ) (next : Then Reply) → IsThenOf IsRefusal next
-      → HoldsBindReply (bind.after_unlock env node next)
-  after_unlock-holds env node (Table table) holds = tt
-  after_unlock-holds env node (Answer reply) holds = holds
-
--- the state after it holds such a refusal, and the answer is one of a bind's
-pub bind_after-replies : (mix : ℕ → ℕ → ℕ → ℕ) (env : Env) (port : ℕ) (at : BindAt) (word : ℕ)
-    → HoldsBindReply at
-    → HoldsBindReply (bind.after_at mix env port at word).0 × IsNextOf IsBindReply (bind.after_at mix env port at word).1
-bind_after-replies mix env port (bind_at.Taking take) word holds =
-    node_taken-replies (take_node_after take word).0 (take_node_after take word).1
-bind_after-replies mix env port (bind_at.Key node) word holds = (tt, tt)
-bind_after-replies mix env port (bind_at.Owner node) word holds = (tt, tt)
-bind_after-replies mix env port (bind_at.ListLink node) word holds = (tt, tt)
-bind_after-replies mix env port (bind_at.CurrentTable node) word holds = (tt, tt)
-bind_after-replies mix env port (bind_at.Shape node table) word holds = (tt, tt)
-bind_after-replies mix env port (bind_at.Seed node table shape) word holds = (tt, tt)
-bind_after-replies mix env port (bind_at.Locking node table shape lock) word holds =
-    (bind_lock-holds env port node table shape (lock_after lock word).0 (lock_after lock word).1, tt)
-bind_after-replies mix env port (bind_at.Walking table claimed walk) word holds =
-    (bind_walked-holds table claimed (locked_walk_after walk word).0 (locked_walk_after walk word).1, tt)
-bind_after-replies mix env port (bind_at.FoundOwner claimed found) word holds = (tt, tt)
-bind_after-replies mix env port (bind_at.Future table claimed) word holds =
-    (future_or_count-holds claimed (slot_of word), tt)
-bind_after-replies mix env port (bind_at.Count claimed) word holds = (checked_count-holds env claimed word, tt)
-bind_after-replies mix env port (bind_at.Link claimed) word holds = (tt, tt)
-bind_after-replies mix env port (bind_at.Raise claimed) word holds = (tt, tt)
-bind_after-replies mix env port (bind_at.Publish claimed kick) word holds = (tt, tt)
-bind_after-replies mix env port (bind_at.Unlocking node unlock next) word holds =
-    (after_unlock-holds env node next holds, tt)
-bind_after-replies mix env port (bind_at.Giving give reply) word holds = (holds, refuses_bind reply holds)
+  -- a bind that goes on holds such a reply, and one that answers answers one of a bind's
+  pub bind_after-replies : (state : BindAt) (word : ℕ) → HoldsBindReply state
+      → GoesOrEnds HoldsBindReply IsBindReply (bind.after_at mix env port state word)
+  bind_after-replies (bind_at.Taking take) word holds =
+      node_taken-replies (take_node_after take word).0 (take_node_after take word).1
+  bind_after-replies state word holds = with_node-replies state word refl holds

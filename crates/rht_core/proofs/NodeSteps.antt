@@ -1,5 +1,5 @@
 -- The operations that take a node and give it back, and those that write a word of a node which the caller has.
-use Rattle.std.proofs.Common.{◌≡◌, ℕ, ◌+◌, ◌*◌, ◌/◌, ◌%◌, ◌<◌, ◌==◌, List, [], ◌∷◌, length, Option, Some, None, false, cond, refl, sym, ◌∙◌, inl, inr, bit_and, nat_lt, arith}
+use Rattle.std.proofs.Common.{◌≡◌, ℕ, ◌+◌, ◌*◌, ◌/◌, ◌%◌, ◌<◌, ◌==◌, List, [], ◌∷◌, length, Option, Some, None, false, cond, refl, sym, ◌∙◌, subst, inl, inr, bit_and, nat_lt, arith}
 use Rattle.std.proofs.lemmas.Bool.{cases_eq, eqb-true, eqb-false, ltb-true}
 use Rattle.std.proofs.lemmas.Nat.Bits.{bit_at-lt}
 use Rattle.std.specs.Int.{bit_at, bit_not, trailing_zeros, w64}
@@ -11,14 +11,15 @@ use Rattle.rht_words.specs.Maps.{bit_of, bits_above, map_bits}
 use Rattle.rht_words.specs.Operations.{old_of, applied}
 use Rattle.rht_words.specs.Places.{Node, NodeWord, NodeMap, map_words, place_of, words_in}
 use Rattle.rht_words.proofs.LowestBits.{lowest_is_in}
+use Rattle.rht_words.proofs.FreeBits.{bit_at-cleared, bit_at-cleared_other}
 use Rattle.rht_words.proofs.Memory.{Memory, IsWrite, is_write}
 use Rattle.rht_arena.specs.TakeNode.{TakeNodeModel, take_node_plan, take_node_after, next_word, claim_in, claim_among, IsInRange}
 use Rattle.rht_arena.specs.declared.take_node.TakeNodeAt.{TakeNodeAt}
 use Rattle.rht_arena.specs.declared.take_node.TakeNodeAt.TheVariants as takes
-use Rattle.rht_core.proofs.Ghosts.{put, put-same, put-all, Free, Held, Ghost}
+use Rattle.rht_core.proofs.Ghosts.{put, put-same, put-none, put-only, Free, Held, Ghost}
 use Rattle.rht_core.proofs.Wholes.{Whole}
 use Rattle.rht_core.proofs.Knowledge.{Fact, Has, Raised, OnlyNode, OnlyLock, AllMean, HasNode}
-use Rattle.rht_core.proofs.QuietMoves.{fill, take_node, give_node, retouch, cleared_bit, cleared_other}
+use Rattle.rht_core.proofs.NodeMoves.{fill, take_node, give_node, retouch}
 use Rattle.rht_core.proofs.Steps.{Reads, TakesNode, GivesNode, by_test, mem, Step, reads}
 
 -- what is known by a caller that has nothing, and by one that has a node alone
@@ -58,15 +59,16 @@ module _ (env : Env) (mix : ℕ → ℕ → ℕ → ℕ) (c : ℕ) where
     abbrev M : Memory
     M = mem env mix words
 
-    pub take_step : (at : TakeNodeAt) → IsInRange env.geometry at → AllMean env mix c M G nothing_held
+    -- of a taking in this table, state by state
+    take_step_at : (at : TakeNodeAt) → IsInRange env.geometry at → AllMean env mix c M G nothing_held
         → let take : TakeNodeModel = record { geometry = env.geometry; at = at } in
         Step env mix c words G (take_node_plan take) (TakeKnows (take_node_after take (old_of words (take_node_plan take))))
-    take_step (takes.MapWord index) range means =
+    take_step_at (takes.MapWord index) range means =
         let op = Load (place_of env.geometry (NodeMap index)) in
         let take : TakeNodeModel = record { geometry = env.geometry; at = takes.MapWord index } in
         reads env mix c words G op (TakeKnows (claim_among take index (old_of words op))) whole refl
         (claim_knows (takes.MapWord index) index (old_of words op) M G means)
-    take_step (takes.Claim index bit) range means =
+    take_step_at (takes.Claim index bit) range means =
         let op = And (place_of env.geometry (NodeMap index)) (bit_not w64 (bit_of bit)) in
         let take : TakeNodeModel = record { geometry = env.geometry; at = takes.Claim index bit } in
         let word = old_of words op in
@@ -84,8 +86,8 @@ module _ (env : Env) (mix : ℕ → ℕ → ℕ → ℕ) (c : ℕ) where
         (λ t e. let clear : bit_at word bit ≡ 0 = (let less = bit_at-lt word bit in let ne = eqb-false (bit_at word bit) 1 t in omega (arith, less, ne)) in
         let same : (k : ℕ) → k < 64 → bit_at (bit_and word (bit_not w64 (bit_of bit))) k ≡ bit_at word k
         = λ k l. elim (cases_eq k bit) [
-          | inl q ↦ rw q (cleared_bit env mix word bit range.within ∙ sym clear)
-          | inr ne ↦ cleared_other env mix word bit k range.within l ne
+          | inl q ↦ rw q (bit_at-cleared word bit range.within ∙ sym clear)
+          | inr ne ↦ bit_at-cleared_other word bit k range.within l ne
         ] in
         record {
           move = Reads;
@@ -95,8 +97,16 @@ module _ (env : Env) (mix : ℕ → ℕ → ℕ → ℕ) (c : ℕ) where
         }) refl
       where
         only_this : ((other : ℕ) → G.node other ≡ Held c → ◌≡◌ {A = Option ℕ} None (Some other)) → (other : ℕ) → put G.node (64 * index + bit) (Held c) other ≡ Held c → Some (64 * index + bit) ≡ Some other
-        only_this none other = put-all (λ i o. o ≡ Held c → Some (64 * index + bit) ≡ Some i) G.node (64 * index + bit) (Held c)
-            (λ h. refl) (λ i ne h. let q = none i h in absurd (cc)) other
+        only_this = put-only G.node (64 * index + bit) (Held c) (λ o. o ≡ Held c)
+
+    pub take_step : (take : TakeNodeModel) → IsTaking take → AllMean env mix c M G nothing_held
+        → Step env mix c words G (take_node_plan take) (TakeKnows (take_node_after take (old_of words (take_node_plan take))))
+    take_step take is means =
+        subst (λ t. Step env mix c words G (take_node_plan t) (TakeKnows (take_node_after t (old_of words (take_node_plan t)))))
+        (sym same) (take_step_at take.at is.1 means)
+      where
+        same : ◌≡◌ {A = TakeNodeModel} take (record { geometry = env.geometry; at = take.at })
+        same = rw is.0 refl
 
     -- the node is given back
     pub give_step : (node : ℕ) → AllMean env mix c M G (node_held node)
@@ -113,8 +123,7 @@ module _ (env : Env) (mix : ℕ → ℕ → ℕ → ℕ) (c : ℕ) where
         }
       where
         none_left : ((other : ℕ) → G.node other ≡ Held c → Some node ≡ Some other) → (other : ℕ) → put G.node node Free other ≡ Held c → ◌≡◌ {A = Option ℕ} None (Some other)
-        none_left only other = put-all (λ i o. o ≡ Held c → ◌≡◌ {A = Option ℕ} None (Some i)) G.node node Free
-            (λ h. absurd (cc)) (λ i ne h. let q = only i h in absurd (ne (cc))) other
+        none_left = put-none G.node node Free (λ o. o ≡ Held c) (λ h. cc)
 
     -- a word of a node that the caller has is written; what it knows of other words stays
     pub fill_step : (node : ℕ) (w : NodeWord) (value : ℕ) (Knows : Memory → Ghost → Type 0) → HasNode env mix c G node

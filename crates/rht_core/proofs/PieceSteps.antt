@@ -1,9 +1,9 @@
--- The operations of the pieces: the lock, the walk under it, and the taking of a node.
-use Rattle.std.proofs.Common.{◌≡◌, ◌≢◌, ℕ, ◌+◌, ◌*◌, ◌%◌, ◌<◌, ◌==◌, List, [], ◌∷◌, ◌++◌, length, Option, Some, None, false, cond, refl, sym, ◌∙◌, subst, inl, arith}
+-- The operations of the pieces: the lock, the walk under it and the unlocking, and the place of a port's bucket.
+use Rattle.std.proofs.Common.{◌≡◌, ◌≢◌, ℕ, ◌+◌, ◌*◌, ◌%◌, ◌<◌, ◌==◌, List, [], ◌∷◌, ◌++◌, length, Option, Some, None, false, cond, refl, sym, ap, ◌∙◌, subst, inl, arith}
 use Rattle.std.proofs.Math.Seq.{append_snoc}
 use Rattle.std.proofs.lemmas.Bool.{eqb-true, eqb-false, eq-eqb}
 use Rattle.rht_words.specs.declared.env.Env.{Env}
-use Rattle.rht_words.specs.declared.op.Op.TheVariants.{Load, Exchange}
+use Rattle.rht_words.specs.declared.op.Op.TheVariants.{Load, Store, Exchange}
 use Rattle.rht_words.specs.declared.machine.Next.{Next}
 use Rattle.rht_words.specs.declared.machine.Next.TheVariants.{Go, Done}
 use Rattle.rht_words.specs.declared.machine.Start.{Start}
@@ -11,11 +11,14 @@ use Rattle.rht_words.specs.declared.machine.Start.TheVariants as starts
 use Rattle.rht_words.specs.Links.{link_of, node_of, head_of, marker_of}
 use Rattle.rht_words.specs.Chains.{IsSegment}
 use Rattle.rht_words.specs.Operations.{old_of, word_after, applied}
-use Rattle.rht_words.specs.Places.{Node, ChainLink, KeyWord, PageWord, place_of, words_in, word_at}
+use Rattle.rht_words.specs.Places.{Slot, SeedWord, Node, ChainLink, KeyWord, PageWord, place_of, words_in, word_at}
 use Rattle.rht_words.proofs.LinksRead.{links_tell_apart}
 use Rattle.rht_words.proofs.Memory.{Memory, IsWrite, is_write}
-use Rattle.rht_words.proofs.Members.{In, in-middle}
+use Rattle.rht_words.specs.Members.{In}
+use Rattle.rht_words.proofs.Members.{in-middle}
 use Rattle.rht_words.proofs.ChainLemmas.{IsSegment-cut}
+use Rattle.rht_policy.specs.Mix.{bucket_of}
+use Rattle.rht_nest.specs.Place.{bucket_place}
 use Rattle.rht_chain.specs.Lock.{LockModel, lock_plan, lock_after, IsEven}
 use Rattle.rht_chain.specs.declared.lock.LockAt.{LockAt}
 use Rattle.rht_chain.specs.declared.lock.LockAt.TheVariants as locks
@@ -23,11 +26,11 @@ use Rattle.rht_chain.specs.LockedWalk.{LockedWalkModel, locked_walk_new, locked_
 use Rattle.rht_chain.specs.declared.locked_walk.Seen.{Seen}
 use Rattle.rht_chain.specs.declared.locked_walk.LockedWalkAt.{LockedWalkAt}
 use Rattle.rht_chain.specs.declared.locked_walk.LockedWalkAt.TheVariants as walks
-use Rattle.rht_core.proofs.Ghosts.{put, put-same, put-all, Ghost}
-use Rattle.rht_core.proofs.Wholes.{chain_of, key_of, home, place_at, Whole}
+use Rattle.rht_core.proofs.Ghosts.{put, put-same, put-none, put-only, Ghost, with_holder}
+use Rattle.rht_core.proofs.Wholes.{chain_of, key_of, shape_word, home, place_at, Whole}
 use Rattle.rht_core.proofs.Knowledge.{Fact, Locks, Stands, Differs, Missed, Found, OnlyLock, AllMean, HoldsLock, NoKey, StandsAt, last_of}
-use Rattle.rht_core.proofs.QuietMoves.{take_lock, with_holder}
-use Rattle.rht_core.proofs.Steps.{TakesLock, by_test, mem, Step, reads, AllOwn, own-kept}
+use Rattle.rht_core.proofs.QuietMoves.{take_lock, drop_lock}
+use Rattle.rht_core.proofs.Steps.{TakesLock, DropsLock, by_test, mem, Step, reads, AllOwn, own-kept}
 
 -- what is known at a state of the walk, of the bucket of a port whose word was this before it was locked
 abbrev pub walk_facts_at : ℕ → ℕ → Option ℕ → LockedWalkAt → List Fact
@@ -161,15 +164,16 @@ module _ (env : Env) (mix : ℕ → ℕ → ℕ → ℕ) (c : ℕ) (port : ℕ) 
         → LockKnows (record { place = place; at = locks.Exchange word }, Go) M G
     lock_knows_even at word known even = (known.0, known.1, refl, (let odd = eqb-false (word % 2) 1 even in omega (arith, odd)))
 
-    pub lock_step : (at : LockAt) → IsEven at → AllMean env mix c M G (OnlyLock None ∷ [])
+    -- at the bucket's place, state by state
+    lock_step_at : (at : LockAt) → IsEven at → AllMean env mix c M G (OnlyLock None ∷ [])
         → Step env mix c words G (lock_plan (record { place = place; at = at })) (LockKnows (lock_after (record { place = place; at = at }) (old_of words (lock_plan (record { place = place; at = at })))))
-    lock_step locks.Word even only =
+    lock_step_at locks.Word even only =
         let word = old_of words (Load place) in
         by_test (λ t. Step env mix c words G (Load place) (LockKnows (cond t (record { place = place; at = locks.Word }, Go) (record { place = place; at = locks.Exchange word }, Go)))) (word % 2 == 1)
         (λ t. reads env mix c words G (Load place) (LockKnows (record { place = place; at = locks.Word }, Go)) whole refl (mine, only, refl, tt))
         (λ t. reads env mix c words G (Load place) (LockKnows (record { place = place; at = locks.Exchange word }, Go)) whole refl
         (lock_knows_even locks.Word word (mine, only, refl, tt) t))
-    lock_step (locks.Exchange found) even only =
+    lock_step_at (locks.Exchange found) even only =
         let op = Exchange place found (found + 1) in
         let word = old_of words op in
         by_test (λ t. (word == found) ≡ t → Step env mix c words G op (LockKnows (cond t (record { place = place; at = locks.Exchange found }, Done found) (record { place = place; at = locks.Word }, Go)))) (word == found)
@@ -189,7 +193,7 @@ module _ (env : Env) (mix : ℕ → ℕ → ℕ → ℕ) (c : ℕ) (port : ℕ) 
               ready = tt;
               made = made.0;
               knows = (
-                own-kept env mix c M (mem env mix (applied words op)) G (with_holder env mix G j (Some c)) own all_own
+                own-kept env mix c M (mem env mix (applied words op)) G (with_holder G j (Some c)) own all_own
                     (λ n w l. write.others (Node n w) l (λ e. cc)) (λ n. refl) refl mine,
                 (only_this, ((rw (put-same G.bucket j (record (G.bucket j) { holder = Some c })) refl, rw (put-same G.bucket j (record (G.bucket j) { holder = Some c })) made.1), tt)),
                 refl,
@@ -200,15 +204,40 @@ module _ (env : Env) (mix : ℕ → ℕ → ℕ → ℕ) (c : ℕ) (port : ℕ) 
             written s = rw s (rw (eq-eqb found found refl) refl)
 
             only_this : (other : ℕ) → (put G.bucket j (record (G.bucket j) { holder = Some c }) other).holder ≡ Some c → Some j ≡ Some other
-            only_this other = put-all (λ i b. b.holder ≡ Some c → Some j ≡ Some i) G.bucket j (record (G.bucket j) { holder = Some c })
-                (λ h. refl) (λ i ne h. let none = only.0 i h in absurd (cc)) other
+            only_this = put-only G.bucket j (record (G.bucket j) { holder = Some c }) (λ b. b.holder ≡ Some c) only.0
+
+    pub lock_step : (lock : LockModel) → lock.place ≡ place → IsEven lock.at → AllMean env mix c M G (OnlyLock None ∷ [])
+        → Step env mix c words G (lock_plan lock) (LockKnows (lock_after lock (old_of words (lock_plan lock))))
+    lock_step lock is even only =
+        subst (λ p. let moved : LockModel = record { place = p; at = lock.at } in
+        Step env mix c words G (lock_plan moved) (LockKnows (lock_after moved (old_of words (lock_plan moved)))))
+        (sym is) (lock_step_at lock.at even only)
+
+    -- the holder stores the bucket's word without the lock, and nothing else changes
+    pub unlock_step : (word : ℕ) → AllMean env mix c M G (OnlyLock (Some j) ∷ Locks port word ∷ [])
+        → Step env mix c words G (Store place word) (λ M' G'. Own M' G' × AllMean env mix c M' G' (OnlyLock None ∷ []))
+    unlock_step word knows =
+        let op = Store place word in
+        let M' = mem env mix (applied words op) in
+        let holds = knows.1.0 in
+        let write : IsWrite env.geometry M M' (PageWord j) word = is_write env.geometry words (PageWord j) op all within refl in
+        record {
+          move = DropsLock j;
+          ready = tt;
+          made = drop_lock env mix c j word M M' G whole within holds.0 holds.1 write;
+          knows = (
+            own-kept env mix c M M' G (with_holder G j None) own all_own (λ n w l. write.others (Node n w) l (λ e. cc)) (λ n. refl) refl mine,
+            (put-none G.bucket j (record (G.bucket j) { holder = None }) (λ b. b.holder ≡ Some c) (λ h. cc) knows.0, tt),
+          );
+        }
 
     -- ---- an operation of the walk
 
-    pub walk_step : (word : ℕ) (before : Option ℕ) (count : ℕ) (at : LockedWalkAt) → AllMean env mix c M G (OnlyLock (Some j) ∷ walk_facts_at port word before at)
+    -- of a walk in this table for this port, state by state
+    walk_step_at : (word : ℕ) (before : Option ℕ) (count : ℕ) (at : LockedWalkAt) → AllMean env mix c M G (OnlyLock (Some j) ∷ walk_facts_at port word before at)
         → let walk : LockedWalkModel = record { geometry = env.geometry; key = port; before = before; length = count; at = at } in
         Step env mix c words G (locked_walk_plan walk) (WalkKnows word (locked_walk_after walk (old_of words (locked_walk_plan walk))))
-    walk_step word before count (walks.Key node) knows =
+    walk_step_at word before count (walks.Key node) knows =
         let op = Load (place_of env.geometry (Node node KeyWord)) in
         let walk : LockedWalkModel = record { geometry = env.geometry; key = port; before = before; length = count; at = walks.Key node } in
         let key = old_of words op in
@@ -218,8 +247,28 @@ module _ (env : Env) (mix : ℕ → ℕ → ℕ → ℕ) (c : ℕ) (port : ℕ) 
         (mine, (knows.0, ((stands.0, rw stands.1.split (in-middle node stands.1.front stands.1.rear), eqb-true key port t), tt))))
         (λ t e. reads env mix c words G op (WalkKnows word (record (counted walk) { at = walks.ChainLink node }, Go)) whole refl
         (mine, (knows.0, (stands, ((stands.0, rw stands.1.split (in-middle node stands.1.front stands.1.rear), eqb-false key port t), tt))), (refl, refl))) refl
-    walk_step word before count (walks.ChainLink node) knows =
+    walk_step_at word before count (walks.ChainLink node) knows =
         let op = Load (place_of env.geometry (Node node ChainLink)) in
         let walk : LockedWalkModel = record { geometry = env.geometry; key = port; before = before; length = count; at = walks.ChainLink node } in
         reads env mix c words G op (WalkKnows word (followed walk node (old_of words op) (node_of env.geometry.nodes (old_of words op)))) whole refl
         (walk_on M G whole word node walk (refl, refl) mine (knows.0, tt) knows.1.0.0 knows.1.0.1 knows.1.1.0.2)
+
+    pub walk_step : (word : ℕ) (walk : LockedWalkModel) → IsWalk walk
+        → AllMean env mix c M G (OnlyLock (Some j) ∷ walk_facts_at port word walk.before walk.at)
+        → Step env mix c words G (locked_walk_plan walk) (WalkKnows word (locked_walk_after walk (old_of words (locked_walk_plan walk))))
+    walk_step word walk is knows =
+        subst (λ w. Step env mix c words G (locked_walk_plan w) (WalkKnows word (locked_walk_after w (old_of words (locked_walk_plan w)))))
+        (sym same) (walk_step_at word walk.before walk.length walk.at knows)
+      where
+        same : ◌≡◌ {A = LockedWalkModel} walk (record { geometry = env.geometry; key = port; before = walk.before; length = walk.length; at = walk.at })
+        same = rw is.0 (rw is.1 refl)
+
+    -- ---- the seed
+
+    -- the bucket that the words of the one table give is the port's
+    pub seed_place : (table shape : ℕ) → table ≡ 0 → shape ≡ shape_word env mix
+        → bucket_place env.geometry shape (bucket_of mix port shape (M (Slot table SeedWord))) ≡ place
+    seed_place table shape first is =
+        let seed : M (Slot table SeedWord) ≡ env.config.seed = ap (λ t. M (Slot t SeedWord)) first ∙ whole.tables.seed_is in
+        ap (λ s. bucket_place env.geometry s (bucket_of mix port s (M (Slot table SeedWord)))) is
+        ∙ ap (λ s. bucket_place env.geometry (shape_word env mix) (bucket_of mix port (shape_word env mix) s)) seed

@@ -3,15 +3,13 @@
 -- It holds at opening, where every caller is idle. A call begins in range, and each machine stays in
 -- range whatever word it is told, so nothing has to be known of the words. Since no machine plans an
 -- operation on the word of the enrolled callers, an Enroll alone changes that word.
-use Rattle.std.proofs.Common.{◌≡◌, ℕ, zero, suc, ◌+◌, ◌<◌, ◌≤◌, inl, inr, Bool, List, [], ◌∷◌, length, get_or, set, replicate, refl, sym, ap, subst, ◌∙◌, arith}
+use Rattle.std.proofs.Common.{◌≡◌, ℕ, ◌+◌, ◌<◌, ◌≤◌, List, length, refl, sym, ap, subst, ◌∙◌, arith}
 use Rattle.std.specs.Prelude.{Option, Some, None, nat_lt, max, slice_set}
 use Rattle.std.specs.List.{AllByRecursion}
-use Rattle.std.proofs.lemmas.Bool.{cond_both, cases_eq, ltb-true}
-use Rattle.std.proofs.lemmas.List.{length-set, length-replicate, get_or-set_same, get_or-set_other}
+use Rattle.std.proofs.lemmas.Bool.{cond_both, ltb-true}
+use Rattle.std.proofs.lemmas.List.{length-set, length-replicate}
 use Rattle.rht_words.specs.declared.op.Op.{Op}
 use Rattle.rht_words.specs.declared.env.Env.{Env}
-use Rattle.rht_words.specs.declared.config.Kind.{Kind}
-use Rattle.rht_words.specs.declared.config.Kind.TheVariants.{Single, Listed}
 use Rattle.rht_words.specs.declared.machine.Next.{Next}
 use Rattle.rht_words.specs.declared.machine.Next.TheVariants.{Go, Done}
 use Rattle.rht_words.specs.Operations.{old_of, applied}
@@ -19,8 +17,8 @@ use Rattle.rht_words.specs.declared.geometry.Geometry.{Geometry}
 use Rattle.rht_words.specs.Places.{EnrolledCallers, map_words, place_of, words_in, word_at}
 use Rattle.rht_words.proofs.WordChanges.{length-applied, applied-other}
 use Rattle.rht_words.proofs.OpeningLaws.{stand_in_place}
+use Rattle.rht_words.proofs.EachElement.{AllByRecursion-set, AllByRecursion-replicate, each_set, each_replicate}
 use Rattle.rht_model.specs.declared.history.Call.{Call}
-use Rattle.rht_model.specs.declared.history.Call.TheVariants.{Bind, Find}
 use Rattle.rht_model.specs.declared.history.Reply.{Reply}
 use Rattle.rht_find.specs.Find.{FindModel, find_after, plan_at as find_plan_at}
 use Rattle.rht_bind.specs.Bind.{BindModel, bind_after, plan_at as bind_plan_at}
@@ -28,42 +26,13 @@ use Rattle.rht_core.specs.declared.event.Event.{Event}
 use Rattle.rht_core.specs.declared.event.Event.TheVariants.{Enroll, Begin, Step}
 use Rattle.rht_core.specs.declared.local.Local.{Local}
 use Rattle.rht_core.specs.declared.local.Local.TheVariants.{Idle, Finding, Binding}
-use Rattle.rht_core.specs.Locals.{machine_of, binding_of, plan_of, local_after, found_next, bound_next, IsLocalOf}
+use Rattle.rht_core.specs.Locals.{machine_of, plan_of, local_after, found_next, bound_next, IsLocalOf}
 use Rattle.rht_core.specs.Runs.{Core, World, local_of, beginning, with_machine, planned, with_step, enrolling, enrolled_after, world_step, run_of, opening, opening_core}
 use Rattle.rht_core.specs.Laws.{IsFindOf, IsBindOf, IsPlannedIn, IsLocalIn, IsInRange, InRange, IsOfCaller, IsEnrolledKept, Enrolled}
 use Rattle.rht_core.proofs.FindRanges.{IsFindAtIn, find_after-in, find_planned-in}
 use Rattle.rht_core.proofs.BindRanges.{IsBindAtIn, bind_after-in, bind_planned-in}
+use Rattle.rht_core.proofs.CallsInProgress.{begins_so}
 use Rattle.rht_core.proofs.Worlds.{CanBegin, beginning-some, planned-some, run_of-push, run_keeps}
-
--- ---- lists
-
--- what holds of each caller still does where one caller does something else
-pub each_set : {A : Type 0} (P : ℕ → A → Type 0) (default : A) (xs : List A) (c : ℕ) (x : A) → c < length xs
-    → P c x
-    → ((k : ℕ) → P k (get_or xs k default)) → (k : ℕ) → P k (get_or (set xs c x) k default)
-each_set P default xs c x below p each k = elim (cases_eq k c) [
-  | inl same ↦
-      subst (λ j. P j (get_or (set xs c x) j default)) (sym same)
-      (subst (P c) (sym (get_or-set_same xs c x default below)) p)
-  | inr other ↦ subst (P k) (sym (get_or-set_other xs c k x default other)) (each k)
-]
-
--- the same of a list's elements alone
-pub all_set : {A : Type 0} (P : A → Type 0) (xs : List A) (c : ℕ) (x : A) → P x → AllByRecursion P xs
-    → AllByRecursion P (set xs c x)
-all_set P [] c x p all = tt
-all_set P (y ∷ ys) zero x p all = (p, all.1)
-all_set P (y ∷ ys) (suc c) x p all = (all.0, all_set P ys c x p all.1)
-
-all_replicate : {A : Type 0} (P : A → Type 0) (n : ℕ) (x : A) → P x → AllByRecursion P (replicate n x)
-all_replicate P zero x p = tt
-all_replicate P (suc n) x p = (p, all_replicate P n x p)
-
--- one thing stands everywhere in a list of it, and behind its end too
-pub each_replicate : {A : Type 0} (P : A → Type 0) (n k : ℕ) (x : A) → P x → P (get_or (replicate n x) k x)
-each_replicate P zero k x p = p
-each_replicate P (suc n) zero x p = p
-each_replicate P (suc n) (suc k) x p = each_replicate P n k x p
 
 -- ---- what a caller does
 
@@ -83,26 +52,18 @@ module _ (M : Type 0) where
   IsLocalOf-in env c (Finding m) within = within.same_env
   IsLocalOf-in env c (Binding m) within = within.same_env
 
-  -- where there is something, it is in range
-  abbrev MachineIn : Env → ℕ → Option (Local M) → Type 0
-  MachineIn env c None = Unit {0}
-  MachineIn env c (Some machine) = IsLocalIn env c machine
-
-  binding_of-in : (env : Env) (c port owner : ℕ) (once : Bool) (kind : Kind)
-      → MachineIn env c (binding_of env c port owner once kind)
-  binding_of-in env c port owner once Single =
-      record { same_env = refl; same_caller = refl; range = refl; piece = first_map_word env.geometry }
-  binding_of-in env c port owner once Listed = tt
-
-  machine_of-in : (env : Env) (c : ℕ) (call : Call) → MachineIn env c (machine_of env c call)
-  machine_of-in env c (Find port) = record { same_env = refl; same_caller = refl; range = tt; piece = tt }
-  machine_of-in env c (Bind port owner once) = binding_of-in env c port owner once env.config.kind
-  machine_of-in env c _ = tt
-
   -- a caller that begins begins in range
   pub begins-in : (env : Env) (c : ℕ) (call : Call) (machine : Local M) → machine_of env c call ≡ Some machine
       → IsLocalIn env c machine
-  begins-in env c call machine is = subst (MachineIn env c) is (machine_of-in env c call)
+  begins-in env c =
+      begins_so M env c (λ call machine. IsLocalIn env c machine)
+      (λ port. record { same_env = refl; same_caller = refl; range = tt; piece = tt })
+      (λ port owner once single. record {
+        same_env = refl;
+        same_caller = refl;
+        range = refl;
+        piece = first_map_word env.geometry;
+      })
 
   found_next-in : (env : Env) (c : ℕ) (m : FindModel) (next : Next Reply) → IsFindOf env c m
       → IsLocalIn env c (found_next {M = M} (m, next)).0
@@ -169,7 +130,7 @@ module _ (M : Type 0) (mix : ℕ → ℕ → ℕ → ℕ) (env : Env) where
     all_words = (stand_in_place env).count;
     all_locals = length-replicate env.geometry.callers Idle;
     few_enrolled = omega arith;
-    all_local = all_replicate (IsLocalOf env) env.geometry.callers Idle tt;
+    all_local = AllByRecursion-replicate (IsLocalOf env) env.geometry.callers Idle tt;
     locals = λ c. each_replicate (IsLocalIn env c) env.geometry.callers c Idle tt;
   }
 
@@ -185,7 +146,7 @@ module _ (M : Type 0) (mix : ℕ → ℕ → ℕ → ℕ) (env : Env) where
     all_words = stays.all_words;
     all_locals = length-set core.locals c local ∙ stays.all_locals;
     few_enrolled = stays.few_enrolled;
-    all_local = all_set (IsLocalOf env) core.locals c local (IsLocalOf-in M env c local within) stays.all_local;
+    all_local = AllByRecursion-set (IsLocalOf env) core.locals c local (IsLocalOf-in M env c local within) stays.all_local;
     locals = each_set (IsLocalIn env) Idle core.locals c local (has_place core c stays enrolled) within stays.locals;
   }
 

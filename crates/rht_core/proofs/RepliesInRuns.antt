@@ -1,15 +1,14 @@
 -- In every run each call that has ended has a reply of its kind, and what a caller works at is the
 -- call of its book. A caller keeps this of itself: it begins with the call that its book gets, and
 -- the reply that ends it is its machine's.
-use Rattle.std.proofs.Common.{◌≡◌, ℕ, Bool, true, List, [], ◌∷◌, ◌++◌, refl, sym, subst}
-use Rattle.std.specs.Prelude.{Option, Some, None}
+use Rattle.std.proofs.Common.{◌≡◌, ℕ, true, List, [], ◌++◌, refl, sym, subst}
+use Rattle.std.specs.Prelude.{Option, Some}
 use Rattle.std.specs.List.{AllByRecursion}
 use Rattle.rht_words.specs.declared.op.Op.{Op}
 use Rattle.rht_words.specs.declared.env.Env.{Env}
-use Rattle.rht_words.specs.declared.config.Kind.{Kind}
-use Rattle.rht_words.specs.declared.config.Kind.TheVariants.{Single, Listed}
 use Rattle.rht_words.specs.declared.machine.Next.{Next}
 use Rattle.rht_words.specs.declared.machine.Next.TheVariants.{Go, Done}
+use Rattle.rht_words.proofs.EachElement.{AllByRecursion-push}
 use Rattle.rht_model.specs.declared.history.Call.{Call}
 use Rattle.rht_model.specs.declared.history.Call.TheVariants.{Bind, Find}
 use Rattle.rht_model.specs.declared.history.Reply.{Reply}
@@ -19,17 +18,13 @@ use Rattle.rht_core.specs.declared.event.Event.{Event}
 use Rattle.rht_core.specs.declared.book.Book.{Book}
 use Rattle.rht_core.specs.declared.local.Local.{Local}
 use Rattle.rht_core.specs.declared.local.Local.TheVariants.{Idle, Finding, Binding}
-use Rattle.rht_core.specs.Locals.{is_idle, machine_of, binding_of, plan_of, found_next, bound_next}
+use Rattle.rht_core.specs.Locals.{is_idle, machine_of, plan_of, found_next, bound_next}
 use Rattle.rht_core.specs.Runs.{Seen, seen, book_begun, book_after, finished_with, run_of}
 use Rattle.rht_core.specs.Laws.{IsFindReply, IsBindReply, IsReplyTo, IsAnswered, IsBookOfFind, IsBookOfBind, IsBookOf, Replies, seen_begin, seen_step}
-use Rattle.rht_core.proofs.MachineReplies.{IsNextOf, HoldsFindReply, HoldsBindReply, find_after-replies, bind_after-replies}
-use Rattle.rht_core.proofs.CallersInRuns.{IsKept, callers_keep}
-
--- one more at the end of a list of which it holds
-pub all_push : {A : Type 0} (P : A → Type 0) (xs : List A) (x : A) → AllByRecursion P xs → P x
-    → AllByRecursion P (xs ++ x ∷ [])
-all_push P [] x all p = (p, tt)
-all_push P (y ∷ ys) x all p = (all.0, all_push P ys x all.1 p)
+use Rattle.rht_core.proofs.MachinesGoOn.{GoesOrEnds}
+use Rattle.rht_core.proofs.MachineReplies.{HoldsFindReply, HoldsBindReply, find_after-replies, bind_after-replies}
+use Rattle.rht_core.proofs.CallsInProgress.{begins_so}
+use Rattle.rht_core.proofs.TracedCallers.{IsKept, callers_keep}
 
 -- a call that ends with a reply of its kind
 ended : (book : Book) (call : Call) (reply : Reply) → book.call ≡ Some call → IsReplyTo call reply
@@ -37,7 +32,7 @@ ended : (book : Book) (call : Call) (reply : Reply) → book.call ≡ Some call 
     → AllByRecursion IsAnswered (book_after (Some reply) book).finished
 ended book call reply is fits all =
     subst (λ (o : Option Call). AllByRecursion IsAnswered (book.finished ++ finished_with o reply)) (sym is)
-    (all_push IsAnswered book.finished (record { call = call; reply = reply; owners = []; pairs = [] }) all
+    (AllByRecursion-push IsAnswered book.finished (record { call = call; reply = reply; owners = []; pairs = [] }) all
     record { reply = fits; owners = refl; pairs = refl })
 
 module _ (M : Type 0) (mix : ℕ → ℕ → ℕ → ℕ) (env : Env) where
@@ -55,40 +50,29 @@ module _ (M : Type 0) (mix : ℕ → ℕ → ℕ → ℕ) (env : Env) where
 
   -- ---- the beginning of a call
 
-  abbrev BeginsRight : ℕ → Call → Book → Option (Local M) → Type 0
-  BeginsRight c call book None = Unit {0}
-  BeginsRight c call book (Some machine) = IsBookOf env c machine (book_begun call book) × HoldsReply machine
-
-  binding-right : (c port owner : ℕ) (once : Bool) (book : Book) (kind : Kind)
-      → BeginsRight c (Bind port owner once) book (binding_of env c port owner once kind)
-  binding-right c port owner once book Single = (record { same_env = refl; same_caller = refl; call = refl }, tt)
-  binding-right c port owner once book Listed = tt
-
-  machine-right : (c : ℕ) (call : Call) (book : Book) → BeginsRight c call book (machine_of env c call)
-  machine-right c (Find port) book = (record { same_env = refl; same_caller = refl; call = refl }, tt)
-  machine-right c (Bind port owner once) book = binding-right c port owner once book env.config.kind
-  machine-right c _ book = tt
-
   begins-right : (c : ℕ) (call : Call) (machine : Local M) (here : Seen M) → is_idle here.local ≡ true
       → machine_of env c call ≡ Some machine
       → IsRight c here → IsRight c (seen_begin call machine here)
   begins-right c call machine here idle is right =
-      let begun = subst (BeginsRight c call here.book) is (machine-right c call here.book) in
+      let begun =
+      begins_so M env c (λ asked first. IsBookOf env c first (book_begun asked here.book) × HoldsReply first)
+      (λ port. (record { same_env = refl; same_caller = refl; call = refl }, tt))
+      (λ port owner once single. (record { same_env = refl; same_caller = refl; call = refl }, tt))
+      call machine is in
       record { finished = right.finished; progress = begun.0; holds = begun.1 }
 
   -- ---- a step of a call
 
   found-right : (c : ℕ) (m : FindModel) (next : Next Reply) (book : Book) → IsBookOfFind env c m book
-      → HoldsFindReply m.at
-      → IsNextOf IsFindReply next → AllByRecursion IsAnswered book.finished
+      → GoesOrEnds HoldsFindReply IsFindReply (m.at, next) → AllByRecursion IsAnswered book.finished
       → IsRight c (record { local = (found_next {M = M} (m, next)).0; book = book_after (found_next {M = M} (m, next)).1 book })
-  found-right c m Go book of holds answer all =
+  found-right c m Go book of holds all =
       record {
         finished = all;
         progress = record { same_env = of.same_env; same_caller = of.same_caller; call = of.call };
         holds = holds;
       }
-  found-right c m (Done reply) book of holds answer all =
+  found-right c m (Done reply) book of answer all =
       record {
         finished = ended book (Find m.port) reply of.call answer all;
         progress = record { call = refl; steps = refl };
@@ -96,16 +80,15 @@ module _ (M : Type 0) (mix : ℕ → ℕ → ℕ → ℕ) (env : Env) where
       }
 
   bound-right : (c : ℕ) (m : BindModel) (next : Next Reply) (book : Book) → IsBookOfBind env c m book
-      → HoldsBindReply m.at
-      → IsNextOf IsBindReply next → AllByRecursion IsAnswered book.finished
+      → GoesOrEnds HoldsBindReply IsBindReply (m.at, next) → AllByRecursion IsAnswered book.finished
       → IsRight c (record { local = (bound_next {M = M} (m, next)).0; book = book_after (bound_next {M = M} (m, next)).1 book })
-  bound-right c m Go book of holds answer all =
+  bound-right c m Go book of holds all =
       record {
         finished = all;
         progress = record { same_env = of.same_env; same_caller = of.same_caller; call = of.call };
         holds = holds;
       }
-  bound-right c m (Done reply) book of holds answer all =
+  bound-right c m (Done reply) book of answer all =
       record {
         finished = ended book (Bind m.port m.owner m.once) reply of.call answer all;
         progress = record { call = refl; steps = refl };
@@ -117,15 +100,13 @@ module _ (M : Type 0) (mix : ℕ → ℕ → ℕ → ℕ) (env : Env) where
       → IsRight c (seen_step mix old (record { local = local; book = book }))
   local_after-right c Idle book op old plan right = absurd (cc)
   local_after-right c (Finding m) book op old plan right =
-      let next = find_after-replies mix m.env m.port m.at old right.holds in
       found-right c (find_after mix m old).0 (find_after mix m old).1 book
       record { same_env = right.progress.same_env; same_caller = right.progress.same_caller; call = right.progress.call }
-      next.0 next.1 right.finished
+      (find_after-replies mix m.env m.port m.at old right.holds) right.finished
   local_after-right c (Binding m) book op old plan right =
-      let next = bind_after-replies mix m.env m.port m.at old right.holds in
       bound-right c (bind_after mix m old).0 (bind_after mix m old).1 book
       record { same_env = right.progress.same_env; same_caller = right.progress.same_caller; call = right.progress.call }
-      next.0 next.1 right.finished
+      (bind_after-replies mix m.env m.port m.at old right.holds) right.finished
 
   pub kept-right : IsKept M mix env IsRight
   kept-right = record {

@@ -1,16 +1,16 @@
 -- What one operation of a caller makes of the words, the ghost and the caller's knowledge.
 use Rattle.std.proofs.Common.{◌≡◌, ℕ, ◌<◌, List, [], ◌∷◌, Some, None, Bool, true, false, refl, sym, ◌∙◌}
+use Rattle.std.specs.List.{AllByRecursion}
 use Rattle.std.proofs.lemmas.List.{set-get_or}
 use Rattle.rht_words.specs.declared.env.Env.{Env}
 use Rattle.rht_words.specs.declared.op.Op.{Op}
 use Rattle.rht_words.specs.Operations.{op_place, old_of, word_after, applied}
 use Rattle.rht_words.specs.Places.{Node, NodeWord, word_at}
 use Rattle.rht_words.proofs.Memory.{Memory}
-use Rattle.rht_core.proofs.Ghosts.{Free, Held, Ghost}
+use Rattle.rht_core.proofs.Ghosts.{Free, Held, Ghost, with_holder, with_owner, with_raised}
 use Rattle.rht_core.proofs.Wholes.{home, Whole}
-use Rattle.rht_core.proofs.Knowledge.{Fact, Has, WordIs, Locks, Stands, Differs, Missed, Found, OwnerIs, Raised, OnlyNode, OnlyLock, Means, AllMean}
+use Rattle.rht_core.proofs.Knowledge.{Fact, Has, WordIs, Raised, OnlyNode, Means, AllMean}
 use Rattle.rht_core.proofs.Frames.{Made, still}
-use Rattle.rht_core.proofs.QuietMoves.{with_holder, with_owner, with_raised}
 use Rattle.rht_core.proofs.Linking.{linked, IsReady}
 
 -- What an operation does beside what it finds: nothing that others see, a node taken or given back, a lock taken or dropped,
@@ -37,11 +37,11 @@ module _ (env : Env) (mix : ℕ → ℕ → ℕ → ℕ) where
   -- the ghost after a move of a caller
   abbrev pub ghost_after : ℕ → Move → Ghost → Ghost
   ghost_after c Reads G = G
-  ghost_after c (TakesNode n) G = with_owner env mix G n (Held c)
-  ghost_after c (GivesNode n) G = with_owner env mix G n Free
-  ghost_after c (TakesLock j) G = with_holder env mix G j (Some c)
-  ghost_after c (DropsLock j) G = with_holder env mix G j None
-  ghost_after c Raises G = with_raised env mix G c true
+  ghost_after c (TakesNode n) G = with_owner G n (Held c)
+  ghost_after c (GivesNode n) G = with_owner G n Free
+  ghost_after c (TakesLock j) G = with_holder G j (Some c)
+  ghost_after c (DropsLock j) G = with_holder G j None
+  ghost_after c Raises G = with_raised G c true
   ghost_after c (Links n port) G = linked env mix G c (home env mix port) n port
 
   -- the words as a memory
@@ -80,68 +80,57 @@ module _ (env : Env) (mix : ℕ → ℕ → ℕ → ℕ) where
     knows = more (mem (applied words op)) (ghost_after c step.move G) step.made.whole step.knows;
   }
 
-  -- ---- facts of what the caller has, which no store to a bucket's word touches
+  -- ---- facts of what the caller has, which a store to another word leaves
 
-  abbrev pub IsOwn : Fact → Type 0
-  IsOwn (Has node) = Unit {0}
-  IsOwn (WordIs node word value) = Unit {0}
-  IsOwn (Raised now) = Unit {0}
-  IsOwn (OnlyNode node) = Unit {0}
-  IsOwn _ = ⊥
-
-  abbrev pub AllOwn : List Fact → Type 0
-  AllOwn [] = Unit {0}
-  AllOwn (fact ∷ facts) = IsOwn fact × AllOwn facts
-
-  pub own-kept : (c : ℕ) (M M' : Memory) (G G' : Ghost) (facts : List Fact) → AllOwn facts
-      → ((n : ℕ) (w : NodeWord) → n < env.geometry.nodes → M' (Node n w) ≡ M (Node n w))
-      → ((n : ℕ) → G'.node n ≡ G.node n) → G'.raised c ≡ G.raised c
-      → AllMean env mix c M G facts → AllMean env mix c M' G' facts
-  own-kept c M M' G G' [] own words nodes raised means = tt
-  own-kept c M M' G G' (fact ∷ facts) own words nodes raised means =
-      (one fact own.0 means.0, own-kept c M M' G G' facts own.1 words nodes raised means.1)
-    where
-      one : (f : Fact) → IsOwn f → Means env mix c M G f → Means env mix c M' G' f
-      one (Has n) o h = (nodes n ∙ h.0, h.1)
-      one (WordIs n w v) o h = ((nodes n ∙ h.0.0, h.0.1), words n w h.0.1 ∙ h.1)
-      one (Raised now) o h = raised ∙ h
-      one (OnlyNode node) o h = λ other held. h other (sym (nodes other) ∙ held)
-      one (Locks p w) o h = absurd o
-      one (Stands p w n b) o h = absurd o
-      one (Differs p w n) o h = absurd o
-      one (Missed p w) o h = absurd o
-      one (Found p w n) o h = absurd o
-      one (OwnerIs p w n x) o h = absurd o
-      one (OnlyLock b) o h = absurd o
-
-  -- facts of the node that it has alone, whatever becomes of the count
+  -- facts of the node that it has, whatever becomes of the count
   abbrev pub IsOfNode : Fact → Type 0
   IsOfNode (Has node) = Unit {0}
   IsOfNode (WordIs node word value) = Unit {0}
   IsOfNode (OnlyNode node) = Unit {0}
   IsOfNode _ = ⊥
 
-  abbrev pub AllOfNode : List Fact → Type 0
-  AllOfNode [] = Unit {0}
-  AllOfNode (fact ∷ facts) = IsOfNode fact × AllOfNode facts
+  -- these, and whether it has raised the count
+  abbrev pub IsOwn : Fact → Type 0
+  IsOwn (Raised now) = Unit {0}
+  IsOwn fact = IsOfNode fact
 
-  pub node-kept : (c : ℕ) (M M' : Memory) (G G' : Ghost) (facts : List Fact) → AllOfNode facts
-      → ((n : ℕ) (w : NodeWord) → n < env.geometry.nodes → M' (Node n w) ≡ M (Node n w))
-      → ((n : ℕ) → G'.node n ≡ G.node n)
-      → AllMean env mix c M G facts → AllMean env mix c M' G' facts
-  node-kept c M M' G G' [] own words nodes means = tt
-  node-kept c M M' G G' (fact ∷ facts) own words nodes means =
-      (one fact own.0 means.0, node-kept c M M' G G' facts own.1 words nodes means.1)
-    where
-      one : (f : Fact) → IsOfNode f → Means env mix c M G f → Means env mix c M' G' f
-      one (Has n) o h = (nodes n ∙ h.0, h.1)
-      one (WordIs n w v) o h = ((nodes n ∙ h.0.0, h.0.1), words n w h.0.1 ∙ h.1)
-      one (OnlyNode node) o h = λ other held. h other (sym (nodes other) ∙ held)
-      one (Raised now) o h = absurd o
-      one (Locks p w) o h = absurd o
-      one (Stands p w n b) o h = absurd o
-      one (Differs p w n) o h = absurd o
-      one (Missed p w) o h = absurd o
-      one (Found p w n) o h = absurd o
-      one (OwnerIs p w n x) o h = absurd o
-      one (OnlyLock b) o h = absurd o
+  abbrev pub AllOfNode : List Fact → Type 0
+  AllOfNode facts = AllByRecursion IsOfNode facts
+
+  abbrev pub AllOwn : List Fact → Type 0
+  AllOwn facts = AllByRecursion IsOwn facts
+
+  -- the words of nodes stay, and who has them
+  module _ (c : ℕ) (M M' : Memory) (G G' : Ghost) where
+    -- what holds of each fact holds of all
+    each-kept : (Is : Fact → Type 0) → ((fact : Fact) → Is fact → Means env mix c M G fact → Means env mix c M' G' fact)
+        → (facts : List Fact) → AllByRecursion Is facts
+        → AllMean env mix c M G facts → AllMean env mix c M' G' facts
+    each-kept Is one [] is means = tt
+    each-kept Is one (fact ∷ facts) is means = (one fact is.0 means.0, each-kept Is one facts is.1 means.1)
+
+    of_node-kept : ((n : ℕ) (w : NodeWord) → n < env.geometry.nodes → M' (Node n w) ≡ M (Node n w))
+        → ((n : ℕ) → G'.node n ≡ G.node n)
+        → (fact : Fact) → IsOfNode fact → Means env mix c M G fact → Means env mix c M' G' fact
+    of_node-kept words nodes (Has n) is h = (nodes n ∙ h.0, h.1)
+    of_node-kept words nodes (WordIs n w v) is h = ((nodes n ∙ h.0.0, h.0.1), words n w h.0.1 ∙ h.1)
+    of_node-kept words nodes (OnlyNode node) is h = λ other held. h other (sym (nodes other) ∙ held)
+    of_node-kept words nodes _ is h = absurd is
+
+    own_one-kept : ((n : ℕ) (w : NodeWord) → n < env.geometry.nodes → M' (Node n w) ≡ M (Node n w))
+        → ((n : ℕ) → G'.node n ≡ G.node n) → G'.raised c ≡ G.raised c
+        → (fact : Fact) → IsOwn fact → Means env mix c M G fact → Means env mix c M' G' fact
+    own_one-kept words nodes raised (Raised now) is h = raised ∙ h
+    own_one-kept words nodes raised fact is h = of_node-kept words nodes fact is h
+
+    pub node-kept : (facts : List Fact) → AllOfNode facts
+        → ((n : ℕ) (w : NodeWord) → n < env.geometry.nodes → M' (Node n w) ≡ M (Node n w))
+        → ((n : ℕ) → G'.node n ≡ G.node n)
+        → AllMean env mix c M G facts → AllMean env mix c M' G' facts
+    node-kept facts all words nodes = each-kept IsOfNode (of_node-kept words nodes) facts all
+
+    pub own-kept : (facts : List Fact) → AllOwn facts
+        → ((n : ℕ) (w : NodeWord) → n < env.geometry.nodes → M' (Node n w) ≡ M (Node n w))
+        → ((n : ℕ) → G'.node n ≡ G.node n) → G'.raised c ≡ G.raised c
+        → AllMean env mix c M G facts → AllMean env mix c M' G' facts
+    own-kept facts all words nodes raised = each-kept IsOwn (own_one-kept words nodes raised) facts all

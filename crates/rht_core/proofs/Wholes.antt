@@ -8,7 +8,8 @@ use Rattle.rht_words.specs.Opening.{first_shape}
 use Rattle.rht_words.specs.Places.{CurrentTable, PortCount, Slot, ShapeWord, SeedWord, FutureWord, NodeMap, Node, ChainLink, KeyWord, ListLink, PageWord, place_of}
 use Rattle.rht_words.specs.Chains.{IsSegment}
 use Rattle.rht_words.proofs.Memory.{Memory}
-use Rattle.rht_words.proofs.Members.{In, Distinct, count_below}
+use Rattle.rht_words.specs.Members.{In, IsDistinct}
+use Rattle.rht_words.proofs.Members.{count_below}
 use Rattle.rht_policy.specs.Mix.{bucket_of}
 use Rattle.rht_nest.specs.Place.{bucket_index}
 use Rattle.rht_core.proofs.Ghosts.{Bucket, Owner, Free, Held, First, Ghost, lock_bit, is_first}
@@ -53,7 +54,7 @@ module _ (env : Env) (mix : ℕ → ℕ → ℕ → ℕ) where
   -- its chain has its nodes, each once, and ends in its own marker
   pub record ChainedRight (M : Memory) (j : ℕ) (b : Bucket) : Type 0 where
     pub segment : IsSegment (chain_of M) (head_of (place_at j) b.plain) b.nodes (marker_of (place_at j))
-    pub distinct : Distinct b.nodes
+    pub distinct : IsDistinct b.nodes
 
   pub record BucketRight (M : Memory) (j : ℕ) (b : Bucket) : Type 0 where
     pub locked : LockedRight M j b

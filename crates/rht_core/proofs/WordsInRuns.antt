@@ -1,7 +1,7 @@
 -- In every run each word has 64 bits, where the table's seed has 32.
 -- At opening the words are small. A caller holds words that it was told, and the port and the owner of
 -- an admitted call; so what it stores fits, and it is told words that fit.
-use Rattle.std.proofs.Common.{◌≡◌, ℕ, zero, suc, ◌-◌, ◌*◌, ◌^◌, ◌<◌, Bool, List, [], ◌∷◌, get_or, map, min, refl, sym, subst, arith}
+use Rattle.std.proofs.Common.{◌≡◌, ℕ, ◌-◌, ◌*◌, ◌^◌, ◌<◌, List, min, refl, sym, subst, arith}
 use Rattle.std.specs.Prelude.{Option, Some, None, ◌==◌}
 use Rattle.std.specs.List.{AllByRecursion}
 use Rattle.std.proofs.Math.Pow.{pow_mono}
@@ -9,16 +9,14 @@ use Rattle.std.proofs.lemmas.Bool.{cond_both}
 use Rattle.std.proofs.lemmas.Nat.{trailing_le}
 use Rattle.rht_words.specs.declared.op.Op.{Op}
 use Rattle.rht_words.specs.declared.env.Env.{Env}
-use Rattle.rht_words.specs.declared.config.Kind.{Kind}
-use Rattle.rht_words.specs.declared.config.Kind.TheVariants.{Single, Listed}
 use Rattle.rht_words.specs.declared.machine.Next.{Next}
 use Rattle.rht_words.specs.declared.machine.Next.TheVariants.{Go, Done}
 use Rattle.rht_words.specs.Operations.{op_place, old_of, applied}
 use Rattle.rht_words.specs.Maps.{map_bits}
 use Rattle.rht_words.specs.Opening.{first_size, first_slot, opening_word}
 use Rattle.rht_words.specs.Places.{Address, NextSerial, Slot, NodeMap, PageMap, SlotWord, ShapeWord, SeedWord, StateWord, address_at}
+use Rattle.rht_words.proofs.EachElement.{AllByRecursion-set, AllByRecursion-map, AllByRecursion-get_or, each_set, each_replicate}
 use Rattle.rht_model.specs.declared.history.Call.{Call}
-use Rattle.rht_model.specs.declared.history.Call.TheVariants.{Bind, Find}
 use Rattle.rht_model.specs.declared.history.Reply.{Reply}
 use Rattle.rht_find.specs.Find.{FindModel, find_after}
 use Rattle.rht_bind.specs.Bind.{BindModel, bind_after, IsInRange as IsBindInRange}
@@ -26,11 +24,13 @@ use Rattle.rht_core.specs.declared.event.Event.{Event}
 use Rattle.rht_core.specs.declared.event.Event.TheVariants.{Enroll, Begin, Step}
 use Rattle.rht_core.specs.declared.local.Local.{Local}
 use Rattle.rht_core.specs.declared.local.Local.TheVariants.{Idle, Finding, Binding}
-use Rattle.rht_core.specs.Locals.{machine_of, binding_of, plan_of, local_after, found_next, bound_next}
+use Rattle.rht_core.specs.Locals.{machine_of, plan_of, local_after, found_next, bound_next}
 use Rattle.rht_core.specs.Runs.{Core, World, local_of, beginning, with_machine, planned, with_step, enrolling, world_step, run_of, opening, IsAdmitted, IsAdmittedCall, IsAdmittedEvent}
 use Rattle.rht_core.specs.Laws.{IsLocalIn, IsFindPieceIn, IsBindPieceIn, WordsFit}
+use Rattle.rht_core.proofs.MachinesGoOn.{GoesOrEnds}
+use Rattle.rht_core.proofs.CallsInProgress.{begins_so}
 use Rattle.rht_core.proofs.Worlds.{beginning-some, planned-some, run_keeps_admitted}
-use Rattle.rht_core.proofs.RangesInRuns.{StaysIn, opens-in, stays-in, has_place, each_set, each_replicate, all_set}
+use Rattle.rht_core.proofs.RangesInRuns.{StaysIn, opens-in, stays-in, has_place}
 use Rattle.rht_core.proofs.StoredWords.{Fits, OpFits, word_after-fits, FindFits, find_after-fits, find_plan-fits, BindFits, bind_after-fits, bind_plan-fits}
 
 -- ---- at opening
@@ -52,19 +52,7 @@ opening_word-fits env (NodeMap index) small = map_bits-fits env.geometry.nodes i
 opening_word-fits env (PageMap index) small = omega (arith, map_bits-fits env.geometry.pages index)
 opening_word-fits env _ small = omega arith
 
-all_map : {A B : Type 0} (P : B → Type 0) (f : A → B) → ((x : A) → P (f x)) → (xs : List A)
-    → AllByRecursion P (map f xs)
-all_map P f holds [] = tt
-all_map P f holds (x ∷ xs) = (holds x, all_map P f holds xs)
-
 -- ---- what callers hold
-
--- what holds of each element holds of the one at a place, and of the default
-all_get : {A : Type 0} (P : A → Type 0) (default : A) (xs : List A) (i : ℕ) → P default → AllByRecursion P xs
-    → P (get_or xs i default)
-all_get P default [] i d all = d
-all_get P default (x ∷ xs) zero d all = all.0
-all_get P default (x ∷ xs) (suc i) d all = all_get P default xs i d all.1
 
 module _ (M : Type 0) where
   -- the port and the owner have 32 bits, and the words that the state holds 64
@@ -73,28 +61,22 @@ module _ (M : Type 0) where
   LocalFits (Finding m) = FindFits m.at
   LocalFits (Binding m) = (m.port < 2 ^ 32) × (m.owner < 2 ^ 32) × BindFits m.at
 
-  abbrev MachineFits : Option (Local M) → Type 0
-  MachineFits None = Unit {0}
-  MachineFits (Some machine) = LocalFits machine
+  begins-fit : (env : Env) (c : ℕ) (call : Call) (machine : Local M) → machine_of env c call ≡ Some machine
+      → IsAdmittedCall call → LocalFits machine
+  begins-fit env c =
+      begins_so M env c (λ call machine. IsAdmittedCall call → LocalFits machine) (λ port admitted. tt)
+      (λ port owner once single admitted. (admitted.0, admitted.1, tt))
 
-  binding-fits : (env : Env) (c port owner : ℕ) (once : Bool) (kind : Kind) → port < 2 ^ 32 → owner < 2 ^ 32
-      → MachineFits (binding_of env c port owner once kind)
-  binding-fits env c port owner once Single small low = (small, low, tt)
-  binding-fits env c port owner once Listed small low = tt
-
-  machine-fits : (env : Env) (c : ℕ) (call : Call) → IsAdmittedCall call → MachineFits (machine_of env c call)
-  machine-fits env c (Find port) admitted = tt
-  machine-fits env c (Bind port owner once) admitted = binding-fits env c port owner once env.config.kind admitted.0 admitted.1
-  machine-fits env c _ admitted = tt
-
-  found-fits : (m : FindModel) (next : Next Reply) → FindFits m.at → LocalFits (found_next (m, next)).0
+  found-fits : (m : FindModel) (next : Next Reply) → GoesOrEnds FindFits (λ reply. Unit {0}) (m.at, next)
+      → LocalFits (found_next (m, next)).0
   found-fits m Go fits = fits
   found-fits m (Done reply) fits = tt
 
-  bound-fits : (m : BindModel) (next : Next Reply) → (m.port < 2 ^ 32) × (m.owner < 2 ^ 32) × BindFits m.at
+  bound-fits : (m : BindModel) (next : Next Reply) → m.port < 2 ^ 32 → m.owner < 2 ^ 32
+      → GoesOrEnds BindFits (λ reply. Unit {0}) (m.at, next)
       → LocalFits (bound_next (m, next)).0
-  bound-fits m Go fits = fits
-  bound-fits m (Done reply) fits = tt
+  bound-fits m Go small low fits = (small, low, fits)
+  bound-fits m (Done reply) small low fits = tt
 
   local_after-fits : (mix : ℕ → ℕ → ℕ → ℕ) (local : Local M) (old : ℕ) → LocalFits local → Fits old
       → LocalFits (local_after mix local old).0
@@ -102,8 +84,7 @@ module _ (M : Type 0) where
   local_after-fits mix (Finding m) old fits told =
       found-fits (find_after mix m old).0 (find_after mix m old).1 (find_after-fits mix m.env m.port m.at old fits told)
   local_after-fits mix (Binding m) old fits told =
-      bound-fits (bind_after mix m old).0 (bind_after mix m old).1
-      (fits.0, fits.1, bind_after-fits mix m.env m.port m.at old fits.2 told)
+      bound-fits (bind_after mix m old).0 (bind_after mix m old).1 fits.0 fits.1 (bind_after-fits mix m.env m.port m.at old fits.2 told)
 
   abbrev PlanFits : Option Op → Type 0
   PlanFits None = Unit {0}
@@ -132,7 +113,7 @@ module _ (M : Type 0) (mix : ℕ → ℕ → ℕ → ℕ) (env : Env) where
   opens-fit small = record {
     stays = opens-in M mix env;
     words =
-        all_map Fits (λ place. opening_word env (address_at env.geometry place))
+        AllByRecursion-map Fits (λ place. opening_word env (address_at env.geometry place))
         (λ place. opening_word-fits env (address_at env.geometry place) small) _;
     locals = λ c. each_replicate (LocalFits M) env.geometry.callers c Idle tt;
   }
@@ -141,8 +122,8 @@ module _ (M : Type 0) (mix : ℕ → ℕ → ℕ → ℕ) (env : Env) where
   applied-fit : (words : List ℕ) (op : Op) → OpFits op → AllByRecursion Fits words
       → AllByRecursion Fits (applied words op)
   applied-fit words op fits all =
-      all_set Fits words (op_place op) _
-      (word_after-fits (old_of words op) op (all_get Fits 0 words (op_place op) (omega arith) all) fits) all
+      AllByRecursion-set Fits words (op_place op) _
+      (word_after-fits (old_of words op) op (AllByRecursion-get_or Fits words (op_place op) 0 (omega arith) all) fits) all
 
   begin-fit : (core : Core M) (c : ℕ) (call : Call) (machine : Option (Local M)) → IsAdmittedCall call
       → beginning core.env core.enrolled core.locals c call ≡ machine → AllFit core
@@ -150,7 +131,7 @@ module _ (M : Type 0) (mix : ℕ → ℕ → ℕ → ℕ) (env : Env) where
   begin-fit core c call None admitted is fit k = fit.locals k
   begin-fit core c call (Some machine) admitted is fit k =
       let can = beginning-some core.env core.enrolled core.locals c call machine is in
-      let fits = subst (MachineFits M) can.machine_is (machine-fits M core.env c call admitted) in
+      let fits = begins-fit M core.env c call machine can.machine_is admitted in
       each_set (λ _. LocalFits M) Idle core.locals c machine (has_place M mix env core c fit.stays can.below) fits fit.locals k
 
   record StepFits (core : Core M) : Type 0 where
@@ -163,7 +144,7 @@ module _ (M : Type 0) (mix : ℕ → ℕ → ℕ → ℕ) (env : Env) where
   step-fit core c (Some op) is fit =
       let can = planned-some core.enrolled core.locals c op is in
       let op_fits = subst (PlanFits M) can.plan (plan_of-fits M env c (local_of core c) (fit.stays.locals c) (fit.locals c)) in
-      let old : Fits (old_of core.words op) = all_get Fits 0 core.words (op_place op) (omega arith) fit.words in
+      let old : Fits (old_of core.words op) = AllByRecursion-get_or Fits core.words (op_place op) 0 (omega arith) fit.words in
       let next = local_after mix (local_of core c) (old_of core.words op) in
       record {
         words = applied-fit core.words op op_fits fit.words;

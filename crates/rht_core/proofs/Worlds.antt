@@ -1,7 +1,7 @@
 -- What an event does to the words and to each caller, and inductions over the events of a run.
 -- An event of one caller changes what that caller sees of itself and nothing that another sees. All
 -- else that holds of runs goes through these equations.
-use Rattle.std.proofs.Common.{◌≡◌, ◌≢◌, ℕ, ◌<◌, ◌≤◌, Bool, true, false, cond, ◌&&◌, nat_lt, List, [], ◌∷◌, ◌++◌, length, take, refl, sym, ap, ◌∙◌, subst, append_assoc}
+use Rattle.std.proofs.Common.{◌≡◌, ◌≢◌, ℕ, ◌<◌, ◌≤◌, Bool, true, false, cond, ◌&&◌, ◌==◌, nat_lt, List, [], ◌∷◌, ◌++◌, length, take, refl, sym, ap, ◌∙◌, subst, append_assoc}
 use Rattle.std.specs.Prelude.{Option, Some, None, slice_set}
 use Rattle.std.proofs.lemmas.Bool.{eq-eqb, ne_eqb, ltb-true, lt-ltb, and_parts, and_from}
 use Rattle.std.proofs.lemmas.List.{append-nil, take-append-le, get_or-set_same, get_or-set_other}
@@ -10,6 +10,7 @@ use Rattle.rht_words.specs.declared.op.Op.{Op}
 use Rattle.rht_words.specs.declared.env.Env.{Env}
 use Rattle.rht_words.specs.declared.config.Kind.{Kind}
 use Rattle.rht_words.specs.Operations.{old_of, applied}
+use Rattle.rht_words.proofs.EachElement.{AllByRecursion-append}
 use Rattle.rht_model.specs.declared.history.Call.{Call}
 use Rattle.rht_core.specs.declared.event.Event.{Event}
 use Rattle.rht_core.specs.declared.event.Event.TheVariants.{Enroll, Begin, Step}
@@ -46,25 +47,13 @@ take-push events event n l = take-append-le n events (event ∷ []) l
 pub take-push_all : (events : List Event) (event : Event) → take (length events) (events ++ event ∷ []) ≡ events
 take-push_all events event = take-append_seam events (event ∷ [])
 
--- events are admitted where each part is
-pub IsAdmitted-append : (kind : Kind) (past rest : List Event) → IsAdmitted kind past → IsAdmitted kind rest
-    → IsAdmitted kind (past ++ rest)
-IsAdmitted-append kind [] rest p q = q
-IsAdmitted-append kind (event ∷ past) rest p q = (p.0, IsAdmitted-append kind past rest p.1 q)
+-- ---- functions changed at one place
 
-pub IsAdmitted-parts : (kind : Kind) (past rest : List Event) → IsAdmitted kind (past ++ rest)
-    → IsAdmitted kind past × IsAdmitted kind rest
-IsAdmitted-parts kind [] rest p = (tt, p)
-IsAdmitted-parts kind (event ∷ past) rest p =
-    let parts = IsAdmitted-parts kind past rest p.1 in ((p.0, parts.0), parts.1)
+pub changed-same : {A : Type 0} (f : ℕ → A) (c : ℕ) (a : A) → cond (c == c) a (f c) ≡ a
+changed-same f c a = ap (λ v. cond v a (f c)) (eq-eqb c c refl)
 
--- ---- books
-
-pub book_at-same : (books : ℕ → Book) (c : ℕ) (book : Book) → book_at books c book c ≡ book
-book_at-same books c book = ap (λ v. cond v book (books c)) (eq-eqb c c refl)
-
-pub book_at-other : (books : ℕ → Book) (c : ℕ) (book : Book) (k : ℕ) → k ≢ c → book_at books c book k ≡ books k
-book_at-other books c book k n = ap (λ v. cond v book (books k)) (ne_eqb k c n)
+pub changed-other : {A : Type 0} (f : ℕ → A) (c : ℕ) (a : A) (k : ℕ) → k ≢ c → cond (k == c) a (f k) ≡ f k
+changed-other f c a k n = ap (λ v. cond v a (f k)) (ne_eqb k c n)
 
 -- ---- what a caller begins with and plans
 
@@ -155,7 +144,7 @@ module _ (M : Type 0) (mix : ℕ → ℕ → ℕ → ℕ) (w : World M) where
         let local : local_in (slice_set w.core.locals c machine) c ≡ machine =
         get_or-set_same w.core.locals c machine Idle below in
         let book : book_at w.books c (book_begun call (w.books c)) c ≡ book_begun call (w.books c) =
-        book_at-same w.books c (book_begun call (w.books c)) in
+        changed-same w.books c (book_begun call (w.books c)) in
         ap (λ o. seen (began_with o) c) is ∙ (λ i. pair (local i) (book i))
 
     -- another caller sees nothing of it
@@ -165,7 +154,7 @@ module _ (M : Type 0) (mix : ℕ → ℕ → ℕ → ℕ) (w : World M) where
         let local : local_in (slice_set w.core.locals c machine) k ≡ local_of w.core k =
         get_or-set_other w.core.locals c k machine Idle other in
         let book : book_at w.books c (book_begun call (w.books c)) k ≡ w.books k =
-        book_at-other w.books c (book_begun call (w.books c)) k other in
+        changed-other w.books c (book_begun call (w.books c)) k other in
         (λ i. pair (local i) (book i))
 
     pub begin_other : (k : ℕ) → k ≢ c → seen (world_step mix w (Begin c call)) k ≡ seen w k
@@ -200,7 +189,7 @@ module _ (M : Type 0) (mix : ℕ → ℕ → ℕ → ℕ) (w : World M) where
         let local : local_in (slice_set w.core.locals c next.0) c ≡ next.0 =
         get_or-set_same w.core.locals c next.0 Idle below in
         let book : book_at w.books c (book_after next.1 (w.books c)) c ≡ book_after next.1 (w.books c) =
-        book_at-same w.books c (book_after next.1 (w.books c)) in
+        changed-same w.books c (book_after next.1 (w.books c)) in
         ap (λ o. seen (stepped_with o) c) is ∙ (λ i. pair (local i) (book i))
 
     -- another caller sees nothing of it
@@ -211,7 +200,7 @@ module _ (M : Type 0) (mix : ℕ → ℕ → ℕ → ℕ) (w : World M) where
         let local : local_in (slice_set w.core.locals c next.0) k ≡ local_of w.core k =
         get_or-set_other w.core.locals c k next.0 Idle other in
         let book : book_at w.books c (book_after next.1 (w.books c)) k ≡ w.books k =
-        book_at-other w.books c (book_after next.1 (w.books c)) k other in
+        changed-other w.books c (book_after next.1 (w.books c)) k other in
         (λ i. pair (local i) (book i))
 
     pub step_other : (k : ℕ) → k ≢ c → seen (world_step mix w (Step c)) k ≡ seen w k
@@ -246,6 +235,6 @@ module _ (M : Type 0) (mix : ℕ → ℕ → ℕ → ℕ) where
 
   pub extends : Extends M mix
   extends env events event admitted more = record {
-    admitted = IsAdmitted-append env.config.kind events (event ∷ []) admitted (more, tt);
+    admitted = AllByRecursion-append (IsAdmittedEvent env.config.kind) events (event ∷ []) admitted (more, tt);
     world = run_of-push env events event;
   }

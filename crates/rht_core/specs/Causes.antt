@@ -1,47 +1,26 @@
 -- Why a call was refused, as rows of one definition over the call's own operations.
 -- A reply of which nothing is said here has its cause. Rows are added with the calls and refusals that they speak of.
-use Rattle.std.specs.Prelude.{◌≡◌, ◌≢◌, ℕ, ◌+◌, ◌/◌, ◌%◌, ◌<◌, ◌≤◌, ◌⊎◌, ◌==◌, ◌&&◌, not, List, [], ◌∷◌, length, take, count_by}
-use Rattle.std.specs.List.{AllByRecursion, range_with_len}
-use Rattle.std.specs.Int.{bit_at}
+use Rattle.std.specs.Prelude.{◌≡◌, ◌≢◌, ℕ, ◌+◌, ◌<◌, ◌≤◌, ◌==◌, ◌&&◌, not, List, [], length, map, take, count_by}
+use Rattle.std.specs.List.{AllByRecursion, Any, range_with_len}
 use Rattle.rht_words.specs.declared.op.Op.TheVariants.{Load}
 use Rattle.rht_words.specs.declared.env.Env.{Env}
-use Rattle.rht_words.specs.declared.geometry.Geometry.{Geometry}
-use Rattle.rht_words.specs.Operations.{op_place}
-use Rattle.rht_words.specs.Places.{NodeMap, PortCount, place_of}
+use Rattle.rht_words.specs.Members.{IsDistinct}
+use Rattle.rht_words.specs.Places.{PortCount, place_of}
 use Rattle.rht_policy.specs.Sizes.{most_ports}
 use Rattle.rht_model.specs.declared.history.Reply.{Reply}
 use Rattle.rht_model.specs.declared.history.Reply.TheVariants.{NoNode, TooBig}
 use Rattle.rht_model.specs.Multimap.{Multimap}
+use Rattle.rht_arena.specs.Laws.{SeesTaken}
 use Rattle.rht_core.specs.declared.event.Event.{Event}
 use Rattle.rht_core.specs.Locals.{is_idle}
 use Rattle.rht_core.specs.Runs.{Core, local_of, run_of, IsAdmitted}
-use Rattle.rht_core.specs.Traces.{Did, Past, traced_of}
+use Rattle.rht_core.specs.Traces.{Did, Past, performed_of, traced_of}
 use Rattle.rht_core.specs.StandsFor.{stands_for}
-
--- one of the operations is so
-abbrev pub SomeDid : (Did → Type 0) → List Did → Type 0
-SomeDid So [] = ⊥
-SomeDid So (did ∷ steps) = So did ⊎ SomeDid So steps
-
--- the operation was on the map word of this node, and found the node's bit clear
-pub record SawTaken (g : Geometry) (node : ℕ) (did : Did) : Type 0 where
-  pub on_map : op_place did.op ≡ place_of g (NodeMap (node / 64))
-  pub clear : bit_at did.old (node % 64) ≡ 0
-
--- none of these is the number
-abbrev pub IsNoneOf : List ℕ → ℕ → Type 0
-IsNoneOf [] x = Unit {0}
-IsNoneOf (y ∷ ys) x = (x ≢ y) × IsNoneOf ys x
-
--- no number comes twice
-abbrev pub AreDistinct : List ℕ → Type 0
-AreDistinct [] = Unit {0}
-AreDistinct (x ∷ xs) = IsNoneOf xs x × AreDistinct xs
 
 -- so many different ports are bound
 pub record AreBound (bindings : Multimap) (count : ℕ) : Type 0 where
   pub ports : List ℕ
-  pub distinct : AreDistinct ports
+  pub distinct : IsDistinct ports
   pub bound : AllByRecursion (λ port. bindings port ≢ []) ports
   pub many : length ports ≡ count
 
@@ -65,8 +44,8 @@ module _ (M : Type 0) (mix : ℕ → ℕ → ℕ → ℕ) where
 
   -- the reply to a call that made these operations has its cause in them
   abbrev pub HasCauseIn : Env → List Event → ℕ → Reply → List Did → Type 0
-  HasCauseIn env events c NoNode steps = (node : ℕ) → node < env.geometry.nodes → SomeDid (SawTaken env.geometry node) steps
-  HasCauseIn env events c (TooBig count) steps = SomeDid (SawFull env events c count) steps
+  HasCauseIn env events c NoNode steps = (node : ℕ) → node < env.geometry.nodes → Any (SeesTaken env.geometry node) (map performed_of steps)
+  HasCauseIn env events c (TooBig count) steps = Any (SawFull env events c count) steps
   HasCauseIn env events c _ steps = Unit {0}
 
   -- a call that has ended has a reply that has its cause in the call's own operations

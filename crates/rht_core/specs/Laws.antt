@@ -1,17 +1,16 @@
 -- What holds of every run.
-use Rattle.std.specs.Prelude.{◌≡◌, ◌≢◌, ℕ, ◌+◌, ◌/◌, ◌%◌, ◌^◌, ◌<◌, ◌≤◌, ◌⊎◌, List, [], ◌∷◌, ◌++◌, length, map, take, Option, Some, None, IfSome}
+use Rattle.std.specs.Prelude.{◌≡◌, ◌≢◌, ℕ, ◌+◌, ◌^◌, ◌<◌, ◌≤◌, ◌⊎◌, List, [], ◌∷◌, ◌++◌, length, map, take, Option, Some, None, IfSome}
 use Rattle.std.specs.List.{AllByRecursion, slice_get}
-use Rattle.std.specs.Int.{bit_at, bit_not, w64}
+use Rattle.std.specs.Int.{bit_at}
 use Rattle.rht_words.specs.declared.op.Op.{Op}
-use Rattle.rht_words.specs.declared.op.Op.TheVariants.{And}
 use Rattle.rht_words.specs.declared.env.Env.{Env}
 use Rattle.rht_words.specs.declared.geometry.Geometry.{Geometry}
 use Rattle.rht_words.specs.Operations.{op_place, old_of}
-use Rattle.rht_words.specs.Maps.{bit_of}
-use Rattle.rht_words.specs.Places.{EnrolledCallers, NodeMap, place_of, pages_at, words_in, word_at}
+use Rattle.rht_words.specs.Places.{EnrolledCallers, place_of, pages_at, words_in, word_at}
 use Rattle.rht_chain.specs.Lock.{IsEven}
 use Rattle.rht_chain.specs.LockedWalk.{IsInRange as IsWalkInRange}
 use Rattle.rht_arena.specs.TakeNode.{IsInRange as IsTakeInRange}
+use Rattle.rht_arena.specs.Laws.{map_bit, claim_of, IsTaking}
 use Rattle.rht_find.specs.Find.{FindModel, IsInRange as IsFindInRange}
 use Rattle.rht_find.specs.declared.find.FindAt.{FindAt}
 use Rattle.rht_find.specs.declared.find.FindAt.TheVariants as find_at
@@ -189,14 +188,9 @@ pub record IsInProgress (events : List Event) (c : ℕ) (trace : Trace) (call : 
 
 -- ---- nodes
 
--- the operation takes this node: it clears the node's bit in the map of nodes, which was set
-pub record IsTake (g : Geometry) (node : ℕ) (op : Op) (old : ℕ) : Type 0 where
-  pub clears : op ≡ And (place_of g (NodeMap (node / 64))) (bit_not w64 (bit_of (node % 64)))
-  pub free : bit_at old (node % 64) ≡ 1
-
--- the step takes no node
+-- the step takes no node: it clears no node's bit that was set
 abbrev pub IsNoTake : Geometry → Did → Type 0
-IsNoTake g did = (node : ℕ) → IsTake g node did.op did.old → ⊥
+IsNoTake g did = (node : ℕ) → did.op ≡ claim_of g node → bit_at did.old (map_bit node) ≢ 1
 
 -- none of the steps takes a node
 abbrev pub TakesNone : Geometry → List Did → Type 0
@@ -206,11 +200,11 @@ TakesNone g steps = AllByRecursion (IsNoTake g) steps
 abbrev pub TakesOne : Geometry → ℕ → List Did → Type 0
 TakesOne g node [] = ⊥
 TakesOne g node (did ∷ steps) =
-    (IsTake g node did.op did.old × TakesNone g steps) ⊎ (IsNoTake g did × TakesOne g node steps)
+    (IsTaking g node did.old did.op × TakesNone g steps) ⊎ (IsNoTake g did × TakesOne g node steps)
 
 -- one of the steps takes one of the nodes, and no other one takes any
 abbrev pub TakesOneOf : Geometry → List Did → Type 0
-TakesOneOf g steps = (node : ℕ) × (node < g.nodes) × TakesOne g node steps
+TakesOneOf g steps = (node : ℕ) × TakesOne g node steps
 
 -- a bind with this reply has taken one node; `NoNode` says that it has taken none
 abbrev pub IsTakenBy : Geometry → Reply → List Did → Type 0

@@ -3,6 +3,7 @@ use Rattle.std.specs.Prelude.{ℕ, ◌+◌, ◌≤◌, ◌==◌, if◌then◌els
 use Rattle.rht_words.specs.declared.op.Op.{Op}
 use Rattle.rht_words.specs.declared.env.Env.{Env}
 use Rattle.rht_words.specs.Operations.{old_of}
+use Rattle.rht_words.specs.Machines.{Performed}
 use Rattle.rht_model.specs.declared.history.Call.{Call}
 use Rattle.rht_model.specs.declared.history.Reply.{Reply}
 use Rattle.rht_core.specs.declared.event.Event.{Event}
@@ -16,6 +17,10 @@ pub record Did : Type 0 where
   pub index : ℕ
   pub op : Op
   pub old : ℕ
+
+-- what it performed, and the word that it found
+abbrev pub performed_of : Did → Performed
+performed_of did = record { op = did.op; old = did.old }
 
 -- a call that has ended: the number of the event at which it began, and its operations
 pub record Past : Type 0 where

@@ -1,2 +1,2 @@
--- the buckets of flat tables stand in a row, and no two have one place
+-- a bucket's word is one of the pages', the buckets of flat tables stand in a row, and no two have one place
 pub mod BucketsApart

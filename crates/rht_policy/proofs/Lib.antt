@@ -1,4 +1,4 @@
--- which numbers are sizes of tables
+-- the size of a smaller table is one of tables
 pub mod TableSizes
 -- a word rotated to the left, as a sum
 pub mod Rotations

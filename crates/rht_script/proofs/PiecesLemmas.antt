@@ -45,7 +45,7 @@ abbrev is_line_feed : ℕ → Bool
 is_line_feed byte = byte == 10
 
 -- a piece in front of further pieces is a line
-onto_pieces : (line : List ℕ) (pieces : List (List ℕ)) → 0 < length pieces
+pub onto_pieces : (line : List ℕ) (pieces : List (List ℕ)) → 0 < length pieces
     → without_empty_end (line ∷ pieces) ≡ line ∷ without_empty_end pieces
 onto_pieces line [] some = absurd (omega (arith, some))
 onto_pieces [] (piece ∷ pieces) some = refl

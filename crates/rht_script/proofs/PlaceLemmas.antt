@@ -7,6 +7,7 @@ use Rattle.std.proofs.lemmas.Bool.{ne_eqb}
 use Rattle.std.proofs.lemmas.List.{drop-map, drop_all, map-append, length-append}
 use Rattle.rht_script.specs.Spelling.{without_empty_end, lines_of, is_some_text}
 use Rattle.rht_script.specs.Places.{pieces_from}
+use Rattle.rht_script.proofs.PiecesLemmas.{onto_pieces}
 
 abbrev pub text_of : Bor (List ℕ) → List ℕ
 text_of piece = piece.now
@@ -27,13 +28,6 @@ module _ (pieces : List (Bor (List ℕ))) (place : ℕ) where
 pub is_some_text-length : (text : List ℕ) → is_some_text text ≡ not (length text == 0)
 is_some_text-length [] = refl
 is_some_text-length (byte ∷ text) = let some : (length (byte ∷ text) == 0) ≡ false = ne_eqb (suc (length text)) 0 (λ none. absurd (omega (arith, none))) in rw some refl
-
--- a piece in front of further pieces is a line
-onto_pieces : (line : List ℕ) (pieces : List (List ℕ)) → 0 < length pieces
-    → without_empty_end (line ∷ pieces) ≡ line ∷ without_empty_end pieces
-onto_pieces line [] some = absurd (omega (arith, some))
-onto_pieces [] (piece ∷ pieces) some = refl
-onto_pieces (byte ∷ line) (piece ∷ pieces) some = refl
 
 -- By induction over the pieces before the last one, in which there is nothing.
 pub without_empty_end-empty : (front : List (List ℕ)) → without_empty_end (front ++ [] ∷ []) ≡ front

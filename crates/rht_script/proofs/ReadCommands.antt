@@ -4,6 +4,9 @@ use Rattle.std.proofs.Common.{◌≡◌, ℕ, ◌+◌, ◌≤◌, Bool, true, fa
 use Rattle.std.specs.Prelude.{IfOk, nat_lt}
 use Rattle.std.specs.List.{AllByRecursion, list_all}
 use Rattle.std.proofs.lemmas.Bool.{ltb-false, and_from}
+use Rattle.std.proofs.lemmas.List.Elements.{All-from_recursion}
+use Rattle.std.proofs.lemmas.List.Sums.{list_all-from_AllPass}
+use Rattle.std.proofs.lemmas.Result.{IfOk-at_ok}
 use Rattle.rht_words.specs.declared.config.Config.{Config}
 use Rattle.rht_model.specs.declared.history.Call.{Call}
 use Rattle.rht_model.specs.declared.history.Call.TheVariants.{Bind, Find, Release}
@@ -34,10 +37,6 @@ IfOk-cond P false x y first second = second
 IfOk-at_line : {A : Type 0} (P : A → Type 0) (number : ℕ) (read : Result A Cause) → IfOk read P → IfOk (at_line number read) P
 IfOk-at_line P number (Ok value) holds = holds
 IfOk-at_line P number (Err cause) holds = tt
-
--- what is read at a value that was read
-pub IfOk-at : {A E : Type 0} (P : A → Type 0) (read : Result A E) (value : A) → read ≡ Ok value → IfOk read P → P value
-IfOk-at P read value is holds = rw is at holds
 
 -- ---- a command line
 
@@ -153,17 +152,13 @@ module _ (P : Config → ℕ × Call → Type 0) (each : (config : Config) (word
   pub reading_holds : (bytes : List ℕ) (said : Said) → reading_of bytes ≡ Ok said → AreCommands (P said.config) 1 said.commands
   unfolding reading_of
   reading_holds bytes said read =
-      IfOk-at AreSaid (reading_of bytes) said read
+      IfOk-at_ok AreSaid read
       (IfOk-cond AreSaid (nat_lt most_bytes (length bytes)) _ (said_from 1 (lines_of bytes)) tt (said_hold 1 (lines_of bytes) (omega arith) (omega arith)))
 
 -- ---- sound commands
 
 abbrev IsSoundCommand : Config → ℕ × Call → Type 0
 IsSoundCommand config command = is_sound_command config command ≡ true
-
-list_all-each : (test : ℕ × Call → Bool) (commands : List (ℕ × Call)) → AllByRecursion (λ command. test command ≡ true) commands → list_all test commands ≡ true
-list_all-each test [] each = refl
-list_all-each test (command ∷ commands) each = and_from (test command) (list_all test commands) each.0 (list_all-each test commands each.1)
 
 sound_each : (config : Config) (words : List (List ℕ)) → IfOk (command_of config.callers words) (IsSoundCommand config)
 sound_each config =
@@ -176,4 +171,4 @@ pub commands_sound : (bytes : List ℕ) (said : Said) → reading_of bytes ≡ O
     → (list_all (is_sound_command said.config) said.commands ≡ true) × (length said.commands ≤ most_lines)
 commands_sound bytes said read =
     let are = reading_holds IsSoundCommand sound_each bytes said read in
-    (list_all-each (is_sound_command said.config) said.commands are.each, (let few = are.few in omega arith))
+    (list_all-from_AllPass (is_sound_command said.config) said.commands (All-from_recursion (IsSoundCommand said.config) said.commands are.each), (let few = are.few in omega arith))

@@ -3,8 +3,10 @@ use Rattle.std.proofs.Common.{◌≡◌, ◌≢◌, ℕ, List, [], ◌∷◌, �
 use Rattle.std.proofs.lemmas.List.Elements.{All-head, All-tail}
 use Rattle.std.specs.List.{All, last_or}
 use Rattle.rht_words.specs.Links.{link_of}
-use Rattle.rht_words.specs.Chains.{IsSegment, IsDistinct}
-use Rattle.rht_words.proofs.Members.{In}
+use Rattle.rht_words.specs.Chains.{IsSegment}
+use Rattle.rht_words.specs.Members.{In, IsDistinct}
+use Rattle.rht_words.proofs.EachElement.{last_or-All}
+use Rattle.rht_words.proofs.Members.{NotIn-All}
 
 -- two segments, of which the second begins where the first one stops
 pub IsSegment-append : (chain : ℕ → ℕ) (nodes behind : List ℕ) (link middle stop : ℕ)
@@ -49,15 +51,6 @@ pub IsSegment-store : (chain stored : ℕ → ℕ) (off : ℕ) (nodes : List ℕ
 IsSegment-store chain stored off nodes link stop others apart segment =
     IsSegment-same chain stored nodes link stop (λ k d l. others (get_or nodes k d) (apart k d l)) segment
 
--- what holds of all nodes of a list holds of its last one
-pub last_or-All : (P : ℕ → Type 0) (node last : ℕ) (nodes behind : List ℕ)
-    → last_or (Some node) nodes ≡ Some last → All P ((node ∷ nodes) ++ behind) → P last
-last_or-All P node last [] behind is all =
-    let same : node ≡ last = cc in
-    subst P same (All-head P node behind all)
-last_or-All P node last (next ∷ nodes) behind is all =
-    last_or-All P next last nodes behind is (All-tail P node ((next ∷ nodes) ++ behind) all)
-
 -- The link behind the last node of a segment is stored, and what is behind it then is another segment. By induction
 -- over the nodes before the last one, whose links stay.
 pub IsSegment-relinked : (chain stored : ℕ → ℕ) (last link stop : ℕ) (behind : List ℕ) → stored last ≡ link
@@ -69,11 +62,12 @@ pub IsSegment-relinked : (chain stored : ℕ → ℕ) (last link stop : ℕ) (be
 IsSegment-relinked chain stored last link stop behind links rest node [] first middle is others distinct front =
     let same : node ≡ last = cc in
     let kept = All-tail (λ n. n ≢ last → stored n ≡ chain n) node behind others in
-    let framed = IsSegment-same chain stored behind link stop (λ k d l. kept k d l (λ e. distinct.0 k d l (e ∙ sym same))) rest in
+    let off = NotIn-All node behind distinct.0 in
+    let framed = IsSegment-same chain stored behind link stop (λ k d l. kept k d l (λ e. off k d l (e ∙ sym same))) rest in
     (front.0, subst (λ l. IsSegment stored l behind stop) (sym (subst (λ n. stored n ≡ link) (sym same) links)) framed)
 IsSegment-relinked chain stored last link stop behind links rest node (next ∷ nodes) first middle is others distinct front =
     let Stays : ℕ → Type 0 = λ n. n ≢ last → stored n ≡ chain n in
-    let differ : last ≢ node = last_or-All (λ n. n ≢ node) next last nodes behind is distinct.0 in
+    let differ : last ≢ node = last_or-All (λ n. n ≢ node) next last nodes behind is (NotIn-All node ((next ∷ nodes) ++ behind) distinct.0) in
     let stays : stored node ≡ chain node = All-head Stays node ((next ∷ nodes) ++ behind) others (λ e. differ (sym e)) in
     let further =
     IsSegment-relinked chain stored last link stop behind links rest next nodes (chain node) middle is (All-tail Stays node ((next ∷ nodes) ++ behind) others) distinct.1 front.1 in

@@ -2,11 +2,11 @@
 pub mod Rounding
 -- the places of different things are different, and all are below the number of words
 pub mod PlacesApart
--- the first table of a settled config has a size that tables may have
+-- which numbers are sizes of tables, and that the first table of a settled config has such a size
 pub mod StartingSizes
 -- an operation changes the word of its address alone
 pub mod WordChanges
--- what links, bucket words and entries say comes back from the words that are made of it
+-- what links, bucket words and entries say comes back from the words that are made of it, and names nothing that isn't there
 pub mod LinksRead
 -- the lowest set bit of a map's word stands for one of so many
 pub mod LowestBits
@@ -20,6 +20,8 @@ pub mod BitChanges
 pub mod OpeningLaws
 -- the words as a function of what they are there for, and one write to it
 pub mod Memory
+-- what holds of each element of a list, or of one of them
+pub mod EachElement
 -- lists without repeats, and how many numbers below a bound have a property
 pub mod Members
 -- what is kept step by step holds at a machine's end

@@ -1,25 +1,14 @@
--- Members of lists, lists without repeats, and how many numbers below a bound have a property.
-use Rattle.std.proofs.Common.{◌≡◌, ◌≢◌, ℕ, zero, suc, ◌+◌, ◌<◌, ◌≤◌, List, [], ◌∷◌, ◌++◌, length, refl, sym, ◌∙◌, ap, arith, ◌⊎◌, inl, inr, Bool, true, false, cond, ◌==◌}
+-- Members of lists and of lists that are made from others, lists without repeats, and how many numbers below a bound
+-- have a property.
+use Rattle.std.proofs.Common.{◌≡◌, ◌≢◌, ℕ, zero, suc, ◌+◌, ◌<◌, ◌≤◌, List, [], ◌∷◌, ◌++◌, length, refl, sym, ◌∙◌, ap, subst, arith, ◌⊎◌, inl, inr, Bool, true, false, cond, ◌==◌, Some, None}
 use Rattle.std.proofs.lemmas.Bool.{cases_eq, eq-eqb, ne_eqb}
+use Rattle.std.proofs.lemmas.List.Elements.{All-nil, All-cons}
+use Rattle.std.specs.List.{All, AllByRecursion, find, flat_map, range_with_len}
+use Rattle.rht_words.specs.Members.{In, NotIn, IsDistinct}
 
 -- ---- members
 
-abbrev pub In : ℕ → List ℕ → Type 0
-In x [] = ⊥
-In x (y ∷ ys) = (x ≡ y) ⊎ In x ys
-
-abbrev pub NotIn : ℕ → List ℕ → Type 0
-NotIn x [] = Unit {0}
-NotIn x (y ∷ ys) = (x ≢ y) × NotIn x ys
-
-abbrev pub Distinct : List ℕ → Type 0
-Distinct [] = Unit {0}
-Distinct (x ∷ xs) = NotIn x xs × Distinct xs
-
-abbrev pub AllBelow : ℕ → List ℕ → Type 0
-AllBelow bound [] = Unit {0}
-AllBelow bound (x ∷ xs) = (x < bound) × AllBelow bound xs
-
+-- what isn't a member is none of them, and what is none is no member
 pub not_in_from : (x : ℕ) (xs : List ℕ) → (In x xs → ⊥) → NotIn x xs
 not_in_from x [] never = tt
 not_in_from x (y ∷ ys) never = ((λ e. never (inl e)), not_in_from x ys (λ i. never (inr i)))
@@ -28,6 +17,11 @@ pub in_and_not : (x : ℕ) (xs : List ℕ) → In x xs → NotIn x xs → ⊥
 in_and_not x [] i out = i
 in_and_not x (y ∷ ys) (inl e) out = out.0 e
 in_and_not x (y ∷ ys) (inr i) out = in_and_not x ys i out.1
+
+-- each element is another number than one that is none of them
+pub NotIn-All : (x : ℕ) (xs : List ℕ) → NotIn x xs → All (λ y. y ≢ x) xs
+NotIn-All x [] out = All-nil (λ y. y ≢ x)
+NotIn-All x (y ∷ ys) out = All-cons (λ z. z ≢ x) y ys (λ e. out.0 (sym e)) (NotIn-All x ys out.1)
 
 -- a member or none
 pub in_or_not : (x : ℕ) (xs : List ℕ) → In x xs ⊎ NotIn x xs
@@ -41,31 +35,91 @@ pub in-middle : (x : ℕ) (xs ys : List ℕ) → In x (xs ++ x ∷ ys)
 in-middle x [] ys = inl refl
 in-middle x (y ∷ xs) ys = inr (in-middle x xs ys)
 
-pub in-front : (x : ℕ) (xs ys : List ℕ) → In x xs → In x (xs ++ ys)
-in-front x [] ys i = absurd i
-in-front x (y ∷ xs) ys (inl e) = inl e
-in-front x (y ∷ xs) ys (inr i) = inr (in-front x xs ys i)
+pub In-append_left : (x : ℕ) (xs ys : List ℕ) → In x xs → In x (xs ++ ys)
+In-append_left x [] ys i = absurd i
+In-append_left x (y ∷ xs) ys (inl e) = inl e
+In-append_left x (y ∷ xs) ys (inr i) = inr (In-append_left x xs ys i)
 
-pub not_in-cut : (k : ℕ) (xs : List ℕ) (m : ℕ) (ys : List ℕ) → NotIn k (xs ++ m ∷ ys) → NotIn k xs × (k ≢ m) × NotIn k ys
-not_in-cut k [] m ys p = (tt, p.0, p.1)
-not_in-cut k (a ∷ xs) m ys p = let r = not_in-cut k xs m ys p.1 in ((p.0, r.0), r.1, r.2)
+pub In-append_right : (x : ℕ) (xs ys : List ℕ) → In x ys → In x (xs ++ ys)
+In-append_right x [] ys i = i
+In-append_right x (y ∷ xs) ys i = inr (In-append_right x xs ys i)
 
-pub not_in-join : (k : ℕ) (xs ys : List ℕ) → NotIn k xs → NotIn k ys → NotIn k (xs ++ ys)
-not_in-join k [] ys p q = q
-not_in-join k (a ∷ xs) ys p q = (p.0, not_in-join k xs ys p.1 q)
+pub In-append_cases : (x : ℕ) (xs ys : List ℕ) → In x (xs ++ ys) → In x xs ⊎ In x ys
+In-append_cases x [] ys i = inr i
+In-append_cases x (y ∷ xs) ys (inl e) = inl (inl e)
+In-append_cases x (y ∷ xs) ys (inr i) = elim (In-append_cases x xs ys i) [ inl l ↦ inl (inr l) | inr r ↦ inr r ]
+
+pub NotIn-cut : (k : ℕ) (xs : List ℕ) (m : ℕ) (ys : List ℕ) → NotIn k (xs ++ m ∷ ys) → NotIn k xs × (k ≢ m) × NotIn k ys
+NotIn-cut k [] m ys p = (tt, p.0, p.1)
+NotIn-cut k (a ∷ xs) m ys p = let r = NotIn-cut k xs m ys p.1 in ((p.0, r.0), r.1, r.2)
+
+pub NotIn-append : (k : ℕ) (xs ys : List ℕ) → NotIn k xs → NotIn k ys → NotIn k (xs ++ ys)
+NotIn-append k [] ys p q = q
+NotIn-append k (a ∷ xs) ys p q = (p.0, NotIn-append k xs ys p.1 q)
 
 -- in a list without repeats a member is in neither part round it
-pub distinct-cut : (xs : List ℕ) (m : ℕ) (ys : List ℕ) → Distinct (xs ++ m ∷ ys) → NotIn m xs × NotIn m ys
-distinct-cut [] m ys d = (tt, d.0)
-distinct-cut (a ∷ xs) m ys d =
-    let r = distinct-cut xs m ys d.1 in
-    let q = not_in-cut a xs m ys d.0 in
+pub IsDistinct-cut : (xs : List ℕ) (m : ℕ) (ys : List ℕ) → IsDistinct (xs ++ m ∷ ys) → NotIn m xs × NotIn m ys
+IsDistinct-cut [] m ys d = (tt, d.0)
+IsDistinct-cut (a ∷ xs) m ys d =
+    let r = IsDistinct-cut xs m ys d.1 in
+    let q = NotIn-cut a xs m ys d.0 in
     ((λ e. q.1 (sym e), r.0), r.1)
 
-pub below-member : (bound x : ℕ) (xs : List ℕ) → AllBelow bound xs → In x xs → x < bound
-below-member bound x [] all i = absurd i
-below-member bound x (y ∷ ys) all (inl e) = omega arith
-below-member bound x (y ∷ ys) all (inr i) = below-member bound x ys all.1 i
+-- what holds of each element holds of each member, and the other way round
+pub AllByRecursion-In : (P : ℕ → Type 0) (x : ℕ) (xs : List ℕ) → AllByRecursion P xs → In x xs → P x
+AllByRecursion-In P x [] all i = absurd i
+AllByRecursion-In P x (y ∷ ys) all (inl e) = subst P (sym e) all.0
+AllByRecursion-In P x (y ∷ ys) all (inr i) = AllByRecursion-In P x ys all.1 i
+
+pub In-AllByRecursion : (P : ℕ → Type 0) (xs : List ℕ) → ((x : ℕ) → In x xs → P x) → AllByRecursion P xs
+In-AllByRecursion P [] each = tt
+In-AllByRecursion P (x ∷ xs) each = (each x (inl refl), In-AllByRecursion P xs (λ y i. each y (inr i)))
+
+-- ---- members of lists that are made from others
+
+-- what is in the list of one member is in all lists joined, and the other way round
+pub In-flat_map : (f : ℕ → List ℕ) (x y : ℕ) (ys : List ℕ) → In y ys → In x (f y) → In x (flat_map f ys)
+In-flat_map f x y [] i j = absurd i
+In-flat_map f x y (z ∷ ys) (inl e) j = In-append_left x (f z) (flat_map f ys) (rw (sym e) j)
+In-flat_map f x y (z ∷ ys) (inr i) j = In-append_right x (f z) (flat_map f ys) (In-flat_map f x y ys i j)
+
+pub flat_map-In : (f : ℕ → List ℕ) (x : ℕ) (ys : List ℕ) → In x (flat_map f ys) → (y : ℕ) × In y ys × In x (f y)
+flat_map-In f x [] i = absurd i
+flat_map-In f x (z ∷ ys) i = elim (In-append_cases x (f z) (flat_map f ys) i) [
+  | inl l ↦ (z, inl refl, l)
+  | inr r ↦ let rest = flat_map-In f x ys r in (rest.0, inr rest.1, rest.2)
+]
+
+-- lists that are the same for each member are the same joined
+pub flat_map-same : (f h : ℕ → List ℕ) (xs : List ℕ) → ((x : ℕ) → In x xs → f x ≡ h x) → flat_map f xs ≡ flat_map h xs
+flat_map-same f h [] same = refl
+flat_map-same f h (x ∷ xs) same = rw (same x (inl refl)) (rw (flat_map-same f h xs (λ y i. same y (inr i))) refl)
+
+-- a number from the first of a range on, and below its end, is one of it
+pub In-range_with_len : (a n x : ℕ) → a ≤ x → x < a + n → In x (range_with_len a n)
+In-range_with_len a zero x low high = absurd (omega arith)
+In-range_with_len a (suc n) x low high = elim (cases_eq x a) [
+  | inl e ↦ inl e
+  | inr ne ↦ inr (In-range_with_len (a + 1) n x (omega arith) (omega arith))
+]
+
+-- what is found is a member that passes, and where nothing is found no member passes
+pub find-Some : (p : ℕ → Bool) (xs : List ℕ) (x : ℕ) → find p xs ≡ Some x → In x xs × (p x ≡ true)
+find-Some p [] x e = absurd (cc)
+find-Some p (y ∷ xs) x e = go (p y) refl e (λ f. find-Some p xs x f)
+  where
+    go : (b : Bool) → p y ≡ b → cond b (Some y) (find p xs) ≡ Some x → (find p xs ≡ Some x → In x xs × (p x ≡ true)) → In x (y ∷ xs) × (p x ≡ true)
+    go true q f rest = let same : y ≡ x = (cc) in (inl (sym same), ap p (sym same) ∙ q)
+    go false q f rest = let r = rest f in (inr r.0, r.1)
+
+pub find-None : (p : ℕ → Bool) (xs : List ℕ) (x : ℕ) → find p xs ≡ None → In x xs → p x ≡ false
+find-None p [] x e i = absurd i
+find-None p (y ∷ xs) x e i = go (p y) refl e i (λ f k. find-None p xs x f k)
+  where
+    go : (b : Bool) → p y ≡ b → cond b (Some y) (find p xs) ≡ None → In x (y ∷ xs) → (find p xs ≡ None → In x xs → p x ≡ false) → p x ≡ false
+    go true q f i rest = absurd (cc)
+    go false q f (inl s) rest = ap p s ∙ q
+    go false q f (inr i) rest = rest f i
 
 -- ---- how many
 
@@ -120,7 +174,7 @@ count_below-none has (suc n) none =
     omega (arith, below, here)
 
 -- a list without repeats of numbers that have the property is no longer than there are such numbers
-pub length-count_below : (has : ℕ → Bool) (bound : ℕ) (xs : List ℕ) → Distinct xs → AllBelow bound xs → ((x : ℕ) → In x xs → has x ≡ true) → length xs ≤ count_below has bound
+pub length-count_below : (has : ℕ → Bool) (bound : ℕ) (xs : List ℕ) → IsDistinct xs → AllByRecursion (λ x. x < bound) xs → ((x : ℕ) → In x xs → has x ≡ true) → length xs ≤ count_below has bound
 length-count_below has bound [] distinct below all = omega arith
 length-count_below has bound (x ∷ xs) distinct below all =
     let without : ℕ → Bool = λ n. cond (n == x) false (has n) in

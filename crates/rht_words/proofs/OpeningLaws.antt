@@ -17,7 +17,7 @@ use Rattle.rht_words.specs.declared.shape.Shape.{Shape}
 use Rattle.rht_words.proofs.OpenedWords.{opening_word-at, first_pages-fit}
 use Rattle.rht_words.proofs.PlacesApart.{place_of-below}
 use Rattle.rht_words.proofs.Rounding.{powers-fall}
-use Rattle.rht_words.proofs.StartingSizes.{StartsWithin-starting_size}
+use Rattle.rht_words.proofs.StartingSizes.{tables_start_within}
 
 -- ---- the words in their places
 
@@ -52,10 +52,10 @@ record IsSizeOf (e size : ℕ) : Type 0 where
 
 first_exponent : (env : Env) → (e : ℕ) × IsSizeOf e (first_size env)
 first_exponent env =
-    let starts = StartsWithin-starting_size env.config env.settled in
+    let starts = tables_start_within env.config env.settled in
     let e = starts.power.0 in
-    let low : 1 < e = powers-fall 1 e (omega (arith, starts.power.1, starts.within.0)) in
-    let high : e < 18 = powers-fall e 18 (omega (arith, starts.power.1, starts.within.1)) in (
+    let low : 1 < e = powers-fall 1 e (omega (arith, starts.power.1, starts.least)) in
+    let high : e < 18 = powers-fall e 18 (omega (arith, starts.power.1, starts.greatest)) in (
       e,
       record {
         exponent = ap exponent_of starts.power.1 ∙ trailing_zeros-pow e (omega arith);

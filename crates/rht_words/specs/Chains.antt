@@ -1,6 +1,5 @@
 -- Chains: rows of nodes, each of which leads to the next one.
-use Rattle.std.specs.Prelude.{◌≡◌, ◌≢◌, ℕ, List, [], ◌∷◌}
-use Rattle.std.specs.List.{All}
+use Rattle.std.specs.Prelude.{◌≡◌, ℕ, List, [], ◌∷◌}
 use Rattle.rht_words.specs.declared.geometry.Geometry.{Geometry}
 use Rattle.rht_words.specs.Links.{link_of, head_of}
 use Rattle.rht_words.specs.Places.{Node, ChainLink, KeyWord, PageWord, place_of, word_at}
@@ -17,11 +16,6 @@ key_in g words node = word_at g words (Node node KeyWord)
 abbrev pub IsSegment : (ℕ → ℕ) → ℕ → List ℕ → ℕ → Type 0
 IsSegment chain link [] stop = link ≡ stop
 IsSegment chain link (node ∷ nodes) stop = (link ≡ link_of node) × IsSegment chain (chain node) nodes stop
-
--- no node stands twice in the list
-abbrev pub IsDistinct : List ℕ → Type 0
-IsDistinct [] = Unit {0}
-IsDistinct (node ∷ nodes) = All (λ other. other ≢ node) nodes × IsDistinct nodes
 
 -- the bucket with this one of the pages' words has a chain of these nodes, and behind the last one is the link `stop`
 abbrev pub HasChain : Geometry → List ℕ → ℕ → List ℕ → ℕ → Type 0

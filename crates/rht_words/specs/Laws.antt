@@ -1,9 +1,8 @@
 -- What follows from the definitions alone.
 use Rattle.std.specs.Prelude.{◌≡◌, ◌≢◌, ◌↔◌, ℕ, ◌*◌, ◌/◌, ◌%◌, ◌^◌, ◌<◌, ◌≤◌, bit_and, bit_or, List, length, Some, None}
-use Rattle.std.specs.Int.{IsPowerOfTwo, bit_at, bit_not, w64}
+use Rattle.std.specs.Int.{bit_at, bit_not, w64}
 use Rattle.rht_words.specs.Ports.{word_of, port_of}
-use Rattle.rht_words.specs.Limits.{IsWithin}
-use Rattle.rht_words.specs.Sizes.{rounded_up, rounded_down, starting_size, IsLeastPower, IsGreatestPower}
+use Rattle.rht_words.specs.Sizes.{rounded_up, rounded_down, starting_size, IsSizeUpTo, IsLeastPower, IsGreatestPower}
 use Rattle.rht_words.specs.Settled.{IsSettled}
 use Rattle.rht_words.specs.Operations.{op_place, word_after, applied}
 use Rattle.rht_words.specs.Places.{Address, Slot, NodeMap, PageMap, ShapeWord, IsAddress, place_of, address_at, words_in, word_at}
@@ -26,14 +25,9 @@ pub record RoundsToNext : Type 0 where
   pub up : (n : ℕ) → n ≤ 2 ^ 32 → IsLeastPower n (rounded_up n)
   pub down : (n : ℕ) → 1 ≤ n → n < 2 ^ 32 → IsGreatestPower n (rounded_down n)
 
--- the first table's size is a power of two from 4 to 131,072
-pub record StartsWithin (size : ℕ) : Type 0 where
-  pub power : IsPowerOfTwo size
-  pub within : IsWithin 4 131072 size
-
--- each settled config has such a first table
+-- the first table of each settled config has a power of two from 4 to 131,072 for its size
 abbrev pub TablesStartWithin : Type 0
-TablesStartWithin = (config : Config) → IsSettled config → StartsWithin (starting_size config.hint config.min config.max)
+TablesStartWithin = (config : Config) → IsSettled config → IsSizeUpTo 131072 (starting_size config.hint config.min config.max)
 
 -- the places of different things are different, all are below the number of words, and no place is without a thing
 pub record PlacesStandApart (g : Geometry) : Type 0 where

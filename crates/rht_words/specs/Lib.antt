@@ -22,5 +22,7 @@ pub mod Maps
 pub mod Opening
 -- what comes of a machine that is told one old value after another
 pub mod Machines
+-- members of lists of numbers, and lists without repeats
+pub mod Members
 -- the nodes to which a row of links leads
 pub mod Chains

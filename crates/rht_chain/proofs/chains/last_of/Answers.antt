@@ -1,5 +1,5 @@
 use Rattle.std.proofs.Common.{sym, ◌∙◌}
-use Rattle.rht_chain.proofs.ChainsWorkedOut.{last_or-None}
+use Rattle.rht_words.proofs.EachElement.{last_or-None}
 use Rattle.rht_chain.proofs.chains.last_of.Goals as goal
 
 pub returns : goal.returns

@@ -1,7 +1,7 @@
 -- The size of the first table is one.
 use Rattle.std.proofs.Common.{sym, subst}
 use Rattle.rht_words.specs.Sizes.{IsSizeUpTo}
-use Rattle.rht_policy.proofs.TableSizes.{IsSizeUpTo-starting_size}
+use Rattle.rht_words.proofs.StartingSizes.{IsSizeUpTo-starting_size}
 use Rattle.rht_policy.proofs.sizes.starting.Goals as goal
 
 pub returns-clause-size : goal.returns-clause-size

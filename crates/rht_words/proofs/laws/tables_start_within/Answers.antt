@@ -1,5 +1,5 @@
-use Rattle.rht_words.proofs.StartingSizes.{StartsWithin-starting_size}
+use Rattle.rht_words.proofs.StartingSizes.{tables_start_within}
 use Rattle.rht_words.proofs.laws.tables_start_within.Goals as goal
 
 pub returns : goal.returns
-returns c = StartsWithin-starting_size
+returns c = tables_start_within
