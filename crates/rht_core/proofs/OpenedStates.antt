@@ -1,11 +1,12 @@
 -- A state that has just been opened is sound: it has all words, and a place for each caller.
-use Rattle.std.proofs.Common.{◌≡◌, ℕ, zero, suc, ◌+◌, List, [], ◌∷◌, ◌++◌, map, replicate, sym, arith}
-use Rattle.std.specs.List.{AllByRecursion, range_with_len}
+use Rattle.std.proofs.Common.{◌≡◌, ℕ, ◌+◌, List, [], ◌∷◌, ◌++◌, map, replicate, sym, arith}
+use Rattle.std.specs.List.{range_with_len}
 use Rattle.std.proofs.lemmas.List.{length-replicate}
 use Rattle.std.proofs.lemmas.List.FromFn.{map-range_with_len_more}
 use Rattle.rht_words.specs.Opening.{opening_word, opening_words}
 use Rattle.rht_words.specs.Places.{address_at}
 use Rattle.rht_words.specs.declared.env.Env.{Env}
+use Rattle.rht_words.proofs.EachElement.{AllByRecursion-replicate}
 use Rattle.rht_words.proofs.OpeningLaws.{stand_in_place}
 use Rattle.rht_core.specs.declared.local.Local.{Local}
 use Rattle.rht_core.specs.declared.local.Local.TheVariants.{Idle}
@@ -22,11 +23,6 @@ opening_words-more env place word words before here =
     rw (before, here) (sym (map-range_with_len_more opening 0 place place (omega arith)))
 
 module _ {M : Type 0} where
-  -- what holds of an idle caller holds of so many
-  all_idle : (P : Local M → Type 0) → P Idle → (count : ℕ) → AllByRecursion P (replicate count Idle)
-  all_idle P idle zero = tt
-  all_idle P idle (suc count) = (idle, all_idle P idle count)
-
   pub IsSound-opened : (env : Env) (words : List ℕ) (locals : List (Local M))
       → words ≡ opening_words env → locals ≡ replicate env.geometry.callers Idle
       → IsSound record { env = env; words = words; enrolled = 0; locals = locals }
@@ -34,5 +30,5 @@ module _ {M : Type 0} where
     all_words = (stand_in_place env).count;
     all_locals = length-replicate env.geometry.callers Idle;
     few_enrolled = omega arith;
-    same_env = all_idle (IsLocalOf env) tt env.geometry.callers;
+    same_env = AllByRecursion-replicate (IsLocalOf env) env.geometry.callers Idle tt;
   }
