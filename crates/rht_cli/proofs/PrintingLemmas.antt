@@ -1,6 +1,6 @@
 -- What was printed adds up over calls: a text and then another is their text together.
 use Rattle.std.proofs.Common.{◌≡◌, ℕ, ◌≤◌, List, [], ◌++◌, Option, Result, Ok, Err, OnOk, sym, ◌∙◌, subst, append_assoc, append-nil, arith}
-use Rattle.std.proofs.KnownBytes.{Appends-nil, Appends-trans}
+use Rattle.std.proofs.KnownBytes.{Appends-trans}
 use Rattle.std.specs.Io.KnownBytes.{Appends}
 use Rattle.rht_io.specs.Told.{AppendsPrefix}
 use Rattle.rht_io.proofs.ToldLemmas.{AppendsPrefix-after, AppendsPrefix-longer, Rose-after_kept}
@@ -19,10 +19,6 @@ IsWriteFault-after_kept before mid after WriteFailed kept fault = Rose-after_kep
 IsWriteFault-after_kept before mid after Memory kept fault = fault
 
 module _ {S : Type 0} (held : S → Option (List ℕ)) (faults : S → ℕ) where
-  -- nothing was printed
-  pub Prints-nil : (a : S) (waited : List ℕ) → Prints held faults a a (Ok tt) waited waited []
-  Prints-nil a waited = record { added = ([], Appends-nil (held a), sym (append-nil waited)); prefix = tt; reason = tt; kept = omega arith }
-
   -- a text was added, and then another or a prefix of it
   pub Prints-after : (a b c : S) (r : Result (Unit {0}) Ending) (waited between waits xs ys : List ℕ)
       → Prints held faults a b (Ok tt) waited between xs → Prints held faults b c r between waits ys → Prints held faults a c r waited waits (xs ++ ys)

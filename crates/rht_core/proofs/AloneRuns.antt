@@ -30,7 +30,7 @@ use Rattle.rht_core.specs.Runs.{World, Seen, seen, local_of, planned, beginning,
 use Rattle.rht_core.specs.Laws.{seen_begin, seen_step}
 use Rattle.rht_core.specs.StandsFor.{stands_for}
 use Rattle.rht_core.specs.Alone.{MeetsModel, IsQuiet, bindings_at, call_events}
-use Rattle.rht_core.proofs.CallsInProgress.{begins_so, idle_plans}
+use Rattle.rht_core.proofs.CallBeginnings.{begins_so, idle_plans}
 use Rattle.rht_core.proofs.Worlds.{beginning-some, planned-enrolled, run_of-push, begin_none, begin_self, step_none, step_self, step_words}
 use Rattle.rht_core.proofs.Steps.{by_test, mem}
 use Rattle.rht_core.proofs.Invariants.{home-within, CallerKnows}

@@ -26,7 +26,7 @@ use Rattle.rht_core.specs.declared.local.Local.{Local}
 use Rattle.rht_core.specs.declared.local.Local.TheVariants.{Idle, Finding, Binding}
 use Rattle.rht_core.specs.Locals.{is_idle, machine_of, plan_of, found_next, bound_next, local_after}
 use Rattle.rht_core.specs.Runs.{Core, core_step, local_of, beginning, planned, enrolling, IsSound}
-use Rattle.rht_core.proofs.CallsInProgress.{begins_so}
+use Rattle.rht_core.proofs.CallBeginnings.{begins_so}
 use Rattle.rht_core.proofs.Worlds.{beginning-some, planned-some}
 use Rattle.rht_core.proofs.Ghosts.{Ghost}
 use Rattle.rht_core.proofs.Wholes.{home, Whole}

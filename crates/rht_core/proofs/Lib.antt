@@ -1,7 +1,7 @@
 -- what an event does to each caller, and inductions over the events of a run
 pub mod Worlds
--- a call begins as a look-up or a bind, is busy, and goes on or ends
-pub mod CallsInProgress
+-- a call begins as a look-up or a bind, and who is in no call plans no operation
+pub mod CallBeginnings
 -- a machine goes on in a state, or has answered
 pub mod MachinesGoOn
 -- the word that a look-up's lock has found, and the reply that it is going to answer

@@ -31,7 +31,7 @@ use Rattle.rht_core.specs.Runs.{Core, World, local_of, beginning, with_machine, 
 use Rattle.rht_core.specs.Laws.{IsFindOf, IsBindOf, IsPlannedIn, IsLocalIn, IsInRange, InRange, IsOfCaller, IsEnrolledKept, Enrolled}
 use Rattle.rht_core.proofs.FindRanges.{IsFindAtIn, find_after-in, find_planned-in}
 use Rattle.rht_core.proofs.BindRanges.{IsBindAtIn, bind_after-in, bind_planned-in}
-use Rattle.rht_core.proofs.CallsInProgress.{begins_so}
+use Rattle.rht_core.proofs.CallBeginnings.{begins_so}
 use Rattle.rht_core.proofs.Worlds.{CanBegin, beginning-some, planned-some, run_of-push, run_keeps}
 
 -- ---- what a caller does

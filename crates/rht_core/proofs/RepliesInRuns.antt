@@ -23,7 +23,7 @@ use Rattle.rht_core.specs.Runs.{Seen, seen, book_begun, book_after, finished_wit
 use Rattle.rht_core.specs.Laws.{IsFindReply, IsBindReply, IsReplyTo, IsAnswered, IsBookOfFind, IsBookOfBind, IsBookOf, Replies, seen_begin, seen_step}
 use Rattle.rht_core.proofs.MachinesGoOn.{GoesOrEnds}
 use Rattle.rht_core.proofs.MachineReplies.{HoldsFindReply, HoldsBindReply, find_after-replies, bind_after-replies}
-use Rattle.rht_core.proofs.CallsInProgress.{begins_so}
+use Rattle.rht_core.proofs.CallBeginnings.{begins_so}
 use Rattle.rht_core.proofs.TracedCallers.{IsKept, callers_keep}
 
 -- a call that ends with a reply of its kind

@@ -31,7 +31,7 @@ use Rattle.rht_core.specs.Locals.{is_idle, machine_of, plan_of, local_after, fou
 use Rattle.rht_core.specs.Runs.{Seen, local_of}
 use Rattle.rht_core.specs.Traces.{Did, Past, Trace, Traced, trace_begun, trace_did, traced_of}
 use Rattle.rht_core.specs.Laws.{IsLocalIn, seen_begin}
-use Rattle.rht_core.proofs.CallsInProgress.{begins_so}
+use Rattle.rht_core.proofs.CallBeginnings.{begins_so}
 use Rattle.rht_core.proofs.FindRanges.{IsFindAtIn}
 use Rattle.rht_core.proofs.BindRanges.{IsBindAtIn}
 use Rattle.rht_core.proofs.MachinesGoOn.{GoesOrEnds}

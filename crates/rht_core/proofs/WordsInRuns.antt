@@ -28,7 +28,7 @@ use Rattle.rht_core.specs.Locals.{machine_of, plan_of, local_after, found_next, 
 use Rattle.rht_core.specs.Runs.{Core, World, local_of, beginning, with_machine, planned, with_step, enrolling, world_step, run_of, opening, IsAdmitted, IsAdmittedCall, IsAdmittedEvent}
 use Rattle.rht_core.specs.Laws.{IsLocalIn, IsFindPieceIn, IsBindPieceIn, WordsFit}
 use Rattle.rht_core.proofs.MachinesGoOn.{GoesOrEnds}
-use Rattle.rht_core.proofs.CallsInProgress.{begins_so}
+use Rattle.rht_core.proofs.CallBeginnings.{begins_so}
 use Rattle.rht_core.proofs.Worlds.{beginning-some, planned-some, run_keeps_admitted}
 use Rattle.rht_core.proofs.RangesInRuns.{StaysIn, opens-in, stays-in, has_place}
 use Rattle.rht_core.proofs.StoredWords.{Fits, OpFits, word_after-fits, FindFits, find_after-fits, find_plan-fits, BindFits, bind_after-fits, bind_plan-fits}

@@ -3,7 +3,7 @@
 -- else that holds of runs goes through these equations.
 use Rattle.std.proofs.Common.{◌≡◌, ◌≢◌, ℕ, ◌<◌, ◌≤◌, Bool, true, false, cond, ◌&&◌, ◌==◌, nat_lt, List, [], ◌∷◌, ◌++◌, length, take, refl, sym, ap, ◌∙◌, subst, append_assoc}
 use Rattle.std.specs.Prelude.{Option, Some, None, slice_set}
-use Rattle.std.proofs.lemmas.Bool.{eq-eqb, ne_eqb, ltb-true, lt-ltb, and_parts, and_from}
+use Rattle.std.proofs.lemmas.Bool.{eq-eqb, ne_eqb, ltb-true, lt-ltb, and_parts}
 use Rattle.std.proofs.lemmas.List.{append-nil, take-append-le, get_or-set_same, get_or-set_other}
 use Rattle.std.proofs.Math.Seq.{take-append_seam}
 use Rattle.rht_words.specs.declared.op.Op.{Op}
@@ -13,12 +13,12 @@ use Rattle.rht_words.specs.Operations.{old_of, applied}
 use Rattle.rht_words.proofs.EachElement.{AllByRecursion-append}
 use Rattle.rht_model.specs.declared.history.Call.{Call}
 use Rattle.rht_core.specs.declared.event.Event.{Event}
-use Rattle.rht_core.specs.declared.event.Event.TheVariants.{Enroll, Begin, Step}
+use Rattle.rht_core.specs.declared.event.Event.TheVariants.{Begin, Step}
 use Rattle.rht_core.specs.declared.book.Book.{Book}
 use Rattle.rht_core.specs.declared.local.Local.{Local}
 use Rattle.rht_core.specs.declared.local.Local.TheVariants.{Idle}
 use Rattle.rht_core.specs.Locals.{is_idle, machine_of, plan_of, local_after}
-use Rattle.rht_core.specs.Runs.{World, Seen, seen, local_in, local_of, beginning, with_machine, planned, with_step, enrolling, book_at, book_begun, book_after, books_begun, books_stepped, world_step, run_from, run_of, opening, IsAdmitted, IsAdmittedEvent}
+use Rattle.rht_core.specs.Runs.{World, Seen, seen, local_in, local_of, beginning, with_machine, planned, with_step, book_at, book_begun, book_after, books_begun, books_stepped, world_step, run_from, run_of, opening, IsAdmitted, IsAdmittedEvent}
 use Rattle.rht_core.specs.Laws.{seen_begin, seen_step, Extends}
 
 -- ---- lists of events
@@ -79,13 +79,6 @@ module _ {M : Type 0} where
       let both = and_parts (nat_lt c enrolled) (is_idle (local_in locals c)) parts.0 in
       record { below = ltb-true c enrolled both.0; idle = both.1; machine_is = parts.1 }
 
-  -- of who is enrolled and idle the machine alone says how it begins
-  pub beginning-idle : (env : Env) (enrolled : ℕ) (locals : List (Local M)) (c : ℕ) (call : Call) → c < enrolled
-      → is_idle (local_in locals c) ≡ true → beginning env enrolled locals c call ≡ machine_of env c call
-  beginning-idle env enrolled locals c call below idle =
-      ap (λ (v : Bool). cond v (machine_of env c call) None)
-      (and_from (nat_lt c enrolled) (is_idle (local_in locals c)) (lt-ltb c enrolled below) idle)
-
   -- who plans an operation is enrolled
   pub record CanStep (enrolled : ℕ) (locals : List (Local M)) (c : ℕ) (op : Op) : Type 0 where
     pub below : c < enrolled
@@ -110,13 +103,6 @@ module _ (M : Type 0) (mix : ℕ → ℕ → ℕ → ℕ) (w : World M) where
   abbrev pair : Local M → Book → Seen M
   pair local book = record { local = local; book = book }
 
-  -- an enrolling changes the words and no caller
-  pub enroll_words : (world_step mix w Enroll).core.words ≡ applied w.core.words (enrolling w.core.env)
-  enroll_words = refl
-
-  pub enroll_any : (k : ℕ) → seen (world_step mix w Enroll) k ≡ seen w k
-  enroll_any k = refl
-
   module _ (c : ℕ) (call : Call) where
     -- the operation with which a caller begins
     abbrev pub beginning_in : Option (Local M)
@@ -128,10 +114,6 @@ module _ (M : Type 0) (mix : ℕ → ℕ → ℕ → ℕ) (w : World M) where
       core = record w.core { locals = with_machine w.core.locals c machine };
       books = books_begun w.books c call machine;
     }
-
-    -- a beginning changes no word
-    pub begin_words : (world_step mix w (Begin c call)).core.words ≡ w.core.words
-    begin_words = refl
 
     -- one that can't be changes nothing
     pub begin_none : beginning_in ≡ None → world_step mix w (Begin c call) ≡ w

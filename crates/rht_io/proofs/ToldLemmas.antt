@@ -2,8 +2,8 @@
 -- another, both were put, one after the other, and a fault of a part is a fault of the whole.
 use Rattle.std.proofs.Common.{◌≡◌, ℕ, zero, suc, ◌+◌, ◌≤◌, List, [], ◌∷◌, ◌++◌, length, take, Option, Result, Ok, Err, IsErr, refl, sym, ap, subst, inl, inr, arith}
 use Rattle.std.proofs.Math.Seq.{take-append-add}
-use Rattle.std.proofs.KnownBytes.{Appends-nil, Appends-trans, Appends-kept, Consumes-nil}
-use Rattle.std.specs.Io.KnownBytes.{Appends, Consumes, Keeps}
+use Rattle.std.proofs.KnownBytes.{Appends-nil, Appends-trans, Appends-kept}
+use Rattle.std.specs.Io.KnownBytes.{Appends, Keeps}
 use Rattle.rht_io.specs.Told.{Rose, AppendsPrefix, Puts}
 
 -- ---- a count of faults
@@ -13,11 +13,6 @@ pub Rose-after_kept : (before mid after : ℕ) → before ≤ mid → Rose mid a
 Rose-after_kept before mid after kept (inl less) = inl (omega arith)
 Rose-after_kept before mid after kept (inr last) = inr last
 
--- a count that rose and was then kept
-pub Rose-then_kept : (before mid after : ℕ) → Rose before mid → mid ≤ after → Rose before after
-Rose-then_kept before mid after (inl less) kept = inl (omega arith)
-Rose-then_kept before mid after (inr last) kept = inr (omega arith)
-
 -- ---- bytes that grow by a prefix
 
 -- a prefix of a text is one of a longer text
@@ -26,9 +21,6 @@ take_of_longer zero xs ys = (0, refl)
 take_of_longer (suc n) [] ys = (0, refl)
 take_of_longer (suc n) (x ∷ xs) ys =
     let shorter = take_of_longer n xs ys in (suc shorter.0, ap (λ l. x ∷ l) shorter.1)
-
-pub AppendsPrefix-nil : (a : Option (List ℕ)) (xs : List ℕ) → AppendsPrefix a a xs
-AppendsPrefix-nil a xs = (0, Appends-nil a)
 
 -- a text was put, and then a prefix of another
 pub AppendsPrefix-after : (a b c : Option (List ℕ)) (xs ys : List ℕ)
@@ -40,27 +32,9 @@ pub AppendsPrefix-longer : (a b : Option (List ℕ)) (xs ys : List ℕ) → Appe
 AppendsPrefix-longer a b xs ys put =
     let longer = take_of_longer put.0 xs ys in (longer.0, subst (Appends a b) (sym longer.1) put.1)
 
--- ---- bytes that are told grow and shrink, over two calls
-
-pub Appends-same : (a b : Option (List ℕ)) → a ≡ b → Appends a b []
-Appends-same a b same = subst (λ x. Appends a x []) same (Appends-nil a)
-
-pub AppendsPrefix-same : (a b : Option (List ℕ)) (xs : List ℕ) → a ≡ b → AppendsPrefix a b xs
-AppendsPrefix-same a b xs same = (0, Appends-same a b same)
-
-pub Consumes-same : (a b : Option (List ℕ)) → a ≡ b → Consumes a b []
-Consumes-same a b same = subst (λ x. Consumes a x []) same (Consumes-nil a)
-
 -- ---- puts, one after another
 
 module _ {S E : Type 0} (held : S → Option (List ℕ)) (faults : S → ℕ) where
-  -- nothing was put
-  pub Puts-nil : (a : S) → Puts {E = E} held faults a a (Ok tt) []
-  Puts-nil a = record { whole = Appends-nil (held a); prefix = tt; failed = tt; kept = omega arith }
-
-  pub Puts-same : (a b : S) → a ≡ b → Puts {E = E} held faults a b (Ok tt) []
-  Puts-same a b same = subst (λ x. Puts {E = E} held faults a x (Ok tt) []) same (Puts-nil a)
-
   -- a text was put, and then another or a prefix of it
   pub Puts-after : (a b c : S) (r : Result (Unit {0}) E) (xs ys : List ℕ)
       → Puts {E = E} held faults a b (Ok tt) xs → Puts held faults b c r ys → Puts held faults a c r (xs ++ ys)
@@ -90,16 +64,6 @@ module _ {S E : Type 0} (held : S → Option (List ℕ)) (faults : S → ℕ) wh
   -- a call that put a text
   pub Puts-of_put : (a b : S) (xs : List ℕ) → Appends (held a) (held b) xs → faults a ≤ faults b → Puts {E = E} held faults a b (Ok tt) xs
   Puts-of_put a b xs put kept = record { whole = put; prefix = tt; failed = tt; kept = kept }
-
-  -- a put that failed is one of any longer text
-  pub Puts-longer : (a b : S) (e : E) (xs ys : List ℕ)
-      → Puts held faults a b (Err e) xs → Puts held faults a b (Err e) (xs ++ ys)
-  Puts-longer a b e xs ys put = record {
-    whole = tt;
-    prefix = AppendsPrefix-longer (held a) (held b) xs ys put.prefix;
-    failed = put.failed;
-    kept = put.kept;
-  }
 
 -- a failure that is passed on, as by a `?`, says the same under another error
 pub Puts-passed_on : {S E F : Type 0} (held : S → Option (List ℕ)) (faults : S → ℕ) (a b : S) (q : Result (Unit {0}) E) (r : Result (Unit {0}) F) (xs : List ℕ)

@@ -5,9 +5,9 @@ use Rattle.rht_words.specs.declared.config.Kind.{Kind}
 use Rattle.rht_model.specs.declared.history.Call.{Call}
 use Rattle.rht_model.specs.declared.history.Entry.{Entry}
 use Rattle.rht_model.specs.Multimap.{Multimap, Agree}
-use Rattle.rht_model.specs.Answers.{answer_of, bindings_after, plain}
+use Rattle.rht_model.specs.Answers.{answer_of, plain}
 use Rattle.rht_model.specs.Histories.{without_kick, IsAnswered, IsLegalAt, IsLegalFrom, left_by, bindings_left}
-use Rattle.rht_model.proofs.OwnPort.{answer_of-own_port, bindings_after-own_port, left_by-own_port}
+use Rattle.rht_model.proofs.OwnPort.{answer_of-own_port, left_by-own_port}
 
 -- bindings agree with themselves
 pub Agree-refl : (bindings : Multimap) → Agree bindings bindings
@@ -16,10 +16,6 @@ Agree-refl bindings port = refl
 -- if one agrees with another, that agrees with the one
 pub Agree-sym : (first second : Multimap) → Agree first second → Agree second first
 Agree-sym first second agree port = sym (agree port)
-
--- what agrees with the same bindings on both sides agrees
-pub Agree-trans : (first second third : Multimap) → Agree first second → Agree second third → Agree first third
-Agree-trans first second third agree agree' port = agree port ∙ agree' port
 
 -- a call has one answer on bindings that agree
 pub answer_of-Agree : (kind : Kind) (first second : Multimap) (call : Call) → Agree first second
@@ -35,11 +31,6 @@ IsAnswered-unique kind bindings same first second agree one_call answered answer
     let answers = sym answered ∙ one_answer ∙ answered' in
     let none = plain first.reply in
     (ap (λ answer. (unwrap_or answer none).reply) answers, ap (λ answer. (unwrap_or answer none).owners) answers)
-
--- a call leaves bindings that agree agreeing
-pub bindings_after-Agree : (kind : Kind) (first second : Multimap) (call : Call) → Agree first second
-    → Agree (bindings_after kind first call) (bindings_after kind second call)
-bindings_after-Agree kind first second call agree port = bindings_after-own_port kind first second call port (agree port)
 
 -- an entry leaves bindings that agree agreeing
 pub left_by-Agree : (kind : Kind) (first second : Multimap) (entry : Entry) → Agree first second

@@ -10,11 +10,6 @@ abbrev pub RisesFrom : ℕ → List ℕ → Type 0
 RisesFrom low [] = Unit {0}
 RisesFrom low (port ∷ ports) = (low ≤ port) × RisesFrom (suc port) ports
 
--- what rises from a number rises from a lower one
-pub RisesFrom-weaker : (low high : ℕ) (ports : List ℕ) → low ≤ high → RisesFrom high ports → RisesFrom low ports
-RisesFrom-weaker low high [] below rises = tt
-RisesFrom-weaker low high (port ∷ ports) below rises = (omega (arith, rises.0), rises.1)
-
 -- without its first port, a rising list rises
 IsStrictlyIncreasing-tail : (port : ℕ) (ports : List ℕ) → IsStrictlyIncreasing (port ∷ ports) → IsStrictlyIncreasing ports
 IsStrictlyIncreasing-tail port ports rises k within =

@@ -1,5 +1,5 @@
 -- Segments of chains: how they are cut and joined, and what a store to one link does to them.
-use Rattle.std.proofs.Common.{◌≡◌, ◌≢◌, ℕ, List, [], ◌∷◌, ◌++◌, Some, get_or, refl, inl, inr, sym, ◌∙◌, subst}
+use Rattle.std.proofs.Common.{◌≡◌, ◌≢◌, ℕ, List, [], ◌∷◌, ◌++◌, Some, refl, inl, inr, sym, ◌∙◌, subst}
 use Rattle.std.proofs.lemmas.List.Elements.{All-head, All-tail}
 use Rattle.std.specs.List.{All, last_or}
 use Rattle.rht_words.specs.Links.{link_of}
@@ -43,13 +43,6 @@ IsSegment-members chain stored link [] stop same segment = segment
 IsSegment-members chain stored link (node ∷ nodes) stop same segment =
     let behind = IsSegment-members chain stored (chain node) nodes stop (λ other i. same other (inr i)) segment.1 in
     (segment.0, rw (same node (inl refl)) behind)
-
--- a segment stays where the link behind one node is stored, which isn't among its own
-pub IsSegment-store : (chain stored : ℕ → ℕ) (off : ℕ) (nodes : List ℕ) (link stop : ℕ)
-    → ((node : ℕ) → node ≢ off → stored node ≡ chain node) → All (λ node. node ≢ off) nodes
-    → IsSegment chain link nodes stop → IsSegment stored link nodes stop
-IsSegment-store chain stored off nodes link stop others apart segment =
-    IsSegment-same chain stored nodes link stop (λ k d l. others (get_or nodes k d) (apart k d l)) segment
 
 -- The link behind the last node of a segment is stored, and what is behind it then is another segment. By induction
 -- over the nodes before the last one, whose links stay.

@@ -1,6 +1,6 @@
 -- The words as a function of what they are there for. An operation changes it at one address.
-use Rattle.std.proofs.Common.{◌≡◌, ◌≢◌, ℕ, List, length, ap, slice_index}
-use Rattle.rht_words.specs.Operations.{op_place, old_of, word_after, applied}
+use Rattle.std.proofs.Common.{◌≡◌, ◌≢◌, ℕ, List, length}
+use Rattle.rht_words.specs.Operations.{op_place, word_after, applied}
 use Rattle.rht_words.specs.Places.{Address, IsAddress, place_of, words_in, word_at}
 use Rattle.rht_words.specs.declared.op.Op.{Op}
 use Rattle.rht_words.specs.declared.geometry.Geometry.{Geometry}
@@ -21,7 +21,3 @@ pub is_write : (g : Geometry) (words : List ℕ) (address : Address) (op : Op) �
 is_write g words address op whole there is =
     let changes = changes_one_word g words address op whole there is in
     record { same = changes.changed; others = changes.others }
-
--- what the operation finds is the word of its address
-pub found_word : (g : Geometry) (words : List ℕ) (address : Address) (op : Op) → op_place op ≡ place_of g address → old_of words op ≡ word_at g words address
-found_word g words address op is = ap (slice_index words) is

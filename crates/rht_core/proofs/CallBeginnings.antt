@@ -1,0 +1,43 @@
+-- How a call begins, and that who is in no call plans no operation.
+-- These go by cases on calls and machines, so that nothing above them has to.
+use Rattle.std.proofs.Common.{◌≡◌, ℕ, Bool, true, refl, subst}
+use Rattle.std.specs.Prelude.{Option, Some, None}
+use Rattle.rht_words.specs.declared.env.Env.{Env}
+use Rattle.rht_words.specs.declared.config.Kind.{Kind}
+use Rattle.rht_words.specs.declared.config.Kind.TheVariants.{Single, Listed}
+use Rattle.rht_model.specs.declared.history.Call.{Call}
+use Rattle.rht_model.specs.declared.history.Call.TheVariants.{Bind, Find}
+use Rattle.rht_find.specs.Find.{find_new}
+use Rattle.rht_bind.specs.Bind.{bind_new}
+use Rattle.rht_core.specs.declared.local.Local.{Local}
+use Rattle.rht_core.specs.declared.local.Local.TheVariants.{Idle, Finding, Binding}
+use Rattle.rht_core.specs.Locals.{is_idle, machine_of, binding_of, plan_of}
+
+module _ (M : Type 0) where
+  -- A call begins as a look-up or as a bind. What is so of these two is so of whatever begins.
+  module _ (env : Env) (c : ℕ) (So : Call → Local M → Type 0)
+      (find : (port : ℕ) → So (Find port) (Finding (find_new env c port)))
+      (bind : (port owner : ℕ) (once : Bool) → env.config.kind ≡ Single → So (Bind port owner once) (Binding (bind_new env c port owner once)))
+    where
+      abbrev BeginsSo : Call → Option (Local M) → Type 0
+      BeginsSo call None = Unit {0}
+      BeginsSo call (Some machine) = So call machine
+
+      binding-so : (port owner : ℕ) (once : Bool) (kind : Kind) → env.config.kind ≡ kind
+          → BeginsSo (Bind port owner once) (binding_of env c port owner once kind)
+      binding-so port owner once Single is = bind port owner once is
+      binding-so port owner once Listed is = tt
+
+      machine-so : (call : Call) → BeginsSo call (machine_of env c call)
+      machine-so (Find port) = find port
+      machine-so (Bind port owner once) = binding-so port owner once env.config.kind refl
+      machine-so _ = tt
+
+      pub begins_so : (call : Call) (machine : Local M) → machine_of env c call ≡ Some machine → So call machine
+      begins_so call machine is = subst (BeginsSo call) is (machine-so call)
+
+  -- who is in no call plans none
+  pub idle_plans : (local : Local M) → is_idle local ≡ true → plan_of local ≡ None
+  idle_plans Idle idle = refl
+  idle_plans (Finding m) idle = absurd (cc)
+  idle_plans (Binding m) idle = absurd (cc)
