@@ -43,7 +43,8 @@ abbrev pub SawAllBelow : Geometry → ℕ → List Performed → Type 0
 SawAllBelow g bound steps = (node : ℕ) → node < bound → Any (SeesTaken g node) steps
 
 -- what was seen stays seen
-pub SawAllBelow-push : (g : Geometry) (bound : ℕ) (steps : List Performed) (step : Performed) → SawAllBelow g bound steps
+pub SawAllBelow-push : (g : Geometry) (bound : ℕ) (steps : List Performed) (step : Performed)
+    → SawAllBelow g bound steps
     → SawAllBelow g bound (steps ++ step ∷ [])
 SawAllBelow-push g bound steps step saw node l = Any-append_left (SeesTaken g node) steps (step ∷ []) (saw node l)
 
@@ -80,7 +81,8 @@ module _ (take : TakeNodeModel) (steps : List Performed) (index word : ℕ) wher
   -- where each clear bit of the word was seen, the machine may go on from its lowest free one
   claim_in-saw : index < map_words g.nodes → SawAllBelow g (64 * index) steps
       → ((bit : ℕ) → bit < 64 → bit_at word bit ≡ 0 → Any (SeesTaken g (64 * index + bit)) steps)
-      → (lowest : Option ℕ) → lowest_free g.nodes index word ≡ lowest → SawSoFar g steps (claim_in take index lowest)
+      → (lowest : Option ℕ) → lowest_free g.nodes index word ≡ lowest
+      → SawSoFar g steps (claim_in take index lowest)
   claim_in-saw range before here (Some bit) is =
       let lowest = lowest_free-Some g.nodes index word bit is in
       saw_word g steps index bit before
@@ -179,7 +181,8 @@ module _ (g : Geometry) (steps : List Performed) (m : TakeNodeModel) (old : ℕ)
   left = (take_node_after m old).0
 
   -- what one more operation has seen and done, by what the machine says after it
-  saw : (next : Next (Option ℕ)) → (take_node_after m old).1 ≡ next → SawSoFar m.geometry (steps ++ step ∷ []) (left, next)
+  saw : (next : Next (Option ℕ)) → (take_node_after m old).1 ≡ next
+      → SawSoFar m.geometry (steps ++ step ∷ []) (left, next)
   saw next is =
       subst (λ n. SawSoFar m.geometry (steps ++ step ∷ []) (left, n)) is
       (take_after-saw m m.at steps step refl kept.in_range kept.seen)
@@ -199,7 +202,8 @@ module _ (g : Geometry) (steps : List Performed) (m : TakeNodeModel) (old : ℕ)
       }
 
   -- at the end it gives what the answer says
-  answers : (answer : Option ℕ) → (take_node_after m old).1 ≡ Done answer → IsAnsweredBy g (steps ++ step ∷ []) answer
+  answers : (answer : Option ℕ) → (take_node_after m old).1 ≡ Done answer
+      → IsAnsweredBy g (steps ++ step ∷ []) answer
   answers None is =
       subst (λ (h : Geometry). IsAnsweredBy h (steps ++ step ∷ []) None) kept.geometry
       (record { seen = saw (Done None) is; unchanged = All-push LeavesWord steps step kept.unchanged (did (Done None) is) })

@@ -25,7 +25,8 @@ loaded_first passed (at.Key node) behind = (node ∷ behind, refl)
 loaded_first passed (at.ChainLink node) behind = (behind, sym (append_assoc passed (node ∷ []) behind))
 
 -- a walk is in its chain in other words too, where the chain's nodes are the same
-IsWalking-same : (g : Geometry) (words other nodes : List ℕ) (m : LockedWalkModel) → AreSameIn g words other nodes
+IsWalking-same : (g : Geometry) (words other nodes : List ℕ) (m : LockedWalkModel)
+    → AreSameIn g words other nodes
     → IsWalking g words nodes m → IsWalking g other nodes m
 IsWalking-same g words other nodes m same walking =
     let Same : ℕ → Type 0 = λ node. key_in g other node ≡ key_in g words node in
@@ -42,7 +43,8 @@ IsWalking-same g words other nodes m same walking =
       counted = walking.counted;
     }
 
-CanWalk-same : (g : Geometry) (words other : List ℕ) (link : ℕ) (nodes : List ℕ) (stop : ℕ) → AreSameIn g words other nodes
+CanWalk-same : (g : Geometry) (words other : List ℕ) (link : ℕ) (nodes : List ℕ) (stop : ℕ)
+    → AreSameIn g words other nodes
     → CanWalk g words link nodes stop → CanWalk g other link nodes stop
 CanWalk-same g words other link nodes stop same can =
     record {

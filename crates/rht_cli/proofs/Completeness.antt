@@ -14,7 +14,8 @@ use Rattle.rht_cli.specs.declared.ending.Ending.TheVariants.{Done, Usage, Fault,
 use Rattle.rht_cli.specs.Endings.{IsNoScript, Ends, status_of, ending_line}
 
 -- what was read of told bytes, to their end, is all of them
-all_read : (bytes piece : List ℕ) (left left_after : Option (List ℕ)) → left ≡ Some bytes → Consumes left left_after piece → IsAtEnd left_after → piece ≡ bytes
+all_read : (bytes piece : List ℕ) (left left_after : Option (List ℕ)) → left ≡ Some bytes
+    → Consumes left left_after piece → IsAtEnd left_after → piece ≡ bytes
 all_read bytes piece None left_after told taken ended = absurd (cc)
 all_read bytes piece (Some all) None told taken ended = absurd taken
 all_read bytes piece (Some all) (Some rest) told taken ended =
@@ -22,7 +23,8 @@ all_read bytes piece (Some all) (Some rest) told taken ended =
     sym (append-nil piece) ∙ ap (λ l. piece ++ l) (sym ended) ∙ sym taken ∙ same
 
 -- what was read of told bytes begins them
-begins : (bytes piece : List ℕ) (left left_after : Option (List ℕ)) → left ≡ Some bytes → Consumes left left_after piece → (rest : List ℕ) × (bytes ≡ piece ++ rest)
+begins : (bytes piece : List ℕ) (left left_after : Option (List ℕ)) → left ≡ Some bytes
+    → Consumes left left_after piece → (rest : List ℕ) × (bytes ≡ piece ++ rest)
 begins bytes piece None left_after told taken = absurd (cc)
 begins bytes piece (Some all) None told taken = absurd taken
 begins bytes piece (Some all) (Some rest) told taken =
@@ -30,7 +32,8 @@ begins bytes piece (Some all) (Some rest) told taken =
     (rest, sym same ∙ taken)
 
 -- the first fault of what was read of told bytes is their own
-no_script : (bytes : List ℕ) (left left_after : Option (List ℕ)) (fault : ScriptFault) → left ≡ Some bytes → IsNoScript left left_after fault → FirstFault bytes fault
+no_script : (bytes : List ℕ) (left left_after : Option (List ℕ)) (fault : ScriptFault)
+    → left ≡ Some bytes → IsNoScript left left_after fault → FirstFault bytes fault
 no_script bytes left left_after fault told refused = elim refused.read.enough [
   | inl whole ↦ subst (λ l. FirstFault l fault) (all_read bytes refused.bytes left left_after told refused.read.taken whole.0) refused.first
   | inr long ↦
@@ -40,7 +43,8 @@ no_script bytes left left_after fault told refused = elim refused.read.enough [
 
 module _ {S O : Type 0} (left : S → Option (List ℕ)) (sfaults : S → ℕ) (held : O → Option (List ℕ)) (ofaults : O → ℕ) (s s' : S) (o o' : O) where
   -- serving a script doesn't end as words that are no form do
-  pub never_usage : (ending : Ending) → Ends left sfaults held ofaults s s' o o' ending → status_of ending ≡ 1 → ⊥
+  pub never_usage : (ending : Ending) → Ends left sfaults held ofaults s s' o o' ending
+      → status_of ending ≡ 1 → ⊥
   never_usage Done ends same = cc
   never_usage Usage ends same = ends
   never_usage (Fault fault) ends same = cc
@@ -49,8 +53,10 @@ module _ {S O : Type 0} (left : S → Option (List ℕ)) (sfaults : S → ℕ) (
   never_usage Memory ends same = cc
 
 module _ {S O : Type 0} (left : S → Option (List ℕ)) (sfaults : S → ℕ) (held : O → Option (List ℕ)) (ofaults : O → ℕ) (s s' : S) (o o' : O) (bytes : List ℕ) (told : left s ≡ Some bytes) where
-  pub served : (ending : Ending) → Ends left sfaults held ofaults s s' o o' ending → (said : Said) → reading_of bytes ≡ Ok said
-      → (Rose (sfaults s) (sfaults s') → ⊥) → (Rose (ofaults o) (ofaults o') → ⊥) → (status_of ending ≡ 0) ⊎ (status_of ending ≡ 5)
+  pub served : (ending : Ending) → Ends left sfaults held ofaults s s' o o' ending → (said : Said)
+      → reading_of bytes ≡ Ok said
+      → (Rose (sfaults s) (sfaults s') → ⊥) → (Rose (ofaults o) (ofaults o') → ⊥)
+      → (status_of ending ≡ 0) ⊎ (status_of ending ≡ 5)
   served Done ends said script reads writes = inl refl
   served Usage ends said script reads writes = absurd ends
   served (Fault fault) ends said script reads writes =
@@ -59,8 +65,10 @@ module _ {S O : Type 0} (left : S → Option (List ℕ)) (sfaults : S → ℕ) (
   served WriteFailed ends said script reads writes = absurd (writes ends.0)
   served Memory ends said script reads writes = inr refl
 
-  pub refused : (ending : Ending) → Ends left sfaults held ofaults s s' o o' ending → (fault : ScriptFault) → FirstFault bytes fault
-      → (Rose (sfaults s) (sfaults s') → ⊥) → ((status_of ending ≡ 2) × (ending_line ending ≡ fault_line fault)) ⊎ (status_of ending ≡ 5)
+  pub refused : (ending : Ending) → Ends left sfaults held ofaults s s' o o' ending
+      → (fault : ScriptFault) → FirstFault bytes fault
+      → (Rose (sfaults s) (sfaults s') → ⊥)
+      → ((status_of ending ≡ 2) × (ending_line ending ≡ fault_line fault)) ⊎ (status_of ending ≡ 5)
   refused Done ends fault first reads =
       let whole = subst (λ l. reading_of l ≡ Ok ends.said) (all_read bytes ends.bytes (left s) (left s') told ends.read ends.to_end) ends.script in absurd (cc)
   refused Usage ends fault first reads = absurd ends

@@ -20,7 +20,8 @@ use Rattle.rht_cli.specs.Printed.{bindings_of, onto_bound, bound_ports, last_pai
 -- ---- which ports are bound in the end
 
 -- a port among others is among those and one that a call binds
-onto_more : (call : Call) (port : ℕ) (ports : List ℕ) → Contains ports port → Contains (onto_bound call ports) port
+onto_more : (call : Call) (port : ℕ) (ports : List ℕ) → Contains ports port
+    → Contains (onto_bound call ports) port
 onto_more (calls.Bind bound owner once) port ports among = Contains-cons bound port ports among
 onto_more (calls.Find other) port ports among = among
 onto_more (calls.All other) port ports among = among
@@ -32,7 +33,8 @@ onto_more calls.Tidy port ports among = among
 onto_more calls.Count port ports among = among
 
 -- a port that is bound after a call was bound before it, or is the one that the call binds
-bound_before : (bindings : Multimap) (call : Call) (port : ℕ) (ports : List ℕ) → bindings_after Single bindings call port ≢ []
+bound_before : (bindings : Multimap) (call : Call) (port : ℕ) (ports : List ℕ)
+    → bindings_after Single bindings call port ≢ []
     → (bindings port ≢ []) ⊎ Contains (onto_bound call ports) port
 bound_before bindings (calls.Bind other owner once) port ports bound = elim (cases_eq port other) [
   | inl same ↦ inr (0, omega arith, sym same)
@@ -54,7 +56,8 @@ bound_before bindings calls.Tidy port ports bound = inl bound
 bound_before bindings calls.Count port ports bound = inl bound
 
 -- by induction over the commands
-bound_by : (bindings : Multimap) (commands : List (ℕ × Call)) (port : ℕ) → bindings_of bindings commands port ≢ []
+bound_by : (bindings : Multimap) (commands : List (ℕ × Call)) (port : ℕ)
+    → bindings_of bindings commands port ≢ []
     → (bindings port ≢ []) ⊎ Contains (bound_ports commands) port
 bound_by bindings [] port bound = inl bound
 bound_by bindings (command ∷ commands) port bound = elim (bound_by (bindings_after Single bindings command.1) commands port bound) [
@@ -62,7 +65,8 @@ bound_by bindings (command ∷ commands) port bound = elim (bound_by (bindings_a
   | inr among ↦ inr (onto_more command.1 port (bound_ports commands) among)
 ]
 
-among_bound : (commands : List (ℕ × Call)) (port : ℕ) → bindings_of unbound commands port ≢ [] → Contains (bound_ports commands) port
+among_bound : (commands : List (ℕ × Call)) (port : ℕ) → bindings_of unbound commands port ≢ []
+    → Contains (bound_ports commands) port
 among_bound commands port bound = elim (bound_by unbound commands port bound) [
   | inl before ↦ absurd (before refl)
   | inr among ↦ among
@@ -70,7 +74,8 @@ among_bound commands port bound = elim (bound_by unbound commands port bound) [
 
 -- ---- the registry's pairs as a listing
 
-ports_rise : (low : ℕ) (pairs : List (ℕ × ℕ)) → AllByRecursion (λ pair. low ≤ pair.0) pairs → IsRising pairs → RisesFrom low (ports_of (listed pairs))
+ports_rise : (low : ℕ) (pairs : List (ℕ × ℕ)) → AllByRecursion (λ pair. low ≤ pair.0) pairs
+    → IsRising pairs → RisesFrom low (ports_of (listed pairs))
 ports_rise low [] above rising = tt
 ports_rise low (pair ∷ pairs) above rising = (above.0, ports_rise (suc pair.0) pairs rising.0 rising.1)
 
@@ -97,7 +102,8 @@ Lists-listed pairs rising = record {
     from_zero (pair ∷ pairs) = (omega arith, from_zero pairs)
 
 -- the pairs of a registry that stands for what the commands leave
-pub listed-last : (pairs : List (ℕ × ℕ)) (commands : List (ℕ × Call)) → IsRising pairs → bindings_in pairs ≡ bindings_of unbound commands
+pub listed-last : (pairs : List (ℕ × ℕ)) (commands : List (ℕ × Call)) → IsRising pairs
+    → bindings_in pairs ≡ bindings_of unbound commands
     → listed pairs ≡ last_pairs commands
 listed-last pairs commands rising left =
     Lists-unique (listed pairs) (last_pairs commands) (bindings_in pairs) (bindings_of unbound commands) (Lists-listed pairs rising)

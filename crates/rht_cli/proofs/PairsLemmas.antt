@@ -15,7 +15,8 @@ use Rattle.rht_model.proofs.PlainPairs.{same_bindings}
 use Rattle.rht_cli.specs.Pairs.{bindings_in, listed, IsRising, IsPlace, IsGap, IsAt}
 
 -- pairs of higher ports say nothing of a port
-said_above : (port : ℕ) (pairs : List (ℕ × ℕ)) → AllByRecursion (λ pair. port < pair.0) pairs → bindings_in pairs port ≡ []
+said_above : (port : ℕ) (pairs : List (ℕ × ℕ)) → AllByRecursion (λ pair. port < pair.0) pairs
+    → bindings_in pairs port ≡ []
 said_above port [] above = refl
 said_above port (pair ∷ pairs) above =
     rw (ne_eqb port pair.0 (λ e. omega (arith, above.0, e))) (said_above port pairs above.1)
@@ -39,7 +40,8 @@ said_here port owner back = rw (eq-eqb port port refl) refl
 
 module _ (port : ℕ) (front back : List (ℕ × ℕ)) (below : AllByRecursion (λ pair. pair.0 < port) front) where
   -- with the port's pair, the pairs say its owner, and of other ports what they say without it
-  with_pair : (owner : ℕ) → bindings_in (front ++ (port, owner) ∷ back) ≡ with_owners (bindings_in (front ++ back)) port (owner ∷ [])
+  with_pair : (owner : ℕ)
+      → bindings_in (front ++ (port, owner) ∷ back) ≡ with_owners (bindings_in (front ++ back)) port (owner ∷ [])
   with_pair owner = same_bindings _ _ (λ other. elim (cases_eq other port) [
     | inl same ↦ rw (eq-eqb other port same, same) (said_below port front ((port, owner) ∷ back) below ∙ said_here port owner back)
     | inr differs ↦ rw (ne_eqb other port differs) (said_beside other (port, owner) front back differs)
@@ -54,12 +56,14 @@ module _ (port : ℕ) (front back : List (ℕ × ℕ)) (below : AllByRecursion (
   ])
 
 -- what is above a number is above a lower one
-all_above : (low high : ℕ) (pairs : List (ℕ × ℕ)) → low ≤ high → AllByRecursion (λ pair. high < pair.0) pairs → AllByRecursion (λ pair. low < pair.0) pairs
+all_above : (low high : ℕ) (pairs : List (ℕ × ℕ)) → low ≤ high
+    → AllByRecursion (λ pair. high < pair.0) pairs → AllByRecursion (λ pair. low < pair.0) pairs
 all_above low high pairs le all =
     AllByRecursion-weaker (λ (pair : ℕ × ℕ). high < pair.0) (λ (pair : ℕ × ℕ). low < pair.0) (λ pair above. omega arith) pairs all
 
 -- a pair at its place keeps the order
-IsRising-with : (pair : ℕ × ℕ) (front back : List (ℕ × ℕ)) → AllByRecursion (λ other. other.0 < pair.0) front → AllByRecursion (λ other. pair.0 < other.0) back
+IsRising-with : (pair : ℕ × ℕ) (front back : List (ℕ × ℕ))
+    → AllByRecursion (λ other. other.0 < pair.0) front → AllByRecursion (λ other. pair.0 < other.0) back
     → IsRising (front ++ back) → IsRising (front ++ pair ∷ back)
 IsRising-with pair [] back below above rising = (above, rising)
 IsRising-with pair (first ∷ front) back below above rising =
@@ -67,14 +71,16 @@ IsRising-with pair (first ∷ front) back below above rising =
     (AllByRecursion-append (λ other. first.0 < other.0) front (pair ∷ back) parts.0 (below.0, parts.1), IsRising-with pair front back below.1 above rising.1)
 
 -- and so does the list without a pair
-IsRising-without : (pair : ℕ × ℕ) (front back : List (ℕ × ℕ)) → IsRising (front ++ pair ∷ back) → IsRising (front ++ back)
+IsRising-without : (pair : ℕ × ℕ) (front back : List (ℕ × ℕ)) → IsRising (front ++ pair ∷ back)
+    → IsRising (front ++ back)
 IsRising-without pair [] back rising = rising.1
 IsRising-without pair (first ∷ front) back rising =
     let parts = AllByRecursion-cut (λ other. first.0 < other.0) front (pair ∷ back) rising.0 in
     (AllByRecursion-append (λ other. first.0 < other.0) front back parts.0 parts.1.1, IsRising-without pair front back rising.1)
 
 -- in a gap of the port no pair has it
-pub unbound_at_gap : (pairs : List (ℕ × ℕ)) (port place : ℕ) → IsGap pairs port place → bindings_in pairs port ≡ []
+pub unbound_at_gap : (pairs : List (ℕ × ℕ)) (port place : ℕ) → IsGap pairs port place
+    → bindings_in pairs port ≡ []
 unbound_at_gap pairs port place gap =
     ap (λ l. bindings_in l port) (sym (take-append-drop place pairs))
     ∙ said_below port (take place pairs) (drop place pairs) gap.below ∙ said_above port (drop place pairs) gap.above
@@ -87,12 +93,14 @@ bindings_in-insert pairs port place owner gap =
     ∙ ap (λ l. with_owners (bindings_in l) port (owner ∷ [])) (take-append-drop place pairs)
 
 -- and keeps the order
-pub IsRising-insert : (pairs : List (ℕ × ℕ)) (port place owner : ℕ) → IsGap pairs port place → IsRising pairs → IsRising (insert pairs place (port, owner))
+pub IsRising-insert : (pairs : List (ℕ × ℕ)) (port place owner : ℕ) → IsGap pairs port place
+    → IsRising pairs → IsRising (insert pairs place (port, owner))
 IsRising-insert pairs port place owner gap rising =
     IsRising-with (port, owner) (take place pairs) (drop place pairs) gap.below gap.above (subst IsRising (sym (take-append-drop place pairs)) rising)
 
 -- a list is what stands before a pair, the pair, and what stands after it
-parted : (pairs : List (ℕ × ℕ)) (port place owner : ℕ) → IsAt pairs port place owner → pairs ≡ take place pairs ++ (port, owner) ∷ drop (place + 1) pairs
+parted : (pairs : List (ℕ × ℕ)) (port place owner : ℕ) → IsAt pairs port place owner
+    → pairs ≡ take place pairs ++ (port, owner) ∷ drop (place + 1) pairs
 parted pairs port place owner at = sym (take-append-drop place pairs) ∙ ap (λ l. take place pairs ++ l) at.here
 
 -- the list without the pair at a place
@@ -100,7 +108,8 @@ removed : (pairs : List (ℕ × ℕ)) (place : ℕ) → remove pairs place ≡ t
 removed pairs place = rw add-one refl
 
 -- the port's pair says its owner
-pub bound_at : (pairs : List (ℕ × ℕ)) (port place owner : ℕ) → IsAt pairs port place owner → bindings_in pairs port ≡ owner ∷ []
+pub bound_at : (pairs : List (ℕ × ℕ)) (port place owner : ℕ) → IsAt pairs port place owner
+    → bindings_in pairs port ≡ owner ∷ []
 bound_at pairs port place owner at =
     ap (λ l. bindings_in l port) (parted pairs port place owner at)
     ∙ said_below port (take place pairs) ((port, owner) ∷ drop (place + 1) pairs) at.below ∙ said_here port owner (drop (place + 1) pairs)
@@ -114,20 +123,23 @@ bindings_in-remove pairs port place owner at =
     ∙ ap (λ l. with_owners (bindings_in l) port []) (sym (parted pairs port place owner at))
 
 -- and the order is kept
-pub IsRising-remove : (pairs : List (ℕ × ℕ)) (port place owner : ℕ) → IsAt pairs port place owner → IsRising pairs → IsRising (remove pairs place)
+pub IsRising-remove : (pairs : List (ℕ × ℕ)) (port place owner : ℕ) → IsAt pairs port place owner
+    → IsRising pairs → IsRising (remove pairs place)
 IsRising-remove pairs port place owner at rising =
     subst IsRising (sym (removed pairs place))
     (IsRising-without (port, owner) (take place pairs) (drop (place + 1) pairs) (subst IsRising (parted pairs port place owner at) rising))
 
 -- owners that a port has anyway change nothing
-pub with_owners-same : (bindings : Multimap) (port : ℕ) (owners : List ℕ) → bindings port ≡ owners → bindings ≡ with_owners bindings port owners
+pub with_owners-same : (bindings : Multimap) (port : ℕ) (owners : List ℕ) → bindings port ≡ owners
+    → bindings ≡ with_owners bindings port owners
 with_owners-same bindings port owners has = same_bindings _ _ (λ other. elim (cases_eq other port) [
   | inl same ↦ rw (eq-eqb other port same, same) has
   | inr differs ↦ rw (ne_eqb other port differs) refl
 ])
 
 -- along rising pairs the ports don't fall
-rising_ports : (pairs : List (ℕ × ℕ)) → IsRising pairs → (i j : ℕ) (d : ℕ × ℕ) → i ≤ j → j < length pairs → (get_or pairs i d).0 ≤ (get_or pairs j d).0
+rising_ports : (pairs : List (ℕ × ℕ)) → IsRising pairs → (i j : ℕ) (d : ℕ × ℕ) → i ≤ j
+    → j < length pairs → (get_or pairs i d).0 ≤ (get_or pairs j d).0
 rising_ports [] rising i j d le lt = absurd (omega arith)
 rising_ports (pair ∷ pairs) rising zero zero d le lt = omega arith
 rising_ports (pair ∷ pairs) rising zero (suc j) d le lt =
@@ -136,12 +148,14 @@ rising_ports (pair ∷ pairs) rising (suc i) zero d le lt = absurd (omega arith)
 rising_ports (pair ∷ pairs) rising (suc i) (suc j) d le lt = rising_ports pairs rising.1 i j d (omega arith) (omega arith)
 
 -- so a search for the first port that isn't lower may halve
-pub parted_by_port : (pairs : List (ℕ × ℕ)) (port : ℕ) → IsRising pairs → IsPartitionedBy (λ pair. ltb pair.0 port) pairs
+pub parted_by_port : (pairs : List (ℕ × ℕ)) (port : ℕ) → IsRising pairs
+    → IsPartitionedBy (λ pair. ltb pair.0 port) pairs
 parted_by_port pairs port rising = IsPartitionedBy-ltb (λ (pair : ℕ × ℕ). pair.0) pairs port (rising_ports pairs rising)
 
 -- what such a search finds is the port's place
 pub IsPlace-from_search : (pairs : List (ℕ × ℕ)) (port place : ℕ) → place ≤ length pairs
-    → IsPartitionPoint (λ pair. ltb pair.0 port ≡ true) (λ pair. ltb pair.0 port ≡ false) pairs place → IsPlace pairs port place
+    → IsPartitionPoint (λ pair. ltb pair.0 port ≡ true) (λ pair. ltb pair.0 port ≡ false) pairs place
+    → IsPlace pairs port place
 IsPlace-from_search pairs port place within found = record {
   within = within;
   below = AllByRecursion-take (λ pair. pair.0 < port) pairs place within (λ k d low high. ltb-true _ _ (found.0 k d low high));
@@ -155,7 +169,8 @@ rising_dropped [] (suc place) rising = tt
 rising_dropped (pair ∷ pairs) (suc place) rising = rising_dropped pairs place rising.1
 
 -- the pair at the place, if it is the port's, is the only one
-pub IsAt-from_place : (pairs : List (ℕ × ℕ)) (port place : ℕ) (pair : ℕ × ℕ) → IsRising pairs → IsPlace pairs port place
+pub IsAt-from_place : (pairs : List (ℕ × ℕ)) (port place : ℕ) (pair : ℕ × ℕ) → IsRising pairs
+    → IsPlace pairs port place
     → place < length pairs → get_or pairs place pair ≡ pair → pair.0 ≡ port → IsAt pairs port place pair.1
 IsAt-from_place pairs port place pair rising is_place within read same =
     let parts : drop place pairs ≡ pair ∷ drop (place + 1) pairs = rw (add-one, drop-cons pairs place pair) (ap (λ x. x ∷ drop (suc place) pairs) read) in
@@ -169,7 +184,8 @@ IsAt-from_place pairs port place pair rising is_place within read same =
 
 -- rising pairs of no lower ports, of which the first has another port, have higher ports
 all_higher : (port : ℕ) (pairs : List (ℕ × ℕ)) → IsRising pairs → AllByRecursion (λ pair. port ≤ pair.0) pairs
-    → ((pair : ℕ × ℕ) (more : List (ℕ × ℕ)) → pairs ≡ pair ∷ more → pair.0 ≡ port → ⊥) → AllByRecursion (λ pair. port < pair.0) pairs
+    → ((pair : ℕ × ℕ) (more : List (ℕ × ℕ)) → pairs ≡ pair ∷ more → pair.0 ≡ port → ⊥)
+    → AllByRecursion (λ pair. port < pair.0) pairs
 all_higher port [] rising others differs = tt
 all_higher port (pair ∷ pairs) rising others differs =
     let other = differs pair pairs refl in
@@ -178,7 +194,8 @@ all_higher port (pair ∷ pairs) rising others differs =
 
 -- where no pair is at the place, or one of another port, no pair is the port's
 pub IsGap-from_place : (pairs : List (ℕ × ℕ)) (port place : ℕ) → IsRising pairs → IsPlace pairs port place
-    → ((pair : ℕ × ℕ) → place < length pairs → get_or pairs place pair ≡ pair → pair.0 ≡ port → ⊥) → IsGap pairs port place
+    → ((pair : ℕ × ℕ) → place < length pairs → get_or pairs place pair ≡ pair → pair.0 ≡ port → ⊥)
+    → IsGap pairs port place
 IsGap-from_place pairs port place rising is_place other = record {
   within = is_place.within;
   below = is_place.below;

@@ -13,7 +13,8 @@ module _ (commands : List (ℕ × Call)) (place : ℕ) (d : ℕ × Call) (within
   pub next_and_rest : drop place commands ≡ get_or commands place d ∷ drop (place + 1) commands
   next_and_rest = rw (add-one, drop-cons commands place d) refl
 
-  pub served_next : AllByRecursion IsServedCommand (drop place commands) → AllByRecursion IsServedCommand (get_or commands place d ∷ drop (place + 1) commands)
+  pub served_next : AllByRecursion IsServedCommand (drop place commands)
+      → AllByRecursion IsServedCommand (get_or commands place d ∷ drop (place + 1) commands)
   served_next served = subst (AllByRecursion IsServedCommand) next_and_rest served
 
   module _ (now then : Multimap) (step : then ≡ bindings_after Single now (get_or commands place d).1) where
@@ -25,12 +26,14 @@ module _ (commands : List (ℕ × Call)) (place : ℕ) (d : ℕ × Call) (within
         ∙ ap (λ (m : Multimap). front ++ (line ++ replies_text m (drop (place + 1) commands))) step
         ∙ ap (λ l. front ++ replies_text now l) (sym next_and_rest) ∙ so_far
 
-    pub bindings_of-step : (last : Multimap) → bindings_of now (drop place commands) ≡ last → bindings_of then (drop (place + 1) commands) ≡ last
+    pub bindings_of-step : (last : Multimap) → bindings_of now (drop place commands) ≡ last
+        → bindings_of then (drop (place + 1) commands) ≡ last
     bindings_of-step last so_far =
         ap (λ (m : Multimap). bindings_of m (drop (place + 1) commands)) step ∙ ap (bindings_of now) (sym next_and_rest) ∙ so_far
 
   -- the lines of all are those so far, that of the next command, and more
-  pub replies_text-parts : (now : Multimap) (front all : List ℕ) → front ++ replies_text now (drop place commands) ≡ all
+  pub replies_text-parts : (now : Multimap) (front all : List ℕ)
+      → front ++ replies_text now (drop place commands) ≡ all
       → all ≡ (front ++ answer_line (get_or commands place d).0 (answer_of Single now (get_or commands place d).1))
       ++ replies_text (bindings_after Single now (get_or commands place d).1) (drop (place + 1) commands)
   replies_text-parts now front all so_far = sym (replies_text-step now (bindings_after Single now (get_or commands place d).1) refl front all so_far)

@@ -10,7 +10,8 @@ use Rattle.rht_cli.specs.declared.ending.Ending.TheVariants.{Done, Usage, Fault,
 use Rattle.rht_cli.specs.Printing.{Prints, Writes, IsWriteFault}
 
 -- a reason that came after faults that only grew is a reason
-IsWriteFault-after_kept : (before mid after : ℕ) (ending : Ending) → before ≤ mid → IsWriteFault mid after ending → IsWriteFault before after ending
+IsWriteFault-after_kept : (before mid after : ℕ) (ending : Ending) → before ≤ mid
+    → IsWriteFault mid after ending → IsWriteFault before after ending
 IsWriteFault-after_kept before mid after Done kept fault = fault
 IsWriteFault-after_kept before mid after Usage kept fault = fault
 IsWriteFault-after_kept before mid after (Fault f) kept fault = fault
@@ -21,7 +22,8 @@ IsWriteFault-after_kept before mid after Memory kept fault = fault
 module _ {S : Type 0} (held : S → Option (List ℕ)) (faults : S → ℕ) where
   -- a text was added, and then another or a prefix of it
   pub Prints-after : (a b c : S) (r : Result (Unit {0}) Ending) (waited between waits xs ys : List ℕ)
-      → Prints held faults a b (Ok tt) waited between xs → Prints held faults b c r between waits ys → Prints held faults a c r waited waits (xs ++ ys)
+      → Prints held faults a b (Ok tt) waited between xs → Prints held faults b c r between waits ys
+      → Prints held faults a c r waited waits (xs ++ ys)
   Prints-after a b c (Ok done) waited between waits xs ys first second =
       let front = first.added.0 in
       let behind = second.added.0 in
@@ -47,7 +49,8 @@ module _ {S : Type 0} (held : S → Option (List ℕ)) (faults : S → ℕ) wher
 
   -- what stopped before its end is a part of any longer text, whatever waits
   pub Prints-longer : (a b : S) (ending : Ending) (waited between waits xs ys : List ℕ)
-      → Prints held faults a b (Err ending) waited between xs → Prints held faults a b (Err ending) waited waits (xs ++ ys)
+      → Prints held faults a b (Err ending) waited between xs
+      → Prints held faults a b (Err ending) waited waits (xs ++ ys)
   Prints-longer a b ending waited between waits xs ys first = record {
     added = tt;
     prefix = subst (AppendsPrefix (held a) (held b)) (append_assoc waited xs ys) (AppendsPrefix-longer (held a) (held b) (waited ++ xs) ys first.prefix);
@@ -56,11 +59,13 @@ module _ {S : Type 0} (held : S → Option (List ℕ)) (faults : S → ℕ) wher
   }
 
   -- a text that stopped where nothing waited
-  pub Writes-of_stopped : (a b : S) (ending : Ending) (waits text : List ℕ) → Prints held faults a b (Err ending) [] waits text → Writes held faults a b (Err ending) text
+  pub Writes-of_stopped : (a b : S) (ending : Ending) (waits text : List ℕ)
+      → Prints held faults a b (Err ending) [] waits text → Writes held faults a b (Err ending) text
   Writes-of_stopped a b ending waits text printed = record { whole = tt; prefix = printed.prefix; reason = printed.reason; kept = printed.kept }
 
   -- a text that was added where nothing waited, and behind which nothing waits
-  pub Writes-of_prints : (a b : S) (r : Result (Unit {0}) Ending) (text : List ℕ) → Prints held faults a b r [] [] text → Writes held faults a b r text
+  pub Writes-of_prints : (a b : S) (r : Result (Unit {0}) Ending) (text : List ℕ)
+      → Prints held faults a b r [] [] text → Writes held faults a b r text
   Writes-of_prints a b (Ok done) text printed = record {
     whole = subst (Appends (held a) (held b)) (sym (append-nil printed.added.0) ∙ printed.added.2) printed.added.1;
     prefix = tt;
@@ -71,7 +76,8 @@ module _ {S : Type 0} (held : S → Option (List ℕ)) (faults : S → ℕ) wher
 
   -- a text was added where nothing waited, and then all that waited was put
   pub Writes-of_put : (a b c : S) (r : Result (Unit {0}) Ending) (between waits text : List ℕ)
-      → Prints held faults a b (Ok tt) [] between text → Prints held faults b c r between waits [] → OnOk r (waits ≡ []) → Writes held faults a c r text
+      → Prints held faults a b (Ok tt) [] between text → Prints held faults b c r between waits []
+      → OnOk r (waits ≡ []) → Writes held faults a c r text
   Writes-of_put a b c (Ok done) between waits text added put none =
       let both : Prints held faults a c (Ok done) [] waits text =
       subst (Prints held faults a c (Ok done) [] waits) (append-nil text) (Prints-after a b c (Ok done) [] between waits text [] added put) in

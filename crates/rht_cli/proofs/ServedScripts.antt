@@ -18,16 +18,19 @@ use Rattle.rht_cli.specs.Printed.{printed_of}
 use Rattle.rht_cli.specs.Pairs.{IsServed}
 use Rattle.rht_cli.specs.Printing.{IsServedCommand, Writes}
 
-served_each : (config : Config) (words : List (List ℕ)) → IfOk (command_of config.callers words) IsServedCommand
+served_each : (config : Config) (words : List (List ℕ))
+    → IfOk (command_of config.callers words) IsServedCommand
 served_each config =
     command_holds IsServedCommand IsServed config.callers (λ worker call within served. served)
     (call_holds IsServed (λ port owner. tt) (λ port. tt) (λ port owner. tt))
 
-pub served-script : (bytes : List ℕ) (said : Said) → reading_of bytes ≡ Ok said → AllByRecursion IsServedCommand said.commands
+pub served-script : (bytes : List ℕ) (said : Said) → reading_of bytes ≡ Ok said
+    → AllByRecursion IsServedCommand said.commands
 served-script bytes said read = (reading_holds (λ config. IsServedCommand) served_each bytes said read).each
 
 -- the input was read to its end
-to_end : (left left_after : Option (List ℕ)) (bytes : List ℕ) (said : Said) → IsRead left left_after bytes → reading_of bytes ≡ Ok said → IsAtEnd left_after
+to_end : (left left_after : Option (List ℕ)) (bytes : List ℕ) (said : Said)
+    → IsRead left left_after bytes → reading_of bytes ≡ Ok said → IsAtEnd left_after
 to_end left left_after bytes said read script = elim read.enough [
   | inl whole ↦ whole.0
   | inr long ↦ let too_long = reading_of-long bytes (omega (arith, long)) in absurd (cc)

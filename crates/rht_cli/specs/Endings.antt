@@ -74,7 +74,8 @@ pub record IsNoScript (left left_after : Option (List ℕ)) (fault : ScriptFault
   pub first : FirstFault bytes fault
 
 -- what an ending of serving a script means for the source and the sink
-abbrev pub Ends : {S O : Type 0} → (S → Option (List ℕ)) → (S → ℕ) → (O → Option (List ℕ)) → (O → ℕ) → S → S → O → O → Ending → Type 0
+abbrev pub Ends : {S O : Type 0} → (S → Option (List ℕ)) → (S → ℕ) → (O → Option (List ℕ)) → (O → ℕ) → S
+    → S → O → O → Ending → Type 0
 Ends left sfaults held ofaults s s_after o o_after Done = IsDone (left s) (left s_after) (held o) (held o_after)
 Ends left sfaults held ofaults s s_after o o_after Usage = ⊥
 Ends left sfaults held ofaults s s_after o o_after (Fault fault) = IsNoScript (left s) (left s_after) fault × (o_after ≡ o)

@@ -88,15 +88,18 @@ module _ (L : Type 0) (mix : ℕ → ℕ → ℕ → ℕ) (env : Env) (start : L
   next events = events ++ StepOf c ∷ []
 
   -- the world after one more step, as its definition says
-  pushed : (events : List Event) → ◌≡◌ {A = World L} (world (next events)) (world_step mix (world events) (StepOf c))
+  pushed : (events : List Event)
+      → ◌≡◌ {A = World L} (world (next events)) (world_step mix (world events) (StepOf c))
   pushed events = run_of-push L mix env events (StepOf c)
 
   -- a step of a caller that is idle changes nothing
-  idle_plans_none : (events : List Event) → is_idle (local_of (world events).core c) ≡ true → planned (world events).core.enrolled (world events).core.locals c ≡ None
+  idle_plans_none : (events : List Event) → is_idle (local_of (world events).core c) ≡ true
+      → planned (world events).core.enrolled (world events).core.locals c ≡ None
   idle_plans_none events idle = by_test (λ t. cond t (plan_of (local_of (world events).core c)) None ≡ None) (nat_lt c (world events).core.enrolled)
       (λ t. idle_plans L (local_of (world events).core c) idle) (λ t. refl)
 
-  same_world : (events : List Event) → is_idle (local_of (world events).core c) ≡ true → ◌≡◌ {A = World L} (world (next events)) (world events)
+  same_world : (events : List Event) → is_idle (local_of (world events).core c) ≡ true
+      → ◌≡◌ {A = World L} (world (next events)) (world events)
   same_world events idle = pushed events ∙ step_none L mix (world events) c (idle_plans_none events idle)
 
   ended_stays : (events : List Event) → Ended events → Ended (next events)
@@ -141,21 +144,26 @@ module _ (L : Type 0) (mix : ℕ → ℕ → ℕ → ℕ) (env : Env) (start : L
     below : c < length w.core.locals
     below = omega (arith, going.enrolled, sound.few_enrolled, sound.all_locals)
 
-    plans : (op : Op) → plan_of (local_of w.core c) ≡ Some op → planned w.core.enrolled w.core.locals c ≡ Some op
+    plans : (op : Op) → plan_of (local_of w.core c) ≡ Some op
+        → planned w.core.enrolled w.core.locals c ≡ Some op
     plans op is = planned-enrolled w.core.enrolled w.core.locals c going.enrolled ∙ is
 
     -- the world after the operation, as its caller sees it
-    seen_after : (op : Op) → plan_of (local_of w.core c) ≡ Some op → ◌≡◌ {A = Seen L} (seen (world (next events)) c) (seen_step mix (old_of words op) (seen w c))
+    seen_after : (op : Op) → plan_of (local_of w.core c) ≡ Some op
+        → ◌≡◌ {A = Seen L} (seen (world (next events)) c) (seen_step mix (old_of words op) (seen w c))
     seen_after op is = ap (λ (v : World L). seen v c) (pushed events) ∙ step_self L mix w c op (plans op is) below
 
-    words_after : (op : Op) → plan_of (local_of w.core c) ≡ Some op → (world (next events)).core.words ≡ applied words op
+    words_after : (op : Op) → plan_of (local_of w.core c) ≡ Some op
+        → (world (next events)).core.words ≡ applied words op
     words_after op is = ap (λ (v : World L). v.core.words) (pushed events) ∙ step_words L mix w c op (plans op is)
 
-    still_enrolled : (op : Op) → plan_of (local_of w.core c) ≡ Some op → c < (world (next events)).core.enrolled
+    still_enrolled : (op : Op) → plan_of (local_of w.core c) ≡ Some op
+        → c < (world (next events)).core.enrolled
     still_enrolled op is = subst (λ (v : World L). c < v.core.enrolled) (sym (pushed events)) (rw (plans op is) going.enrolled)
 
     -- the call goes on
-    goes_on : (op : Op) (local : Local L) → plan_of (local_of w.core c) ≡ Some op → local_after mix (local_of w.core c) (old_of words op) ≡ (local, None)
+    goes_on : (op : Op) (local : Local L) → plan_of (local_of w.core c) ≡ Some op
+        → local_after mix (local_of w.core c) (old_of words op) ≡ (local, None)
         → IsDoing local → Agree (stands_for env.geometry (applied words op)) before → Status (next events)
     goes_on op local is after doing agree =
         let here = seen_after op is in
@@ -168,8 +176,10 @@ module _ (L : Type 0) (mix : ℕ → ℕ → ℕ → ℕ) (env : Env) (start : L
         })
 
     -- the call ends
-    ends_now : (op : Op) (reply : Reply) → plan_of (local_of w.core c) ≡ Some op → ◌≡◌ {A = Local L × Option Reply} (local_after mix (local_of w.core c) (old_of words op)) (Idle, Some reply)
-        → MeetsModel kind before (stands_for env.geometry (applied words op)) call reply → Status (next events)
+    ends_now : (op : Op) (reply : Reply) → plan_of (local_of w.core c) ≡ Some op
+        → ◌≡◌ {A = Local L × Option Reply} (local_after mix (local_of w.core c) (old_of words op)) (Idle, Some reply)
+        → MeetsModel kind before (stands_for env.geometry (applied words op)) call reply
+        → Status (next events)
     ends_now op reply is after meets =
         let here = seen_after op is in
         inr (inl (record {
@@ -180,8 +190,10 @@ module _ (L : Type 0) (mix : ℕ → ℕ → ℕ → ℕ) (env : Env) (start : L
           meets = subst (λ ws. MeetsModel kind before (stands_for env.geometry ws) call reply) (sym (words_after op is)) meets;
         }))
 
-    found_on : (m : FindModel) → local_of w.core c ≡ Finding m → (r : FindAt × Next Reply) → r ≡ find_at.after_at mix m.env m.port m.at (old_of words (find_plan m))
-        → (call ≡ calls.Find m.port) → FindAlone env before kind m.port r (applied words (find_plan m)) → Status (next events)
+    found_on : (m : FindModel) → local_of w.core c ≡ Finding m → (r : FindAt × Next Reply)
+        → r ≡ find_at.after_at mix m.env m.port m.at (old_of words (find_plan m))
+        → (call ≡ calls.Find m.port) → FindAlone env before kind m.port r (applied words (find_plan m))
+        → Status (next events)
     found_on m is (at, Go) r same alone =
         goes_on (find_plan m) (Finding (record m { at = at })) (ap plan_of is)
         (ap (λ l. local_after mix l (old_of words (find_plan m))) is ∙ ap (λ q. found_next (record m { at = q.0 }, q.1)) (sym r)) (same, alone.1) alone.0
@@ -189,8 +201,11 @@ module _ (L : Type 0) (mix : ℕ → ℕ → ℕ → ℕ) (env : Env) (start : L
         ends_now (find_plan m) reply (ap plan_of is)
         (ap (λ l. local_after mix l (old_of words (find_plan m))) is ∙ ap (λ q. found_next (record m { at = q.0 }, q.1)) (sym r)) (rw same alone)
 
-    bound_on : (m : BindModel) → local_of w.core c ≡ Binding m → (r : BindAt × Next Reply) → r ≡ bind_at.after_at mix m.env m.port m.at (old_of words (bind_plan m))
-        → (call ≡ calls.Bind m.port m.owner m.once) → m.owner < 2 ^ 32 → kind ≡ Single → BindAlone env before (calls.Bind m.port m.owner m.once) r (applied words (bind_plan m)) → Status (next events)
+    bound_on : (m : BindModel) → local_of w.core c ≡ Binding m → (r : BindAt × Next Reply)
+        → r ≡ bind_at.after_at mix m.env m.port m.at (old_of words (bind_plan m))
+        → (call ≡ calls.Bind m.port m.owner m.once) → m.owner < 2 ^ 32 → kind ≡ Single
+        → BindAlone env before (calls.Bind m.port m.owner m.once) r (applied words (bind_plan m))
+        → Status (next events)
     bound_on m is (at, Go) r same small single alone =
         goes_on (bind_plan m) (Binding (record m { at = at })) (ap plan_of is)
         (ap (λ l. local_after mix l (old_of words (bind_plan m))) is ∙ ap (λ q. bound_next (record m { at = q.0 }, q.1)) (sym r)) (same, small, single, rw same alone.1) alone.0
@@ -201,7 +216,8 @@ module _ (L : Type 0) (mix : ℕ → ℕ → ℕ → ℕ) (env : Env) (start : L
     going_on : Status (next events)
     going_on = go (local_of w.core c) refl going.doing (has.inv.each c)
       where
-        go : (local : Local L) → local_of w.core c ≡ local → IsDoing local → CallerKnows env mix L c local (mem env mix words) has.ghost → Status (next events)
+        go : (local : Local L) → local_of w.core c ≡ local → IsDoing local
+            → CallerKnows env mix L c local (mem env mix words) has.ghost → Status (next events)
         go Idle is doing knows = absurd doing
         go (Finding m) is doing knows =
             found_on m is (find_at.after_at mix m.env m.port m.at (old_of words (find_plan m))) refl doing.0
@@ -227,7 +243,8 @@ module _ (L : Type 0) (mix : ℕ → ℕ → ℕ → ℕ) (env : Env) (start : L
   pushed_begin = run_of-push L mix env start (Begin c call)
 
   -- a call whose numbers are in range begins with what its machine's first state says
-  first_doing : IsAdmittedCall call → (machine : Local L) → machine_of env c call ≡ Some machine → IsDoing machine
+  first_doing : IsAdmittedCall call → (machine : Local L) → machine_of env c call ≡ Some machine
+      → IsDoing machine
   first_doing small machine is =
       begins_so L env c (λ asked first. call ≡ asked → IsAdmittedCall asked → IsDoing first) (λ port e l. (e, tt)) (λ port owner once single e l. (e, l.1, single, tt))
       call machine is refl small
@@ -238,7 +255,9 @@ module _ (L : Type 0) (mix : ℕ → ℕ → ℕ → ℕ) (env : Env) (start : L
       w0 : World L
       w0 = world start
 
-      go : (machine : Option (Local L)) → beginning (world start).core.env (world start).core.enrolled (world start).core.locals c call ≡ machine → Status began
+      go : (machine : Option (Local L))
+          → beginning (world start).core.env (world start).core.enrolled (world start).core.locals c call ≡ machine
+          → Status began
       go None is =
           let same : ◌≡◌ {A = World L} (world began) (world start) = pushed_begin ∙ begin_none L mix (world start) c call is in
           inr (inr (record {
@@ -261,7 +280,8 @@ module _ (L : Type 0) (mix : ℕ → ℕ → ℕ → ℕ) (env : Env) (start : L
           })
 
   -- after so many steps
-  status_after : (count : ℕ) → IsQuiet L mix env start → IsAdmittedCall call → Status (began ++ replicate count (StepOf c))
+  status_after : (count : ℕ) → IsQuiet L mix env start → IsAdmittedCall call
+      → Status (began ++ replicate count (StepOf c))
   status_after zero quiet small = subst Status (sym (append-nil began)) (first_status quiet small)
   status_after (suc count) quiet small =
       subst Status (append_assoc began (replicate count (StepOf c)) (StepOf c ∷ []) ∙ ap (λ l. began ++ l) (one_more count))
@@ -281,7 +301,8 @@ module _ (L : Type 0) (mix : ℕ → ℕ → ℕ → ℕ) (env : Env) (start : L
       after : List Event
       after = start ++ call_events L mix c call count
 
-      go : Status (start ++ call_events L mix c call count) → MeetsModel kind before (bindings_at L mix env (start ++ call_events L mix c call count)) call done.reply
+      go : Status (start ++ call_events L mix c call count)
+          → MeetsModel kind before (bindings_at L mix env (start ++ call_events L mix c call count)) call done.reply
       go (inl going) = let e : old ++ [] ≡ old ++ done ∷ [] = append-nil old ∙ sym going.past ∙ is in let q = append_cancel_left old [] (done ∷ []) e in absurd (cc)
       go (inr (inl ended)) =
           let e : done_with ended.reply ∷ [] ≡ done ∷ [] = append_cancel_left old (done_with ended.reply ∷ []) (done ∷ []) (sym ended.past ∙ is) in

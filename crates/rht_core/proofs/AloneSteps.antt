@@ -84,7 +84,8 @@ module _ (env : Env) (mix : ℕ → ℕ → ℕ → ℕ) (c port : ℕ) (before 
   M = mem env mix words
 
   -- a port is bound to the owner of the node of its bucket that has its key
-  found_owner : (node : ℕ) → In node (G.bucket (home env mix port)).nodes → key_of M node ≡ port → before port ≡ owner_of (M (Node node OwnerWord)) ∷ []
+  found_owner : (node : ℕ) → In node (G.bucket (home env mix port)).nodes → key_of M node ≡ port
+      → before port ≡ owner_of (M (Node node OwnerWord)) ∷ []
   found_owner node i key =
       let at = whole.owned.first_at node (home env mix port) (whole.owned.member (home env mix port) node i) in
       sym (agree port) ∙ stands_for_bound env mix words G whole port ∙ ap (owners_in env mix M) (ap G.bound (sym key) ∙ at.bound_to)
@@ -109,11 +110,15 @@ module _ (env : Env) (mix : ℕ → ℕ → ℕ → ℕ) (c port : ℕ) (before 
       ];
     })
 
-    ends : (reply : Reply) (after : List ℕ) → Agree (stands_for env.geometry after) before → IsDetermined before call reply → MeetsModel Single before (stands_for env.geometry after) call reply
+    ends : (reply : Reply) (after : List ℕ) → Agree (stands_for env.geometry after) before
+        → IsDetermined before call reply
+        → MeetsModel Single before (stands_for env.geometry after) call reply
     ends reply after still (inl answered) = inl (record { answer = answered.answer; bindings = agree-trans (stands_for env.geometry after) before (bindings_after Single before call) still answered.bindings })
     ends reply after still (inr may) = inr (record { may = may; bindings = still })
 
-    take_alone : (r : TakeNodeModel × Next (Option ℕ)) (after : List ℕ) → Agree (stands_for env.geometry after) before → BindAlone env before call (bind_at.node_taken r.0 r.1) after
+    take_alone : (r : TakeNodeModel × Next (Option ℕ)) (after : List ℕ)
+        → Agree (stands_for env.geometry after) before
+        → BindAlone env before call (bind_at.node_taken r.0 r.1) after
     take_alone (take, Go) after still = (still, tt)
     take_alone (take, Done None) after still = inr (record { may = tt; bindings = still })
     take_alone (take, Done (Some n)) after still = (still, tt)
@@ -122,14 +127,16 @@ module _ (env : Env) (mix : ℕ → ℕ → ℕ → ℕ) (c port : ℕ) (before 
     op_at at = bind_at.plan_at env port owner at
 
     -- an operation before the last changes no bindings
-    still_at : (at : BindAt) → G.raised c ≡ false → BindKnows env mix c port owner at M G → Agree (stands_for env.geometry (applied words (op_at at))) before
+    still_at : (at : BindAt) → G.raised c ≡ false → BindKnows env mix c port owner at M G
+        → Agree (stands_for env.geometry (applied words (op_at at))) before
     still_at at lowered known =
         agree-trans (stands_for env.geometry (applied words (op_at at))) (stands_for env.geometry words) before
         (quiet_step env mix c words G (op_at at) (BindNext env mix c port owner (bind_at.after_at mix env port at (old_of words (op_at at)))) whole lowered
         (bind_step env mix c port owner within words G all whole low at known)) agree
 
     -- the reply that it has after an operation before the store that binds is determined
-    determined_after : (at : BindAt) → is_linking at ≡ false → BindKnows env mix c port owner at M G → bind_progress before call at
+    determined_after : (at : BindAt) → is_linking at ≡ false → BindKnows env mix c port owner at M G
+        → bind_progress before call at
         → IfSome (bind_reply_after env at (old_of words (op_at at))) (IsDetermined before call)
     determined_after (binds.FoundOwner claimed found) early known progress =
         exists_determined (owner_of (M (Node found OwnerWord))) (found_owner found known.lock.1.0.1 known.lock.1.0.2)
@@ -141,7 +148,8 @@ module _ (env : Env) (mix : ℕ → ℕ → ℕ → ℕ) (c port : ℕ) (before 
 
     -- where it goes on, or answers what is determined
     goes_alone : (r : BindAt × Next Reply) (after : List ℕ) → Agree (stands_for env.geometry after) before
-        → GoesOrEnds (bind_progress before call) (IsDetermined before call) r → BindAlone env before call r after
+        → GoesOrEnds (bind_progress before call) (IsDetermined before call) r
+        → BindAlone env before call r after
     goes_alone (at, Go) after still so = (still, so)
     goes_alone (at, Done reply) after still so = ends reply after still so
 
@@ -181,18 +189,21 @@ module _ (env : Env) (mix : ℕ → ℕ → ℕ → ℕ) (c port : ℕ) (before 
 
   module _ (kind : Kind) where
     -- the port is missing from the bindings before
-    missing : (future : Option ℕ) → before port ≡ [] → IfSome (future_reply future) (IsFoundOut before kind port)
+    missing : (future : Option ℕ) → before port ≡ []
+        → IfSome (future_reply future) (IsFoundOut before kind port)
     missing None none = (ap (λ owners. Some (plain (find_reply owners))) none, refl)
     missing (Some table) none = tt
 
-    found_out : (owner : ℕ) (next : Option ℕ) → before port ≡ owner ∷ [] → IfSome (owner_reply owner next) (IsFoundOut before kind port)
+    found_out : (owner : ℕ) (next : Option ℕ) → before port ≡ owner ∷ []
+        → IfSome (owner_reply owner next) (IsFoundOut before kind port)
     found_out owner None bound = (ap (λ owners. Some (plain (find_reply owners))) bound, refl)
     found_out owner (Some node) bound = tt
 
     abbrev find_op : FindAt → Op
     find_op at = find_at.plan_at env at
 
-    find_still : (at : FindAt) → FindKnows env mix c port at M G → Agree (stands_for env.geometry (applied words (find_op at))) before
+    find_still : (at : FindAt) → FindKnows env mix c port at M G
+        → Agree (stands_for env.geometry (applied words (find_op at))) before
     find_still at known =
         agree-trans (stands_for env.geometry (applied words (find_op at))) (stands_for env.geometry words) before
         (quiet_step env mix c words G (find_op at) (FindNext env mix c port (find_at.after_at mix env port at (old_of words (find_op at)))) whole known.own.0
@@ -209,7 +220,8 @@ module _ (env : Env) (mix : ℕ → ℕ → ℕ → ℕ) (c port : ℕ) (before 
     found_out_after _ known progress = progress
 
     finds_alone : (r : FindAt × Next Reply) (after : List ℕ) → Agree (stands_for env.geometry after) before
-        → GoesOrEnds (find_progress before kind port) (IsFoundOut before kind port) r → FindAlone env before kind port r after
+        → GoesOrEnds (find_progress before kind port) (IsFoundOut before kind port) r
+        → FindAlone env before kind port r after
     finds_alone (at, Go) after still so = (still, so)
     finds_alone (at, Done reply) after still so =
         inl (record { answer = so.0 ∙ ap (λ r. Some (plain r)) (sym so.1); bindings = still })

@@ -152,7 +152,8 @@ module _ (env : Env) where
   bind_after-in mix port (at.Giving give reply) word within = within
 
   -- a case a state: the words of the map of nodes, of slots, nodes and buckets, and the count of ports
-  pub bind_planned-in : (port owner : ℕ) (state : BindAt) → IsBindAtIn state → IsPlannedIn g (plan_at env port owner state)
+  pub bind_planned-in : (port owner : ℕ) (state : BindAt) → IsBindAtIn state
+      → IsPlannedIn g (plan_at env port owner state)
   bind_planned-in port owner (at.Taking take) within =
       subst (λ (h : Geometry). IsPlannedIn h (take_plan_at take.geometry take.at)) within.range
       (planned_take take.geometry take.at within.piece)

@@ -127,7 +127,8 @@ module _ (env : Env) (mix : ℕ → ℕ → ℕ → ℕ) (c : ℕ) (port owner :
   filled_own n = (tt, (tt, (tt, (tt, (tt, (tt, tt))))))
 
   -- the node's words are stored, or there was none
-  take_next : (r : TakeNodeModel × Next (Option ℕ)) (M : Memory) (G : Ghost) → TakeKnows env mix c r M G → BindNext (node_taken r.0 r.1) M G
+  take_next : (r : TakeNodeModel × Next (Option ℕ)) (M : Memory) (G : Ghost) → TakeKnows env mix c r M G
+      → BindNext (node_taken r.0 r.1) M G
   take_next (take, Go) M G known = record { own = (known.0.0, (known.0.1.0, tt)); lock = (known.0.1.1.0, tt); fits = known.1 }
   take_next (take, Done None) M G known = known
   take_next (take, Done (Some n)) M G known = record { own = (known.0, (known.1.0, (known.1.1.1.0, tt))); lock = (known.1.1.0, tt); fits = tt }
@@ -137,25 +138,30 @@ module _ (env : Env) (mix : ℕ → ℕ → ℕ → ℕ) (c : ℕ) (port owner :
     place = place_at env mix j
 
     -- the end of a walk
-    seen_next : (table : ℕ) (claimed : Claimed) (found : Option ℕ) (M : Memory) (G : Ghost) → table ≡ 0 → claimed.shape ≡ shape_word env mix → claimed.bucket.place ≡ place
-        → AllMean env mix c M G (filled false claimed.node) → AllMean env mix c M G (OnlyLock (Some j) ∷ seen_facts port claimed.bucket.word found)
+    seen_next : (table : ℕ) (claimed : Claimed) (found : Option ℕ) (M : Memory) (G : Ghost) → table ≡ 0
+        → claimed.shape ≡ shape_word env mix → claimed.bucket.place ≡ place
+        → AllMean env mix c M G (filled false claimed.node)
+        → AllMean env mix c M G (OnlyLock (Some j) ∷ seen_facts port claimed.bucket.word found)
         → BindKnows (found_or_not table claimed found) M G
     seen_next table claimed None M G t s p own lock = record { own = own; lock = lock; fits = (t, s, p) }
     seen_next table claimed (Some found) M G t s p own lock = record { own = own; lock = lock; fits = p }
 
-    walk_next : (table : ℕ) (claimed : Claimed) (r : LockedWalkModel × Next Seen) (M : Memory) (G : Ghost) → table ≡ 0 → claimed.shape ≡ shape_word env mix → claimed.bucket.place ≡ place
+    walk_next : (table : ℕ) (claimed : Claimed) (r : LockedWalkModel × Next Seen) (M : Memory) (G : Ghost)
+        → table ≡ 0 → claimed.shape ≡ shape_word env mix → claimed.bucket.place ≡ place
         → WalkKnows env mix c port (filled false claimed.node) (filled_own claimed.node) within claimed.bucket.word r M G
         → BindKnows (walk_taken table claimed r.0 r.1) M G
     walk_next table claimed (walk, Go) M G t s p known = record { own = known.0; lock = known.1; fits = (t, s, p, known.2.0, known.2.1) }
     walk_next table claimed (walk, Done seen) M G t s p known = seen_next table claimed seen.found M G t s p known.0 known.1
 
-    start_next : (table : ℕ) (claimed : Claimed) (start : Start LockedWalkModel Seen) (M : Memory) (G : Ghost) → table ≡ 0 → claimed.shape ≡ shape_word env mix → claimed.bucket.place ≡ place
+    start_next : (table : ℕ) (claimed : Claimed) (start : Start LockedWalkModel Seen) (M : Memory) (G : Ghost)
+        → table ≡ 0 → claimed.shape ≡ shape_word env mix → claimed.bucket.place ≡ place
         → StartKnows env mix c port (filled false claimed.node) (filled_own claimed.node) within claimed.bucket.word start M G
         → BindKnows (walk_or_seen table claimed start) M G
     start_next table claimed (starts.Running walk) M G t s p known = record { own = known.0; lock = known.1; fits = (t, s, p, known.2.0, known.2.1) }
     start_next table claimed (starts.Done seen) M G t s p known = seen_next table claimed seen.found M G t s p known.0 known.1
 
-    lock_next : (n table shape : ℕ) (r : LockModel × Next ℕ) (M : Memory) (G : Ghost) → Whole env mix M G → table ≡ 0 → shape ≡ shape_word env mix
+    lock_next : (n table shape : ℕ) (r : LockModel × Next ℕ) (M : Memory) (G : Ghost)
+        → Whole env mix M G → table ≡ 0 → shape ≡ shape_word env mix
         → LockKnows env mix c port (filled false n) (filled_own n) within r M G
         → BindKnows (lock_taken env port n table shape r.0 r.1) M G
     lock_next n table shape (lock, Go) M G whole t s known = record { own = known.0; lock = known.1; fits = (t, s, known.2, known.3) }
@@ -175,16 +181,19 @@ module _ (env : Env) (mix : ℕ → ℕ → ℕ → ℕ) (c : ℕ) (port owner :
       BindStep at = Step env mix c words G (plan_at env port owner at) (BindNext (after_at mix env port at (old_of words (plan_at env port owner at))))
 
       -- an operation that leaves its word
-      loads : (op : Op) (next : BindAt × Next Reply) → word_after (old_of words op) op ≡ old_of words op → BindNext next M G → Step env mix c words G op (BindNext next)
+      loads : (op : Op) (next : BindAt × Next Reply) → word_after (old_of words op) op ≡ old_of words op
+          → BindNext next M G → Step env mix c words G op (BindNext next)
       loads op next same known = reads env mix c words G op (BindNext next) whole same known
 
       -- the other words of a node stay where one of them is written
-      kept : (n : ℕ) (w u : NodeWord) (v value : ℕ) (M' : Memory) → IsWrite env.geometry M M' (Node n w) value → Node n u ≢ Node n w
+      kept : (n : ℕ) (w u : NodeWord) (v value : ℕ) (M' : Memory)
+          → IsWrite env.geometry M M' (Node n w) value → Node n u ≢ Node n w
           → HasNode env mix c G n → Means env mix c M G (WordIs n u v) → Means env mix c M' G (WordIs n u v)
       kept n w u v value M' write differs has known = (has, write.others (Node n u) has.1 differs ∙ known.1)
 
       -- what it knows before it links its node
-      pub publish_ready : (claimed : Claimed) (kick : Bool) → BindKnows (at.Publish claimed kick) M G → IsReady env mix c claimed.node port M G
+      pub publish_ready : (claimed : Claimed) (kick : Bool) → BindKnows (at.Publish claimed kick) M G
+          → IsReady env mix c claimed.node port M G
       publish_ready claimed kick known =
           let own = known.own in
           let missed = known.lock.1.0 in
@@ -201,7 +210,8 @@ module _ (env : Env) (mix : ℕ → ℕ → ℕ → ℕ) (c : ℕ) (port owner :
           }
 
       -- the node becomes the first of the chain
-      publish_step : (claimed : Claimed) (kick : Bool) → BindKnows (at.Publish claimed kick) M G → BindStep (at.Publish claimed kick)
+      publish_step : (claimed : Claimed) (kick : Bool) → BindKnows (at.Publish claimed kick) M G
+          → BindStep (at.Publish claimed kick)
       publish_step claimed kick known =
           let n = claimed.node in
           let op = Store claimed.bucket.place (link_of n) in
@@ -214,14 +224,18 @@ module _ (env : Env) (mix : ℕ → ℕ → ℕ → ℕ) (c : ℕ) (port owner :
             knows = (put-same G.raised c false, (no_node known.own.1.0, (no_lock, tt)));
           }
         where
-          no_node : ((other : ℕ) → G.node other ≡ Held c → Some claimed.node ≡ Some other) → (other : ℕ) → put G.node claimed.node (First j) other ≡ Held c → ◌≡◌ {A = Option ℕ} None (Some other)
+          no_node : ((other : ℕ) → G.node other ≡ Held c → Some claimed.node ≡ Some other) → (other : ℕ)
+              → put G.node claimed.node (First j) other ≡ Held c → ◌≡◌ {A = Option ℕ} None (Some other)
           no_node = put-none G.node claimed.node (First j) (λ o. o ≡ Held c) (λ h. cc)
 
-          no_lock : (other : ℕ) → (put G.bucket j (linked_bucket env mix (G.bucket j) claimed.node) other).holder ≡ Some c → ◌≡◌ {A = Option ℕ} None (Some other)
+          no_lock : (other : ℕ)
+              → (put G.bucket j (linked_bucket env mix (G.bucket j) claimed.node) other).holder ≡ Some c
+              → ◌≡◌ {A = Option ℕ} None (Some other)
           no_lock = put-none G.bucket j (linked_bucket env mix (G.bucket j) claimed.node) (λ b. b.holder ≡ Some c) (λ h. cc) known.lock.0
 
       -- no node of the bucket has the port's key where only words of other kinds, or of the bind's own node, are written
-      missed_still : (M' : Memory) → ((m : ℕ) → m < env.geometry.nodes → key_of M' m ≡ key_of M m) → NoKey M port (G.bucket j).nodes → NoKey M' port (G.bucket j).nodes
+      missed_still : (M' : Memory) → ((m : ℕ) → m < env.geometry.nodes → key_of M' m ≡ key_of M m)
+          → NoKey M port (G.bucket j).nodes → NoKey M' port (G.bucket j).nodes
       missed_still M' same = NoKey-same M M' port (G.bucket j).nodes (λ m i. same m (whole.owned.first_at m j (whole.owned.member j m i)).among)
 
       -- each operation of a bind leads from what it knows to what it knows next

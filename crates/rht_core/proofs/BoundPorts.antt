@@ -41,7 +41,8 @@ module _ (env : Env) (mix : ℕ → ℕ → ℕ → ℕ) (words : List ℕ) (G :
   M = mem env mix words
 
   -- the nodes met from a link are those of its chain, where there is fuel for all of them
-  chain_met : (left link : ℕ) (nodes : List ℕ) (stop : ℕ) → length nodes ≤ left → node_of g.nodes stop ≡ None → ((n : ℕ) → In n nodes → n < g.nodes)
+  chain_met : (left link : ℕ) (nodes : List ℕ) (stop : ℕ) → length nodes ≤ left
+      → node_of g.nodes stop ≡ None → ((n : ℕ) → In n nodes → n < g.nodes)
       → IsSegment (chain_of M) link nodes stop → chain_from g words left (node_of g.nodes link) ≡ nodes
   chain_met zero link [] stop fuel ends among s = refl
   chain_met (suc left) link [] stop fuel ends among s = rw (ap (node_of g.nodes) s ∙ ends) refl
@@ -51,7 +52,8 @@ module _ (env : Env) (mix : ℕ → ℕ → ℕ → ℕ) (words : List ℕ) (G :
       (ap (λ rest. n ∷ rest) (chain_met left (chain_of M n) nodes stop (omega arith) ends (λ m i. among m (inr i)) s.1))
 
   -- a bucket's word with its lock leads to the same first link
-  head_of-locked : (place plain : ℕ) (holder : Option ℕ) → plain % 2 ≡ 0 → head_of place (plain + lock_bit holder) ≡ head_of place plain
+  head_of-locked : (place plain : ℕ) (holder : Option ℕ) → plain % 2 ≡ 0
+      → head_of place (plain + lock_bit holder) ≡ head_of place plain
   head_of-locked place plain None even = ap (head_of place) (omega arith)
   head_of-locked place plain (Some c) even = grind (arith, nat_tests, even)
 
@@ -100,7 +102,8 @@ module _ (env : Env) (mix : ℕ → ℕ → ℕ → ℕ) (words : List ℕ) (G :
       (whole.owned.first_at n (index from.0) (whole.owned.member (index from.0) n from.2)).bound_to
 
   -- a node to which a port is bound is met
-  bound_met : (port n : ℕ) (behind : List ℕ) → G.bound port ≡ n ∷ behind → In n all_nodes × (key_of M n ≡ port)
+  bound_met : (port n : ℕ) (behind : List ℕ) → G.bound port ≡ n ∷ behind
+      → In n all_nodes × (key_of M n ≡ port)
   bound_met port n behind b =
       let to = whole.owned.bound_to port n behind b in
       let at = whole.owned.first_at n to.bucket to.first in
@@ -117,10 +120,12 @@ module _ (env : Env) (mix : ℕ → ℕ → ℕ → ℕ) (words : List ℕ) (G :
   -- ---- what the words stand for
 
   -- the first node with the port's key is the one to which the port is bound
-  pub first_bound : (port : ℕ) (bound : List ℕ) → G.bound port ≡ bound → first_node g words port ≡ head_or_none bound
+  pub first_bound : (port : ℕ) (bound : List ℕ) → G.bound port ≡ bound
+      → first_node g words port ≡ head_or_none bound
   first_bound port bound is = rw all_met (go (find (has_key g words port) all_nodes) bound refl is)
     where
-      go : (found : Option ℕ) (nodes : List ℕ) → find (has_key g words port) all_nodes ≡ found → G.bound port ≡ nodes → found ≡ head_or_none nodes
+      go : (found : Option ℕ) (nodes : List ℕ) → find (has_key g words port) all_nodes ≡ found
+          → G.bound port ≡ nodes → found ≡ head_or_none nodes
       go None [] f b = refl
       go (Some m) [] f b =
           let member = find-Some (has_key g words port) all_nodes m f in
@@ -137,7 +142,8 @@ module _ (env : Env) (mix : ℕ → ℕ → ℕ → ℕ) (words : List ℕ) (G :
           let q : ◌≡◌ {A = List ℕ} (n ∷ behind) (m ∷ []) = sym b ∙ ap G.bound (sym key) ∙ met_bound m member.0 in
           let same : n ≡ m = (cc) in ap Some (sym same)
 
-  one_owner : (n : ℕ) → M (Node n ListLink) ≡ 0 → owners_from g words g.nodes (Some n) ≡ owner_of (M (Node n OwnerWord)) ∷ []
+  one_owner : (n : ℕ) → M (Node n ListLink) ≡ 0
+      → owners_from g words g.nodes (Some n) ≡ owner_of (M (Node n OwnerWord)) ∷ []
   one_owner n none =
       let within = g.within in
       let some : g.nodes ≡ suc (g.nodes - 1) = omega (arith, within.nodes_within.0) in
@@ -153,10 +159,12 @@ module _ (env : Env) (mix : ℕ → ℕ → ℕ → ℕ) (words : List ℕ) (G :
   no_owner (suc fuel) = refl
 
   -- the owner of each port is that of the node to which it is bound
-  pub stands_for_bound : (port : ℕ) → stands_for g words port ≡ map (λ n. owner_of (M (Node n OwnerWord))) (G.bound port)
+  pub stands_for_bound : (port : ℕ)
+      → stands_for g words port ≡ map (λ n. owner_of (M (Node n OwnerWord))) (G.bound port)
   stands_for_bound port = go (G.bound port) refl
     where
-      go : (bound : List ℕ) → G.bound port ≡ bound → stands_for g words port ≡ map (λ n. owner_of (M (Node n OwnerWord))) bound
+      go : (bound : List ℕ) → G.bound port ≡ bound
+          → stands_for g words port ≡ map (λ n. owner_of (M (Node n OwnerWord))) bound
       go [] b = ap (owners_from g words g.nodes) (first_bound port [] b) ∙ no_owner g.nodes
       go (n ∷ behind) b =
           let to = whole.owned.bound_to port n behind b in

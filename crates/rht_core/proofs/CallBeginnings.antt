@@ -33,7 +33,8 @@ module _ (M : Type 0) where
       machine-so (Bind port owner once) = binding-so port owner once env.config.kind refl
       machine-so _ = tt
 
-      pub begins_so : (call : Call) (machine : Local M) → machine_of env c call ≡ Some machine → So call machine
+      pub begins_so : (call : Call) (machine : Local M) → machine_of env c call ≡ Some machine
+          → So call machine
       begins_so call machine is = subst (BeginsSo call) is (machine-so call)
 
   -- who is in no call plans none

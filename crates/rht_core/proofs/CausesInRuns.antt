@@ -199,13 +199,15 @@ module _ (M : Type 0) (mix : ℕ → ℕ → ℕ → ℕ) (env : Env) where
           },
         )
 
-    cause_of : (reply : Reply) (steps : List Did) → SawFor env reply steps → AllByRecursion IsRecordedHere steps
+    cause_of : (reply : Reply) (steps : List Did) → SawFor env reply steps
+        → AllByRecursion IsRecordedHere steps
         → HasCauseIn M mix env events c reply steps
     cause_of NoNode steps saw recorded = saw
     cause_of (TooBig count) steps saw recorded = full-saw count steps recorded saw
     cause_of _ steps saw recorded = tt
 
-    all_caused : (calls : List Past) → AllByRecursion (λ (past : Past). SawFor env past.done.reply past.steps) calls
+    all_caused : (calls : List Past)
+        → AllByRecursion (λ (past : Past). SawFor env past.done.reply past.steps) calls
         → AllByRecursion (IsPastCall M mix env events c) calls
         → AllByRecursion (HasCause M mix env events c) calls
     all_caused [] saw were = tt

@@ -52,25 +52,30 @@ module _ (env : Env) (mix : ℕ → ℕ → ℕ → ℕ) (words : List ℕ) (G :
           }
 
   -- different bound ports have different nodes
-  other_nodes : (port : ℕ) (ports : List ℕ) → NotIn port ports → HasFirst port → AllByRecursion HasFirst ports → NotIn (node_of_port port) (map node_of_port ports)
+  other_nodes : (port : ℕ) (ports : List ℕ) → NotIn port ports → HasFirst port
+      → AllByRecursion HasFirst ports → NotIn (node_of_port port) (map node_of_port ports)
   other_nodes port [] none here all = tt
   other_nodes port (q ∷ ports) none here all =
       ((λ same. none.0 (sym here.key ∙ ap (key_of (mem env mix words)) same ∙ all.0.key)), other_nodes port ports none.1 here all.1)
 
-  nodes_distinct : (ports : List ℕ) → IsDistinct ports → AllByRecursion HasFirst ports → IsDistinct (map node_of_port ports)
+  nodes_distinct : (ports : List ℕ) → IsDistinct ports → AllByRecursion HasFirst ports
+      → IsDistinct (map node_of_port ports)
   nodes_distinct [] distinct all = tt
   nodes_distinct (port ∷ ports) distinct all = (other_nodes port ports distinct.0 all.0 all.1, nodes_distinct ports distinct.1 all.1)
 
-  nodes_below : (ports : List ℕ) → AllByRecursion HasFirst ports → AllByRecursion (λ n. n < env.geometry.nodes) (map node_of_port ports)
+  nodes_below : (ports : List ℕ) → AllByRecursion HasFirst ports
+      → AllByRecursion (λ n. n < env.geometry.nodes) (map node_of_port ports)
   nodes_below [] all = tt
   nodes_below (port ∷ ports) all = (all.0.among, nodes_below ports all.1)
 
-  nodes_first : (ports : List ℕ) → AllByRecursion HasFirst ports → (n : ℕ) → In n (map node_of_port ports) → is_first (G.node n) ≡ true
+  nodes_first : (ports : List ℕ) → AllByRecursion HasFirst ports → (n : ℕ)
+      → In n (map node_of_port ports) → is_first (G.node n) ≡ true
   nodes_first [] all n i = absurd i
   nodes_first (port ∷ ports) all n (inl e) = ap (λ m. is_first (G.node m)) e ∙ all.0.first
   nodes_first (port ∷ ports) all n (inr i) = nodes_first ports all.1 n i
 
-  all_first : (ports : List ℕ) → AllByRecursion (λ port. stands_for env.geometry words port ≢ []) ports → AllByRecursion HasFirst ports
+  all_first : (ports : List ℕ) → AllByRecursion (λ port. stands_for env.geometry words port ≢ []) ports
+      → AllByRecursion HasFirst ports
   all_first [] all = tt
   all_first (port ∷ ports) all = (has_first port all.0, all_first ports all.1)
 
@@ -91,7 +96,8 @@ module _ (env : Env) (mix : ℕ → ℕ → ℕ → ℕ) (words : List ℕ) (G :
   }
 
   -- a node that no caller has is free or bound
-  free_or_bound : (n : ℕ) → n < env.geometry.nodes → ((c : ℕ) → G.node n ≢ Held c) → IsFreeOrBound env.geometry words n
+  free_or_bound : (n : ℕ) → n < env.geometry.nodes → ((c : ℕ) → G.node n ≢ Held c)
+      → IsFreeOrBound env.geometry words n
   free_or_bound n l unheld = go (G.node n) refl (whole.arena.built n)
     where
       go : (o : Owner) → G.node n ≡ o → IsBuilt env mix o → IsFreeOrBound env.geometry words n
@@ -106,7 +112,8 @@ module _ (env : Env) (mix : ℕ → ℕ → ℕ → ℕ) (words : List ℕ) (G :
       go Gone e b = absurd b
 
 module _ (M : Type 0) (mix : ℕ → ℕ → ℕ → ℕ) where
-  raising-raisers : (env : Env) (core : Core M) (G : Ghost) → Inv env mix M core G → raising core ≡ raisers env mix G
+  raising-raisers : (env : Env) (core : Core M) (G : Ghost) → Inv env mix M core G
+      → raising core ≡ raisers env mix G
   raising-raisers env core G inv =
       ap (λ (e : Env). count_by_raising e) inv.same_env ∙ count_by-range (λ c. is_raising (local_of core c)) env.geometry.callers
       ∙ count_below-same G.raised (λ c. is_raising (local_of core c)) env.geometry.callers (λ c l. sym (raises M mix env c (local_of core c) core.words G (inv.each c)))
@@ -141,6 +148,7 @@ module _ (M : Type 0) (mix : ℕ → ℕ → ℕ → ℕ) where
         counted = rw all (firsts-AreAllBound env mix core.words G has.inv.whole);
       }
     where
-      even_word : (holder : Option ℕ) (plain word : ℕ) → word ≡ plain + lock_bit holder → plain % 2 ≡ 0 → ((c : ℕ) → holder ≢ Some c) → word % 2 ≡ 0
+      even_word : (holder : Option ℕ) (plain word : ℕ) → word ≡ plain + lock_bit holder → plain % 2 ≡ 0
+          → ((c : ℕ) → holder ≢ Some c) → word % 2 ≡ 0
       even_word None plain word is even none = omega arith
       even_word (Some c) plain word is even none = absurd (none c refl)

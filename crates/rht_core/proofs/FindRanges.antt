@@ -33,7 +33,8 @@ module _ (env : Env) where
     pub range : IsInRange env at
     pub piece : IsFindPieceIn g at
 
-  found_or_not-in : (table : ℕ) (bucket : Locked) (found : Option ℕ) → table < 8 → IsBucketPlace g bucket.place
+  found_or_not-in : (table : ℕ) (bucket : Locked) (found : Option ℕ) → table < 8
+      → IsBucketPlace g bucket.place
       → IsNodeOrNone g found → IsFindAtIn (found_or_not table bucket found)
   found_or_not-in table bucket None table_in place_in found_in =
       record { range = (table_in, place_in.1); piece = place_in }

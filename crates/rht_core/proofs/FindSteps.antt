@@ -80,24 +80,31 @@ module _ (env : Env) (mix : ℕ → ℕ → ℕ → ℕ) (c : ℕ) (port : ℕ) 
     abbrev place : ℕ
     place = place_at env mix j
 
-    seen_next : (table : ℕ) (bucket : Locked) (found : Option ℕ) (M : Memory) (G : Ghost) → table ≡ 0 → bucket.place ≡ place
-        → AllMean env mix c M G no_node → AllMean env mix c M G (OnlyLock (Some j) ∷ seen_facts port bucket.word found)
+    seen_next : (table : ℕ) (bucket : Locked) (found : Option ℕ) (M : Memory) (G : Ghost) → table ≡ 0
+        → bucket.place ≡ place
+        → AllMean env mix c M G no_node
+        → AllMean env mix c M G (OnlyLock (Some j) ∷ seen_facts port bucket.word found)
         → FindKnows (found_or_not table bucket found) M G
     seen_next table bucket None M G t p own lock = record { own = own; lock = lock; fits = (t, p) }
     seen_next table bucket (Some node) M G t p own lock = record { own = own; lock = lock; fits = p }
 
-    walk_next : (table : ℕ) (bucket : Locked) (r : LockedWalkModel × Next Seen) (M : Memory) (G : Ghost) → table ≡ 0 → bucket.place ≡ place
-        → WalkKnows env mix c port no_node nothing_own within bucket.word r M G → FindKnows (walk_taken table bucket r.0 r.1) M G
+    walk_next : (table : ℕ) (bucket : Locked) (r : LockedWalkModel × Next Seen) (M : Memory) (G : Ghost)
+        → table ≡ 0 → bucket.place ≡ place
+        → WalkKnows env mix c port no_node nothing_own within bucket.word r M G
+        → FindKnows (walk_taken table bucket r.0 r.1) M G
     walk_next table bucket (walk, Go) M G t p known = record { own = known.0; lock = known.1; fits = (t, p, known.2.0, known.2.1) }
     walk_next table bucket (walk, Done seen) M G t p known = seen_next table bucket seen.found M G t p known.0 known.1
 
-    start_next : (table : ℕ) (bucket : Locked) (start : Start LockedWalkModel Seen) (M : Memory) (G : Ghost) → table ≡ 0 → bucket.place ≡ place
-        → StartKnows env mix c port no_node nothing_own within bucket.word start M G → FindKnows (walk_or_seen table bucket start) M G
+    start_next : (table : ℕ) (bucket : Locked) (start : Start LockedWalkModel Seen) (M : Memory) (G : Ghost)
+        → table ≡ 0 → bucket.place ≡ place
+        → StartKnows env mix c port no_node nothing_own within bucket.word start M G
+        → FindKnows (walk_or_seen table bucket start) M G
     start_next table bucket (starts.Running walk) M G t p known = record { own = known.0; lock = known.1; fits = (t, p, known.2.0, known.2.1) }
     start_next table bucket (starts.Done seen) M G t p known = seen_next table bucket seen.found M G t p known.0 known.1
 
     lock_next : (table : ℕ) (r : LockModel × Next ℕ) (M : Memory) (G : Ghost) → Whole env mix M G → table ≡ 0
-        → LockKnows env mix c port no_node nothing_own within r M G → FindKnows (lock_taken env port table r.0 r.1) M G
+        → LockKnows env mix c port no_node nothing_own within r M G
+        → FindKnows (lock_taken env port table r.0 r.1) M G
     lock_next table (lock, Go) M G whole t known = record { own = known.0; lock = known.1; fits = (t, known.2, known.3) }
     lock_next table (lock, Done word) M G whole t known =
         let bucket : Locked = record { place = lock.place; word = word } in
@@ -114,7 +121,8 @@ module _ (env : Env) (mix : ℕ → ℕ → ℕ → ℕ) (c : ℕ) (port : ℕ) 
       abbrev FindStep : FindAt → Type 0
       FindStep at = Step env mix c words G (plan_at env at) (FindNext (after_at mix env port at (old_of words (plan_at env at))))
 
-      loads : (op : Op) (next : FindAt × Next Reply) → word_after (old_of words op) op ≡ old_of words op → FindNext next M G → Step env mix c words G op (FindNext next)
+      loads : (op : Op) (next : FindAt × Next Reply) → word_after (old_of words op) op ≡ old_of words op
+          → FindNext next M G → Step env mix c words G op (FindNext next)
       loads op next same known = reads env mix c words G op (FindNext next) whole same known
 
       -- each operation of a look-up leads from what it knows to what it knows next

@@ -107,7 +107,8 @@ module _ (g : Geometry) (words : List ℕ) where
           rw (leads, at) (sym rest ∙ sym tables-some ∙ first)
 
     -- behind the last table there is none
-    pub tables-none : (left : ℕ) (next whole : Option ℕ) → next ≡ None → first_of_tables left next ≡ whole → None ≡ whole
+    pub tables-none : (left : ℕ) (next whole : Option ℕ) → next ≡ None
+        → first_of_tables left next ≡ whole → None ≡ whole
     tables-none zero next whole none first = first
     tables-none (suc left) next whole none first = rw none at first
 

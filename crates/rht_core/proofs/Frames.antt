@@ -24,12 +24,14 @@ module _ (env : Env) (mix : ℕ → ℕ → ℕ → ℕ) where
   abbrev pub FirstsStay : Memory → Ghost → Memory → Type 0
   FirstsStay M G M' = (n j : ℕ) (w : NodeWord) → G.node n ≡ First j → M' (Node n w) ≡ M (Node n w)
 
-  pub firsts_stay : (M M' : Memory) (G : Ghost) (a : Address) (v : ℕ) → Whole env mix M G → IsWrite env.geometry M M' a v
+  pub firsts_stay : (M M' : Memory) (G : Ghost) (a : Address) (v : ℕ) → Whole env mix M G
+      → IsWrite env.geometry M M' a v
       → ((n : ℕ) (w : NodeWord) → Node n w ≢ a) → FirstsStay M G M'
   firsts_stay M M' G a v whole write not_node n j w first = write.others (Node n w) (whole.owned.first_at n j first).among (not_node n w)
 
   -- where buckets and nodes have whom they had, a caller knows what it knew
-  pub Rely-same : (c : ℕ) (M M' : Memory) (G G' : Ghost) → G'.bucket ≡ G.bucket → G'.node ≡ G.node → G'.raised c ≡ G.raised c
+  pub Rely-same : (c : ℕ) (M M' : Memory) (G G' : Ghost) → G'.bucket ≡ G.bucket → G'.node ≡ G.node
+      → G'.raised c ≡ G.raised c
       → FirstsStay M G M' → ((n : ℕ) (w : NodeWord) → HasNode env mix c G n → M' (Node n w) ≡ M (Node n w))
       → Rely env mix c M G M' G'
   Rely-same c M M' G G' buckets nodes raised firsts own = record {
@@ -66,7 +68,8 @@ module _ (env : Env) (mix : ℕ → ℕ → ℕ → ℕ) where
     future_is = write.others (Slot 0 FutureWord) (omega arith, tt) (apart.1 FutureWord) ∙ t.future_is;
   }
 
-  LockedRight-frame : (M M' : Memory) (j : ℕ) (b : Bucket) → M' (PageWord j) ≡ M (PageWord j) → LockedRight env mix M j b
+  LockedRight-frame : (M M' : Memory) (j : ℕ) (b : Bucket) → M' (PageWord j) ≡ M (PageWord j)
+      → LockedRight env mix M j b
       → LockedRight env mix M' j b
   LockedRight-frame M M' j b word right = record {
     word_is = word ∙ right.word_is;
@@ -87,7 +90,8 @@ module _ (env : Env) (mix : ℕ → ℕ → ℕ → ℕ) where
         distinct = rw nodes right.distinct;
       }
 
-  pub BucketRight-frame : (M M' : Memory) (j : ℕ) (b : Bucket) → M' (PageWord j) ≡ M (PageWord j) → ((n : ℕ) → In n b.nodes → chain_of M' n ≡ chain_of M n)
+  pub BucketRight-frame : (M M' : Memory) (j : ℕ) (b : Bucket) → M' (PageWord j) ≡ M (PageWord j)
+      → ((n : ℕ) → In n b.nodes → chain_of M' n ≡ chain_of M n)
       → BucketRight env mix M j b → BucketRight env mix M' j b
   BucketRight-frame M M' j b word links right = record {
     locked = LockedRight-frame M M' j b word right.locked;
@@ -116,7 +120,8 @@ module _ (env : Env) (mix : ℕ → ℕ → ℕ → ℕ) where
     bound = λ port. refl;
   }
 
-  Owned-frame : (M M' : Memory) (G G' : Ghost) → SameChains G G' → FirstsStay M G M' → Owned env mix M G → Owned env mix M' G'
+  Owned-frame : (M M' : Memory) (G G' : Ghost) → SameChains G G' → FirstsStay M G M' → Owned env mix M G
+      → Owned env mix M' G'
   Owned-frame M M' G G' same words owned = record {
     member = λ j n i. same.firsts_after n j (owned.member j n (rw (sym (same.nodes j)) i));
     first_at = λ n j f.
@@ -139,7 +144,8 @@ module _ (env : Env) (mix : ℕ → ℕ → ℕ → ℕ) where
 
   -- What is left to show of a store to no word of the table, where chains and their nodes' words stay: that locks, the map
   -- of nodes and the count are right.
-  pub Whole-frame : (M M' : Memory) (G G' : Ghost) (a : Address) (v : ℕ) → Whole env mix M G → IsWrite env.geometry M M' a v → IsNoTableWord a
+  pub Whole-frame : (M M' : Memory) (G G' : Ghost) (a : Address) (v : ℕ) → Whole env mix M G
+      → IsWrite env.geometry M M' a v → IsNoTableWord a
       → SameChains G G' → FirstsStay M G M'
       → ((j : ℕ) → j < 64 * env.geometry.pages → LockedRight env mix M' j (G'.bucket j))
       → ArenaRight env mix M' G' → M' PortCount ≡ firsts env mix G' + raisers env mix G' → Whole env mix M' G'
@@ -157,7 +163,8 @@ module _ (env : Env) (mix : ℕ → ℕ → ℕ → ℕ) where
 
   module _ (M M' : Memory) (G : Ghost) (a : Address) (v : ℕ) (whole : Whole env mix M G) (write : IsWrite env.geometry M M' a v) where
     -- locks are right where no bucket's word is written
-    pub locks_stay : ((j : ℕ) → PageWord j ≢ a) → (j : ℕ) → j < 64 * env.geometry.pages → LockedRight env mix M' j (G.bucket j)
+    pub locks_stay : ((j : ℕ) → PageWord j ≢ a) → (j : ℕ) → j < 64 * env.geometry.pages
+        → LockedRight env mix M' j (G.bucket j)
     locks_stay apart j l = LockedRight-frame M M' j (G.bucket j) (write.others (PageWord j) l (apart j)) (whole.buckets j l).locked
 
     -- and the map of nodes where none of its words is, and nodes have whom they had

@@ -62,7 +62,8 @@ range-push from zero last is = let same : from ≡ last = omega arith in ap (λ 
 range-push from (suc n) last is = ap (λ xs. from ∷ xs) (range-push (from + 1) n last (omega arith))
 
 -- numbers below a bound are counted alike in a list and by recursion
-pub count_by-range : (has : ℕ → Bool) (bound : ℕ) → count_by has (range_with_len 0 bound) ≡ count_below has bound
+pub count_by-range : (has : ℕ → Bool) (bound : ℕ)
+    → count_by has (range_with_len 0 bound) ≡ count_below has bound
 count_by-range has zero = refl
 count_by-range has (suc n) =
     ap (count_by has) (range-push 0 n n (omega arith)) ∙ sum_by_push (λ x. one_if (has x)) (range_with_len 0 n) n
@@ -172,12 +173,14 @@ module _ (M : Type 0) (mix : ℕ → ℕ → ℕ → ℕ) (env : Env) where
   raises c (Binding m) words G known = bind_raises c m.port m.owner m.at words G known.1
 
   -- and there it loads nothing
-  bind_loads-unraised : (e : Env) (port owner place : ℕ) (state : BindAt) → plan_at e port owner state ≡ Load place
+  bind_loads-unraised : (e : Env) (port owner place : ℕ) (state : BindAt)
+      → plan_at e port owner state ≡ Load place
       → is_linking state ≡ false
   bind_loads-unraised e port owner place (at.Publish claimed kick) is = absurd (cc)
   bind_loads-unraised e port owner place _ is = refl
 
-  loads-unraised : (place : ℕ) (local : Local M) → plan_of local ≡ Some (Load place) → is_raising local ≡ false
+  loads-unraised : (place : ℕ) (local : Local M) → plan_of local ≡ Some (Load place)
+      → is_raising local ≡ false
   loads-unraised place Idle is = refl
   loads-unraised place (Finding m) is = refl
   loads-unraised place (Binding m) is =

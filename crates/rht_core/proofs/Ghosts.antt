@@ -22,7 +22,8 @@ put-other f j v i ne = go (i == j) refl
     go false e = rw e refl
 
 -- what is true of the new value at the changed place, and of the old values elsewhere, is true everywhere
-pub put-all : {A : Type 0} → (P : ℕ → A → Type 0) (f : ℕ → A) (j : ℕ) (v : A) → P j v → ((i : ℕ) → i ≢ j → P i (f i)) → (i : ℕ) → P i (put f j v i)
+pub put-all : {A : Type 0} → (P : ℕ → A → Type 0) (f : ℕ → A) (j : ℕ) (v : A) → P j v
+    → ((i : ℕ) → i ≢ j → P i (f i)) → (i : ℕ) → P i (put f j v i)
 put-all P f j v here other i = elim (cases_eq i j) as (λ t. P i (put f j v i)) [ inl e ↦ rw (e, put-same f j v) here | inr ne ↦ rw (put-other f j v i ne) (other i ne) ]
 
 -- who had one thing alone has none once it is another's, and who had none has this one alone once it is its own

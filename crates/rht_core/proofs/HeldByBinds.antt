@@ -86,7 +86,8 @@ module _ (So : Option ℕ → Option ℕ → Option Reply → Type 0) where
   abbrev pub HoldsSo : BindAt → Type 0
   HoldsSo state = So (node_of_bind state) (word_of_bind state) (reply_of_bind state)
 
-  found_or_not-so : (table : ℕ) (claimed : Claimed) (found : Option ℕ) → So (Some claimed.node) (Some claimed.bucket.word) None
+  found_or_not-so : (table : ℕ) (claimed : Claimed) (found : Option ℕ)
+      → So (Some claimed.node) (Some claimed.bucket.word) None
       → HoldsSo (found_or_not table claimed found)
   found_or_not-so table claimed None so = so
   found_or_not-so table claimed (Some node) so = so
@@ -97,7 +98,8 @@ module _ (So : Option ℕ → Option ℕ → Option Reply → Type 0) where
   walk_or_seen-so table claimed (starts.Running walk) so = so
   walk_or_seen-so table claimed (starts.Done seen) so = found_or_not-so table claimed seen.found so
 
-  lock_taken-so : (env : Env) (port node table shape : ℕ) (lock : LockModel) (next : Next ℕ) → So (Some node) (word_after_lock (lock, next)) None
+  lock_taken-so : (env : Env) (port node table shape : ℕ) (lock : LockModel) (next : Next ℕ)
+      → So (Some node) (word_after_lock (lock, next)) None
       → HoldsSo (lock_taken env port node table shape lock next)
   lock_taken-so env port node table shape lock Go so = so
   lock_taken-so env port node table shape lock (Done word) so =
@@ -111,7 +113,8 @@ module _ (So : Option ℕ → Option ℕ → Option Reply → Type 0) where
   walk_taken-so table claimed walk Go so = so
   walk_taken-so table claimed walk (Done seen) so = found_or_not-so table claimed seen.found so
 
-  future_or_count-so : (claimed : Claimed) (future : Option ℕ) → So (Some claimed.node) (Some claimed.bucket.word) None
+  future_or_count-so : (claimed : Claimed) (future : Option ℕ)
+      → So (Some claimed.node) (Some claimed.bucket.word) None
       → HoldsSo (future_or_count claimed future)
   future_or_count-so claimed None so = so
   future_or_count-so claimed (Some table) so = so

@@ -67,32 +67,38 @@ module _ (So : Option ℕ → Option Reply → Type 0) where
   abbrev pub HoldsSo : FindAt → Type 0
   HoldsSo state = So (word_of_find state) (reply_of_find state)
 
-  found_or_not-so : (table : ℕ) (bucket : Locked) (found : Option ℕ) → So (Some bucket.word) None → HoldsSo (found_or_not table bucket found)
+  found_or_not-so : (table : ℕ) (bucket : Locked) (found : Option ℕ) → So (Some bucket.word) None
+      → HoldsSo (found_or_not table bucket found)
   found_or_not-so table bucket None so = so
   found_or_not-so table bucket (Some node) so = so
 
-  walk_or_seen-so : (table : ℕ) (bucket : Locked) (start : Start LockedWalkModel Seen) → So (Some bucket.word) None
+  walk_or_seen-so : (table : ℕ) (bucket : Locked) (start : Start LockedWalkModel Seen)
+      → So (Some bucket.word) None
       → HoldsSo (walk_or_seen table bucket start)
   walk_or_seen-so table bucket (starts.Running walk) so = so
   walk_or_seen-so table bucket (starts.Done seen) so = found_or_not-so table bucket seen.found so
 
-  lock_taken-so : (env : Env) (port table : ℕ) (lock : LockModel) (next : Next ℕ) → So (word_after_lock (lock, next)) None
+  lock_taken-so : (env : Env) (port table : ℕ) (lock : LockModel) (next : Next ℕ)
+      → So (word_after_lock (lock, next)) None
       → HoldsSo (lock_taken env port table lock next)
   lock_taken-so env port table lock Go so = so
   lock_taken-so env port table lock (Done word) so =
       walk_or_seen-so table (record { place = lock.place; word = word })
       (locked_walk_new env.geometry lock.place word (word_of port)) so
 
-  walk_taken-so : (table : ℕ) (bucket : Locked) (walk : LockedWalkModel) (next : Next Seen) → So (Some bucket.word) None
+  walk_taken-so : (table : ℕ) (bucket : Locked) (walk : LockedWalkModel) (next : Next Seen)
+      → So (Some bucket.word) None
       → HoldsSo (walk_taken table bucket walk next)
   walk_taken-so table bucket walk Go so = so
   walk_taken-so table bucket walk (Done seen) so = found_or_not-so table bucket seen.found so
 
-  future-so : (bucket : Locked) (future : Option ℕ) → So (Some bucket.word) (future_reply future) → HoldsSo (unlocking bucket (next_table future))
+  future-so : (bucket : Locked) (future : Option ℕ) → So (Some bucket.word) (future_reply future)
+      → HoldsSo (unlocking bucket (next_table future))
   future-so bucket None so = so
   future-so bucket (Some table) so = so
 
-  list_followed-so : (bucket : Locked) (owner : ℕ) (next : Option ℕ) → So (Some bucket.word) (owner_reply owner next)
+  list_followed-so : (bucket : Locked) (owner : ℕ) (next : Option ℕ)
+      → So (Some bucket.word) (owner_reply owner next)
       → HoldsSo (list_followed bucket owner next)
   list_followed-so bucket owner None so = so
   list_followed-so bucket owner (Some node) so = so

@@ -50,7 +50,8 @@ module _ (env : Env) (mix : ℕ → ℕ → ℕ → ℕ) where
     CallerKnows c (Binding m) M G = (m.env ≡ env) × BindKnows env mix c m.port m.owner m.at M G
 
     -- others leave what a caller knows
-    pub CallerKnows-rely : (c : ℕ) (local : Local L) (M M' : Memory) (G G' : Ghost) → Whole env mix M G → Rely env mix c M G M' G' → CallerKnows c local M G → CallerKnows c local M' G'
+    pub CallerKnows-rely : (c : ℕ) (local : Local L) (M M' : Memory) (G G' : Ghost) → Whole env mix M G
+        → Rely env mix c M G M' G' → CallerKnows c local M G → CallerKnows c local M' G'
     CallerKnows-rely c Idle M M' G G' whole rely known = AllMean-rely env mix c M M' G G' whole.owned.member rely nothing_held known
     CallerKnows-rely c (Finding m) M M' G G' whole rely known = (
       known.0,
@@ -71,12 +72,14 @@ module _ (env : Env) (mix : ℕ → ℕ → ℕ → ℕ) where
 
     -- ---- one operation of a caller
 
-    found_knows : (c : ℕ) (m : FindModel) (r : FindAt × Next Reply) (M : Memory) (G : Ghost) → m.env ≡ env → FindNext env mix c m.port r M G
+    found_knows : (c : ℕ) (m : FindModel) (r : FindAt × Next Reply) (M : Memory) (G : Ghost)
+        → m.env ≡ env → FindNext env mix c m.port r M G
         → CallerKnows c (found_next {M = L} (record m { at = r.0 }, r.1)).0 M G
     found_knows c m (at, Go) M G same known = (same, known)
     found_knows c m (at, Done reply) M G same known = known
 
-    bound_knows : (c : ℕ) (m : BindModel) (r : BindAt × Next Reply) (M : Memory) (G : Ghost) → m.env ≡ env → BindNext env mix c m.port m.owner r M G
+    bound_knows : (c : ℕ) (m : BindModel) (r : BindAt × Next Reply) (M : Memory) (G : Ghost)
+        → m.env ≡ env → BindNext env mix c m.port m.owner r M G
         → CallerKnows c (bound_next {M = L} (record m { at = r.0 }, r.1)).0 M G
     bound_knows c m (at, Go) M G same known = (same, known)
     bound_knows c m (at, Done reply) M G same known = known
@@ -85,7 +88,9 @@ module _ (env : Env) (mix : ℕ → ℕ → ℕ → ℕ) where
     CallerStep c local op words G = Step env mix c words G op (CallerKnows c (local_after mix local (old_of words op)).0)
 
     -- each operation of a caller keeps the whole and leads to what its next state says
-    pub caller_step : (c : ℕ) (local : Local L) (op : Op) (words : List ℕ) (G : Ghost) → length words ≡ words_in env.geometry → Whole env mix (mem env mix words) G → c < env.geometry.callers
+    pub caller_step : (c : ℕ) (local : Local L) (op : Op) (words : List ℕ) (G : Ghost)
+        → length words ≡ words_in env.geometry → Whole env mix (mem env mix words) G
+        → c < env.geometry.callers
         → plan_of local ≡ Some op → CallerKnows c local (mem env mix words) G → CallerStep c local op words G
     caller_step c Idle op words G all whole low plans known = absurd (cc)
     caller_step c (Finding m) op words G all whole low plans known =
@@ -114,7 +119,9 @@ module _ (env : Env) (mix : ℕ → ℕ → ℕ → ℕ) where
       pub each : (c : ℕ) → CallerKnows c (local_of core c) (mem env mix core.words) G
 
     -- a caller that is given a call knows what the first state of its machine says
-    begun_knows : (c : ℕ) (call : Call) (machine : Local L) (M : Memory) (G : Ghost) → machine_of env c call ≡ Some machine → AllMean env mix c M G nothing_held → CallerKnows c machine M G
+    begun_knows : (c : ℕ) (call : Call) (machine : Local L) (M : Memory) (G : Ghost)
+        → machine_of env c call ≡ Some machine → AllMean env mix c M G nothing_held
+        → CallerKnows c machine M G
     begun_knows c call machine M G is known =
         begins_so L env c (λ asked first. CallerKnows c first M G)
         (λ port. (refl, record { own = (known.0, (known.1.0, tt)); lock = (known.1.1.0, tt); fits = tt }))
@@ -129,7 +136,8 @@ module _ (env : Env) (mix : ℕ → ℕ → ℕ → ℕ) where
         call machine is
 
     -- a caller in no call has nothing
-    pub idle_knows : (c : ℕ) (local : Local L) (M : Memory) (G : Ghost) → is_idle local ≡ true → CallerKnows c local M G → AllMean env mix c M G nothing_held
+    pub idle_knows : (c : ℕ) (local : Local L) (M : Memory) (G : Ghost) → is_idle local ≡ true
+        → CallerKnows c local M G → AllMean env mix c M G nothing_held
     idle_knows c Idle M G idle known = known
     idle_knows c (Finding m) M G idle known = absurd (cc)
     idle_knows c (Binding m) M G idle known = absurd (cc)
@@ -140,7 +148,8 @@ module _ (env : Env) (mix : ℕ → ℕ → ℕ → ℕ) where
       pub inv : Inv (core_step mix core event).0 ghost
       pub moved : (ghost ≡ G) ⊎ ((c : ℕ) × (move : Move) × (ghost ≡ ghost_after env mix c move G))
 
-    begin_kept : (core : Core L) (G : Ghost) (c : ℕ) (call : Call) (machine : Option (Local L)) → IsSound core → Inv core G
+    begin_kept : (core : Core L) (G : Ghost) (c : ℕ) (call : Call) (machine : Option (Local L))
+        → IsSound core → Inv core G
         → beginning core.env core.enrolled core.locals c call ≡ machine → Kept core G (Begin c call)
     begin_kept core G c call None sound inv is = record {
       ghost = G;

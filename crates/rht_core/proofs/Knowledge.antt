@@ -94,9 +94,11 @@ module _ (env : Env) (mix : ℕ → ℕ → ℕ → ℕ) where
     -- the buckets that it has locked, and the links of their nodes
     pub locks : (j : ℕ) → (G.bucket j).holder ≡ Some c → G'.bucket j ≡ G.bucket j
     -- the words of nodes in chains, but for their links
-    pub words : (node j : ℕ) → G.node node ≡ First j → (M' (Node node KeyWord) ≡ M (Node node KeyWord)) × (M' (Node node OwnerWord) ≡ M (Node node OwnerWord))
+    pub words : (node j : ℕ) → G.node node ≡ First j
+        → (M' (Node node KeyWord) ≡ M (Node node KeyWord)) × (M' (Node node OwnerWord) ≡ M (Node node OwnerWord))
     -- the nodes that it has, with all their words
-    pub nodes : (node : ℕ) → HasNode c G node → (G'.node node ≡ Held c) × ((word : NodeWord) → M' (Node node word) ≡ M (Node node word))
+    pub nodes : (node : ℕ) → HasNode c G node
+        → (G'.node node ≡ Held c) × ((word : NodeWord) → M' (Node node word) ≡ M (Node node word))
     -- whether it has raised the count
     pub raised : G'.raised c ≡ G.raised c
     -- nobody gives it a node or a lock
@@ -107,30 +109,37 @@ module _ (env : Env) (mix : ℕ → ℕ → ℕ → ℕ) where
   abbrev pub MembersFirst : Ghost → Type 0
   MembersFirst G = (j node : ℕ) → In node (G.bucket j).nodes → G.node node ≡ First j
 
-  NoKey-rely : (c : ℕ) (M M' : Memory) (G G' : Ghost) (key j : ℕ) (nodes : List ℕ) → Rely c M G M' G' → ((node : ℕ) → In node nodes → G.node node ≡ First j)
+  NoKey-rely : (c : ℕ) (M M' : Memory) (G G' : Ghost) (key j : ℕ) (nodes : List ℕ) → Rely c M G M' G'
+      → ((node : ℕ) → In node nodes → G.node node ≡ First j)
       → NoKey M key nodes → NoKey M' key nodes
   NoKey-rely c M M' G G' key j nodes rely firsts none =
       NoKey-same M M' key nodes (λ node i. (rely.words node j (firsts node i)).0) none
 
-  HoldsLock-rely : (c : ℕ) (M M' : Memory) (G G' : Ghost) (port word : ℕ) → Rely c M G M' G' → HoldsLock c G port word → HoldsLock c G' port word
+  HoldsLock-rely : (c : ℕ) (M M' : Memory) (G G' : Ghost) (port word : ℕ) → Rely c M G M' G'
+      → HoldsLock c G port word → HoldsLock c G' port word
   HoldsLock-rely c M M' G G' port word rely holds = rw (rely.locks (home env mix port) holds.0) holds
 
-  HasNode-rely : (c : ℕ) (M M' : Memory) (G G' : Ghost) (node : ℕ) → Rely c M G M' G' → HasNode c G node → HasNode c G' node
+  HasNode-rely : (c : ℕ) (M M' : Memory) (G G' : Ghost) (node : ℕ) → Rely c M G M' G' → HasNode c G node
+      → HasNode c G' node
   HasNode-rely c M M' G G' node rely has = ((rely.nodes node has).0, has.1)
 
   module _ (c : ℕ) (M M' : Memory) (G G' : Ghost) (members : MembersFirst G) (rely : Rely c M G M' G') where
     -- the nodes of a bucket that it has locked stay
-    nodes_stay : (port word : ℕ) → HoldsLock c G port word → (bucket_for G' port).nodes ≡ (bucket_for G port).nodes
+    nodes_stay : (port word : ℕ) → HoldsLock c G port word
+        → (bucket_for G' port).nodes ≡ (bucket_for G port).nodes
     nodes_stay port word holds = ap (λ b. b.nodes) (rely.locks (home env mix port) holds.0)
 
-    in_stays : (port word node : ℕ) → HoldsLock c G port word → In node (bucket_for G port).nodes → In node (bucket_for G' port).nodes
+    in_stays : (port word node : ℕ) → HoldsLock c G port word → In node (bucket_for G port).nodes
+        → In node (bucket_for G' port).nodes
     in_stays port word node holds i = rw (nodes_stay port word holds) i
 
-    words_stay : (port node : ℕ) → In node (bucket_for G port).nodes → (M' (Node node KeyWord) ≡ M (Node node KeyWord)) × (M' (Node node OwnerWord) ≡ M (Node node OwnerWord))
+    words_stay : (port node : ℕ) → In node (bucket_for G port).nodes
+        → (M' (Node node KeyWord) ≡ M (Node node KeyWord)) × (M' (Node node OwnerWord) ≡ M (Node node OwnerWord))
     words_stay port node i = rely.words node (home env mix port) (members (home env mix port) node i)
 
     stands_stay : (port word node : ℕ) (before : Option ℕ) → HoldsLock c G port word
-        → StandsAt M (bucket_for G port).nodes port node before → StandsAt M' (bucket_for G' port).nodes port node before
+        → StandsAt M (bucket_for G port).nodes port node before
+        → StandsAt M' (bucket_for G' port).nodes port node before
     stands_stay port word node before holds s = record {
       front = s.front;
       rear = s.rear;

@@ -22,7 +22,8 @@ module _ (env : Env) (mix : ℕ → ℕ → ℕ → ℕ) where
   NoKey-in M key m (node ∷ nodes) none (inr i) same = NoKey-in M key m nodes none.1 i same
 
   -- a port of whose key no node is in its bucket is not bound
-  pub missed_unbound : (M : Memory) (G : Ghost) (port : ℕ) → Whole env mix M G → NoKey M port (G.bucket (home env mix port)).nodes → G.bound port ≡ []
+  pub missed_unbound : (M : Memory) (G : Ghost) (port : ℕ) → Whole env mix M G
+      → NoKey M port (G.bucket (home env mix port)).nodes → G.bound port ≡ []
   missed_unbound M G port whole none = go (G.bound port) refl
     where
       go : (nodes : List ℕ) → G.bound port ≡ nodes → G.bound port ≡ []

@@ -17,7 +17,8 @@ use Rattle.rht_core.proofs.Frames.{Made, FirstsStay, firsts_stay, Rely-same, Sam
 module _ (env : Env) (mix : ℕ → ℕ → ℕ → ℕ) where
   -- ---- a word of a node that the caller has
 
-  pub fill : (d n : ℕ) (w : NodeWord) (v : ℕ) (M M' : Memory) (G : Ghost) → Whole env mix M G → HasNode env mix d G n
+  pub fill : (d n : ℕ) (w : NodeWord) (v : ℕ) (M M' : Memory) (G : Ghost) → Whole env mix M G
+      → HasNode env mix d G n
       → IsWrite env.geometry M M' (Node n w) v → Made env mix d M G M' G
   fill d n w v M M' G whole has write =
       let others_node : (m : ℕ) (u : NodeWord) → m < env.geometry.nodes → m ≢ n → M' (Node m u) ≡ M (Node m u)
@@ -35,7 +36,8 @@ module _ (env : Env) (mix : ℕ → ℕ → ℕ → ℕ) where
   -- ---- the bit of a node
 
   -- neither the old owner of a node nor the new one is a chain
-  reowned_chains : (G : Ghost) (n : ℕ) (owner : Owner) → ((j : ℕ) → G.node n ≡ First j → ⊥) → ((j : ℕ) → owner ≡ First j → ⊥) → SameChains env mix G (with_owner G n owner)
+  reowned_chains : (G : Ghost) (n : ℕ) (owner : Owner) → ((j : ℕ) → G.node n ≡ First j → ⊥)
+      → ((j : ℕ) → owner ≡ First j → ⊥) → SameChains env mix G (with_owner G n owner)
   reowned_chains G n owner was now = record {
     attached = refl;
     current = refl;
@@ -55,13 +57,16 @@ module _ (env : Env) (mix : ℕ → ℕ → ℕ → ℕ) where
   not_first (Taken c) never = refl
   not_first Gone never = refl
 
-  reowned_firsts : (G : Ghost) (n : ℕ) (owner : Owner) → ((j : ℕ) → G.node n ≡ First j → ⊥) → ((j : ℕ) → owner ≡ First j → ⊥) → count_firsts env mix (with_owner G n owner) ≡ count_firsts env mix G
+  reowned_firsts : (G : Ghost) (n : ℕ) (owner : Owner) → ((j : ℕ) → G.node n ≡ First j → ⊥)
+      → ((j : ℕ) → owner ≡ First j → ⊥)
+      → count_firsts env mix (with_owner G n owner) ≡ count_firsts env mix G
   reowned_firsts G n owner was now =
       count_below-same (λ m. is_first (G.node m)) (λ m. is_first (put G.node n owner m)) env.geometry.nodes
       (λ m l. put-all (λ i o. is_first o ≡ is_first (G.node i)) G.node n owner (not_first owner now ∙ sym (not_first (G.node n) was)) (λ i ne. refl) m)
 
   -- a bit of the map of nodes that has the value in the word that is written which it had
-  map_bit_stays : (i value n : ℕ) (M M' : Memory) → IsWrite env.geometry M M' (NodeMap i) value → n < env.geometry.nodes
+  map_bit_stays : (i value n : ℕ) (M M' : Memory) → IsWrite env.geometry M M' (NodeMap i) value
+      → n < env.geometry.nodes
       → (n / 64 ≡ i → bit_at value (n % 64) ≡ bit_at (M (NodeMap i)) (n % 64))
       → bit_at (M' (NodeMap (n / 64))) (n % 64) ≡ bit_at (M (NodeMap (n / 64))) (n % 64)
   map_bit_stays i value n M M' write l same = elim (cases_eq (n / 64) i) [
@@ -71,9 +76,11 @@ module _ (env : Env) (mix : ℕ → ℕ → ℕ → ℕ) where
   ]
 
   -- the bits after one of them was changed together with the owner of its node
-  reowned_bits : (i b value : ℕ) (owner : Owner) (M M' : Memory) (G : Ghost) → Whole env mix M G → IsBitIn env.geometry.nodes i b → IsBuilt env mix owner
+  reowned_bits : (i b value : ℕ) (owner : Owner) (M M' : Memory) (G : Ghost) → Whole env mix M G
+      → IsBitIn env.geometry.nodes i b → IsBuilt env mix owner
       → IsWrite env.geometry M M' (NodeMap i) value
-      → ((bit_at value b ≡ 1) ↔ (owner ≡ Free)) → ((k : ℕ) → k < 64 → k ≢ b → bit_at value k ≡ bit_at (M (NodeMap i)) k)
+      → ((bit_at value b ≡ 1) ↔ (owner ≡ Free))
+      → ((k : ℕ) → k < 64 → k ≢ b → bit_at value k ≡ bit_at (M (NodeMap i)) k)
       → ArenaRight env mix M' (with_owner G (64 * i + b) owner)
   reowned_bits i b value owner M M' G whole at is_built write here others = record {
     built = put-all (λ k o. IsBuilt env mix o) G.node (64 * i + b) owner is_built (λ k ne. whole.arena.built k);
@@ -86,10 +93,12 @@ module _ (env : Env) (mix : ℕ → ℕ → ℕ → ℕ) where
   }
 
   -- a write to a word of the node map, with a new owner of the node whose bit was changed
-  reowned : (i b value : ℕ) (owner : Owner) (M M' : Memory) (G : Ghost) → Whole env mix M G → IsBitIn env.geometry.nodes i b → IsBuilt env mix owner
+  reowned : (i b value : ℕ) (owner : Owner) (M M' : Memory) (G : Ghost) → Whole env mix M G
+      → IsBitIn env.geometry.nodes i b → IsBuilt env mix owner
       → IsWrite env.geometry M M' (NodeMap i) value
       → ((j : ℕ) → G.node (64 * i + b) ≡ First j → ⊥) → ((j : ℕ) → owner ≡ First j → ⊥)
-      → ((bit_at value b ≡ 1) ↔ (owner ≡ Free)) → ((k : ℕ) → k < 64 → k ≢ b → bit_at value k ≡ bit_at (M (NodeMap i)) k)
+      → ((bit_at value b ≡ 1) ↔ (owner ≡ Free))
+      → ((k : ℕ) → k < 64 → k ≢ b → bit_at value k ≡ bit_at (M (NodeMap i)) k)
       → Whole env mix M' (with_owner G (64 * i + b) owner)
   reowned i b value owner M M' G whole at is_built write was now here others =
       let n = 64 * i + b in
@@ -99,7 +108,8 @@ module _ (env : Env) (mix : ℕ → ℕ → ℕ → ℕ) where
       (write.others PortCount tt (λ e. cc) ∙ whole.counted ∙ ap (λ x. x + raisers env mix G) (sym (reowned_firsts G n owner was now)))
 
   -- a write that leaves the bits of a word of the node map as they were
-  pub retouch : (d i value : ℕ) (M M' : Memory) (G : Ghost) → Whole env mix M G → i < map_words env.geometry.nodes → IsWrite env.geometry M M' (NodeMap i) value
+  pub retouch : (d i value : ℕ) (M M' : Memory) (G : Ghost) → Whole env mix M G
+      → i < map_words env.geometry.nodes → IsWrite env.geometry M M' (NodeMap i) value
       → ((k : ℕ) → k < 64 → bit_at value k ≡ bit_at (M (NodeMap i)) k) → Made env mix d M G M' G
   retouch d i value M M' G whole l write same =
       let firsts = firsts_stay env mix M M' G (NodeMap i) value whole write (λ m w e. cc) in
@@ -115,7 +125,8 @@ module _ (env : Env) (mix : ℕ → ℕ → ℕ → ℕ) where
       }
 
   -- the and that clears a bit which was set: the node was free
-  pub take_node : (d i b : ℕ) (M M' : Memory) (G : Ghost) → Whole env mix M G → IsBitIn env.geometry.nodes i b → bit_at (M (NodeMap i)) b ≡ 1
+  pub take_node : (d i b : ℕ) (M M' : Memory) (G : Ghost) → Whole env mix M G
+      → IsBitIn env.geometry.nodes i b → bit_at (M (NodeMap i)) b ≡ 1
       → IsWrite env.geometry M M' (NodeMap i) (bit_and (M (NodeMap i)) (bit_not w64 (bit_of b)))
       → Made env mix d M G M' (with_owner G (64 * i + b) (Held d)) × (G.node (64 * i + b) ≡ Free)
   take_node d i b M M' G whole at found write =

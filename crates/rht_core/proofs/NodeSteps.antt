@@ -41,13 +41,17 @@ module _ (env : Env) (mix : ℕ → ℕ → ℕ → ℕ) (c : ℕ) where
   TakeKnows (take, Done (Some node)) M G = AllMean env mix c M G (node_held node)
 
   -- looking on for a node gives none yet
-  next_knows : (at : TakeNodeAt) (index : ℕ) (M : Memory) (G : Ghost) → AllMean env mix c M G nothing_held → TakeKnows (next_word (record { geometry = env.geometry; at = at }) index) M G
+  next_knows : (at : TakeNodeAt) (index : ℕ) (M : Memory) (G : Ghost)
+      → AllMean env mix c M G nothing_held
+      → TakeKnows (next_word (record { geometry = env.geometry; at = at }) index) M G
   next_knows at index M G means =
       let take : TakeNodeModel = record { geometry = env.geometry; at = at } in
       by_test (λ t. TakeKnows (cond t (record take { at = takes.MapWord (index + 1) }, Go) (take, Done None)) M G) (nat_lt (index + 1) (map_words env.geometry.nodes))
       (λ t. (means, (refl, ltb-true (index + 1) (map_words env.geometry.nodes) t))) (λ t. means)
 
-  claim_knows : (at : TakeNodeAt) (index word : ℕ) (M : Memory) (G : Ghost) → AllMean env mix c M G nothing_held → TakeKnows (claim_among (record { geometry = env.geometry; at = at }) index word) M G
+  claim_knows : (at : TakeNodeAt) (index word : ℕ) (M : Memory) (G : Ghost)
+      → AllMean env mix c M G nothing_held
+      → TakeKnows (claim_among (record { geometry = env.geometry; at = at }) index word) M G
   claim_knows at index word M G means =
       let take : TakeNodeModel = record { geometry = env.geometry; at = at } in
       let free = bit_and word (map_bits env.geometry.nodes index) in
@@ -96,7 +100,9 @@ module _ (env : Env) (mix : ℕ → ℕ → ℕ → ℕ) (c : ℕ) where
           knows = claim_knows (takes.Claim index bit) index (bit_and word (bits_above bit)) M' G means;
         }) refl
       where
-        only_this : ((other : ℕ) → G.node other ≡ Held c → ◌≡◌ {A = Option ℕ} None (Some other)) → (other : ℕ) → put G.node (64 * index + bit) (Held c) other ≡ Held c → Some (64 * index + bit) ≡ Some other
+        only_this : ((other : ℕ) → G.node other ≡ Held c → ◌≡◌ {A = Option ℕ} None (Some other))
+            → (other : ℕ) → put G.node (64 * index + bit) (Held c) other ≡ Held c
+            → Some (64 * index + bit) ≡ Some other
         only_this = put-only G.node (64 * index + bit) (Held c) (λ o. o ≡ Held c)
 
     pub take_step : (take : TakeNodeModel) → IsTaking take → AllMean env mix c M G nothing_held
@@ -122,11 +128,13 @@ module _ (env : Env) (mix : ℕ → ℕ → ℕ → ℕ) (c : ℕ) where
           knows = (means.0, (none_left means.1.0, (means.1.1.0, tt)));
         }
       where
-        none_left : ((other : ℕ) → G.node other ≡ Held c → Some node ≡ Some other) → (other : ℕ) → put G.node node Free other ≡ Held c → ◌≡◌ {A = Option ℕ} None (Some other)
+        none_left : ((other : ℕ) → G.node other ≡ Held c → Some node ≡ Some other) → (other : ℕ)
+            → put G.node node Free other ≡ Held c → ◌≡◌ {A = Option ℕ} None (Some other)
         none_left = put-none G.node node Free (λ o. o ≡ Held c) (λ h. cc)
 
     -- a word of a node that the caller has is written; what it knows of other words stays
-    pub fill_step : (node : ℕ) (w : NodeWord) (value : ℕ) (Knows : Memory → Ghost → Type 0) → HasNode env mix c G node
+    pub fill_step : (node : ℕ) (w : NodeWord) (value : ℕ) (Knows : Memory → Ghost → Type 0)
+        → HasNode env mix c G node
         → ((M' : Memory) → IsWrite env.geometry M M' (Node node w) value → Knows M' G)
         → Step env mix c words G (Store (place_of env.geometry (Node node w)) value) Knows
     fill_step node w value Knows has knows =

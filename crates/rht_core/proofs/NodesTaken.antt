@@ -116,7 +116,8 @@ module _ (take : TakeNodeModel) (did : Did) (none : IsNoTake take.geometry did) 
   claim_in-took index None = next_word-took index
   claim_in-took index (Some bit) = none
 
-take_took : (take : TakeNodeModel) (state : TakeNodeAt) (did : Did) → did.op ≡ take_plan_at take.geometry state
+take_took : (take : TakeNodeModel) (state : TakeNodeAt) (did : Did)
+    → did.op ≡ take_plan_at take.geometry state
     → IsTakeInRange take.geometry state
     → TookAs take.geometry did (take_after_at take state did.old).1
 take_took take (MapWord index) did is range =

@@ -71,7 +71,8 @@ module _ (env : Env) (mix : ℕ → ℕ → ℕ → ℕ) (c : ℕ) (port : ℕ) 
     marker_ends : (link : ℕ) → link ≡ marker_of place → node_of env.geometry.nodes link ≡ None
     marker_ends link is = rw is (links_tell_apart.marker_names_no_node env.geometry.nodes place)
 
-    link_names : (link node : ℕ) → link ≡ link_of node → In node (G.bucket j).nodes → node_of env.geometry.nodes link ≡ Some node
+    link_names : (link node : ℕ) → link ≡ link_of node → In node (G.bucket j).nodes
+        → node_of env.geometry.nodes link ≡ Some node
     link_names link node is i =
         rw is (links_tell_apart.link_names env.geometry.nodes node (whole.owned.first_at node j (whole.owned.member j node i)).among)
 
@@ -86,7 +87,8 @@ module _ (env : Env) (mix : ℕ → ℕ → ℕ → ℕ) (c : ℕ) (port : ℕ) 
         first : ℕ
         first = head_of place word
 
-        go : (nodes : List ℕ) → (G.bucket j).nodes ≡ nodes → IsSegment (chain_of M) first (G.bucket j).nodes (marker_of place)
+        go : (nodes : List ℕ) → (G.bucket j).nodes ≡ nodes
+            → IsSegment (chain_of M) first (G.bucket j).nodes (marker_of place)
             → StartKnows word (walk_from env.geometry port first (node_of env.geometry.nodes first)) M G
         go [] e s =
             let stop : first ≡ marker_of place = subst (λ l. IsSegment (chain_of M) first l (marker_of place)) e s in
@@ -96,7 +98,8 @@ module _ (env : Env) (mix : ℕ → ℕ → ℕ → ℕ) (c : ℕ) (port : ℕ) 
             rw (link_names first m split.0 (rw e (inl refl)))
             (mine, (knows.0, ((knows.1.0, record { front = []; rear = nodes; split = e; passed = tt; last = refl }), tt)), (refl, refl))
 
-    NoKey-more : (nodes : List ℕ) (node : ℕ) → NoKey M port nodes → key_of M node ≢ port → NoKey M port (nodes ++ node ∷ [])
+    NoKey-more : (nodes : List ℕ) (node : ℕ) → NoKey M port nodes → key_of M node ≢ port
+        → NoKey M port (nodes ++ node ∷ [])
     NoKey-more [] node none differs = (differs, tt)
     NoKey-more (other ∷ nodes) node none differs = (none.0, NoKey-more nodes node none.1 differs)
 
@@ -106,15 +109,18 @@ module _ (env : Env) (mix : ℕ → ℕ → ℕ → ℕ) (c : ℕ) (port : ℕ) 
     last_of-more (other ∷ next ∷ nodes) node = last_of-more (next ∷ nodes) node
 
     -- behind a node with another key the walk stands at the next one, or has missed the port
-    pub walk_on : (word node : ℕ) (walk : LockedWalkModel) → IsWalk walk → Own M G → AllMean env mix c M G (OnlyLock (Some j) ∷ [])
-        → HoldsLock env mix c G port word → StandsAt M (G.bucket j).nodes port node walk.before → key_of M node ≢ port
+    pub walk_on : (word node : ℕ) (walk : LockedWalkModel) → IsWalk walk → Own M G
+        → AllMean env mix c M G (OnlyLock (Some j) ∷ [])
+        → HoldsLock env mix c G port word → StandsAt M (G.bucket j).nodes port node walk.before
+        → key_of M node ≢ port
         → WalkKnows word (followed walk node (chain_of M node) (node_of walk.geometry.nodes (chain_of M node))) M G
     walk_on word node walk is mine only holds stands differs = go stands.rear stands.split (rw stands.split at chain_here)
       where
         front : List ℕ
         front = stands.front
 
-        go : (rear : List ℕ) → (G.bucket j).nodes ≡ front ++ node ∷ rear → IsSegment (chain_of M) (head_of place (G.bucket j).plain) (front ++ node ∷ stands.rear) (marker_of place)
+        go : (rear : List ℕ) → (G.bucket j).nodes ≡ front ++ node ∷ rear
+            → IsSegment (chain_of M) (head_of place (G.bucket j).plain) (front ++ node ∷ stands.rear) (marker_of place)
             → WalkKnows word (followed walk node (chain_of M node) (node_of walk.geometry.nodes (chain_of M node))) M G
         go [] e s0 =
             let s = rw e at chain_here in
@@ -160,7 +166,8 @@ module _ (env : Env) (mix : ℕ → ℕ → ℕ → ℕ) (c : ℕ) (port : ℕ) 
     abbrev M : Memory
     M = mem env mix words
 
-    lock_knows_even : (at : LockAt) (word : ℕ) → LockKnows (record { place = place; at = at }, Go) M G → (word % 2 == 1) ≡ false
+    lock_knows_even : (at : LockAt) (word : ℕ) → LockKnows (record { place = place; at = at }, Go) M G
+        → (word % 2 == 1) ≡ false
         → LockKnows (record { place = place; at = locks.Exchange word }, Go) M G
     lock_knows_even at word known even = (known.0, known.1, refl, (let odd = eqb-false (word % 2) 1 even in omega (arith, odd)))
 
@@ -181,7 +188,8 @@ module _ (env : Env) (mix : ℕ → ℕ → ℕ → ℕ) (c : ℕ) (port : ℕ) 
         (λ t e. reads env mix c words G op (LockKnows (record { place = place; at = locks.Word }, Go)) whole
         (rw t refl) (mine, only, refl, tt)) refl
       where
-        taken : old_of words (Exchange place found (found + 1)) ≡ found → Step env mix c words G (Exchange place found (found + 1)) (LockKnows (record { place = place; at = locks.Exchange found }, Done found))
+        taken : old_of words (Exchange place found (found + 1)) ≡ found
+            → Step env mix c words G (Exchange place found (found + 1)) (LockKnows (record { place = place; at = locks.Exchange found }, Done found))
         taken same =
             let op = Exchange place found (found + 1) in
             let write : IsWrite env.geometry M (mem env mix (applied words op)) (PageWord j) (found + 1)
@@ -200,13 +208,17 @@ module _ (env : Env) (mix : ℕ → ℕ → ℕ → ℕ) (c : ℕ) (port : ℕ) 
               );
             }
           where
-            written : old_of words (Exchange place found (found + 1)) ≡ found → word_after (word_at env.geometry words (PageWord j)) (Exchange place found (found + 1)) ≡ found + 1
+            written : old_of words (Exchange place found (found + 1)) ≡ found
+                → word_after (word_at env.geometry words (PageWord j)) (Exchange place found (found + 1)) ≡ found + 1
             written s = rw s (rw (eq-eqb found found refl) refl)
 
-            only_this : (other : ℕ) → (put G.bucket j (record (G.bucket j) { holder = Some c }) other).holder ≡ Some c → Some j ≡ Some other
+            only_this : (other : ℕ)
+                → (put G.bucket j (record (G.bucket j) { holder = Some c }) other).holder ≡ Some c
+                → Some j ≡ Some other
             only_this = put-only G.bucket j (record (G.bucket j) { holder = Some c }) (λ b. b.holder ≡ Some c) only.0
 
-    pub lock_step : (lock : LockModel) → lock.place ≡ place → IsEven lock.at → AllMean env mix c M G (OnlyLock None ∷ [])
+    pub lock_step : (lock : LockModel) → lock.place ≡ place → IsEven lock.at
+        → AllMean env mix c M G (OnlyLock None ∷ [])
         → Step env mix c words G (lock_plan lock) (LockKnows (lock_after lock (old_of words (lock_plan lock))))
     lock_step lock is even only =
         subst (λ p. let moved : LockModel = record { place = p; at = lock.at } in
@@ -234,7 +246,8 @@ module _ (env : Env) (mix : ℕ → ℕ → ℕ → ℕ) (c : ℕ) (port : ℕ) 
     -- ---- an operation of the walk
 
     -- of a walk in this table for this port, state by state
-    walk_step_at : (word : ℕ) (before : Option ℕ) (count : ℕ) (at : LockedWalkAt) → AllMean env mix c M G (OnlyLock (Some j) ∷ walk_facts_at port word before at)
+    walk_step_at : (word : ℕ) (before : Option ℕ) (count : ℕ) (at : LockedWalkAt)
+        → AllMean env mix c M G (OnlyLock (Some j) ∷ walk_facts_at port word before at)
         → let walk : LockedWalkModel = record { geometry = env.geometry; key = port; before = before; length = count; at = at } in
         Step env mix c words G (locked_walk_plan walk) (WalkKnows word (locked_walk_after walk (old_of words (locked_walk_plan walk))))
     walk_step_at word before count (walks.Key node) knows =

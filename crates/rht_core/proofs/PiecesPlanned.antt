@@ -38,7 +38,8 @@ planned_bucket g op there =
     let parts = parts_in_order g in record { within = there.1; apart = λ e. omega (arith, there.0) }
 
 -- what a lock performs is on its bucket's word
-pub planned_lock : (g : Geometry) (place : ℕ) (at : LockAt) → IsBucketPlace g place → IsPlannedIn g (lock_plan_at place at)
+pub planned_lock : (g : Geometry) (place : ℕ) (at : LockAt) → IsBucketPlace g place
+    → IsPlannedIn g (lock_plan_at place at)
 planned_lock g place lock_at.Word there = planned_bucket g _ there
 planned_lock g place (lock_at.Exchange word) there = planned_bucket g _ there
 
@@ -49,11 +50,13 @@ planned_walk g before (walk_at.Key node) range = planned-at g _ (Node node KeyWo
 planned_walk g before (walk_at.ChainLink node) range = planned-at g _ (Node node ChainLink) range.0 tt refl
 
 -- what the taking of a node performs is on a word of the map of nodes, and so is the giving back
-pub planned_take : (g : Geometry) (state : TakeNodeAt) → IsTakeInRange g state → IsPlannedIn g (take_plan_at g state)
+pub planned_take : (g : Geometry) (state : TakeNodeAt) → IsTakeInRange g state
+    → IsPlannedIn g (take_plan_at g state)
 planned_take g (MapWord index) range = planned-at g _ (NodeMap index) range tt refl
 planned_take g (Claim index bit) range =
     let below = range.below in
     planned-at g _ (NodeMap index) (omega arith) tt refl
 
-pub planned_give : (give : GiveNodeModel) → give.node < give.geometry.nodes → IsPlannedIn give.geometry (give_node_plan give)
+pub planned_give : (give : GiveNodeModel) → give.node < give.geometry.nodes
+    → IsPlannedIn give.geometry (give_node_plan give)
 planned_give give below = planned-at give.geometry _ (NodeMap (give.node / 64)) (omega arith) tt refl

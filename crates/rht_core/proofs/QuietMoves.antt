@@ -27,8 +27,10 @@ module _ (env : Env) (mix : ℕ → ℕ → ℕ → ℕ) where
       }
 
   -- a store of the bucket's word that changes its lock alone
-  relocked : (j v : ℕ) (holder : Option ℕ) (M M' : Memory) (G : Ghost) → Whole env mix M G → j < 64 * env.geometry.pages
-      → v ≡ (G.bucket j).plain + lock_bit holder → IsWrite env.geometry M M' (PageWord j) v → Whole env mix M' (with_holder G j holder)
+  relocked : (j v : ℕ) (holder : Option ℕ) (M M' : Memory) (G : Ghost) → Whole env mix M G
+      → j < 64 * env.geometry.pages
+      → v ≡ (G.bucket j).plain + lock_bit holder → IsWrite env.geometry M M' (PageWord j) v
+      → Whole env mix M' (with_holder G j holder)
   relocked j v holder M M' G whole l is write =
       let old = (whole.buckets j l).locked in
       Whole-frame env mix M M' G (with_holder G j holder) (PageWord j) v whole write ((λ e. cc), (λ s e. cc)) (held_chains G j holder)
@@ -59,13 +61,16 @@ module _ (env : Env) (mix : ℕ → ℕ → ℕ → ℕ) where
   }
 
   -- an even word is one that nobody has locked
-  nobody_holds : (holder : Option ℕ) (plain word : ℕ) → word ≡ plain + lock_bit holder → word % 2 ≡ 0 → plain % 2 ≡ 0 → (holder ≡ None) × (plain ≡ word)
+  nobody_holds : (holder : Option ℕ) (plain word : ℕ) → word ≡ plain + lock_bit holder → word % 2 ≡ 0
+      → plain % 2 ≡ 0 → (holder ≡ None) × (plain ≡ word)
   nobody_holds None plain word is even plain_even = (refl, omega arith)
   nobody_holds (Some c) plain word is even plain_even = absurd (omega arith)
 
   -- the exchange that takes the lock: the word was even
-  pub take_lock : (d j v : ℕ) (M M' : Memory) (G : Ghost) → Whole env mix M G → j < 64 * env.geometry.pages → M (PageWord j) ≡ v → v % 2 ≡ 0
-      → IsWrite env.geometry M M' (PageWord j) (v + 1) → Made env mix d M G M' (with_holder G j (Some d)) × ((G.bucket j).plain ≡ v)
+  pub take_lock : (d j v : ℕ) (M M' : Memory) (G : Ghost) → Whole env mix M G
+      → j < 64 * env.geometry.pages → M (PageWord j) ≡ v → v % 2 ≡ 0
+      → IsWrite env.geometry M M' (PageWord j) (v + 1)
+      → Made env mix d M G M' (with_holder G j (Some d)) × ((G.bucket j).plain ≡ v)
   take_lock d j v M M' G whole l found even write =
       let right = (whole.buckets j l).locked in
       let free = nobody_holds (G.bucket j).holder (G.bucket j).plain v (sym found ∙ right.word_is) even right.even in (
@@ -79,7 +84,8 @@ module _ (env : Env) (mix : ℕ → ℕ → ℕ → ℕ) where
       )
 
   -- the holder's store of the word without the lock
-  pub drop_lock : (d j v : ℕ) (M M' : Memory) (G : Ghost) → Whole env mix M G → j < 64 * env.geometry.pages → (G.bucket j).holder ≡ Some d → (G.bucket j).plain ≡ v
+  pub drop_lock : (d j v : ℕ) (M M' : Memory) (G : Ghost) → Whole env mix M G
+      → j < 64 * env.geometry.pages → (G.bucket j).holder ≡ Some d → (G.bucket j).plain ≡ v
       → IsWrite env.geometry M M' (PageWord j) v → Made env mix d M G M' (with_holder G j None)
   drop_lock d j v M M' G whole l holds plain write = record {
     whole = relocked j v None M M' G whole l (omega (arith, plain)) write;
@@ -90,8 +96,10 @@ module _ (env : Env) (mix : ℕ → ℕ → ℕ → ℕ) where
 
   -- ---- the count of ports
 
-  pub count_up : (d : ℕ) (M M' : Memory) (G : Ghost) → Whole env mix M G → d < env.geometry.callers → G.raised d ≡ false
-      → IsWrite env.geometry M M' PortCount ((M PortCount + 1) % 2 ^ 64) → Made env mix d M G M' (with_raised G d true)
+  pub count_up : (d : ℕ) (M M' : Memory) (G : Ghost) → Whole env mix M G → d < env.geometry.callers
+      → G.raised d ≡ false
+      → IsWrite env.geometry M M' PortCount ((M PortCount + 1) % 2 ^ 64)
+      → Made env mix d M G M' (with_raised G d true)
   count_up d M M' G whole l low write =
       let v = (M PortCount + 1) % 2 ^ 64 in
       let within = env.geometry.within in
@@ -112,8 +120,10 @@ module _ (env : Env) (mix : ℕ → ℕ → ℕ → ℕ) where
 
   -- ---- words of which the whole says nothing
 
-  pub aside : (a : Address) (v : ℕ) (M M' : Memory) (G : Ghost) → Whole env mix M G → IsWrite env.geometry M M' a v
-      → IsNoTableWord env mix a → ((j : ℕ) → PageWord j ≢ a) → ((n : ℕ) (w : NodeWord) → Node n w ≢ a) → ((i : ℕ) → NodeMap i ≢ a) → PortCount ≢ a
+  pub aside : (a : Address) (v : ℕ) (M M' : Memory) (G : Ghost) → Whole env mix M G
+      → IsWrite env.geometry M M' a v
+      → IsNoTableWord env mix a → ((j : ℕ) → PageWord j ≢ a) → ((n : ℕ) (w : NodeWord) → Node n w ≢ a)
+      → ((i : ℕ) → NodeMap i ≢ a) → PortCount ≢ a
       → Whole env mix M' G × ((c : ℕ) → Rely env mix c M G M' G)
   aside a v M M' G whole write table page node map count =
       let stay = firsts_stay env mix M M' G a v whole write node in (

@@ -139,7 +139,8 @@ module _ (M : Type 0) (mix : ℕ → ℕ → ℕ → ℕ) (env : Env) where
   has_place core c stays below = omega (arith, stays.all_locals, stays.few_enrolled)
 
   -- one caller does something else, which is in range
-  set-in : (core : Core M) (c : ℕ) (local : Local M) → StaysIn core → c < core.enrolled → IsLocalIn env c local
+  set-in : (core : Core M) (c : ℕ) (local : Local M) → StaysIn core → c < core.enrolled
+      → IsLocalIn env c local
       → StaysIn record core { locals = slice_set core.locals c local }
   set-in core c local stays enrolled within = record {
     same_env = stays.same_env;
@@ -151,7 +152,8 @@ module _ (M : Type 0) (mix : ℕ → ℕ → ℕ → ℕ) (env : Env) where
   }
 
   -- the words are changed by an operation
-  applied-in : (core : Core M) (op : Op) → StaysIn core → StaysIn record core { words = applied core.words op }
+  applied-in : (core : Core M) (op : Op) → StaysIn core
+      → StaysIn record core { words = applied core.words op }
   applied-in core op stays = record {
     same_env = stays.same_env;
     all_words = length-applied core.words op ∙ stays.all_words;
@@ -231,7 +233,8 @@ module _ (M : Type 0) (mix : ℕ → ℕ → ℕ → ℕ) (env : Env) where
 
   -- ---- who is enrolled
 
-  step-kept : (core : Core M) (c : ℕ) (op : Option Op) → planned core.enrolled core.locals c ≡ op → StaysIn core
+  step-kept : (core : Core M) (c : ℕ) (op : Option Op) → planned core.enrolled core.locals c ≡ op
+      → StaysIn core
       → word_at env.geometry (with_step mix core c op).0.words EnrolledCallers ≡ word_at env.geometry core.words EnrolledCallers
   step-kept core c None is stays = refl
   step-kept core c (Some op) is stays =
@@ -239,7 +242,8 @@ module _ (M : Type 0) (mix : ℕ → ℕ → ℕ → ℕ) (env : Env) where
       let plan = plans-in M env c (local_of core c) op (stays.locals c) can.plan in
       applied-other core.words op (place_of env.geometry EnrolledCallers) (λ e. plan.apart (sym e))
 
-  pub step-count : (core : Core M) (c : ℕ) (op : Option Op) → (with_step mix core c op).0.enrolled ≡ core.enrolled
+  pub step-count : (core : Core M) (c : ℕ) (op : Option Op)
+      → (with_step mix core c op).0.enrolled ≡ core.enrolled
   step-count core c None = refl
   step-count core c (Some op) = refl
 

@@ -22,7 +22,8 @@ module _ (env : Env) (mix : ℕ → ℕ → ℕ → ℕ) where
   owners_in M nodes = map (λ n. owner_of (M (Node n OwnerWord))) nodes
 
   -- the owner of a node to which a port is bound outlives anybody's operation
-  owner_stays : (d : ℕ) (M M' : Memory) (G G' : Ghost) → Whole env mix M G → Made env mix d M G M' G' → (port : ℕ) (bound : List ℕ) → G.bound port ≡ bound
+  owner_stays : (d : ℕ) (M M' : Memory) (G G' : Ghost) → Whole env mix M G → Made env mix d M G M' G'
+      → (port : ℕ) (bound : List ℕ) → G.bound port ≡ bound
       → owners_in M' bound ≡ owners_in M bound
   owner_stays d M M' G G' whole made port [] b = refl
   owner_stays d M M' G G' whole made port (n ∷ behind) b =
@@ -32,8 +33,10 @@ module _ (env : Env) (mix : ℕ → ℕ → ℕ → ℕ) where
       rw to.alone (ap (λ w. owner_of w ∷ []) same)
 
   -- where the ghost says that the same is bound, the words stand for the same
-  same_bindings : (d : ℕ) (words words' : List ℕ) (G G' : Ghost) → Whole env mix (mem env mix words) G → Made env mix d (mem env mix words) G (mem env mix words') G'
-      → (port : ℕ) → G'.bound port ≡ G.bound port → stands_for env.geometry words' port ≡ stands_for env.geometry words port
+  same_bindings : (d : ℕ) (words words' : List ℕ) (G G' : Ghost) → Whole env mix (mem env mix words) G
+      → Made env mix d (mem env mix words) G (mem env mix words') G'
+      → (port : ℕ) → G'.bound port ≡ G.bound port
+      → stands_for env.geometry words' port ≡ stands_for env.geometry words port
   same_bindings d words words' G G' whole made port bound =
       stands_for_bound env mix words' G' made.whole port
       ∙ ap (owners_in (mem env mix words')) bound
@@ -41,11 +44,14 @@ module _ (env : Env) (mix : ℕ → ℕ → ℕ → ℕ) where
       ∙ sym (stands_for_bound env mix words G whole port)
 
   -- an operation of a caller that hasn't raised the count changes no bindings
-  pub quiet_step : (c : ℕ) (words : List ℕ) (G : Ghost) (op : Op) (Knows : Memory → Ghost → Type 0) → Whole env mix (mem env mix words) G → G.raised c ≡ false
-      → Step env mix c words G op Knows → Agree (stands_for env.geometry (applied words op)) (stands_for env.geometry words)
+  pub quiet_step : (c : ℕ) (words : List ℕ) (G : Ghost) (op : Op) (Knows : Memory → Ghost → Type 0)
+      → Whole env mix (mem env mix words) G → G.raised c ≡ false
+      → Step env mix c words G op Knows
+      → Agree (stands_for env.geometry (applied words op)) (stands_for env.geometry words)
   quiet_step c words G op Knows whole low step port = go step.move step.ready step.made
     where
-      go : (move : Move) → ReadyFor env mix c (mem env mix words) G move → Made env mix c (mem env mix words) G (mem env mix (applied words op)) (ghost_after env mix c move G)
+      go : (move : Move) → ReadyFor env mix c (mem env mix words) G move
+          → Made env mix c (mem env mix words) G (mem env mix (applied words op)) (ghost_after env mix c move G)
           → stands_for env.geometry (applied words op) port ≡ stands_for env.geometry words port
       go Reads ready made = same_bindings c words (applied words op) G G whole made port refl
       go (TakesNode n) ready made = same_bindings c words (applied words op) G (ghost_after env mix c (TakesNode n) G) whole made port refl
@@ -56,7 +62,8 @@ module _ (env : Env) (mix : ℕ → ℕ → ℕ → ℕ) where
       go (Links n k) ready made = let q = sym low ∙ ready.raised in absurd (cc)
 
   -- an operation that binds a port binds it to its node's owner, and no other port to another owner. The port was bound to none
-  pub linked_bindings : (c : ℕ) (words words' : List ℕ) (G : Ghost) (n port : ℕ) → Whole env mix (mem env mix words) G → IsReady env mix c n port (mem env mix words) G
+  pub linked_bindings : (c : ℕ) (words words' : List ℕ) (G : Ghost) (n port : ℕ)
+      → Whole env mix (mem env mix words) G → IsReady env mix c n port (mem env mix words) G
       → Made env mix c (mem env mix words) G (mem env mix words') (ghost_after env mix c (Links n port) G)
       → (stands_for env.geometry words port ≡ [])
       × Agree (stands_for env.geometry words') (with_owners (stands_for env.geometry words) port (owner_of (mem env mix words' (Node n OwnerWord)) ∷ []))

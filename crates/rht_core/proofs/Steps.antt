@@ -30,7 +30,8 @@ by_test C true t f = t refl
 by_test C false t f = f refl
 
 -- an operation that leaves its word leaves all words
-pub unchanged : (words : List ℕ) (op : Op) → word_after (old_of words op) op ≡ old_of words op → applied words op ≡ words
+pub unchanged : (words : List ℕ) (op : Op) → word_after (old_of words op) op ≡ old_of words op
+    → applied words op ≡ words
 unchanged words op same = rw same (set-get_or words (op_place op) 0)
 
 module _ (env : Env) (mix : ℕ → ℕ → ℕ → ℕ) where
@@ -61,7 +62,8 @@ module _ (env : Env) (mix : ℕ → ℕ → ℕ → ℕ) where
     pub knows : Knows (mem (applied words op)) (ghost_after c move G)
 
   -- an operation that leaves its word, and what follows from the words as they are
-  pub reads : (c : ℕ) (words : List ℕ) (G : Ghost) (op : Op) (Knows : Memory → Ghost → Type 0) → Whole env mix (mem words) G
+  pub reads : (c : ℕ) (words : List ℕ) (G : Ghost) (op : Op) (Knows : Memory → Ghost → Type 0)
+      → Whole env mix (mem words) G
       → word_after (old_of words op) op ≡ old_of words op → Knows (mem words) G → Step c words G op Knows
   reads c words G op Knows whole same knows = record {
     move = Reads;
@@ -72,7 +74,8 @@ module _ (env : Env) (mix : ℕ → ℕ → ℕ → ℕ) where
 
   -- the same step with more said of what the caller knows
   pub step-map : (c : ℕ) (words : List ℕ) (G : Ghost) (op : Op) (Knows More : Memory → Ghost → Type 0)
-      → ((M : Memory) (G' : Ghost) → Whole env mix M G' → Knows M G' → More M G') → Step c words G op Knows → Step c words G op More
+      → ((M : Memory) (G' : Ghost) → Whole env mix M G' → Knows M G' → More M G')
+      → Step c words G op Knows → Step c words G op More
   step-map c words G op Knows More more step = record {
     move = step.move;
     ready = step.ready;
@@ -103,7 +106,8 @@ module _ (env : Env) (mix : ℕ → ℕ → ℕ → ℕ) where
   -- the words of nodes stay, and who has them
   module _ (c : ℕ) (M M' : Memory) (G G' : Ghost) where
     -- what holds of each fact holds of all
-    each-kept : (Is : Fact → Type 0) → ((fact : Fact) → Is fact → Means env mix c M G fact → Means env mix c M' G' fact)
+    each-kept : (Is : Fact → Type 0)
+        → ((fact : Fact) → Is fact → Means env mix c M G fact → Means env mix c M' G' fact)
         → (facts : List Fact) → AllByRecursion Is facts
         → AllMean env mix c M G facts → AllMean env mix c M' G' facts
     each-kept Is one [] is means = tt

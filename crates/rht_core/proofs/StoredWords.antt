@@ -89,7 +89,8 @@ walk_plan-fits g (walk_at.ChainLink node) = tt
 abbrev pub FindFits : FindAt → Type 0
 FindFits state = NoneOrFits (word_of_find state)
 
-find_word_after-fits : (state : FindAt) (old : ℕ) → FindFits state → Fits old → NoneOrFits (find_word_after state old)
+find_word_after-fits : (state : FindAt) (old : ℕ) → FindFits state → Fits old
+    → NoneOrFits (find_word_after state old)
 find_word_after-fits (find_at.Locking table lock) old fits told = lock_after_at-fits lock lock.at old fits fits told
 find_word_after-fits (find_at.Unlocking unlock next) old fits told = tt
 find_word_after-fits _ old fits told = fits
@@ -115,7 +116,8 @@ find_plan-fits env _ fits piece = tt
 abbrev pub BindFits : BindAt → Type 0
 BindFits state = NoneOrFits (word_of_bind state)
 
-bind_word_after-fits : (state : BindAt) (old : ℕ) → BindFits state → Fits old → NoneOrFits (bind_word_after state old)
+bind_word_after-fits : (state : BindAt) (old : ℕ) → BindFits state → Fits old
+    → NoneOrFits (bind_word_after state old)
 bind_word_after-fits (bind_at.Locking node table shape lock) old fits told = lock_after_at-fits lock lock.at old fits fits told
 bind_word_after-fits (bind_at.Unlocking node unlock next) old fits told = tt
 bind_word_after-fits _ old fits told = fits

@@ -112,7 +112,8 @@ module _ (M : Type 0) (mix : ℕ → ℕ → ℕ → ℕ) (env : Env) where
           subst (P more c before) (sym trace_is) (subst (λ s. P more c s trace) (sym seen_is) p)
 
       -- where they are as before
-      stay : (event : Event) (k : ℕ) (here : Seen M) (trace : Trace) → here ≡ seen r.world k → trace ≡ r.traces k
+      stay : (event : Event) (k : ℕ) (here : Seen M) (trace : Trace) → here ≡ seen r.world k
+          → trace ≡ r.traces k
           → P (events ++ event ∷ []) k here trace
       stay event k here trace seen_is trace_is =
           put (events ++ event ∷ []) k (seen r.world k) here trace (r.traces k) seen_is trace_is

@@ -60,7 +60,8 @@ module _ (M : Type 0) (mix : ℕ → ℕ → ℕ → ℕ) (env : Env) (Finds : �
     -- what has to be shown of the machines
     pub record CallsKeep : Type 0 where
       pub find_begins : (port : ℕ) → Finds port CurrentTable []
-      pub bind_begins : (port owner : ℕ) (once : Bool) → Binds port owner once (Taking (take_node_new env.geometry)) []
+      pub bind_begins : (port owner : ℕ) (once : Bool)
+          → Binds port owner once (Taking (take_node_new env.geometry)) []
       pub find_goes : (port : ℕ) (state : FindAt) (steps : List Did) (did : Did) → FindDoes env state did
           → Finds port state steps
           → let all = steps ++ did ∷ [] in

@@ -150,7 +150,8 @@ module _ (M : Type 0) (mix : ℕ → ℕ → ℕ → ℕ) (env : Env) where
       }
 
   -- a call that goes on with this step
-  goes_on : (events : List Event) (c : ℕ) (trace : Trace) (did : Did) (call : Call) → did.index ≡ length events
+  goes_on : (events : List Event) (c : ℕ) (trace : Trace) (did : Did) (call : Call)
+      → did.index ≡ length events
       → IsUnderWay events c trace call
       → IsUnderWay (events ++ Step c ∷ []) c (record { begin = trace.begin; steps = trace.steps ++ did ∷ []; past = trace.past }) call
   goes_on events c trace did call is way =
@@ -170,7 +171,8 @@ module _ (M : Type 0) (mix : ℕ → ℕ → ℕ → ℕ) (env : Env) where
   did-holds : (events : List Event) (c : ℕ) (call : Option Call) (trace : Trace) (did : Did) (reply : Option Reply) (book : Book)
       → book.call ≡ call
       → did.index ≡ length events → IsRecorded M mix env (events ++ Step c ∷ []) c did
-      → reply_of M mix env c (run_of mix env (take did.index (events ++ Step c ∷ []))) ≡ reply → Holds events c call trace
+      → reply_of M mix env c (run_of mix env (take did.index (events ++ Step c ∷ []))) ≡ reply
+      → Holds events c call trace
       → Holds (events ++ Step c ∷ []) c (book_after reply book).call (trace_did call did reply trace)
   did-holds events c call trace did None book same is recorded gives holds =
       let kept = holds-more events (Step c) c call trace holds in

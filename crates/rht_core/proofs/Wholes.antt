@@ -90,7 +90,8 @@ module _ (env : Env) (mix : ℕ → ℕ → ℕ → ℕ) where
   -- a node's bit is set exactly where nobody has the node
   pub record ArenaRight (M : Memory) (G : Ghost) : Type 0 where
     pub built : (n : ℕ) → IsBuilt (G.node n)
-    pub bits : (n : ℕ) → n < env.geometry.nodes → (bit_at (M (NodeMap (n / 64))) (n % 64) ≡ 1) ↔ (G.node n ≡ Free)
+    pub bits : (n : ℕ) → n < env.geometry.nodes
+        → (bit_at (M (NodeMap (n / 64))) (n % 64) ≡ 1) ↔ (G.node n ≡ Free)
 
   -- the count of ports is the nodes in chains, and the callers that have raised it for a node that they haven't linked yet
   abbrev pub firsts : Ghost → ℕ

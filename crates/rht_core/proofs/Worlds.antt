@@ -44,7 +44,8 @@ pub take-push : (events : List Event) (event : Event) (n : ℕ) → n ≤ length
 take-push events event n l = take-append-le n events (event ∷ []) l
 
 -- and before the one more there were all others
-pub take-push_all : (events : List Event) (event : Event) → take (length events) (events ++ event ∷ []) ≡ events
+pub take-push_all : (events : List Event) (event : Event)
+    → take (length events) (events ++ event ∷ []) ≡ events
 take-push_all events event = take-append_seam events (event ∷ [])
 
 -- ---- functions changed at one place

@@ -10,7 +10,8 @@ front_of : (n : ℕ) (left others : List ℕ) → n ≤ length left → take n (
 front_of n left others within = grind (arith, common_steps)
 
 module _ (n : ℕ) (left after room new : List ℕ) where
-  pub gives-front : n ≤ length left → new ≡ filled left room n → after ≡ drop n left → left ≡ take n new ++ after
+  pub gives-front : n ≤ length left → new ≡ filled left room n → after ≡ drop n left
+      → left ≡ take n new ++ after
   gives-front within put rest =
       rw (put, rest, front_of n left (drop n room) within) (sym (take-append-drop n left))
 

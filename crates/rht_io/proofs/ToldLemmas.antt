@@ -28,7 +28,8 @@ pub AppendsPrefix-after : (a b c : Option (List ℕ)) (xs ys : List ℕ)
 AppendsPrefix-after a b c xs ys put more =
     (length xs + more.0, subst (Appends a c) (sym (take-append-add xs ys more.0)) (Appends-trans a b c xs (take more.0 ys) put more.1))
 
-pub AppendsPrefix-longer : (a b : Option (List ℕ)) (xs ys : List ℕ) → AppendsPrefix a b xs → AppendsPrefix a b (xs ++ ys)
+pub AppendsPrefix-longer : (a b : Option (List ℕ)) (xs ys : List ℕ) → AppendsPrefix a b xs
+    → AppendsPrefix a b (xs ++ ys)
 AppendsPrefix-longer a b xs ys put =
     let longer = take_of_longer put.0 xs ys in (longer.0, subst (Appends a b) (sym longer.1) put.1)
 
@@ -37,7 +38,8 @@ AppendsPrefix-longer a b xs ys put =
 module _ {S E : Type 0} (held : S → Option (List ℕ)) (faults : S → ℕ) where
   -- a text was put, and then another or a prefix of it
   pub Puts-after : (a b c : S) (r : Result (Unit {0}) E) (xs ys : List ℕ)
-      → Puts {E = E} held faults a b (Ok tt) xs → Puts held faults b c r ys → Puts held faults a c r (xs ++ ys)
+      → Puts {E = E} held faults a b (Ok tt) xs → Puts held faults b c r ys
+      → Puts held faults a c r (xs ++ ys)
   Puts-after a b c (Ok done) xs ys put more = record {
     whole = Appends-trans (held a) (held b) (held c) xs ys put.whole more.whole;
     prefix = tt;
@@ -53,7 +55,8 @@ module _ {S E : Type 0} (held : S → Option (List ℕ)) (faults : S → ℕ) wh
 
   -- a call that failed put nothing of any text
   pub Puts-of_failed : (a b : S) (e : E) (xs : List ℕ)
-      → Keeps (held a) (held b) → Rose (faults a) (faults b) → faults a ≤ faults b → Puts held faults a b (Err e) xs
+      → Keeps (held a) (held b) → Rose (faults a) (faults b) → faults a ≤ faults b
+      → Puts held faults a b (Err e) xs
   Puts-of_failed a b e xs same rose kept = record {
     whole = tt;
     prefix = (0, Appends-kept (held a) (held a) (held b) [] (Appends-nil (held a)) same);
@@ -62,7 +65,8 @@ module _ {S E : Type 0} (held : S → Option (List ℕ)) (faults : S → ℕ) wh
   }
 
   -- a call that put a text
-  pub Puts-of_put : (a b : S) (xs : List ℕ) → Appends (held a) (held b) xs → faults a ≤ faults b → Puts {E = E} held faults a b (Ok tt) xs
+  pub Puts-of_put : (a b : S) (xs : List ℕ) → Appends (held a) (held b) xs → faults a ≤ faults b
+      → Puts {E = E} held faults a b (Ok tt) xs
   Puts-of_put a b xs put kept = record { whole = put; prefix = tt; failed = tt; kept = kept }
 
 -- a failure that is passed on, as by a `?`, says the same under another error

@@ -12,7 +12,8 @@ use Rattle.rht_model.specs.Answers.{port_of, bindings_after, owners_bound, owner
 use Rattle.rht_model.specs.Histories.{left_by, bindings_left}
 
 -- the port has the owners that it was given
-pub with_owners-same : (bindings : Multimap) (port : ℕ) (owners : List ℕ) → with_owners bindings port owners port ≡ owners
+pub with_owners-same : (bindings : Multimap) (port : ℕ) (owners : List ℕ)
+    → with_owners bindings port owners port ≡ owners
 with_owners-same bindings port owners = rw (eq-eqb port port refl) refl
 
 -- every other port has the owners that it had
@@ -21,7 +22,8 @@ pub with_owners-other : (bindings : Multimap) (port other : ℕ) (owners : List 
 with_owners-other bindings port other owners differs = rw (ne_eqb other port differs) refl
 
 -- a call changes the owners of no other port than its own
-pub bindings_after-other : (kind : Kind) (bindings : Multimap) (call : Call) (other : ℕ) → port_of call ≢ Some other
+pub bindings_after-other : (kind : Kind) (bindings : Multimap) (call : Call) (other : ℕ)
+    → port_of call ≢ Some other
     → bindings_after kind bindings call other ≡ bindings other
 bindings_after-other kind bindings (Bind port owner once) other differs =
     with_owners-other bindings port other _ (λ same. differs (ap (λ p. Some p) (sym same)))
@@ -41,7 +43,8 @@ pub IsSingle-unbound : IsSingle unbound
 IsSingle-unbound port = omega arith
 
 -- with at most one owner of one port, no port has two
-pub IsSingle-with_owners : (bindings : Multimap) (port : ℕ) (owners : List ℕ) → length owners ≤ 1 → IsSingle bindings
+pub IsSingle-with_owners : (bindings : Multimap) (port : ℕ) (owners : List ℕ) → length owners ≤ 1
+    → IsSingle bindings
     → IsSingle (with_owners bindings port owners)
 IsSingle-with_owners bindings port owners one single other =
     cond_both (other == port) owners (bindings other) (λ list. length list ≤ 1) (λ here. one) (λ elsewhere. single other)
@@ -53,7 +56,8 @@ length-owners_bound owner [] one = omega arith
 length-owners_bound owner (first ∷ others) one = one
 
 -- By induction over the owners: a release adds none.
-pub length-owners_released : (owner : ℕ) (owners : List ℕ) → length (owners_released owner owners) ≤ length owners
+pub length-owners_released : (owner : ℕ) (owners : List ℕ)
+    → length (owners_released owner owners) ≤ length owners
 length-owners_released owner [] = omega arith
 length-owners_released owner (first ∷ others) =
     cond_both (first == owner) others (first ∷ owners_released owner others) (λ list. length list ≤ length (first ∷ others))
@@ -61,7 +65,8 @@ length-owners_released owner (first ∷ others) =
     (λ elsewhere. omega (arith, length-owners_released owner others))
 
 -- a rebind has as many owners as before
-pub length-owners_rebound : (owner new : ℕ) (owners : List ℕ) → length (owners_rebound owner new owners) ≡ length owners
+pub length-owners_rebound : (owner new : ℕ) (owners : List ℕ)
+    → length (owners_rebound owner new owners) ≡ length owners
 length-owners_rebound owner new [] = refl
 length-owners_rebound owner new (only ∷ []) =
     cond_both (only == owner) (new ∷ []) (only ∷ []) (λ list. length list ≡ 1) (λ here. refl) (λ elsewhere. refl)

@@ -61,7 +61,8 @@ first_start-begun head (next ∷ heads) port start end = refl
 
 -- By induction over the heads: what was in order up to the end stays so with one owner more, and a
 -- new pair begins at the old end.
-pub IsInOrder-begun : (heads : List Head) (port end : ℕ) → IsInOrder heads end → IsInOrder (begun heads port end) (end + 1)
+pub IsInOrder-begun : (heads : List Head) (port end : ℕ) → IsInOrder heads end
+    → IsInOrder (begun heads port end) (end + 1)
 IsInOrder-begun [] port end in_order = (omega arith, tt)
 IsInOrder-begun (head ∷ []) port end in_order =
     elim (head.port == port) as (λ b.

@@ -72,7 +72,8 @@ module _ (kind : Kind) (bindings : Multimap) (first second more : List Entry) wh
       (IsLegalFrom-Agree kind (bindings_left kind bindings first) (bindings_left kind bindings second) more agree behind)
 
   -- and leaves the same bindings
-  pub bindings_left-alike : AgreeBefore → Agree (bindings_left kind bindings (first ++ more)) (bindings_left kind bindings (second ++ more))
+  pub bindings_left-alike : AgreeBefore
+      → Agree (bindings_left kind bindings (first ++ more)) (bindings_left kind bindings (second ++ more))
   bindings_left-alike agree =
       rw (bindings_left-append kind bindings first more, bindings_left-append kind bindings second more)
       (bindings_left-Agree kind (bindings_left kind bindings first) (bindings_left kind bindings second) more agree)

@@ -18,7 +18,8 @@ abbrev AllBound : List (ℕ × List ℕ) → Type 0
 AllBound pairs = All (λ pair. pair.1 ≢ []) pairs
 
 -- By induction over the pairs: a port below all of them isn't listed.
-listed_at-below : (low : ℕ) (pairs : List (ℕ × List ℕ)) (port : ℕ) → RisesFrom low (ports_of pairs) → port < low
+listed_at-below : (low : ℕ) (pairs : List (ℕ × List ℕ)) (port : ℕ) → RisesFrom low (ports_of pairs)
+    → port < low
     → listed_at pairs port ≡ []
 listed_at-below low [] port rises below = refl
 listed_at-below low (pair ∷ pairs) port rises below =
@@ -38,7 +39,8 @@ first_is_listed pair pairs bound unlisted =
 -- listings that agree agree without their first pairs, where these have the same port
 Agree-tails : (first second : ℕ × List ℕ) (firsts seconds : List (ℕ × List ℕ)) → first.0 ≡ second.0
     → RisesFrom (suc first.0) (ports_of firsts) → RisesFrom (suc second.0) (ports_of seconds)
-    → Agree (listed_at (first ∷ firsts)) (listed_at (second ∷ seconds)) → Agree (listed_at firsts) (listed_at seconds)
+    → Agree (listed_at (first ∷ firsts)) (listed_at (second ∷ seconds))
+    → Agree (listed_at firsts) (listed_at seconds)
 Agree-tails first second firsts seconds same rises others agree port =
     elim (cases_eq port first.0) [
       | inl here ↦
@@ -123,7 +125,8 @@ module _ (bindings : Multimap) where
   ports_of-with_bindings (port ∷ ports) = ap (λ others. port ∷ others) (ports_of-with_bindings ports)
 
   -- By induction over the ports: a port without owners is listed without any.
-  listed_at-unbound : (ports : List ℕ) (port : ℕ) → bindings port ≡ [] → listed_at (with_bindings ports) port ≡ []
+  listed_at-unbound : (ports : List ℕ) (port : ℕ) → bindings port ≡ []
+      → listed_at (with_bindings ports) port ≡ []
   listed_at-unbound [] port unbound = refl
   listed_at-unbound (first ∷ ports) port unbound =
       cond_both (port == first) (bindings first) (listed_at (with_bindings ports) port) (λ owners. owners ≡ [])
@@ -205,7 +208,8 @@ module _ (bindings : Multimap) where
 
   -- the listing says of a port among the given ones, and of an unbound one, what the bindings say
   listed_at-listing_of : (ports : List ℕ) (port : ℕ) (owners : List ℕ) → bindings port ≡ owners
-      → (bindings port ≢ [] → Contains ports port) → listed_at (listing_of ports bindings) port ≡ bindings port
+      → (bindings port ≢ [] → Contains ports port)
+      → listed_at (listing_of ports bindings) port ≡ bindings port
   listed_at-listing_of ports port [] is among =
       listed_at-filter (rising ports) port ∙ listed_at-rising ports port ∙ listed_at-unbound ports port is ∙ sym is
   listed_at-listing_of ports port (owner ∷ owners) is among =
@@ -215,7 +219,8 @@ module _ (bindings : Multimap) where
       ∙ listed_at-contained ports port place.0 place.1 place.2
 
 -- Where the bound ports are among the given ones, their listing is one of the bindings.
-pub Lists-listing_of : (ports : List ℕ) (bindings : Multimap) → ((port : ℕ) → bindings port ≢ [] → Contains ports port)
+pub Lists-listing_of : (ports : List ℕ) (bindings : Multimap)
+    → ((port : ℕ) → bindings port ≢ [] → Contains ports port)
     → Lists (listing_of ports bindings) bindings
 Lists-listing_of ports bindings among =
     let kept = filter (is_bound bindings) (rising ports) in

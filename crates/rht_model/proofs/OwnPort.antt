@@ -27,7 +27,8 @@ answer_of-own_port kind first second Tidy same = refl
 answer_of-own_port kind first second Count same = refl
 
 -- owners that are made of those of the port are the same where the port has the same
-with_owners-own_port : (first second : Multimap) (port other : ℕ) (change : List ℕ → List ℕ) → first other ≡ second other
+with_owners-own_port : (first second : Multimap) (port other : ℕ) (change : List ℕ → List ℕ)
+    → first other ≡ second other
     → with_owners first port (change (first port)) other ≡ with_owners second port (change (second port)) other
 with_owners-own_port first second port other change agree =
     elim (cases_eq other port) [
@@ -38,7 +39,8 @@ with_owners-own_port first second port other change agree =
     ]
 
 -- a call leaves a port the same owners on bindings with the same owners of that port
-pub bindings_after-own_port : (kind : Kind) (first second : Multimap) (call : Call) (port : ℕ) → first port ≡ second port
+pub bindings_after-own_port : (kind : Kind) (first second : Multimap) (call : Call) (port : ℕ)
+    → first port ≡ second port
     → bindings_after kind first call port ≡ bindings_after kind second call port
 bindings_after-own_port kind first second (Bind bound owner once) port same =
     with_owners-own_port first second bound port (owners_bound kind owner) same
@@ -54,7 +56,8 @@ bindings_after-own_port kind first second Tidy port same = same
 bindings_after-own_port kind first second Count port same = same
 
 -- and so does an entry
-pub left_by-own_port : (kind : Kind) (first second : Multimap) (entry : Entry) (port : ℕ) → first port ≡ second port
+pub left_by-own_port : (kind : Kind) (first second : Multimap) (entry : Entry) (port : ℕ)
+    → first port ≡ second port
     → left_by kind first entry port ≡ left_by kind second entry port
 left_by-own_port kind first second entry port same =
     elim (is_refusal entry.reply) as (λ refused.
@@ -65,7 +68,8 @@ left_by-own_port kind first second entry port same =
     ]
 
 -- an entry changes the owners of no other port than its call's
-pub left_by-other : (kind : Kind) (bindings : Multimap) (entry : Entry) (port : ℕ) → port_of entry.call ≢ Some port
+pub left_by-other : (kind : Kind) (bindings : Multimap) (entry : Entry) (port : ℕ)
+    → port_of entry.call ≢ Some port
     → left_by kind bindings entry port ≡ bindings port
 left_by-other kind bindings entry port differs =
     elim (is_refusal entry.reply) as (λ refused.

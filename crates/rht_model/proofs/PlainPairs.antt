@@ -53,7 +53,8 @@ module _ (port owner : ℕ) where
       (released_here pairs place d (omega arith) here (λ k below. before (suc k) (omega arith)))
 
   -- By induction over the pairs, down to the one that is taken out: another port has lost no pair.
-  released_elsewhere : (pairs : List (ℕ × ℕ)) (place : ℕ) (d : ℕ × ℕ) (other : ℕ) → other ≢ port → place < length pairs
+  released_elsewhere : (pairs : List (ℕ × ℕ)) (place : ℕ) (d : ℕ × ℕ) (other : ℕ) → other ≢ port
+      → place < length pairs
       → is_pair port owner (get_or pairs place d) ≡ true
       → bindings_in (remove pairs place) other ≡ bindings_in pairs other
   released_elsewhere [] place d other differs within here = absurd (omega arith)
@@ -89,7 +90,8 @@ module _ (port owner : ℕ) where
   ])
 
   -- Without its first pair of the port and the owner, a list stands for the bindings after the release.
-  pub bindings_in-remove : (pairs : List (ℕ × ℕ)) (place : ℕ) → position (is_pair port owner) pairs ≡ Some place
+  pub bindings_in-remove : (pairs : List (ℕ × ℕ)) (place : ℕ)
+      → position (is_pair port owner) pairs ≡ Some place
       → bindings_in (remove pairs place)
       ≡ with_owners (bindings_in pairs) port (owners_released owner (bindings_in pairs port))
   bindings_in-remove pairs place first =
@@ -108,7 +110,8 @@ module _ (port owner : ℕ) where
       (λ other differs. refl)
 
 -- A rebind of the only owner is a release of it and a bind of the new one.
-pub with_owners-rebound : (bindings released rebound : Multimap) (port owner new : ℕ) → bindings port ≡ owner ∷ []
+pub with_owners-rebound : (bindings released rebound : Multimap) (port owner new : ℕ)
+    → bindings port ≡ owner ∷ []
     → released ≡ with_owners bindings port (owners_released owner (bindings port))
     → rebound ≡ with_owners released port (new ∷ released port)
     → rebound ≡ with_owners bindings port (owners_rebound owner new (bindings port))

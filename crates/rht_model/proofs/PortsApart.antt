@@ -53,7 +53,8 @@ module _ (kind : Kind) (bindings : Multimap) (first second : Entry) (apart : por
 -- two entries of different ports are legal in the other order too
 pub IsLegalFrom-swapped : (kind : Kind) (bindings : Multimap) (first second : Entry) (behind : List Entry)
     → port_of first.call ≢ port_of second.call
-    → IsLegalFrom kind bindings (first ∷ second ∷ behind) → IsLegalFrom kind bindings (second ∷ first ∷ behind)
+    → IsLegalFrom kind bindings (first ∷ second ∷ behind)
+    → IsLegalFrom kind bindings (second ∷ first ∷ behind)
 IsLegalFrom-swapped kind bindings first second behind apart legal =
     let apart' = λ (same : port_of second.call ≡ port_of first.call). apart (sym same) in (
       IsLegalAt-before kind bindings first second apart legal.1.0,

@@ -41,7 +41,8 @@ abbrev answers_refusal : Option Answer → Bool
 answers_refusal answer = option_map_or (λ a. is_refusal a.reply) answer false
 
 -- no answer is a refusal
-pub answers_refusal-answer_of : (kind : Kind) (bindings : Multimap) (call : Call) → answers_refusal (answer_of kind bindings call) ≡ false
+pub answers_refusal-answer_of : (kind : Kind) (bindings : Multimap) (call : Call)
+    → answers_refusal (answer_of kind bindings call) ≡ false
 answers_refusal-answer_of kind bindings (Bind port owner once) = is_refusal-bind_reply kind (bindings port)
 answers_refusal-answer_of kind bindings (Find port) = is_refusal-find_reply (bindings port)
 answers_refusal-answer_of kind bindings (All port) = refl
@@ -92,7 +93,8 @@ pub left_by-IsRefused : (kind : Kind) (bindings : Multimap) (entry : Entry) → 
 left_by-IsRefused kind bindings entry refused = rw (is_refusal-MayRefuse entry.call entry.reply refused.0) refl
 
 -- An answered entry is no refused one.
-pub IsAnswered-not_refused : (kind : Kind) (bindings : Multimap) (entry : Entry) → IsAnswered kind bindings entry
+pub IsAnswered-not_refused : (kind : Kind) (bindings : Multimap) (entry : Entry)
+    → IsAnswered kind bindings entry
     → IsRefused entry → ⊥
 IsAnswered-not_refused kind bindings entry answered refused =
     let no_refusal = sym (ap answers_refusal answered) ∙ answers_refusal-answer_of kind bindings entry.call in

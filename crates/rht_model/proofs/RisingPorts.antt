@@ -11,7 +11,8 @@ RisesFrom low [] = Unit {0}
 RisesFrom low (port ∷ ports) = (low ≤ port) × RisesFrom (suc port) ports
 
 -- without its first port, a rising list rises
-IsStrictlyIncreasing-tail : (port : ℕ) (ports : List ℕ) → IsStrictlyIncreasing (port ∷ ports) → IsStrictlyIncreasing ports
+IsStrictlyIncreasing-tail : (port : ℕ) (ports : List ℕ) → IsStrictlyIncreasing (port ∷ ports)
+    → IsStrictlyIncreasing ports
 IsStrictlyIncreasing-tail port ports rises k within =
     let place : suc k + 1 ≡ suc (k + 1) = omega arith in
     rw place at (rises (suc k) (omega arith))
@@ -26,7 +27,8 @@ RisesFrom-from_increasing low (port ∷ ports) first rises = (
 )
 
 -- By induction over the ports: at the first place the bound says it, and behind it the tail.
-pub IsStrictlyIncreasing-from_rises : (low : ℕ) (ports : List ℕ) → RisesFrom low ports → IsStrictlyIncreasing ports
+pub IsStrictlyIncreasing-from_rises : (low : ℕ) (ports : List ℕ) → RisesFrom low ports
+    → IsStrictlyIncreasing ports
 IsStrictlyIncreasing-from_rises low [] rises k within = absurd (omega arith)
 IsStrictlyIncreasing-from_rises low (port ∷ []) rises k within = absurd (omega arith)
 IsStrictlyIncreasing-from_rises low (port ∷ next ∷ ports) rises zero within = rises.1.0

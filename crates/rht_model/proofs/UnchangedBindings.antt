@@ -28,7 +28,8 @@ with_owners-unchanged bindings port owners same other =
       | inr elsewhere ↦ rw (ne_eqb other port elsewhere) refl
     ]
 
-owners_bound-unchanged : (kind : Kind) (owner : ℕ) (owners : List ℕ) → is_change (bind_reply kind owners) ≡ false
+owners_bound-unchanged : (kind : Kind) (owner : ℕ) (owners : List ℕ)
+    → is_change (bind_reply kind owners) ≡ false
     → owners_bound kind owner owners ≡ owners
 owners_bound-unchanged kinds.Single owner [] unchanged = cc
 owners_bound-unchanged kinds.Single owner (first ∷ others) unchanged = refl

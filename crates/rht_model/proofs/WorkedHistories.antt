@@ -73,7 +73,8 @@ pub IsLegal-refused_then_bound : IsLegal Single refused_then_bound
 IsLegal-refused_then_bound = (inr (tt, refl), (inl refl, (inl refl, tt)))
 
 -- a bound port can't be missed
-pub IsLegal-missed : IsLegal Single (entry (Bind 80 100 false) (Bound false) ∷ entry (Find 80) Missing ∷ []) → ⊥
+pub IsLegal-missed : IsLegal Single (entry (Bind 80 100 false) (Bound false) ∷ entry (Find 80) Missing ∷ [])
+    → ⊥
 IsLegal-missed legal =
     elim legal.1.0 [
       | inl answered ↦

@@ -47,7 +47,8 @@ RefusesWithoutChange =
 abbrev pub ChangesByThreeReplies : Type 0
 ChangesByThreeReplies =
     (kind : Kind) (bindings : Multimap) (entry : Entry)
-    → IsLegalAt kind bindings entry → is_change entry.reply ≡ false → Agree (left_by kind bindings entry) bindings
+    → IsLegalAt kind bindings entry → is_change entry.reply ≡ false
+    → Agree (left_by kind bindings entry) bindings
 
 -- a history with one entry more is legal where the others are and the entry is, on what they leave
 abbrev pub ExtendsByOne : Type 0

@@ -10,7 +10,8 @@ unfolding rounded_up powers
 rounded_up-zero = refl
 
 -- rounding gives 1 where there are no ports, and the least size hides that
-pub rounded-shrunk_size : (count least : ℕ) → IsLeastSize least → max (rounded_up (count * 3 / 2)) least ≡ shrunk_size count least
+pub rounded-shrunk_size : (count least : ℕ) → IsLeastSize least
+    → max (rounded_up (count * 3 / 2)) least ≡ shrunk_size count least
 rounded-shrunk_size count least is_least = elim (cases_eq count 0) [
   | inl none ↦
       let nothing : count * 3 / 2 ≡ 0 = omega arith in
@@ -19,7 +20,8 @@ rounded-shrunk_size count least is_least = elim (cases_eq count 0) [
   | inr some ↦ rw (ne_eqb count 0 some) refl
 ]
 
-pub IsSizeUpTo-shrunk_size : (count least : ℕ) → count ≤ 65536 → IsLeastSize least → IsSizeUpTo 131072 (shrunk_size count least)
+pub IsSizeUpTo-shrunk_size : (count least : ℕ) → count ≤ 65536 → IsLeastSize least
+    → IsSizeUpTo 131072 (shrunk_size count least)
 IsSizeUpTo-shrunk_size count least few is_least =
     let rounded = IsPowerUpTo-rounded_up (count * 3 / 2) (omega arith) in
     subst (IsSizeUpTo 131072) (rounded-shrunk_size count least is_least)

@@ -9,7 +9,8 @@ use Rattle.rht_script.specs.Writing.{Adds}
 
 -- two fronts, and what waits behind the second
 pub fronts : (front behind waited between waits xs ys : List ℕ)
-    → front ++ between ≡ waited ++ xs → behind ++ waits ≡ between ++ ys → (front ++ behind) ++ waits ≡ waited ++ (xs ++ ys)
+    → front ++ between ≡ waited ++ xs → behind ++ waits ≡ between ++ ys
+    → (front ++ behind) ++ waits ≡ waited ++ (xs ++ ys)
 fronts front behind waited between waits xs ys first second =
     append_assoc front behind waits ∙ ap (λ l. front ++ l) second ∙ sym (append_assoc front between ys)
     ∙ ap (λ l. l ++ ys) first ∙ append_assoc waited xs ys
@@ -108,7 +109,8 @@ module _ {S E : Type 0} {held : S → Option (List ℕ)} {faults : S → ℕ} {a
 
   -- a text was added where nothing waited, and nothing waits behind it
   pub Puts-of_adds : {r : Result (Unit {0}) E} {waited waits text : List ℕ}
-      → Adds held faults a b r waited waits text → waited ≡ [] → OnOk r (waits ≡ []) → Puts held faults a b r text
+      → Adds held faults a b r waited waits text → waited ≡ [] → OnOk r (waits ≡ [])
+      → Puts held faults a b r text
   Puts-of_adds {r = r} {waited = waited} {waits = waits} {text = text} text_added none_before none_behind =
       all_put held faults a b r waits text (subst (λ w. Adds held faults a b r w waits text) none_before text_added) none_behind
 

@@ -13,12 +13,14 @@ use Rattle.rht_script.specs.TableLines.{rounded_min, configured}
 use Rattle.rht_script.specs.Allowed.{AreAllowed}
 
 -- what is set, or else the default
-either_way : (P : ℕ → Type 0) (set : Option ℕ) (default : ℕ) → IfSome set P → P default → P (unwrap_or set default)
+either_way : (P : ℕ → Type 0) (set : Option ℕ) (default : ℕ) → IfSome set P → P default
+    → P (unwrap_or set default)
 either_way P None default holds at_default = at_default
 either_way P (Some number) default holds at_default = holds
 
 -- what is within limits, or none, isn't above the greatest
-at_most : (greatest : ℕ) (set : Option ℕ) → IfSome set (IsWithin 1 greatest) → IfSome set (λ number. number ≤ greatest)
+at_most : (greatest : ℕ) (set : Option ℕ) → IfSome set (IsWithin 1 greatest)
+    → IfSome set (λ number. number ≤ greatest)
 at_most greatest None within = tt
 at_most greatest (Some number) within = within.1
 

@@ -16,8 +16,10 @@ module _ (number : ℕ) (line : List ℕ) where
   pub words_in-many : most_lines < number → words_in number line ≡ Err TooManyLines
   words_in-many many = rw (lt-ltb most_lines number many) refl
 
-  pub words_in-long : number ≤ most_lines → most_in_line < length line → words_in number line ≡ Err LineTooLong
+  pub words_in-long : number ≤ most_lines → most_in_line < length line
+      → words_in number line ≡ Err LineTooLong
   words_in-long few long = rw (le-ltb most_lines number few) (rw (lt-ltb most_in_line (length line) long) refl)
 
-  pub words_in-right : number ≤ most_lines → length line ≤ most_in_line → words_in number line ≡ Ok (words_of line)
+  pub words_in-right : number ≤ most_lines → length line ≤ most_in_line
+      → words_in number line ≡ Ok (words_of line)
   words_in-right few short = rw (le-ltb most_lines number few) (rw (le-ltb most_in_line (length line) short) refl)

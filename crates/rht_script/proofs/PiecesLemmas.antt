@@ -31,7 +31,8 @@ module _ (test : ℕ → Bool) where
       ]) absent
 
   -- the text has no byte that passes
-  pub slice_split-position_none : (text : List ℕ) → position test text ≡ None → slice_split test text ≡ text ∷ []
+  pub slice_split-position_none : (text : List ℕ) → position test text ≡ None
+      → slice_split test text ≡ text ∷ []
   slice_split-position_none text absent =
       let place = position_or_len test text in
       whole text (elim (cases_Bool (nat_lt place (length text))) [
@@ -69,7 +70,8 @@ unfolding lines_of
 lines_of-empty = refl
 
 -- without a line feed the text is its only line
-pub lines_of-position_none : (text : List ℕ) → text ≢ [] → position is_line_feed text ≡ None → lines_of text ≡ text ∷ lines_of []
+pub lines_of-position_none : (text : List ℕ) → text ≢ [] → position is_line_feed text ≡ None
+    → lines_of text ≡ text ∷ lines_of []
 unfolding lines_of
 lines_of-position_none text some absent =
     ap without_empty_end (slice_split-position_none is_line_feed text absent) ∙ only_line text some
@@ -133,7 +135,8 @@ words_of-position line start found =
     rw at.1 at (from_letter line within)
 
 -- a word that a blank ends
-some_text : (text : List ℕ) (end : ℕ) → BeginsWord text → position is_blank text ≡ Some end → is_some_text (take end text) ≡ true
+some_text : (text : List ℕ) (end : ℕ) → BeginsWord text → position is_blank text ≡ Some end
+    → is_some_text (take end text) ≡ true
 some_text [] end begins found = absurd begins
 some_text (byte ∷ text) end begins found =
     let place = position_or_len is_blank text in
@@ -154,7 +157,8 @@ only_word [] begins = absurd begins
 only_word (byte ∷ text) begins = refl
 
 -- a word that ends with the text
-pub words_of-no_blank : (text : List ℕ) → BeginsWord text → position is_blank text ≡ None → words_of text ≡ text ∷ words_of []
+pub words_of-no_blank : (text : List ℕ) → BeginsWord text → position is_blank text ≡ None
+    → words_of text ≡ text ∷ words_of []
 unfolding words_of
 words_of-no_blank text begins absent =
     ap (filter is_some_text) (slice_split-position_none is_blank text absent) ∙ only_word text begins

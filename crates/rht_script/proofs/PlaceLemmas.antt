@@ -36,7 +36,8 @@ without_empty_end-empty (piece ∷ front) =
     onto_pieces piece (front ++ [] ∷ []) (omega (arith, length-append front ([] ∷ []))) ∙ ap (λ l. piece ∷ l) (without_empty_end-empty front)
 
 -- And over those before a last one in which there is something.
-pub without_empty_end-text : (front : List (List ℕ)) (last : List ℕ) → last ≢ [] → without_empty_end (front ++ last ∷ []) ≡ front ++ last ∷ []
+pub without_empty_end-text : (front : List (List ℕ)) (last : List ℕ) → last ≢ []
+    → without_empty_end (front ++ last ∷ []) ≡ front ++ last ∷ []
 without_empty_end-text [] [] some = absurd (some refl)
 without_empty_end-text [] (byte ∷ last) some = refl
 without_empty_end-text (piece ∷ front) last some =

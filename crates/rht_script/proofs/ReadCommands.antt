@@ -21,20 +21,24 @@ use Rattle.rht_script.specs.Sound.{is_sound_call, is_sound_command}
 
 -- ---- what holds of a value holds on the way to it
 
-IfOk-then : {A B E : Type 0} (P : A → Type 0) (Q : B → Type 0) (read : Result A E) (next : A → Result B E) → IfOk read P
+IfOk-then : {A B E : Type 0} (P : A → Type 0) (Q : B → Type 0) (read : Result A E) (next : A → Result B E)
+    → IfOk read P
     → ((value : A) → P value → IfOk (next value) Q) → IfOk (read >>= next) Q
 IfOk-then P Q (Ok value) next holds goes_on = goes_on value holds
 IfOk-then P Q (Err fault) next holds goes_on = tt
 
-IfOk-after : {A B E : Type 0} (Q : B → Type 0) (read : Result A E) (next : A → Result B E) → ((value : A) → IfOk (next value) Q) → IfOk (read >>= next) Q
+IfOk-after : {A B E : Type 0} (Q : B → Type 0) (read : Result A E) (next : A → Result B E)
+    → ((value : A) → IfOk (next value) Q) → IfOk (read >>= next) Q
 IfOk-after Q (Ok value) next goes_on = goes_on value
 IfOk-after Q (Err fault) next goes_on = tt
 
-IfOk-cond : {A E : Type 0} (P : A → Type 0) (b : Bool) (x y : Result A E) → IfOk x P → IfOk y P → IfOk (cond b x y) P
+IfOk-cond : {A E : Type 0} (P : A → Type 0) (b : Bool) (x y : Result A E) → IfOk x P → IfOk y P
+    → IfOk (cond b x y) P
 IfOk-cond P true x y first second = first
 IfOk-cond P false x y first second = second
 
-IfOk-at_line : {A : Type 0} (P : A → Type 0) (number : ℕ) (read : Result A Cause) → IfOk read P → IfOk (at_line number read) P
+IfOk-at_line : {A : Type 0} (P : A → Type 0) (number : ℕ) (read : Result A Cause) → IfOk read P
+    → IfOk (at_line number read) P
 IfOk-at_line P number (Ok value) holds = holds
 IfOk-at_line P number (Err cause) holds = tt
 
@@ -72,7 +76,8 @@ module _ (Q : Call → Type 0) (bind : (port owner : ℕ) → Q (Bind port owner
       (IfOk-cond Q (is_word verb (codes "release")) _ (Err UnknownWord) (release_holds words) tt))
 
 -- a number that is read is within its limits
-pub number_within : (least greatest : ℕ) (word : List ℕ) → IfOk (number_of least greatest word) (λ number. is_within least greatest number ≡ true)
+pub number_within : (least greatest : ℕ) (word : List ℕ)
+    → IfOk (number_of least greatest word) (λ number. is_within least greatest number ≡ true)
 unfolding number_of
 number_within least greatest word =
     by_test (not (is_number word)) (is_within least greatest (value_of word)) refl
@@ -112,7 +117,8 @@ words_few number line = by_test (nat_lt most_lines number) refl
 
 module _ (P : ℕ × Call → Type 0) (config : Config) (each : (words : List (List ℕ)) → IfOk (command_of config.callers words) P) where
   -- By induction over the lines: a line that is skipped has no command, and any other has one more.
-  pub commands_hold : (number : ℕ) (lines : List (List ℕ)) → number ≤ 1000001 → IfOk (commands_from number config lines) (AreCommands P number)
+  pub commands_hold : (number : ℕ) (lines : List (List ℕ)) → number ≤ 1000001
+      → IfOk (commands_from number config lines) (AreCommands P number)
   commands_hold number [] few = record { each = tt; few = omega arith }
   commands_hold number (line ∷ lines) few =
       IfOk-then (λ (words : List (List ℕ)). number ≤ most_lines) (AreCommands P number) (at_line number (words_in number line)) _
@@ -125,7 +131,8 @@ module _ (P : ℕ × Call → Type 0) (config : Config) (each : (words : List (L
       IfOk-then (AreCommands P (number + 1)) (AreCommands P number) (commands_from (number + 1) config lines) _ behind (λ commands are.
       record { each = (holds, are.each); few = (let more = are.few in omega arith) }))))
     where
-      earlier : (read : Result (List (ℕ × Call)) ScriptFault) → IfOk read (AreCommands P (number + 1)) → IfOk read (AreCommands P number)
+      earlier : (read : Result (List (ℕ × Call)) ScriptFault) → IfOk read (AreCommands P (number + 1))
+          → IfOk read (AreCommands P number)
       earlier (Ok commands) are = record { each = are.each; few = (let more = are.few in omega arith) }
       earlier (Err fault) are = tt
 
@@ -137,7 +144,8 @@ module _ (P : Config → ℕ × Call → Type 0) (each : (config : Config) (word
   AreSaid said = AreCommands (P said.config) 1 said.commands
 
   -- By induction over the lines up to the table line.
-  said_hold : (number : ℕ) (lines : List (List ℕ)) → 1 ≤ number → number ≤ 1000001 → IfOk (said_from number lines) AreSaid
+  said_hold : (number : ℕ) (lines : List (List ℕ)) → 1 ≤ number → number ≤ 1000001
+      → IfOk (said_from number lines) AreSaid
   said_hold number [] first few = tt
   said_hold number (line ∷ lines) first few =
       IfOk-then (λ (words : List (List ℕ)). number ≤ most_lines) AreSaid (at_line number (words_in number line)) _
@@ -149,7 +157,8 @@ module _ (P : Config → ℕ × Call → Type 0) (each : (config : Config) (word
       (commands_hold (P config) config (each config) (number + 1) lines (omega (arith, here))) (λ commands are.
       record { each = are.each; few = (let more = are.few in omega arith) }))))
 
-  pub reading_holds : (bytes : List ℕ) (said : Said) → reading_of bytes ≡ Ok said → AreCommands (P said.config) 1 said.commands
+  pub reading_holds : (bytes : List ℕ) (said : Said) → reading_of bytes ≡ Ok said
+      → AreCommands (P said.config) 1 said.commands
   unfolding reading_of
   reading_holds bytes said read =
       IfOk-at_ok AreSaid read
@@ -160,7 +169,8 @@ module _ (P : Config → ℕ × Call → Type 0) (each : (config : Config) (word
 abbrev IsSoundCommand : Config → ℕ × Call → Type 0
 IsSoundCommand config command = is_sound_command config command ≡ true
 
-sound_each : (config : Config) (words : List (List ℕ)) → IfOk (command_of config.callers words) (IsSoundCommand config)
+sound_each : (config : Config) (words : List (List ℕ))
+    → IfOk (command_of config.callers words) (IsSoundCommand config)
 sound_each config =
     command_holds (IsSoundCommand config) (λ call. is_sound_call config call ≡ true) config.callers
     (λ worker call within sound. and_from (is_within 1 config.callers worker) (is_sound_call config call) within sound)

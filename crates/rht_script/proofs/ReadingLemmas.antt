@@ -26,7 +26,8 @@ module _ (bytes : List ℕ) where
   reading_of-lines short = rw (le-ltb most_bytes (length bytes) short) refl
 
 -- of too many bytes the front tells the fault, whatever comes behind it
-pub reading_of-front : (bytes front behind : List ℕ) → bytes ≡ front ++ behind → most_bytes < length front → reading_of bytes ≡ reading_of front
+pub reading_of-front : (bytes front behind : List ℕ) → bytes ≡ front ++ behind
+    → most_bytes < length front → reading_of bytes ≡ reading_of front
 reading_of-front bytes front behind is long =
     let longer : most_bytes < length bytes = omega (arith, ap (λ (l : List ℕ). length l) is, length-append front behind) in
     let first : take most_bytes bytes ≡ take most_bytes front = ap (take most_bytes) is ∙ take-append-le most_bytes front behind (omega arith) in
@@ -39,7 +40,8 @@ module _ (config : Config) (number : ℕ) (lines : List (List ℕ)) where
       → said_with config number lines ≡ Ok (record { config = config; commands = commands })
   said_with-commands commands read = rw read refl
 
-  pub said_with-reason : (reading : Result Said ScriptFault) (error : ReadError) → reading ≡ said_with config number lines
+  pub said_with-reason : (reading : Result Said ScriptFault) (error : ReadError)
+      → reading ≡ said_with config number lines
       → IsReasonFor (commands_from number config lines) error → IsReasonFor reading error
   said_with-reason reading (Fault fault) is stopped = rw (is, stopped) refl
   said_with-reason reading Memory is stopped = tt

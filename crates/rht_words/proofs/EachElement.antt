@@ -12,15 +12,18 @@ use Rattle.std.specs.List.{All, AllByRecursion, AllWithin, Any, Contains, last_o
 -- ---- each element
 
 module _ {X : Type 0} (P : X → Type 0) where
-  pub AllByRecursion-append : (xs ys : List X) → AllByRecursion P xs → AllByRecursion P ys → AllByRecursion P (xs ++ ys)
+  pub AllByRecursion-append : (xs ys : List X) → AllByRecursion P xs → AllByRecursion P ys
+      → AllByRecursion P (xs ++ ys)
   AllByRecursion-append xs ys front behind =
       recursion_from_All P (xs ++ ys) (All-append P xs ys (All-from_recursion P xs front) (All-from_recursion P ys behind))
 
-  pub AllByRecursion-push : (xs : List X) (x : X) → AllByRecursion P xs → P x → AllByRecursion P (xs ++ x ∷ [])
+  pub AllByRecursion-push : (xs : List X) (x : X) → AllByRecursion P xs → P x
+      → AllByRecursion P (xs ++ x ∷ [])
   AllByRecursion-push xs x all here = AllByRecursion-append xs (x ∷ []) all (here, tt)
 
   -- what holds of each element of a list holds of both its parts
-  pub AllByRecursion-cut : (xs ys : List X) → AllByRecursion P (xs ++ ys) → AllByRecursion P xs × AllByRecursion P ys
+  pub AllByRecursion-cut : (xs ys : List X) → AllByRecursion P (xs ++ ys)
+      → AllByRecursion P xs × AllByRecursion P ys
   AllByRecursion-cut [] ys all = (tt, all)
   AllByRecursion-cut (x ∷ xs) ys all = let parts = AllByRecursion-cut xs ys all.1 in ((all.0, parts.0), parts.1)
 
@@ -33,7 +36,8 @@ module _ {X : Type 0} (P : X → Type 0) where
   pub AllByRecursion-last : (xs : List X) (x : X) → AllByRecursion P (xs ++ x ∷ []) → P x
   AllByRecursion-last xs x all = (AllByRecursion-cut xs (x ∷ []) all).1.0
 
-  pub AllByRecursion-set : (xs : List X) (i : ℕ) (x : X) → P x → AllByRecursion P xs → AllByRecursion P (set xs i x)
+  pub AllByRecursion-set : (xs : List X) (i : ℕ) (x : X) → P x → AllByRecursion P xs
+      → AllByRecursion P (set xs i x)
   AllByRecursion-set xs i x here all =
       recursion_from_All P (set xs i x) (All-set P xs i x here (All-from_recursion P xs all))
 
@@ -41,24 +45,28 @@ module _ {X : Type 0} (P : X → Type 0) where
   AllByRecursion-replicate n x here = recursion_from_All P (replicate n x) (All-replicate P n x here)
 
   -- what holds of each element and of the default holds of what is read, also past the end
-  pub AllByRecursion-get_or : (xs : List X) (i : ℕ) (default : X) → P default → AllByRecursion P xs → P (get_or xs i default)
+  pub AllByRecursion-get_or : (xs : List X) (i : ℕ) (default : X) → P default → AllByRecursion P xs
+      → P (get_or xs i default)
   AllByRecursion-get_or [] i default past all = past
   AllByRecursion-get_or (x ∷ xs) zero default past all = all.0
   AllByRecursion-get_or (x ∷ xs) (suc i) default past all = AllByRecursion-get_or xs i default past all.1
 
   -- what holds up to a place holds of the elements taken, and what holds from a place on of those left
-  pub AllByRecursion-take : (xs : List X) (i : ℕ) → i ≤ length xs → AllWithin P xs 0 i → AllByRecursion P (take i xs)
+  pub AllByRecursion-take : (xs : List X) (i : ℕ) → i ≤ length xs → AllWithin P xs 0 i
+      → AllByRecursion P (take i xs)
   AllByRecursion-take xs zero within all = tt
   AllByRecursion-take [] (suc i) within all = tt
   AllByRecursion-take (x ∷ xs) (suc i) within all =
       (all 0 x (omega arith) (omega arith), AllByRecursion-take xs i (omega arith) (λ k d low high. all (suc k) d (omega arith) (omega arith)))
 
-  pub AllByRecursion-drop : (xs : List X) (i : ℕ) → AllWithin P xs i (length xs) → AllByRecursion P (drop i xs)
+  pub AllByRecursion-drop : (xs : List X) (i : ℕ) → AllWithin P xs i (length xs)
+      → AllByRecursion P (drop i xs)
   AllByRecursion-drop xs zero all = recursion_from_All P xs (λ k d l. all k d (omega arith) l)
   AllByRecursion-drop [] (suc i) all = tt
   AllByRecursion-drop (x ∷ xs) (suc i) all = AllByRecursion-drop xs i (λ k d low high. all (suc k) d (omega arith) (omega arith))
 
-pub AllByRecursion-weaker : {X : Type 0} (P Q : X → Type 0) → ((x : X) → P x → Q x) → (xs : List X) → AllByRecursion P xs
+pub AllByRecursion-weaker : {X : Type 0} (P Q : X → Type 0) → ((x : X) → P x → Q x) → (xs : List X)
+    → AllByRecursion P xs
     → AllByRecursion Q xs
 AllByRecursion-weaker P Q weaker xs all = recursion_from_All Q xs (All-weaker P Q weaker xs (All-from_recursion P xs all))
 
@@ -79,7 +87,8 @@ Contains-cons first x xs among = (suc among.0, omega (arith, among.1), among.2)
 
 -- ---- the last element
 
-pub last_or-push : {X : Type 0} (first : Option X) (xs : List X) (x : X) → last_or first (xs ++ x ∷ []) ≡ Some x
+pub last_or-push : {X : Type 0} (first : Option X) (xs : List X) (x : X)
+    → last_or first (xs ++ x ∷ []) ≡ Some x
 last_or-push first [] x = refl
 last_or-push first (next ∷ xs) x = last_or-push (Some next) xs x
 
@@ -117,7 +126,8 @@ slice_get-push_last [] x = refl
 slice_get-push_last (y ∷ ys) x = slice_get-push_last ys x
 
 -- what holds at each place still does where another element is put at one of them
-pub each_set : {X : Type 0} (P : ℕ → X → Type 0) (default : X) (xs : List X) (i : ℕ) (x : X) → i < length xs → P i x
+pub each_set : {X : Type 0} (P : ℕ → X → Type 0) (default : X) (xs : List X) (i : ℕ) (x : X)
+    → i < length xs → P i x
     → ((k : ℕ) → P k (get_or xs k default)) → (k : ℕ) → P k (get_or (set xs i x) k default)
 each_set P default xs i x within here each k = elim (cases_eq k i) [
   | inl same ↦

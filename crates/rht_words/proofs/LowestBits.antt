@@ -8,7 +8,8 @@ use Rattle.std.specs.Int.{trailing_zeros, w64}
 use Rattle.rht_words.specs.Maps.{map_bits, IsBitIn}
 
 -- A bit at or above the number of those in use isn't set, so the lowest set one lies below.
-pub lowest_is_in : (count index word : ℕ) → 0 < bit_and word (map_bits count index) → IsBitIn count index (trailing_zeros w64 (bit_and word (map_bits count index)))
+pub lowest_is_in : (count index word : ℕ) → 0 < bit_and word (map_bits count index)
+    → IsBitIn count index (trailing_zeros w64 (bit_and word (map_bits count index)))
 lowest_is_in count index word some =
     let free = bit_and word (map_bits count index) in
     let used = min 64 (count - 64 * index) in

@@ -49,7 +49,8 @@ In-append_cases x [] ys i = inr i
 In-append_cases x (y ∷ xs) ys (inl e) = inl (inl e)
 In-append_cases x (y ∷ xs) ys (inr i) = elim (In-append_cases x xs ys i) [ inl l ↦ inl (inr l) | inr r ↦ inr r ]
 
-pub NotIn-cut : (k : ℕ) (xs : List ℕ) (m : ℕ) (ys : List ℕ) → NotIn k (xs ++ m ∷ ys) → NotIn k xs × (k ≢ m) × NotIn k ys
+pub NotIn-cut : (k : ℕ) (xs : List ℕ) (m : ℕ) (ys : List ℕ) → NotIn k (xs ++ m ∷ ys)
+    → NotIn k xs × (k ≢ m) × NotIn k ys
 NotIn-cut k [] m ys p = (tt, p.0, p.1)
 NotIn-cut k (a ∷ xs) m ys p = let r = NotIn-cut k xs m ys p.1 in ((p.0, r.0), r.1, r.2)
 
@@ -83,7 +84,8 @@ In-flat_map f x y [] i j = absurd i
 In-flat_map f x y (z ∷ ys) (inl e) j = In-append_left x (f z) (flat_map f ys) (rw (sym e) j)
 In-flat_map f x y (z ∷ ys) (inr i) j = In-append_right x (f z) (flat_map f ys) (In-flat_map f x y ys i j)
 
-pub flat_map-In : (f : ℕ → List ℕ) (x : ℕ) (ys : List ℕ) → In x (flat_map f ys) → (y : ℕ) × In y ys × In x (f y)
+pub flat_map-In : (f : ℕ → List ℕ) (x : ℕ) (ys : List ℕ) → In x (flat_map f ys)
+    → (y : ℕ) × In y ys × In x (f y)
 flat_map-In f x [] i = absurd i
 flat_map-In f x (z ∷ ys) i = elim (In-append_cases x (f z) (flat_map f ys) i) [
   | inl l ↦ (z, inl refl, l)
@@ -91,7 +93,8 @@ flat_map-In f x (z ∷ ys) i = elim (In-append_cases x (f z) (flat_map f ys) i) 
 ]
 
 -- lists that are the same for each member are the same joined
-pub flat_map-same : (f h : ℕ → List ℕ) (xs : List ℕ) → ((x : ℕ) → In x xs → f x ≡ h x) → flat_map f xs ≡ flat_map h xs
+pub flat_map-same : (f h : ℕ → List ℕ) (xs : List ℕ) → ((x : ℕ) → In x xs → f x ≡ h x)
+    → flat_map f xs ≡ flat_map h xs
 flat_map-same f h [] same = refl
 flat_map-same f h (x ∷ xs) same = rw (same x (inl refl)) (rw (flat_map-same f h xs (λ y i. same y (inr i))) refl)
 
@@ -108,7 +111,8 @@ pub find-Some : (p : ℕ → Bool) (xs : List ℕ) (x : ℕ) → find p xs ≡ S
 find-Some p [] x e = absurd (cc)
 find-Some p (y ∷ xs) x e = go (p y) refl e (λ f. find-Some p xs x f)
   where
-    go : (b : Bool) → p y ≡ b → cond b (Some y) (find p xs) ≡ Some x → (find p xs ≡ Some x → In x xs × (p x ≡ true)) → In x (y ∷ xs) × (p x ≡ true)
+    go : (b : Bool) → p y ≡ b → cond b (Some y) (find p xs) ≡ Some x
+        → (find p xs ≡ Some x → In x xs × (p x ≡ true)) → In x (y ∷ xs) × (p x ≡ true)
     go true q f rest = let same : y ≡ x = (cc) in (inl (sym same), ap p (sym same) ∙ q)
     go false q f rest = let r = rest f in (inr r.0, r.1)
 
@@ -116,7 +120,8 @@ pub find-None : (p : ℕ → Bool) (xs : List ℕ) (x : ℕ) → find p xs ≡ N
 find-None p [] x e i = absurd i
 find-None p (y ∷ xs) x e i = go (p y) refl e i (λ f k. find-None p xs x f k)
   where
-    go : (b : Bool) → p y ≡ b → cond b (Some y) (find p xs) ≡ None → In x (y ∷ xs) → (find p xs ≡ None → In x xs → p x ≡ false) → p x ≡ false
+    go : (b : Bool) → p y ≡ b → cond b (Some y) (find p xs) ≡ None → In x (y ∷ xs)
+        → (find p xs ≡ None → In x xs → p x ≡ false) → p x ≡ false
     go true q f i rest = absurd (cc)
     go false q f (inl s) rest = ap p s ∙ q
     go false q f (inr i) rest = rest f i
@@ -132,7 +137,8 @@ abbrev pub count_below : (ℕ → Bool) → ℕ → ℕ
 count_below has zero = 0
 count_below has (suc n) = count_below has n + one_if (has n)
 
-pub count_below-same : (has has' : ℕ → Bool) (bound : ℕ) → ((n : ℕ) → n < bound → has' n ≡ has n) → count_below has' bound ≡ count_below has bound
+pub count_below-same : (has has' : ℕ → Bool) (bound : ℕ) → ((n : ℕ) → n < bound → has' n ≡ has n)
+    → count_below has' bound ≡ count_below has bound
 count_below-same has has' zero same = refl
 count_below-same has has' (suc n) same =
     let below = count_below-same has has' n (λ m l. same m (omega arith)) in
@@ -140,7 +146,8 @@ count_below-same has has' (suc n) same =
     omega (arith, below, here)
 
 -- the property of one number changes from false to true: one more has it
-pub count_below-more : (has has' : ℕ → Bool) (x bound : ℕ) → x < bound → has x ≡ false → has' x ≡ true → ((n : ℕ) → n ≢ x → has' n ≡ has n)
+pub count_below-more : (has has' : ℕ → Bool) (x bound : ℕ) → x < bound → has x ≡ false → has' x ≡ true
+    → ((n : ℕ) → n ≢ x → has' n ≡ has n)
     → count_below has' bound ≡ count_below has bound + 1
 count_below-more has has' x zero l was is same = absurd (omega arith)
 count_below-more has has' x (suc n) l was is same = elim (cases_eq x n) [
@@ -166,7 +173,8 @@ count_below-most has (suc n) =
     one_if-most true = omega arith
     one_if-most false = omega arith
 
-pub count_below-none : (has : ℕ → Bool) (bound : ℕ) → ((n : ℕ) → n < bound → has n ≡ false) → count_below has bound ≡ 0
+pub count_below-none : (has : ℕ → Bool) (bound : ℕ) → ((n : ℕ) → n < bound → has n ≡ false)
+    → count_below has bound ≡ 0
 count_below-none has zero none = refl
 count_below-none has (suc n) none =
     let below = count_below-none has n (λ m l. none m (omega arith)) in
@@ -174,7 +182,9 @@ count_below-none has (suc n) none =
     omega (arith, below, here)
 
 -- a list without repeats of numbers that have the property is no longer than there are such numbers
-pub length-count_below : (has : ℕ → Bool) (bound : ℕ) (xs : List ℕ) → IsDistinct xs → AllByRecursion (λ x. x < bound) xs → ((x : ℕ) → In x xs → has x ≡ true) → length xs ≤ count_below has bound
+pub length-count_below : (has : ℕ → Bool) (bound : ℕ) (xs : List ℕ) → IsDistinct xs
+    → AllByRecursion (λ x. x < bound) xs → ((x : ℕ) → In x xs → has x ≡ true)
+    → length xs ≤ count_below has bound
 length-count_below has bound [] distinct below all = omega arith
 length-count_below has bound (x ∷ xs) distinct below all =
     let without : ℕ → Bool = λ n. cond (n == x) false (has n) in

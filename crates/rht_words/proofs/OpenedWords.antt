@@ -12,13 +12,15 @@ use Rattle.rht_words.specs.declared.env.Env.{Env}
 use Rattle.rht_words.proofs.PlacesApart.{parts_in_order, address_at-place_of, found_at}
 
 -- the word at the place of a thing is the opening word of that thing
-pub opening_word-at : (env : Env) (place : ℕ) (a : Address) → IsAddress env.geometry a → place_of env.geometry a ≡ place
+pub opening_word-at : (env : Env) (place : ℕ) (a : Address) → IsAddress env.geometry a
+    → place_of env.geometry a ≡ place
     → opening_word env a ≡ opening_word env (address_at env.geometry place)
 opening_word-at env place a there is =
     ap (opening_word env) (sym (address_at-place_of env.geometry a there) ∙ ap (address_at env.geometry) is)
 
 -- the words of slot 0 that are 0
-first_slot-zero : (env : Env) (word : SlotWord) → slot_offset word ≢ 0 → slot_offset word ≢ 1 → slot_offset word ≢ 4 → first_slot env word ≡ 0
+first_slot-zero : (env : Env) (word : SlotWord) → slot_offset word ≢ 0 → slot_offset word ≢ 1
+    → slot_offset word ≢ 4 → first_slot env word ≡ 0
 first_slot-zero env ShapeWord shape seed state = absurd (shape refl)
 first_slot-zero env SeedWord shape seed state = absurd (seed refl)
 first_slot-zero env FutureWord shape seed state = refl
@@ -35,7 +37,8 @@ pub record IsZeroAtOpening (env : Env) (place : ℕ) : Type 0 where
   pub maps : 280 ≤ place → place < nodes_at env.geometry → ⊥
 
 -- at such a place stands 0
-zero_by_address : (env : Env) (a : Address) → IsAddress env.geometry a → IsZeroAtOpening env (place_of env.geometry a) → opening_word env a ≡ 0
+zero_by_address : (env : Env) (a : Address) → IsAddress env.geometry a
+    → IsZeroAtOpening env (place_of env.geometry a) → opening_word env a ≡ 0
 zero_by_address env NextSerial there off = absurd (off.serial refl)
 zero_by_address env (Slot slot word) there off = cond_both (slot == 0) (first_slot env word) 0 (λ w. w ≡ 0)
     (λ first.

@@ -110,21 +110,25 @@ not_set : (bit : ℕ) → bit ≡ 0 → bit ≡ 1 → ⊥
 not_set bit zero one = omega arith
 
 -- the word of the page map has the bits from the first table's end to the map's
-page_bits : (env : Env) (index : ℕ) → opening_word env (PageMap index) ≡ 2 ^ min 64 (env.geometry.pages - 64 * index) - 2 ^ min 64 (first_pages env - 64 * index)
+page_bits : (env : Env) (index : ℕ)
+    → opening_word env (PageMap index) ≡ 2 ^ min 64 (env.geometry.pages - 64 * index) - 2 ^ min 64 (first_pages env - 64 * index)
 page_bits env index =
     omega (arith, pow_pos (min 64 (first_pages env - 64 * index)), pow_pos (min 64 (env.geometry.pages - 64 * index)))
 
-page_set : (env : Env) (page : ℕ) → first_pages env ≤ page → page < env.geometry.pages → bit_at (opening_word env (PageMap (page / 64))) (page % 64) ≡ 1
+page_set : (env : Env) (page : ℕ) → first_pages env ≤ page → page < env.geometry.pages
+    → bit_at (opening_word env (PageMap (page / 64))) (page % 64) ≡ 1
 page_set env page low high =
     let index = page / 64 in
     rw (page_bits env index) (bit_at_mask_inside (min 64 (first_pages env - 64 * index)) (min 64 (env.geometry.pages - 64 * index)) (page % 64) (omega arith) (omega arith))
 
-page_taken : (env : Env) (page : ℕ) → page < first_pages env → bit_at (opening_word env (PageMap (page / 64))) (page % 64) ≡ 0
+page_taken : (env : Env) (page : ℕ) → page < first_pages env
+    → bit_at (opening_word env (PageMap (page / 64))) (page % 64) ≡ 0
 page_taken env page l =
     let index = page / 64 in
     rw (page_bits env index) (bit_at_mask_below (min 64 (first_pages env - 64 * index)) (min 64 (env.geometry.pages - 64 * index)) (page % 64) (omega arith))
 
-page_past : (env : Env) (page : ℕ) → env.geometry.pages ≤ page → bit_at (opening_word env (PageMap (page / 64))) (page % 64) ≡ 0
+page_past : (env : Env) (page : ℕ) → env.geometry.pages ≤ page
+    → bit_at (opening_word env (PageMap (page / 64))) (page % 64) ≡ 0
 page_past env page l =
     let index = page / 64 in
     rw (page_bits env index) (bit_at_mask_above (min 64 (first_pages env - 64 * index)) (min 64 (env.geometry.pages - 64 * index)) (page % 64) (omega arith))

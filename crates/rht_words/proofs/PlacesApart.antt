@@ -33,7 +33,8 @@ differ : (a b : ℕ) → (a ≡ b → ⊥) → (a == b) ≡ false
 differ a b h = grind (arith, nat_tests)
 
 -- a choice by whether two numbers are equal
-by_equal : {A : Type 0} (P : A → Type 0) (a b : ℕ) (x y : A) → (a ≡ b → P x) → ((a ≡ b → ⊥) → P y) → P (cond (a == b) x y)
+by_equal : {A : Type 0} (P : A → Type 0) (a b : ℕ) (x y : A) → (a ≡ b → P x) → ((a ≡ b → ⊥) → P y)
+    → P (cond (a == b) x y)
 by_equal P a b x y same other = cond_both (a == b) x y P (λ t. same (eqb-true a b t)) (λ f. other (eqb-false a b f))
 
 -- each part of `address_at`, where the place lies in it
@@ -45,7 +46,8 @@ at_section : (g : Geometry) (p : ℕ) → 8 ≤ p → p < 24 → address_at g p 
 unfolding address_at
 at_section g p low l = rw (above p 8 low, below p 24 l) refl
 
-at_slot : (g : Geometry) (p : ℕ) → 24 ≤ p → p < 280 → address_at g p ≡ slot_address p ((p - 24) / 32) ((p - 24) % 32)
+at_slot : (g : Geometry) (p : ℕ) → 24 ≤ p → p < 280
+    → address_at g p ≡ slot_address p ((p - 24) / 32) ((p - 24) % 32)
 unfolding address_at
 at_slot g p low l = rw (above p 8 (omega arith), above p 24 low, below p 280 l) refl
 
@@ -53,13 +55,15 @@ at_node_map : (g : Geometry) (p : ℕ) → 280 ≤ p → p < page_map_at g → a
 unfolding address_at
 at_node_map g p low l = rw (above p 8 (omega arith), above p 24 (omega arith), above p 280 low, below p (page_map_at g) l) refl
 
-at_page_map : (g : Geometry) (p : ℕ) → page_map_at g ≤ p → p < nodes_at g → address_at g p ≡ PageMap (p - page_map_at g)
+at_page_map : (g : Geometry) (p : ℕ) → page_map_at g ≤ p → p < nodes_at g
+    → address_at g p ≡ PageMap (p - page_map_at g)
 unfolding address_at
 at_page_map g p low l =
     let parts = parts_in_order g in
     rw (above p 8 (omega arith), above p 24 (omega arith), above p 280 (omega arith), above p (page_map_at g) low, below p (nodes_at g) l) refl
 
-at_node : (g : Geometry) (p : ℕ) → nodes_at g ≤ p → p < pages_at g → address_at g p ≡ Node ((p - nodes_at g) / 4) (node_word ((p - nodes_at g) % 4))
+at_node : (g : Geometry) (p : ℕ) → nodes_at g ≤ p → p < pages_at g
+    → address_at g p ≡ Node ((p - nodes_at g) / 4) (node_word ((p - nodes_at g) % 4))
 unfolding address_at
 at_node g p low l =
     let parts = parts_in_order g in
@@ -72,7 +76,8 @@ at_page g p low =
     rw (above p 8 (omega arith), above p 24 (omega arith), above p 280 (omega arith), above p (page_map_at g) (omega arith), above p (nodes_at g) (omega arith), above p (pages_at g) low) refl
 
 -- a word of a slot comes back from its distance behind the slot's first
-slot_address-slot_offset : (p slot : ℕ) (word : SlotWord) → IsSlotWord word → slot_address p slot (slot_offset word) ≡ Slot slot word
+slot_address-slot_offset : (p slot : ℕ) (word : SlotWord) → IsSlotWord word
+    → slot_address p slot (slot_offset word) ≡ Slot slot word
 unfolding slot_address
 slot_address-slot_offset p slot ShapeWord v = refl
 slot_address-slot_offset p slot SeedWord v = refl
@@ -151,7 +156,8 @@ address_at-place_of g (Node n word) v =
 address_at-place_of g (PageWord j) v = at_page g (pages_at g + j) (omega arith) ∙ ap PageWord (omega arith)
 
 -- one place is not the place of two things
-pub place_of-apart : (g : Geometry) (a b : Address) → IsAddress g a → IsAddress g b → place_of g a ≡ place_of g b → a ≡ b
+pub place_of-apart : (g : Geometry) (a b : Address) → IsAddress g a → IsAddress g b
+    → place_of g a ≡ place_of g b → a ≡ b
 place_of-apart g a b va vb e = sym (address_at-place_of g a va) ∙ ap (address_at g) e ∙ address_at-place_of g b vb
 
 -- each place is below the number of words
@@ -195,7 +201,8 @@ found_first g p l =
     P : Address → Type 0
     P = IsFound g p
 
-found_slot : (g : Geometry) (p slot offset : ℕ) → slot < 8 → offset < 32 → p ≡ 24 + 32 * slot + offset → IsFound g p (slot_address p slot offset)
+found_slot : (g : Geometry) (p slot offset : ℕ) → slot < 8 → offset < 32 → p ≡ 24 + 32 * slot + offset
+    → IsFound g p (slot_address p slot offset)
 unfolding slot_address
 found_slot g p slot offset s o e =
     by_equal P offset 0 (Slot slot ShapeWord) _ (λ h. record { address = (s, tt); place_is = omega arith }) (λ n0.
@@ -230,7 +237,8 @@ node_offset-node_word offset l =
     P : NodeWord → Type 0
     P word = node_offset word ≡ offset
 
-found_node : (g : Geometry) (p : ℕ) → nodes_at g ≤ p → p < pages_at g → IsFound g p (Node ((p - nodes_at g) / 4) (node_word ((p - nodes_at g) % 4)))
+found_node : (g : Geometry) (p : ℕ) → nodes_at g ≤ p → p < pages_at g
+    → IsFound g p (Node ((p - nodes_at g) / 4) (node_word ((p - nodes_at g) % 4)))
 found_node g p low l =
     let parts = parts_in_order g in
     let offset = node_offset-node_word ((p - nodes_at g) % 4) (omega arith) in

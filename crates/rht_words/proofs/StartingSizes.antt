@@ -71,12 +71,14 @@ IsPowerUpTo-wished_size hint few = cond_both (hint == 0) 64 (rounded_up (hint * 
     (λ none. record { is = (6, refl); within = omega arith })
     (λ some. IsPowerUpTo-rounded_up (hint * 4 / 3) (omega arith))
 
-IsSizeUpTo-cut_size : (greatest size : ℕ) → IsGreatestSize greatest → IsSizeUpTo 131072 size → IsSizeUpTo 131072 (cut_size greatest size)
+IsSizeUpTo-cut_size : (greatest size : ℕ) → IsGreatestSize greatest → IsSizeUpTo 131072 size
+    → IsSizeUpTo 131072 (cut_size greatest size)
 IsSizeUpTo-cut_size greatest size is size_is = cond_both (greatest == 0) size (min size greatest) (IsSizeUpTo 131072)
     (λ none. size_is)
     (λ some. IsSizeUpTo-min 131072 size greatest size_is (IsSizeUpTo-greatest greatest (eqb-false greatest 0 some) is))
 
-pub IsSizeUpTo-starting_size : (hint least greatest : ℕ) → hint ≤ 65536 → IsLeastSize least → IsGreatestSize greatest
+pub IsSizeUpTo-starting_size : (hint least greatest : ℕ) → hint ≤ 65536 → IsLeastSize least
+    → IsGreatestSize greatest
     → IsSizeUpTo 131072 (starting_size hint least greatest)
 IsSizeUpTo-starting_size hint least greatest few is_least is_greatest =
     IsSizeUpTo-cut_size greatest (max (wished_size hint) least) is_greatest

@@ -14,14 +14,18 @@ pub length-applied : (words : List ℕ) (op : Op) → length (applied words op) 
 length-applied words op = length-set words (op_place op) (word_after (old_of words op) op)
 
 -- the word on which it works becomes what it says
-pub applied-same : (words : List ℕ) (op : Op) → op_place op < length words → get_or (applied words op) (op_place op) 0 ≡ word_after (old_of words op) op
+pub applied-same : (words : List ℕ) (op : Op) → op_place op < length words
+    → get_or (applied words op) (op_place op) 0 ≡ word_after (old_of words op) op
 applied-same words op l = get_or-set_same words (op_place op) (word_after (old_of words op) op) 0 l
 
 -- any other word stays
-pub applied-other : (words : List ℕ) (op : Op) (place : ℕ) → place ≢ op_place op → get_or (applied words op) place 0 ≡ get_or words place 0
+pub applied-other : (words : List ℕ) (op : Op) (place : ℕ) → place ≢ op_place op
+    → get_or (applied words op) place 0 ≡ get_or words place 0
 applied-other words op place other = get_or-set_other words (op_place op) place (word_after (old_of words op) op) 0 other
 
-pub changes_one_word : (g : Geometry) (words : List ℕ) (address : Address) (op : Op) → length words ≡ words_in g → IsAddress g address → op_place op ≡ place_of g address → ChangesOneWord g words address op
+pub changes_one_word : (g : Geometry) (words : List ℕ) (address : Address) (op : Op)
+    → length words ≡ words_in g → IsAddress g address → op_place op ≡ place_of g address
+    → ChangesOneWord g words address op
 changes_one_word g words address op whole there is =
     let place = place_of g address in
     let inside : op_place op < length words = omega (arith, place_of-below g address there) in

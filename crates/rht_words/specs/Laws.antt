@@ -34,7 +34,8 @@ pub record PlacesStandApart (g : Geometry) : Type 0 where
   pub apart : (a b : Address) → IsAddress g a → IsAddress g b → place_of g a ≡ place_of g b → a ≡ b
   pub within : (a : Address) → IsAddress g a → place_of g a < words_in g
   pub found : (a : Address) → IsAddress g a → address_at g (place_of g a) ≡ a
-  pub each : (place : ℕ) → place < words_in g → IsAddress g (address_at g place) × (place_of g (address_at g place) ≡ place)
+  pub each : (place : ℕ) → place < words_in g
+      → IsAddress g (address_at g place) × (place_of g (address_at g place) ≡ place)
   pub few : words_in g ≤ 525656
 
 -- in no geometry do two things share a place
@@ -45,13 +46,15 @@ PlacesNeverMeet = (g : Geometry) → PlacesStandApart g
 pub record ChangesOneWord (g : Geometry) (words : List ℕ) (address : Address) (op : Op) : Type 0 where
   pub count : length (applied words op) ≡ length words
   pub changed : word_at g (applied words op) address ≡ word_after (word_at g words address) op
-  pub others : (other : Address) → IsAddress g other → other ≢ address → word_at g (applied words op) other ≡ word_at g words other
+  pub others : (other : Address) → IsAddress g other → other ≢ address
+      → word_at g (applied words op) other ≡ word_at g words other
 
 -- each operation changes one word alone
 abbrev pub OperationsChangeOneWord : Type 0
 OperationsChangeOneWord =
     (g : Geometry) (words : List ℕ) (address : Address) (op : Op)
-    → length words ≡ words_in g → IsAddress g address → op_place op ≡ place_of g address → ChangesOneWord g words address op
+    → length words ≡ words_in g → IsAddress g address → op_place op ≡ place_of g address
+    → ChangesOneWord g words address op
 
 -- a link names its node and a marker its place, and neither is taken for the other
 pub record LinksTellApart : Type 0 where
@@ -60,8 +63,10 @@ pub record LinksTellApart : Type 0 where
   pub never_meet : (node place : ℕ) → link_of node ≢ marker_of place
   pub link_names : (nodes node : ℕ) → node < nodes → node_of nodes (link_of node) ≡ Some node
   pub marker_names_no_node : (nodes place : ℕ) → node_of nodes (marker_of place) ≡ None
-  pub named_by_link : (nodes link node : ℕ) → node_of nodes link ≡ Some node → (link ≡ link_of node) × (node < nodes)
-  pub marker_names : (place other : ℕ) → place < 2 ^ 63 → other < 2 ^ 63 → marker_of place ≡ marker_of other → place ≡ other
+  pub named_by_link : (nodes link node : ℕ) → node_of nodes link ≡ Some node
+      → (link ≡ link_of node) × (node < nodes)
+  pub marker_names : (place other : ℕ) → place < 2 ^ 63 → other < 2 ^ 63
+      → marker_of place ≡ marker_of other → place ≡ other
 
 -- `plain_of` undoes `head_of`, but for the lock, and `head_of` undoes `plain_of`
 pub record HeadsComeBack : Type 0 where
@@ -84,7 +89,8 @@ pub record ShapesComeBack : Type 0 where
 -- the words at opening are as many as there are places, and at each address stands its opening word
 pub record StandInPlace (env : Env) : Type 0 where
   pub count : length (opening_words env) ≡ words_in env.geometry
-  pub each : (a : Address) → IsAddress env.geometry a → word_at env.geometry (opening_words env) a ≡ opening_word env a
+  pub each : (a : Address) → IsAddress env.geometry a
+      → word_at env.geometry (opening_words env) a ≡ opening_word env a
 
 -- in no table does a word at opening stand elsewhere than at its address
 abbrev pub WordsOpen : Type 0
@@ -104,8 +110,10 @@ TablesOpenFlat = (env : Env) → OpensFlat env
 
 -- a node's bit is set exactly where there is such a node, and a page's where there is such a page behind the first table's
 pub record OpensFree (env : Env) : Type 0 where
-  pub nodes : (node : ℕ) → (bit_at (opening_word env (NodeMap (node / 64))) (node % 64) ≡ 1) ↔ (node < env.geometry.nodes)
-  pub pages : (page : ℕ) → (bit_at (opening_word env (PageMap (page / 64))) (page % 64) ≡ 1) ↔ ((first_pages env ≤ page) × (page < env.geometry.pages))
+  pub nodes : (node : ℕ)
+      → (bit_at (opening_word env (NodeMap (node / 64))) (node % 64) ≡ 1) ↔ (node < env.geometry.nodes)
+  pub pages : (page : ℕ)
+      → (bit_at (opening_word env (PageMap (page / 64))) (page % 64) ≡ 1) ↔ ((first_pages env ≤ page) × (page < env.geometry.pages))
 
 -- at opening all nodes are free, and all pages but those of the first table
 abbrev pub MapsOpenFree : Type 0
@@ -117,7 +125,8 @@ pub record ChangesOneBit (word bit : ℕ) : Type 0 where
   pub set_others : (other : ℕ) → other ≢ bit → bit_at (bit_or word (bit_of bit)) other ≡ bit_at word other
   pub set_fits : bit_or word (bit_of bit) < 2 ^ 64
   pub cleared : bit_at (bit_and word (bit_not w64 (bit_of bit))) bit ≡ 0
-  pub cleared_others : (other : ℕ) → other ≢ bit → bit_at (bit_and word (bit_not w64 (bit_of bit))) other ≡ bit_at word other
+  pub cleared_others : (other : ℕ) → other ≢ bit
+      → bit_at (bit_and word (bit_not w64 (bit_of bit))) other ≡ bit_at word other
   pub cleared_fits : bit_and word (bit_not w64 (bit_of bit)) < 2 ^ 64
 
 -- each mask of a bit changes one bit alone

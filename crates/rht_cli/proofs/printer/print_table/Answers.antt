@@ -12,7 +12,8 @@ use Rattle.rht_cli.proofs.printer.print_table.Goals as goal
 
 -- what was printed from a registry and a buffer that are new begins with nothing bound and nothing waiting
 from_new : {S : Type 0} (held : S → Option (List ℕ)) (faults : S → ℕ) (a b : S) (r : Result (Unit {0}) Ending) (commands : List (ℕ × Call)) (registry : List (ℕ × ℕ)) (waited waits : List ℕ)
-    → registry ≡ [] → waited ≡ [] → Prints held faults a b r waited waits (replies_text (bindings_in registry) commands)
+    → registry ≡ [] → waited ≡ []
+    → Prints held faults a b r waited waits (replies_text (bindings_in registry) commands)
     → Prints held faults a b r [] waits (replies_text unbound commands)
 from_new held faults a b r commands registry waited waits none_bound none_waits printed =
     subst (λ (m : Multimap). Prints held faults a b r [] waits (replies_text m commands)) (ap bindings_in none_bound)
@@ -36,7 +37,8 @@ returns-in_err-print_replies g c =
 
 -- all replies were added
 all_replies : {S : Type 0} (held : S → Option (List ℕ)) (faults : S → ℕ) (a b : S) (r : Result (Unit {0}) Ending) (commands : List (ℕ × Call)) (registry : List (ℕ × ℕ)) (waited waits : List ℕ)
-    → registry ≡ [] → waited ≡ [] → r ≡ Ok tt → Prints held faults a b r waited waits (replies_text (bindings_in registry) commands)
+    → registry ≡ [] → waited ≡ [] → r ≡ Ok tt
+    → Prints held faults a b r waited waits (replies_text (bindings_in registry) commands)
     → Prints held faults a b (Ok tt) [] waits (replies_text unbound commands)
 all_replies held faults a b r commands registry waited waits none_bound none_waits ok printed =
     subst (λ (q : Result (Unit {0}) Ending). Prints held faults a b q [] waits (replies_text unbound commands)) ok

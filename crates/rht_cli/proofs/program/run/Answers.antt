@@ -22,8 +22,10 @@ either status ending same one other is is_same (inl first) = inl (is ∙ ap stat
 either status ending same one other is is_same (inr second) = inr (is ∙ ap status_of is_same ∙ second)
 
 -- a script that is refused has the line of its first fault
-refused_line : (P : List ℕ → Type 0) (status : ℕ) (ending same : Ending) (fault : ScriptFault) → status ≡ status_of ending → ending ≡ same → P (ending_line ending)
-    → ((status_of same ≡ 2) × (ending_line same ≡ fault_line fault)) ⊎ (status_of same ≡ 5) → ((status ≡ 2) × P (fault_line fault)) ⊎ (status ≡ 5)
+refused_line : (P : List ℕ → Type 0) (status : ℕ) (ending same : Ending) (fault : ScriptFault)
+    → status ≡ status_of ending → ending ≡ same → P (ending_line ending)
+    → ((status_of same ≡ 2) × (ending_line same ≡ fault_line fault)) ⊎ (status_of same ≡ 5)
+    → ((status ≡ 2) × P (fault_line fault)) ⊎ (status ≡ 5)
 refused_line P status ending same fault is is_same line (inl two) =
     inl (is ∙ ap status_of is_same ∙ two.0, subst P (ap ending_line is_same ∙ two.1) line)
 refused_line P status ending same fault is is_same line (inr five) = inr (is ∙ ap status_of is_same ∙ five)

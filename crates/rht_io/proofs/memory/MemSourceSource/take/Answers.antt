@@ -5,7 +5,8 @@ use Rattle.rht_io.proofs.memory.MemSourceSource.take.Goals as goal
 
 -- the rest of the room is as before
 put_in_room : {E : Type 0} (r : Result ℕ E) (left left' room front : List ℕ) (most : ℕ) → left ≡ left'
-    → IfOk r (λ n. n ≡ min (length left) (length (take most room))) → IfOk r (λ n. front ≡ filled left (take most room) n)
+    → IfOk r (λ n. n ≡ min (length left) (length (take most room)))
+    → IfOk r (λ n. front ≡ filled left (take most room) n)
     → IfOk r (λ n. front ++ drop most room ≡ filled left' room n)
 put_in_room (Ok n) left left' room front most same count put =
     ap (λ l. l ++ drop most room) put ∙ filled-front left room n most (omega arith) ∙ ap (λ l. filled l room n) same

@@ -6,7 +6,8 @@ use Rattle.rht_io.proofs.MemoryLemmas.{gives-front, gives-all}
 use Rattle.rht_io.proofs.sure.SureSourceSource.take.Goals as goal
 
 -- the slice from the first byte that was not given is what is left
-left_of : (given : ℕ) (items passed left : List ℕ) → drop given items ≡ left → passed ≡ items → take (length passed - given) (drop given passed) ≡ left
+left_of : (given : ℕ) (items passed left : List ℕ) → drop given items ≡ left → passed ≡ items
+    → take (length passed - given) (drop given passed) ≡ left
 left_of given items passed left view same = grind (arith, common_steps)
 
 -- the front of what is left was put at the front of the room
