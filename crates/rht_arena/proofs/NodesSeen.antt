@@ -197,7 +197,8 @@ module _ (g : Geometry) (steps : List Performed) (m : TakeNodeModel) (old : ℕ)
       record {
         geometry = stays.geometry_same ∙ kept.geometry;
         in_range = stays.range;
-        seen = subst (λ (h : Geometry). SawAllBelow h (first_unseen left.at) (steps ++ step ∷ [])) (sym stays.geometry_same) (saw Go is);
+        seen =
+            subst (λ (h : Geometry). SawAllBelow h (first_unseen left.at) (steps ++ step ∷ [])) (sym stays.geometry_same) (saw Go is);
         unchanged = All-push LeavesWord steps step kept.unchanged (did Go is);
       }
 

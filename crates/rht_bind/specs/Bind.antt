@@ -56,7 +56,8 @@ plan_at env port owner (at.Walking table claimed walk) = locked_walk_plan walk
 plan_at env port owner (at.FoundOwner claimed found) = Load (place_of env.geometry (Node found OwnerWord))
 plan_at env port owner (at.Future table claimed) = Load (place_of env.geometry (Slot table FutureWord))
 plan_at env port owner (at.Count claimed) = Load (place_of env.geometry PortCount)
-plan_at env port owner (at.Link claimed) = Store (place_of env.geometry (Node claimed.node ChainLink)) (head_of claimed.bucket.place claimed.bucket.word)
+plan_at env port owner (at.Link claimed) =
+    Store (place_of env.geometry (Node claimed.node ChainLink)) (head_of claimed.bucket.place claimed.bucket.word)
 plan_at env port owner (at.Raise claimed) = Add (place_of env.geometry PortCount) 1
 plan_at env port owner (at.Publish claimed kick) = Store claimed.bucket.place (link_of claimed.node)
 plan_at env port owner (at.Unlocking node unlock next) = unlock_plan unlock
@@ -105,7 +106,8 @@ walk_taken table claimed walk (Done seen) = walk_seen table claimed seen
 
 -- the bucket is unlocked without a change, and then the bind goes on or gives its node back
 abbrev pub unlocking : Claimed → Then Reply → BindAt
-unlocking claimed next = at.Unlocking claimed.node (record { place = claimed.bucket.place; word = claimed.bucket.word }) next
+unlocking claimed next =
+    at.Unlocking claimed.node (record { place = claimed.bucket.place; word = claimed.bucket.word }) next
 
 -- a future table is looked through next; where there is none the ports are counted
 abbrev pub future_or_count : Claimed → Option ℕ → BindAt
@@ -134,7 +136,8 @@ after_at mix env port (at.Owner node) word = (at.ListLink node, Go)
 after_at mix env port (at.ListLink node) word = (at.CurrentTable node, Go)
 after_at mix env port (at.CurrentTable node) word = (at.Shape node (table_of word), Go)
 after_at mix env port (at.Shape node table) word = (at.Seed node table word, Go)
-after_at mix env port (at.Seed node table shape) word = (at.Locking node table shape (lock_of mix env port shape word), Go)
+after_at mix env port (at.Seed node table shape) word =
+    (at.Locking node table shape (lock_of mix env port shape word), Go)
 after_at mix env port (at.Locking node table shape lock) word =
     (lock_taken env port node table shape (lock_after lock word).0 (lock_after lock word).1, Go)
 after_at mix env port (at.Walking table claimed walk) word =
@@ -173,7 +176,8 @@ IsInRange env (at.ListLink node) = node < env.geometry.nodes
 IsInRange env (at.CurrentTable node) = node < env.geometry.nodes
 IsInRange env (at.Shape node table) = (node < env.geometry.nodes) × (table < 8)
 IsInRange env (at.Seed node table shape) = (node < env.geometry.nodes) × (table < 8)
-IsInRange env (at.Locking node table shape lock) = (node < env.geometry.nodes) × (table < 8) × (lock.place < words_in env.geometry)
+IsInRange env (at.Locking node table shape lock) =
+    (node < env.geometry.nodes) × (table < 8) × (lock.place < words_in env.geometry)
 IsInRange env (at.Walking table claimed walk) = (table < 8) × IsClaimedIn env claimed × (walk.geometry ≡ env.geometry)
 IsInRange env (at.FoundOwner claimed found) = IsClaimedIn env claimed × (found < env.geometry.nodes)
 IsInRange env (at.Future table claimed) = (table < 8) × IsClaimedIn env claimed
@@ -181,5 +185,6 @@ IsInRange env (at.Count claimed) = IsClaimedIn env claimed
 IsInRange env (at.Link claimed) = IsClaimedIn env claimed
 IsInRange env (at.Raise claimed) = IsClaimedIn env claimed
 IsInRange env (at.Publish claimed kick) = IsClaimedIn env claimed
-IsInRange env (at.Unlocking node unlock next) = (node < env.geometry.nodes) × (unlock.place < words_in env.geometry) × IsTableOf next
+IsInRange env (at.Unlocking node unlock next) =
+    (node < env.geometry.nodes) × (unlock.place < words_in env.geometry) × IsTableOf next
 IsInRange env (at.Giving give reply) = give.geometry ≡ env.geometry

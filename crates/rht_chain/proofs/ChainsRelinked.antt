@@ -66,7 +66,8 @@ module _ (g : Geometry) (words : List ℕ) (index word link : ℕ) (behind : Lis
       record {
         at_once = chain;
         left = applied words (Store place value);
-        ends = ends_now relink_plan (λ machine old. relink_after machine) (relinking g index word [] link) words tt refl;
+        ends =
+            ends_now relink_plan (λ machine old. relink_after machine) (relinking g index word [] link) words tt refl;
         chain = chain;
         unlocked = ap (λ w. w % 2) changes.changed ∙ plain_of-even place link back;
         others = λ other its apart off. changes.others other its apart;

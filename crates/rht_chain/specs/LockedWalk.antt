@@ -28,7 +28,8 @@ not_found last length end = record { found = None; before = last; length = lengt
 -- it begins with the first node, where there is one
 abbrev pub walk_from : Geometry → ℕ → ℕ → Option ℕ → Start LockedWalkModel Seen
 walk_from g key first None = starts.Done (not_found None 0 first)
-walk_from g key first (Some node) = starts.Running (record { geometry = g; key = key; before = None; length = 0; at = at.Key node })
+walk_from g key first (Some node) =
+    starts.Running (record { geometry = g; key = key; before = None; length = 0; at = at.Key node })
 
 abbrev pub locked_walk_new : Geometry → ℕ → ℕ → ℕ → Start LockedWalkModel Seen
 locked_walk_new g place word key = walk_from g key (head_of place word) (node_of g.nodes (head_of place word))

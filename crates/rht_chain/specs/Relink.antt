@@ -25,7 +25,8 @@ relink_at place link None = at.Word (plain_of place link)
 relink_at place link (Some before) = at.ChainLink before
 
 abbrev pub relink_new : Geometry → ℕ → ℕ → Option ℕ → ℕ → RelinkModel
-relink_new g place word before link = record { geometry = g; place = place; word = word; link = link; at = relink_at place link before }
+relink_new g place word before link =
+    record { geometry = g; place = place; word = word; link = link; at = relink_at place link before }
 
 -- the state's one operation
 abbrev pub relink_plan_at : RelinkModel → RelinkAt → Op

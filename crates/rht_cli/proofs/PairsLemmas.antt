@@ -32,7 +32,8 @@ said_below port (pair ∷ front) back below =
 said_beside : (port : ℕ) (pair : ℕ × ℕ) (front back : List (ℕ × ℕ)) → (port ≡ pair.0 → ⊥)
     → bindings_in (front ++ pair ∷ back) port ≡ bindings_in (front ++ back) port
 said_beside port pair [] back other = rw (ne_eqb port pair.0 other) refl
-said_beside port pair (first ∷ front) back other = ap (cond (eqb port first.0) (first.1 ∷ [])) (said_beside port pair front back other)
+said_beside port pair (first ∷ front) back other =
+    ap (cond (eqb port first.0) (first.1 ∷ [])) (said_beside port pair front back other)
 
 -- a pair of its own says its owner
 said_here : (port owner : ℕ) (back : List (ℕ × ℕ)) → bindings_in ((port, owner) ∷ back) port ≡ owner ∷ []
@@ -145,7 +146,8 @@ rising_ports (pair ∷ pairs) rising zero zero d le lt = omega arith
 rising_ports (pair ∷ pairs) rising zero (suc j) d le lt =
     let above : pair.0 < (get_or pairs j d).0 = All-from_recursion (λ (other : ℕ × ℕ). pair.0 < other.0) pairs rising.0 j d (omega arith) in omega arith
 rising_ports (pair ∷ pairs) rising (suc i) zero d le lt = absurd (omega arith)
-rising_ports (pair ∷ pairs) rising (suc i) (suc j) d le lt = rising_ports pairs rising.1 i j d (omega arith) (omega arith)
+rising_ports (pair ∷ pairs) rising (suc i) (suc j) d le lt =
+    rising_ports pairs rising.1 i j d (omega arith) (omega arith)
 
 -- so a search for the first port that isn't lower may halve
 pub parted_by_port : (pairs : List (ℕ × ℕ)) (port : ℕ) → IsRising pairs
@@ -158,8 +160,10 @@ pub IsPlace-from_search : (pairs : List (ℕ × ℕ)) (port place : ℕ) → pla
     → IsPlace pairs port place
 IsPlace-from_search pairs port place within found = record {
   within = within;
-  below = AllByRecursion-take (λ pair. pair.0 < port) pairs place within (λ k d low high. ltb-true _ _ (found.0 k d low high));
-  others = AllByRecursion-drop (λ pair. port ≤ pair.0) pairs place (λ k d low high. ltb-false _ _ (found.1 k d low high));
+  below =
+      AllByRecursion-take (λ pair. pair.0 < port) pairs place within (λ k d low high. ltb-true _ _ (found.0 k d low high));
+  others =
+      AllByRecursion-drop (λ pair. port ≤ pair.0) pairs place (λ k d low high. ltb-false _ _ (found.1 k d low high));
 }
 
 -- the pairs from a place on rise too
@@ -212,7 +216,8 @@ pub added_behind : (port owner : ℕ) (pairs : List (ℕ × ℕ)) → AllByRecur
     → added (listed pairs) port owner ≡ listed pairs ++ (port, owner ∷ []) ∷ []
 added_behind port owner [] below = refl
 added_behind port owner (pair ∷ []) below = rw (ne_eqb pair.0 port (λ e. omega (arith, below.0, e))) refl
-added_behind port owner (pair ∷ next ∷ pairs) below = ap (λ l. (pair.0, pair.1 ∷ []) ∷ l) (added_behind port owner (next ∷ pairs) below.1)
+added_behind port owner (pair ∷ next ∷ pairs) below =
+    ap (λ l. (pair.0, pair.1 ∷ []) ∷ l) (added_behind port owner (next ∷ pairs) below.1)
 
 -- the pairs before a place have lower ports than the pair there
 pub below_place : (pairs : List (ℕ × ℕ)) (place : ℕ) (d : ℕ × ℕ) → IsRising pairs → place < length pairs

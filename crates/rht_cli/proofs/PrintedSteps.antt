@@ -36,4 +36,5 @@ module _ (commands : List (ℕ × Call)) (place : ℕ) (d : ℕ × Call) (within
       → front ++ replies_text now (drop place commands) ≡ all
       → all ≡ (front ++ answer_line (get_or commands place d).0 (answer_of Single now (get_or commands place d).1))
       ++ replies_text (bindings_after Single now (get_or commands place d).1) (drop (place + 1) commands)
-  replies_text-parts now front all so_far = sym (replies_text-step now (bindings_after Single now (get_or commands place d).1) refl front all so_far)
+  replies_text-parts now front all so_far =
+      sym (replies_text-step now (bindings_after Single now (get_or commands place d).1) refl front all so_far)

@@ -53,7 +53,8 @@ module _ {S : Type 0} (held : S → Option (List ℕ)) (faults : S → ℕ) wher
       → Prints held faults a b (Err ending) waited waits (xs ++ ys)
   Prints-longer a b ending waited between waits xs ys first = record {
     added = tt;
-    prefix = subst (AppendsPrefix (held a) (held b)) (append_assoc waited xs ys) (AppendsPrefix-longer (held a) (held b) (waited ++ xs) ys first.prefix);
+    prefix =
+        subst (AppendsPrefix (held a) (held b)) (append_assoc waited xs ys) (AppendsPrefix-longer (held a) (held b) (waited ++ xs) ys first.prefix);
     reason = first.reason;
     kept = first.kept;
   }
@@ -61,7 +62,8 @@ module _ {S : Type 0} (held : S → Option (List ℕ)) (faults : S → ℕ) wher
   -- a text that stopped where nothing waited
   pub Writes-of_stopped : (a b : S) (ending : Ending) (waits text : List ℕ)
       → Prints held faults a b (Err ending) [] waits text → Writes held faults a b (Err ending) text
-  Writes-of_stopped a b ending waits text printed = record { whole = tt; prefix = printed.prefix; reason = printed.reason; kept = printed.kept }
+  Writes-of_stopped a b ending waits text printed =
+      record { whole = tt; prefix = printed.prefix; reason = printed.reason; kept = printed.kept }
 
   -- a text that was added where nothing waited, and behind which nothing waits
   pub Writes-of_prints : (a b : S) (r : Result (Unit {0}) Ending) (text : List ℕ)

@@ -78,7 +78,10 @@ abbrev pub Ends : {S O : Type 0} → (S → Option (List ℕ)) → (S → ℕ) �
     → S → O → O → Ending → Type 0
 Ends left sfaults held ofaults s s_after o o_after Done = IsDone (left s) (left s_after) (held o) (held o_after)
 Ends left sfaults held ofaults s s_after o o_after Usage = ⊥
-Ends left sfaults held ofaults s s_after o o_after (Fault fault) = IsNoScript (left s) (left s_after) fault × (o_after ≡ o)
+Ends left sfaults held ofaults s s_after o o_after (Fault fault) =
+    IsNoScript (left s) (left s_after) fault × (o_after ≡ o)
 Ends left sfaults held ofaults s s_after o o_after ReadFailed = Rose (sfaults s) (sfaults s_after) × (o_after ≡ o)
-Ends left sfaults held ofaults s s_after o o_after WriteFailed = Rose (ofaults o) (ofaults o_after) × IsCutShort (left s) (left s_after) (held o) (held o_after)
-Ends left sfaults held ofaults s s_after o o_after Memory = (o_after ≡ o) ⊎ IsCutShort (left s) (left s_after) (held o) (held o_after)
+Ends left sfaults held ofaults s s_after o o_after WriteFailed =
+    Rose (ofaults o) (ofaults o_after) × IsCutShort (left s) (left s_after) (held o) (held o_after)
+Ends left sfaults held ofaults s s_after o o_after Memory =
+    (o_after ≡ o) ⊎ IsCutShort (left s) (left s_after) (held o) (held o_after)

@@ -52,4 +52,5 @@ bindings_text size pairs = flat_map port_line pairs ++ last_line size (length pa
 
 -- the text of what a script says
 abbrev pub printed_of : Said → List ℕ
-printed_of said = replies_text unbound said.commands ++ bindings_text (table_size said.config) (last_pairs said.commands)
+printed_of said =
+    replies_text unbound said.commands ++ bindings_text (table_size said.config) (last_pairs said.commands)

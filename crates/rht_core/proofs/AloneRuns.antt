@@ -56,7 +56,8 @@ module _ (L : Type 0) (mix : ℕ → ℕ → ℕ → ℕ) (env : Env) (start : L
   abbrev IsDoing : Local L → Type 0
   IsDoing Idle = ⊥
   IsDoing (Finding m) = (call ≡ calls.Find m.port) × find_progress before kind m.port m.at
-  IsDoing (Binding m) = (call ≡ calls.Bind m.port m.owner m.once) × (m.owner < 2 ^ 32) × (kind ≡ Single) × bind_progress before call m.at
+  IsDoing (Binding m) =
+      (call ≡ calls.Bind m.port m.owner m.once) × (m.owner < 2 ^ 32) × (kind ≡ Single) × bind_progress before call m.at
 
   abbrev done_with : Reply → Finished
   done_with reply = record { call = call; reply = reply; owners = []; pairs = [] }
@@ -109,7 +110,8 @@ module _ (L : Type 0) (mix : ℕ → ℕ → ℕ → ℕ) (env : Env) (start : L
         reply = e.reply;
         idle = ap (λ (w : World L). is_idle (local_of w.core c)) same ∙ e.idle;
         past = ap (λ (w : World L). (w.books c).finished) same ∙ e.past;
-        meets = subst (λ (w : World L). MeetsModel kind before (stands_for env.geometry w.core.words) call e.reply) (sym same) e.meets;
+        meets =
+            subst (λ (w : World L). MeetsModel kind before (stands_for env.geometry w.core.words) call e.reply) (sym same) e.meets;
       }
 
   never_stays : (events : List Event) → Never events → Never (next events)
@@ -159,7 +161,8 @@ module _ (L : Type 0) (mix : ℕ → ℕ → ℕ → ℕ) (env : Env) (start : L
 
     still_enrolled : (op : Op) → plan_of (local_of w.core c) ≡ Some op
         → c < (world (next events)).core.enrolled
-    still_enrolled op is = subst (λ (v : World L). c < v.core.enrolled) (sym (pushed events)) (rw (plans op is) going.enrolled)
+    still_enrolled op is =
+        subst (λ (v : World L). c < v.core.enrolled) (sym (pushed events)) (rw (plans op is) going.enrolled)
 
     -- the call goes on
     goes_on : (op : Op) (local : Local L) → plan_of (local_of w.core c) ≡ Some op
@@ -172,7 +175,8 @@ module _ (L : Type 0) (mix : ℕ → ℕ → ℕ → ℕ) (env : Env) (start : L
           doing = subst IsDoing (sym (ap (λ (s : Seen L). s.local) here ∙ ap (λ p. p.0) after)) doing;
           enrolled = still_enrolled op is;
           book = ap (λ (s : Seen L). s.book.call) here ∙ ap (λ p. (book_after p.1 (w.books c)).call) after ∙ going.book;
-          past = ap (λ (s : Seen L). s.book.finished) here ∙ ap (λ p. (book_after p.1 (w.books c)).finished) after ∙ going.past;
+          past =
+              ap (λ (s : Seen L). s.book.finished) here ∙ ap (λ p. (book_after p.1 (w.books c)).finished) after ∙ going.past;
         })
 
     -- the call ends
@@ -187,7 +191,8 @@ module _ (L : Type 0) (mix : ℕ → ℕ → ℕ → ℕ) (env : Env) (start : L
           idle = ap (λ (s : Seen L). is_idle s.local) here ∙ ap (λ p. is_idle p.0) after;
           past = ap (λ (s : Seen L). s.book.finished) here ∙ ap (λ p. (book_after p.1 (w.books c)).finished) after
               ∙ ap (λ o. (w.books c).finished ++ finished_with o reply) going.book ∙ ap (λ f. f ++ done_with reply ∷ []) going.past;
-          meets = subst (λ ws. MeetsModel kind before (stands_for env.geometry ws) call reply) (sym (words_after op is)) meets;
+          meets =
+              subst (λ ws. MeetsModel kind before (stands_for env.geometry ws) call reply) (sym (words_after op is)) meets;
         }))
 
     found_on : (m : FindModel) → local_of w.core c ≡ Finding m → (r : FindAt × Next Reply)
@@ -273,7 +278,8 @@ module _ (L : Type 0) (mix : ℕ → ℕ → ℕ → ℕ) (env : Env) (start : L
           let inv = (has_inv env mix L start).inv in
           inl (record {
             agree = λ port. ap (λ (v : World L). stands_for env.geometry v.core.words port) pushed_begin;
-            doing = subst IsDoing (sym (ap (λ (s : Seen L). s.local) here)) (first_doing small machine (rw (sym inv.same_env) can.machine_is));
+            doing =
+                subst IsDoing (sym (ap (λ (s : Seen L). s.local) here)) (first_doing small machine (rw (sym inv.same_env) can.machine_is));
             enrolled = subst (λ (v : World L). c < v.core.enrolled) (sym pushed_begin) can.below;
             book = ap (λ (s : Seen L). s.book.call) here;
             past = ap (λ (s : Seen L). s.book.finished) here;
@@ -288,7 +294,8 @@ module _ (L : Type 0) (mix : ℕ → ℕ → ℕ → ℕ) (env : Env) (start : L
       (status_next (began ++ replicate count (StepOf c)) (status_after count quiet small))
     where
       one_more : (n : ℕ) → replicate n (StepOf c) ++ StepOf c ∷ [] ≡ replicate (suc n) (StepOf c)
-      one_more n = replicate-append-replicate n 1 (StepOf c) ∙ ap (λ k. replicate k (StepOf c)) {x = n + 1} {y = suc n} (omega arith)
+      one_more n =
+          replicate-append-replicate n 1 (StepOf c) ∙ ap (λ k. replicate k (StepOf c)) {x = n + 1} {y = suc n} (omega arith)
 
   -- a call that has ended meets the model
   pub meets_alone : (count : ℕ) (done : Finished) → IsQuiet L mix env start → IsAdmittedCall call
@@ -303,9 +310,11 @@ module _ (L : Type 0) (mix : ℕ → ℕ → ℕ → ℕ) (env : Env) (start : L
 
       go : Status (start ++ call_events L mix c call count)
           → MeetsModel kind before (bindings_at L mix env (start ++ call_events L mix c call count)) call done.reply
-      go (inl going) = let e : old ++ [] ≡ old ++ done ∷ [] = append-nil old ∙ sym going.past ∙ is in let q = append_cancel_left old [] (done ∷ []) e in absurd (cc)
+      go (inl going) =
+          let e : old ++ [] ≡ old ++ done ∷ [] = append-nil old ∙ sym going.past ∙ is in let q = append_cancel_left old [] (done ∷ []) e in absurd (cc)
       go (inr (inl ended)) =
           let e : done_with ended.reply ∷ [] ≡ done ∷ [] = append_cancel_left old (done_with ended.reply ∷ []) (done ∷ []) (sym ended.past ∙ is) in
           let same : done_with ended.reply ≡ done = (cc) in
           subst (λ r. MeetsModel kind before (bindings_at L mix env (start ++ call_events L mix c call count)) call r) (ap (λ f. f.reply) same) ended.meets
-      go (inr (inr never)) = let e : old ++ [] ≡ old ++ done ∷ [] = append-nil old ∙ sym never.past ∙ is in let q = append_cancel_left old [] (done ∷ []) e in absurd (cc)
+      go (inr (inr never)) =
+          let e : old ++ [] ≡ old ++ done ∷ [] = append-nil old ∙ sym never.past ∙ is in let q = append_cancel_left old [] (done ∷ []) e in absurd (cc)

@@ -74,8 +74,10 @@ abbrev pub find_progress : Multimap → Kind → ℕ → FindAt → Type 0
 find_progress before kind port at = IfSome (reply_of_find at) (IsFoundOut before kind port)
 
 abbrev pub FindAlone : Env → Multimap → Kind → ℕ → FindAt × Next Reply → List ℕ → Type 0
-FindAlone env before kind port (at, Go) after = Agree (stands_for env.geometry after) before × find_progress before kind port at
-FindAlone env before kind port (at, Done reply) after = MeetsModel kind before (stands_for env.geometry after) (calls.Find port) reply
+FindAlone env before kind port (at, Go) after =
+    Agree (stands_for env.geometry after) before × find_progress before kind port at
+FindAlone env before kind port (at, Done reply) after =
+    MeetsModel kind before (stands_for env.geometry after) (calls.Find port) reply
 
 module _ (env : Env) (mix : ℕ → ℕ → ℕ → ℕ) (c port : ℕ) (before : Multimap)
     (words : List ℕ) (G : Ghost) (all : length words ≡ words_in env.geometry) (whole : Whole env mix (mem env mix words) G) (low : c < env.geometry.callers)
@@ -92,7 +94,8 @@ module _ (env : Env) (mix : ℕ → ℕ → ℕ → ℕ) (c port : ℕ) (before 
 
   -- a port is not bound where no node of its bucket has its key
   missed_owner : NoKey M port (G.bucket (home env mix port)).nodes → before port ≡ []
-  missed_owner none = sym (agree port) ∙ stands_for_bound env mix words G whole port ∙ ap (owners_in env mix M) (missed_unbound env mix M G port whole none)
+  missed_owner none =
+      sym (agree port) ∙ stands_for_bound env mix words G whole port ∙ ap (owners_in env mix M) (missed_unbound env mix M G port whole none)
 
   -- ---- a bind
 
@@ -113,7 +116,8 @@ module _ (env : Env) (mix : ℕ → ℕ → ℕ → ℕ) (c port : ℕ) (before 
     ends : (reply : Reply) (after : List ℕ) → Agree (stands_for env.geometry after) before
         → IsDetermined before call reply
         → MeetsModel Single before (stands_for env.geometry after) call reply
-    ends reply after still (inl answered) = inl (record { answer = answered.answer; bindings = agree-trans (stands_for env.geometry after) before (bindings_after Single before call) still answered.bindings })
+    ends reply after still (inl answered) =
+        inl (record { answer = answered.answer; bindings = agree-trans (stands_for env.geometry after) before (bindings_after Single before call) still answered.bindings })
     ends reply after still (inr may) = inr (record { may = may; bindings = still })
 
     take_alone : (r : TakeNodeModel × Next (Option ℕ)) (after : List ℕ)

@@ -46,10 +46,12 @@ module _ (env : Env) (mix : ℕ → ℕ → ℕ → ℕ) (c : ℕ) (port owner :
   with_key n = Raised false ∷ OnlyNode (Some n) ∷ Has n ∷ WordIs n KeyWord (word_of port) ∷ []
 
   abbrev with_owner : ℕ → List Fact
-  with_owner n = Raised false ∷ OnlyNode (Some n) ∷ Has n ∷ WordIs n KeyWord (word_of port) ∷ WordIs n OwnerWord owner ∷ []
+  with_owner n =
+      Raised false ∷ OnlyNode (Some n) ∷ Has n ∷ WordIs n KeyWord (word_of port) ∷ WordIs n OwnerWord owner ∷ []
 
   abbrev filled : Bool → ℕ → List Fact
-  filled raised n = Raised raised ∷ OnlyNode (Some n) ∷ Has n ∷ WordIs n KeyWord (word_of port) ∷ WordIs n OwnerWord owner ∷ WordIs n ListLink 0 ∷ []
+  filled raised n =
+      Raised raised ∷ OnlyNode (Some n) ∷ Has n ∷ WordIs n KeyWord (word_of port) ∷ WordIs n OwnerWord owner ∷ WordIs n ListLink 0 ∷ []
 
   abbrev first_link : Claimed → ℕ
   first_link claimed = head_of claimed.bucket.place claimed.bucket.word
@@ -83,7 +85,8 @@ module _ (env : Env) (mix : ℕ → ℕ → ℕ → ℕ) (c : ℕ) (port owner :
 
   -- the lock, and what the bucket is known to have
   abbrev pub bind_lock : BindAt → List Fact
-  bind_lock (at.Walking table claimed walk) = OnlyLock (Some j) ∷ walk_facts_at port claimed.bucket.word walk.before walk.at
+  bind_lock (at.Walking table claimed walk) =
+      OnlyLock (Some j) ∷ walk_facts_at port claimed.bucket.word walk.before walk.at
   bind_lock (at.FoundOwner claimed found) = OnlyLock (Some j) ∷ Found port claimed.bucket.word found ∷ []
   bind_lock (at.Future table claimed) = OnlyLock (Some j) ∷ Missed port claimed.bucket.word ∷ []
   bind_lock (at.Count claimed) = OnlyLock (Some j) ∷ Missed port claimed.bucket.word ∷ []
@@ -98,14 +101,18 @@ module _ (env : Env) (mix : ℕ → ℕ → ℕ → ℕ) (c : ℕ) (port owner :
   bind_fits (at.Taking take) = IsTaking env mix c take
   bind_fits (at.Shape n table) = table ≡ 0
   bind_fits (at.Seed n table shape) = (table ≡ 0) × (shape ≡ shape_word env mix)
-  bind_fits (at.Locking n table shape lock) = (table ≡ 0) × (shape ≡ shape_word env mix) × (lock.place ≡ place_at env mix j) × IsEven lock.at
-  bind_fits (at.Walking table claimed walk) = (table ≡ 0) × (claimed.shape ≡ shape_word env mix) × (claimed.bucket.place ≡ place_at env mix j) × (walk.geometry ≡ env.geometry) × (walk.key ≡ port)
-  bind_fits (at.Future table claimed) = (table ≡ 0) × (claimed.shape ≡ shape_word env mix) × (claimed.bucket.place ≡ place_at env mix j)
+  bind_fits (at.Locking n table shape lock) =
+      (table ≡ 0) × (shape ≡ shape_word env mix) × (lock.place ≡ place_at env mix j) × IsEven lock.at
+  bind_fits (at.Walking table claimed walk) =
+      (table ≡ 0) × (claimed.shape ≡ shape_word env mix) × (claimed.bucket.place ≡ place_at env mix j) × (walk.geometry ≡ env.geometry) × (walk.key ≡ port)
+  bind_fits (at.Future table claimed) =
+      (table ≡ 0) × (claimed.shape ≡ shape_word env mix) × (claimed.bucket.place ≡ place_at env mix j)
   bind_fits (at.FoundOwner claimed found) = claimed.bucket.place ≡ place_at env mix j
   bind_fits (at.Count claimed) = (claimed.shape ≡ shape_word env mix) × (claimed.bucket.place ≡ place_at env mix j)
   bind_fits (at.Link claimed) = (claimed.shape ≡ shape_word env mix) × (claimed.bucket.place ≡ place_at env mix j)
   bind_fits (at.Raise claimed) = (claimed.shape ≡ shape_word env mix) × (claimed.bucket.place ≡ place_at env mix j)
-  bind_fits (at.Publish claimed kick) = (claimed.shape ≡ shape_word env mix) × (claimed.bucket.place ≡ place_at env mix j)
+  bind_fits (at.Publish claimed kick) =
+      (claimed.shape ≡ shape_word env mix) × (claimed.bucket.place ≡ place_at env mix j)
   bind_fits (at.Unlocking n unlock (Table table)) = ⊥
   bind_fits (at.Unlocking n unlock (Answer reply)) = unlock.place ≡ place_at env mix j
   bind_fits (at.Giving give reply) = give.geometry ≡ env.geometry
@@ -129,9 +136,11 @@ module _ (env : Env) (mix : ℕ → ℕ → ℕ → ℕ) (c : ℕ) (port owner :
   -- the node's words are stored, or there was none
   take_next : (r : TakeNodeModel × Next (Option ℕ)) (M : Memory) (G : Ghost) → TakeKnows env mix c r M G
       → BindNext (node_taken r.0 r.1) M G
-  take_next (take, Go) M G known = record { own = (known.0.0, (known.0.1.0, tt)); lock = (known.0.1.1.0, tt); fits = known.1 }
+  take_next (take, Go) M G known =
+      record { own = (known.0.0, (known.0.1.0, tt)); lock = (known.0.1.1.0, tt); fits = known.1 }
   take_next (take, Done None) M G known = known
-  take_next (take, Done (Some n)) M G known = record { own = (known.0, (known.1.0, (known.1.1.1.0, tt))); lock = (known.1.1.0, tt); fits = tt }
+  take_next (take, Done (Some n)) M G known =
+      record { own = (known.0, (known.1.0, (known.1.1.1.0, tt))); lock = (known.1.1.0, tt); fits = tt }
 
   module _ (within : home env mix port < 64 * env.geometry.pages) where
     abbrev place : ℕ
@@ -150,21 +159,26 @@ module _ (env : Env) (mix : ℕ → ℕ → ℕ → ℕ) (c : ℕ) (port owner :
         → table ≡ 0 → claimed.shape ≡ shape_word env mix → claimed.bucket.place ≡ place
         → WalkKnows env mix c port (filled false claimed.node) (filled_own claimed.node) within claimed.bucket.word r M G
         → BindKnows (walk_taken table claimed r.0 r.1) M G
-    walk_next table claimed (walk, Go) M G t s p known = record { own = known.0; lock = known.1; fits = (t, s, p, known.2.0, known.2.1) }
-    walk_next table claimed (walk, Done seen) M G t s p known = seen_next table claimed seen.found M G t s p known.0 known.1
+    walk_next table claimed (walk, Go) M G t s p known =
+        record { own = known.0; lock = known.1; fits = (t, s, p, known.2.0, known.2.1) }
+    walk_next table claimed (walk, Done seen) M G t s p known =
+        seen_next table claimed seen.found M G t s p known.0 known.1
 
     start_next : (table : ℕ) (claimed : Claimed) (start : Start LockedWalkModel Seen) (M : Memory) (G : Ghost)
         → table ≡ 0 → claimed.shape ≡ shape_word env mix → claimed.bucket.place ≡ place
         → StartKnows env mix c port (filled false claimed.node) (filled_own claimed.node) within claimed.bucket.word start M G
         → BindKnows (walk_or_seen table claimed start) M G
-    start_next table claimed (starts.Running walk) M G t s p known = record { own = known.0; lock = known.1; fits = (t, s, p, known.2.0, known.2.1) }
-    start_next table claimed (starts.Done seen) M G t s p known = seen_next table claimed seen.found M G t s p known.0 known.1
+    start_next table claimed (starts.Running walk) M G t s p known =
+        record { own = known.0; lock = known.1; fits = (t, s, p, known.2.0, known.2.1) }
+    start_next table claimed (starts.Done seen) M G t s p known =
+        seen_next table claimed seen.found M G t s p known.0 known.1
 
     lock_next : (n table shape : ℕ) (r : LockModel × Next ℕ) (M : Memory) (G : Ghost)
         → Whole env mix M G → table ≡ 0 → shape ≡ shape_word env mix
         → LockKnows env mix c port (filled false n) (filled_own n) within r M G
         → BindKnows (lock_taken env port n table shape r.0 r.1) M G
-    lock_next n table shape (lock, Go) M G whole t s known = record { own = known.0; lock = known.1; fits = (t, s, known.2, known.3) }
+    lock_next n table shape (lock, Go) M G whole t s known =
+        record { own = known.0; lock = known.1; fits = (t, s, known.2, known.3) }
     lock_next n table shape (lock, Done word) M G whole t s known =
         let claimed : Claimed = record { node = n; shape = shape; bucket = record { place = lock.place; word = word } } in
         let start = walk_start env mix c port (filled false n) (filled_own n) within M G whole word known.0 known.1 in
@@ -178,7 +192,8 @@ module _ (env : Env) (mix : ℕ → ℕ → ℕ → ℕ) (c : ℕ) (port owner :
       M = mem env mix words
 
       abbrev BindStep : BindAt → Type 0
-      BindStep at = Step env mix c words G (plan_at env port owner at) (BindNext (after_at mix env port at (old_of words (plan_at env port owner at))))
+      BindStep at =
+          Step env mix c words G (plan_at env port owner at) (BindNext (after_at mix env port at (old_of words (plan_at env port owner at))))
 
       -- an operation that leaves its word
       loads : (op : Op) (next : BindAt × Next Reply) → word_after (old_of words op) op ≡ old_of words op
@@ -205,7 +220,8 @@ module _ (env : Env) (mix : ℕ → ℕ → ℕ → ℕ) (c : ℕ) (port owner :
             list = own.1.1.1.1.1.0.1;
             holder = missed.0.0;
             none = missed.1;
-            chain = own.1.1.1.1.1.1.0.1 ∙ ap (λ p. head_of p claimed.bucket.word) known.fits.1 ∙ ap (head_of place) (sym missed.0.1);
+            chain =
+                own.1.1.1.1.1.1.0.1 ∙ ap (λ p. head_of p claimed.bucket.word) known.fits.1 ∙ ap (head_of place) (sym missed.0.1);
             raised = own.0;
           }
 
@@ -231,12 +247,14 @@ module _ (env : Env) (mix : ℕ → ℕ → ℕ → ℕ) (c : ℕ) (port owner :
           no_lock : (other : ℕ)
               → (put G.bucket j (linked_bucket env mix (G.bucket j) claimed.node) other).holder ≡ Some c
               → ◌≡◌ {A = Option ℕ} None (Some other)
-          no_lock = put-none G.bucket j (linked_bucket env mix (G.bucket j) claimed.node) (λ b. b.holder ≡ Some c) (λ h. cc) known.lock.0
+          no_lock =
+              put-none G.bucket j (linked_bucket env mix (G.bucket j) claimed.node) (λ b. b.holder ≡ Some c) (λ h. cc) known.lock.0
 
       -- no node of the bucket has the port's key where only words of other kinds, or of the bind's own node, are written
       missed_still : (M' : Memory) → ((m : ℕ) → m < env.geometry.nodes → key_of M' m ≡ key_of M m)
           → NoKey M port (G.bucket j).nodes → NoKey M' port (G.bucket j).nodes
-      missed_still M' same = NoKey-same M M' port (G.bucket j).nodes (λ m i. same m (whole.owned.first_at m j (whole.owned.member j m i)).among)
+      missed_still M' same =
+          NoKey-same M M' port (G.bucket j).nodes (λ m i. same m (whole.owned.first_at m j (whole.owned.member j m i)).among)
 
       -- each operation of a bind leads from what it knows to what it knows next
       pub bind_step : (at : BindAt) → BindKnows at M G → BindStep at
@@ -253,7 +271,8 @@ module _ (env : Env) (mix : ℕ → ℕ → ℕ → ℕ) (c : ℕ) (port owner :
           let has = known.own.1.1.0 in
           fill_step env mix c words G all whole n OwnerWord owner (BindNext (at.ListLink n, Go)) has
           (λ M' write. record {
-            own = (known.own.0, (known.own.1.0, (has, (kept n OwnerWord KeyWord (word_of port) owner M' write (λ e. cc) has known.own.1.1.1.0, ((has, write.same), tt)))));
+            own =
+                (known.own.0, (known.own.1.0, (has, (kept n OwnerWord KeyWord (word_of port) owner M' write (λ e. cc) has known.own.1.1.1.0, ((has, write.same), tt)))));
             lock = known.lock;
             fits = tt;
           })
@@ -341,7 +360,8 @@ module _ (env : Env) (mix : ℕ → ℕ → ℕ → ℕ) (c : ℕ) (port owner :
                 ),
               ),
             );
-            lock = (known.lock.0, ((known.lock.1.0.0, missed_still M' (λ m l. write.others (Node m KeyWord) l (λ e. cc)) known.lock.1.0.1), tt));
+            lock =
+                (known.lock.0, ((known.lock.1.0.0, missed_still M' (λ m l. write.others (Node m KeyWord) l (λ e. cc)) known.lock.1.0.1), tt));
             fits = known.fits;
           })
       bind_step (at.Raise claimed) known =
@@ -359,7 +379,8 @@ module _ (env : Env) (mix : ℕ → ℕ → ℕ → ℕ) (c : ℕ) (port owner :
                     (OnlyNode (Some claimed.node) ∷ Has claimed.node ∷ WordIs claimed.node KeyWord (word_of port) ∷ WordIs claimed.node OwnerWord owner ∷ WordIs claimed.node ListLink 0 ∷ WordIs claimed.node ChainLink (first_link claimed) ∷ [])
                     (tt, (tt, (tt, (tt, (tt, (tt, tt)))))) (λ n w l. write.others (Node n w) l (λ e. cc)) (λ n. refl) known.own.1,
               );
-              lock = (known.lock.0, ((known.lock.1.0.0, missed_still M' (λ m l. write.others (Node m KeyWord) l (λ e. cc)) known.lock.1.0.1), tt));
+              lock =
+                  (known.lock.0, ((known.lock.1.0.0, missed_still M' (λ m l. write.others (Node m KeyWord) l (λ e. cc)) known.lock.1.0.1), tt));
               fits = known.fits;
             };
           }

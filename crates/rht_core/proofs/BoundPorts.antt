@@ -115,7 +115,8 @@ module _ (env : Env) (mix : ℕ → ℕ → ℕ → ℕ) (words : List ℕ) (G :
       )
     where
       bucket_below : (k : ℕ) → bucket_of mix k (shape_word env mix) env.config.seed < size
-      bucket_below k = mod-lt (mix k 0 (env.config.seed % 2 ^ 32)) {m = size} (let size_is = IsSizeUpTo-size_of (unpacked (shape_word env mix)) in omega (arith, size_is.least))
+      bucket_below k =
+          mod-lt (mix k 0 (env.config.seed % 2 ^ 32)) {m = size} (let size_is = IsSizeUpTo-size_of (unpacked (shape_word env mix)) in omega (arith, size_is.least))
 
   -- ---- what the words stand for
 

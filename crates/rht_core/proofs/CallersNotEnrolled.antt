@@ -34,7 +34,8 @@ module _ (M : Type 0) (mix : ℕ → ℕ → ℕ → ℕ) where
   begins-fresh : (w : World M) (c : ℕ) (call : Call) (machine : Option (Local M))
       → beginning w.core.env w.core.enrolled w.core.locals c call ≡ machine → OthersFresh w
       → (k : ℕ) → w.core.enrolled ≤ k → IsFresh (world_step mix w (Begin c call)) k
-  begins-fresh w c call None is fresh k past = ap (λ (v : World M). seen v k) (begin_none M mix w c call is) ∙ fresh k past
+  begins-fresh w c call None is fresh k past =
+      ap (λ (v : World M). seen v k) (begin_none M mix w c call is) ∙ fresh k past
   begins-fresh w c call (Some machine) is fresh k past =
       let can = beginning-some w.core.env w.core.enrolled w.core.locals c call machine is in
       begin_other M mix w c call k (λ same. omega (arith, can.below)) ∙ fresh k past

@@ -41,7 +41,8 @@ module _ (env : Env) (mix : ℕ → ℕ → ℕ → ℕ) (words : List ℕ) (G :
   has_first port some = go (G.bound port) refl
     where
       go : (nodes : List ℕ) → G.bound port ≡ nodes → HasFirst port
-      go [] b = absurd (some (stands_for_bound env mix words G whole port ∙ ap (map (λ n. owner_of (mem env mix words (Node n OwnerWord)))) b))
+      go [] b =
+          absurd (some (stands_for_bound env mix words G whole port ∙ ap (map (λ n. owner_of (mem env mix words (Node n OwnerWord)))) b))
       go (n ∷ behind) b =
           let to = whole.owned.bound_to port n behind b in
           let here : node_of_port port ≡ n = ap node_for b in
@@ -61,7 +62,8 @@ module _ (env : Env) (mix : ℕ → ℕ → ℕ → ℕ) (words : List ℕ) (G :
   nodes_distinct : (ports : List ℕ) → IsDistinct ports → AllByRecursion HasFirst ports
       → IsDistinct (map node_of_port ports)
   nodes_distinct [] distinct all = tt
-  nodes_distinct (port ∷ ports) distinct all = (other_nodes port ports distinct.0 all.0 all.1, nodes_distinct ports distinct.1 all.1)
+  nodes_distinct (port ∷ ports) distinct all =
+      (other_nodes port ports distinct.0 all.0 all.1, nodes_distinct ports distinct.1 all.1)
 
   nodes_below : (ports : List ℕ) → AllByRecursion HasFirst ports
       → AllByRecursion (λ n. n < env.geometry.nodes) (map node_of_port ports)
@@ -128,7 +130,8 @@ module _ (M : Type 0) (mix : ℕ → ℕ → ℕ → ℕ) where
       record {
         bound = firsts env mix has.ghost;
         all_bound = firsts-AreAllBound env mix core.words has.ghost has.inv.whole;
-        counted = has.inv.whole.counted ∙ ap (λ r. firsts env mix has.ghost + r) (sym (raising-raisers env core has.ghost has.inv));
+        counted =
+            has.inv.whole.counted ∙ ap (λ r. firsts env mix has.ghost + r) (sym (raising-raisers env core has.ghost has.inv));
       }
 
   pub at_rest : AtRest M mix
@@ -144,7 +147,8 @@ module _ (M : Type 0) (mix : ℕ → ℕ → ℕ → ℕ) where
             let right = (has.inv.whole.buckets j l).locked in
             even_word (G.bucket j).holder (G.bucket j).plain (word_at env.geometry core.words (PageWord j)) right.word_is right.even
             (λ c h. let none = (knows c).1.1.0 j h in absurd (cc));
-        nodes = λ n l. free_or_bound env mix core.words G has.inv.whole n l (λ c held. let none = (knows c).1.0 n held in absurd (cc));
+        nodes =
+            λ n l. free_or_bound env mix core.words G has.inv.whole n l (λ c held. let none = (knows c).1.0 n held in absurd (cc));
         counted = rw all (firsts-AreAllBound env mix core.words G has.inv.whole);
       }
     where

@@ -43,7 +43,8 @@ module _ (env : Env) (mix : ℕ → ℕ → ℕ → ℕ) (c : ℕ) (port : ℕ) 
   find_lock (at.Walking table bucket walk) = OnlyLock (Some j) ∷ walk_facts_at port bucket.word walk.before walk.at
   find_lock (at.Future table bucket) = OnlyLock (Some j) ∷ Missed port bucket.word ∷ []
   find_lock (at.FirstOwner bucket node) = OnlyLock (Some j) ∷ Found port bucket.word node ∷ []
-  find_lock (at.ListLink bucket node owner) = OnlyLock (Some j) ∷ Found port bucket.word node ∷ OwnerIs port bucket.word node owner ∷ []
+  find_lock (at.ListLink bucket node owner) =
+      OnlyLock (Some j) ∷ Found port bucket.word node ∷ OwnerIs port bucket.word node owner ∷ []
   find_lock (at.Unlocking unlock next) = OnlyLock (Some j) ∷ Locks port unlock.word ∷ []
   find_lock _ = OnlyLock None ∷ []
 
@@ -53,7 +54,8 @@ module _ (env : Env) (mix : ℕ → ℕ → ℕ → ℕ) (c : ℕ) (port : ℕ) 
   find_fits (at.Shape table) = table ≡ 0
   find_fits (at.Seed table shape) = (table ≡ 0) × (shape ≡ shape_word env mix)
   find_fits (at.Locking table lock) = (table ≡ 0) × (lock.place ≡ place_at env mix j) × IsEven lock.at
-  find_fits (at.Walking table bucket walk) = (table ≡ 0) × (bucket.place ≡ place_at env mix j) × (walk.geometry ≡ env.geometry) × (walk.key ≡ port)
+  find_fits (at.Walking table bucket walk) =
+      (table ≡ 0) × (bucket.place ≡ place_at env mix j) × (walk.geometry ≡ env.geometry) × (walk.key ≡ port)
   find_fits (at.Future table bucket) = (table ≡ 0) × (bucket.place ≡ place_at env mix j)
   find_fits (at.FirstOwner bucket node) = bucket.place ≡ place_at env mix j
   find_fits (at.ListLink bucket node owner) = bucket.place ≡ place_at env mix j
@@ -92,20 +94,23 @@ module _ (env : Env) (mix : ℕ → ℕ → ℕ → ℕ) (c : ℕ) (port : ℕ) 
         → table ≡ 0 → bucket.place ≡ place
         → WalkKnows env mix c port no_node nothing_own within bucket.word r M G
         → FindKnows (walk_taken table bucket r.0 r.1) M G
-    walk_next table bucket (walk, Go) M G t p known = record { own = known.0; lock = known.1; fits = (t, p, known.2.0, known.2.1) }
+    walk_next table bucket (walk, Go) M G t p known =
+        record { own = known.0; lock = known.1; fits = (t, p, known.2.0, known.2.1) }
     walk_next table bucket (walk, Done seen) M G t p known = seen_next table bucket seen.found M G t p known.0 known.1
 
     start_next : (table : ℕ) (bucket : Locked) (start : Start LockedWalkModel Seen) (M : Memory) (G : Ghost)
         → table ≡ 0 → bucket.place ≡ place
         → StartKnows env mix c port no_node nothing_own within bucket.word start M G
         → FindKnows (walk_or_seen table bucket start) M G
-    start_next table bucket (starts.Running walk) M G t p known = record { own = known.0; lock = known.1; fits = (t, p, known.2.0, known.2.1) }
+    start_next table bucket (starts.Running walk) M G t p known =
+        record { own = known.0; lock = known.1; fits = (t, p, known.2.0, known.2.1) }
     start_next table bucket (starts.Done seen) M G t p known = seen_next table bucket seen.found M G t p known.0 known.1
 
     lock_next : (table : ℕ) (r : LockModel × Next ℕ) (M : Memory) (G : Ghost) → Whole env mix M G → table ≡ 0
         → LockKnows env mix c port no_node nothing_own within r M G
         → FindKnows (lock_taken env port table r.0 r.1) M G
-    lock_next table (lock, Go) M G whole t known = record { own = known.0; lock = known.1; fits = (t, known.2, known.3) }
+    lock_next table (lock, Go) M G whole t known =
+        record { own = known.0; lock = known.1; fits = (t, known.2, known.3) }
     lock_next table (lock, Done word) M G whole t known =
         let bucket : Locked = record { place = lock.place; word = word } in
         let start = walk_start env mix c port no_node nothing_own within M G whole word known.0 known.1 in
@@ -119,7 +124,8 @@ module _ (env : Env) (mix : ℕ → ℕ → ℕ → ℕ) (c : ℕ) (port : ℕ) 
       M = mem env mix words
 
       abbrev FindStep : FindAt → Type 0
-      FindStep at = Step env mix c words G (plan_at env at) (FindNext (after_at mix env port at (old_of words (plan_at env at))))
+      FindStep at =
+          Step env mix c words G (plan_at env at) (FindNext (after_at mix env port at (old_of words (plan_at env at))))
 
       loads : (op : Op) (next : FindAt × Next Reply) → word_after (old_of words op) op ≡ old_of words op
           → FindNext next M G → Step env mix c words G op (FindNext next)

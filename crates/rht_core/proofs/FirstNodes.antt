@@ -155,7 +155,8 @@ module _ (g : Geometry) (words : List ℕ) where
       (whole : before ++ owners_from g words (count - walked) next ≡ all) where
     -- the owners behind this node's
     abbrev owners_behind : List ℕ
-    owners_behind = owners_from g words (count - (walked + 1)) (node_of g.nodes (word (place_of g (Node node ListLink))))
+    owners_behind =
+        owners_from g words (count - (walked + 1)) (node_of g.nodes (word (place_of g (Node node ListLink))))
 
     -- one owner stands before those behind it
     owners-some : owners_from g words (count - walked) next ≡ owner_of (word (place_of g (Node node OwnerWord))) ∷ owners_behind

@@ -27,7 +27,8 @@ module _ (env : Env) (mix : ℕ → ℕ → ℕ → ℕ) where
   pub firsts_stay : (M M' : Memory) (G : Ghost) (a : Address) (v : ℕ) → Whole env mix M G
       → IsWrite env.geometry M M' a v
       → ((n : ℕ) (w : NodeWord) → Node n w ≢ a) → FirstsStay M G M'
-  firsts_stay M M' G a v whole write not_node n j w first = write.others (Node n w) (whole.owned.first_at n j first).among (not_node n w)
+  firsts_stay M M' G a v whole write not_node n j w first =
+      write.others (Node n w) (whole.owned.first_at n j first).among (not_node n w)
 
   -- where buckets and nodes have whom they had, a caller knows what it knew
   pub Rely-same : (c : ℕ) (M M' : Memory) (G G' : Ghost) → G'.bucket ≡ G.bucket → G'.node ≡ G.node
@@ -86,7 +87,8 @@ module _ (env : Env) (mix : ℕ → ℕ → ℕ → ℕ) where
       let first = head_of (place_at env mix j) b.plain in
       let marker = marker_of (place_at env mix j) in
       record {
-        segment = rw nodes (rw plain (IsSegment-members (chain_of M) (chain_of M') first b.nodes marker links right.segment));
+        segment =
+            rw nodes (rw plain (IsSegment-members (chain_of M) (chain_of M') first b.nodes marker links right.segment));
         distinct = rw nodes right.distinct;
       }
 
@@ -165,11 +167,13 @@ module _ (env : Env) (mix : ℕ → ℕ → ℕ → ℕ) where
     -- locks are right where no bucket's word is written
     pub locks_stay : ((j : ℕ) → PageWord j ≢ a) → (j : ℕ) → j < 64 * env.geometry.pages
         → LockedRight env mix M' j (G.bucket j)
-    locks_stay apart j l = LockedRight-frame M M' j (G.bucket j) (write.others (PageWord j) l (apart j)) (whole.buckets j l).locked
+    locks_stay apart j l =
+        LockedRight-frame M M' j (G.bucket j) (write.others (PageWord j) l (apart j)) (whole.buckets j l).locked
 
     -- and the map of nodes where none of its words is, and nodes have whom they had
     pub arena_stays : (G' : Ghost) → G'.node ≡ G.node → ((i : ℕ) → NodeMap i ≢ a) → ArenaRight env mix M' G'
     arena_stays G' same apart = record {
       built = λ n. rw (ap (λ o. o n) same) (whole.arena.built n);
-      bits = λ n l. rw (write.others (NodeMap (n / 64)) (omega arith) (apart (n / 64))) (rw (ap (λ o. o n) same) (whole.arena.bits n l));
+      bits =
+          λ n l. rw (write.others (NodeMap (n / 64)) (omega arith) (apart (n / 64))) (rw (ap (λ o. o n) same) (whole.arena.bits n l));
     }

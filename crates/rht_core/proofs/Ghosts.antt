@@ -24,7 +24,8 @@ put-other f j v i ne = go (i == j) refl
 -- what is true of the new value at the changed place, and of the old values elsewhere, is true everywhere
 pub put-all : {A : Type 0} → (P : ℕ → A → Type 0) (f : ℕ → A) (j : ℕ) (v : A) → P j v
     → ((i : ℕ) → i ≢ j → P i (f i)) → (i : ℕ) → P i (put f j v i)
-put-all P f j v here other i = elim (cases_eq i j) as (λ t. P i (put f j v i)) [ inl e ↦ rw (e, put-same f j v) here | inr ne ↦ rw (put-other f j v i ne) (other i ne) ]
+put-all P f j v here other i =
+    elim (cases_eq i j) as (λ t. P i (put f j v i)) [ inl e ↦ rw (e, put-same f j v) here | inr ne ↦ rw (put-other f j v i ne) (other i ne) ]
 
 -- who had one thing alone has none once it is another's, and who had none has this one alone once it is its own
 module _ {A : Type 0} (f : ℕ → A) (j : ℕ) (v : A) (Mine : A → Type 0) where
@@ -35,7 +36,8 @@ module _ {A : Type 0} (f : ℕ → A) (j : ℕ) (v : A) (Mine : A → Type 0) wh
 
   pub put-only : ((i : ℕ) → Mine (f i) → ◌≡◌ {A = Option ℕ} None (Some i)) → (i : ℕ) → Mine (put f j v i)
       → Some j ≡ Some i
-  put-only none = put-all (λ i a. Mine a → Some j ≡ Some i) f j v (λ mine. refl) (λ i ne mine. let q = none i mine in absurd (cc))
+  put-only none =
+      put-all (λ i a. Mine a → Some j ≡ Some i) f j v (λ mine. refl) (λ i ne mine. let q = none i mine in absurd (cc))
 
 -- ---- ghosts
 

@@ -52,7 +52,8 @@ module _ (env : Env) (mix : ℕ → ℕ → ℕ → ℕ) where
     -- others leave what a caller knows
     pub CallerKnows-rely : (c : ℕ) (local : Local L) (M M' : Memory) (G G' : Ghost) → Whole env mix M G
         → Rely env mix c M G M' G' → CallerKnows c local M G → CallerKnows c local M' G'
-    CallerKnows-rely c Idle M M' G G' whole rely known = AllMean-rely env mix c M M' G G' whole.owned.member rely nothing_held known
+    CallerKnows-rely c Idle M M' G G' whole rely known =
+        AllMean-rely env mix c M M' G G' whole.owned.member rely nothing_held known
     CallerKnows-rely c (Finding m) M M' G G' whole rely known = (
       known.0,
       record {
@@ -64,8 +65,10 @@ module _ (env : Env) (mix : ℕ → ℕ → ℕ → ℕ) where
     CallerKnows-rely c (Binding m) M M' G G' whole rely known = (
       known.0,
       record {
-        own = AllMean-rely env mix c M M' G G' whole.owned.member rely (bind_own env mix c m.port m.owner m.at) known.1.own;
-        lock = AllMean-rely env mix c M M' G G' whole.owned.member rely (bind_lock env mix c m.port m.owner m.at) known.1.lock;
+        own =
+            AllMean-rely env mix c M M' G G' whole.owned.member rely (bind_own env mix c m.port m.owner m.at) known.1.own;
+        lock =
+            AllMean-rely env mix c M M' G G' whole.owned.member rely (bind_lock env mix c m.port m.owner m.at) known.1.lock;
         fits = known.1.fits;
       },
     )
@@ -85,7 +88,8 @@ module _ (env : Env) (mix : ℕ → ℕ → ℕ → ℕ) where
     bound_knows c m (at, Done reply) M G same known = known
 
     abbrev pub CallerStep : ℕ → Local L → Op → List ℕ → Ghost → Type 0
-    CallerStep c local op words G = Step env mix c words G op (CallerKnows c (local_after mix local (old_of words op)).0)
+    CallerStep c local op words G =
+        Step env mix c words G op (CallerKnows c (local_after mix local (old_of words op)).0)
 
     -- each operation of a caller keeps the whole and leads to what its next state says
     pub caller_step : (c : ℕ) (local : Local L) (op : Op) (words : List ℕ) (G : Ghost)
@@ -166,7 +170,8 @@ module _ (env : Env) (mix : ℕ → ℕ → ℕ → ℕ) where
           inv = rw is (record {
             same_env = inv.same_env;
             whole = inv.whole;
-            each = each_set (λ k local. CallerKnows k local (mem env mix core.words) G) Idle core.locals c machine low knows inv.each;
+            each =
+                each_set (λ k local. CallerKnows k local (mem env mix core.words) G) Idle core.locals c machine low knows inv.each;
           });
           moved = inl refl;
         }
@@ -213,7 +218,8 @@ module _ (env : Env) (mix : ℕ → ℕ → ℕ → ℕ) where
           inv = record {
             same_env = inv.same_env;
             whole = kept.0;
-            each = λ k. CallerKnows-rely k (local_of core k) (mem env mix core.words) M' G G inv.whole (kept.1 k) (inv.each k);
+            each =
+                λ k. CallerKnows-rely k (local_of core k) (mem env mix core.words) M' G G inv.whole (kept.1 k) (inv.each k);
           };
           moved = inl refl;
         }
@@ -221,5 +227,6 @@ module _ (env : Env) (mix : ℕ → ℕ → ℕ → ℕ) where
     -- each event keeps the invariant
     pub kept : (core : Core L) (G : Ghost) (event : Event) → IsSound core → Inv core G → Kept core G event
     kept core G Enroll sound inv = enroll_kept core G sound inv
-    kept core G (Begin c call) sound inv = begin_kept core G c call (beginning core.env core.enrolled core.locals c call) sound inv refl
+    kept core G (Begin c call) sound inv =
+        begin_kept core G c call (beginning core.env core.enrolled core.locals c call) sound inv refl
     kept core G (StepOf c) sound inv = step_kept core G c (planned core.enrolled core.locals c) sound inv refl

@@ -75,11 +75,15 @@ module _ (env : Env) (mix : ℕ → ℕ → ℕ → ℕ) where
   Means c M G (Has node) = HasNode c G node
   Means c M G (WordIs node word value) = HasNode c G node × (M (Node node word) ≡ value)
   Means c M G (Locks port word) = HoldsLock c G port word
-  Means c M G (Stands port word node before) = HoldsLock c G port word × StandsAt M (bucket_for G port).nodes port node before
-  Means c M G (Differs port word node) = HoldsLock c G port word × In node (bucket_for G port).nodes × (key_of M node ≢ port)
+  Means c M G (Stands port word node before) =
+      HoldsLock c G port word × StandsAt M (bucket_for G port).nodes port node before
+  Means c M G (Differs port word node) =
+      HoldsLock c G port word × In node (bucket_for G port).nodes × (key_of M node ≢ port)
   Means c M G (Missed port word) = HoldsLock c G port word × NoKey M port (bucket_for G port).nodes
-  Means c M G (Found port word node) = HoldsLock c G port word × In node (bucket_for G port).nodes × (key_of M node ≡ port)
-  Means c M G (OwnerIs port word node owner) = HoldsLock c G port word × In node (bucket_for G port).nodes × (owner_of (M (Node node OwnerWord)) ≡ owner)
+  Means c M G (Found port word node) =
+      HoldsLock c G port word × In node (bucket_for G port).nodes × (key_of M node ≡ port)
+  Means c M G (OwnerIs port word node owner) =
+      HoldsLock c G port word × In node (bucket_for G port).nodes × (owner_of (M (Node node OwnerWord)) ≡ owner)
   Means c M G (Raised now) = G.raised c ≡ now
   Means c M G (OnlyNode node) = (other : ℕ) → G.node other ≡ Held c → node ≡ Some other
   Means c M G (OnlyLock bucket) = (other : ℕ) → (G.bucket other).holder ≡ Some c → bucket ≡ Some other
@@ -152,7 +156,8 @@ module _ (env : Env) (mix : ℕ → ℕ → ℕ → ℕ) where
     -- a fact outlives a step of anybody else
     pub Means-rely : (fact : Fact) → Means c M G fact → Means c M' G' fact
     Means-rely (Has node) means = HasNode-rely c M M' G G' node rely means
-    Means-rely (WordIs node word value) means = (HasNode-rely c M M' G G' node rely means.0, (rely.nodes node means.0).1 word ∙ means.1)
+    Means-rely (WordIs node word value) means =
+        (HasNode-rely c M M' G G' node rely means.0, (rely.nodes node means.0).1 word ∙ means.1)
     Means-rely (Locks port word) means = HoldsLock-rely c M M' G G' port word rely means
     Means-rely (Stands port word node before) means =
         (HoldsLock-rely c M M' G G' port word rely means.0, stands_stay port word node before means.0 means.1)

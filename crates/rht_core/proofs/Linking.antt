@@ -93,8 +93,10 @@ module _ (env : Env) (mix : ℕ → ℕ → ℕ → ℕ) where
         (λ m i. first_word m here ChainLink (whole.owned.member here m i)) old.chained.segment in
         let behind : chain_of M' n ≡ head_of (place_at env mix here) (G.bucket here).plain = word_same n ChainLink ready.has.1 ∙ ready.chain in
         record {
-          locked = record { word_is = write.same ∙ omega arith; even = omega arith; none_out = old.locked.none_out; none_armed = old.locked.none_armed };
-          chained = record { segment = (head_of-link (place_at env mix here) n, rw behind rest); distinct = (not_in here, old.chained.distinct) };
+          locked =
+              record { word_is = write.same ∙ omega arith; even = omega arith; none_out = old.locked.none_out; none_armed = old.locked.none_armed };
+          chained =
+              record { segment = (head_of-link (place_at env mix here) n, rw behind rest); distinct = (not_in here, old.chained.distinct) };
         }
 
     linked_owned : Owned env mix M' G'
@@ -128,7 +130,8 @@ module _ (env : Env) (mix : ℕ → ℕ → ℕ → ℕ) where
           there = rw (put-same G.bucket here (linked_bucket (G.bucket here) n)) (inl refl);
           among = ready.has.1;
           at_home = ap (home env mix) (sym (word_same n KeyWord ready.has.1 ∙ ready.key));
-          bound_to = ap (put G.bound port (n ∷ [])) (word_same n KeyWord ready.has.1 ∙ ready.key) ∙ put-same G.bound port (n ∷ []);
+          bound_to =
+              ap (put G.bound port (n ∷ [])) (word_same n KeyWord ready.has.1 ∙ ready.key) ∙ put-same G.bound port (n ∷ []);
           no_list = word_same n ListLink ready.has.1 ∙ ready.list;
         }
 
@@ -138,10 +141,12 @@ module _ (env : Env) (mix : ℕ → ℕ → ℕ → ℕ) where
             let key = first_word k j KeyWord f in
             let other : key_of M k ≢ port = λ e. let q : ◌≡◌ {A = List ℕ} [] (k ∷ []) = sym unbound ∙ ap G.bound (sym e) ∙ at.bound_to in cc in
             record {
-              there = put-all (λ i b. In k (G.bucket i).nodes → In k b.nodes) G.bucket here (linked_bucket (G.bucket here) n) (λ was. inr was) (λ i ne was. was) j at.there;
+              there =
+                  put-all (λ i b. In k (G.bucket i).nodes → In k b.nodes) G.bucket here (linked_bucket (G.bucket here) n) (λ was. inr was) (λ i ne was. was) j at.there;
               among = at.among;
               at_home = at.at_home ∙ ap (home env mix) (sym key);
-              bound_to = ap (put G.bound port (n ∷ [])) key ∙ put-other G.bound port (n ∷ []) (key_of M k) other ∙ at.bound_to;
+              bound_to =
+                  ap (put G.bound port (n ∷ [])) key ∙ put-other G.bound port (n ∷ []) (key_of M k) other ∙ at.bound_to;
               no_list = first_word k j ListLink f ∙ at.no_list;
             }
 
@@ -166,7 +171,8 @@ module _ (env : Env) (mix : ℕ → ℕ → ℕ → ℕ) where
     pub link_head : Made env mix d M G M' G'
     link_head = record {
       whole = record {
-        tables = OneTable-write env mix M M' G G' (PageWord here) (link_of n) write ((λ e. cc), (λ s e. cc)) refl refl whole.tables;
+        tables =
+            OneTable-write env mix M M' G G' (PageWord here) (link_of n) write ((λ e. cc), (λ s e. cc)) refl refl whole.tables;
         buckets = put-all (λ i b. i < 64 * env.geometry.pages → BucketRight env mix M' i b) G.bucket here (linked_bucket (G.bucket here) n)
             (λ l. linked_right)
             (λ i ne l. BucketRight-frame env mix M M' i (G.bucket i) (write.others (PageWord i) l (λ e. ne (cc)))
@@ -176,11 +182,15 @@ module _ (env : Env) (mix : ℕ → ℕ → ℕ → ℕ) where
         counted = write.others PortCount tt (λ e. cc) ∙ omega (arith, whole.counted, one_more_first, one_less_raiser);
       };
       others = λ c ne. record {
-        locks = λ j h. put-other G.bucket here (linked_bucket (G.bucket here) n) j (λ e. let q : ◌≡◌ {A = Option ℕ} (Some d) (Some c) = sym ready.holder ∙ ap (λ i. (G.bucket i).holder) (sym e) ∙ h in ne (cc));
+        locks =
+            λ j h. put-other G.bucket here (linked_bucket (G.bucket here) n) j (λ e. let q : ◌≡◌ {A = Option ℕ} (Some d) (Some c) = sym ready.holder ∙ ap (λ i. (G.bucket i).holder) (sym e) ∙ h in ne (cc));
         words = λ m j f. (first_word m j KeyWord f, first_word m j OwnerWord f);
-        nodes = λ m has. (put-other G.node n (First here) m (λ e. ne (held_by_one (G.node n) c d (ap G.node (sym e) ∙ has.0) ready.has.0)) ∙ has.0, λ w. word_same m w has.1);
+        nodes =
+            λ m has. (put-other G.node n (First here) m (λ e. ne (held_by_one (G.node n) c d (ap G.node (sym e) ∙ has.0) ready.has.0)) ∙ has.0, λ w. word_same m w has.1);
         raised = put-other G.raised d false c ne;
-        no_node = λ m. put-all (λ k o. o ≡ Held c → G.node k ≡ Held c) G.node n (First here) (λ e. absurd (cc)) (λ k kn h. h) m;
-        no_lock = λ j. put-all (λ i b. b.holder ≡ Some c → (G.bucket i).holder ≡ Some c) G.bucket here (linked_bucket (G.bucket here) n) (λ e. absurd (cc)) (λ i ni h. h) j;
+        no_node =
+            λ m. put-all (λ k o. o ≡ Held c → G.node k ≡ Held c) G.node n (First here) (λ e. absurd (cc)) (λ k kn h. h) m;
+        no_lock =
+            λ j. put-all (λ i b. b.holder ≡ Some c → (G.bucket i).holder ≡ Some c) G.bucket here (linked_bucket (G.bucket here) n) (λ e. absurd (cc)) (λ i ni h. h) j;
       };
     }

@@ -43,7 +43,8 @@ module _ (env : Env) (mix : ℕ → ℕ → ℕ → ℕ) where
     current = refl;
     nodes = λ j. refl;
     plain = λ j. refl;
-    firsts_before = λ m j. put-all (λ i o. o ≡ First j → G.node i ≡ First j) G.node n owner (λ f. absurd (now j f)) (λ i ne f. f) m;
+    firsts_before =
+        λ m j. put-all (λ i o. o ≡ First j → G.node i ≡ First j) G.node n owner (λ f. absurd (now j f)) (λ i ne f. f) m;
     firsts_after = λ m j f. put-other G.node n owner m (λ e. was j (ap G.node (sym e) ∙ f)) ∙ f;
     bound = λ port. refl;
   }
@@ -118,10 +119,12 @@ module _ (env : Env) (mix : ℕ → ℕ → ℕ → ℕ) where
             (locks_stay env mix M M' G (NodeMap i) value whole write (λ j e. cc))
             (record {
               built = whole.arena.built;
-              bits = λ n k. rw (map_bit_stays i value n M M' write k (λ e. same (n % 64) (omega arith))) (whole.arena.bits n k);
+              bits =
+                  λ n k. rw (map_bit_stays i value n M M' write k (λ e. same (n % 64) (omega arith))) (whole.arena.bits n k);
             })
             (write.others PortCount tt (λ e. cc) ∙ whole.counted);
-        others = λ c ne. Rely-same env mix c M M' G G refl refl refl firsts (λ m w has. write.others (Node m w) has.1 (λ e. cc));
+        others =
+            λ c ne. Rely-same env mix c M M' G G refl refl refl firsts (λ m w has. write.others (Node m w) has.1 (λ e. cc));
       }
 
   -- the and that clears a bit which was set: the node was free
@@ -143,9 +146,11 @@ module _ (env : Env) (mix : ℕ → ℕ → ℕ → ℕ) where
           others = λ c ne. record {
             locks = λ j h. refl;
             words = λ m j f. (firsts m j KeyWord f, firsts m j OwnerWord f);
-            nodes = λ m has. (put-other G.node n (Held d) m (λ e. let q = sym free ∙ ap G.node (sym e) ∙ has.0 in cc) ∙ has.0, λ w. write.others (Node m w) has.1 (λ e. cc));
+            nodes =
+                λ m has. (put-other G.node n (Held d) m (λ e. let q = sym free ∙ ap G.node (sym e) ∙ has.0 in cc) ∙ has.0, λ w. write.others (Node m w) has.1 (λ e. cc));
             raised = refl;
-            no_node = λ m. put-all (λ k o. o ≡ Held c → G.node k ≡ Held c) G.node n (Held d) (λ e. absurd (ne (cc))) (λ k kn h. h) m;
+            no_node =
+                λ m. put-all (λ k o. o ≡ Held c → G.node k ≡ Held c) G.node n (Held d) (λ e. absurd (ne (cc))) (λ k kn h. h) m;
             no_lock = λ j h. h;
           };
         },
@@ -171,9 +176,11 @@ module _ (env : Env) (mix : ℕ → ℕ → ℕ → ℕ) where
         others = λ c ne. record {
           locks = λ j h. refl;
           words = λ m j f. (firsts m j KeyWord f, firsts m j OwnerWord f);
-          nodes = λ m held. (put-other G.node n Free m (λ e. ne (held_by_one (G.node n) c d (ap G.node (sym e) ∙ held.0) has.0)) ∙ held.0, λ w. write.others (Node m w) held.1 (λ e. cc));
+          nodes =
+              λ m held. (put-other G.node n Free m (λ e. ne (held_by_one (G.node n) c d (ap G.node (sym e) ∙ held.0) has.0)) ∙ held.0, λ w. write.others (Node m w) held.1 (λ e. cc));
           raised = refl;
-          no_node = λ m. put-all (λ k o. o ≡ Held c → G.node k ≡ Held c) G.node n Free (λ e. absurd (cc)) (λ k kn h. h) m;
+          no_node =
+              λ m. put-all (λ k o. o ≡ Held c → G.node k ≡ Held c) G.node n Free (λ e. absurd (cc)) (λ k kn h. h) m;
           no_lock = λ j h. h;
         };
       }

@@ -85,7 +85,8 @@ module _ (env : Env) (mix : ℕ → ℕ → ℕ → ℕ) (c : ℕ) where
           move = TakesNode (64 * index + bit);
           ready = tt;
           made = made.0;
-          knows = (means.0, (only_this means.1.0, (means.1.1.0, ((put-same G.node (64 * index + bit) (Held c), range.below), tt))));
+          knows =
+              (means.0, (only_this means.1.0, (means.1.1.0, ((put-same G.node (64 * index + bit) (Held c), range.below), tt))));
         })
         (λ t e. let clear : bit_at word bit ≡ 0 = (let less = bit_at-lt word bit in let ne = eqb-false (bit_at word bit) 1 t in omega (arith, less, ne)) in
         let same : (k : ℕ) → k < 64 → bit_at (bit_and word (bit_not w64 (bit_of bit))) k ≡ bit_at word k

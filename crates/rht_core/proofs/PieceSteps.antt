@@ -59,12 +59,15 @@ module _ (env : Env) (mix : ℕ → ℕ → ℕ → ℕ) (c : ℕ) (port : ℕ) 
 
   -- what the caller knows after an operation of the walk
   abbrev pub WalkKnows : ℕ → LockedWalkModel × Next Seen → Memory → Ghost → Type 0
-  WalkKnows word (walk, Go) M G = Own M G × AllMean env mix c M G (OnlyLock (Some j) ∷ walk_facts_at port word walk.before walk.at) × IsWalk walk
-  WalkKnows word (walk, Done seen) M G = Own M G × AllMean env mix c M G (OnlyLock (Some j) ∷ seen_facts port word seen.found)
+  WalkKnows word (walk, Go) M G =
+      Own M G × AllMean env mix c M G (OnlyLock (Some j) ∷ walk_facts_at port word walk.before walk.at) × IsWalk walk
+  WalkKnows word (walk, Done seen) M G =
+      Own M G × AllMean env mix c M G (OnlyLock (Some j) ∷ seen_facts port word seen.found)
 
   abbrev pub StartKnows : ℕ → Start LockedWalkModel Seen → Memory → Ghost → Type 0
   StartKnows word (starts.Running walk) M G = WalkKnows word (walk, Go) M G
-  StartKnows word (starts.Done seen) M G = Own M G × AllMean env mix c M G (OnlyLock (Some j) ∷ seen_facts port word seen.found)
+  StartKnows word (starts.Done seen) M G =
+      Own M G × AllMean env mix c M G (OnlyLock (Some j) ∷ seen_facts port word seen.found)
 
   module _ (M : Memory) (G : Ghost) (whole : Whole env mix M G) where
     -- the marker of a bucket names no node, and the link to a node in a chain names it
@@ -158,8 +161,10 @@ module _ (env : Env) (mix : ℕ → ℕ → ℕ → ℕ) (c : ℕ) (port : ℕ) 
 
   -- what the caller knows after an operation of the lock
   abbrev pub LockKnows : LockModel × Next ℕ → Memory → Ghost → Type 0
-  LockKnows (lock, Go) M G = Own M G × AllMean env mix c M G (OnlyLock None ∷ []) × (lock.place ≡ place) × IsEven lock.at
-  LockKnows (lock, Done word) M G = Own M G × AllMean env mix c M G (OnlyLock (Some j) ∷ Locks port word ∷ []) × (lock.place ≡ place)
+  LockKnows (lock, Go) M G =
+      Own M G × AllMean env mix c M G (OnlyLock None ∷ []) × (lock.place ≡ place) × IsEven lock.at
+  LockKnows (lock, Done word) M G =
+      Own M G × AllMean env mix c M G (OnlyLock (Some j) ∷ Locks port word ∷ []) × (lock.place ≡ place)
 
   module _ (words : List ℕ) (G : Ghost) (all : length words ≡ words_in env.geometry) (whole : Whole env mix (mem env mix words) G)
       (mine : Own (mem env mix words) G) where
@@ -169,7 +174,8 @@ module _ (env : Env) (mix : ℕ → ℕ → ℕ → ℕ) (c : ℕ) (port : ℕ) 
     lock_knows_even : (at : LockAt) (word : ℕ) → LockKnows (record { place = place; at = at }, Go) M G
         → (word % 2 == 1) ≡ false
         → LockKnows (record { place = place; at = locks.Exchange word }, Go) M G
-    lock_knows_even at word known even = (known.0, known.1, refl, (let odd = eqb-false (word % 2) 1 even in omega (arith, odd)))
+    lock_knows_even at word known even =
+        (known.0, known.1, refl, (let odd = eqb-false (word % 2) 1 even in omega (arith, odd)))
 
     -- at the bucket's place, state by state
     lock_step_at : (at : LockAt) → IsEven at → AllMean env mix c M G (OnlyLock None ∷ [])

@@ -52,7 +52,8 @@ module _ (env : Env) (mix : ℕ → ℕ → ℕ → ℕ) where
       → IsWrite env.geometry M M' (PageWord j) v → Others env mix d M G M' (with_holder G j holder)
   relocked_others d j v holder M M' G whole before after write c ne = record {
     locks = λ i h. put-other G.bucket j (record (G.bucket j) { holder = holder }) i (λ e. before c ne (rw (sym e) h));
-    words = λ n i f. let l = (whole.owned.first_at n i f).among in (write.others (Node n KeyWord) l (λ e. cc), write.others (Node n OwnerWord) l (λ e. cc));
+    words =
+        λ n i f. let l = (whole.owned.first_at n i f).among in (write.others (Node n KeyWord) l (λ e. cc), write.others (Node n OwnerWord) l (λ e. cc));
     nodes = λ n has. (has.0, λ w. write.others (Node n w) has.1 (λ e. cc));
     raised = refl;
     no_node = λ n h. h;

@@ -147,7 +147,8 @@ module _ (M : Type 0) (mix : ℕ → ℕ → ℕ → ℕ) (env : Env) where
     all_words = stays.all_words;
     all_locals = length-set core.locals c local ∙ stays.all_locals;
     few_enrolled = stays.few_enrolled;
-    all_local = AllByRecursion-set (IsLocalOf env) core.locals c local (IsLocalOf-in M env c local within) stays.all_local;
+    all_local =
+        AllByRecursion-set (IsLocalOf env) core.locals c local (IsLocalOf-in M env c local within) stays.all_local;
     locals = each_set (IsLocalIn env) Idle core.locals c local (has_place core c stays enrolled) within stays.locals;
   }
 

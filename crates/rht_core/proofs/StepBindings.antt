@@ -54,11 +54,16 @@ module _ (env : Env) (mix : ℕ → ℕ → ℕ → ℕ) where
           → Made env mix c (mem env mix words) G (mem env mix (applied words op)) (ghost_after env mix c move G)
           → stands_for env.geometry (applied words op) port ≡ stands_for env.geometry words port
       go Reads ready made = same_bindings c words (applied words op) G G whole made port refl
-      go (TakesNode n) ready made = same_bindings c words (applied words op) G (ghost_after env mix c (TakesNode n) G) whole made port refl
-      go (GivesNode n) ready made = same_bindings c words (applied words op) G (ghost_after env mix c (GivesNode n) G) whole made port refl
-      go (TakesLock j) ready made = same_bindings c words (applied words op) G (ghost_after env mix c (TakesLock j) G) whole made port refl
-      go (DropsLock j) ready made = same_bindings c words (applied words op) G (ghost_after env mix c (DropsLock j) G) whole made port refl
-      go Raises ready made = same_bindings c words (applied words op) G (ghost_after env mix c Raises G) whole made port refl
+      go (TakesNode n) ready made =
+          same_bindings c words (applied words op) G (ghost_after env mix c (TakesNode n) G) whole made port refl
+      go (GivesNode n) ready made =
+          same_bindings c words (applied words op) G (ghost_after env mix c (GivesNode n) G) whole made port refl
+      go (TakesLock j) ready made =
+          same_bindings c words (applied words op) G (ghost_after env mix c (TakesLock j) G) whole made port refl
+      go (DropsLock j) ready made =
+          same_bindings c words (applied words op) G (ghost_after env mix c (DropsLock j) G) whole made port refl
+      go Raises ready made =
+          same_bindings c words (applied words op) G (ghost_after env mix c Raises G) whole made port refl
       go (Links n k) ready made = let q = sym low ∙ ready.raised in absurd (cc)
 
   -- an operation that binds a port binds it to its node's owner, and no other port to another owner. The port was bound to none

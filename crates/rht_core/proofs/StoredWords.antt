@@ -118,7 +118,8 @@ BindFits state = NoneOrFits (word_of_bind state)
 
 bind_word_after-fits : (state : BindAt) (old : ℕ) → BindFits state → Fits old
     → NoneOrFits (bind_word_after state old)
-bind_word_after-fits (bind_at.Locking node table shape lock) old fits told = lock_after_at-fits lock lock.at old fits fits told
+bind_word_after-fits (bind_at.Locking node table shape lock) old fits told =
+    lock_after_at-fits lock lock.at old fits fits told
 bind_word_after-fits (bind_at.Unlocking node unlock next) old fits told = tt
 bind_word_after-fits _ old fits told = fits
 
@@ -160,7 +161,8 @@ bind_plan-fits env port owner (bind_at.Owner node) small low fits range piece = 
 bind_plan-fits env port owner (bind_at.ListLink node) small low fits range piece = omega arith
 bind_plan-fits env port owner (bind_at.Locking node table shape lock) small low fits range piece =
     lock_plan-fits lock.place lock.at fits piece.1
-bind_plan-fits env port owner (bind_at.Walking table claimed walk) small low fits range piece = walk_plan-fits walk.geometry walk.at
+bind_plan-fits env port owner (bind_at.Walking table claimed walk) small low fits range piece =
+    walk_plan-fits walk.geometry walk.at
 bind_plan-fits env port owner (bind_at.Link claimed) small low fits range piece =
     head_of-fits claimed.bucket.place claimed.bucket.word fits
 bind_plan-fits env port owner (bind_at.Publish claimed kick) small low fits range piece =

@@ -71,7 +71,8 @@ module _ (M : Type 0) (mix : ℕ → ℕ → ℕ → ℕ) (env : Env) where
         within = (stays_in events).locals c;
         index = count-traced_of M mix env events;
         recorded = record {
-          event = ap (slice_get (events ++ Step c ∷ [])) (count-traced_of M mix env events) ∙ slice_get-push_last events (Step c);
+          event =
+              ap (slice_get (events ++ Step c ∷ [])) (count-traced_of M mix env events) ∙ slice_get-push_last events (Step c);
           plan = subst (λ (w : World M). planned_by c w ≡ Some op) (sym (world_now events (Step c))) is;
           found = ap (λ (w : World M). old_of w.core.words op) (world_now events (Step c));
         };

@@ -80,7 +80,8 @@ module _ (M : Type 0) (mix : ℕ → ℕ → ℕ → ℕ) (env : Env) where
         record {
           event = slice_get-push events event did.index (Step c) is.event;
           plan = subst (λ (before : List Event). planned_by c (run_of mix env before) ≡ Some did.op) same is.plan;
-          found = subst (λ (before : List Event). old_of (run_of {M = M} mix env before).core.words did.op ≡ did.old) same is.found;
+          found =
+              subst (λ (before : List Event). old_of (run_of {M = M} mix env before).core.words did.op ≡ did.old) same is.found;
         }
 
     answered-more : (c : ℕ) (past : Past) → IsAnsweredAt M mix env events c past
@@ -194,7 +195,8 @@ module _ (M : Type 0) (mix : ℕ → ℕ → ℕ → ℕ) (env : Env) where
       record {
         past = subst (AllByRecursion (IsPastCall M mix env (events ++ Step c ∷ []) c)) none kept.past;
         in_order = subst (AreInOrder 0) none kept.in_order;
-        past_ends = subst (λ (calls : List Past). behind_calls 0 calls ≤ length (events ++ Step c ∷ [])) none kept.past_ends;
+        past_ends =
+            subst (λ (calls : List Past). behind_calls 0 calls ≤ length (events ++ Step c ∷ [])) none kept.past_ends;
         steps = tt;
         progress = tt;
       }
@@ -227,7 +229,8 @@ module _ (M : Type 0) (mix : ℕ → ℕ → ℕ → ℕ) (env : Env) where
       record {
         opens = λ c. record { past = tt; in_order = tt; past_ends = omega arith; steps = tt; progress = tt };
         stays = λ events event c here trace holds. holds-more events event c here.book.call trace holds;
-        begins = λ events c call machine index here trace now idle made holds. begin-holds events c call here.book.call trace index now holds;
+        begins =
+            λ events c call machine index here trace now idle made holds. begin-holds events c call here.book.call trace index now holds;
         steps = λ events c did here trace made holds.
             did-holds events c here.book.call trace did (local_after mix here.local did.old).1 here.book refl made.index made.recorded
             made.reply holds;

@@ -27,7 +27,8 @@ pub record IsRefusedWith (before after : Multimap) (call : Call) (reply : Reply)
 
 -- the call meets the model: it is answered as bindings say, or refused without a change
 abbrev pub MeetsModel : Kind → Multimap → Multimap → Call → Reply → Type 0
-MeetsModel kind before after call reply = IsAnsweredBy kind before after call reply ⊎ IsRefusedWith before after call reply
+MeetsModel kind before after call reply =
+    IsAnsweredBy kind before after call reply ⊎ IsRefusedWith before after call reply
 
 module _ (M : Type 0) (mix : ℕ → ℕ → ℕ → ℕ) where
   -- after these events nobody is in a call

@@ -26,7 +26,8 @@ pub record AreBound (bindings : Multimap) (count : ℕ) : Type 0 where
 
 -- how many callers but this one are in the middle of a call
 abbrev pub others_in_call : {M : Type 0} → Core M → ℕ → ℕ
-others_in_call core c = count_by (λ other. not (other == c) && not (is_idle (local_of core other))) (range_with_len 0 core.env.geometry.callers)
+others_in_call core c =
+    count_by (λ other. not (other == c) && not (is_idle (local_of core other))) (range_with_len 0 core.env.geometry.callers)
 
 module _ (M : Type 0) (mix : ℕ → ℕ → ℕ → ℕ) where
   -- at the event of this operation, the ports bound and the other callers in mid-call were at least so many
@@ -44,7 +45,8 @@ module _ (M : Type 0) (mix : ℕ → ℕ → ℕ → ℕ) where
 
   -- the reply to a call that made these operations has its cause in them
   abbrev pub HasCauseIn : Env → List Event → ℕ → Reply → List Did → Type 0
-  HasCauseIn env events c NoNode steps = (node : ℕ) → node < env.geometry.nodes → Any (SeesTaken env.geometry node) (map performed_of steps)
+  HasCauseIn env events c NoNode steps =
+      (node : ℕ) → node < env.geometry.nodes → Any (SeesTaken env.geometry node) (map performed_of steps)
   HasCauseIn env events c (TooBig count) steps = Any (SawFull env events c count) steps
   HasCauseIn env events c _ steps = Unit {0}
 
@@ -54,4 +56,5 @@ module _ (M : Type 0) (mix : ℕ → ℕ → ℕ → ℕ) where
 
   -- in every run each call that has ended has a reply with its cause
   abbrev pub Causes : Type 0
-  Causes = (env : Env) (events : List Event) (c : ℕ) → IsAdmitted env.config.kind events → AllByRecursion (HasCause env events c) ((traced_of {M = M} mix env events).traces c).past
+  Causes =
+      (env : Env) (events : List Event) (c : ℕ) → IsAdmitted env.config.kind events → AllByRecursion (HasCause env events c) ((traced_of {M = M} mix env events).traces c).past

@@ -55,7 +55,8 @@ pub record IsAtRest (g : Geometry) (words : List ℕ) : Type 0 where
 module _ (M : Type 0) (mix : ℕ → ℕ → ℕ → ℕ) where
   -- in every run the count of ports counts
   abbrev pub Counted : Type 0
-  Counted = (env : Env) (events : List Event) → IsAdmitted env.config.kind events → IsCounted env (run_of {M = M} mix env events).core
+  Counted =
+      (env : Env) (events : List Event) → IsAdmitted env.config.kind events → IsCounted env (run_of {M = M} mix env events).core
 
   -- in every run the table is at rest while nobody is in a call
   abbrev pub AtRest : Type 0

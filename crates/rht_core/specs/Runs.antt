@@ -87,7 +87,8 @@ module _ {M : Type 0} where
         let op = enrolling core.env in
         let old = old_of core.words op in
         (record core { words = applied core.words op; enrolled = enrolled_after core.env core.enrolled old }, has_done op old None)
-    core_step core (Begin c call) = (record core { locals = begun core.env core.enrolled core.locals c call }, nothing_done)
+    core_step core (Begin c call) =
+        (record core { locals = begun core.env core.enrolled core.locals c call }, nothing_done)
     core_step core (Step c) = with_step core c (planned core.enrolled core.locals c)
 
   -- what always holds of it
@@ -115,7 +116,8 @@ finished_with (Some call) reply = record { call = call; reply = reply; owners = 
 -- an operation was made, and may have ended the call
 abbrev pub book_after : Option Reply → Book → Book
 book_after None book = record { call = book.call; steps = book.steps + 1; finished = book.finished }
-book_after (Some reply) book = record { call = None; steps = 0; finished = book.finished ++ finished_with book.call reply }
+book_after (Some reply) book =
+    record { call = None; steps = 0; finished = book.finished ++ finished_with book.call reply }
 
 -- the books with another one for this caller
 abbrev pub book_at : (ℕ → Book) → ℕ → Book → ℕ → Book
@@ -165,7 +167,8 @@ IsAdmitted kind events = AllByRecursion (IsAdmittedEvent kind) events
 module _ {M : Type 0} where
   -- at opening nobody has enrolled
   abbrev pub opening_core : Env → Core M
-  opening_core env = record { env = env; words = opening_words env; enrolled = 0; locals = replicate env.geometry.callers Idle }
+  opening_core env =
+      record { env = env; words = opening_words env; enrolled = 0; locals = replicate env.geometry.callers Idle }
 
   -- it has just been opened with this config
   pub record IsOpened (config : Config) (core : Core M) : Type 0 where
@@ -183,8 +186,10 @@ module _ {M : Type 0} where
   module _ (mix : ℕ → ℕ → ℕ → ℕ) where
     abbrev pub books_after : World M → Event → ℕ → Book
     books_after w Enroll = w.books
-    books_after w (Begin c call) = books_begun w.books c call (beginning w.core.env w.core.enrolled w.core.locals c call)
-    books_after w (Step c) = books_stepped w.books c (planned w.core.enrolled w.core.locals c) (core_step mix w.core (Step c)).1.reply
+    books_after w (Begin c call) =
+        books_begun w.books c call (beginning w.core.env w.core.enrolled w.core.locals c call)
+    books_after w (Step c) =
+        books_stepped w.books c (planned w.core.enrolled w.core.locals c) (core_step mix w.core (Step c)).1.reply
 
     abbrev pub world_step : World M → Event → World M
     world_step w event = record { core = (core_step mix w.core event).0; books = books_after w event }

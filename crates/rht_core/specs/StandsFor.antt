@@ -35,7 +35,8 @@ module _ (g : Geometry) (words : List ℕ) where
   shape_of table = word_at g words (Slot table ShapeWord)
 
   abbrev pub table_nodes : ℕ → List ℕ
-  table_nodes table = flat_map (λ bucket. bucket_nodes (bucket_place g (shape_of table) bucket)) (range_with_len 0 (size_of (unpacked (shape_of table))))
+  table_nodes table =
+      flat_map (λ bucket. bucket_nodes (bucket_place g (shape_of table) bucket)) (range_with_len 0 (size_of (unpacked (shape_of table))))
 
   -- the first node with the port's key, with the tables in the order of their futures
   abbrev pub has_key : ℕ → ℕ → Bool

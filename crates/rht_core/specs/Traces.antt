@@ -54,7 +54,8 @@ trace_did call did None trace = record { begin = trace.begin; steps = trace.step
 trace_did call did (Some reply) trace = record {
   begin = trace.begin;
   steps = [];
-  past = trace.past ++ map (λ done. record { done = done; begin = trace.begin; steps = trace.steps ++ did ∷ [] }) (finished_with call reply);
+  past =
+      trace.past ++ map (λ done. record { done = done; begin = trace.begin; steps = trace.steps ++ did ∷ [] }) (finished_with call reply);
 }
 
 module _ {M : Type 0} where
@@ -76,7 +77,8 @@ module _ {M : Type 0} where
         traces_stepped r c (planned r.world.core.enrolled r.world.core.locals c) (core_step mix r.world.core (Step c)).1.reply
 
     abbrev pub traced_step : Traced M → Event → Traced M
-    traced_step r event = record { world = world_step mix r.world event; count = r.count + 1; traces = traces_after r event }
+    traced_step r event =
+        record { world = world_step mix r.world event; count = r.count + 1; traces = traces_after r event }
 
     abbrev pub traced_from : Traced M → List Event → Traced M
     traced_from r [] = r
@@ -84,7 +86,8 @@ module _ {M : Type 0} where
 
     -- the run of these events with its traces
     abbrev pub traced_of : Env → List Event → Traced M
-    traced_of env events = traced_from (record { world = opening env; count = 0; traces = λ _. record { begin = 0; steps = []; past = [] } }) events
+    traced_of env events =
+        traced_from (record { world = opening env; count = 0; traces = λ _. record { begin = 0; steps = []; past = [] } }) events
 
 -- ---- what is said of traces
 
@@ -110,4 +113,5 @@ behind_calls from (past ∷ calls) = behind_calls (behind_call past) calls
 -- the calls come one behind the other, from this event on: each begins behind all events of the one before
 abbrev pub AreInOrder : ℕ → List Past → Type 0
 AreInOrder from [] = Unit {0}
-AreInOrder from (past ∷ calls) = (from ≤ past.begin) × IsRising (past.begin + 1) past.steps × AreInOrder (behind_call past) calls
+AreInOrder from (past ∷ calls) =
+    (from ≤ past.begin) × IsRising (past.begin + 1) past.steps × AreInOrder (behind_call past) calls

@@ -101,12 +101,14 @@ abbrev pub after_at : (ℕ → ℕ → ℕ → ℕ) → Env → ℕ → FindAt �
 after_at mix env port at.CurrentTable word = (at.Shape (table_of word), Go)
 after_at mix env port (at.Shape table) word = (at.Seed table word, Go)
 after_at mix env port (at.Seed table shape) word = (at.Locking table (lock_of mix env port shape word), Go)
-after_at mix env port (at.Locking table lock) word = (lock_taken env port table (lock_after lock word).0 (lock_after lock word).1, Go)
+after_at mix env port (at.Locking table lock) word =
+    (lock_taken env port table (lock_after lock word).0 (lock_after lock word).1, Go)
 after_at mix env port (at.Walking table bucket walk) word =
     (walk_taken table bucket (locked_walk_after walk word).0 (locked_walk_after walk word).1, Go)
 after_at mix env port (at.Future table bucket) word = (unlocking bucket (next_table (slot_of word)), Go)
 after_at mix env port (at.FirstOwner bucket node) word = (at.ListLink bucket node (owner_of word), Go)
-after_at mix env port (at.ListLink bucket node owner) word = (list_followed bucket owner (node_of env.geometry.nodes word), Go)
+after_at mix env port (at.ListLink bucket node owner) word =
+    (list_followed bucket owner (node_of env.geometry.nodes word), Go)
 after_at mix env port (at.LaterOwner bucket node owner) word = (at.ListLink bucket node owner, Go)
 after_at mix env port (at.Unlocking unlock (Table table)) word = (at.Shape table, Go)
 after_at mix env port (at.Unlocking unlock (Answer reply)) word = (at.Unlocking unlock (Answer reply), Done reply)
@@ -123,7 +125,8 @@ IsInRange env at.CurrentTable = Unit {0}
 IsInRange env (at.Shape table) = table < 8
 IsInRange env (at.Seed table shape) = table < 8
 IsInRange env (at.Locking table lock) = (table < 8) × (lock.place < words_in env.geometry)
-IsInRange env (at.Walking table bucket walk) = (table < 8) × (bucket.place < words_in env.geometry) × (walk.geometry ≡ env.geometry)
+IsInRange env (at.Walking table bucket walk) =
+    (table < 8) × (bucket.place < words_in env.geometry) × (walk.geometry ≡ env.geometry)
 IsInRange env (at.Future table bucket) = (table < 8) × (bucket.place < words_in env.geometry)
 IsInRange env (at.FirstOwner bucket node) = (bucket.place < words_in env.geometry) × (node < env.geometry.nodes)
 IsInRange env (at.ListLink bucket node owner) = (bucket.place < words_in env.geometry) × (node < env.geometry.nodes)

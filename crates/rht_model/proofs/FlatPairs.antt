@@ -25,7 +25,8 @@ pub slice_get-ports_of : (heads : List Head) (owners : List ℕ) (i : ℕ) (defa
     → slice_get (ports_of (pairs_of heads owners)) i ≡ Some ((get_or heads i default).port)
 slice_get-ports_of [] owners i default within = absurd (omega arith)
 slice_get-ports_of (head ∷ heads) owners zero default within = refl
-slice_get-ports_of (head ∷ heads) owners (suc i) default within = slice_get-ports_of heads owners i default (omega arith)
+slice_get-ports_of (head ∷ heads) owners (suc i) default within =
+    slice_get-ports_of heads owners i default (omega arith)
 
 -- the pair at a place has the owners from where its own begin to where those of the next pair do
 pub slice_get-owners_of : (heads : List Head) (owners : List ℕ) (i : ℕ) → i < length heads

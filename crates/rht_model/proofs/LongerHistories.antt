@@ -12,7 +12,8 @@ use Rattle.rht_model.proofs.Agreements.{IsLegalFrom-Agree, bindings_left-Agree}
 pub bindings_left-append : (kind : Kind) (bindings : Multimap) (first second : List Entry)
     → bindings_left kind bindings (first ++ second) ≡ bindings_left kind (bindings_left kind bindings first) second
 bindings_left-append kind bindings [] second = refl
-bindings_left-append kind bindings (entry ∷ first) second = bindings_left-append kind (left_by kind bindings entry) first second
+bindings_left-append kind bindings (entry ∷ first) second =
+    bindings_left-append kind (left_by kind bindings entry) first second
 
 -- By induction over the first part: both parts of a legal history are legal where they stand.
 pub IsLegalFrom-parts : (kind : Kind) (bindings : Multimap) (first second : List Entry)

@@ -16,11 +16,14 @@ use Rattle.rht_model.proofs.CallEffects.{bindings_after-other}
 pub answer_of-own_port : (kind : Kind) (first second : Multimap) (call : Call)
     → ((port : ℕ) → port_of call ≡ Some port → first port ≡ second port)
     → answer_of kind first call ≡ answer_of kind second call
-answer_of-own_port kind first second (Bind port owner once) same = ap (λ owners. Some (plain (bind_reply kind owners))) (same port refl)
+answer_of-own_port kind first second (Bind port owner once) same =
+    ap (λ owners. Some (plain (bind_reply kind owners))) (same port refl)
 answer_of-own_port kind first second (Find port) same = ap (λ owners. Some (plain (find_reply owners))) (same port refl)
 answer_of-own_port kind first second (All port) same = rw (same port refl) refl
-answer_of-own_port kind first second (Release port owner) same = ap (λ owners. Some (plain (release_reply owner owners))) (same port refl)
-answer_of-own_port kind first second (Rebind port owner new) same = ap (λ owners. Some (plain (rebind_reply owner owners))) (same port refl)
+answer_of-own_port kind first second (Release port owner) same =
+    ap (λ owners. Some (plain (release_reply owner owners))) (same port refl)
+answer_of-own_port kind first second (Rebind port owner new) same =
+    ap (λ owners. Some (plain (rebind_reply owner owners))) (same port refl)
 answer_of-own_port kind first second (Walk from limit) same = refl
 answer_of-own_port kind first second Work same = refl
 answer_of-own_port kind first second Tidy same = refl

@@ -77,9 +77,11 @@ port_of _ = None
 
 -- the bindings after a call that was answered
 abbrev pub bindings_after : Kind → Multimap → Call → Multimap
-bindings_after kind bindings (Bind port owner once) = with_owners bindings port (owners_bound kind owner (bindings port))
+bindings_after kind bindings (Bind port owner once) =
+    with_owners bindings port (owners_bound kind owner (bindings port))
 bindings_after kind bindings (Release port owner) = with_owners bindings port (owners_released owner (bindings port))
-bindings_after kind bindings (Rebind port owner new) = with_owners bindings port (owners_rebound owner new (bindings port))
+bindings_after kind bindings (Rebind port owner new) =
+    with_owners bindings port (owners_rebound owner new (bindings port))
 bindings_after kind bindings _ = bindings
 
 -- a refusal changes no bindings

@@ -94,7 +94,8 @@ module _ {S E : Type 0} {held : S → Option (List ℕ)} {faults : S → ℕ} {a
   -- a piece that failed is one of any longer text
   pub Adds-longer : {e : E} {waited waits xs : List ℕ} (ys : List ℕ)
       → Adds held faults a b (Err e) waited waits xs → Adds held faults a b (Err e) waited waits (xs ++ ys)
-  Adds-longer {e = e} {waited = waited} {waits = waits} {xs = xs} ys piece = longer held faults a b e waited waits xs ys piece
+  Adds-longer {e = e} {waited = waited} {waits = waits} {xs = xs} ys piece =
+      longer held faults a b e waited waits xs ys piece
 
   -- a failure that is passed on, as by a `?`
   pub Adds-passed_on : {e : E} {r : Result (Unit {0}) E} {waited between waits xs : List ℕ}
@@ -105,7 +106,8 @@ module _ {S E : Type 0} {held : S → Option (List ℕ)} {faults : S → ℕ} {a
   -- the same text
   pub Adds-same : {r : Result (Unit {0}) E} {waited waits xs ys : List ℕ}
       → Adds held faults a b r waited waits xs → xs ≡ ys → Adds held faults a b r waited waits ys
-  Adds-same {r = r} {waited = waited} {waits = waits} piece same = subst (Adds held faults a b r waited waits) same piece
+  Adds-same {r = r} {waited = waited} {waits = waits} piece same =
+      subst (Adds held faults a b r waited waits) same piece
 
   -- a text was added where nothing waited, and nothing waits behind it
   pub Puts-of_adds : {r : Result (Unit {0}) E} {waited waits text : List ℕ}

@@ -62,7 +62,8 @@ module _ (options : Options) (allowed : AreAllowed options) where
       callers_within = (omega arith, omega arith);
     };
     hint = hint_within;
-    least = IsLeastSize-rounded_min (unwrap_or options.min 4) (either_way (IsWithin 1 65536) options.min 4 allowed.min (omega arith, omega arith));
+    least =
+        IsLeastSize-rounded_min (unwrap_or options.min 4) (either_way (IsWithin 1 65536) options.min 4 allowed.min (omega arith, omega arith));
     greatest = IsGreatestSize-zero;
     agree = λ some. absurd (some refl);
     rewalks = either_way (λ rewalks. rewalks ≤ 255) options.rewalks 8 allowed.rewalks (omega arith);

@@ -27,7 +27,8 @@ module _ (pieces : List (Bor (List ℕ))) (place : ℕ) where
 -- there is something in a piece that isn't empty
 pub is_some_text-length : (text : List ℕ) → is_some_text text ≡ not (length text == 0)
 is_some_text-length [] = refl
-is_some_text-length (byte ∷ text) = let some : (length (byte ∷ text) == 0) ≡ false = ne_eqb (suc (length text)) 0 (λ none. absurd (omega (arith, none))) in rw some refl
+is_some_text-length (byte ∷ text) =
+    let some : (length (byte ∷ text) == 0) ≡ false = ne_eqb (suc (length text)) 0 (λ none. absurd (omega (arith, none))) in rw some refl
 
 -- By induction over the pieces before the last one, in which there is nothing.
 pub without_empty_end-empty : (front : List (List ℕ)) → without_empty_end (front ++ [] ∷ []) ≡ front

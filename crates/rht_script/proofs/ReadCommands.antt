@@ -113,7 +113,8 @@ words_few number line = by_test (nat_lt most_lines number) refl
     by_test : (many : Bool) → nat_lt most_lines number ≡ many
         → IfOk (cond many (Err TooManyLines) (cond (nat_lt most_in_line (length line)) (Err LineTooLong) (Ok (words_of line)))) (λ words. number ≤ most_lines)
     by_test true is = tt
-    by_test false is = IfOk-cond (λ words. number ≤ most_lines) (nat_lt most_in_line (length line)) (Err LineTooLong) (Ok (words_of line)) tt (ltb-false most_lines number is)
+    by_test false is =
+        IfOk-cond (λ words. number ≤ most_lines) (nat_lt most_in_line (length line)) (Err LineTooLong) (Ok (words_of line)) tt (ltb-false most_lines number is)
 
 module _ (P : ℕ × Call → Type 0) (config : Config) (each : (words : List (List ℕ)) → IfOk (command_of config.callers words) P) where
   -- By induction over the lines: a line that is skipped has no command, and any other has one more.

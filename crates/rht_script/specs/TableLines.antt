@@ -43,11 +43,15 @@ no_options = record { hint = None; min = None; pages = None; seed = None; rewalk
 
 -- the options with a further setting; one that was set already is set twice
 abbrev pub with_setting : Options → Setting → Options
-with_setting options (Hint number) = record options { hint = Some number; twice = options.twice || is_some options.hint }
+with_setting options (Hint number) =
+    record options { hint = Some number; twice = options.twice || is_some options.hint }
 with_setting options (Min number) = record options { min = Some number; twice = options.twice || is_some options.min }
-with_setting options (Pages number) = record options { pages = Some number; twice = options.twice || is_some options.pages }
-with_setting options (Seed number) = record options { seed = Some number; twice = options.twice || is_some options.seed }
-with_setting options (Rewalks number) = record options { rewalks = Some number; twice = options.twice || is_some options.rewalks }
+with_setting options (Pages number) =
+    record options { pages = Some number; twice = options.twice || is_some options.pages }
+with_setting options (Seed number) =
+    record options { seed = Some number; twice = options.twice || is_some options.seed }
+with_setting options (Rewalks number) =
+    record options { rewalks = Some number; twice = options.twice || is_some options.rewalks }
 with_setting options (Hashing hash) = record options { hash = Some hash; twice = options.twice || is_some options.hash }
 
 -- the options of these words, which are names each with its value

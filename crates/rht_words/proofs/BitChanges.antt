@@ -30,7 +30,8 @@ module _ (word bit : ℕ) (small : word < 2 ^ 64) (within : bit < 64) where
   pub changes_one_bit : ChangesOneBit word bit
   changes_one_bit = record {
     set = subst (λ mask. bit_at (bit_or word mask) bit ≡ 1) mask_is (bit_at_set_same w64 word bit within);
-    set_others = λ other differ. subst (λ mask. bit_at (bit_or word mask) other ≡ bit_at word other) mask_is (bit_at_set_other w64 word bit within other differ);
+    set_others =
+        λ other differ. subst (λ mask. bit_at (bit_or word mask) other ≡ bit_at word other) mask_is (bit_at_set_other w64 word bit within other differ);
     set_fits = or_lt 64 word (bit_of bit) small (pow-lt within);
     cleared = subst (λ mask. bit_at (cleared_by mask) bit ≡ 0) mask_is (bit_at_clear_same w64 word bit within);
     cleared_others = cleared_others;

@@ -63,12 +63,14 @@ module _ {X : Type 0} (P : X → Type 0) where
       → AllByRecursion P (drop i xs)
   AllByRecursion-drop xs zero all = recursion_from_All P xs (λ k d l. all k d (omega arith) l)
   AllByRecursion-drop [] (suc i) all = tt
-  AllByRecursion-drop (x ∷ xs) (suc i) all = AllByRecursion-drop xs i (λ k d low high. all (suc k) d (omega arith) (omega arith))
+  AllByRecursion-drop (x ∷ xs) (suc i) all =
+      AllByRecursion-drop xs i (λ k d low high. all (suc k) d (omega arith) (omega arith))
 
 pub AllByRecursion-weaker : {X : Type 0} (P Q : X → Type 0) → ((x : X) → P x → Q x) → (xs : List X)
     → AllByRecursion P xs
     → AllByRecursion Q xs
-AllByRecursion-weaker P Q weaker xs all = recursion_from_All Q xs (All-weaker P Q weaker xs (All-from_recursion P xs all))
+AllByRecursion-weaker P Q weaker xs all =
+    recursion_from_All Q xs (All-weaker P Q weaker xs (All-from_recursion P xs all))
 
 pub AllByRecursion-map : {X Y : Type 0} (P : Y → Type 0) (f : X → Y) → ((x : X) → P (f x)) → (xs : List X)
     → AllByRecursion P (map f xs)

@@ -53,7 +53,8 @@ at_slot g p low l = rw (above p 8 (omega arith), above p 24 low, below p 280 l) 
 
 at_node_map : (g : Geometry) (p : ℕ) → 280 ≤ p → p < page_map_at g → address_at g p ≡ NodeMap (p - 280)
 unfolding address_at
-at_node_map g p low l = rw (above p 8 (omega arith), above p 24 (omega arith), above p 280 low, below p (page_map_at g) l) refl
+at_node_map g p low l =
+    rw (above p 8 (omega arith), above p 24 (omega arith), above p 280 low, below p (page_map_at g) l) refl
 
 at_page_map : (g : Geometry) (p : ℕ) → page_map_at g ≤ p → p < nodes_at g
     → address_at g p ≡ PageMap (p - page_map_at g)
@@ -114,12 +115,15 @@ slot_offset-below (LoadedSection caller) v = omega arith
 -- a spare place is found spare
 first_spare : (p : ℕ) → 5 ≤ p → first_address p ≡ Spare p
 unfolding first_address
-first_spare p low = rw (differ p 0 (omega arith), differ p 1 (omega arith), differ p 2 (omega arith), differ p 3 (omega arith), differ p 4 (omega arith)) refl
+first_spare p low =
+    rw (differ p 0 (omega arith), differ p 1 (omega arith), differ p 2 (omega arith), differ p 3 (omega arith), differ p 4 (omega arith)) refl
 
 slot_spare : (p slot offset : ℕ) → IsSpareOffset offset → slot_address p slot offset ≡ Spare p
 unfolding slot_address
-slot_spare p slot offset (inl v) = rw (differ offset 0 (omega arith), differ offset 1 (omega arith), differ offset 2 (omega arith), differ offset 3 (omega arith), differ offset 4 (omega arith), less offset 8 v.1) refl
-slot_spare p slot offset (inr v) = rw (differ offset 0 (omega arith), differ offset 1 (omega arith), differ offset 2 (omega arith), differ offset 3 (omega arith), differ offset 4 (omega arith), at_most 8 offset (omega arith), above offset 24 v) refl
+slot_spare p slot offset (inl v) =
+    rw (differ offset 0 (omega arith), differ offset 1 (omega arith), differ offset 2 (omega arith), differ offset 3 (omega arith), differ offset 4 (omega arith), less offset 8 v.1) refl
+slot_spare p slot offset (inr v) =
+    rw (differ offset 0 (omega arith), differ offset 1 (omega arith), differ offset 2 (omega arith), differ offset 3 (omega arith), differ offset 4 (omega arith), at_most 8 offset (omega arith), above offset 24 v) refl
 
 -- what stands at the place of a thing is that thing
 pub address_at-place_of : (g : Geometry) (a : Address) → IsAddress g a → address_at g (place_of g a) ≡ a
@@ -131,7 +135,8 @@ address_at-place_of g NextSerial v = at_first g 3 (omega arith)
 address_at-place_of g EnrolledCallers v = at_first g 4 (omega arith)
 address_at-place_of g (Spare p) (inl v) = at_first g p v.1 ∙ first_spare p v.0
 address_at-place_of g (Spare p) (inr v) = at_slot g p v.0 v.1 ∙ slot_spare p ((p - 24) / 32) ((p - 24) % 32) v.2
-address_at-place_of g (Section caller) v = at_section g (8 + caller) (omega arith) (omega arith) ∙ ap Section (omega arith)
+address_at-place_of g (Section caller) v =
+    at_section g (8 + caller) (omega arith) (omega arith) ∙ ap Section (omega arith)
 address_at-place_of g (Slot slot word) v =
     let o = slot_offset word in
     let short = slot_offset-below word v.1 in
@@ -170,7 +175,8 @@ place_of-below g EnrolledCallers v = let parts = parts_in_order g in omega arith
 place_of-below g (Spare p) (inl v) = let parts = parts_in_order g in omega arith
 place_of-below g (Spare p) (inr v) = let parts = parts_in_order g in omega arith
 place_of-below g (Section caller) v = let parts = parts_in_order g in omega arith
-place_of-below g (Slot slot word) v = let parts = parts_in_order g in let short = slot_offset-below word v.1 in omega arith
+place_of-below g (Slot slot word) v =
+    let parts = parts_in_order g in let short = slot_offset-below word v.1 in omega arith
 place_of-below g (NodeMap i) v = let parts = parts_in_order g in omega arith
 place_of-below g (PageMap i) v = let parts = parts_in_order g in omega arith
 place_of-below g (Node n word) v = let parts = parts_in_order g in let short = node_offset-below word in omega arith

@@ -20,7 +20,8 @@ powers-rise i k l = pow-le-pow_right (omega arith) l
 
 -- an exponent of which the power is smaller is smaller
 pub powers-fall : (i k : ℕ) → 2 ^ i < 2 ^ k → i < k
-powers-fall i k l = elim (cases_lt i k) [ inl below ↦ below | inr above ↦ absurd (omega (arith, powers-rise k i above)) ]
+powers-fall i k l =
+    elim (cases_lt i k) [ inl below ↦ below | inr above ↦ absurd (omega (arith, powers-rise k i above)) ]
 
 -- the exponent of the first power from a on that is at or above n
 record IsFirst (count a n : ℕ) : Type 0 where
@@ -41,7 +42,8 @@ first_power (suc count) a n high = elim (cases_lt (2 ^ a) n) [
         exponent = rest.exponent;
         is = rw (lt-leb n (2 ^ a) below) rest.is;
         above = rest.above;
-        before = λ i low l. elim (cases_lt a i) [ inl later ↦ rest.before i (omega arith) l | inr same ↦ omega (arith, powers-rise i a same) ];
+        before =
+            λ i low l. elim (cases_lt a i) [ inl later ↦ rest.before i (omega arith) l | inr same ↦ omega (arith, powers-rise i a same) ];
       }
   | inr above ↦ record { exponent = a; is = rw (le-leb n (2 ^ a) above) refl; above = above; before = λ i low l. absurd (omega arith) }
 ]
@@ -77,12 +79,14 @@ pub IsLeastPower-next : (n p : ℕ) → IsNextPowerOfTwo n p → IsLeastPower n 
 IsLeastPower-next n p next = record {
   power = next.0;
   above = next.1;
-  least = λ q power above. elim (cases_lt q p) [ inr high ↦ high | inl low ↦ absurd (half_below n p q next power above low) ];
+  least =
+      λ q power above. elim (cases_lt q p) [ inr high ↦ high | inl low ↦ absurd (half_below n p q next power above low) ];
 }
 
 -- what `next_power_of_two` answers is the rounded number
 pub rounded_up-next : (n p : ℕ) → n ≤ 2 ^ 32 → IsNextPowerOfTwo n p → p ≡ rounded_up n
-rounded_up-next n p high next = IsLeastPower-unique n p (rounded_up n) (IsLeastPower-next n p next) (rounded_up-least n high)
+rounded_up-next n p high next =
+    IsLeastPower-unique n p (rounded_up n) (IsLeastPower-next n p next) (rounded_up-least n high)
 
 -- the power of two at or below n, of which the double is above n, is n rounded down
 pub rounded_down-power : (n e : ℕ) → n < 2 ^ 32 → 2 ^ e ≤ n → n < 2 * 2 ^ e → 2 ^ e ≡ rounded_down n
@@ -104,7 +108,8 @@ rounded_down-greatest n low high =
         | inr at ↦ at
         | inl past ↦ absurd (omega (arith, up.least (2 ^ (e - 1)) (e - 1, refl) (omega arith), half, up.above))
       ];
-      greatest = λ q power below. rw power.1 (powers-rise power.0 (e - 1) (lower power.0 (before above) (powers-fall power.0 e (omega (arith, power.1, up.power.1, up.above, below)))));
+      greatest =
+          λ q power below. rw power.1 (powers-rise power.0 (e - 1) (lower power.0 (before above) (powers-fall power.0 e (omega (arith, power.1, up.power.1, up.above, below)))));
     }
 
 -- 0 rounded down is 0

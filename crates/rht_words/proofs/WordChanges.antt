@@ -21,7 +21,8 @@ applied-same words op l = get_or-set_same words (op_place op) (word_after (old_o
 -- any other word stays
 pub applied-other : (words : List ℕ) (op : Op) (place : ℕ) → place ≢ op_place op
     → get_or (applied words op) place 0 ≡ get_or words place 0
-applied-other words op place other = get_or-set_other words (op_place op) place (word_after (old_of words op) op) 0 other
+applied-other words op place other =
+    get_or-set_other words (op_place op) place (word_after (old_of words op) op) 0 other
 
 pub changes_one_word : (g : Geometry) (words : List ℕ) (address : Address) (op : Op)
     → length words ≡ words_in g → IsAddress g address → op_place op ≡ place_of g address
@@ -31,6 +32,8 @@ changes_one_word g words address op whole there is =
     let inside : op_place op < length words = omega (arith, place_of-below g address there) in
     record {
       count = length-applied words op;
-      changed = (ap (λ p. get_or (applied words op) p 0) (sym is) ∙ applied-same words op inside) ∙ ap (λ p. word_after (get_or words p 0) op) is;
-      others = λ other its differ. applied-other words op (place_of g other) (λ same. differ (place_of-apart g other address its there (same ∙ is)));
+      changed =
+          (ap (λ p. get_or (applied words op) p 0) (sym is) ∙ applied-same words op inside) ∙ ap (λ p. word_after (get_or words p 0) op) is;
+      others =
+          λ other its differ. applied-other words op (place_of g other) (λ same. differ (place_of-apart g other address its there (same ∙ is)));
     }

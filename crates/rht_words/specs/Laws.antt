@@ -27,7 +27,8 @@ pub record RoundsToNext : Type 0 where
 
 -- the first table of each settled config has a power of two from 4 to 131,072 for its size
 abbrev pub TablesStartWithin : Type 0
-TablesStartWithin = (config : Config) → IsSettled config → IsSizeUpTo 131072 (starting_size config.hint config.min config.max)
+TablesStartWithin =
+    (config : Config) → IsSettled config → IsSizeUpTo 131072 (starting_size config.hint config.min config.max)
 
 -- the places of different things are different, all are below the number of words, and no place is without a thing
 pub record PlacesStandApart (g : Geometry) : Type 0 where

@@ -12,7 +12,8 @@ marker_of place = (2 * place + 1) % 2 ^ 64
 
 -- the node to which the link leads, where there are so many nodes; none for a marker, the end of a list and a node past the last
 abbrev pub node_of : ℕ → ℕ → Option ℕ
-node_of nodes link = if (link % 2 == 0) && nat_le 2 link && nat_lt (link / 2 - 1) nodes then Some (link / 2 - 1) else None
+node_of nodes link =
+    if (link % 2 == 0) && nat_le 2 link && nat_lt (link / 2 - 1) nodes then Some (link / 2 - 1) else None
 
 -- the bucket word without its lock
 abbrev pub unlocked : ℕ → ℕ

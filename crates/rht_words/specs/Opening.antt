@@ -37,4 +37,5 @@ opening_word env _ = 0
 
 -- all words at opening, in the order of their places
 abbrev pub opening_words : Env → List ℕ
-opening_words env = map (λ place. opening_word env (address_at env.geometry place)) (range_with_len 0 (words_in env.geometry))
+opening_words env =
+    map (λ place. opening_word env (address_at env.geometry place)) (range_with_len 0 (words_in env.geometry))

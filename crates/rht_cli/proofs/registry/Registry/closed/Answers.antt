@@ -12,6 +12,7 @@ loop-pair-preserved c =
     let within : place < length pairs = omega arith in
     let pair = get_or pairs place (0, 0) in
     record {
-      pairs = c.add.ensures.pairs ∙ ap (λ (l : List (ℕ × List ℕ)). added l pair.0 pair.1) c.loop-pair.invariant.pairs ∙ listed-more pairs place (0, 0) rising within;
+      pairs =
+          c.add.ensures.pairs ∙ ap (λ (l : List (ℕ × List ℕ)). added l pair.0 pair.1) c.loop-pair.invariant.pairs ∙ listed-more pairs place (0, 0) rising within;
       room = omega arith;
     }

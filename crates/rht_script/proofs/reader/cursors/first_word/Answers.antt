@@ -8,7 +8,8 @@ returns-in_err-start c =
     rw c.from_residual.ensures (words_of-position_none c.args.line.now (sym c.letter_at.ensures ∙ c.in_err-start.was))
 
 pub split_word-requires : goal.split_word-requires
-split_word-requires c = rw take_rest ((words_of-position c.args.line.now c.in_ok-start.start (sym c.letter_at.ensures ∙ c.in_ok-start.was)).1)
+split_word-requires c =
+    rw take_rest ((words_of-position c.args.line.now c.in_ok-start.start (sym c.letter_at.ensures ∙ c.in_ok-start.was)).1)
 
 pub returns : goal.returns
 returns c =

@@ -4,4 +4,5 @@ use Rattle.rht_words.proofs.PlacesApart.{place_of-below}
 use Rattle.rht_words.proofs.geometry.Geometry.key.Goals as goal
 
 pub returns-clause-within : goal.returns-clause-within
-returns-clause-within c = λ below. omega (arith, c.node_start.ensures.place, place_of-below c.args.self (Node c.args.node KeyWord) below)
+returns-clause-within c =
+    λ below. omega (arith, c.node_start.ensures.place, place_of-below c.args.self (Node c.args.node KeyWord) below)
