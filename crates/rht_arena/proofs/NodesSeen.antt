@@ -122,7 +122,8 @@ take_after-saw take (Claim index bit) steps step is range saw =
     Any-push (SeesTaken g (64 * index + place)) steps step (sees_taken g step index place low (ap op_place is) clear) in
     cond_both (eqb (bit_at step.old bit) 1) _ _ (SawSoFar g all) (λ set. tt)
     (λ other.
-    let clear : bit_at step.old bit ≡ 0 = omega (arith, eqb-false (bit_at step.old bit) 1 other, bit_at-lt step.old bit) in
+    let clear : bit_at step.old bit ≡ 0 =
+    omega (arith, eqb-false (bit_at step.old bit) 1 other, bit_at-lt step.old bit) in
     claim_in-saw take all index above (omega (arith, range.below)) (λ node l. before node (omega (arith, l)))
     (λ place low is_clear. elim (cases_order place bit) [
       | inl at ↦ here place low (rw at clear)

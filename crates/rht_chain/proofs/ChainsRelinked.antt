@@ -55,7 +55,8 @@ module _ (g : Geometry) (words : List ℕ) (index word link : ℕ) (behind : Lis
       let value = plain_of place link in
       let changes : ChangesOneWord g words (PageWord index) (Store place value) =
       changes_one_word g words (PageWord index) (Store place value) can.whole can.bucket refl in
-      let back : head_of place value ≡ link = comes_back (chain_in g words) place link behind stop can.rest can.comes_back in
+      let back : head_of place value ≡ link =
+      comes_back (chain_in g words) place link behind stop can.rest can.comes_back in
       let first : head_of place (word_at g (applied words (Store place value)) (PageWord index)) ≡ link =
       ap (λ w. head_of place w) changes.changed ∙ back in
       let segment : IsSegment (chain_in g (applied words (Store place value))) link behind stop =
@@ -82,7 +83,8 @@ module _ (g : Geometry) (words : List ℕ) (index word link : ℕ) (behind : Lis
       let there : last < g.nodes = last_or-All (λ n. n < g.nodes) node last nodes behind is can.within in
       let links : Op = Store (place_of g (Node last ChainLink)) link in
       let linked = applied words links in
-      let change : ChangesOneWord g words (Node last ChainLink) links = changes_one_word g words (Node last ChainLink) links can.whole there refl in
+      let change : ChangesOneWord g words (Node last ChainLink) links =
+      changes_one_word g words (Node last ChainLink) links can.whole there refl in
       let bucket_stays : word_at g linked (PageWord index) ≡ word_at g words (PageWord index) =
       change.others (PageWord index) can.bucket (λ same. (cc)) in
       let segment : IsSegment (chain_in g linked) (head_of place (word_at g words (PageWord index))) all stop =

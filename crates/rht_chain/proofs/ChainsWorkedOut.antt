@@ -28,7 +28,8 @@ module _ (key_of : ℕ → ℕ) (key : ℕ) (nodes : List ℕ) (stop : ℕ) wher
       (λ inside is.
       let same : place ≡ first = cc in
       let low : place < length nodes = ltb-true place (length nodes) inside in
-      let found : find test nodes ≡ Some (get_or nodes place 0) = find_at test nodes ∙ slice_get-get_or nodes place 0 low in
+      let found : find test nodes ≡ Some (get_or nodes place 0) =
+      find_at test nodes ∙ slice_get-get_or nodes place 0 low in
       let count : length (take place nodes) ≡ place = length-take-le place nodes (omega (arith, low)) in
       let counted : seen_at place ≡ seen_behind (before_first test nodes) stop (Some (get_or nodes place 0)) =
       ap (λ n. record (seen_at place) { length = n + 1 }) (sym count) in

@@ -70,7 +70,8 @@ module _ (g : Geometry) (words : List ℕ) (key stop : ℕ) where
       IsInChain g words key nodes stop (compared m node (key_in g words node)).0 (compared m node (key_in g words node)).1
   key_loaded nodes passed node behind count before few split others before_is count_is =
       let m = walk_at before (one_more count) (at.Key node) in
-      let exact : one_more count ≡ length passed + 1 = omega (arith, few, count_is, ap length split, length-append passed (node ∷ behind)) in
+      let exact : one_more count ≡ length passed + 1 =
+      omega (arith, few, count_is, ap length split, length-append passed (node ∷ behind)) in
       cond_both {A = LockedWalkModel × Next Seen} (eqb (key_in g words node) key) (m, Done (found_at m node)) (record m { at = at.ChainLink node }, Go)
       (λ next. IsInChain g words key nodes stop next.0 next.1)
       (λ has. record {
@@ -145,7 +146,8 @@ module _ (g : Geometry) (words : List ℕ) (key stop : ℕ) where
   stays_at link nodes passed behind count before (at.ChainLink node) can split others before_is count_is =
       let segment =
       IsSegment-cut (chain_in g words) passed node behind link stop (subst (λ list. IsSegment (chain_in g words) link list stop) split can.segment) in
-      let within = (All-cut (λ n. n < g.nodes) passed (node ∷ behind) (subst (λ list. All (λ n. n < g.nodes) list) split can.within)).1 in
+      let within =
+      (All-cut (λ n. n < g.nodes) passed (node ∷ behind) (subst (λ list. All (λ n. n < g.nodes) list) split can.within)).1 in
       link_loaded nodes passed node behind count before can.stops segment.1 (All-tail (λ n. n < g.nodes) node behind within) split others count_is
 
   -- a chain is begun at its first link

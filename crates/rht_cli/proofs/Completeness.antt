@@ -41,7 +41,8 @@ no_script bytes left left_after fault told refused = elim refused.read.enough [
       reading_of-front bytes refused.bytes front.0 front.1 (omega (arith, long)) ∙ refused.first
 ]
 
-module _ {S O : Type 0} (left : S → Option (List ℕ)) (sfaults : S → ℕ) (held : O → Option (List ℕ)) (ofaults : O → ℕ) (s s' : S) (o o' : O) where
+module _ {S O : Type 0} (left : S → Option (List ℕ)) (sfaults : S → ℕ) (held : O → Option (List ℕ))
+    (ofaults : O → ℕ) (s s' : S) (o o' : O) where
   -- serving a script doesn't end as words that are no form do
   pub never_usage : (ending : Ending) → Ends left sfaults held ofaults s s' o o' ending
       → status_of ending ≡ 1 → ⊥
@@ -52,7 +53,8 @@ module _ {S O : Type 0} (left : S → Option (List ℕ)) (sfaults : S → ℕ) (
   never_usage WriteFailed ends same = cc
   never_usage Memory ends same = cc
 
-module _ {S O : Type 0} (left : S → Option (List ℕ)) (sfaults : S → ℕ) (held : O → Option (List ℕ)) (ofaults : O → ℕ) (s s' : S) (o o' : O) (bytes : List ℕ) (told : left s ≡ Some bytes) where
+module _ {S O : Type 0} (left : S → Option (List ℕ)) (sfaults : S → ℕ) (held : O → Option (List ℕ))
+    (ofaults : O → ℕ) (s s' : S) (o o' : O) (bytes : List ℕ) (told : left s ≡ Some bytes) where
   pub served : (ending : Ending) → Ends left sfaults held ofaults s s' o o' ending → (said : Said)
       → reading_of bytes ≡ Ok said
       → (Rose (sfaults s) (sfaults s') → ⊥) → (Rose (ofaults o) (ofaults o') → ⊥)

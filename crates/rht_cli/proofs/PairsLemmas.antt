@@ -177,7 +177,8 @@ pub IsAt-from_place : (pairs : List (ℕ × ℕ)) (port place : ℕ) (pair : ℕ
     → IsPlace pairs port place
     → place < length pairs → get_or pairs place pair ≡ pair → pair.0 ≡ port → IsAt pairs port place pair.1
 IsAt-from_place pairs port place pair rising is_place within read same =
-    let parts : drop place pairs ≡ pair ∷ drop (place + 1) pairs = rw (add-one, drop-cons pairs place pair) (ap (λ x. x ∷ drop (suc place) pairs) read) in
+    let parts : drop place pairs ≡ pair ∷ drop (place + 1) pairs =
+    rw (add-one, drop-cons pairs place pair) (ap (λ x. x ∷ drop (suc place) pairs) read) in
     let rises : IsRising (pair ∷ drop (place + 1) pairs) = subst IsRising parts (rising_dropped pairs place rising) in
     record {
       within = within;
@@ -207,7 +208,8 @@ IsGap-from_place pairs port place rising is_place other = record {
       let some : length (drop place pairs) ≡ suc (length more) = ap length parts in
       let within : place < length pairs = omega (arith, some, length-drop place pairs) in
       let read : get_or (drop place pairs) 0 pair ≡ pair = ap (λ l. get_or l 0 pair) parts in
-      let same_place : get_or (drop place pairs) 0 pair ≡ get_or pairs place pair = get_or-drop place pairs 0 pair ∙ ap (λ i. get_or pairs i pair) (add-zero place) in
+      let same_place : get_or (drop place pairs) 0 pair ≡ get_or pairs place pair =
+      get_or-drop place pairs 0 pair ∙ ap (λ i. get_or pairs i pair) (add-zero place) in
       other pair within (sym same_place ∙ read) same);
 }
 

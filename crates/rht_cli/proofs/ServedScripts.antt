@@ -36,7 +36,8 @@ to_end left left_after bytes said read script = elim read.enough [
   | inr long ↦ let too_long = reading_of-long bytes (omega (arith, long)) in absurd (cc)
 ]
 
-module _ {S O : Type 0} (left : S → Option (List ℕ)) (sfaults : S → ℕ) (held : O → Option (List ℕ)) (ofaults : O → ℕ) (s s' : S) (o o' : O)
+module _ {S O : Type 0} (left : S → Option (List ℕ)) (sfaults : S → ℕ) (held : O → Option (List ℕ))
+    (ofaults : O → ℕ) (s s' : S) (o o' : O)
     (bytes : List ℕ) (said : Said) (read : IsRead (left s) (left s') bytes) (script : reading_of bytes ≡ Ok said) where
   -- where the script is printed, serving it ends as printing it does
   pub Ends-printed : (r : Result (Unit {0}) Ending) → Writes held ofaults o o' r (printed_of said)

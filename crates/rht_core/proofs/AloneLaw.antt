@@ -15,7 +15,8 @@ module _ (M : Type 0) (mix : ℕ → ℕ → ℕ → ℕ) where
   pub alone : Alone M mix
   alone env start c call count past admitted quiet more =
       let after = start ++ call_events M mix c call count in
-      let parts = AllByRecursion-cut (IsAdmittedEvent env.config.kind) start (call_events M mix c call count) admitted in
+      let parts =
+      AllByRecursion-cut (IsAdmittedEvent env.config.kind) start (call_events M mix c call count) admitted in
       let was = remembers M mix env start parts.0 in
       let is = remembers M mix env after admitted in
       let finished : ((run_of {M = M} mix env after).books c).finished ≡ ((run_of {M = M} mix env start).books c).finished ++ past.done ∷ []

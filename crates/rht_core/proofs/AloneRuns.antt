@@ -264,15 +264,18 @@ module _ (L : Type 0) (mix : ℕ → ℕ → ℕ → ℕ) (env : Env) (start : L
           → beginning (world start).core.env (world start).core.enrolled (world start).core.locals c call ≡ machine
           → Status began
       go None is =
-          let same : ◌≡◌ {A = World L} (world began) (world start) = pushed_begin ∙ begin_none L mix (world start) c call is in
+          let same : ◌≡◌ {A = World L} (world began) (world start) =
+          pushed_begin ∙ begin_none L mix (world start) c call is in
           inr (inr (record {
             idle = ap (λ (v : World L). is_idle (local_of v.core c)) same ∙ quiet c;
             past = ap (λ (v : World L). (v.books c).finished) same;
           }))
       go (Some machine) is =
-          let can = beginning-some (world start).core.env (world start).core.enrolled (world start).core.locals c call machine is in
+          let can =
+          beginning-some (world start).core.env (world start).core.enrolled (world start).core.locals c call machine is in
           let sound = sound_in env mix L start in
-          let low : c < length (world start).core.locals = omega (arith, can.below, sound.few_enrolled, sound.all_locals) in
+          let low : c < length (world start).core.locals =
+          omega (arith, can.below, sound.few_enrolled, sound.all_locals) in
           let here : ◌≡◌ {A = Seen L} (seen (world began) c) (seen_begin call machine (seen (world start) c))
           = ap (λ (v : World L). seen v c) pushed_begin ∙ begin_self L mix (world start) c call machine is low in
           let inv = (has_inv env mix L start).inv in
@@ -302,7 +305,8 @@ module _ (L : Type 0) (mix : ℕ → ℕ → ℕ → ℕ) (env : Env) (start : L
       → ((world (start ++ call_events L mix c call count)).books c).finished ≡ old ++ done ∷ []
       → MeetsModel kind before (bindings_at L mix env (start ++ call_events L mix c call count)) call done.reply
   meets_alone count done quiet small is =
-      let same : began ++ replicate count (StepOf c) ≡ start ++ call_events L mix c call count = append_assoc start (Begin c call ∷ []) (replicate count (StepOf c)) in
+      let same : began ++ replicate count (StepOf c) ≡ start ++ call_events L mix c call count =
+      append_assoc start (Begin c call ∷ []) (replicate count (StepOf c)) in
       go (subst Status same (status_after count quiet small))
     where
       after : List Event
@@ -313,7 +317,8 @@ module _ (L : Type 0) (mix : ℕ → ℕ → ℕ → ℕ) (env : Env) (start : L
       go (inl going) =
           let e : old ++ [] ≡ old ++ done ∷ [] = append-nil old ∙ sym going.past ∙ is in let q = append_cancel_left old [] (done ∷ []) e in absurd (cc)
       go (inr (inl ended)) =
-          let e : done_with ended.reply ∷ [] ≡ done ∷ [] = append_cancel_left old (done_with ended.reply ∷ []) (done ∷ []) (sym ended.past ∙ is) in
+          let e : done_with ended.reply ∷ [] ≡ done ∷ [] =
+          append_cancel_left old (done_with ended.reply ∷ []) (done ∷ []) (sym ended.past ∙ is) in
           let same : done_with ended.reply ≡ done = (cc) in
           subst (λ r. MeetsModel kind before (bindings_at L mix env (start ++ call_events L mix c call count)) call r) (ap (λ f. f.reply) same) ended.meets
       go (inr (inr never)) =

@@ -180,14 +180,16 @@ module _ (env : Env) (mix : ℕ → ℕ → ℕ → ℕ) (c : ℕ) (port owner :
     lock_next n table shape (lock, Go) M G whole t s known =
         record { own = known.0; lock = known.1; fits = (t, s, known.2, known.3) }
     lock_next n table shape (lock, Done word) M G whole t s known =
-        let claimed : Claimed = record { node = n; shape = shape; bucket = record { place = lock.place; word = word } } in
+        let claimed : Claimed =
+        record { node = n; shape = shape; bucket = record { place = lock.place; word = word } } in
         let start = walk_start env mix c port (filled false n) (filled_own n) within M G whole word known.0 known.1 in
         let here : StartKnows env mix c port (filled false n) (filled_own n) within word (locked_walk_new env.geometry lock.place word (word_of port)) M G = rw known.2 start in
         start_next table claimed (locked_walk_new env.geometry lock.place word (word_of port)) M G t s known.2 here
 
     -- ---- the operations
 
-    module _ (words : List ℕ) (G : Ghost) (all : length words ≡ words_in env.geometry) (whole : Whole env mix (mem env mix words) G) (low : c < env.geometry.callers) where
+    module _ (words : List ℕ) (G : Ghost) (all : length words ≡ words_in env.geometry)
+        (whole : Whole env mix (mem env mix words) G) (low : c < env.geometry.callers) where
       abbrev M : Memory
       M = mem env mix words
 
@@ -232,7 +234,8 @@ module _ (env : Env) (mix : ℕ → ℕ → ℕ → ℕ) (c : ℕ) (port owner :
           let n = claimed.node in
           let op = Store claimed.bucket.place (link_of n) in
           let ready = publish_ready claimed kick known in
-          let write : IsWrite env.geometry M (mem env mix (applied words op)) (PageWord j) (link_of n) = is_write env.geometry words (PageWord j) op all within known.fits.1 in
+          let write : IsWrite env.geometry M (mem env mix (applied words op)) (PageWord j) (link_of n) =
+          is_write env.geometry words (PageWord j) op all within known.fits.1 in
           record {
             move = Links n port;
             ready = ready;
@@ -306,7 +309,8 @@ module _ (env : Env) (mix : ℕ → ℕ → ℕ → ℕ) (c : ℕ) (port owner :
           (record { own = known.own; lock = known.lock; fits = (known.fits, ap (λ t. M (Slot t ShapeWord)) known.fits ∙ whole.tables.shape_is) })
       bind_step (at.Seed n table shape) known =
           let op = Load (place_of env.geometry (Slot table SeedWord)) in
-          let here = seed_place env mix c port (filled false n) (filled_own n) within words G all whole known.own table shape known.fits.0 known.fits.1 in
+          let here =
+          seed_place env mix c port (filled false n) (filled_own n) within words G all whole known.own table shape known.fits.0 known.fits.1 in
           loads op (at.Locking n table shape (lock_of mix env port shape (old_of words op)), Go) refl
           (record { own = known.own; lock = known.lock; fits = (known.fits.0, known.fits.1, here, tt) })
       bind_step (at.Locking n table shape lock) known =
@@ -329,7 +333,8 @@ module _ (env : Env) (mix : ℕ → ℕ → ℕ → ℕ) (c : ℕ) (port owner :
       bind_step (at.Future table claimed) known =
           let op = Load (place_of env.geometry (Slot table FutureWord)) in
           let none : old_of words op ≡ 0 = ap (λ t. M (Slot t FutureWord)) known.fits.0 ∙ whole.tables.future_is in
-          let next : future_or_count claimed (slot_of (old_of words op)) ≡ at.Count claimed = ap (λ f. future_or_count claimed (slot_of f)) none in
+          let next : future_or_count claimed (slot_of (old_of words op)) ≡ at.Count claimed =
+          ap (λ f. future_or_count claimed (slot_of f)) none in
           loads op (future_or_count claimed (slot_of (old_of words op)), Go) refl
           (rw next (record { own = known.own; lock = known.lock; fits = (known.fits.1, known.fits.2) }))
       bind_step (at.Count claimed) known =
@@ -367,7 +372,8 @@ module _ (env : Env) (mix : ℕ → ℕ → ℕ → ℕ) (c : ℕ) (port owner :
       bind_step (at.Raise claimed) known =
           let op = Add (place_of env.geometry PortCount) 1 in
           let M' = mem env mix (applied words op) in
-          let write : IsWrite env.geometry M M' PortCount ((M PortCount + 1) % 2 ^ 64) = is_write env.geometry words PortCount op all tt refl in
+          let write : IsWrite env.geometry M M' PortCount ((M PortCount + 1) % 2 ^ 64) =
+          is_write env.geometry words PortCount op all tt refl in
           record {
             move = Raises;
             ready = tt;

@@ -33,7 +33,8 @@ head_or_none (x ∷ xs) = Some x
 
 -- ---- one chain
 
-module _ (env : Env) (mix : ℕ → ℕ → ℕ → ℕ) (words : List ℕ) (G : Ghost) (whole : Whole env mix (mem env mix words) G) where
+module _ (env : Env) (mix : ℕ → ℕ → ℕ → ℕ) (words : List ℕ) (G : Ghost)
+    (whole : Whole env mix (mem env mix words) G) where
   abbrev g : Geometry
   g = env.geometry
 
@@ -61,8 +62,10 @@ module _ (env : Env) (mix : ℕ → ℕ → ℕ → ℕ) (words : List ℕ) (G :
   bucket_met j l =
       let right = whole.buckets j l in
       let b = G.bucket j in
-      let among : (n : ℕ) → In n b.nodes → n < g.nodes = λ n i. (whole.owned.first_at n j (whole.owned.member j n i)).among in
-      let few = length-count_below (λ n. true) g.nodes b.nodes right.chained.distinct (In-AllByRecursion (λ n. n < g.nodes) b.nodes among) (λ n i. refl) in
+      let among : (n : ℕ) → In n b.nodes → n < g.nodes =
+      λ n i. (whole.owned.first_at n j (whole.owned.member j n i)).among in
+      let few =
+      length-count_below (λ n. true) g.nodes b.nodes right.chained.distinct (In-AllByRecursion (λ n. n < g.nodes) b.nodes among) (λ n i. refl) in
       let most = count_below-most (λ n. true) g.nodes in
       let first : head_of (place_at env mix j) (slice_index words (place_at env mix j)) ≡ head_of (place_at env mix j) b.plain
       = ap (head_of (place_at env mix j)) right.locked.word_is ∙ head_of-locked (place_at env mix j) b.plain b.holder right.locked.even in

@@ -99,7 +99,8 @@ module _ (env : Env) where
       let count = did.old in
       cond_both (is_above_max (min count 65536) env.config.max) (Some (TooBig count)) None (λ reply. SawForReply reply (steps ++ did ∷ []))
       (λ t.
-      let full : most_ports env.config.max ≤ min count 65536 = leb-true (most_ports env.config.max) (min count 65536) t in
+      let full : most_ports env.config.max ≤ min count 65536 =
+      leb-true (most_ports env.config.max) (min count 65536) t in
       Any-push (LoadedFull count) steps did record { loaded = is; found = refl; full = omega arith })
       (λ f. tt)
 
@@ -140,7 +141,8 @@ module _ (env : Env) where
         let before = map performed_of steps in
         let saw_below = subst (λ (h : Geometry). SawAllBelow h (first_unseen take.at) before) (sym same) saw in
         let after = take_after-saw take take.at before (performed_of did) does.planned does.within.piece saw_below in
-        let here = subst (λ (h : Geometry). SawSoFar h (before ++ performed_of did ∷ []) (take_node_after take did.old)) same after in
+        let here =
+        subst (λ (h : Geometry). SawSoFar h (before ++ performed_of did ∷ []) (take_node_after take did.old)) same after in
         node_taken-saw (take_node_after take did.old).0 (take_node_after take did.old).1 all
         (subst (λ (list : List Performed). SawSoFar env.geometry list (take_node_after take did.old)) (sym (map-append performed_of steps (did ∷ []))) here)
     bind-saw state steps did does saw = with_node-saw state steps did does refl saw

@@ -22,7 +22,8 @@ use Rattle.rht_core.proofs.InvariantRuns.{has_inv}
 use Rattle.rht_core.proofs.BoundPorts.{stands_for_bound, first_bound}
 use Rattle.rht_core.proofs.FullTables.{count_by-range, firsts-AreBound, raises}
 
-module _ (env : Env) (mix : ℕ → ℕ → ℕ → ℕ) (words : List ℕ) (G : Ghost) (whole : Whole env mix (mem env mix words) G) where
+module _ (env : Env) (mix : ℕ → ℕ → ℕ → ℕ) (words : List ℕ) (G : Ghost)
+    (whole : Whole env mix (mem env mix words) G) where
   -- the node to which a port is bound; some node where it is bound to none
   abbrev node_for : List ℕ → ℕ
   node_for [] = 0
@@ -139,7 +140,8 @@ module _ (M : Type 0) (mix : ℕ → ℕ → ℕ → ℕ) where
       let core : Core M = (run_of mix env events).core in
       let has = has_inv env mix M events in
       let G = has.ghost in
-      let knows : (c : ℕ) → AllMean env mix c (mem env mix core.words) G nothing_held = λ c. idle_knows env mix M c (local_of core c) (mem env mix core.words) G (quiet c) (has.inv.each c) in
+      let knows : (c : ℕ) → AllMean env mix c (mem env mix core.words) G nothing_held =
+      λ c. idle_knows env mix M c (local_of core c) (mem env mix core.words) G (quiet c) (has.inv.each c) in
       let none_raised = count_below-none G.raised env.geometry.callers (λ c l. (knows c).0) in
       let all : word_at env.geometry core.words PortCount ≡ firsts env mix G = (let is = has.inv.whole.counted in omega (arith, is, none_raised)) in
       record {

@@ -119,7 +119,8 @@ module _ (env : Env) (mix : ℕ → ℕ → ℕ → ℕ) (c : ℕ) (port : ℕ) 
 
     -- ---- the operations
 
-    module _ (words : List ℕ) (G : Ghost) (all : length words ≡ words_in env.geometry) (whole : Whole env mix (mem env mix words) G) where
+    module _ (words : List ℕ) (G : Ghost) (all : length words ≡ words_in env.geometry)
+        (whole : Whole env mix (mem env mix words) G) where
       abbrev M : Memory
       M = mem env mix words
 
@@ -143,7 +144,8 @@ module _ (env : Env) (mix : ℕ → ℕ → ℕ → ℕ) (c : ℕ) (port : ℕ) 
           (record { own = known.own; lock = known.lock; fits = (known.fits, ap (λ t. M (Slot t ShapeWord)) known.fits ∙ whole.tables.shape_is) })
       find_step (at.Seed table shape) known =
           let op = Load (place_of env.geometry (Slot table SeedWord)) in
-          let here = seed_place env mix c port no_node nothing_own within words G all whole known.own table shape known.fits.0 known.fits.1 in
+          let here =
+          seed_place env mix c port no_node nothing_own within words G all whole known.own table shape known.fits.0 known.fits.1 in
           loads op (at.Locking table (lock_of mix env port shape (old_of words op)), Go) refl
           (record { own = known.own; lock = known.lock; fits = (known.fits.0, here, tt) })
       find_step (at.Locking table lock) known =
@@ -159,7 +161,8 @@ module _ (env : Env) (mix : ℕ → ℕ → ℕ → ℕ) (c : ℕ) (port : ℕ) 
       find_step (at.Future table bucket) known =
           let op = Load (place_of env.geometry (Slot table FutureWord)) in
           let none : old_of words op ≡ 0 = ap (λ t. M (Slot t FutureWord)) known.fits.0 ∙ whole.tables.future_is in
-          let next : unlocking bucket (next_table (slot_of (old_of words op))) ≡ unlocking bucket (Answer Missing) = ap (λ f. unlocking bucket (next_table (slot_of f))) none in
+          let next : unlocking bucket (next_table (slot_of (old_of words op))) ≡ unlocking bucket (Answer Missing) =
+          ap (λ f. unlocking bucket (next_table (slot_of f))) none in
           loads op (unlocking bucket (next_table (slot_of (old_of words op))), Go) refl
           (rw next (record { own = known.own; lock = (known.lock.0, (known.lock.1.0.0, tt)); fits = known.fits.1 }))
       find_step (at.FirstOwner bucket node) known =

@@ -163,7 +163,8 @@ module _ (env : Env) (mix : ℕ → ℕ → ℕ → ℕ) where
     counted = counted;
   }
 
-  module _ (M M' : Memory) (G : Ghost) (a : Address) (v : ℕ) (whole : Whole env mix M G) (write : IsWrite env.geometry M M' a v) where
+  module _ (M M' : Memory) (G : Ghost) (a : Address) (v : ℕ) (whole : Whole env mix M G)
+      (write : IsWrite env.geometry M M' a v) where
     -- locks are right where no bucket's word is written
     pub locks_stay : ((j : ℕ) → PageWord j ≢ a) → (j : ℕ) → j < 64 * env.geometry.pages
         → LockedRight env mix M' j (G.bucket j)

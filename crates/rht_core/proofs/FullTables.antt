@@ -222,7 +222,8 @@ module _ (M : Type 0) (mix : ℕ → ℕ → ℕ → ℕ) (env : Env) where
       let place = place_of env.geometry PortCount in
       let plans : planned core.enrolled core.locals c ≡ Some (Load place) = is.plan ∙ ap Some loaded in
       let can = planned-some core.enrolled core.locals c (Load place) plans in
-      let unraised = raises c (local_of core c) core.words G (has.inv.each c) ∙ loads-unraised place (local_of core c) can.plan in
+      let unraised =
+      raises c (local_of core c) core.words G (has.inv.each c) ∙ loads-unraised place (local_of core c) can.plan in
       let others = raisers-others core c G has.inv.same_env unraised has.inv.each in
       let word : mem env mix core.words PortCount ≡ count =
       sym (ap (old_of core.words) loaded) ∙ is.found ∙ found in

@@ -164,7 +164,8 @@ module _ (env : Env) (mix : ℕ → ℕ → ℕ → ℕ) where
         let can = beginning-some core.env core.enrolled core.locals c call machine is in
         let low : c < length core.locals = omega (arith, can.below, sound.few_enrolled, sound.all_locals) in
         let idle = idle_knows c (local_of core c) (mem env mix core.words) G can.idle (inv.each c) in
-        let knows : CallerKnows c machine (mem env mix core.words) G = begun_knows c call machine (mem env mix core.words) G (rw (sym inv.same_env) can.machine_is) idle in
+        let knows : CallerKnows c machine (mem env mix core.words) G =
+        begun_knows c call machine (mem env mix core.words) G (rw (sym inv.same_env) can.machine_is) idle in
         record {
           ghost = G;
           inv = rw is (record {
@@ -186,8 +187,10 @@ module _ (env : Env) (mix : ℕ → ℕ → ℕ → ℕ) where
     step_kept core G c (Some op) sound inv is =
         let can = planned-some core.enrolled core.locals c op is in
         let low : c < length core.locals = omega (arith, can.below, sound.few_enrolled, sound.all_locals) in
-        let caller : c < env.geometry.callers = subst (λ e. c < e.geometry.callers) inv.same_env (omega (arith, can.below, sound.few_enrolled)) in
-        let all : length core.words ≡ words_in env.geometry = subst (λ e. length core.words ≡ words_in e.geometry) inv.same_env sound.all_words in
+        let caller : c < env.geometry.callers =
+        subst (λ e. c < e.geometry.callers) inv.same_env (omega (arith, can.below, sound.few_enrolled)) in
+        let all : length core.words ≡ words_in env.geometry =
+        subst (λ e. length core.words ≡ words_in e.geometry) inv.same_env sound.all_words in
         let step = caller_step c (local_of core c) op core.words G all inv.whole caller can.plan (inv.each c) in
         let next = (local_after mix (local_of core c) (old_of core.words op)).0 in
         let G' = ghost_after env mix c step.move G in
@@ -208,7 +211,8 @@ module _ (env : Env) (mix : ℕ → ℕ → ℕ → ℕ) where
     enroll_kept : (core : Core L) (G : Ghost) → IsSound core → Inv core G → Kept core G Enroll
     enroll_kept core G sound inv =
         let op = enrolling core.env in
-        let all : length core.words ≡ words_in env.geometry = subst (λ e. length core.words ≡ words_in e.geometry) inv.same_env sound.all_words in
+        let all : length core.words ≡ words_in env.geometry =
+        subst (λ e. length core.words ≡ words_in e.geometry) inv.same_env sound.all_words in
         let M' = mem env mix (applied core.words op) in
         let write = is_write env.geometry core.words EnrolledCallers op all tt refl in
         let kept = aside env mix EnrolledCallers (word_after (word_at env.geometry core.words EnrolledCallers) op) (mem env mix core.words) M' G inv.whole write

@@ -91,7 +91,8 @@ module _ (env : Env) (mix : ℕ → ℕ → ℕ → ℕ) where
         let rest : IsSegment (chain_of M') (head_of (place_at env mix here) (G.bucket here).plain) (G.bucket here).nodes (marker_of (place_at env mix here))
         = IsSegment-members (chain_of M) (chain_of M') (head_of (place_at env mix here) (G.bucket here).plain) (G.bucket here).nodes (marker_of (place_at env mix here))
         (λ m i. first_word m here ChainLink (whole.owned.member here m i)) old.chained.segment in
-        let behind : chain_of M' n ≡ head_of (place_at env mix here) (G.bucket here).plain = word_same n ChainLink ready.has.1 ∙ ready.chain in
+        let behind : chain_of M' n ≡ head_of (place_at env mix here) (G.bucket here).plain =
+        word_same n ChainLink ready.has.1 ∙ ready.chain in
         record {
           locked =
               record { word_is = write.same ∙ omega arith; even = omega arith; none_out = old.locked.none_out; none_armed = old.locked.none_armed };

@@ -166,7 +166,8 @@ module _ (env : Env) (mix : ℕ → ℕ → ℕ → ℕ) where
       let b = n % 64 in
       let parts : 64 * i + b ≡ n = omega arith in
       let was : (j : ℕ) → G.node n ≡ First j → ⊥ = λ j f. held_not_first (G.node n) d j has.0 f in
-      let firsts = firsts_stay env mix M M' G (NodeMap i) (bit_or (M (NodeMap i)) (bit_of b)) whole write (λ m w e. cc) in
+      let firsts =
+      firsts_stay env mix M M' G (NodeMap i) (bit_or (M (NodeMap i)) (bit_of b)) whole write (λ m w e. cc) in
       let made = reowned i b (bit_or (M (NodeMap i)) (bit_of b)) Free M M' G whole (record { within = omega arith; below = omega (arith, has.1) }) tt write
       (λ j f. was j (ap G.node (sym parts) ∙ f)) (λ j f. cc)
       ((λ set. refl), (λ e. bit_at-set (M (NodeMap i)) b))

@@ -59,7 +59,8 @@ module _ (env : Env) (mix : ℕ → ℕ → ℕ → ℕ) (c : ℕ) where
       (λ t e. next_knows at index M G means)
       (λ t e. (means, (refl, lowest_is_in env.geometry.nodes index word (let ne = eqb-false free 0 t in omega (arith, ne))))) refl
 
-  module _ (words : List ℕ) (G : Ghost) (all : length words ≡ words_in env.geometry) (whole : Whole env mix (mem env mix words) G) where
+  module _ (words : List ℕ) (G : Ghost) (all : length words ≡ words_in env.geometry)
+      (whole : Whole env mix (mem env mix words) G) where
     abbrev M : Memory
     M = mem env mix words
 
@@ -78,7 +79,8 @@ module _ (env : Env) (mix : ℕ → ℕ → ℕ → ℕ) (c : ℕ) where
         let word = old_of words op in
         let M' = mem env mix (applied words op) in
         let low : index < map_words env.geometry.nodes = omega (arith, range.within, range.below) in
-        let write : IsWrite env.geometry M M' (NodeMap index) (bit_and word (bit_not w64 (bit_of bit))) = is_write env.geometry words (NodeMap index) op all low refl in
+        let write : IsWrite env.geometry M M' (NodeMap index) (bit_and word (bit_not w64 (bit_of bit))) =
+        is_write env.geometry words (NodeMap index) op all low refl in
         by_test (λ t. (bit_at word bit == 1) ≡ t → Step env mix c words G op (TakeKnows (cond t (take, Done (Some (64 * index + bit))) (claim_among take index (bit_and word (bits_above bit)))))) (bit_at word bit == 1)
         (λ t e. let made = take_node env mix c index bit M M' G whole range (eqb-true (bit_at word bit) 1 t) write in
         record {

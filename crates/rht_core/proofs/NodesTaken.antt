@@ -187,7 +187,8 @@ module _ (mix : ℕ → ℕ → ℕ → ℕ) (env : Env) where
       → BindGoes (steps ++ did ∷ []) (after_at mix env port state did.old)
   with_node-goes port owner state steps did does has taken =
       let all = steps ++ did ∷ [] in
-      let still = HasTaken-push g (node_of_bind state) steps did taken (no_and_as g did does.planned (bind_no_and env port owner state has)) in
+      let still =
+      HasTaken-push g (node_of_bind state) steps did taken (no_and_as g did does.planned (bind_no_and env port owner state has)) in
       let So = λ (node word : Option ℕ) (reply : Option Reply). HasTaken g node all × IsNoneOrWithNode reply in
       GoesOrEnds-weaker (HoldsSo So) _ (λ (reply : Reply). So (node_of_bind state) (bind_word_after state did.old) (Some reply)) _ (λ next so. so.0)
       (λ reply so. with_node g (node_of_bind state) all reply has so.1 so.0)
@@ -209,7 +210,8 @@ module _ (mix : ℕ → ℕ → ℕ → ℕ) (env : Env) where
       → TakesNone g steps
       → GoesOrEnds (λ next. TakesNone g (steps ++ did ∷ [])) (λ reply. TakesNone g (steps ++ did ∷ [])) (find_after_at mix env port state did.old)
   find-goes port state steps did does none =
-      let still = AllByRecursion-push (IsNoTake g) steps did none (no_and_as g did does.planned (find_no_and env state)) in
+      let still =
+      AllByRecursion-push (IsNoTake g) steps did none (no_and_as g did does.planned (find_no_and env state)) in
       GoesOrEnds-weaker HoldsFindReply _ IsFindReply _ (λ next holds. still) (λ reply is. still) (find_after_at mix env port state did.old)
       (find_after-replies mix env port state did.old does.holds)
 

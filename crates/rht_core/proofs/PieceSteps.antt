@@ -42,7 +42,8 @@ abbrev pub seen_facts : ℕ → ℕ → Option ℕ → List Fact
 seen_facts port word None = Missed port word ∷ []
 seen_facts port word (Some node) = Found port word node ∷ []
 
-module _ (env : Env) (mix : ℕ → ℕ → ℕ → ℕ) (c : ℕ) (port : ℕ) (own : List Fact) (all_own : AllOwn env mix own) (within : home env mix port < 64 * env.geometry.pages) where
+module _ (env : Env) (mix : ℕ → ℕ → ℕ → ℕ) (c : ℕ) (port : ℕ) (own : List Fact)
+    (all_own : AllOwn env mix own) (within : home env mix port < 64 * env.geometry.pages) where
   abbrev j : ℕ
   j = home env mix port
 
@@ -128,12 +129,15 @@ module _ (env : Env) (mix : ℕ → ℕ → ℕ → ℕ) (c : ℕ) (port : ℕ) 
         go [] e s0 =
             let s = rw e at chain_here in
             let cut = IsSegment-cut (chain_of M) front node [] (head_of place (G.bucket j).plain) (marker_of place) s in
-            let ends : node_of walk.geometry.nodes (chain_of M node) ≡ None = rw is.0 (marker_ends (chain_of M node) cut.1) in
+            let ends : node_of walk.geometry.nodes (chain_of M node) ≡ None =
+            rw is.0 (marker_ends (chain_of M node) cut.1) in
             rw ends (mine, (only.0, ((holds, rw e (NoKey-more front node stands.passed differs)), tt)))
         go (next ∷ rear) e s0 =
             let s = rw e at chain_here in
-            let cut = IsSegment-cut (chain_of M) front node (next ∷ rear) (head_of place (G.bucket j).plain) (marker_of place) s in
-            let more : (G.bucket j).nodes ≡ (front ++ node ∷ []) ++ next ∷ rear = e ∙ sym (append_snoc front node (next ∷ rear)) in
+            let cut =
+            IsSegment-cut (chain_of M) front node (next ∷ rear) (head_of place (G.bucket j).plain) (marker_of place) s in
+            let more : (G.bucket j).nodes ≡ (front ++ node ∷ []) ++ next ∷ rear =
+            e ∙ sym (append_snoc front node (next ∷ rear)) in
             let names : node_of walk.geometry.nodes (chain_of M node) ≡ Some next
             = rw is.0 (link_names (chain_of M node) next cut.1.0 (rw more (in-middle next (front ++ node ∷ []) rear))) in
             rw names (
@@ -166,7 +170,8 @@ module _ (env : Env) (mix : ℕ → ℕ → ℕ → ℕ) (c : ℕ) (port : ℕ) 
   LockKnows (lock, Done word) M G =
       Own M G × AllMean env mix c M G (OnlyLock (Some j) ∷ Locks port word ∷ []) × (lock.place ≡ place)
 
-  module _ (words : List ℕ) (G : Ghost) (all : length words ≡ words_in env.geometry) (whole : Whole env mix (mem env mix words) G)
+  module _ (words : List ℕ) (G : Ghost) (all : length words ≡ words_in env.geometry)
+      (whole : Whole env mix (mem env mix words) G)
       (mine : Own (mem env mix words) G) where
     abbrev M : Memory
     M = mem env mix words
@@ -238,7 +243,8 @@ module _ (env : Env) (mix : ℕ → ℕ → ℕ → ℕ) (c : ℕ) (port : ℕ) 
         let op = Store place word in
         let M' = mem env mix (applied words op) in
         let holds = knows.1.0 in
-        let write : IsWrite env.geometry M M' (PageWord j) word = is_write env.geometry words (PageWord j) op all within refl in
+        let write : IsWrite env.geometry M M' (PageWord j) word =
+        is_write env.geometry words (PageWord j) op all within refl in
         record {
           move = DropsLock j;
           ready = tt;
@@ -258,7 +264,8 @@ module _ (env : Env) (mix : ℕ → ℕ → ℕ → ℕ) (c : ℕ) (port : ℕ) 
         Step env mix c words G (locked_walk_plan walk) (WalkKnows word (locked_walk_after walk (old_of words (locked_walk_plan walk))))
     walk_step_at word before count (walks.Key node) knows =
         let op = Load (place_of env.geometry (Node node KeyWord)) in
-        let walk : LockedWalkModel = record { geometry = env.geometry; key = port; before = before; length = count; at = walks.Key node } in
+        let walk : LockedWalkModel =
+        record { geometry = env.geometry; key = port; before = before; length = count; at = walks.Key node } in
         let key = old_of words op in
         let stands = knows.1.0 in
         by_test (λ t. (key == port) ≡ t → Step env mix c words G op (WalkKnows word (cond t (counted walk, Done (found_at (counted walk) node)) (record (counted walk) { at = walks.ChainLink node }, Go)))) (key == port)
@@ -268,7 +275,8 @@ module _ (env : Env) (mix : ℕ → ℕ → ℕ → ℕ) (c : ℕ) (port : ℕ) 
         (mine, (knows.0, (stands, ((stands.0, rw stands.1.split (in-middle node stands.1.front stands.1.rear), eqb-false key port t), tt))), (refl, refl))) refl
     walk_step_at word before count (walks.ChainLink node) knows =
         let op = Load (place_of env.geometry (Node node ChainLink)) in
-        let walk : LockedWalkModel = record { geometry = env.geometry; key = port; before = before; length = count; at = walks.ChainLink node } in
+        let walk : LockedWalkModel =
+        record { geometry = env.geometry; key = port; before = before; length = count; at = walks.ChainLink node } in
         reads env mix c words G op (WalkKnows word (followed walk node (old_of words op) (node_of env.geometry.nodes (old_of words op)))) whole refl
         (walk_on M G whole word node walk (refl, refl) mine (knows.0, tt) knows.1.0.0 knows.1.0.1 knows.1.1.0.2)
 
@@ -288,6 +296,7 @@ module _ (env : Env) (mix : ℕ → ℕ → ℕ → ℕ) (c : ℕ) (port : ℕ) 
     pub seed_place : (table shape : ℕ) → table ≡ 0 → shape ≡ shape_word env mix
         → bucket_place env.geometry shape (bucket_of mix port shape (M (Slot table SeedWord))) ≡ place
     seed_place table shape first is =
-        let seed : M (Slot table SeedWord) ≡ env.config.seed = ap (λ t. M (Slot t SeedWord)) first ∙ whole.tables.seed_is in
+        let seed : M (Slot table SeedWord) ≡ env.config.seed =
+        ap (λ t. M (Slot t SeedWord)) first ∙ whole.tables.seed_is in
         ap (λ s. bucket_place env.geometry s (bucket_of mix port s (M (Slot table SeedWord)))) is
         ∙ ap (λ s. bucket_place env.geometry (shape_word env mix) (bucket_of mix port (shape_word env mix) s)) seed

@@ -88,7 +88,8 @@ module _ (M : Type 0) (mix : ℕ → ℕ → ℕ → ℕ) (env : Env) where
       pub opens : (c : ℕ) → P [] c (record { local = Idle; book = new_book }) no_trace
       pub stays : (events : List Event) (event : Event) (c : ℕ) (seen : Seen M) (trace : Trace)
           → P events c seen trace → P (events ++ event ∷ []) c seen trace
-      pub begins : (events : List Event) (c : ℕ) (call : Call) (machine : Local M) (index : ℕ) (seen : Seen M) (trace : Trace)
+      pub begins : (events : List Event) (c : ℕ) (call : Call) (machine : Local M) (index : ℕ)
+          (seen : Seen M) (trace : Trace)
           → index ≡ length events
           → is_idle seen.local ≡ true → machine_of env c call ≡ Some machine
           → P events c seen trace

@@ -169,7 +169,8 @@ module _ (M : Type 0) (mix : ℕ → ℕ → ℕ → ℕ) (env : Env) where
       }
 
   -- a step of a call, which may have ended it
-  did-holds : (events : List Event) (c : ℕ) (call : Option Call) (trace : Trace) (did : Did) (reply : Option Reply) (book : Book)
+  did-holds : (events : List Event) (c : ℕ) (call : Option Call) (trace : Trace) (did : Did)
+      (reply : Option Reply) (book : Book)
       → book.call ≡ call
       → did.index ≡ length events → IsRecorded M mix env (events ++ Step c ∷ []) c did
       → reply_of M mix env c (run_of mix env (take did.index (events ++ Step c ∷ []))) ≡ reply

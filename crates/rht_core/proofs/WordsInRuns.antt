@@ -143,8 +143,10 @@ module _ (M : Type 0) (mix : ℕ → ℕ → ℕ → ℕ) (env : Env) where
   step-fit core c None is fit = record { words = fit.words; locals = fit.locals }
   step-fit core c (Some op) is fit =
       let can = planned-some core.enrolled core.locals c op is in
-      let op_fits = subst (PlanFits M) can.plan (plan_of-fits M env c (local_of core c) (fit.stays.locals c) (fit.locals c)) in
-      let old : Fits (old_of core.words op) = AllByRecursion-get_or Fits core.words (op_place op) 0 (omega arith) fit.words in
+      let op_fits =
+      subst (PlanFits M) can.plan (plan_of-fits M env c (local_of core c) (fit.stays.locals c) (fit.locals c)) in
+      let old : Fits (old_of core.words op) =
+      AllByRecursion-get_or Fits core.words (op_place op) 0 (omega arith) fit.words in
       let next = local_after mix (local_of core c) (old_of core.words op) in
       record {
         words = applied-fit core.words op op_fits fit.words;

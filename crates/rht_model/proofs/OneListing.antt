@@ -76,7 +76,8 @@ same_pairs low (first ∷ firsts) (second ∷ seconds) rises others bound others
           let bound_behind = All-tail (λ pair. pair.1 ≢ []) first firsts bound in
           let bound_behind_too = All-tail (λ pair. pair.1 ≢ []) second seconds others_bound in
           let agree_behind = Agree-tails first second firsts seconds same rises.1 others.1 agree in
-          let tails = same_pairs (suc first.0) firsts seconds rises.1 rises_too bound_behind bound_behind_too agree_behind in
+          let tails =
+          same_pairs (suc first.0) firsts seconds rises.1 rises_too bound_behind bound_behind_too agree_behind in
           ap (λ pair. pair ∷ firsts) (same_pair first second same owners) ∙ ap (λ pairs. second ∷ pairs) tails
       | inr (inl below) ↦
           let unlisted = listed_at-below second.0 (second ∷ seconds) first.0 (omega arith, others.1) below in

@@ -20,7 +20,8 @@ is_port (Some other) port =
       | inr differs ↦ inr (λ same. differs (cc))
     ]
 
-module _ (kind : Kind) (bindings : Multimap) (first second : Entry) (apart : port_of first.call ≢ port_of second.call) where
+module _ (kind : Kind) (bindings : Multimap) (first second : Entry)
+    (apart : port_of first.call ≢ port_of second.call) where
   -- behind an entry of another port a call has the answer that it has without it
   answer_of-behind : answer_of kind (left_by kind bindings first) second.call ≡ answer_of kind bindings second.call
   answer_of-behind =

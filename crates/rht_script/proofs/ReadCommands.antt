@@ -116,7 +116,8 @@ words_few number line = by_test (nat_lt most_lines number) refl
     by_test false is =
         IfOk-cond (λ words. number ≤ most_lines) (nat_lt most_in_line (length line)) (Err LineTooLong) (Ok (words_of line)) tt (ltb-false most_lines number is)
 
-module _ (P : ℕ × Call → Type 0) (config : Config) (each : (words : List (List ℕ)) → IfOk (command_of config.callers words) P) where
+module _ (P : ℕ × Call → Type 0) (config : Config)
+    (each : (words : List (List ℕ)) → IfOk (command_of config.callers words) P) where
   -- By induction over the lines: a line that is skipped has no command, and any other has one more.
   pub commands_hold : (number : ℕ) (lines : List (List ℕ)) → number ≤ 1000001
       → IfOk (commands_from number config lines) (AreCommands P number)
@@ -139,7 +140,8 @@ module _ (P : ℕ × Call → Type 0) (config : Config) (each : (words : List (L
 
 -- ---- a whole script
 
-module _ (P : Config → ℕ × Call → Type 0) (each : (config : Config) (words : List (List ℕ)) → IfOk (command_of config.callers words) (P config)) where
+module _ (P : Config → ℕ × Call → Type 0)
+    (each : (config : Config) (words : List (List ℕ)) → IfOk (command_of config.callers words) (P config)) where
   -- what is said has such commands, and no more of them than a script may have lines
   abbrev AreSaid : Said → Type 0
   AreSaid said = AreCommands (P said.config) 1 said.commands

@@ -29,8 +29,10 @@ module _ (bytes : List ℕ) where
 pub reading_of-front : (bytes front behind : List ℕ) → bytes ≡ front ++ behind
     → most_bytes < length front → reading_of bytes ≡ reading_of front
 reading_of-front bytes front behind is long =
-    let longer : most_bytes < length bytes = omega (arith, ap (λ (l : List ℕ). length l) is, length-append front behind) in
-    let first : take most_bytes bytes ≡ take most_bytes front = ap (take most_bytes) is ∙ take-append-le most_bytes front behind (omega arith) in
+    let longer : most_bytes < length bytes =
+    omega (arith, ap (λ (l : List ℕ). length l) is, length-append front behind) in
+    let first : take most_bytes bytes ≡ take most_bytes front =
+    ap (take most_bytes) is ∙ take-append-le most_bytes front behind (omega arith) in
     reading_of-long bytes longer
     ∙ ap (λ (l : List ℕ). Err (fault_at (1 + count_by (λ byte. byte == 10) l) ScriptTooLong)) first
     ∙ sym (reading_of-long front long)

@@ -32,7 +32,8 @@ pub IsSegment-same : (chain stored : ℕ → ℕ) (nodes : List ℕ) (link stop 
     → IsSegment stored link nodes stop
 IsSegment-same chain stored [] link stop same segment = segment
 IsSegment-same chain stored (node ∷ nodes) link stop same segment =
-    let behind = IsSegment-same chain stored nodes (chain node) stop (All-tail (λ n. stored n ≡ chain n) node nodes same) segment.1 in
+    let behind =
+    IsSegment-same chain stored nodes (chain node) stop (All-tail (λ n. stored n ≡ chain n) node nodes same) segment.1 in
     (segment.0, subst (λ l. IsSegment stored l nodes stop) (sym (All-head (λ n. stored n ≡ chain n) node nodes same)) behind)
 
 -- a segment stays where the links behind its members do
@@ -56,12 +57,15 @@ IsSegment-relinked chain stored last link stop behind links rest node [] first m
     let same : node ≡ last = cc in
     let kept = All-tail (λ n. n ≢ last → stored n ≡ chain n) node behind others in
     let off = NotIn-All node behind distinct.0 in
-    let framed = IsSegment-same chain stored behind link stop (λ k d l. kept k d l (λ e. off k d l (e ∙ sym same))) rest in
+    let framed =
+    IsSegment-same chain stored behind link stop (λ k d l. kept k d l (λ e. off k d l (e ∙ sym same))) rest in
     (front.0, subst (λ l. IsSegment stored l behind stop) (sym (subst (λ n. stored n ≡ link) (sym same) links)) framed)
 IsSegment-relinked chain stored last link stop behind links rest node (next ∷ nodes) first middle is others distinct front =
     let Stays : ℕ → Type 0 = λ n. n ≢ last → stored n ≡ chain n in
-    let differ : last ≢ node = last_or-All (λ n. n ≢ node) next last nodes behind is (NotIn-All node ((next ∷ nodes) ++ behind) distinct.0) in
-    let stays : stored node ≡ chain node = All-head Stays node ((next ∷ nodes) ++ behind) others (λ e. differ (sym e)) in
+    let differ : last ≢ node =
+    last_or-All (λ n. n ≢ node) next last nodes behind is (NotIn-All node ((next ∷ nodes) ++ behind) distinct.0) in
+    let stays : stored node ≡ chain node =
+    All-head Stays node ((next ∷ nodes) ++ behind) others (λ e. differ (sym e)) in
     let further =
     IsSegment-relinked chain stored last link stop behind links rest next nodes (chain node) middle is (All-tail Stays node ((next ∷ nodes) ++ behind) others) distinct.1 front.1 in
     (front.0, subst (λ l. IsSegment stored l ((next ∷ nodes) ++ behind) stop) (sym stays) further)

@@ -192,7 +192,8 @@ length-count_below has bound (x ∷ xs) distinct below all =
       | inl e ↦ absurd (in_and_not y xs i (subst_not_in x y xs (sym e) distinct.0))
       | inr ne ↦ without-other y ne ∙ all y (inr i)
     ]) in
-    let more = count_below-more without has x bound below.0 (without-same refl) (all x (inl refl)) (λ n ne. sym (without-other n ne)) in
+    let more =
+    count_below-more without has x bound below.0 (without-same refl) (all x (inl refl)) (λ n ne. sym (without-other n ne)) in
     omega (arith, rest, more)
   where
     subst_not_in : (x y : ℕ) (zs : List ℕ) → x ≡ y → NotIn x zs → NotIn y zs

@@ -37,7 +37,8 @@ first_power zero a n high =
     record { exponent = a; is = rw (le-leb n (2 ^ a) end) refl; above = end; before = λ i low l. absurd (omega arith) }
 first_power (suc count) a n high = elim (cases_lt (2 ^ a) n) [
   | inl below ↦
-      let rest = first_power count (a + 1) n (omega (arith, powers-rise (a + suc count) (a + 1 + count) (omega arith))) in
+      let rest =
+      first_power count (a + 1) n (omega (arith, powers-rise (a + suc count) (a + 1 + count) (omega arith))) in
       record {
         exponent = rest.exponent;
         is = rw (lt-leb n (2 ^ a) below) rest.is;
@@ -101,7 +102,8 @@ rounded_down-greatest n low high =
     let up = rounded_up-least (n + 1) (omega arith) in
     let e = up.power.0 in
     let above : e ≢ 0 = λ zero. absurd (omega (arith, up.above, up.power.1, ap (λ i. 2 ^ i) zero)) in
-    let half : rounded_down n ≡ 2 ^ (e - 1) = omega (arith, up.power.1, ap (λ i. 2 ^ i) (before above), pow-suc 2 (e - 1)) in
+    let half : rounded_down n ≡ 2 ^ (e - 1) =
+    omega (arith, up.power.1, ap (λ i. 2 ^ i) (before above), pow-suc 2 (e - 1)) in
     rw half record {
       power = (e - 1, refl);
       below = elim (cases_lt n (2 ^ (e - 1))) [

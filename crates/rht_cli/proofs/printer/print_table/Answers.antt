@@ -58,9 +58,12 @@ returns-in_err-print_bindings g c =
     let text = replies_text unbound commands ++ bindings_text c.args.size (last_pairs commands) in
     let registry = c.print_replies.new.registry in
     let ending = c.in_err-print_bindings.field-0.0 in
-    let p = err_from_is_err_and c.from_residual-in_err-print_bindings.result c.from_residual-in_err-print_bindings.ensures.1 in
-    let left = IfOk-at_ok (λ done. bindings_in registry ≡ bindings_of (bindings_in c.new-registry.result) commands) c.in_ok-print_replies.was c.print_replies.ensures.bindings in
-    let pairs = last registry c.new-registry.result commands c.print_bindings.ensures.rising c.new-registry.ensures left in
+    let p =
+    err_from_is_err_and c.from_residual-in_err-print_bindings.result c.from_residual-in_err-print_bindings.ensures.1 in
+    let left =
+    IfOk-at_ok (λ done. bindings_in registry ≡ bindings_of (bindings_in c.new-registry.result) commands) c.in_ok-print_replies.was c.print_replies.ensures.bindings in
+    let pairs =
+    last registry c.new-registry.result commands c.print_bindings.ensures.rising c.new-registry.ensures left in
     let replies = all_replies held faults c.args.out.now c.print_replies.new.out c.print_replies.result commands c.new-registry.result c.new-text.result c.print_replies.new.text
     c.new-registry.ensures c.new-text.ensures c.in_ok-print_replies.was c.print_replies.ensures.text in
     let bindings : Prints held faults c.print_replies.new.out c.print_bindings.new.out (Err ending) c.print_replies.new.text c.print_bindings.new.text (bindings_text c.args.size (last_pairs commands)) =
@@ -79,8 +82,10 @@ returns g c =
     let commands = c.args.commands.now in
     let text = replies_text unbound commands ++ bindings_text c.args.size (last_pairs commands) in
     let registry = c.print_replies.new.registry in
-    let left = IfOk-at_ok (λ done. bindings_in registry ≡ bindings_of (bindings_in c.new-registry.result) commands) c.in_ok-print_replies.was c.print_replies.ensures.bindings in
-    let pairs = last registry c.new-registry.result commands c.print_bindings.ensures.rising c.new-registry.ensures left in
+    let left =
+    IfOk-at_ok (λ done. bindings_in registry ≡ bindings_of (bindings_in c.new-registry.result) commands) c.in_ok-print_replies.was c.print_replies.ensures.bindings in
+    let pairs =
+    last registry c.new-registry.result commands c.print_bindings.ensures.rising c.new-registry.ensures left in
     let replies = all_replies held faults c.args.out.now c.print_replies.new.out c.print_replies.result commands c.new-registry.result c.new-text.result c.print_replies.new.text
     c.new-registry.ensures c.new-text.ensures c.in_ok-print_replies.was c.print_replies.ensures.text in
     let bindings : Prints held faults c.print_replies.new.out c.print_bindings.new.out (Ok tt) c.print_replies.new.text c.print_bindings.new.text (bindings_text c.args.size (last_pairs commands)) =

@@ -33,12 +33,14 @@ refused_line P status ending same fault is is_same line (inr five) = inr (is ∙
 pub returns-clause-usage : goal.returns-clause-usage
 returns-clause-usage g c = elim c.if-is_run.branch [
   | then-is_run w ↦
-      let run : IsRunWords c.args.words.now.items = subst IsRunWords c.deref.ensures.value (c.is_run.ensures.0 w.if-is_run.true) in
+      let run : IsRunWords c.args.words.now.items =
+      subst IsRunWords c.deref.ensures.value (c.is_run.ensures.0 w.if-is_run.true) in
       let not_one = never_usage g.S.Source.left g.S.Source.faults g.O.Sink.held g.O.Sink.faults c.args.source.now w.serve-ending.new.source c.args.out.now w.serve-ending.new.out
       w.serve-ending.result w.serve-ending.ensures in
       ((λ one _. not_one (sym (c.end.ensures.status ∙ ap status_of w.ending-is) ∙ one)), (λ not_run. absurd (not_run run)))
   | else-is_run w ↦
-      let not_run = λ (run : IsRunWords c.args.words.now.items). false≢true (sym w.if-is_run.false ∙ c.is_run.ensures.1 (subst IsRunWords (sym c.deref.ensures.value) run)) in
+      let not_run =
+      λ (run : IsRunWords c.args.words.now.items). false≢true (sym w.if-is_run.false ∙ c.is_run.ensures.1 (subst IsRunWords (sym c.deref.ensures.value) run)) in
       ((λ one run. not_run run), (λ _. c.end.ensures.status ∙ ap status_of w.ending-is))
 ]
 

@@ -25,7 +25,8 @@ pub returns-in_err-commands-clause-reason : goal.returns-in_err-commands-clause-
 returns-in_err-commands-clause-reason c =
     let p = err_from_is_err_and c.from_residual-in_err-commands.result c.from_residual-in_err-commands.ensures.1 in
     let left = c.config.new.lines in
-    let reading = reading_of-lines c.args.bytes.now c.if-bytes-gt-MOST_BYTES.false ∙ sym (ap said_in c.new-lines.ensures) ∙ c.in_ok-config.ensures.reading in
+    let reading =
+    reading_of-lines c.args.bytes.now c.if-bytes-gt-MOST_BYTES.false ∙ sym (ap said_in c.new-lines.ensures) ∙ c.in_ok-config.ensures.reading in
     rw p.1 (rw p.2 (said_with-reason c.in_ok-config.config left.number left.lines (reading_of c.args.bytes.now) c.in_err-commands.field-0.0 reading c.in_err-commands.ensures.reason))
 
 pub returns-clause-script : goal.returns-clause-script

@@ -25,7 +25,8 @@ invariant_of-self-in-None c =
     let place = c.search-place.result.0 in
     let gap : IsGap c.args.self.now c.args.port place =
     subst (IsFoundAt c.args.self.now c.args.port place) c.in-None.is c.search-place.ensures in
-    let items = c.in_ok-insert-in-None.ensures.items ∙ ap (λ (l : List (ℕ × ℕ)). insert l place (c.args.port, c.args.owner)) c.self.view_is in
+    let items =
+    c.in_ok-insert-in-None.ensures.items ∙ ap (λ (l : List (ℕ × ℕ)). insert l place (c.args.port, c.args.owner)) c.self.view_is in
     subst IsRising (sym items) (IsRising-insert c.args.self.now c.args.port place c.args.owner gap (subst IsRising c.self.view_is c.self.invariant))
 
 pub returns-in_ok-insert-in-None-clause-reply : goal.returns-in_ok-insert-in-None-clause-reply
@@ -40,7 +41,10 @@ pub returns-in_ok-insert-in-None-clause-bindings :
 returns-in_ok-insert-in-None-clause-bindings c =
     let pairs = c.args.self.now in
     let place = c.search-place.result.0 in
-    let gap : IsGap pairs c.args.port place = subst (IsFoundAt pairs c.args.port place) c.in-None.is c.search-place.ensures in
-    let items = c.in_ok-insert-in-None.ensures.items ∙ ap (λ (l : List (ℕ × ℕ)). insert l place (c.args.port, c.args.owner)) c.self.view_is in
-    let owners : c.args.owner ∷ [] ≡ owners_bound Single c.args.owner (bindings_in pairs c.args.port) = rw (unbound_at_gap pairs c.args.port place gap) refl in
+    let gap : IsGap pairs c.args.port place =
+    subst (IsFoundAt pairs c.args.port place) c.in-None.is c.search-place.ensures in
+    let items =
+    c.in_ok-insert-in-None.ensures.items ∙ ap (λ (l : List (ℕ × ℕ)). insert l place (c.args.port, c.args.owner)) c.self.view_is in
+    let owners : c.args.owner ∷ [] ≡ owners_bound Single c.args.owner (bindings_in pairs c.args.port) =
+    rw (unbound_at_gap pairs c.args.port place gap) refl in
     ap bindings_in items ∙ bindings_in-insert pairs c.args.port place c.args.owner gap ∙ ap (with_owners (bindings_in pairs) c.args.port) owners

@@ -26,7 +26,8 @@ pub returns-in-Some-clause-bindings : goal.returns-in-Some-clause-bindings
 returns-in-Some-clause-bindings c =
     let pairs = c.args.self.now in
     let place = c.search-place.result.0 in
-    let at : IsAt pairs c.args.port place c.in-Some.first = subst (IsFoundAt pairs c.args.port place) c.in-Some.is c.search-place.ensures in
+    let at : IsAt pairs c.args.port place c.in-Some.first =
+    subst (IsFoundAt pairs c.args.port place) c.in-Some.is c.search-place.ensures in
     let items = c.remove.ensures.items ∙ ap (λ (l : List (ℕ × ℕ)). remove l place) c.self.view_is in
     let owners : [] ≡ owners_released c.args.owner (bindings_in pairs c.args.port) =
     rw (bound_at pairs c.args.port place c.in-Some.first at, eq-eqb c.in-Some.first c.args.owner c.if-first-owner.true) refl in
@@ -43,7 +44,8 @@ pub returns-in_default-clause-bindings : goal.returns-in_default-clause-bindings
 returns-in_default-clause-bindings c =
     let pairs = c.args.self.now in
     let place = c.search-place.result.0 in
-    let at : IsAt pairs c.args.port place c.in-Some.first = subst (IsFoundAt pairs c.args.port place) c.in-Some.is c.search-place.ensures in
+    let at : IsAt pairs c.args.port place c.in-Some.first =
+    subst (IsFoundAt pairs c.args.port place) c.in-Some.is c.search-place.ensures in
     with_owners-same (bindings_in pairs) c.args.port _
     (rw (bound_at pairs c.args.port place c.in-Some.first at, ne_eqb c.in-Some.first c.args.owner c.if-first-owner.false) refl)
 
@@ -58,5 +60,6 @@ pub returns-in_default-2-clause-bindings : goal.returns-in_default-2-clause-bind
 returns-in_default-2-clause-bindings c =
     let pairs = c.args.self.now in
     let place = c.search-place.result.0 in
-    let gap : IsGap pairs c.args.port place = subst (IsFoundAt pairs c.args.port place) c.in_default.is c.search-place.ensures in
+    let gap : IsGap pairs c.args.port place =
+    subst (IsFoundAt pairs c.args.port place) c.in_default.is c.search-place.ensures in
     with_owners-same (bindings_in pairs) c.args.port _ (rw (unbound_at_gap pairs c.args.port place gap) refl)

@@ -13,7 +13,8 @@ nothing (byte ∷ text) none = absurd (omega (arith, none))
 pub returns-in_ok-push-in-Some-clause-lines : goal.returns-in_ok-push-in-Some-clause-lines
 returns-in_ok-push-in-Some-clause-lines c =
     let last = c.in-Some.last in
-    let some : last.now ≢ [] = λ none. false≢true (sym c.if-not-is_empty.true ∙ c.is_empty.ensures ∙ ap (λ (text : List ℕ). length text == 0) none) in
+    let some : last.now ≢ [] =
+    λ none. false≢true (sym c.if-not-is_empty.true ∙ c.is_empty.ensures ∙ ap (λ (text : List ℕ). length text == 0) none) in
     ap (map text_of) c.in_ok-push-in-Some.ensures.items
     ∙ lines_of-text_end c.args.bytes.now c.pop.new.self.items last (ap (map text_of) (sym c.in-Some.ensures.items) ∙ c.in_ok-lines.ensures.pieces) some
 

@@ -17,14 +17,16 @@ returns-then-bytes-gt-MOST_BYTES-clause-reason c =
 pub returns-in_err-place-clause-reason : goal.returns-in_err-place-clause-reason
 returns-in_err-place-clause-reason c =
     let p = err_from_is_err_and c.from_residual-in_err-place.result c.from_residual-in_err-place.ensures.1 in
-    let lines : map text_of c.deref.result.now ≡ lines_of c.args.bytes.now = ap (map text_of) c.deref.ensures.value ∙ c.in_ok-lines.ensures.lines in
+    let lines : map text_of c.deref.result.now ≡ lines_of c.args.bytes.now =
+    ap (map text_of) c.deref.ensures.value ∙ c.in_ok-lines.ensures.lines in
     let reading = reading_of-lines c.args.bytes.now c.if-bytes-gt-MOST_BYTES.false ∙ ap (said_from 1) (sym lines) in
     rw p.1 (rw p.2 (subst (λ r. IsReasonFor r c.in_err-place.field-0.0) (sym reading) c.in_err-place.ensures.reason))
 
 pub returns-in_err-commands-clause-reason : goal.returns-in_err-commands-clause-reason
 returns-in_err-commands-clause-reason c =
     let p = err_from_is_err_and c.from_residual-in_err-commands.result c.from_residual-in_err-commands.ensures.1 in
-    let lines : map text_of c.deref.result.now ≡ lines_of c.args.bytes.now = ap (map text_of) c.deref.ensures.value ∙ c.in_ok-lines.ensures.lines in
+    let lines : map text_of c.deref.result.now ≡ lines_of c.args.bytes.now =
+    ap (map text_of) c.deref.ensures.value ∙ c.in_ok-lines.ensures.lines in
     let reading = reading_of-lines c.args.bytes.now c.if-bytes-gt-MOST_BYTES.false ∙ ap (said_from 1) (sym lines) ∙ c.in_ok-place.ensures.config
     ∙ ap (λ (l : List (Bor (List ℕ))). said_with c.in_ok-place.config (c.in_ok-place.place + 1) (pieces_from c.in_ok-place.place l)) (c.deref.ensures.value ∙ sym c.deref-2.ensures.value) in
     rw p.1 (rw p.2 (said_with-reason c.in_ok-place.config (c.in_ok-place.place + 1) (pieces_from c.in_ok-place.place c.deref-2.result.now)
@@ -32,7 +34,8 @@ returns-in_err-commands-clause-reason c =
 
 pub returns-clause-script : goal.returns-clause-script
 returns-clause-script c =
-    let lines : map text_of c.deref.result.now ≡ lines_of c.args.bytes.now = ap (map text_of) c.deref.ensures.value ∙ c.in_ok-lines.ensures.lines in
+    let lines : map text_of c.deref.result.now ≡ lines_of c.args.bytes.now =
+    ap (map text_of) c.deref.ensures.value ∙ c.in_ok-lines.ensures.lines in
     let reading = reading_of-lines c.args.bytes.now c.if-bytes-gt-MOST_BYTES.false ∙ ap (said_from 1) (sym lines) ∙ c.in_ok-place.ensures.config
     ∙ ap (λ (l : List (Bor (List ℕ))). said_with c.in_ok-place.config (c.in_ok-place.place + 1) (pieces_from c.in_ok-place.place l)) (c.deref.ensures.value ∙ sym c.deref-2.ensures.value) in
     record {
