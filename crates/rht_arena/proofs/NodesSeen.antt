@@ -22,7 +22,8 @@ use Rattle.rht_words.specs.Places.{NodeMap, map_words, place_of}
 use Rattle.rht_words.specs.Operations.{op_place}
 use Rattle.rht_words.specs.Machines.{Performed}
 use Rattle.rht_words.proofs.EachElement.{Any-append_left}
-use Rattle.rht_words.proofs.FreeBits.{lowest_free-None, lowest_free-Some, bit_at-above, cleared_already}
+use Rattle.rht_words.proofs.BitChanges.{cleared_already}
+use Rattle.rht_words.proofs.FreeBits.{lowest_free-None, lowest_free-Some, bit_at-above}
 use Rattle.rht_words.proofs.MachineRuns.{performed, kept_to_end}
 use Rattle.rht_arena.specs.declared.take_node.TakeNodeAt.{TakeNodeAt}
 use Rattle.rht_arena.specs.declared.take_node.TakeNodeAt.TheVariants.{MapWord, Claim}

@@ -7,7 +7,7 @@ use Rattle.rht_words.specs.declared.machine.Next.TheVariants.{Go, Done}
 use Rattle.rht_words.specs.declared.geometry.Geometry.{Geometry}
 use Rattle.rht_words.specs.Maps.{IsBitIn, bits_above, lowest_free}
 use Rattle.rht_words.specs.Places.{map_words}
-use Rattle.rht_words.proofs.FreeBits.{bit_at-cleared, bit_at-cleared_other, bit_at-set, bit_at-set_other}
+use Rattle.rht_words.proofs.BitChanges.{bit_at-cleared, bit_at-cleared_other, bit_at-set, bit_at-set_other}
 use Rattle.std.specs.Prelude.{bit_and, Option}
 use Rattle.rht_arena.specs.declared.take_node.TakeNodeAt.{TakeNodeAt}
 use Rattle.rht_arena.specs.declared.take_node.TakeNodeAt.TheVariants.{MapWord, Claim}

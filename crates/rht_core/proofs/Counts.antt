@@ -8,7 +8,7 @@ use Rattle.rht_words.specs.declared.env.Env.{Env}
 use Rattle.rht_words.specs.Ports.{owner_of}
 use Rattle.rht_words.specs.Places.{PortCount, Node, OwnerWord, PageWord, word_at}
 use Rattle.rht_words.specs.Members.{In, NotIn, IsDistinct}
-use Rattle.rht_words.proofs.Members.{count_below-same, count_below-none, length-count_below}
+use Rattle.rht_words.proofs.Members.{count_by-range, count_below-same, count_below-none, length-count_below}
 use Rattle.rht_core.specs.Runs.{Core, local_of, run_of}
 use Rattle.rht_core.specs.StandsFor.{stands_for}
 use Rattle.rht_core.specs.Counts.{AreAllBound, is_raising, raising, IsFreeOrBound, Counted, AtRest}
@@ -20,7 +20,7 @@ use Rattle.rht_core.proofs.NodeSteps.{nothing_held}
 use Rattle.rht_core.proofs.Invariants.{Inv, idle_knows}
 use Rattle.rht_core.proofs.InvariantRuns.{has_inv}
 use Rattle.rht_core.proofs.BoundPorts.{stands_for_bound, first_bound}
-use Rattle.rht_core.proofs.FullTables.{count_by-range, firsts-AreBound, raises}
+use Rattle.rht_core.proofs.FullTables.{firsts-AreBound, raises}
 
 module _ (env : Env) (mix : ℕ → ℕ → ℕ → ℕ) (words : List ℕ) (G : Ghost)
     (whole : Whole env mix (mem env mix words) G) where

@@ -5,18 +5,17 @@
 -- linked yet. Each node in a chain is what the port of its key is bound to, and all that it is bound
 -- to: so there are as many different ports bound. A caller that has raised the count stands before
 -- its publishing store: so it is in a call, and it isn't the one that loads.
-use Rattle.std.proofs.Common.{◌≡◌, ◌≢◌, ℕ, zero, suc, ◌+◌, ◌<◌, ◌≤◌, ◌==◌, ◌&&◌, not, Bool, true, false, List, [], ◌∷◌, ◌++◌, length, map, take, refl, sym, ap, ◌∙◌, arith}
-use Rattle.std.specs.Prelude.{Some, count_by}
-use Rattle.std.specs.List.{AllByRecursion, range_with_len}
+use Rattle.std.proofs.Common.{◌≡◌, ◌≢◌, ℕ, zero, suc, ◌<◌, ◌≤◌, ◌==◌, ◌&&◌, not, Bool, true, false, List, [], ◌∷◌, length, map, take, refl, sym, ap, ◌∙◌, arith}
+use Rattle.std.specs.Prelude.{Some}
+use Rattle.std.specs.List.{AllByRecursion}
 use Rattle.std.proofs.lemmas.Bool.{and_from, ne_eqb}
-use Rattle.std.proofs.lemmas.List.Sums.{sum_by_push}
 use Rattle.rht_words.specs.declared.op.Op.TheVariants.{Load}
 use Rattle.rht_words.specs.declared.env.Env.{Env}
 use Rattle.rht_words.specs.Operations.{old_of}
 use Rattle.rht_words.specs.Ports.{owner_of}
 use Rattle.rht_words.specs.Places.{PortCount, Node, OwnerWord, place_of}
 use Rattle.rht_words.specs.Members.{NotIn, IsDistinct}
-use Rattle.rht_words.proofs.Members.{count_below, one_if, not_in_from, AllByRecursion-In}
+use Rattle.rht_words.proofs.Members.{count_below, count_below-le, count_by-range, one_if, not_in_from, AllByRecursion-In}
 use Rattle.rht_words.proofs.EachElement.{AllByRecursion-weaker}
 use Rattle.rht_bind.specs.Bind.{plan_at}
 use Rattle.rht_bind.specs.declared.bind.BindAt.{BindAt}
@@ -39,35 +38,6 @@ use Rattle.rht_core.proofs.BindSteps.{BindKnows}
 use Rattle.rht_core.proofs.Invariants.{CallerKnows}
 use Rattle.rht_core.proofs.InvariantRuns.{has_inv}
 use Rattle.rht_core.proofs.BoundPorts.{stands_for_bound}
-
--- ---- how many
-
--- where one property implies another, no more numbers have the one
-count_below-le : (has more : ℕ → Bool) (bound : ℕ) → ((n : ℕ) → has n ≡ true → more n ≡ true)
-    → count_below has bound ≤ count_below more bound
-count_below-le has more zero implies = omega arith
-count_below-le has more (suc n) implies =
-    let below = count_below-le has more n implies in
-    let here : one_if (has n) ≤ one_if (more n) = by_case (has n) refl in
-    omega arith
-  where
-    by_case : (b : Bool) → has n ≡ b → one_if b ≤ one_if (more n)
-    by_case true is = let one : one_if (more n) ≡ 1 = ap one_if (implies n is) in omega arith
-    by_case false is = omega arith
-
--- a range with one more number has that one last
-range-push : (from n last : ℕ) → from + n ≡ last
-    → range_with_len from (suc n) ≡ range_with_len from n ++ last ∷ []
-range-push from zero last is = let same : from ≡ last = omega arith in ap (λ x. x ∷ []) same
-range-push from (suc n) last is = ap (λ xs. from ∷ xs) (range-push (from + 1) n last (omega arith))
-
--- numbers below a bound are counted alike in a list and by recursion
-pub count_by-range : (has : ℕ → Bool) (bound : ℕ)
-    → count_by has (range_with_len 0 bound) ≡ count_below has bound
-count_by-range has zero = refl
-count_by-range has (suc n) =
-    ap (count_by has) (range-push 0 n n (omega arith)) ∙ sum_by_push (λ x. one_if (has x)) (range_with_len 0 n) n
-    ∙ ap (λ below. below + one_if (has n)) (count_by-range has n)
 
 -- ---- the ports that are bound
 

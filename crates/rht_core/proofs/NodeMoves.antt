@@ -6,7 +6,7 @@ use Rattle.std.proofs.lemmas.Bool.{cases_eq}
 use Rattle.rht_words.specs.declared.env.Env.{Env}
 use Rattle.rht_words.specs.Maps.{bit_of, IsBitIn}
 use Rattle.rht_words.specs.Places.{PortCount, NodeMap, Node, NodeWord, KeyWord, OwnerWord, map_words}
-use Rattle.rht_words.proofs.FreeBits.{bit_at-cleared, bit_at-cleared_other, bit_at-set, bit_at-set_other}
+use Rattle.rht_words.proofs.BitChanges.{bit_at-cleared, bit_at-cleared_other, bit_at-set, bit_at-set_other}
 use Rattle.rht_words.proofs.Memory.{Memory, IsWrite}
 use Rattle.rht_words.proofs.Members.{count_below-same}
 use Rattle.rht_core.proofs.Ghosts.{put, put-other, put-all, Owner, Free, Held, First, Leaving, Behind, Taken, Gone, Ghost, is_first, held_not_first, held_by_one, with_owner}

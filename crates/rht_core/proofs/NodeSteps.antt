@@ -11,7 +11,7 @@ use Rattle.rht_words.specs.Maps.{bit_of, bits_above, map_bits}
 use Rattle.rht_words.specs.Operations.{old_of, applied}
 use Rattle.rht_words.specs.Places.{Node, NodeWord, NodeMap, map_words, place_of, words_in}
 use Rattle.rht_words.proofs.LowestBits.{lowest_is_in}
-use Rattle.rht_words.proofs.FreeBits.{bit_at-cleared, bit_at-cleared_other}
+use Rattle.rht_words.proofs.BitChanges.{bit_at-cleared, bit_at-cleared_other}
 use Rattle.rht_words.proofs.Memory.{Memory, IsWrite, is_write}
 use Rattle.rht_arena.specs.TakeNode.{TakeNodeModel, take_node_plan, take_node_after, next_word, claim_in, claim_among, IsInRange}
 use Rattle.rht_arena.specs.declared.take_node.TakeNodeAt.{TakeNodeAt}

@@ -15,7 +15,7 @@ use Rattle.rht_words.specs.declared.machine.Next.TheVariants.{Go, Done}
 use Rattle.rht_words.specs.Maps.{bits_above, lowest_free}
 use Rattle.rht_words.specs.Places.{map_words}
 use Rattle.rht_words.specs.Operations.{word_after}
-use Rattle.rht_words.proofs.FreeBits.{bit_at-cleared_other}
+use Rattle.rht_words.proofs.BitChanges.{bit_at-cleared_other}
 use Rattle.rht_words.proofs.EachElement.{AllByRecursion-push}
 use Rattle.rht_model.specs.declared.history.Reply.{Reply}
 use Rattle.rht_model.specs.declared.history.Reply.TheVariants.{NoNode}

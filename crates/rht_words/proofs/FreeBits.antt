@@ -1,12 +1,11 @@
--- What the lowest set bit of a map's word says of the others, and what clearing and setting one bit does.
-use Rattle.std.proofs.Common.{◌≡◌, ◌≢◌, ℕ, ◌+◌, ◌*◌, ◌<◌, ◌-◌, ◌^◌, inl, inr, min, Some, None, sym, ap, ◌∙◌, subst, bit_and, eqb, arith}
-use Rattle.std.specs.Prelude.{bit_or}
-use Rattle.std.proofs.lemmas.Bool.{cases_eq, cond_both, eqb-true, eqb-false}
-use Rattle.std.proofs.lemmas.Nat.{and_le_l, and_le_r, pow_pos, pow_below}
-use Rattle.std.proofs.lemmas.Nat.Bits.{bit_at-trailing_zeros, bit_at_and, bit_at_or, bit_at_not, bit_at-zero, bit_at_ones, bit_at-lt, bit_at-pow_same, bit_at-pow_other, same_from_bits_below, bit_at_mask_inside}
+-- What the lowest set bit of a map's word says of the others.
+use Rattle.std.proofs.Common.{◌≡◌, ℕ, ◌+◌, ◌*◌, ◌<◌, ◌-◌, ◌^◌, min, Some, None, sym, ap, ◌∙◌, subst, bit_and, eqb, arith}
+use Rattle.std.proofs.lemmas.Bool.{cond_both, eqb-true, eqb-false}
+use Rattle.std.proofs.lemmas.Nat.{and_le_r, pow_pos}
+use Rattle.std.proofs.lemmas.Nat.Bits.{bit_at-trailing_zeros, bit_at_and, bit_at-zero, bit_at_ones, bit_at-lt, bit_at_mask_inside}
 use Rattle.std.proofs.Math.Pow.{pow_mono}
-use Rattle.std.specs.Int.{bit_at, bit_not, trailing_zeros, w64}
-use Rattle.rht_words.specs.Maps.{map_bits, bit_of, bits_above, lowest_free, IsBitIn}
+use Rattle.std.specs.Int.{bit_at, trailing_zeros, w64}
+use Rattle.rht_words.specs.Maps.{map_bits, bits_above, lowest_free, IsBitIn}
 use Rattle.rht_words.proofs.LowestBits.{lowest_is_in}
 
 -- a bit of the map is free in the word where it is free among the map's bits
@@ -69,36 +68,6 @@ lowest_free-Some count index word bit =
     let positive : 0 < free = omega (arith, eqb-false free 0 nonzero) in
     let few : free < 2 ^ 64 = free_below count index word in
     subst (λ b. IsLowestFree count index word b) is (lowest_of count index word positive few))
-
--- the word without one bit
-pub bit_at-cleared : (word bit : ℕ) → bit < 64 → bit_at (bit_and word (bit_not w64 (bit_of bit))) bit ≡ 0
-bit_at-cleared word bit low =
-    omega (arith, bit_at_and word (bit_not w64 (bit_of bit)) bit, bit_at_not w64 (bit_of bit) bit (pow_below bit 64 low) low, bit_at-pow_same bit)
-
-pub bit_at-cleared_other : (word bit other : ℕ) → bit < 64 → other < 64 → other ≢ bit
-    → bit_at (bit_and word (bit_not w64 (bit_of bit))) other ≡ bit_at word other
-bit_at-cleared_other word bit other low l differ =
-    omega (arith, bit_at_and word (bit_not w64 (bit_of bit)) other, bit_at_not w64 (bit_of bit) other (pow_below bit 64 low) l, bit_at-pow_other bit other differ, bit_at-lt word other)
-
--- clearing a bit that is clear changes nothing
-pub cleared_already : (word bit : ℕ) → bit < 64 → word < 2 ^ 64 → bit_at word bit ≡ 0
-    → bit_and word (bit_not w64 (bit_of bit)) ≡ word
-cleared_already word bit low small clear =
-    let cleared = bit_and word (bit_not w64 (bit_of bit)) in
-    let less : cleared < 2 ^ 64 = omega (arith, and_le_l word (bit_not w64 (bit_of bit))) in
-    same_from_bits_below 64 cleared word less small (λ i l. elim (cases_eq i bit) [
-      | inl same ↦ rw same (bit_at-cleared word bit low ∙ sym clear)
-      | inr differ ↦ bit_at-cleared_other word bit i low l differ
-    ])
-
--- the word with one bit more
-pub bit_at-set : (word bit : ℕ) → bit_at (bit_or word (bit_of bit)) bit ≡ 1
-bit_at-set word bit = omega (arith, bit_at_or word (bit_of bit) bit, bit_at-pow_same bit, bit_at-lt word bit)
-
-pub bit_at-set_other : (word bit other : ℕ) → other ≢ bit
-    → bit_at (bit_or word (bit_of bit)) other ≡ bit_at word other
-bit_at-set_other word bit other differ =
-    omega (arith, bit_at_or word (bit_of bit) other, bit_at-pow_other bit other differ)
 
 -- the bits above one are the word's
 pub bit_at-above : (word bit other : ℕ) → bit < other → other < 64

@@ -3,6 +3,8 @@
 use Rattle.std.proofs.Common.{◌≡◌, ◌≢◌, ℕ, zero, suc, ◌+◌, ◌<◌, ◌≤◌, List, [], ◌∷◌, ◌++◌, length, refl, sym, ◌∙◌, ap, subst, arith, ◌⊎◌, inl, inr, Bool, true, false, cond, ◌==◌, Some, None}
 use Rattle.std.proofs.lemmas.Bool.{cases_eq, eq-eqb, ne_eqb}
 use Rattle.std.proofs.lemmas.List.Elements.{All-nil, All-cons}
+use Rattle.std.proofs.lemmas.List.Sums.{sum_by_push}
+use Rattle.std.specs.Prelude.{count_by}
 use Rattle.std.specs.List.{All, AllByRecursion, find, flat_map, range_with_len}
 use Rattle.rht_words.specs.Members.{In, NotIn, IsDistinct}
 
@@ -204,3 +206,30 @@ length-count_below has bound (x ∷ xs) distinct below all =
 
     without-other : (n : ℕ) → n ≢ x → cond (n == x) false (has n) ≡ has n
     without-other n ne = rw (ne_eqb n x ne) refl
+
+-- where one property implies another, no more numbers have the one
+pub count_below-le : (has more : ℕ → Bool) (bound : ℕ) → ((n : ℕ) → has n ≡ true → more n ≡ true)
+    → count_below has bound ≤ count_below more bound
+count_below-le has more zero implies = omega arith
+count_below-le has more (suc n) implies =
+    let below = count_below-le has more n implies in
+    let here : one_if (has n) ≤ one_if (more n) = by_case (has n) refl in
+    omega arith
+  where
+    by_case : (b : Bool) → has n ≡ b → one_if b ≤ one_if (more n)
+    by_case true is = let one : one_if (more n) ≡ 1 = ap one_if (implies n is) in omega arith
+    by_case false is = omega arith
+
+-- a range with one more number has that one last
+range-push : (from n last : ℕ) → from + n ≡ last
+    → range_with_len from (suc n) ≡ range_with_len from n ++ last ∷ []
+range-push from zero last is = let same : from ≡ last = omega arith in ap (λ x. x ∷ []) same
+range-push from (suc n) last is = ap (λ xs. from ∷ xs) (range-push (from + 1) n last (omega arith))
+
+-- numbers below a bound are counted alike in a list and by recursion
+pub count_by-range : (has : ℕ → Bool) (bound : ℕ)
+    → count_by has (range_with_len 0 bound) ≡ count_below has bound
+count_by-range has zero = refl
+count_by-range has (suc n) =
+    ap (count_by has) (range-push 0 n n (omega arith)) ∙ sum_by_push (λ x. one_if (has x)) (range_with_len 0 n) n
+    ∙ ap (λ below. below + one_if (has n)) (count_by-range has n)
