@@ -2,7 +2,7 @@
 //! They tell nothing of content, since what happens outside of the program is not known.
 
 ghost use Rattle.std.specs.Prelude.{◌≡◌, ℕ, ◌<◌, ◌≤◌, List, None, IfOk, OnOk, OnErr, length, take};
-ghost use Rattle.std.specs.Io.KnownBytes.{Appends, ReadConsumes, WriteAppends};
+ghost use Rattle.std.specs.Io.KnownBytes.{Appends, Keeps, ReadConsumes, WriteAppends};
 ghost use Rattle.rht_io.specs.Told.{Rose};
 ghost use Rattle.rht_io.specs.Memory.{counted};
 
@@ -117,9 +117,6 @@ impl<W: Write> Sink for OutputSink<W> {
         ensures no_fault { OnOk result (self.new.faults ≡ self.old.faults) }
         ensures fault { OnErr result (self.new.faults ≡ counted self.old.faults) }
     {
-        if piece.is_empty() {
-            return Ok(0);
-        }
         let written = write_once(&mut self.output, piece);
         if written.is_err() {
             self.faults = self.faults.saturating_add(1);
@@ -128,22 +125,31 @@ impl<W: Write> Sink for OutputSink<W> {
     }
 }
 
-/// Writes until a write isn't interrupted, and flushes.
+/// Flushes behind so many bytes that were written.
+fn flushed<W: Write>(output: &mut W, written: usize) -> Result<usize, Failed>
+    ensures written { IfOk result (λ n. n ≡ written) }
+    ensures kept { OnOk result (Keeps (W.contents output.old) (W.contents output.new)) }
+{
+    match output.flush() {
+        Ok(()) => Ok(written),
+        Err(_) => Err(Failed),
+    }
+}
+
+/// Writes until a write isn't interrupted, and flushes. An empty piece is flushed alone.
 fn write_once<W: Write>(output: &mut W, piece: &[u8]) -> Result<usize, Failed>
     ensures within { IfOk result (λ n. n ≤ length piece.now) }
-    ensures some { IfOk result (λ n. 0 < n) }
+    ensures some { 0 < length piece.now → IfOk result (λ n. 0 < n) }
     ensures bytes { IfOk result
         (λ n. Appends (W.contents output.old) (W.contents output.new) (take n piece.now)) }
 {
+    if piece.is_empty() {
+        return flushed(output, 0);
+    }
     for _ in 0..u64::MAX {
         match output.write(piece) {
             Ok(0) => return Err(Failed),
-            Ok(n) => {
-                return match output.flush() {
-                    Ok(()) => Ok(n),
-                    Err(_) => Err(Failed),
-                };
-            }
+            Ok(n) => return flushed(output, n),
             Err(error) if error.kind() == ErrorKind::Interrupted => {}
             Err(_) => return Err(Failed),
         }

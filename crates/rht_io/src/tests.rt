@@ -176,7 +176,7 @@ fn a_reader_is_a_source(rt: HostRuntime) {
 
 #[test]
 fn a_writer_is_a_sink(rt: HostRuntime) -> Result<(), Fail> {
-    // The third flush breaks, which is that of the third put that moved bytes.
+    // The fourth flush breaks: the puts of "abc", of nothing and of "c" flush before it.
     const STEPS: &[Step] = &[
         Step::Moves(2),
         Step::Interrupts,
@@ -186,7 +186,7 @@ fn a_writer_is_a_sink(rt: HostRuntime) -> Result<(), Fail> {
         Step::Moves(9),
         Step::Moves(9),
     ];
-    let mut sink = OutputSink::new(Outside::new(STEPS, 3));
+    let mut sink = OutputSink::new(Outside::new(STEPS, 4));
     let puts = [
         ("abc", Ok(2)),
         ("", Ok(0)),
