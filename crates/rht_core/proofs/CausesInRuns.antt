@@ -22,7 +22,7 @@ use Rattle.rht_words.proofs.EachElement.{Any-append_left}
 use Rattle.rht_policy.specs.Sizes.{most_ports}
 use Rattle.rht_policy.specs.Thresholds.{is_above_max}
 use Rattle.rht_model.specs.declared.history.Reply.{Reply}
-use Rattle.rht_model.specs.declared.history.Reply.TheVariants.{NoNode, TooBig, Found, Missing}
+use Rattle.rht_model.specs.declared.history.Reply.TheVariants.{NoNode, TooBig, Found, Missing, Again, Busy, NoTable}
 use Rattle.rht_arena.specs.TakeNode.{TakeNodeModel, take_node_after}
 use Rattle.rht_arena.proofs.NodesSeen.{first_unseen, SawAllBelow, SawAllBelow-push, SawSoFar, take_after-saw}
 use Rattle.rht_find.specs.Find.{after_at as find_after_at}
@@ -54,6 +54,9 @@ module _ (env : Env) where
   abbrev pub SawFor : Reply → List Did → Type 0
   SawFor NoNode steps = SawAllBelow env.geometry env.geometry.nodes (map performed_of steps)
   SawFor (TooBig count) steps = Any (LoadedFull count) steps
+  SawFor (Again table) steps = ⊥
+  SawFor (Busy root last) steps = ⊥
+  SawFor (NoTable size) steps = ⊥
   SawFor _ steps = Unit {0}
 
   abbrev SawForReply : Option Reply → List Did → Type 0
@@ -75,6 +78,9 @@ module _ (env : Env) where
       subst (SawAllBelow env.geometry env.geometry.nodes) (sym (map-append performed_of steps (did ∷ [])))
       (SawAllBelow-push env.geometry env.geometry.nodes before (performed_of did) saw)
   SawFor-push (TooBig count) steps did saw = Any-append_left (LoadedFull count) steps (did ∷ []) saw
+  SawFor-push (Again table) steps did saw = saw
+  SawFor-push (Busy root last) steps did saw = saw
+  SawFor-push (NoTable size) steps did saw = saw
   SawFor-push _ steps did saw = tt
 
   -- ---- an operation of a bind
@@ -206,6 +212,9 @@ module _ (M : Type 0) (mix : ℕ → ℕ → ℕ → ℕ) (env : Env) where
         → HasCauseIn M mix env events c reply steps
     cause_of NoNode steps saw recorded = saw
     cause_of (TooBig count) steps saw recorded = full-saw count steps recorded saw
+    cause_of (Again table) steps saw recorded = saw
+    cause_of (Busy root last) steps saw recorded = saw
+    cause_of (NoTable size) steps saw recorded = saw
     cause_of _ steps saw recorded = tt
 
     all_caused : (calls : List Past)

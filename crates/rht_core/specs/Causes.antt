@@ -1,5 +1,6 @@
 -- Why a call was refused, as rows of one definition over the call's own operations.
--- A reply of which nothing is said here has its cause. Rows are added with the calls and refusals that they speak of.
+-- A reply of which nothing is said here has its cause. Rows are added with the calls that they speak of; a refusal that no
+-- call gives yet can have none.
 use Rattle.std.specs.Prelude.{◌≡◌, ◌≢◌, ℕ, ◌+◌, ◌<◌, ◌≤◌, ◌==◌, ◌&&◌, not, List, [], length, map, take, count_by}
 use Rattle.std.specs.List.{AllByRecursion, Any, range_with_len}
 use Rattle.rht_words.specs.declared.op.Op.TheVariants.{Load}
@@ -8,7 +9,7 @@ use Rattle.rht_words.specs.Members.{IsDistinct}
 use Rattle.rht_words.specs.Places.{PortCount, place_of}
 use Rattle.rht_policy.specs.Sizes.{most_ports}
 use Rattle.rht_model.specs.declared.history.Reply.{Reply}
-use Rattle.rht_model.specs.declared.history.Reply.TheVariants.{NoNode, TooBig}
+use Rattle.rht_model.specs.declared.history.Reply.TheVariants.{Again, Busy, NoTable, NoNode, TooBig}
 use Rattle.rht_model.specs.Multimap.{Multimap}
 use Rattle.rht_arena.specs.Laws.{SeesTaken}
 use Rattle.rht_core.specs.declared.event.Event.{Event}
@@ -43,11 +44,14 @@ module _ (M : Type 0) (mix : ℕ → ℕ → ℕ → ℕ) where
     pub full : most_ports env.config.max ≤ count
     pub counted : CountedAt env events c count did
 
-  -- the reply to a call that made these operations has its cause in them
+  -- the reply to a call that made these operations has its cause in them; the refusals of a table that grows have none yet
   abbrev pub HasCauseIn : Env → List Event → ℕ → Reply → List Did → Type 0
   HasCauseIn env events c NoNode steps =
       (node : ℕ) → node < env.geometry.nodes → Any (SeesTaken env.geometry node) (map performed_of steps)
   HasCauseIn env events c (TooBig count) steps = Any (SawFull env events c count) steps
+  HasCauseIn env events c (Again table) steps = ⊥
+  HasCauseIn env events c (Busy root last) steps = ⊥
+  HasCauseIn env events c (NoTable size) steps = ⊥
   HasCauseIn env events c _ steps = Unit {0}
 
   -- a call that has ended has a reply that has its cause in the call's own operations

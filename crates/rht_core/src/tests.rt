@@ -371,9 +371,27 @@ fn full_tables_refuse(rt: HostRuntime) -> Result<(), Fail> {
 fn a_table_with_the_mixed_hash(rt: HostRuntime) -> Result<(), Fail> {
     let config = Config {
         hash: Hash::Mix,
+        seed: 0,
         ..SMALL
     };
     let mut state = opened::<Lookup3>(&rt, rt.alloc(), config)?;
+    // The published mix of port 1 with the seed 0 is 0x40f3f2be, which is 62 modulo 64: the bucket
+    // is at 314 + 62 = 376.
+    assert_eq!(rt; reply_to(&rt, &mut state, 0, bind(1, 8)), Some(BOUND));
+    let lines = [
+        (load(0), 0),
+        (load(24), 6),
+        (load(25), 0),
+        (load(376), 2),
+        (exchange(376, 2, 3), 2),
+        (load(283), 1),
+        (load(284), 8),
+        (load(285), 0),
+        (store(376, 2), 3),
+    ];
+    begin(&rt, &mut state, 0, Call::Find { port: 1 });
+    let found = Reply::Found { owner: 8 };
+    assert_steps(&rt, &mut state, 0, &lines, Some(found));
     let cases = [
         (bind(5, 9), BOUND),
         (bind(69, 7), BOUND),
