@@ -1,6 +1,7 @@
 //! What no clause says: that scripts are served at all, and the very bytes that are printed, by
 //! hand from the rules of the printed text.
 
+use crate::laws::complete;
 use crate::program::run;
 use rht_io::{MemSink, MemSource, NoGate};
 use std::alloc::Global;
@@ -13,7 +14,7 @@ const USAGE: &str = "rht: usage: rht run | rht replay | rht gen NUMBER\n";
 
 const NO_TABLE_LINE: &str = "rht: line 1: no table line\n";
 
-/// Five lines of 64 bytes.
+/// Five lines, of 64 bytes together.
 const SCRIPT: &str = "table single\n1 bind 80 100\n1 find 80\n1 release 80 100\n1 find 80\n";
 
 /// How the outside behaves: how many bytes a take gives, and which take, put to `out` and put to
@@ -34,6 +35,14 @@ struct Left {
     err: MemSink,
 }
 
+fn words_of(alloc: Global, words: &str) -> Result<Vec<String>, Fail> {
+    let mut list = Vec::new(alloc);
+    for word in words.split_whitespace() {
+        list.push(String::from_str(alloc, word)?)?;
+    }
+    Ok(list)
+}
+
 fn run_on<R: Threads + Wait + Sync>(
     rt: &R,
     alloc: Global,
@@ -41,10 +50,7 @@ fn run_on<R: Threads + Wait + Sync>(
     script: &str,
     outside: Outside,
 ) -> Result<Left, Fail> {
-    let mut list = Vec::new(alloc);
-    for word in words.split_whitespace() {
-        list.push(String::from_str(alloc, word)?)?;
-    }
+    let list = words_of(alloc, words)?;
     let bytes = script.as_bytes().to_vec(alloc)?;
     let mut source = MemSource::new(bytes, outside.piece.max(1), vec![in alloc; outside.take]?);
     let mut out = MemSink::new(alloc, 16_384, vec![in alloc; outside.put]?)?;
@@ -225,6 +231,24 @@ fn a_failing_err_changes_no_status(rt: HostRuntime) -> Result<(), Fail> {
         };
         let left = run_on(&rt, rt.alloc(), words, script, outside)?;
         assert_left(&rt, &left, status, "", "", words);
+    }
+    Ok(())
+}
+
+#[test]
+fn where_nothing_outside_can_fail(rt: HostRuntime) -> Result<(), Fail> {
+    let cases = [
+        ("run", SCRIPT, 0),
+        ("run", "", 2),
+        ("run", "table single\n1 bind 80", 2),
+        ("replay", SCRIPT, 1),
+        ("", SCRIPT, 1),
+    ];
+    for (words, script, status) in cases {
+        let list = words_of(rt.alloc(), words)?;
+        let bytes = script.as_bytes().to_vec(rt.alloc())?;
+        let left = complete(&rt, rt.alloc(), &list, bytes, &NoGate);
+        assert_eq!(rt; left, status, "{words}: {script}");
     }
     Ok(())
 }
