@@ -97,7 +97,7 @@ fn is_within(least: u32, greatest: u32, number: u32) -> bool
     least <= number && number <= greatest
 }
 
-/// A line of a schedule, of a worker counted from 1.
+/// A line of a schedule, of a worker counted from 1. Its number is from 1 to 1,000,000.
 #[derive(Clone, Copy, Debug, PartialEq, Eq)]
 pub enum Sched {
     /// So many events of the worker, each with a line that shows its operation.
@@ -113,7 +113,9 @@ pub enum Sched {
 pub struct ScriptFault {
     /// The line at fault, counted from 1.
     pub line: u32,
-    /// The cause, from 1 to 9.
+    /// The cause: 1, no table line; 2, a word that is unknown, missing or one too many; 3, no
+    /// number where one has to stand; 4, a number out of range; 5, too many lines; 6, a line too
+    /// long; 8, options that disagree; 9, too many bytes. No reading gives 7 yet.
     pub cause: u8,
 }
 

@@ -124,8 +124,8 @@ fn add_walk<O: Sink>(
     }
 }
 
-/// Writes a table's last bindings: a line for each bound port in rising order, and then a line
-/// with the table's size in buckets and the number of bound ports.
+/// Writes a table's last bindings: a line for each pair, in their order, and then a line with the
+/// table's size in buckets and the number of bound ports that it names.
 pub fn write_closed<O: Sink>(out: &mut O, closed: &Closed) -> Result<(), Failed>
     ensures { Puts O.held O.faults out.old out.new result (closed_text closed.now) }
 {

@@ -42,7 +42,7 @@ impl TextBuffer {
 
     /// Adds a word, or another piece of at most 40 bytes.
     #[inline]
-    pub fn add<O: Sink>(&mut self, out: &mut O, piece: &[u8]) -> Result<(), Failed>
+    pub(crate) fn add<O: Sink>(&mut self, out: &mut O, piece: &[u8]) -> Result<(), Failed>
         requires { length piece.now ≤ 40 }
         ensures { Adds O.held O.faults out.old out.new result self.old self.new piece.now }
     {
@@ -52,7 +52,7 @@ impl TextBuffer {
     }
 
     /// Adds a number.
-    pub fn add_number<O: Sink>(&mut self, out: &mut O, number: u64) -> Result<(), Failed>
+    pub(crate) fn add_number<O: Sink>(&mut self, out: &mut O, number: u64) -> Result<(), Failed>
         ensures { Adds O.held O.faults out.old out.new result self.old self.new (decimal number) }
     {
         let mut buffer = Buffer::new();
@@ -60,7 +60,7 @@ impl TextBuffer {
     }
 
     /// Adds a number after a space.
-    pub fn add_spaced<O: Sink>(&mut self, out: &mut O, number: u64) -> Result<(), Failed>
+    pub(crate) fn add_spaced<O: Sink>(&mut self, out: &mut O, number: u64) -> Result<(), Failed>
         ensures { Adds O.held O.faults out.old out.new result self.old self.new (spaced number) }
     {
         self.add(out, b" ")?;
@@ -68,7 +68,7 @@ impl TextBuffer {
     }
 
     /// Adds a name of at most 40 bytes and its number.
-    pub fn add_named<O: Sink>(
+    pub(crate) fn add_named<O: Sink>(
         &mut self,
         out: &mut O,
         name: &[u8],
@@ -83,7 +83,7 @@ impl TextBuffer {
     }
 
     /// Adds a name of at most 40 bytes and its two numbers.
-    pub fn add_two<O: Sink>(
+    pub(crate) fn add_two<O: Sink>(
         &mut self,
         out: &mut O,
         name: &[u8],
@@ -99,7 +99,7 @@ impl TextBuffer {
     }
 
     /// Adds each owner after a space.
-    pub fn add_owners<O: Sink>(&mut self, out: &mut O, owners: &[u32]) -> Result<(), Failed>
+    pub(crate) fn add_owners<O: Sink>(&mut self, out: &mut O, owners: &[u32]) -> Result<(), Failed>
         ensures { Adds O.held O.faults out.old out.new result self.old self.new
             (owners_text owners.now) }
     {
@@ -110,7 +110,11 @@ impl TextBuffer {
     }
 
     /// Adds each port with its first owner after a space.
-    pub fn add_pairs<O: Sink>(&mut self, out: &mut O, pairs: &[(u32, u32)]) -> Result<(), Failed>
+    pub(crate) fn add_pairs<O: Sink>(
+        &mut self,
+        out: &mut O,
+        pairs: &[(u32, u32)],
+    ) -> Result<(), Failed>
         ensures { Adds O.held O.faults out.old out.new result self.old self.new
             (flat_map pair_text pairs.now) }
     {
@@ -131,7 +135,7 @@ impl TextBuffer {
     }
 
     /// Ends a line.
-    pub fn end_line<O: Sink>(&mut self, out: &mut O) -> Result<(), Failed>
+    pub(crate) fn end_line<O: Sink>(&mut self, out: &mut O) -> Result<(), Failed>
         ensures { Adds O.held O.faults out.old out.new result self.old self.new (codes "\n") }
     {
         self.add(out, b"\n")
