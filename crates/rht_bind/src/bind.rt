@@ -411,7 +411,8 @@ fn end_walk(env: Env, table: u32, claimed: Claimed, seen: Seen) -> BindAt
     }
 }
 
-/// After the count of ports was loaded: a table that is full refuses the bind.
+/// After the count of ports was loaded: a table that is full refuses the bind. The count is cut to
+/// the most ports that there can be, which no run passes; the refusal names it as it was loaded.
 #[inline(always)]
 fn checked_count(env: Env, claimed: Claimed, count: u64) -> BindAt
     requires claimed { IsClaimedIn env claimed }
@@ -426,6 +427,7 @@ fn checked_count(env: Env, claimed: Claimed, count: u64) -> BindAt
 }
 
 /// Whether a table of this shape is due to grow once the count, which was this, has been raised.
+/// The count is cut so that with one more it is at most the most ports that there can be.
 #[inline(always)]
 fn kicks(env: Env, shape: u64, count: u64) -> bool
     ensures { result ≡ kicks env shape count }

@@ -1,4 +1,5 @@
-//! The bindings of a table as a list, made at its closing without taking memory.
+//! The bindings of a table as a list, made at its closing. It takes all its memory at once, in
+//! `with_room`.
 
 ghost use Rattle.std.specs.Prelude.{◌≡◌, ◌+◌, ◌<◌, ◌≤◌, ◌↔◌, [], ◌∷◌, ◌++◌, length, drop, IsTrue, IfOk, slice_get, vec_len, vec_capacity};
 ghost use Rattle.rht_model.specs.Listing.{added, ports_of, owners_of};

@@ -66,7 +66,8 @@ pub enum Reply {
     NoTable { size: u32 },
     /// Refused: no node is free.
     NoNode,
-    /// Refused: this caller is in a read section that began before the nodes were removed.
+    /// Refused: this caller is in a read section that began before the nodes were removed. `section`
+    /// is its section word, which is odd.
     Pending { caller: u32, section: u64 },
     /// Refused: another caller is at work.
     Elsewhere,

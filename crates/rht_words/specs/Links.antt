@@ -1,5 +1,5 @@
 -- What the links in words say, and what a bucket's word says. Reading is total: a word that no run
--- gives says nothing.
+-- gives is read as something harmless, mostly as saying nothing.
 use Rattle.std.specs.Prelude.{ℕ, ◌+◌, ◌-◌, ◌*◌, ◌/◌, ◌%◌, ◌^◌, ◌==◌, ◌&&◌, nat_lt, nat_le, min, Option, Some, None, if◌then◌else◌}
 
 -- the link to a node

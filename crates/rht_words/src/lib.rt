@@ -1,7 +1,7 @@
 //! The words of a table: its numbers, its config, where each word stands, what it says, what it is
 //! at opening, and the operations on one word.
 //!
-//! Stands on nothing. Every other crate stands on this one, so its types are plain data.
+//! Stands on nothing. Every other crate but `rht_io` stands on this one, so its types are plain data.
 //! Begin with `Config` and `Geometry`; then read `specs/Places.antt`, which is the layout, and
 //! `specs/Laws.antt`, which is what the other crates rely on.
 #![tactic(auto)]

@@ -1,6 +1,6 @@
 //! What the links in words say: links to nodes, the markers that end chains, the word of a
 //! bucket, and the words that lead to a table or a page. Reading is total: a word that no run of
-//! the table gives leads nowhere.
+//! the table gives is read as something harmless, mostly as leading nowhere.
 
 ghost use Rattle.std.specs.Prelude.{◌≡◌, ◌<◌, ◌%◌, ◌↔◌, IsTrue, IfSome};
 ghost use Rattle.rht_words.specs.Links.{link_of, marker_of, node_of, unlocked, head_of, plain_of, table_of, future_of, slot_of, entry_of, page_of};

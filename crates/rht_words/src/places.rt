@@ -25,7 +25,8 @@ pub fn work_lock() -> usize
     1
 }
 
-/// How many ports are bound.
+/// How many ports are bound, and how many callers have raised the count for a node that they link
+/// next.
 #[inline(always)]
 pub fn port_count() -> usize
     ensures place { result ≡ 2 }
