@@ -10,7 +10,7 @@ use Rattle.rht_words.specs.Places.{PortCount, Node, OwnerWord, PageWord, word_at
 use Rattle.rht_words.specs.Members.{In, NotIn, IsDistinct}
 use Rattle.rht_words.proofs.Members.{count_by-range, count_below-same, count_below-none, length-count_below}
 use Rattle.rht_core.specs.Runs.{Core, local_of, run_of}
-use Rattle.rht_core.specs.StandsFor.{stands_for}
+use Rattle.rht_core.specs.StandsFor.{stands_for, first_node}
 use Rattle.rht_core.specs.Counts.{AreAllBound, is_raising, raising, IsFreeOrBound, Counted, AtRest}
 use Rattle.rht_core.proofs.Ghosts.{Owner, Free, Held, First, Leaving, Behind, Taken, Gone, Ghost, lock_bit, is_first}
 use Rattle.rht_core.proofs.Wholes.{key_of, firsts, raisers, IsBuilt, Whole}
@@ -98,17 +98,31 @@ module _ (env : Env) (mix : ℕ → ℕ → ℕ → ℕ) (words : List ℕ) (G :
         omega (arith, few, many);
   }
 
+  -- a port's first node is in a chain
+  first_in_chain : (port n : ℕ) → first_node env.geometry words port ≡ Some n → (j : ℕ) × (G.node n ≡ First j)
+  first_in_chain port n is = go (G.bound port) refl
+    where
+      go : (bound : List ℕ) → G.bound port ≡ bound → (j : ℕ) × (G.node n ≡ First j)
+      go [] b = let none = sym (first_bound env mix words G whole port [] b) ∙ is in absurd (cc)
+      go (first ∷ behind) b =
+          let to = whole.owned.bound_to port first behind b in
+          let some = sym (first_bound env mix words G whole port (first ∷ behind) b) ∙ is in
+          let same : first ≡ n = cc in
+          (to.bucket, ap G.node (sym same) ∙ to.first)
+
   -- a node that no caller has is free or bound
   free_or_bound : (n : ℕ) → n < env.geometry.nodes → ((c : ℕ) → G.node n ≢ Held c)
       → IsFreeOrBound env.geometry words n
   free_or_bound n l unheld = go (G.node n) refl (whole.arena.built n)
     where
       go : (o : Owner) → G.node n ≡ o → IsBuilt env mix o → IsFreeOrBound env.geometry words n
-      go Free e b = inl ((whole.arena.bits n l).1 e)
+      go Free e b =
+          inl ((whole.arena.bits n l).1 e, λ first. let chained = first_in_chain first.0 n first.1 in let q = sym e ∙ chained.1 in cc)
       go (Held c) e b = absurd (unheld c e)
       go (First j) e b =
           let at = whole.owned.first_at n j e in
-          inr (key_of (mem env mix words) n, first_bound env mix words G whole (key_of (mem env mix words) n) (n ∷ []) at.bound_to)
+          let port = key_of (mem env mix words) n in
+          inr ((port, first_bound env mix words G whole port (n ∷ []) at.bound_to), λ free. let q = sym e ∙ (whole.arena.bits n l).0 free in cc)
       go (Leaving j) e b = absurd b
       go (Behind k) e b = absurd b
       go (Taken c) e b = absurd b

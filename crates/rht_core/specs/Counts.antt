@@ -41,10 +41,17 @@ pub record IsCounted {M : Type 0} (env : Env) (core : Core M) : Type 0 where
   pub all_bound : AreAllBound (stands_for env.geometry core.words) bound
   pub counted : word_at env.geometry core.words PortCount ≡ bound + raising core
 
--- the node is free, or the first node of a port
+-- the node's bit is set
+abbrev pub IsFree : Geometry → List ℕ → ℕ → Type 0
+IsFree g words node = bit_at (word_at g words (NodeMap (node / 64))) (node % 64) ≡ 1
+
+-- the node is the first node of a port
+abbrev pub IsFirst : Geometry → List ℕ → ℕ → Type 0
+IsFirst g words node = (port : ℕ) × (first_node g words port ≡ Some node)
+
+-- the node is free and no port's first one, or it is a port's first one and not free
 abbrev pub IsFreeOrBound : Geometry → List ℕ → ℕ → Type 0
-IsFreeOrBound g words node =
-    (bit_at (word_at g words (NodeMap (node / 64))) (node % 64) ≡ 1) ⊎ ((port : ℕ) × (first_node g words port ≡ Some node))
+IsFreeOrBound g words node = (IsFree g words node × ¬ IsFirst g words node) ⊎ (IsFirst g words node × ¬ IsFree g words node)
 
 -- no bucket is locked, no node is out, and the count of ports is the number of those bound
 pub record IsAtRest (g : Geometry) (words : List ℕ) : Type 0 where

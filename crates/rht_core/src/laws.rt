@@ -96,8 +96,8 @@ pub fn counted<M: Mix>()
 {}
 
 /// In every run, while nobody is in a call, no bucket is locked, each node is free or the first one of
-/// a port, and the count is the number of ports that are bound. It doesn't say that such a moment
-/// comes.
+/// a port and never both, and the count is the number of ports that are bound. It doesn't say that
+/// such a moment comes.
 pub fn at_rest<M: Mix>()
     ensures { AtRest M M.mix_of }
 {}
