@@ -1,7 +1,9 @@
 -- a lock is taken by an exchange from an even word alone
 pub mod LocksTaken
--- whatever words they are told, a lock and a walk stay in range
+-- whatever words they are told, the pieces stay in their table
 pub mod PiecesStay
+-- on which words the pieces work, and that what they store are words
+pub mod PiecesPlanned
 -- what is to be seen of a chain is its first node with the key
 pub mod FirstNodes
 -- a walk sees of its chain what is to be seen

@@ -4,6 +4,9 @@ use Rattle.rht_words.specs.declared.op.Op.{Op}
 use Rattle.rht_words.specs.declared.op.Op.TheVariants.{Load, Exchange}
 use Rattle.rht_words.specs.declared.machine.Next.{Next}
 use Rattle.rht_words.specs.declared.machine.Next.TheVariants.{Go, Done}
+use Rattle.rht_words.specs.declared.geometry.Geometry.{Geometry}
+use Rattle.rht_words.specs.Places.{IsBucketPlace}
+use Rattle.rht_words.specs.Planned.{IsWord}
 use Rattle.rht_chain.specs.declared.lock.LockAt.{LockAt}
 use Rattle.rht_chain.specs.declared.lock.LockAt.TheVariants as at
 
@@ -36,6 +39,17 @@ lock_after m word = lock_after_at m m.at word
 abbrev pub IsEven : LockAt → Type 0
 IsEven at.Word = Unit {0}
 IsEven (at.Exchange word) = word % 2 ≡ 0
+
+-- the word that is to be locked is a word
+abbrev pub IsLockWord : LockAt → Type 0
+IsLockWord at.Word = Unit {0}
+IsLockWord (at.Exchange word) = IsWord word
+
+-- the lock is a bucket's, and the word that it has found is an even one
+pub record IsLockIn (g : Geometry) (m : LockModel) : Type 0 where
+  pub place_in : IsBucketPlace g m.place
+  pub even : IsEven m.at
+  pub word_in : IsLockWord m.at
 
 -- The operation is on the word at this place. It loads it, or locks it where it is found unlocked.
 abbrev pub IsLocking : ℕ → Op → Type 0

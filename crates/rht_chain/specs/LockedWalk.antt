@@ -76,9 +76,14 @@ abbrev pub IsNodeOrNone : Geometry → Option ℕ → Type 0
 IsNodeOrNone g found = IfSome found (λ node. node < g.nodes)
 
 -- the walk stands at one of the nodes
-abbrev pub IsInRange : Geometry → Option ℕ → LockedWalkAt → Type 0
-IsInRange g before (at.Key node) = (node < g.nodes) × IsNodeOrNone g before
-IsInRange g before (at.ChainLink node) = (node < g.nodes) × IsNodeOrNone g before
+abbrev pub IsWalkAtIn : Geometry → Option ℕ → LockedWalkAt → Type 0
+IsWalkAtIn g before (at.Key node) = (node < g.nodes) × IsNodeOrNone g before
+IsWalkAtIn g before (at.ChainLink node) = (node < g.nodes) × IsNodeOrNone g before
+
+-- the walk is in this table, and stands at one of its nodes
+pub record IsWalkIn (g : Geometry) (m : LockedWalkModel) : Type 0 where
+  pub geometry_same : m.geometry ≡ g
+  pub at_in : IsWalkAtIn g m.before m.at
 
 -- what was seen are nodes of the table
 pub record IsSeenIn (g : Geometry) (seen : Seen) : Type 0 where

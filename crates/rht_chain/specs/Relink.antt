@@ -7,7 +7,8 @@ use Rattle.rht_words.specs.declared.machine.Next.TheVariants.{Go, Done}
 use Rattle.rht_words.specs.declared.geometry.Geometry.{Geometry}
 use Rattle.rht_words.specs.Links.{plain_of}
 use Rattle.rht_words.specs.Operations.{op_place}
-use Rattle.rht_words.specs.Places.{Node, ChainLink, place_of, words_in}
+use Rattle.rht_words.specs.Places.{Node, ChainLink, IsBucketPlace, place_of, words_in}
+use Rattle.rht_words.specs.Planned.{IsWord}
 use Rattle.rht_chain.specs.declared.relink.RelinkAt.{RelinkAt}
 use Rattle.rht_chain.specs.declared.relink.RelinkAt.TheVariants as at
 
@@ -45,9 +46,23 @@ abbrev pub relink_after : RelinkModel → RelinkModel × Next (Unit {0})
 relink_after m = relink_after_at m m.at
 
 -- the node before is one of the nodes
-abbrev pub IsInRange : Geometry → RelinkAt → Type 0
-IsInRange g (at.ChainLink before) = before < g.nodes
-IsInRange g (at.Word word) = Unit {0}
+abbrev pub IsRelinkAtIn : Geometry → RelinkAt → Type 0
+IsRelinkAtIn g (at.ChainLink before) = before < g.nodes
+IsRelinkAtIn g (at.Word word) = Unit {0}
+
+-- the word that it stores is a word
+abbrev pub IsRelinkWord : RelinkAt → Type 0
+IsRelinkWord (at.ChainLink before) = Unit {0}
+IsRelinkWord (at.Word word) = IsWord word
+
+-- the change is in a bucket of this table, and what it stores are words
+pub record IsRelinkIn (g : Geometry) (m : RelinkModel) : Type 0 where
+  pub geometry_same : m.geometry ≡ g
+  pub place_in : IsBucketPlace g m.place
+  pub word_in : IsWord m.word
+  pub link_in : IsWord m.link
+  pub at_in : IsRelinkAtIn g m.at
+  pub store_in : IsRelinkWord m.at
 
 -- the operation is on the word at this place, or on a word of the table
 abbrev pub IsRelinkPlace : Geometry → ℕ → Op → Type 0

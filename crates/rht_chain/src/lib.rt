@@ -12,6 +12,7 @@ pub mod laws;
 mod lock;
 mod locked;
 mod locked_walk;
+mod probe;
 mod relink;
 mod unlock;
 
@@ -19,6 +20,7 @@ pub use chains::seen_in;
 pub use lock::{Lock, LockAt};
 pub use locked::{Locked, Then};
 pub use locked_walk::{LockedWalk, LockedWalkAt, Seen};
+pub use probe::{Probe, ProbeAt, Probed, walk_began};
 pub use relink::{Relink, RelinkAt};
 pub use unlock::Unlock;
 

@@ -63,12 +63,8 @@ impl Lock {
         ensures locks { IsLocking self.now.place result }
     {
         match self.at {
-            LockAt::Word => Op::Load { place: self.place },
-            LockAt::Exchange { word } => Op::Exchange {
-                place: self.place,
-                old: word,
-                new: word + 1,
-            },
+            LockAt::Word => Op::load(self.place),
+            LockAt::Exchange { word } => Op::exchange(self.place, word, word + 1),
         }
     }
 

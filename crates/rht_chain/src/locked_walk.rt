@@ -43,7 +43,7 @@ pub struct LockedWalk {
 }
 
 impl Model for LockedWalk {
-    ghost use Rattle.rht_chain.specs.LockedWalk.{LockedWalkModel, IsInRange};
+    ghost use Rattle.rht_chain.specs.LockedWalk.{LockedWalkModel, IsWalkAtIn};
 
     ghost Value = { LockedWalkModel };
 
@@ -51,7 +51,7 @@ impl Model for LockedWalk {
 
     ghost inverse = { λ m. record { geometry = m.geometry; key = m.key; before = m.before; length = m.length; at = m.at } };
 
-    ghost invariant = { λ m. IsInRange m.geometry m.before m.at };
+    ghost invariant = { λ m. IsWalkAtIn m.geometry m.before m.at };
 }
 
 impl LockedWalk {
@@ -87,12 +87,8 @@ impl LockedWalk {
         ensures place { op_place result < words_in self.now.geometry }
     {
         match self.at {
-            LockedWalkAt::Key { node } => Op::Load {
-                place: self.geometry.key(node),
-            },
-            LockedWalkAt::ChainLink { node } => Op::Load {
-                place: self.geometry.chain_link(node),
-            },
+            LockedWalkAt::Key { node } => Op::load(self.geometry.key(node)),
+            LockedWalkAt::ChainLink { node } => Op::load(self.geometry.chain_link(node)),
         }
     }
 

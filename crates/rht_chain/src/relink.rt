@@ -29,7 +29,7 @@ pub struct Relink {
 }
 
 impl Model for Relink {
-    ghost use Rattle.rht_chain.specs.Relink.{RelinkModel, IsInRange};
+    ghost use Rattle.rht_chain.specs.Relink.{RelinkModel, IsRelinkAtIn};
 
     ghost Value = { RelinkModel };
 
@@ -37,7 +37,7 @@ impl Model for Relink {
 
     ghost inverse = { λ m. record { geometry = m.geometry; place = m.place; word = m.word; link = m.link; at = m.at } };
 
-    ghost invariant = { λ m. IsInRange m.geometry m.at };
+    ghost invariant = { λ m. IsRelinkAtIn m.geometry m.at };
 }
 
 impl Relink {
@@ -75,14 +75,10 @@ impl Relink {
         ensures place { IsRelinkPlace self.now.geometry self.now.place result }
     {
         match self.at {
-            RelinkAt::ChainLink { before } => Op::Store {
-                place: self.geometry.chain_link(before),
-                value: self.link,
-            },
-            RelinkAt::Word { word } => Op::Store {
-                place: self.place,
-                value: word,
-            },
+            RelinkAt::ChainLink { before } => {
+                Op::store(self.geometry.chain_link(before), self.link)
+            }
+            RelinkAt::Word { word } => Op::store(self.place, word),
         }
     }
 

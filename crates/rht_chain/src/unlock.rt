@@ -30,10 +30,7 @@ impl Unlock {
     pub fn plan(&self) -> Op
         ensures { result ≡ unlock_plan self.now }
     {
-        Op::Store {
-            place: self.place,
-            value: self.word,
-        }
+        Op::store(self.place, self.word)
     }
 
     /// The bucket is unlocked, whatever its word was.

@@ -1,5 +1,5 @@
 -- What the machines that read a table rely on.
-use Rattle.std.specs.Prelude.{◌≡◌, ◌≢◌, ℕ, ◌+◌, ◌*◌, ◌<◌, ◌≤◌, ◌⊎◌}
+use Rattle.std.specs.Prelude.{◌≡◌, ◌≢◌, ℕ, ◌+◌, ◌*◌, ◌<◌, ◌≤◌, ◌⊎◌, Some}
 use Rattle.rht_words.specs.declared.geometry.Geometry.{Geometry}
 use Rattle.rht_words.specs.declared.shape.Shape.{Shape}
 use Rattle.rht_words.specs.Places.{PageWord, place_of}
@@ -28,7 +28,7 @@ abbrev pub BucketsStandInARow : Type 0
 BucketsStandInARow =
     (g : Geometry) (shape bucket : ℕ)
     → HasBucket g (unpacked shape) bucket
-    → bucket_place g shape bucket ≡ place_of g (PageWord (first_word (unpacked shape) + bucket))
+    → bucket_place g shape bucket ≡ Some (place_of g (PageWord (first_word (unpacked shape) + bucket)))
 
 -- two flat tables share no word of the pages
 abbrev pub LieApart : Shape → Shape → Type 0

@@ -1,11 +1,9 @@
 //! Where the word of a bucket is. All tables are flat so far, and a flat table's bucket is found
 //! without an operation.
 
-ghost use Rattle.std.specs.Prelude.{◌≡◌, ◌<◌};
-ghost use Rattle.rht_words.specs.Places.{words_in};
+ghost use Rattle.std.specs.Prelude.{◌≡◌};
 ghost use Rattle.rht_words.specs.declared.machine.Start.TheVariants.{Done};
-ghost use Rattle.rht_nest.specs.Place.{bucket_place};
-ghost use Rattle.rht_nest.specs.declared.place.Bucket.TheVariants.{At};
+ghost use Rattle.rht_nest.specs.Place.{bucket_at, bucket_place};
 
 use rht_words::{Geometry, Shape, Start};
 
@@ -25,15 +23,18 @@ pub enum Bucket {
 pub enum Place {}
 
 impl Place {
-    /// The place of the bucket in a table of this shape. A shape that no table has is read as one
-    /// of a table that ends with the last page.
+    /// The place of the bucket in a table of this shape. A bucket behind the last page, which no
+    /// table has, is absent, and the last word of the pages counts as its entry.
     #[inline(always)]
     pub fn new(geometry: Geometry, shape: u64, bucket: u32) -> Start<Place, Bucket>
-        ensures place { result ≡ Done (At (bucket_place geometry shape bucket)) }
-        ensures within { bucket_place geometry shape bucket < words_in geometry }
+        ensures { result ≡ Done (bucket_at geometry (bucket_place geometry shape bucket)) }
     {
         let index = 64 * u64::from(Shape::from(shape).page) + u64::from(bucket);
-        let last = 64 * geometry.pages - 1;
-        Start::Done(Bucket::At(geometry.page_word(0, index.min(u64::from(last)) as u32)))
+        let count = 64 * geometry.pages;
+        Start::Done(if index < u64::from(count) {
+            Bucket::At(geometry.page_word(0, index as u32))
+        } else {
+            Bucket::Absent(geometry.page_word(0, count - 1))
+        })
     }
 }

@@ -6,6 +6,8 @@ pub mod PlacesApart
 pub mod StartingSizes
 -- an operation changes the word of its address alone
 pub mod WordChanges
+-- on which words machines work, and that what they store is a word
+pub mod PlannedWords
 -- what links, bucket words and entries say comes back from the words that are made of it, and names nothing that isn't there
 pub mod LinksRead
 -- the lowest set bit of a map's word stands for one of so many

@@ -10,6 +10,8 @@ pub mod Settled
 pub mod Operations
 -- where each thing stands in the list of words
 pub mod Places
+-- what is asked of each operation that a machine plans
+pub mod Planned
 -- what the links in words say, and what a bucket's word says
 pub mod Links
 -- how a table's shape is packed into a word
@@ -22,6 +24,8 @@ pub mod Maps
 pub mod Opening
 -- what comes of a machine that is told one old value after another
 pub mod Machines
+-- what a call holds between two of its operations
+pub mod Held
 -- members of lists of numbers, and lists without repeats
 pub mod Members
 -- the nodes to which a row of links leads

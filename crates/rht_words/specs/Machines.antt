@@ -5,6 +5,11 @@ use Rattle.rht_words.specs.declared.machine.Next.{Next}
 use Rattle.rht_words.specs.declared.machine.Next.TheVariants.{Go, Done}
 use Rattle.rht_words.specs.Operations.{old_of, applied}
 
+-- what holds of a machine's state where it goes on, or of its answer where it has ended
+abbrev pub GoesOrEnds : {S R : Type 0} → (S → Type 0) → (R → Type 0) → S × Next R → Type 0
+GoesOrEnds Goes Ends (state, Go) = Goes state
+GoesOrEnds Goes Ends (state, Done answer) = Ends answer
+
 -- an operation that was performed, and the word that it found
 pub record Performed : Type 0 where
   pub op : Op

@@ -13,6 +13,16 @@ op_place (Sub place by) = place
 op_place (And place mask) = place
 op_place (Or place mask) = place
 
+-- the value that the operation brings; a load brings none, which counts as 0
+abbrev pub op_value : Op → ℕ
+op_value (Load place) = 0
+op_value (Store place value) = value
+op_value (Exchange place old new) = new
+op_value (Add place by) = by
+op_value (Sub place by) = by
+op_value (And place mask) = mask
+op_value (Or place mask) = mask
+
 -- what the operation makes of a word
 abbrev pub word_after : ℕ → Op → ℕ
 word_after word (Load place) = word

@@ -51,6 +51,10 @@ pages_at g = nodes_at g + 4 * g.nodes
 abbrev pub words_in : Geometry → ℕ
 words_in g = pages_at g + 64 * g.pages
 
+-- the word at this place is one of the pages', where the words of buckets stand
+abbrev pub IsBucketPlace : Geometry → ℕ → Type 0
+IsBucketPlace g place = (pages_at g ≤ place) × (place < words_in g)
+
 -- how far behind the first word of a slot or a node the word stands
 abbrev pub slot_offset : SlotWord → ℕ
 slot_offset ShapeWord = 0

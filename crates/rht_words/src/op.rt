@@ -1,6 +1,6 @@
 //! The seven operations on one shared word, and what each does to a list of words.
 
-ghost use Rattle.std.specs.Prelude.{◌≡◌, ◌<◌, length};
+ghost use Rattle.std.specs.Prelude.{◌≡◌};
 
 /// An operation on one word. Each answers the word before it. All are sequentially consistent.
 #[derive(Clone, Copy, Debug, PartialEq, Eq)]
@@ -23,6 +23,63 @@ pub enum Op {
 
 impl Op {
     ghost use Rattle.rht_words.specs.Operations.{op_place, word_after};
+    ghost use Rattle.rht_words.specs.declared.op.Op.TheVariants.{Load, Store, Exchange, Add, Sub, And, Or};
+
+    /// A load of the word at this place.
+    #[inline(always)]
+    pub fn load(place: usize) -> Op
+        ensures { result ≡ Load place }
+    {
+        Op::Load { place }
+    }
+
+    /// A store of this value.
+    #[inline(always)]
+    pub fn store(place: usize, value: u64) -> Op
+        ensures { result ≡ Store place value }
+    {
+        Op::Store { place, value }
+    }
+
+    /// An exchange of `old` for `new`.
+    #[inline(always)]
+    pub fn exchange(place: usize, old: u64, new: u64) -> Op
+        ensures { result ≡ Exchange place old new }
+    {
+        Op::Exchange { place, old, new }
+    }
+
+    /// An addition of this number.
+    #[inline(always)]
+    pub fn add(place: usize, by: u64) -> Op
+        ensures { result ≡ Add place by }
+    {
+        Op::Add { place, by }
+    }
+
+    /// A subtraction of this number.
+    #[inline(always)]
+    pub fn sub(place: usize, by: u64) -> Op
+        ensures { result ≡ Sub place by }
+    {
+        Op::Sub { place, by }
+    }
+
+    /// An `and` with this mask, which keeps its bits.
+    #[inline(always)]
+    pub fn and(place: usize, mask: u64) -> Op
+        ensures { result ≡ And place mask }
+    {
+        Op::And { place, mask }
+    }
+
+    /// An `or` with this mask, which sets its bits.
+    #[inline(always)]
+    pub fn or(place: usize, mask: u64) -> Op
+        ensures { result ≡ Or place mask }
+    {
+        Op::Or { place, mask }
+    }
 
     /// The place of the word that the operation is on.
     #[inline(always)]
