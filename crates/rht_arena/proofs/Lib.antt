@@ -2,5 +2,9 @@
 pub mod TakenWereFree
 -- whatever words it is told, the taking of a node stays in range
 pub mod TakingStays
+-- whatever words it is told, a new node is one of the table's
+pub mod NewNodesStay
+-- on which words the taking, filling and giving back of nodes work
+pub mod NodesPlanned
 -- the nodes below the one at which the machine stands were seen taken
 pub mod NodesSeen

@@ -27,7 +27,7 @@ use Rattle.rht_words.proofs.FreeBits.{lowest_free-None, lowest_free-Some, bit_at
 use Rattle.rht_words.proofs.MachineRuns.{performed, kept_to_end}
 use Rattle.rht_arena.specs.declared.take_node.TakeNodeAt.{TakeNodeAt}
 use Rattle.rht_arena.specs.declared.take_node.TakeNodeAt.TheVariants.{MapWord, Claim}
-use Rattle.rht_arena.specs.TakeNode.{TakeNodeModel, IsInRange, take_node_new, take_node_plan, take_node_after, plan_at, after_at, claim_in}
+use Rattle.rht_arena.specs.TakeNode.{TakeNodeModel, IsTakeAtIn, take_node_new, take_node_plan, take_node_after, plan_at, after_at, claim_in}
 use Rattle.rht_arena.specs.Laws.{SeesTaken, LeavesWord, IsTaking, IsAnsweredBy, AnswersSayWhatWasDone}
 use Rattle.rht_arena.proofs.TakenWereFree.{claims}
 use Rattle.rht_arena.proofs.TakingStays.{take_after-in}
@@ -104,7 +104,7 @@ module _ (take : TakeNodeModel) (steps : List Performed) (index word : ℕ) wher
 -- each operation sees what is between the node at which the machine stands and the next
 pub take_after-saw : (take : TakeNodeModel) (state : TakeNodeAt) (steps : List Performed) (step : Performed)
     → step.op ≡ plan_at take.geometry state
-    → IsInRange take.geometry state → SawAllBelow take.geometry (first_unseen state) steps
+    → IsTakeAtIn take.geometry state → SawAllBelow take.geometry (first_unseen state) steps
     → SawSoFar take.geometry (steps ++ step ∷ []) (after_at take state step.old)
 take_after-saw take (MapWord index) steps step is range saw =
     let g = take.geometry in
@@ -151,7 +151,7 @@ claim_in-did take step index None leaves =
 
 -- Clearing a bit that is clear leaves the word.
 take_after-did : (take : TakeNodeModel) (state : TakeNodeAt) (old : ℕ) → old < 2 ^ 64
-    → IsInRange take.geometry state
+    → IsTakeAtIn take.geometry state
     → DidBy take.geometry (record { op = plan_at take.geometry state; old = old }) (after_at take state old).1
 take_after-did take (MapWord index) old small range =
     claim_in-did take (record { op = plan_at take.geometry (MapWord index); old = old }) index (lowest_free take.geometry.nodes index old) refl
@@ -170,7 +170,7 @@ take_after-did take (Claim index bit) old small range =
 -- changed no word.
 record SeenSoFar (g : Geometry) (steps : List Performed) (m : TakeNodeModel) : Type 0 where
   geometry : m.geometry ≡ g
-  in_range : IsInRange m.geometry m.at
+  in_range : IsTakeAtIn m.geometry m.at
   seen : SawAllBelow m.geometry (first_unseen m.at) steps
   unchanged : All LeavesWord steps
 

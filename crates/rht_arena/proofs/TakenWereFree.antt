@@ -11,7 +11,7 @@ use Rattle.rht_words.proofs.BitChanges.{bit_at-cleared, bit_at-cleared_other, bi
 use Rattle.std.specs.Prelude.{bit_and, Option}
 use Rattle.rht_arena.specs.declared.take_node.TakeNodeAt.{TakeNodeAt}
 use Rattle.rht_arena.specs.declared.take_node.TakeNodeAt.TheVariants.{MapWord, Claim}
-use Rattle.rht_arena.specs.TakeNode.{TakeNodeModel, IsInRange, plan_at, after_at, claim_in, claim_among}
+use Rattle.rht_arena.specs.TakeNode.{TakeNodeModel, IsTakeAtIn, plan_at, after_at, claim_in, claim_among}
 use Rattle.rht_arena.specs.Laws.{ChangesBit, claim_of, IsTaking, TakenWasFree, GivingSetsOneBit, map_bit}
 
 -- the And with all ones but the node's bit clears it
@@ -54,7 +54,7 @@ giving_sets_one_bit m old = record {
 }
 
 -- By cases on the state: only one that clears a bit answers a node.
-taken_at : (m : TakeNodeModel) (at : TakeNodeAt) (old node : ℕ) → IsInRange m.geometry at
+taken_at : (m : TakeNodeModel) (at : TakeNodeAt) (old node : ℕ) → IsTakeAtIn m.geometry at
     → (after_at m at old).1 ≡ Done (Some node) → IsTaking m.geometry node old (plan_at m.geometry at)
 taken_at m (MapWord index) old node range done =
     absurd (claim_in-no_node m index node (lowest_free m.geometry.nodes index old) done)

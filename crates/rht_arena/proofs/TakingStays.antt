@@ -8,24 +8,24 @@ use Rattle.rht_words.specs.declared.machine.Next.{Next}
 use Rattle.rht_words.specs.Maps.{map_bits, bits_above}
 use Rattle.rht_words.specs.Places.{map_words}
 use Rattle.rht_words.proofs.LowestBits.{lowest_is_in}
-use Rattle.rht_arena.specs.TakeNode.{TakeNodeModel, take_node_after, after_at, next_word, claim_in, claim_among, IsInRange, IsNodeIn}
+use Rattle.rht_arena.specs.TakeNode.{TakeNodeModel, take_node_after, after_at, next_word, claim_in, claim_among, IsTakeAtIn, IsNodeIn}
 use Rattle.rht_arena.specs.declared.take_node.TakeNodeAt.{TakeNodeAt}
 use Rattle.rht_arena.specs.declared.take_node.TakeNodeAt.TheVariants.{MapWord, Claim}
 
 -- the taking stays among the map's words and the nodes, and a node that it answers is one
 pub record TakeStays (take : TakeNodeModel) (next : TakeNodeModel × Next (Option ℕ)) : Type 0 where
   pub geometry_same : next.0.geometry ≡ take.geometry
-  pub range : IsInRange next.0.geometry next.0.at
+  pub range : IsTakeAtIn next.0.geometry next.0.at
   pub node : IsNodeIn take.geometry next.1
 
-next_word-in : (take : TakeNodeModel) (index : ℕ) → IsInRange take.geometry take.at
+next_word-in : (take : TakeNodeModel) (index : ℕ) → IsTakeAtIn take.geometry take.at
     → TakeStays take (next_word take index)
 next_word-in take index range =
     cond_both (nat_lt (index + 1) (map_words take.geometry.nodes)) _ _ (TakeStays take)
     (λ t. record { geometry_same = refl; range = ltb-true (index + 1) (map_words take.geometry.nodes) t; node = tt })
     (λ f. record { geometry_same = refl; range = range; node = tt })
 
-claim_among-in : (take : TakeNodeModel) (index word : ℕ) → IsInRange take.geometry take.at
+claim_among-in : (take : TakeNodeModel) (index word : ℕ) → IsTakeAtIn take.geometry take.at
     → TakeStays take (claim_among take index word)
 claim_among-in take index word range =
     let free = bit_and word (map_bits take.geometry.nodes index) in
@@ -36,14 +36,14 @@ claim_among-in take index word range =
     let some : 0 < free = (let other = eqb-false free 0 f in omega (arith, other)) in
     record { geometry_same = refl; range = lowest_is_in take.geometry.nodes index word some; node = tt })
 
-take_after_at-in : (take : TakeNodeModel) (at : TakeNodeAt) (word : ℕ) → IsInRange take.geometry at
-    → IsInRange take.geometry take.at → TakeStays take (after_at take at word)
+take_after_at-in : (take : TakeNodeModel) (at : TakeNodeAt) (word : ℕ) → IsTakeAtIn take.geometry at
+    → IsTakeAtIn take.geometry take.at → TakeStays take (after_at take at word)
 take_after_at-in take (MapWord index) word here range = claim_among-in take index word range
 take_after_at-in take (Claim index bit) word here range =
     cond_both (bit_at word bit == 1) _ _ (TakeStays take)
     (λ t. record { geometry_same = refl; range = range; node = here.below })
     (λ f. claim_among-in take index (bit_and word (bits_above bit)) range)
 
-pub take_after-in : (take : TakeNodeModel) (word : ℕ) → IsInRange take.geometry take.at
+pub take_after-in : (take : TakeNodeModel) (word : ℕ) → IsTakeAtIn take.geometry take.at
     → TakeStays take (take_node_after take word)
 take_after-in take word range = take_after_at-in take take.at word range range

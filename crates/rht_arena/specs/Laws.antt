@@ -10,7 +10,7 @@ use Rattle.rht_words.specs.Maps.{bit_of}
 use Rattle.rht_words.specs.Places.{NodeMap, place_of}
 use Rattle.rht_words.specs.Operations.{op_place, word_after}
 use Rattle.rht_words.specs.Machines.{Performed, ran}
-use Rattle.rht_arena.specs.TakeNode.{TakeNodeModel, take_node_new, take_node_plan, take_node_after, IsInRange}
+use Rattle.rht_arena.specs.TakeNode.{TakeNodeModel, take_node_new, take_node_plan, take_node_after, IsTakeAtIn}
 use Rattle.rht_arena.specs.GiveNode.{GiveNodeModel, give_node_plan}
 
 -- the word of the node map in which the node has its bit, and which bit of the word that is
@@ -42,7 +42,7 @@ pub record IsTaking (g : Geometry) (node old : ℕ) (op : Op) : Type 0 where
 abbrev pub TakenWasFree : Type 0
 TakenWasFree =
     (m : TakeNodeModel) (old node : ℕ)
-    → IsInRange m.geometry m.at → (take_node_after m old).1 ≡ Done (Some node)
+    → IsTakeAtIn m.geometry m.at → (take_node_after m old).1 ≡ Done (Some node)
     → IsTaking m.geometry node old (take_node_plan m)
 
 -- the operation was on the word with the node's bit, and found the node taken

@@ -1,5 +1,5 @@
 -- How a free node is taken: what each state performs, and what comes after it.
-use Rattle.std.specs.Prelude.{ℕ, ◌+◌, ◌*◌, ◌<◌, ◌==◌, nat_lt, bit_and, Option, None, Some, if◌then◌else◌}
+use Rattle.std.specs.Prelude.{◌≡◌, ℕ, ◌+◌, ◌*◌, ◌<◌, ◌==◌, nat_lt, bit_and, Option, None, Some, if◌then◌else◌}
 use Rattle.std.specs.Int.{bit_at, bit_not, w64}
 use Rattle.rht_words.specs.declared.op.Op.{Op}
 use Rattle.rht_words.specs.declared.op.Op.TheVariants.{Load, And}
@@ -52,9 +52,14 @@ abbrev pub take_node_after : TakeNodeModel → ℕ → TakeNodeModel × Next (Op
 take_node_after m old = after_at m m.at old
 
 -- the word of the map is one of those that there are, and the claimed node is one of the nodes
-abbrev pub IsInRange : Geometry → TakeNodeAt → Type 0
-IsInRange g (MapWord index) = index < map_words g.nodes
-IsInRange g (Claim index bit) = IsBitIn g.nodes index bit
+abbrev pub IsTakeAtIn : Geometry → TakeNodeAt → Type 0
+IsTakeAtIn g (MapWord index) = index < map_words g.nodes
+IsTakeAtIn g (Claim index bit) = IsBitIn g.nodes index bit
+
+-- the machine takes a node of this table
+pub record IsTakeIn (g : Geometry) (m : TakeNodeModel) : Type 0 where
+  pub geometry_same : m.geometry ≡ g
+  pub at_in : IsTakeAtIn g m.at
 
 -- a node that is answered is one of the nodes
 abbrev pub IsNodeIn : Geometry → Next (Option ℕ) → Type 0

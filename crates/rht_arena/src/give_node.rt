@@ -45,10 +45,10 @@ impl GiveNode {
         ensures plan { result ≡ give_node_plan self.now }
         ensures place { op_place result < words_in self.now.geometry }
     {
-        Op::Or {
-            place: self.geometry.node_map(self.node / 64),
-            mask: bit_of(self.node % 64),
-        }
+        Op::or(
+            self.geometry.node_map(self.node / 64),
+            bit_of(self.node % 64),
+        )
     }
 
     /// The node is given back, whatever its word was.

@@ -26,7 +26,7 @@ pub struct TakeNode {
 }
 
 impl Model for TakeNode {
-    ghost use Rattle.rht_arena.specs.TakeNode.{TakeNodeModel, IsInRange};
+    ghost use Rattle.rht_arena.specs.TakeNode.{TakeNodeModel, IsTakeAtIn};
 
     ghost Value = { TakeNodeModel };
 
@@ -34,7 +34,7 @@ impl Model for TakeNode {
 
     ghost inverse = { λ m. record { geometry = m.geometry; at = m.at } };
 
-    ghost invariant = { λ m. IsInRange m.geometry m.at };
+    ghost invariant = { λ m. IsTakeAtIn m.geometry m.at };
 }
 
 impl TakeNode {
@@ -56,13 +56,10 @@ impl TakeNode {
         ensures place { op_place result < words_in self.now.geometry }
     {
         match self.at {
-            TakeNodeAt::MapWord { index } => Op::Load {
-                place: self.geometry.node_map(index),
-            },
-            TakeNodeAt::Claim { index, bit } => Op::And {
-                place: self.geometry.node_map(index),
-                mask: !bit_of(bit),
-            },
+            TakeNodeAt::MapWord { index } => Op::load(self.geometry.node_map(index)),
+            TakeNodeAt::Claim { index, bit } => {
+                Op::and(self.geometry.node_map(index), !bit_of(bit))
+            }
         }
     }
 

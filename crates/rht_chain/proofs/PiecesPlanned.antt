@@ -1,10 +1,10 @@
 -- On which words the pieces work: a lock, an unlocking and a relinking on their bucket's, and a walk and a relinking on those of
 -- nodes. None of them works on the word of the enrolled callers, and what they store are words.
-use Rattle.std.proofs.Common.{◌≡◌, ℕ, ◌%◌, ◌<◌, refl, sym, subst, arith}
+use Rattle.std.proofs.Common.{ℕ, refl, sym, subst, arith}
 use Rattle.std.specs.Prelude.{Option}
 use Rattle.rht_words.specs.declared.geometry.Geometry.{Geometry}
 use Rattle.rht_words.specs.Places.{Node, ChainLink, KeyWord, IsBucketPlace}
-use Rattle.rht_words.specs.Planned.{IsWord, IsPlannedIn}
+use Rattle.rht_words.specs.Planned.{IsPlannedIn}
 use Rattle.rht_words.proofs.PlannedWords.{planned-at, planned_load, planned_bucket}
 use Rattle.rht_chain.specs.Lock.{LockModel, lock_plan, lock_plan_at, IsEven, IsLockWord, IsLockIn}
 use Rattle.rht_chain.specs.declared.lock.LockAt.{LockAt}

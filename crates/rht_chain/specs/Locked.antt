@@ -1,5 +1,5 @@
 -- What the machines keep of a bucket that they have locked.
-use Rattle.std.specs.Prelude.{ℕ, ◌<◌}
+use Rattle.std.specs.Prelude.{◌<◌}
 use Rattle.rht_words.specs.declared.geometry.Geometry.{Geometry}
 use Rattle.rht_words.specs.Places.{IsBucketPlace}
 use Rattle.rht_words.specs.Planned.{IsWord}

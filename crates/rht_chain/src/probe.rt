@@ -1,8 +1,8 @@
 //! Locking a bucket and walking its chain to the first node with a key.
 
-ghost use Rattle.std.specs.Prelude.{◌≡◌};
-ghost use Rattle.rht_words.specs.Places.{IsBucketPlace};
-ghost use Rattle.rht_words.specs.Planned.{IsPlannedIn};
+ghost use Rattle.std.specs.Prelude.{◌≡◌, ◌<◌};
+ghost use Rattle.rht_words.specs.Operations.{op_place};
+ghost use Rattle.rht_words.specs.Places.{IsBucketPlace, words_in};
 ghost use Rattle.rht_chain.specs.Lock.{lock_after};
 ghost use Rattle.rht_chain.specs.LockedWalk.{locked_walk_after};
 ghost use Rattle.rht_chain.specs.Probe.{probe_new, probe_plan, probe_after, probe_after_at, lock_taken, walk_began, walk_taken, IsProbeAtIn, IsProbeEndIn};
@@ -82,10 +82,9 @@ impl Probe {
 
     /// The next operation.
     #[inline(always)]
-    #[tactic(auto, using(crate::proofs::PiecesPlanned::planned_probe_at))]
     pub fn plan(&self) -> Op
         ensures plan { result ≡ probe_plan self.now }
-        ensures planned { IsPlannedIn self.now.geometry result }
+        ensures place { op_place result < words_in self.now.geometry }
     {
         match self.at {
             ProbeAt::Locking { lock } => lock.plan(),

@@ -1,15 +1,15 @@
 -- The word of a bucket is one of the pages' words, whatever shape is read. The buckets of flat tables stand in a row,
 -- and no two have one place.
-use Rattle.std.proofs.Common.{◌≡◌, ℕ, ◌+◌, ◌*◌, ◌<◌, ◌≤◌, cond, true, ap, ◌∙◌, sym, arith}
+use Rattle.std.proofs.Common.{◌≡◌, ℕ, ◌*◌, ◌<◌, refl, true, ◌∙◌, sym, arith}
 use Rattle.std.specs.Prelude.{Option, Some, None, nat_lt}
 use Rattle.std.proofs.lemmas.Bool.{cond_both, ltb-true}
 use Rattle.std.proofs.lemmas.Bool.Decides.{nat_tests}
 use Rattle.rht_words.specs.declared.geometry.Geometry.{Geometry}
-use Rattle.rht_words.specs.Places.{PageWord, place_of, pages_at, words_in}
+use Rattle.rht_words.specs.Places.{PageWord, place_of}
 use Rattle.rht_words.specs.Shapes.{unpacked}
 use Rattle.rht_nest.specs.Place.{bucket_index, bucket_place}
 use Rattle.rht_nest.specs.Locate.{IsBucketOrNone}
-use Rattle.rht_nest.specs.Laws.{first_word, HasBucket, BucketsStandInARow, BucketsNeverMeet}
+use Rattle.rht_nest.specs.Laws.{HasBucket, BucketsStandInARow, BucketsNeverMeet}
 
 -- the place of a bucket's word is that of a word of the pages
 pub bucket_place-in : (g : Geometry) (shape bucket : ℕ) → IsBucketOrNone g (bucket_place g shape bucket)

@@ -1,6 +1,6 @@
 -- Whatever words it is told, the finding of a bucket stays in its table, and what it finds is the table's. It works on
 -- the words of its slot.
-use Rattle.std.proofs.Common.{◌≡◌, ℕ, ◌<◌, refl, sym, subst}
+use Rattle.std.proofs.Common.{ℕ, ◌<◌, sym, subst}
 use Rattle.rht_words.specs.declared.geometry.Geometry.{Geometry}
 use Rattle.rht_words.specs.declared.machine.Next.{Next}
 use Rattle.rht_words.specs.Places.{Slot, ShapeWord, SeedWord}

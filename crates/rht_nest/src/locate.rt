@@ -1,7 +1,8 @@
 //! Finding the word of a port's bucket in the table of a slot.
 
 ghost use Rattle.std.specs.Prelude.{◌≡◌, ◌<◌};
-ghost use Rattle.rht_words.specs.Planned.{IsPlannedIn};
+ghost use Rattle.rht_words.specs.Operations.{op_place};
+ghost use Rattle.rht_words.specs.Places.{words_in};
 ghost use Rattle.rht_nest.specs.Place.{bucket_place};
 ghost use Rattle.rht_nest.specs.Locate.{locate_new, locate_plan, locate_after};
 
@@ -77,10 +78,9 @@ impl Locate {
 
     /// The next operation.
     #[inline(always)]
-    #[tactic(auto, using(crate::proofs::Locates::planned_locate_at))]
     pub fn plan(&self) -> Op
         ensures plan { result ≡ locate_plan self.now }
-        ensures planned { IsPlannedIn self.now.geometry result }
+        ensures place { op_place result < words_in self.now.geometry }
     {
         Op::load(match self.at {
             LocateAt::Shape => places::shape(self.table),
