@@ -1,6 +1,6 @@
 -- What a table is opened with is settled, where its first buckets have room: each number that is set is within
 -- its limits, and so is each that isn't; and the least size is rounded, so that rounding it again changes nothing.
-use Rattle.std.proofs.Common.{◌≡◌, ℕ, ◌*◌, ◌^◌, ◌≤◌, Option, Some, None, unwrap_or, refl, inl, inr, arith}
+use Rattle.std.proofs.Common.{◌≡◌, ℕ, ◌*◌, ◌^◌, ◌<◌, ◌≤◌, Option, Some, None, unwrap_or, refl, inl, inr, arith}
 use Rattle.std.specs.Prelude.{IfSome}
 use Rattle.std.specs.Int.{IsPowerOfTwo}
 use Rattle.std.proofs.lemmas.Bool.{cases_lt}
@@ -66,6 +66,7 @@ module _ (options : Options) (allowed : AreAllowed options) where
         IsLeastSize-rounded_min (unwrap_or options.min 4) (either_way (IsWithin 1 65536) options.min 4 allowed.min (omega arith, omega arith));
     greatest = IsGreatestSize-zero;
     agree = λ some. absurd (some refl);
+    seed = either_way (λ seed. seed < 2 ^ 32) options.seed 1 allowed.seed (omega arith);
     rewalks = either_way (λ rewalks. rewalks ≤ 255) options.rewalks 8 allowed.rewalks (omega arith);
     starts = room;
   }

@@ -1,5 +1,5 @@
 -- Which configs a table can be opened with.
-use Rattle.std.specs.Prelude.{◌≡◌, ◌≢◌, ◌*◌, ◌≤◌}
+use Rattle.std.specs.Prelude.{◌≡◌, ◌≢◌, ◌*◌, ◌^◌, ◌<◌, ◌≤◌}
 use Rattle.rht_words.specs.Limits.{IsGeometry}
 use Rattle.rht_words.specs.Sizes.{IsLeastSize, IsGreatestSize, starting_size}
 use Rattle.rht_words.specs.declared.config.Config.{Config}
@@ -12,6 +12,7 @@ pub record IsSettled (config : Config) : Type 0 where
   pub least : IsLeastSize config.min
   pub greatest : IsGreatestSize config.max
   pub agree : config.max ≢ 0 → config.min ≤ config.max
+  pub seed : config.seed < 2 ^ 32
   pub rewalks : config.rewalks ≤ 255
   pub starts : starting_size config.hint config.min config.max ≤ 64 * config.pages
 
