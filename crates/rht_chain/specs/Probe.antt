@@ -1,5 +1,5 @@
 -- Locking a bucket and walking its chain: what each state performs, and what comes after it.
-use Rattle.std.specs.Prelude.{◌≡◌, ℕ}
+use Rattle.std.specs.Prelude.{◌≡◌, ℕ, Option, None, Some}
 use Rattle.rht_words.specs.declared.op.Op.{Op}
 use Rattle.rht_words.specs.declared.machine.Next.{Next}
 use Rattle.rht_words.specs.declared.machine.Next.TheVariants.{Go, Done}
@@ -64,6 +64,11 @@ abbrev pub probe_after : ProbeModel → ℕ → ProbeModel × Next Probed
 probe_after m word =
     let next = probe_after_at m.geometry m.key m.at word in
     (record m { at = next.0 }, next.1)
+
+-- the place of the bucket that the probe has locked
+abbrev pub lock_of_probe : ProbeAt → Option ℕ
+lock_of_probe (at.Locking lock) = None
+lock_of_probe (at.Walking bucket walk) = Some bucket.place
 
 -- the walk of a bucket of this table, which is locked
 pub record IsWalkOfIn (g : Geometry) (bucket : Locked) (walk : LockedWalkModel) : Type 0 where

@@ -1,2 +1,4 @@
 -- the look-up, state by state
 pub mod Find
+-- what a look-up holds
+pub mod FindHeld

@@ -3,17 +3,16 @@
 ghost use Rattle.std.specs.Prelude.{◌≡◌, ◌<◌};
 ghost use Rattle.rht_words.specs.Operations.{op_place};
 ghost use Rattle.rht_words.specs.Places.{words_in};
-ghost use Rattle.rht_chain.specs.Lock.{lock_after};
-ghost use Rattle.rht_chain.specs.LockedWalk.{locked_walk_after, IsSeenIn};
-ghost use Rattle.rht_find.specs.Find.{find_new, find_plan, find_after, after_at, lock_of, lock_taken, walk_taken, began_walk, walk_seen, unlocking, IsInRange};
+ghost use Rattle.rht_nest.specs.Locate.{locate_after, IsBucketOrNone, IsLocateIn};
+ghost use Rattle.rht_chain.specs.Locked.{IsThenIn};
+ghost use Rattle.rht_chain.specs.Probe.{probe_after};
+ghost use Rattle.rht_find.specs.Find.{find_new, find_plan, find_after, after_at, locating, located, bucket_or_missing, probed, found_or_not, next_table, list_followed, unlocking, unlocked, IsFindAtIn};
 
-use rht_chain::{Lock, Locked, LockedWalk, Seen, Then, Unlock};
+use rht_chain::{Locked, Probe, Then, Unlock};
 use rht_model::Reply;
-use rht_nest::{Bucket, Place};
-use rht_policy::{Mix, bucket_of};
-use rht_words::{
-    Env, Next, Op, Port, Start, node_of, owner_of, places, slot_of, table_of, word_of,
-};
+use rht_nest::Locate;
+use rht_policy::Mix;
+use rht_words::{Env, Next, Op, Port, node_of, owner_of, places, slot_of, table_of, word_of};
 use std::marker::{Model, PhantomData};
 
 /// Where a look-up stands. Each state but those that hold a piece has one operation.
@@ -21,51 +20,36 @@ use std::marker::{Model, PhantomData};
 pub enum FindAt {
     /// Loads which table is the current one.
     CurrentTable,
-    /// Loads the shape of a table, which never changes while the table is in use.
-    Shape {
-        table: u32,
-    },
-    /// Loads the seed of a table, which never changes either, and works out the bucket.
-    Seed {
-        table: u32,
-        shape: u64,
-    },
-    /// Takes the lock of the port's bucket.
-    Locking {
-        table: u32,
-        lock: Lock,
-    },
-    /// Walks the chain of the locked bucket.
-    Walking {
-        table: u32,
-        bucket: Locked,
-        walk: LockedWalk,
-    },
+    /// Finds the port's bucket in a table. Where it is missing, so is the port.
+    Locating { locate: Locate },
+    /// Locks the bucket and walks its chain.
+    Probing { table: u32, probe: Probe },
     /// Loads the future of a table in which the port wasn't found. Where there is none, the port
     /// is missing at this moment.
-    Future {
-        table: u32,
-        bucket: Locked,
-    },
+    Future { table: u32, bucket: Locked },
     /// Loads the owner of the first node with the port. The port is bound to it at this moment.
     FirstOwner {
+        table: u32,
         bucket: Locked,
         node: u32,
     },
     /// Loads the link to the next node of the port's list.
     ListLink {
+        table: u32,
         bucket: Locked,
         node: u32,
         owner: u32,
     },
     /// Loads a later owner, which the answer doesn't need.
     LaterOwner {
+        table: u32,
         bucket: Locked,
         node: u32,
         owner: u32,
     },
     /// Unlocks the bucket.
     Unlocking {
+        table: u32,
         unlock: Unlock,
         then: Then<Reply>,
     },
@@ -83,13 +67,13 @@ pub struct Find<M: Mix> {
 }
 
 impl<M: Mix> Model for Find<M> {
-    ghost use Rattle.rht_find.specs.Find.{FindModel, IsInRange};
+    ghost use Rattle.rht_find.specs.Find.{FindModel, IsFindAtIn};
 
     ghost Value = { FindModel };
 
     ghost view = { λ m. record { env = m.env; caller = m.caller; port = m.port; at = m.at } };
 
-    ghost invariant = { λ m. IsInRange m.env m.at };
+    ghost invariant = { λ m. IsFindAtIn m.env m.at };
 }
 
 impl<M: Mix> Find<M> {
@@ -107,6 +91,21 @@ impl<M: Mix> Find<M> {
         }
     }
 
+    /// The machine in another state.
+    #[inline(always)]
+    pub fn with(&self, at: FindAt) -> Find<M>
+        requires { IsFindAtIn self.now.env at }
+        ensures { result ≡ record self.now { at = at } }
+    {
+        Find {
+            env: self.env,
+            caller: self.caller,
+            port: self.port,
+            at,
+            mix: PhantomData,
+        }
+    }
+
     /// The next operation.
     #[inline(always)]
     pub fn plan(&self) -> Op
@@ -115,26 +114,14 @@ impl<M: Mix> Find<M> {
     {
         let geometry = self.env.geometry;
         match self.at {
-            FindAt::CurrentTable => Op::Load {
-                place: places::current_table(),
-            },
-            FindAt::Shape { table } => Op::Load {
-                place: places::shape(table),
-            },
-            FindAt::Seed { table, .. } => Op::Load {
-                place: places::seed(table),
-            },
-            FindAt::Locking { lock, .. } => lock.plan(),
-            FindAt::Walking { walk, .. } => walk.plan(),
-            FindAt::Future { table, .. } => Op::Load {
-                place: places::future(table),
-            },
-            FindAt::FirstOwner { node, .. } | FindAt::LaterOwner { node, .. } => Op::Load {
-                place: geometry.owner(node),
-            },
-            FindAt::ListLink { node, .. } => Op::Load {
-                place: geometry.list_link(node),
-            },
+            FindAt::CurrentTable => Op::load(places::current_table()),
+            FindAt::Locating { locate } => locate.plan(),
+            FindAt::Probing { probe, .. } => probe.plan(),
+            FindAt::Future { table, .. } => Op::load(places::future(table)),
+            FindAt::FirstOwner { node, .. } | FindAt::LaterOwner { node, .. } => {
+                Op::load(geometry.owner(node))
+            }
+            FindAt::ListLink { node, .. } => Op::load(geometry.list_link(node)),
             FindAt::Unlocking { unlock, .. } => unlock.plan(),
         }
     }
@@ -152,161 +139,184 @@ impl<M: Mix> Find<M> {
 
 /// Where the look-up stands after a state that found this value, and what it says.
 #[inline(always)]
+#[tactic(auto, using(crate::proofs::FindStays::find_stays))]
 fn after<M: Mix>(env: Env, port: Port, at: &FindAt, old: u64) -> (FindAt, Next<Reply>)
-    requires { IsInRange env at.now }
+    requires { IsFindAtIn env at.now }
     ensures after { result ≡ after_at M.mix_of env port at.now old }
-    ensures range { IsInRange env result.0 }
+    ensures range { IsFindAtIn env result.0 }
 {
-    let nodes = env.geometry.nodes;
     let next = match *at {
-        FindAt::CurrentTable => FindAt::Shape {
-            table: table_of(old),
-        },
-        FindAt::Shape { table } => FindAt::Seed { table, shape: old },
-        FindAt::Seed { table, shape } => FindAt::Locking {
-            table,
-            lock: lock_of::<M>(env, port, shape, old),
-        },
-        FindAt::Locking { table, lock } => lock_taken(env, port, table, lock, old),
-        FindAt::Walking {
+        FindAt::CurrentTable => locating(env, table_of(old)),
+        FindAt::Locating { locate } => return located::<M>(env, port, locate, old),
+        FindAt::Probing { table, probe } => probed(table, probe, old),
+        FindAt::Future { table, bucket } => unlocking(table, bucket, next_table(slot_of(old))),
+        FindAt::FirstOwner {
             table,
             bucket,
-            walk,
-        } => walk_taken(env, table, bucket, walk, old),
-        FindAt::Future { bucket, .. } => unlocking(
-            bucket,
-            match slot_of(old) {
-                Some(table) => Then::Table(table),
-                None => Then::Answer(Reply::Missing),
-            },
-        ),
-        FindAt::FirstOwner { bucket, node } => FindAt::ListLink {
+            node,
+        } => FindAt::ListLink {
+            table,
             bucket,
             node,
             owner: owner_of(old),
         },
-        FindAt::ListLink { bucket, owner, .. } => match node_of(nodes, old) {
-            Some(node) => FindAt::LaterOwner {
-                bucket,
-                node,
-                owner,
-            },
-            None => unlocking(bucket, Then::Answer(Reply::Found { owner })),
-        },
+        FindAt::ListLink {
+            table,
+            bucket,
+            owner,
+            ..
+        } => list_followed(table, bucket, owner, node_of(env.geometry.nodes, old)),
         FindAt::LaterOwner {
+            table,
             bucket,
             node,
             owner,
         } => FindAt::ListLink {
+            table,
             bucket,
             node,
             owner,
         },
         FindAt::Unlocking {
-            then: Then::Table(table),
-            ..
-        } => FindAt::Shape { table },
-        FindAt::Unlocking {
-            then: Then::Answer(reply),
-            ..
-        } => return (*at, Next::Done(reply)),
+            table,
+            unlock,
+            then,
+        } => return unlocked(env, table, unlock, then),
     };
     (next, Next::Go)
 }
 
-/// The lock of the port's bucket in a table with this shape and this seed.
+/// The port's bucket in the table of this slot is looked for.
 #[inline(always)]
-fn lock_of<M: Mix>(env: Env, port: Port, shape: u64, seed: u64) -> Lock
-    ensures lock { result ≡ lock_of M.mix_of env port shape seed }
-    ensures within { result.place < words_in env.geometry }
+pub fn locating(env: Env, table: u32) -> FindAt
+    requires { table < 8 }
+    ensures { result ≡ locating env table }
 {
-    match Place::new(env.geometry, shape, bucket_of::<M>(port, shape, seed)) {
-        Start::Done(Bucket::At(place)) => Lock::new(place),
-        _ => unreachable!(),
+    FindAt::Locating {
+        locate: Locate::new(env.geometry, table),
     }
 }
 
-/// After an operation of the lock: where it was taken the walk begins.
+/// After an operation that looks for the bucket: once it is known it is locked.
 #[inline(always)]
-fn lock_taken(env: Env, port: Port, table: u32, lock: Lock, old: u64) -> FindAt
-    requires table { table < 8 }
-    requires place { lock.place < words_in env.geometry }
-    ensures after { result ≡ lock_taken env port table (lock_after lock old).0 (lock_after lock old).1 }
-    ensures range { IsInRange env result }
+fn located<M: Mix>(env: Env, port: Port, locate: Locate, old: u64) -> (FindAt, Next<Reply>)
+    requires { IsLocateIn env.geometry locate }
+    ensures { result ≡ located env port (locate_after M.mix_of port locate old).0 (locate_after M.mix_of port locate old).1 }
 {
-    let (lock, next) = lock.after(old);
+    let (locate, next) = locate.after::<M>(port, old);
     match next {
-        Next::Go => FindAt::Locking { table, lock },
-        Next::Done(word) => {
-            let bucket = Locked {
-                place: lock.place(),
-                word,
-            };
-            begin_walk(env, port, table, bucket)
-        }
+        Next::Go => (FindAt::Locating { locate }, Next::Go),
+        Next::Done(found) => bucket_or_missing(env, port, locate, found.place),
     }
 }
 
-/// After an operation of the walk: where it has ended its end is looked at.
+/// The locking of the port's bucket. Where it is missing, so is the port.
 #[inline(always)]
-fn walk_taken(env: Env, table: u32, bucket: Locked, walk: LockedWalk, old: u64) -> FindAt
-    requires table { table < 8 }
-    requires place { bucket.place < words_in env.geometry }
-    requires geometry { walk.geometry ≡ env.geometry }
-    ensures after { result ≡ walk_taken table bucket (locked_walk_after walk old).0 (locked_walk_after walk old).1 }
-    ensures range { IsInRange env result }
+pub fn bucket_or_missing(
+    env: Env,
+    port: Port,
+    locate: Locate,
+    place: Option<usize>,
+) -> (FindAt, Next<Reply>)
+    requires { IsBucketOrNone env.geometry place }
+    ensures { result ≡ bucket_or_missing env port locate place }
 {
-    let (walk, next) = walk.after(old);
+    let Some(place) = place else {
+        return (FindAt::Locating { locate }, Next::Done(Reply::Missing));
+    };
+    let probing = FindAt::Probing {
+        table: locate.table(),
+        probe: Probe::new(env.geometry, place, word_of(port)),
+    };
+    (probing, Next::Go)
+}
+
+/// After an operation in the bucket: where it has ended, what was seen is looked at.
+#[inline(always)]
+fn probed(table: u32, probe: Probe, old: u64) -> FindAt
+    ensures { result ≡ probed table (probe_after probe old).0 (probe_after probe old).1 }
+{
+    let (probe, next) = probe.after(old);
     match next {
-        Next::Go => FindAt::Walking {
+        Next::Go => FindAt::Probing { table, probe },
+        Next::Done(end) => found_or_not(table, end.bucket, end.seen.found),
+    }
+}
+
+/// Where the port was found its owner is loaded, and else the table's future.
+#[inline(always)]
+pub fn found_or_not(table: u32, bucket: Locked, found: Option<u32>) -> FindAt
+    ensures { result ≡ found_or_not table bucket found }
+{
+    match found {
+        Some(node) => FindAt::FirstOwner {
             table,
             bucket,
-            walk,
+            node,
         },
-        Next::Done(seen) => end_walk(env, table, bucket, seen),
-    }
-}
-
-/// The walk of the bucket that has just been locked.
-#[inline(always)]
-fn begin_walk(env: Env, port: Port, table: u32, bucket: Locked) -> FindAt
-    requires table { table < 8 }
-    requires place { bucket.place < words_in env.geometry }
-    ensures walk { result ≡ began_walk env port table bucket }
-    ensures range { IsInRange env result }
-{
-    match LockedWalk::new(env.geometry, bucket.place, bucket.word, word_of(port)) {
-        Start::Running(walk) => FindAt::Walking {
-            table,
-            bucket,
-            walk,
-        },
-        Start::Done(seen) => end_walk(env, table, bucket, seen),
-    }
-}
-
-/// What the walk of a chain leads to.
-#[inline(always)]
-fn end_walk(env: Env, table: u32, bucket: Locked, seen: Seen) -> FindAt
-    requires table { table < 8 }
-    requires place { bucket.place < words_in env.geometry }
-    requires seen { IsSeenIn env.geometry seen }
-    ensures walk { result ≡ walk_seen table bucket seen }
-    ensures range { IsInRange env result }
-{
-    match seen.found {
-        Some(node) => FindAt::FirstOwner { bucket, node },
         None => FindAt::Future { table, bucket },
+    }
+}
+
+/// A future table is looked through next. Where there is none, the port is missing.
+#[inline(always)]
+pub fn next_table(future: Option<u32>) -> Then<Reply>
+    ensures { result ≡ next_table future }
+{
+    match future {
+        Some(table) => Then::Table(table),
+        None => Then::Answer(Reply::Missing),
+    }
+}
+
+/// The later owners of a list are gone through, to its end.
+#[inline(always)]
+pub fn list_followed(table: u32, bucket: Locked, owner: u32, next: Option<u32>) -> FindAt
+    ensures { result ≡ list_followed table bucket owner next }
+{
+    match next {
+        Some(node) => FindAt::LaterOwner {
+            table,
+            bucket,
+            node,
+            owner,
+        },
+        None => unlocking(table, bucket, Then::Answer(Reply::Found { owner })),
     }
 }
 
 /// The unlocking of the bucket, and what comes after it.
 #[inline(always)]
-fn unlocking(bucket: Locked, then: Then<Reply>) -> FindAt
-    ensures { result ≡ unlocking bucket then }
+pub fn unlocking(table: u32, bucket: Locked, then: Then<Reply>) -> FindAt
+    ensures { result ≡ unlocking table bucket then }
 {
     FindAt::Unlocking {
+        table,
         unlock: Unlock::new(bucket.place, bucket.word),
         then,
+    }
+}
+
+/// Behind the unlocking the look-up goes on in the future table, or has its answer.
+#[inline(always)]
+pub fn unlocked(
+    env: Env,
+    table: u32,
+    unlock: Unlock,
+    then: Then<Reply>,
+) -> (FindAt, Next<Reply>)
+    requires { IsThenIn then }
+    ensures { result ≡ unlocked env table unlock then }
+{
+    match then {
+        Then::Table(next) => (locating(env, next), Next::Go),
+        Then::Answer(reply) => (
+            FindAt::Unlocking {
+                table,
+                unlock,
+                then,
+            },
+            Next::Done(reply),
+        ),
     }
 }

@@ -7,7 +7,10 @@
 
 mod find;
 
-pub use find::{Find, FindAt};
+pub use find::{
+    Find, FindAt, bucket_or_missing, found_or_not, list_followed, locating, next_table, unlocked,
+    unlocking,
+};
 
 #[cfg(test)]
 mod tests;

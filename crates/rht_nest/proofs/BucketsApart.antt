@@ -12,8 +12,8 @@ use Rattle.rht_nest.specs.Locate.{IsBucketOrNone}
 use Rattle.rht_nest.specs.Laws.{HasBucket, BucketsStandInARow, BucketsNeverMeet}
 
 -- the place of a bucket's word is that of a word of the pages
-pub bucket_place-in : (g : Geometry) (shape bucket : ℕ) → IsBucketOrNone g (bucket_place g shape bucket)
-bucket_place-in g shape bucket =
+pub bucket_is_in : (g : Geometry) (shape bucket : ℕ) → IsBucketOrNone g (bucket_place g shape bucket)
+bucket_is_in g shape bucket =
     let index = bucket_index shape bucket in
     cond_both (nat_lt index (64 * g.pages)) (Some (place_of g (PageWord index))) None (IsBucketOrNone g)
     (λ t. let below : index < 64 * g.pages = ltb-true index (64 * g.pages) t in (omega arith, omega arith))

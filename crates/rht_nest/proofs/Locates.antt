@@ -12,7 +12,7 @@ use Rattle.rht_nest.specs.Locate.{LocateModel, locate_plan, locate_plan_at, loca
 use Rattle.rht_nest.specs.declared.locate.LocateAt.{LocateAt}
 use Rattle.rht_nest.specs.declared.locate.LocateAt.TheVariants as at
 use Rattle.rht_nest.specs.declared.locate.Located.{Located}
-use Rattle.rht_nest.proofs.BucketsApart.{bucket_place-in}
+use Rattle.rht_nest.proofs.BucketsApart.{bucket_is_in}
 
 -- the machine stays in its table, and what it finds is the table's
 pub record LocateStays (g : Geometry) (next : LocateModel × Next Located) : Type 0 where
@@ -34,7 +34,7 @@ module _ (mix : ℕ → ℕ → ℕ → ℕ) (port : ℕ) (g : Geometry) where
           shape_in = here;
           place_in =
               subst (λ (h : Geometry). IsBucketOrNone g (bucket_place h shape bucket)) (sym within.geometry_same)
-              (bucket_place-in g shape bucket);
+              (bucket_is_in g shape bucket);
         };
       }
 

@@ -4,7 +4,7 @@ ghost use Rattle.std.specs.Prelude.{◌≡◌, ◌<◌};
 ghost use Rattle.rht_words.specs.Operations.{op_place};
 ghost use Rattle.rht_words.specs.Places.{words_in};
 ghost use Rattle.rht_nest.specs.Place.{bucket_place};
-ghost use Rattle.rht_nest.specs.Locate.{locate_new, locate_plan, locate_after};
+ghost use Rattle.rht_nest.specs.Locate.{locate_new, locate_plan, locate_after, IsLocateAtIn, IsLocateEndIn, IsBucketOrNone};
 
 use crate::place::{Bucket, Place};
 use rht_policy::{Mix, bucket_of};
@@ -39,7 +39,7 @@ pub struct Locate {
 
 impl Model for Locate {
     ghost use Rattle.std.specs.Prelude.{◌<◌};
-    ghost use Rattle.rht_nest.specs.Locate.{LocateModel};
+    ghost use Rattle.rht_nest.specs.Locate.{LocateModel, IsLocateAtIn};
 
     ghost Value = { LocateModel };
 
@@ -47,7 +47,7 @@ impl Model for Locate {
 
     ghost inverse = { λ m. record { geometry = m.geometry; table = m.table; at = m.at } };
 
-    ghost invariant = { λ m. m.table < 8 };
+    ghost invariant = { λ m. (m.table < 8) × IsLocateAtIn m.at };
 }
 
 impl Locate {
@@ -64,9 +64,19 @@ impl Locate {
         }
     }
 
+    /// The slot of the table.
+    #[inline(always)]
+    pub fn table(&self) -> u32
+        ensures table { result ≡ self.now.table }
+        ensures slot { result < 8 }
+    {
+        self.table
+    }
+
     /// The machine in another state.
     #[inline(always)]
     pub fn with(&self, at: LocateAt) -> Locate
+        requires { IsLocateAtIn at }
         ensures { result ≡ record self.now { at = at } }
     {
         Locate {
@@ -91,7 +101,8 @@ impl Locate {
     /// Takes in the word's old value, for this port.
     #[inline(always)]
     pub fn after<M: Mix>(self, port: Port, old: u64) -> (Locate, Next<Located>)
-        ensures { result ≡ locate_after M.mix_of port self old }
+        ensures after { result ≡ locate_after M.mix_of port self old }
+        ensures found { IsLocateEndIn self.geometry result.1 }
     {
         match self.at {
             LocateAt::Shape => (self.with(LocateAt::Seed { shape: old }), Next::Go),
@@ -106,8 +117,10 @@ impl Locate {
 
 /// The place of a bucket's word in a table of this shape, where it has one.
 #[inline(always)]
+#[tactic(auto, using(crate::proofs::BucketsApart::bucket_is_in))]
 pub fn place_of(geometry: Geometry, shape: u64, bucket: u32) -> Option<usize>
-    ensures { result ≡ bucket_place geometry shape bucket }
+    ensures place { result ≡ bucket_place geometry shape bucket }
+    ensures within { IsBucketOrNone geometry result }
 {
     match Place::new(geometry, shape, bucket) {
         Start::Running(place) => match place {},

@@ -1,5 +1,5 @@
 -- What a call holds between two of its operations, beside the words that it was told.
-use Rattle.std.specs.Prelude.{ℕ, Bool, Option, List}
+use Rattle.std.specs.Prelude.{ℕ, Bool, false, Option, None, Some, List, []}
 
 -- An answer is what the call will say once it has ended: it is held from the operation on that decides it.
 pub record Held (Answer : Type 0) : Type 0 where
@@ -18,3 +18,21 @@ pub record Held (Answer : Type 0) : Type 0 where
   pub pages : List ℕ
   -- its answer, once it is known
   pub answer : Option Answer
+
+-- nothing is held, and no answer is known
+abbrev pub holds_nothing : {Answer : Type 0} → Held Answer
+holds_nothing = record {
+  node = None;
+  lock = None;
+  second = None;
+  raised = false;
+  worker = false;
+  moving = false;
+  slot = None;
+  pages = [];
+  answer = None;
+}
+
+-- the call has ended with this answer, and holds nothing
+abbrev pub ended_with : {Answer : Type 0} → Answer → Held Answer
+ended_with answer = record holds_nothing { answer = Some answer }

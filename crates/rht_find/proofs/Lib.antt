@@ -1,0 +1,4 @@
+-- whatever words it is told, a look-up stays in its table
+pub mod FindStays
+-- on which words a look-up works
+pub mod FindPlanned
