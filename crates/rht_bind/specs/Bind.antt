@@ -1,29 +1,31 @@
 -- The binding of a port to an owner: what each state performs, and what comes after it.
-use Rattle.std.specs.Prelude.{◌≡◌, ℕ, ◌+◌, ◌<◌, Bool, min, Option, None, Some, if◌then◌else◌}
+use Rattle.std.specs.Prelude.{◌≡◌, ℕ, ◌+◌, ◌^◌, ◌<◌, Bool, min, Option, None, Some, if◌then◌else◌}
 use Rattle.rht_words.specs.declared.op.Op.{Op}
 use Rattle.rht_words.specs.declared.op.Op.TheVariants.{Load, Store, Add}
 use Rattle.rht_words.specs.declared.machine.Next.{Next}
 use Rattle.rht_words.specs.declared.machine.Next.TheVariants.{Go, Done}
-use Rattle.rht_words.specs.declared.machine.Start.{Start}
-use Rattle.rht_words.specs.declared.machine.Start.TheVariants as starts
 use Rattle.rht_words.specs.declared.env.Env.{Env}
+use Rattle.rht_words.specs.declared.geometry.Geometry.{Geometry}
 use Rattle.rht_words.specs.Links.{table_of, slot_of, link_of, head_of}
+use Rattle.rht_words.specs.Planned.{IsWord}
 use Rattle.rht_words.specs.Ports.{word_of, owner_of}
 use Rattle.rht_words.specs.Shapes.{size_of, unpacked}
-use Rattle.rht_words.specs.Places.{CurrentTable, PortCount, Slot, ShapeWord, SeedWord, FutureWord, Node, ChainLink, KeyWord, OwnerWord, ListLink, place_of, words_in}
-use Rattle.rht_policy.specs.Mix.{bucket_of}
+use Rattle.rht_words.specs.Places.{CurrentTable, PortCount, Slot, FutureWord, Node, ChainLink, OwnerWord, place_of}
 use Rattle.rht_policy.specs.Thresholds.{is_above_75, is_above_max}
-use Rattle.rht_nest.specs.Place.{bucket_place}
-use Rattle.rht_arena.specs.TakeNode.{TakeNodeModel, take_node_new, take_node_plan, take_node_after}
-use Rattle.rht_arena.specs.GiveNode.{give_node_plan}
-use Rattle.rht_chain.specs.Lock.{LockModel, lock_new, lock_plan, lock_after}
-use Rattle.rht_chain.specs.LockedWalk.{LockedWalkModel, locked_walk_new, locked_walk_plan, locked_walk_after}
-use Rattle.rht_chain.specs.Unlock.{unlock_plan}
+use Rattle.rht_nest.specs.Locate.{LocateModel, locate_new, locate_plan, locate_after, IsLocateIn}
+use Rattle.rht_nest.specs.declared.locate.Located.{Located}
+use Rattle.rht_arena.specs.NewNode.{NewNodeModel, new_node_new, new_node_plan, new_node_after, IsNewNodeIn}
+use Rattle.rht_arena.specs.GiveNode.{give_node_plan, IsGiveIn}
+use Rattle.rht_chain.specs.Probe.{ProbeModel, probe_new, probe_plan, probe_after, IsProbeIn}
+use Rattle.rht_chain.specs.declared.probe.Probed.{Probed}
+use Rattle.rht_chain.specs.Relink.{RelinkModel, relink_new, relink_plan, relink_after, IsRelinkIn}
+use Rattle.rht_chain.specs.Unlock.{unlock_plan, IsUnlockIn}
+use Rattle.rht_chain.specs.declared.unlock.Unlock.{Unlock}
+use Rattle.rht_chain.specs.Locked.{IsLockedIn, IsThenIn}
 use Rattle.rht_chain.specs.declared.locked.Then.{Then}
 use Rattle.rht_chain.specs.declared.locked.Then.TheVariants.{Table, Answer}
-use Rattle.rht_chain.specs.declared.locked_walk.Seen.{Seen}
 use Rattle.rht_model.specs.declared.history.Reply.{Reply}
-use Rattle.rht_model.specs.declared.history.Reply.TheVariants.{Bound, Exists, TooBig, NoNode}
+use Rattle.rht_model.specs.declared.history.Reply.TheVariants.{Bound, Exists, TooBig, NoTable, NoNode}
 use Rattle.rht_bind.specs.declared.bind.Claimed.{Claimed}
 use Rattle.rht_bind.specs.declared.bind.BindAt.{BindAt}
 use Rattle.rht_bind.specs.declared.bind.BindAt.TheVariants as at
@@ -37,77 +39,73 @@ pub record BindModel : Type 0 where
   pub once : Bool
   pub at : BindAt
 
--- it begins by taking a node
+-- it begins with a new node of the port and the owner
+abbrev pub first_state : Env → ℕ → ℕ → BindAt
+first_state env port owner = at.Filling (new_node_new env.geometry (word_of port) owner)
+
 abbrev pub bind_new : Env → ℕ → ℕ → ℕ → Bool → BindModel
 bind_new env caller port owner once =
-    record { env = env; caller = caller; port = port; owner = owner; once = once; at = at.Taking (take_node_new env.geometry) }
+    record { env = env; caller = caller; port = port; owner = owner; once = once; at = first_state env port owner }
 
 -- the state's one operation
-abbrev pub plan_at : Env → ℕ → ℕ → BindAt → Op
-plan_at env port owner (at.Taking take) = take_node_plan take
-plan_at env port owner (at.Key node) = Store (place_of env.geometry (Node node KeyWord)) (word_of port)
-plan_at env port owner (at.Owner node) = Store (place_of env.geometry (Node node OwnerWord)) owner
-plan_at env port owner (at.ListLink node) = Store (place_of env.geometry (Node node ListLink)) 0
-plan_at env port owner (at.CurrentTable node) = Load (place_of env.geometry CurrentTable)
-plan_at env port owner (at.Shape node table) = Load (place_of env.geometry (Slot table ShapeWord))
-plan_at env port owner (at.Seed node table shape) = Load (place_of env.geometry (Slot table SeedWord))
-plan_at env port owner (at.Locking node table shape lock) = lock_plan lock
-plan_at env port owner (at.Walking table claimed walk) = locked_walk_plan walk
-plan_at env port owner (at.FoundOwner claimed found) = Load (place_of env.geometry (Node found OwnerWord))
-plan_at env port owner (at.Future table claimed) = Load (place_of env.geometry (Slot table FutureWord))
-plan_at env port owner (at.Count claimed) = Load (place_of env.geometry PortCount)
-plan_at env port owner (at.Link claimed) =
+abbrev pub plan_at : Env → BindAt → Op
+plan_at env (at.Filling new) = new_node_plan new
+plan_at env (at.CurrentTable node) = Load (place_of env.geometry CurrentTable)
+plan_at env (at.Locating node locate) = locate_plan locate
+plan_at env (at.Probing node table shape probe) = probe_plan probe
+plan_at env (at.FoundOwner claimed found) = Load (place_of env.geometry (Node found OwnerWord))
+plan_at env (at.Future claimed length) = Load (place_of env.geometry (Slot claimed.table FutureWord))
+plan_at env (at.Count claimed) = Load (place_of env.geometry PortCount)
+plan_at env (at.Link claimed) =
     Store (place_of env.geometry (Node claimed.node ChainLink)) (head_of claimed.bucket.place claimed.bucket.word)
-plan_at env port owner (at.Raise claimed) = Add (place_of env.geometry PortCount) 1
-plan_at env port owner (at.Publish claimed kick) = Store claimed.bucket.place (link_of claimed.node)
-plan_at env port owner (at.Unlocking node unlock next) = unlock_plan unlock
-plan_at env port owner (at.Giving give reply) = give_node_plan give
+plan_at env (at.Raise claimed) = Add (place_of env.geometry PortCount) 1
+plan_at env (at.Publish node table relink kick) = relink_plan relink
+plan_at env (at.Unlocking node table unlock next) = unlock_plan unlock
+plan_at env (at.Giving give reply) = give_node_plan give
 
 abbrev pub bind_plan : BindModel → Op
-bind_plan m = plan_at m.env m.port m.owner m.at
+bind_plan m = plan_at m.env m.at
 
--- where a node was taken its words are stored; where none was free the bind ends
-abbrev pub node_taken : TakeNodeModel → Next (Option ℕ) → BindAt × Next Reply
-node_taken take Go = (at.Taking take, Go)
-node_taken take (Done None) = (at.Taking take, Done NoNode)
-node_taken take (Done (Some node)) = (at.Key node, Go)
+-- with a new node the current table is looked for; where no node was free the bind ends
+abbrev pub filled : NewNodeModel → Next (Option ℕ) → BindAt × Next Reply
+filled new Go = (at.Filling new, Go)
+filled new (Done None) = (at.Filling new, Done NoNode)
+filled new (Done (Some node)) = (at.CurrentTable node, Go)
 
--- the lock of the port's bucket in a table with these words for its shape and its seed
-abbrev pub lock_of : (ℕ → ℕ → ℕ → ℕ) → Env → ℕ → ℕ → ℕ → LockModel
-lock_of mix env port shape seed = lock_new (bucket_place env.geometry shape (bucket_of mix port shape seed))
+-- the port's bucket in the table of this slot is looked for
+abbrev pub locating : Env → ℕ → ℕ → BindAt
+locating env node table = at.Locating node (locate_new env.geometry table)
+
+-- the node is given back, and then the bind ends with this reply
+abbrev pub giving : Env → ℕ → Reply → BindAt
+giving env node reply = at.Giving (record { geometry = env.geometry; node = node }) reply
+
+-- a bucket that is there is locked; where it is missing there is no table of this size for the port
+abbrev pub bucket_or_no_table : Env → ℕ → ℕ → ℕ → ℕ → Option ℕ → BindAt
+bucket_or_no_table env port node table shape None = giving env node (NoTable (size_of (unpacked shape)))
+bucket_or_no_table env port node table shape (Some place) =
+    at.Probing node table shape (probe_new env.geometry place (word_of port))
+
+-- what comes after an operation that looks for the bucket
+abbrev pub located : Env → ℕ → ℕ → LocateModel → Next Located → BindAt
+located env port node locate Go = at.Locating node locate
+located env port node locate (Done there) = bucket_or_no_table env port node locate.table there.shape there.place
 
 -- where the port was found its owner is loaded, and else the table's future
-abbrev pub found_or_not : ℕ → Claimed → Option ℕ → BindAt
-found_or_not table claimed None = at.Future table claimed
-found_or_not table claimed (Some found) = at.FoundOwner claimed found
+abbrev pub owner_or_future : Claimed → Option ℕ → ℕ → BindAt
+owner_or_future claimed None length = at.Future claimed length
+owner_or_future claimed (Some found) length = at.FoundOwner claimed found
 
-abbrev pub walk_seen : ℕ → Claimed → Seen → BindAt
-walk_seen table claimed seen = found_or_not table claimed seen.found
-
--- the walk of the bucket that has just been locked
-abbrev pub walk_or_seen : ℕ → Claimed → Start LockedWalkModel Seen → BindAt
-walk_or_seen table claimed (starts.Running walk) = at.Walking table claimed walk
-walk_or_seen table claimed (starts.Done seen) = walk_seen table claimed seen
-
-abbrev pub began_walk : Env → ℕ → ℕ → Claimed → BindAt
-began_walk env port table claimed =
-    walk_or_seen table claimed (locked_walk_new env.geometry claimed.bucket.place claimed.bucket.word (word_of port))
-
--- where the lock was taken the walk begins
-abbrev pub lock_taken : Env → ℕ → ℕ → ℕ → ℕ → LockModel → Next ℕ → BindAt
-lock_taken env port node table shape lock Go = at.Locking node table shape lock
-lock_taken env port node table shape lock (Done word) =
-    began_walk env port table record { node = node; shape = shape; bucket = record { place = lock.place; word = word } }
-
--- where the walk has ended its end is looked at
-abbrev pub walk_taken : ℕ → Claimed → LockedWalkModel → Next Seen → BindAt
-walk_taken table claimed walk Go = at.Walking table claimed walk
-walk_taken table claimed walk (Done seen) = walk_seen table claimed seen
+-- what comes after an operation in the bucket
+abbrev pub probed : ℕ → ℕ → ℕ → ProbeModel → Next Probed → BindAt
+probed node table shape probe Go = at.Probing node table shape probe
+probed node table shape probe (Done end) =
+    owner_or_future (record { node = node; table = table; shape = shape; bucket = end.bucket }) end.seen.found end.seen.length
 
 -- the bucket is unlocked without a change, and then the bind goes on or gives its node back
 abbrev pub unlocking : Claimed → Then Reply → BindAt
 unlocking claimed next =
-    at.Unlocking claimed.node (record { place = claimed.bucket.place; word = claimed.bucket.word }) next
+    at.Unlocking claimed.node claimed.table (record { place = claimed.bucket.place; word = claimed.bucket.word }) next
 
 -- a future table is looked through next; where there is none the ports are counted
 abbrev pub future_or_count : Claimed → Option ℕ → BindAt
@@ -123,32 +121,38 @@ checked_count env claimed count =
 abbrev pub kicks : Env → ℕ → ℕ → Bool
 kicks env shape count = is_above_75 (min count 65535 + 1) (size_of (unpacked shape)) env.config.max
 
+-- the node becomes the bucket's first
+abbrev pub publishing : Env → Claimed → Bool → BindAt
+publishing env claimed kick =
+    let link = link_of claimed.node in
+    at.Publish claimed.node claimed.table (relink_new env.geometry claimed.bucket.place claimed.bucket.word None link) kick
+
+-- with the last store the port is bound and the bucket unlocked
+abbrev pub published : ℕ → ℕ → Bool → RelinkModel → Next (Unit {0}) → BindAt × Next Reply
+published node table kick relink Go = (at.Publish node table relink kick, Go)
+published node table kick relink (Done done) = (at.Publish node table relink kick, Done (Bound kick))
+
 -- behind the unlocking the bind goes on in the future table, or gives its node back
-abbrev pub after_unlock : Env → ℕ → Then Reply → BindAt
-after_unlock env node (Table table) = at.Shape node table
-after_unlock env node (Answer reply) = at.Giving (record { geometry = env.geometry; node = node }) reply
+abbrev pub unlocked : Env → ℕ → Then Reply → BindAt
+unlocked env node (Table table) = locating env node table
+unlocked env node (Answer reply) = giving env node reply
 
 -- where the bind stands after a state that found this word, and what it says
 abbrev pub after_at : (ℕ → ℕ → ℕ → ℕ) → Env → ℕ → BindAt → ℕ → BindAt × Next Reply
-after_at mix env port (at.Taking take) word = node_taken (take_node_after take word).0 (take_node_after take word).1
-after_at mix env port (at.Key node) word = (at.Owner node, Go)
-after_at mix env port (at.Owner node) word = (at.ListLink node, Go)
-after_at mix env port (at.ListLink node) word = (at.CurrentTable node, Go)
-after_at mix env port (at.CurrentTable node) word = (at.Shape node (table_of word), Go)
-after_at mix env port (at.Shape node table) word = (at.Seed node table word, Go)
-after_at mix env port (at.Seed node table shape) word =
-    (at.Locking node table shape (lock_of mix env port shape word), Go)
-after_at mix env port (at.Locking node table shape lock) word =
-    (lock_taken env port node table shape (lock_after lock word).0 (lock_after lock word).1, Go)
-after_at mix env port (at.Walking table claimed walk) word =
-    (walk_taken table claimed (locked_walk_after walk word).0 (locked_walk_after walk word).1, Go)
+after_at mix env port (at.Filling new) word = filled (new_node_after new word).0 (new_node_after new word).1
+after_at mix env port (at.CurrentTable node) word = (locating env node (table_of word), Go)
+after_at mix env port (at.Locating node locate) word =
+    (located env port node (locate_after mix port locate word).0 (locate_after mix port locate word).1, Go)
+after_at mix env port (at.Probing node table shape probe) word =
+    (probed node table shape (probe_after probe word).0 (probe_after probe word).1, Go)
 after_at mix env port (at.FoundOwner claimed found) word = (unlocking claimed (Answer (Exists (owner_of word))), Go)
-after_at mix env port (at.Future table claimed) word = (future_or_count claimed (slot_of word), Go)
+after_at mix env port (at.Future claimed length) word = (future_or_count claimed (slot_of word), Go)
 after_at mix env port (at.Count claimed) word = (checked_count env claimed word, Go)
 after_at mix env port (at.Link claimed) word = (at.Raise claimed, Go)
-after_at mix env port (at.Raise claimed) word = (at.Publish claimed (kicks env claimed.shape word), Go)
-after_at mix env port (at.Publish claimed kick) word = (at.Publish claimed kick, Done (Bound kick))
-after_at mix env port (at.Unlocking node unlock next) word = (after_unlock env node next, Go)
+after_at mix env port (at.Raise claimed) word = (publishing env claimed (kicks env claimed.shape word), Go)
+after_at mix env port (at.Publish node table relink kick) word =
+    published node table kick (relink_after relink).0 (relink_after relink).1
+after_at mix env port (at.Unlocking node table unlock next) word = (unlocked env node next, Go)
 after_at mix env port (at.Giving give reply) word = (at.Giving give reply, Done reply)
 
 abbrev pub moved : BindModel → BindAt × Next Reply → BindModel × Next Reply
@@ -157,34 +161,64 @@ moved m next = (record m { at = next.0 }, next.1)
 abbrev pub bind_after : (ℕ → ℕ → ℕ → ℕ) → BindModel → ℕ → BindModel × Next Reply
 bind_after mix m word = moved m (after_at mix m.env m.port m.at word)
 
--- what the bind holds is the table's
-pub record IsClaimedIn (env : Env) (claimed : Claimed) : Type 0 where
-  pub node_in : claimed.node < env.geometry.nodes
-  pub place_in : claimed.bucket.place < words_in env.geometry
+-- ---- what a bind names
 
--- the table that comes next is one of the slots
-abbrev pub IsTableOf : Then Reply → Type 0
-IsTableOf (Table table) = table < 8
-IsTableOf (Answer reply) = Unit {0}
+-- the node that it has taken, with which it looks for a bucket
+pub record IsLocatingIn (g : Geometry) (node : ℕ) (locate : LocateModel) : Type 0 where
+  pub node_in : node < g.nodes
+  pub locate_in : IsLocateIn g locate
 
--- each slot, node and place that the state names is one of the table's
-abbrev pub IsInRange : Env → BindAt → Type 0
-IsInRange env (at.Taking take) = take.geometry ≡ env.geometry
-IsInRange env (at.Key node) = node < env.geometry.nodes
-IsInRange env (at.Owner node) = node < env.geometry.nodes
-IsInRange env (at.ListLink node) = node < env.geometry.nodes
-IsInRange env (at.CurrentTable node) = node < env.geometry.nodes
-IsInRange env (at.Shape node table) = (node < env.geometry.nodes) × (table < 8)
-IsInRange env (at.Seed node table shape) = (node < env.geometry.nodes) × (table < 8)
-IsInRange env (at.Locking node table shape lock) =
-    (node < env.geometry.nodes) × (table < 8) × (lock.place < words_in env.geometry)
-IsInRange env (at.Walking table claimed walk) = (table < 8) × IsClaimedIn env claimed × (walk.geometry ≡ env.geometry)
-IsInRange env (at.FoundOwner claimed found) = IsClaimedIn env claimed × (found < env.geometry.nodes)
-IsInRange env (at.Future table claimed) = (table < 8) × IsClaimedIn env claimed
-IsInRange env (at.Count claimed) = IsClaimedIn env claimed
-IsInRange env (at.Link claimed) = IsClaimedIn env claimed
-IsInRange env (at.Raise claimed) = IsClaimedIn env claimed
-IsInRange env (at.Publish claimed kick) = IsClaimedIn env claimed
-IsInRange env (at.Unlocking node unlock next) =
-    (node < env.geometry.nodes) × (unlock.place < words_in env.geometry) × IsTableOf next
-IsInRange env (at.Giving give reply) = give.geometry ≡ env.geometry
+-- and with which it locks a bucket of a table and walks it
+pub record IsProbingIn (g : Geometry) (node table shape : ℕ) (probe : ProbeModel) : Type 0 where
+  pub node_in : node < g.nodes
+  pub table_in : table < 8
+  pub shape_in : IsWord shape
+  pub probe_in : IsProbeIn g probe
+
+-- what it holds in a bucket is the table's
+pub record IsClaimedIn (g : Geometry) (claimed : Claimed) : Type 0 where
+  pub node_in : claimed.node < g.nodes
+  pub table_in : claimed.table < 8
+  pub shape_in : IsWord claimed.shape
+  pub bucket_in : IsLockedIn g claimed.bucket
+
+-- and so is the node that it has found there
+pub record IsFoundIn (g : Geometry) (claimed : Claimed) (found : ℕ) : Type 0 where
+  pub claimed_in : IsClaimedIn g claimed
+  pub found_in : found < g.nodes
+
+-- it links its node into a bucket of a table
+pub record IsPublishingIn (g : Geometry) (node table : ℕ) (relink : RelinkModel) : Type 0 where
+  pub node_in : node < g.nodes
+  pub table_in : table < 8
+  pub relink_in : IsRelinkIn g relink
+
+-- it unlocks a bucket of a table
+pub record IsUnlockingIn (g : Geometry) (node table : ℕ) (unlock : Unlock) (next : Then Reply) : Type 0 where
+  pub node_in : node < g.nodes
+  pub table_in : table < 8
+  pub unlock_in : IsUnlockIn g unlock
+  pub then_in : IsThenIn next
+
+-- all that the state names is the table's: slots, nodes and buckets; and the words that it keeps are words
+abbrev pub IsBindAtIn : Env → BindAt → Type 0
+IsBindAtIn env (at.Filling new) = IsNewNodeIn env.geometry new
+IsBindAtIn env (at.CurrentTable node) = node < env.geometry.nodes
+IsBindAtIn env (at.Locating node locate) = IsLocatingIn env.geometry node locate
+IsBindAtIn env (at.Probing node table shape probe) = IsProbingIn env.geometry node table shape probe
+IsBindAtIn env (at.FoundOwner claimed found) = IsFoundIn env.geometry claimed found
+IsBindAtIn env (at.Future claimed length) = IsClaimedIn env.geometry claimed
+IsBindAtIn env (at.Count claimed) = IsClaimedIn env.geometry claimed
+IsBindAtIn env (at.Link claimed) = IsClaimedIn env.geometry claimed
+IsBindAtIn env (at.Raise claimed) = IsClaimedIn env.geometry claimed
+IsBindAtIn env (at.Publish node table relink kick) = IsPublishingIn env.geometry node table relink
+IsBindAtIn env (at.Unlocking node table unlock next) = IsUnlockingIn env.geometry node table unlock next
+IsBindAtIn env (at.Giving give reply) = IsGiveIn env.geometry give
+
+-- a bind of this caller in this table, all that its state names being the table's
+pub record IsBindIn (env : Env) (caller : ℕ) (m : BindModel) : Type 0 where
+  pub same_env : m.env ≡ env
+  pub same_caller : m.caller ≡ caller
+  pub port_in : m.port < 2 ^ 32
+  pub owner_in : m.owner < 2 ^ 32
+  pub at_in : IsBindAtIn env m.at

@@ -3,27 +3,31 @@
 ghost use Rattle.std.specs.Prelude.{◌≡◌, ◌<◌};
 ghost use Rattle.rht_words.specs.Operations.{op_place};
 ghost use Rattle.rht_words.specs.Places.{words_in};
-ghost use Rattle.rht_chain.specs.Lock.{lock_after};
-ghost use Rattle.rht_chain.specs.LockedWalk.{locked_walk_after, IsSeenIn};
-ghost use Rattle.rht_arena.specs.TakeNode.{take_node_after};
-ghost use Rattle.rht_bind.specs.Bind.{bind_new, bind_plan, bind_after, after_at, node_taken, lock_of, lock_taken, walk_taken, began_walk, walk_seen, checked_count, kicks, unlocking, after_unlock, IsInRange, IsClaimedIn, IsTableOf};
+ghost use Rattle.rht_words.specs.Planned.{IsWord};
+ghost use Rattle.rht_nest.specs.Locate.{locate_after, IsBucketOrNone, IsLocateIn};
+ghost use Rattle.rht_arena.specs.NewNode.{new_node_after};
+ghost use Rattle.rht_chain.specs.Locked.{IsThenIn};
+ghost use Rattle.rht_chain.specs.Probe.{probe_after};
+ghost use Rattle.rht_chain.specs.Relink.{relink_after};
+ghost use Rattle.rht_bind.specs.Bind.{bind_new, bind_plan, bind_after, after_at, filled, locating, giving, bucket_or_no_table, located, owner_or_future, probed, unlocking, future_or_count, checked_count, kicks, publishing, published, unlocked, IsBindAtIn, IsClaimedIn};
 
-use rht_arena::{GiveNode, TakeNode};
-use rht_chain::{Lock, Locked, LockedWalk, Seen, Then, Unlock};
+use rht_arena::{GiveNode, NewNode};
+use rht_chain::{Locked, Probe, Relink, Then, Unlock};
 use rht_model::Reply;
-use rht_nest::{Bucket, Place};
-use rht_policy::{Mix, above_75, above_max, bucket_of};
+use rht_nest::Locate;
+use rht_policy::{Mix, above_75, above_max};
 use rht_words::{
-    Env, Next, Op, Port, Shape, Start, head_of, link_of, owner_of, places, slot_of, table_of,
-    word_of,
+    Env, Next, Op, Port, Shape, head_of, link_of, owner_of, places, slot_of, table_of, word_of,
 };
 use std::marker::{Model, PhantomData};
 
-/// What a bind that has locked a bucket of the last table holds.
+/// What a bind that has locked a bucket holds.
 #[derive(Clone, Copy, Debug, PartialEq, Eq)]
 pub struct Claimed {
     /// The node that it has taken.
     pub node: u32,
+    /// The slot of the table.
+    pub table: u32,
     /// The table's shape.
     pub shape: u64,
     /// The bucket that it has locked.
@@ -33,93 +37,51 @@ pub struct Claimed {
 /// Where a bind stands. Each state but those that hold a piece has one operation.
 #[derive(Clone, Copy, Debug, PartialEq, Eq)]
 pub enum BindAt {
-    /// Takes a free node.
-    Taking {
-        take: TakeNode,
-    },
-    /// Stores the port's key word in the node, which nobody else sees yet.
-    Key {
-        node: u32,
-    },
-    /// Stores the owner in the node.
-    Owner {
-        node: u32,
-    },
-    /// Stores in the node that no other node of the port is behind it.
-    ListLink {
-        node: u32,
-    },
+    /// Takes a free node and stores the port and the owner in it.
+    Filling { new: NewNode },
     /// Loads which table is the current one.
-    CurrentTable {
-        node: u32,
-    },
-    /// Loads the shape of a table, which never changes while the table is in use.
-    Shape {
-        node: u32,
-        table: u32,
-    },
-    /// Loads the seed of a table, which never changes either, and works out the bucket.
-    Seed {
+    CurrentTable { node: u32 },
+    /// Finds the port's bucket in a table. Where it is missing the bind is refused.
+    Locating { node: u32, locate: Locate },
+    /// Locks the bucket and walks its chain.
+    Probing {
         node: u32,
         table: u32,
         shape: u64,
-    },
-    /// Takes the lock of the port's bucket.
-    Locking {
-        node: u32,
-        table: u32,
-        shape: u64,
-        lock: Lock,
-    },
-    /// Walks the chain of the locked bucket.
-    Walking {
-        table: u32,
-        claimed: Claimed,
-        walk: LockedWalk,
+        probe: Probe,
     },
     /// Loads the owner of the node that was found. The port is bound to it at this moment.
-    FoundOwner {
-        claimed: Claimed,
-        found: u32,
-    },
-    /// Loads the future of a table in which the port wasn't found. Where there is none, no table
-    /// binds the port, and none will while this bucket is locked.
-    Future {
-        table: u32,
-        claimed: Claimed,
-    },
+    FoundOwner { claimed: Claimed, found: u32 },
+    /// Loads the future of a table in which the port wasn't found, in a chain of this length. Where
+    /// there is none, no table binds the port, and none will while this bucket is locked.
+    Future { claimed: Claimed, length: u32 },
     /// Loads how many ports are bound.
-    Count {
-        claimed: Claimed,
-    },
+    Count { claimed: Claimed },
     /// Stores the bucket's first link in the node, which nobody else sees yet.
-    Link {
-        claimed: Claimed,
-    },
+    Link { claimed: Claimed },
     /// Raises how many ports are bound.
-    Raise {
-        claimed: Claimed,
-    },
+    Raise { claimed: Claimed },
     /// Makes the node the bucket's first, and unlocks the bucket. The port is bound from here on.
     Publish {
-        claimed: Claimed,
+        node: u32,
+        table: u32,
+        relink: Relink,
         kick: bool,
     },
     /// Unlocks the bucket without a change.
     Unlocking {
         node: u32,
+        table: u32,
         unlock: Unlock,
         then: Then<Reply>,
     },
     /// Gives the node back.
-    Giving {
-        give: GiveNode,
-        reply: Reply,
-    },
+    Giving { give: GiveNode, reply: Reply },
 }
 
-/// A bind of one port to one owner. The answers are `Bound`, `Exists`, `NoNode` and `TooBig`. The
-/// kernel's counterpart is `rhashtable_lookup_insert_key`.
+/// A bind of one port to one owner. The answers are `Bound`, `Exists`, `NoNode` and `TooBig`, and
+/// `NoTable` where the port's bucket is missing, which it is in no run yet. The kernel's
+/// counterpart is `rhashtable_lookup_insert_key`.
 #[derive(Drop)]
 pub struct Bind<M: Mix> {
     env: Env,
@@ -132,13 +94,13 @@ pub struct Bind<M: Mix> {
 }
 
 impl<M: Mix> Model for Bind<M> {
-    ghost use Rattle.rht_bind.specs.Bind.{BindModel, IsInRange};
+    ghost use Rattle.rht_bind.specs.Bind.{BindModel, IsBindAtIn};
 
     ghost Value = { BindModel };
 
     ghost view = { λ m. record { env = m.env; caller = m.caller; port = m.port; owner = m.owner; once = m.once; at = m.at } };
 
-    ghost invariant = { λ m. IsInRange m.env m.at };
+    ghost invariant = { λ m. IsBindAtIn m.env m.at };
 }
 
 impl<M: Mix> Bind<M> {
@@ -153,9 +115,26 @@ impl<M: Mix> Bind<M> {
             port,
             owner,
             once,
-            at: BindAt::Taking {
-                take: TakeNode::new(env.geometry),
+            at: BindAt::Filling {
+                new: NewNode::new(env.geometry, word_of(port), owner),
             },
+            mix: PhantomData,
+        }
+    }
+
+    /// The machine in another state.
+    #[inline(always)]
+    pub fn with(&self, at: BindAt) -> Bind<M>
+        requires { IsBindAtIn self.now.env at }
+        ensures { result ≡ record self.now { at = at } }
+    {
+        Bind {
+            env: self.env,
+            caller: self.caller,
+            port: self.port,
+            owner: self.owner,
+            once: self.once,
+            at,
             mix: PhantomData,
         }
     }
@@ -168,51 +147,19 @@ impl<M: Mix> Bind<M> {
     {
         let geometry = self.env.geometry;
         match self.at {
-            BindAt::Taking { take } => take.plan(),
-            BindAt::Key { node } => Op::Store {
-                place: geometry.key(node),
-                value: word_of(self.port),
-            },
-            BindAt::Owner { node } => Op::Store {
-                place: geometry.owner(node),
-                value: u64::from(self.owner),
-            },
-            BindAt::ListLink { node } => Op::Store {
-                place: geometry.list_link(node),
-                value: 0,
-            },
-            BindAt::CurrentTable { .. } => Op::Load {
-                place: places::current_table(),
-            },
-            BindAt::Shape { table, .. } => Op::Load {
-                place: places::shape(table),
-            },
-            BindAt::Seed { table, .. } => Op::Load {
-                place: places::seed(table),
-            },
-            BindAt::Locking { lock, .. } => lock.plan(),
-            BindAt::Walking { walk, .. } => walk.plan(),
-            BindAt::FoundOwner { found, .. } => Op::Load {
-                place: geometry.owner(found),
-            },
-            BindAt::Future { table, .. } => Op::Load {
-                place: places::future(table),
-            },
-            BindAt::Count { .. } => Op::Load {
-                place: places::port_count(),
-            },
-            BindAt::Link { claimed } => Op::Store {
-                place: geometry.chain_link(claimed.node),
-                value: head_of(claimed.bucket.place, claimed.bucket.word),
-            },
-            BindAt::Raise { .. } => Op::Add {
-                place: places::port_count(),
-                by: 1,
-            },
-            BindAt::Publish { claimed, .. } => Op::Store {
-                place: claimed.bucket.place,
-                value: link_of(claimed.node),
-            },
+            BindAt::Filling { new } => new.plan(),
+            BindAt::CurrentTable { .. } => Op::load(places::current_table()),
+            BindAt::Locating { locate, .. } => locate.plan(),
+            BindAt::Probing { probe, .. } => probe.plan(),
+            BindAt::FoundOwner { found, .. } => Op::load(geometry.owner(found)),
+            BindAt::Future { claimed, .. } => Op::load(places::future(claimed.table)),
+            BindAt::Count { .. } => Op::load(places::port_count()),
+            BindAt::Link { claimed } => {
+                let Locked { place, word } = claimed.bucket;
+                Op::store(geometry.chain_link(claimed.node), head_of(place, word))
+            }
+            BindAt::Raise { .. } => Op::add(places::port_count(), 1),
+            BindAt::Publish { relink, .. } => relink.plan(),
             BindAt::Unlocking { unlock, .. } => unlock.plan(),
             BindAt::Giving { give, .. } => give.plan(),
         }
@@ -220,6 +167,7 @@ impl<M: Mix> Bind<M> {
 
     /// Takes in the word's old value.
     #[inline(always)]
+    #[tactic(auto, using(crate::proofs::BindStays::bind_stays))]
     pub fn take(&mut self, old: u64) -> Next<Reply>
         ensures { (self.new, result) ≡ bind_after M.mix_of self.old old }
     {
@@ -232,192 +180,158 @@ impl<M: Mix> Bind<M> {
 /// Where the bind stands after a state that found this value, and what it says.
 #[inline(always)]
 fn after<M: Mix>(env: Env, port: Port, at: &BindAt, old: u64) -> (BindAt, Next<Reply>)
-    requires { IsInRange env at.now }
-    ensures after { result ≡ after_at M.mix_of env port at.now old }
-    ensures range { IsInRange env result.0 }
+    requires { IsBindAtIn env at.now }
+    ensures { result ≡ after_at M.mix_of env port at.now old }
 {
     let next = match *at {
-        BindAt::Taking { take } => return node_taken(env, take, old),
-        BindAt::Key { node } => BindAt::Owner { node },
-        BindAt::Owner { node } => BindAt::ListLink { node },
-        BindAt::ListLink { node } => BindAt::CurrentTable { node },
-        BindAt::CurrentTable { node } => BindAt::Shape {
-            node,
-            table: table_of(old),
-        },
-        BindAt::Shape { node, table } => BindAt::Seed {
-            node,
-            table,
-            shape: old,
-        },
-        BindAt::Seed { node, table, shape } => BindAt::Locking {
+        BindAt::Filling { new } => return filled(new, old),
+        BindAt::CurrentTable { node } => locating(env, node, table_of(old)),
+        BindAt::Locating { node, locate } => located::<M>(env, port, node, locate, old),
+        BindAt::Probing {
             node,
             table,
             shape,
-            lock: lock_of::<M>(env, port, shape, old),
-        },
-        BindAt::Locking {
-            node,
-            table,
-            shape,
-            lock,
-        } => lock_taken(env, port, node, table, shape, lock, old),
-        BindAt::Walking {
-            table,
-            claimed,
-            walk,
-        } => walk_taken(env, table, claimed, walk, old),
+            probe,
+        } => probed(node, table, shape, probe, old),
         BindAt::FoundOwner { claimed, .. } => {
-            let reply = Reply::Exists {
-                owner: owner_of(old),
-            };
-            unlocking(claimed, Then::Answer(reply))
+            let owner = owner_of(old);
+            unlocking(claimed, Then::Answer(Reply::Exists { owner }))
         }
-        BindAt::Future { claimed, .. } => match slot_of(old) {
-            Some(table) => unlocking(claimed, Then::Table(table)),
-            None => BindAt::Count { claimed },
-        },
+        BindAt::Future { claimed, .. } => future_or_count(claimed, slot_of(old)),
         BindAt::Count { claimed } => checked_count(env, claimed, old),
         BindAt::Link { claimed } => BindAt::Raise { claimed },
-        BindAt::Raise { claimed } => BindAt::Publish {
-            claimed,
-            kick: kicks(env, claimed.shape, old),
-        },
-        BindAt::Publish { kick, .. } => return (*at, Next::Done(Reply::Bound { kick })),
-        BindAt::Unlocking { node, then, .. } => after_unlock(env, node, then),
+        BindAt::Raise { claimed } => publishing(env, claimed, kicks(env, claimed.shape, old)),
+        BindAt::Publish {
+            node,
+            table,
+            relink,
+            kick,
+        } => return published(node, table, kick, relink),
+        BindAt::Unlocking { node, then, .. } => unlocked(env, node, then),
         BindAt::Giving { reply, .. } => return (*at, Next::Done(reply)),
     };
     (next, Next::Go)
 }
 
-/// After an operation of the taking of a node. Where no node is free the bind ends.
+/// After an operation on the new node. Where no node is free the bind ends.
 #[inline(always)]
-fn node_taken(env: Env, take: TakeNode, old: u64) -> (BindAt, Next<Reply>)
-    requires { take.geometry ≡ env.geometry }
-    ensures after { result ≡ node_taken (take_node_after take old).0 (take_node_after take old).1 }
-    ensures range { IsInRange env result.0 }
+fn filled(new: NewNode, old: u64) -> (BindAt, Next<Reply>)
+    ensures { result ≡ filled (new_node_after new old).0 (new_node_after new old).1 }
 {
-    let (take, next) = take.after(old);
+    let (new, next) = new.after(old);
     match next {
-        Next::Go => (BindAt::Taking { take }, Next::Go),
-        Next::Done(Some(node)) => (BindAt::Key { node }, Next::Go),
-        Next::Done(None) => (BindAt::Taking { take }, Next::Done(Reply::NoNode)),
+        Next::Go => (BindAt::Filling { new }, Next::Go),
+        Next::Done(Some(node)) => (BindAt::CurrentTable { node }, Next::Go),
+        Next::Done(None) => (BindAt::Filling { new }, Next::Done(Reply::NoNode)),
     }
 }
 
-/// The lock of the port's bucket in a table with this shape and this seed.
+/// The port's bucket in the table of this slot is looked for.
 #[inline(always)]
-fn lock_of<M: Mix>(env: Env, port: Port, shape: u64, seed: u64) -> Lock
-    ensures lock { result ≡ lock_of M.mix_of env port shape seed }
-    ensures within { result.place < words_in env.geometry }
+pub fn locating(env: Env, node: u32, table: u32) -> BindAt
+    requires { table < 8 }
+    ensures { result ≡ locating env node table }
 {
-    match Place::new(env.geometry, shape, bucket_of::<M>(port, shape, seed)) {
-        Start::Done(Bucket::At(place)) => Lock::new(place),
-        _ => unreachable!(),
+    let locate = Locate::new(env.geometry, table);
+    BindAt::Locating { node, locate }
+}
+
+/// After an operation that looks for the bucket: once it is known it is locked.
+#[inline(always)]
+fn located<M: Mix>(env: Env, port: Port, node: u32, locate: Locate, old: u64) -> BindAt
+    requires node { node < env.geometry.nodes }
+    requires locate { IsLocateIn env.geometry locate }
+    ensures { result ≡ located env port node (locate_after M.mix_of port locate old).0 (locate_after M.mix_of port locate old).1 }
+{
+    let (locate, next) = locate.after::<M>(port, old);
+    match next {
+        Next::Go => BindAt::Locating { node, locate },
+        Next::Done(there) => {
+            bucket_or_no_table(env, port, node, locate.table(), there.shape, there.place)
+        }
     }
 }
 
-/// After an operation of the lock: where it was taken the walk begins.
+/// The locking of the port's bucket. Where it is missing, the node is given back.
 #[inline(always)]
-fn lock_taken(
+pub fn bucket_or_no_table(
     env: Env,
     port: Port,
     node: u32,
     table: u32,
     shape: u64,
-    lock: Lock,
-    old: u64,
+    place: Option<usize>,
 ) -> BindAt
     requires node { node < env.geometry.nodes }
-    requires table { table < 8 }
-    requires place { lock.place < words_in env.geometry }
-    ensures after { result ≡ lock_taken env port node table shape (lock_after lock old).0 (lock_after lock old).1 }
-    ensures range { IsInRange env result }
+    requires place { IsBucketOrNone env.geometry place }
+    ensures { result ≡ bucket_or_no_table env port node table shape place }
 {
-    let (lock, next) = lock.after(old);
-    match next {
-        Next::Go => BindAt::Locking {
+    match place {
+        Some(place) => BindAt::Probing {
             node,
             table,
             shape,
-            lock,
+            probe: Probe::new(env.geometry, place, word_of(port)),
         },
-        Next::Done(word) => {
-            let bucket = Locked {
-                place: lock.place(),
-                word,
-            };
-            let claimed = Claimed {
-                node,
-                shape,
-                bucket,
-            };
-            begin_walk(env, port, table, claimed)
+        None => {
+            let size = Shape::from(shape).size();
+            giving(env, node, Reply::NoTable { size })
         }
     }
 }
 
-/// The walk of the bucket that has just been locked.
+/// After an operation in the bucket: where it has ended, what was seen is looked at.
 #[inline(always)]
-fn begin_walk(env: Env, port: Port, table: u32, claimed: Claimed) -> BindAt
-    requires table { table < 8 }
-    requires claimed { IsClaimedIn env claimed }
-    ensures walk { result ≡ began_walk env port table claimed }
-    ensures range { IsInRange env result }
+fn probed(node: u32, table: u32, shape: u64, probe: Probe, old: u64) -> BindAt
+    ensures { result ≡ probed node table shape (probe_after probe old).0 (probe_after probe old).1 }
 {
-    let Locked { place, word } = claimed.bucket;
-    match LockedWalk::new(env.geometry, place, word, word_of(port)) {
-        Start::Running(walk) => BindAt::Walking {
-            table,
-            claimed,
-            walk,
-        },
-        Start::Done(seen) => end_walk(env, table, claimed, seen),
-    }
-}
-
-/// After an operation of the walk: where it has ended its end is looked at.
-#[inline(always)]
-fn walk_taken(env: Env, table: u32, claimed: Claimed, walk: LockedWalk, old: u64) -> BindAt
-    requires table { table < 8 }
-    requires claimed { IsClaimedIn env claimed }
-    requires geometry { walk.geometry ≡ env.geometry }
-    ensures after { result ≡ walk_taken table claimed (locked_walk_after walk old).0 (locked_walk_after walk old).1 }
-    ensures range { IsInRange env result }
-{
-    let (walk, next) = walk.after(old);
+    let (probe, next) = probe.after(old);
     match next {
-        Next::Go => BindAt::Walking {
+        Next::Go => BindAt::Probing {
+            node,
             table,
-            claimed,
-            walk,
+            shape,
+            probe,
         },
-        Next::Done(seen) => end_walk(env, table, claimed, seen),
+        Next::Done(end) => {
+            let claimed = Claimed {
+                node,
+                table,
+                shape,
+                bucket: end.bucket,
+            };
+            owner_or_future(claimed, end.seen.found, end.seen.length)
+        }
     }
 }
 
-/// What the walk of a chain leads to.
+/// Where the port was found its owner is loaded, and else the table's future.
 #[inline(always)]
-fn end_walk(env: Env, table: u32, claimed: Claimed, seen: Seen) -> BindAt
-    requires table { table < 8 }
-    requires claimed { IsClaimedIn env claimed }
-    requires seen { IsSeenIn env.geometry seen }
-    ensures walk { result ≡ walk_seen table claimed seen }
-    ensures range { IsInRange env result }
+pub fn owner_or_future(claimed: Claimed, found: Option<u32>, length: u32) -> BindAt
+    ensures { result ≡ owner_or_future claimed found length }
 {
-    match seen.found {
+    match found {
         Some(found) => BindAt::FoundOwner { claimed, found },
-        None => BindAt::Future { table, claimed },
+        None => BindAt::Future { claimed, length },
+    }
+}
+
+/// A future table is looked through next. Where there is none, the ports are counted.
+#[inline(always)]
+pub fn future_or_count(claimed: Claimed, future: Option<u32>) -> BindAt
+    ensures { result ≡ future_or_count claimed future }
+{
+    match future {
+        Some(table) => unlocking(claimed, Then::Table(table)),
+        None => BindAt::Count { claimed },
     }
 }
 
 /// After the count of ports was loaded: a table that is full refuses the bind. The count is cut to
 /// the most ports that there can be, which no run passes; the refusal names it as it was loaded.
 #[inline(always)]
-fn checked_count(env: Env, claimed: Claimed, count: u64) -> BindAt
-    requires claimed { IsClaimedIn env claimed }
-    ensures after { result ≡ checked_count env claimed count }
-    ensures range { IsInRange env result }
+pub fn checked_count(env: Env, claimed: Claimed, count: u64) -> BindAt
+    ensures { result ≡ checked_count env claimed count }
 {
     if above_max(count.min(65_536), env.config.max) {
         unlocking(claimed, Then::Answer(Reply::TooBig { count }))
@@ -429,7 +343,7 @@ fn checked_count(env: Env, claimed: Claimed, count: u64) -> BindAt
 /// Whether a table of this shape is due to grow once the count, which was this, has been raised.
 /// The count is cut so that with one more it is at most the most ports that there can be.
 #[inline(always)]
-fn kicks(env: Env, shape: u64, count: u64) -> bool
+pub fn kicks(env: Env, shape: u64, count: u64) -> bool
     ensures { result ≡ kicks env shape count }
 {
     above_75(
@@ -439,13 +353,46 @@ fn kicks(env: Env, shape: u64, count: u64) -> bool
     )
 }
 
+/// The linking of the node, which becomes the bucket's first.
+#[inline(always)]
+pub fn publishing(env: Env, claimed: Claimed, kick: bool) -> BindAt
+    ensures { result ≡ publishing env claimed kick }
+{
+    let Locked { place, word } = claimed.bucket;
+    BindAt::Publish {
+        node: claimed.node,
+        table: claimed.table,
+        relink: Relink::new(env.geometry, place, word, None, link_of(claimed.node)),
+        kick,
+    }
+}
+
+/// After a store of the linking. With the last one the bind has its answer.
+#[inline(always)]
+fn published(node: u32, table: u32, kick: bool, relink: Relink) -> (BindAt, Next<Reply>)
+    ensures { result ≡ published node table kick (relink_after relink).0 (relink_after relink).1 }
+{
+    let (relink, next) = relink.after();
+    let at = BindAt::Publish {
+        node,
+        table,
+        relink,
+        kick,
+    };
+    match next {
+        Next::Go => (at, Next::Go),
+        Next::Done(()) => (at, Next::Done(Reply::Bound { kick })),
+    }
+}
+
 /// The unlocking of the bucket, and what comes after it.
 #[inline(always)]
-fn unlocking(claimed: Claimed, then: Then<Reply>) -> BindAt
+pub fn unlocking(claimed: Claimed, then: Then<Reply>) -> BindAt
     ensures { result ≡ unlocking claimed then }
 {
     BindAt::Unlocking {
         node: claimed.node,
+        table: claimed.table,
         unlock: Unlock::new(claimed.bucket.place, claimed.bucket.word),
         then,
     }
@@ -454,17 +401,23 @@ fn unlocking(claimed: Claimed, then: Then<Reply>) -> BindAt
 /// After the bucket was unlocked without a change: the bind goes on in the future table, or gives
 /// its node back.
 #[inline(always)]
-fn after_unlock(env: Env, node: u32, then: Then<Reply>) -> BindAt
+pub fn unlocked(env: Env, node: u32, then: Then<Reply>) -> BindAt
     requires node { node < env.geometry.nodes }
-    requires table { IsTableOf then }
-    ensures after { result ≡ after_unlock env node then }
-    ensures range { IsInRange env result }
+    requires table { IsThenIn then }
+    ensures { result ≡ unlocked env node then }
 {
     match then {
-        Then::Table(table) => BindAt::Shape { node, table },
-        Then::Answer(reply) => BindAt::Giving {
-            give: GiveNode::new(env.geometry, node),
-            reply,
-        },
+        Then::Table(table) => locating(env, node, table),
+        Then::Answer(reply) => giving(env, node, reply),
     }
+}
+
+/// The giving back of the node, behind which the bind has this answer.
+#[inline(always)]
+pub fn giving(env: Env, node: u32, reply: Reply) -> BindAt
+    requires { node < env.geometry.nodes }
+    ensures { result ≡ giving env node reply }
+{
+    let give = GiveNode::new(env.geometry, node);
+    BindAt::Giving { give, reply }
 }

@@ -7,7 +7,10 @@
 
 mod bind;
 
-pub use bind::{Bind, BindAt, Claimed};
+pub use bind::{
+    Bind, BindAt, Claimed, bucket_or_no_table, checked_count, future_or_count, giving, kicks,
+    locating, owner_or_future, publishing, unlocked, unlocking,
+};
 
 #[cfg(test)]
 mod tests;

@@ -1,5 +1,4 @@
 -- On which words a look-up works, a case a state: those of slots, nodes and buckets. What it stores is a word.
-use Rattle.std.proofs.Common.{ℕ}
 use Rattle.rht_words.specs.declared.env.Env.{Env}
 use Rattle.rht_words.specs.Places.{CurrentTable, Slot, FutureWord, Node, OwnerWord, ListLink}
 use Rattle.rht_words.specs.Planned.{IsPlannedIn}

@@ -22,7 +22,7 @@ use Rattle.rht_chain.specs.declared.locked.Then.TheVariants.{Table, Answer}
 use Rattle.rht_chain.specs.declared.unlock.Unlock.{Unlock}
 use Rattle.rht_chain.proofs.PiecesStay.{ProbeIsIn, probe_stays}
 use Rattle.rht_model.specs.declared.history.Reply.{Reply}
-use Rattle.rht_find.specs.Find.{after_at, bucket_or_missing, located, found_or_not, probed, unlocking, next_table, list_followed, unlocked, IsInBucket, IsAtNode, IsLeavingBucket, IsFindAtIn}
+use Rattle.rht_find.specs.Find.{after_at, bucket_or_missing, located, found_or_not, probed, unlocking, next_table, list_followed, unlocked, IsLeavingBucket, IsFindAtIn}
 use Rattle.rht_find.specs.declared.find.FindAt.{FindAt}
 use Rattle.rht_find.specs.declared.find.FindAt.TheVariants as at
 

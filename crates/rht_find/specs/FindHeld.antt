@@ -1,28 +1,22 @@
 -- What a look-up holds in each of its states: the lock of a bucket, and its answer once it is known.
-use Rattle.std.specs.Prelude.{ℕ, Option, None, Some}
+use Rattle.std.specs.Prelude.{ℕ, Option, Some, option_map}
 use Rattle.rht_words.specs.Held.{Held, holds_nothing, ended_with}
 use Rattle.rht_words.specs.declared.machine.Next.{Next}
 use Rattle.rht_words.specs.declared.machine.Next.TheVariants.{Go, Done}
 use Rattle.rht_chain.specs.Probe.{lock_of_probe}
-use Rattle.rht_chain.specs.declared.locked.Then.{Then}
-use Rattle.rht_chain.specs.declared.locked.Then.TheVariants.{Table, Answer}
-use Rattle.rht_model.specs.Answers.{Answer as AnswerOf, plain}
+use Rattle.rht_chain.specs.Locked.{answer_behind}
+use Rattle.rht_model.specs.Answers.{Answer, plain}
 use Rattle.rht_model.specs.declared.history.Reply.{Reply}
 use Rattle.rht_find.specs.Find.{FindModel}
 use Rattle.rht_find.specs.declared.find.FindAt.{FindAt}
 use Rattle.rht_find.specs.declared.find.FindAt.TheVariants as at
 
 -- the lock of the bucket at this place, where there is one
-abbrev pub holds_lock : Option ℕ → Held AnswerOf
+abbrev pub holds_lock : Option ℕ → Held Answer
 holds_lock lock = record holds_nothing { lock = lock }
 
--- the answer that is given behind the unlocking
-abbrev pub answer_behind : Then Reply → Option AnswerOf
-answer_behind (Table table) = None
-answer_behind (Answer reply) = Some (plain reply)
-
--- it holds what its state says
-abbrev pub held_of_find : FindAt → Held AnswerOf
+-- what it holds in a state
+abbrev pub held_of_find : FindAt → Held Answer
 held_of_find at.CurrentTable = holds_nothing
 held_of_find (at.Locating locate) = holds_nothing
 held_of_find (at.Probing table probe) = holds_lock (lock_of_probe probe.at)
@@ -30,9 +24,9 @@ held_of_find (at.Future table bucket) = holds_lock (Some bucket.place)
 held_of_find (at.FirstOwner table bucket node) = holds_lock (Some bucket.place)
 held_of_find (at.ListLink table bucket node owner) = holds_lock (Some bucket.place)
 held_of_find (at.LaterOwner table bucket node owner) = holds_lock (Some bucket.place)
-held_of_find (at.Unlocking table unlock next) = record holds_nothing { lock = Some unlock.place; answer = answer_behind next }
+held_of_find (at.Unlocking table unlock next) = record holds_nothing { lock = Some unlock.place; answer = option_map plain (answer_behind next) }
 
 -- and after an operation; once it has ended it holds nothing, and its answer is known
-abbrev pub held_next : FindModel × Next Reply → Held AnswerOf
+abbrev pub held_next : FindModel × Next Reply → Held Answer
 held_next (m, Go) = held_of_find m.at
 held_next (m, Done reply) = ended_with (plain reply)

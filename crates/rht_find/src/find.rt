@@ -128,6 +128,7 @@ impl<M: Mix> Find<M> {
 
     /// Takes in the word's old value.
     #[inline(always)]
+    #[tactic(auto, using(crate::proofs::FindStays::find_stays))]
     pub fn take(&mut self, old: u64) -> Next<Reply>
         ensures { (self.new, result) ≡ find_after M.mix_of self.old old }
     {
@@ -139,11 +140,9 @@ impl<M: Mix> Find<M> {
 
 /// Where the look-up stands after a state that found this value, and what it says.
 #[inline(always)]
-#[tactic(auto, using(crate::proofs::FindStays::find_stays))]
 fn after<M: Mix>(env: Env, port: Port, at: &FindAt, old: u64) -> (FindAt, Next<Reply>)
     requires { IsFindAtIn env at.now }
-    ensures after { result ≡ after_at M.mix_of env port at.now old }
-    ensures range { IsFindAtIn env result.0 }
+    ensures { result ≡ after_at M.mix_of env port at.now old }
 {
     let next = match *at {
         FindAt::CurrentTable => locating(env, table_of(old)),

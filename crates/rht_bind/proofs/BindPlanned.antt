@@ -1,0 +1,31 @@
+-- On which words a bind works, a case a state: those of the map of nodes, of slots, nodes and buckets, and the count of
+-- ports. What it stores are words.
+use Rattle.std.proofs.Common.{refl, arith}
+use Rattle.rht_words.specs.declared.env.Env.{Env}
+use Rattle.rht_words.specs.Places.{CurrentTable, PortCount, Slot, FutureWord, Node, ChainLink, OwnerWord}
+use Rattle.rht_words.specs.Planned.{IsPlannedIn}
+use Rattle.rht_words.proofs.PlannedWords.{planned-at, planned_load, head_of-fits}
+use Rattle.rht_nest.proofs.Locates.{planned_locate}
+use Rattle.rht_arena.proofs.NodesPlanned.{planned_new_node, planned_give}
+use Rattle.rht_chain.proofs.PiecesPlanned.{planned_probe, planned_relink, planned_unlock}
+use Rattle.rht_bind.specs.Bind.{plan_at, IsBindAtIn}
+use Rattle.rht_bind.specs.declared.bind.BindAt.{BindAt}
+use Rattle.rht_bind.specs.declared.bind.BindAt.TheVariants as at
+
+pub planned_bind : (env : Env) (state : BindAt) → IsBindAtIn env state → IsPlannedIn env.geometry (plan_at env state)
+planned_bind env (at.Filling new) within = planned_new_node env.geometry new within
+planned_bind env (at.CurrentTable node) within = planned_load env.geometry CurrentTable tt tt
+planned_bind env (at.Locating node locate) within = planned_locate env.geometry locate within.locate_in
+planned_bind env (at.Probing node table shape probe) within = planned_probe env.geometry probe within.probe_in
+planned_bind env (at.FoundOwner claimed found) within =
+    planned_load env.geometry (Node found OwnerWord) within.found_in tt
+planned_bind env (at.Future claimed length) within =
+    planned_load env.geometry (Slot claimed.table FutureWord) (within.table_in, tt) tt
+planned_bind env (at.Count claimed) within = planned_load env.geometry PortCount tt tt
+planned_bind env (at.Link claimed) within =
+    planned-at env.geometry _ (Node claimed.node ChainLink) within.node_in tt refl
+    (head_of-fits claimed.bucket.place claimed.bucket.word within.bucket_in.word_in)
+planned_bind env (at.Raise claimed) within = planned-at env.geometry _ PortCount tt tt refl (omega arith)
+planned_bind env (at.Publish node table relink kick) within = planned_relink env.geometry relink within.relink_in
+planned_bind env (at.Unlocking node table unlock next) within = planned_unlock env.geometry unlock within.unlock_in
+planned_bind env (at.Giving give reply) within = planned_give env.geometry give within

@@ -1,0 +1,44 @@
+-- What a bind holds in each of its states: its node until it is linked or given back, the lock of a bucket, the count once
+-- it is raised, and its answer once it is known.
+use Rattle.std.specs.Prelude.{ℕ, Option, None, Some, option_map, true}
+use Rattle.rht_words.specs.Held.{Held, holds_nothing, ended_with}
+use Rattle.rht_words.specs.declared.machine.Next.{Next}
+use Rattle.rht_words.specs.declared.machine.Next.TheVariants.{Go, Done}
+use Rattle.rht_arena.specs.NewNode.{node_of_new}
+use Rattle.rht_chain.specs.Locked.{answer_behind}
+use Rattle.rht_chain.specs.Probe.{lock_of_probe}
+use Rattle.rht_model.specs.Answers.{Answer, plain}
+use Rattle.rht_model.specs.declared.history.Reply.{Reply}
+use Rattle.rht_bind.specs.Bind.{BindModel}
+use Rattle.rht_bind.specs.declared.bind.Claimed.{Claimed}
+use Rattle.rht_bind.specs.declared.bind.BindAt.{BindAt}
+use Rattle.rht_bind.specs.declared.bind.BindAt.TheVariants as at
+
+-- a node, where it has one, and the lock of the bucket at this place, where there is one
+abbrev pub holds_node : Option ℕ → Option ℕ → Held Answer
+holds_node node lock = record holds_nothing { node = node; lock = lock }
+
+abbrev pub holds_claimed : Claimed → Held Answer
+holds_claimed claimed = holds_node (Some claimed.node) (Some claimed.bucket.place)
+
+-- what it holds in a state
+abbrev pub held_of_bind : BindAt → Held Answer
+held_of_bind (at.Filling new) = holds_node (node_of_new new.at) None
+held_of_bind (at.CurrentTable node) = holds_node (Some node) None
+held_of_bind (at.Locating node locate) = holds_node (Some node) None
+held_of_bind (at.Probing node table shape probe) = holds_node (Some node) (lock_of_probe probe.at)
+held_of_bind (at.FoundOwner claimed found) = holds_claimed claimed
+held_of_bind (at.Future claimed length) = holds_claimed claimed
+held_of_bind (at.Count claimed) = holds_claimed claimed
+held_of_bind (at.Link claimed) = holds_claimed claimed
+held_of_bind (at.Raise claimed) = holds_claimed claimed
+held_of_bind (at.Publish node table relink kick) =
+    record holds_nothing { node = Some node; lock = Some relink.place; raised = true }
+held_of_bind (at.Unlocking node table unlock next) =
+    record holds_nothing { node = Some node; lock = Some unlock.place; answer = option_map plain (answer_behind next) }
+held_of_bind (at.Giving give reply) = record holds_nothing { node = Some give.node; answer = Some (plain reply) }
+
+-- and after an operation; once it has ended it holds nothing, and its answer is known
+abbrev pub held_next : BindModel × Next Reply → Held Answer
+held_next (m, Go) = held_of_bind m.at
+held_next (m, Done reply) = ended_with (plain reply)
