@@ -9,8 +9,7 @@ use Rattle.rht_words.specs.declared.env.Env.{Env}
 use Rattle.rht_words.proofs.EachElement.{AllByRecursion-replicate}
 use Rattle.rht_words.proofs.OpeningLaws.{stand_in_place}
 use Rattle.rht_core.specs.declared.local.Local.{Local}
-use Rattle.rht_core.specs.declared.local.Local.TheVariants.{Idle}
-use Rattle.rht_core.specs.Locals.{IsLocalOf}
+use Rattle.rht_core.specs.Locals.{fresh, IsLocalOf}
 use Rattle.rht_core.specs.Runs.{IsSound}
 
 -- the words before a place, with the one at it, are the words before the next place
@@ -24,11 +23,11 @@ opening_words-more env place word words before here =
 
 module _ {M : Type 0} where
   pub IsSound-opened : (env : Env) (words : List ℕ) (locals : List (Local M))
-      → words ≡ opening_words env → locals ≡ replicate env.geometry.callers Idle
+      → words ≡ opening_words env → locals ≡ replicate env.geometry.callers (fresh env)
       → IsSound record { env = env; words = words; enrolled = 0; locals = locals }
   IsSound-opened env words locals all idle = rw (all, idle) record {
     all_words = (stand_in_place env).count;
-    all_locals = length-replicate env.geometry.callers Idle;
+    all_locals = length-replicate env.geometry.callers (fresh env);
     few_enrolled = omega arith;
-    same_env = AllByRecursion-replicate (IsLocalOf env) env.geometry.callers Idle tt;
+    same_env = AllByRecursion-replicate (IsLocalOf env) env.geometry.callers (fresh env) tt;
   }

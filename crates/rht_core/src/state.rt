@@ -7,11 +7,10 @@ ghost use Rattle.rht_words.specs.Opening.{opening_words};
 ghost use Rattle.rht_words.specs.Places.{words_in};
 ghost use Rattle.rht_words.specs.Settled.{IsSettled};
 ghost use Rattle.rht_core.specs.Runs.{core_step, local_of, begun, planned, with_step, enrolling, enrolled_after, has_done, IsSound, IsOpened};
-ghost use Rattle.rht_core.specs.Locals.{IsLocalOf};
-ghost use Rattle.rht_core.specs.declared.local.Local.TheVariants.{Idle};
+ghost use Rattle.rht_core.specs.Locals.{fresh, IsLocalOf};
 
 use crate::event::{Event, Stepped};
-use crate::local::Local;
+use crate::local::{Doing, Local};
 use rht_model::Call;
 use rht_policy::Mix;
 use rht_words::{Config, Env, Op, apply, opening_word, places};
@@ -56,7 +55,7 @@ impl<M: Mix> State<M> {
             env,
             words: opening_words(alloc, env)?,
             enrolled: 0,
-            locals: idle_locals(alloc, env.geometry.callers)?,
+            locals: fresh_locals(alloc, env)?,
         })
     }
 
@@ -110,13 +109,13 @@ fn opening_words(alloc: Global, env: Env) -> Result<Vec<u64>, AllocError>
     Ok(words)
 }
 
-/// So many callers, none of which is in a call.
-fn idle_locals<M: Mix>(alloc: Global, callers: u32) -> Result<Vec<Local<M>>, AllocError>
-    ensures { IfOk result (λ locals. locals.items ≡ replicate callers Idle) }
+/// All callers, none of which is in a call.
+fn fresh_locals<M: Mix>(alloc: Global, env: Env) -> Result<Vec<Local<M>>, AllocError>
+    ensures { IfOk result (λ locals. locals.items ≡ replicate env.geometry.callers (fresh env)) }
 {
-    let mut locals = Vec::with_capacity(alloc, callers as usize)?;
-    for _ in 0..callers {
-        locals.push(Local::Idle)?;
+    let mut locals = Vec::with_capacity(alloc, env.geometry.callers as usize)?;
+    for _ in 0..env.geometry.callers {
+        locals.push(Local::new(alloc, env)?)?;
     }
     Ok(locals)
 }
@@ -152,8 +151,8 @@ fn begin<M: Mix>(env: Env, enrolled: u32, locals: &mut Vec<Local<M>>, caller: u3
     if caller < enrolled {
         let local = &mut locals[caller as usize];
         if local.is_idle() {
-            if let Some(machine) = Local::of_call(env, caller, call) {
-                *local = machine;
+            if let Some(doing) = Doing::of_call(env, caller, call) {
+                local.begin(doing);
             }
         }
     }
@@ -169,7 +168,7 @@ fn step<M: Mix>(
 ) -> Stepped
     requires { IsSound record { env = env; words = words.old.items; enrolled = enrolled; locals = locals.old.items } }
     ensures sound { IsSound record { env = env; words = words.new.items; enrolled = enrolled; locals = locals.new.items } }
-    ensures step { (record { env = env; words = words.new.items; enrolled = enrolled; locals = locals.new.items }, result) ≡ with_step M.mix_of record { env = env; words = words.old.items; enrolled = enrolled; locals = locals.old.items } caller (planned enrolled locals.old.items caller) }
+    ensures step { (record { env = env; words = words.new.items; enrolled = enrolled; locals = locals.new.items }, result) ≡ with_step M.mix_of record { env = env; words = words.old.items; enrolled = enrolled; locals = locals.old.items } caller (planned env enrolled locals.old.items caller) }
 {
     if caller >= enrolled {
         return NOTHING;

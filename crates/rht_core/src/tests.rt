@@ -223,6 +223,8 @@ fn only_enrolled_and_idle_callers_begin(rt: HostRuntime) -> Result<(), Fail> {
     assert!(rt; config.is_settled());
     let mut state = State::<Low>::open(rt.alloc(), config)?;
     assert!(rt; state.local(0).is_idle());
+    assert!(rt; state.local(0).owners().is_empty());
+    assert!(rt; state.local(0).pairs().is_empty());
     let enroll = |old| Stepped {
         did: Some((add(4, 1), old)),
         reply: None,
