@@ -160,6 +160,12 @@ IsAdmittedEvent kind (Step c) = c < 2 ^ 32
 abbrev pub IsAdmitted : Kind → List Event → Type 0
 IsAdmitted kind events = AllByRecursion (IsAdmittedEvent kind) events
 
+-- what is left of that where each number is of its type
+abbrev pub IsBuiltEvent : Kind → Event → Type 0
+IsBuiltEvent kind Enroll = Unit {0}
+IsBuiltEvent kind (Begin c call) = IsBuiltFor kind call
+IsBuiltEvent kind (Step c) = Unit {0}
+
 module _ {M : Type 0} where
   -- at opening nobody has enrolled
   abbrev pub opening_core : Env → Core M
@@ -203,6 +209,12 @@ module _ {M : Type 0} where
     -- the run of these events, from the opening on
     abbrev pub run_of : Env → List Event → World M
     run_of env events = run_from (opening env) events
+
+    -- there is a run that leads here
+    pub record IsReached (core : Core M) : Type 0 where
+      pub events : List Event
+      pub admitted : IsAdmitted core.env.config.kind events
+      pub same : (run_of core.env events).core ≡ core
 
   abbrev pub seen : World M → ℕ → Seen M
   seen w c = record { local = local_of w.core c; book = w.books c }
