@@ -1,5 +1,5 @@
 -- A run: the words, what each caller is doing, and what is known of its calls, from the opening on by a list of events.
-use Rattle.std.specs.Prelude.{◌≡◌, ℕ, ◌+◌, ◌^◌, ◌<◌, ◌≤◌, ◌==◌, ◌&&◌, nat_lt, max, if◌then◌else◌, Option, Some, None, List, [], ◌∷◌, ◌++◌, length, replicate, slice_index_or, slice_set}
+use Rattle.std.specs.Prelude.{◌≡◌, ◌≢◌, ℕ, ◌+◌, ◌^◌, ◌<◌, ◌≤◌, ◌==◌, ◌&&◌, nat_lt, max, if◌then◌else◌, Option, Some, None, List, [], ◌∷◌, ◌++◌, length, replicate, slice_index_or, slice_set}
 use Rattle.std.specs.List.{AllByRecursion}
 use Rattle.rht_words.specs.declared.op.Op.{Op}
 use Rattle.rht_words.specs.declared.op.Op.TheVariants.{Add}
@@ -149,8 +149,8 @@ IsAdmittedCall _ = Unit {0}
 
 -- in a table of lists nothing is rebound
 abbrev pub IsBuiltFor : Kind → Call → Type 0
-IsBuiltFor Listed (Rebind port owner new) = ⊥
-IsBuiltFor _ _ = Unit {0}
+IsBuiltFor kind (Rebind port owner new) = kind ≢ Listed
+IsBuiltFor kind _ = Unit {0}
 
 abbrev pub IsAdmittedEvent : Kind → Event → Type 0
 IsAdmittedEvent kind Enroll = Unit {0}
