@@ -13,6 +13,8 @@ use Rattle.rht_words.specs.Places.{words_in}
 use Rattle.rht_model.specs.declared.history.Call.{Call}
 use Rattle.rht_model.specs.declared.history.Call.TheVariants as calls
 use Rattle.rht_model.specs.declared.history.Reply.{Reply}
+use Rattle.rht_model.specs.declared.finished.Finished.{Finished}
+use Rattle.rht_model.specs.Endings.{Ending, ended_with}
 use Rattle.rht_model.specs.Multimap.{Multimap, Agree}
 use Rattle.rht_find.specs.Find.{FindModel, find_new, find_plan}
 use Rattle.rht_find.specs.Find as find_at
@@ -22,10 +24,10 @@ use Rattle.rht_bind.specs.Bind as bind_at
 use Rattle.rht_bind.specs.declared.bind.BindAt.{BindAt}
 use Rattle.rht_core.specs.declared.event.Event.{Event}
 use Rattle.rht_core.specs.declared.event.Event.TheVariants.{Begin, Step as StepOf}
-use Rattle.rht_core.specs.declared.book.Finished.{Finished}
-use Rattle.rht_core.specs.declared.local.Local.{Local}
-use Rattle.rht_core.specs.declared.local.Local.TheVariants.{Idle, Finding, Binding}
-use Rattle.rht_core.specs.Locals.{is_idle, machine_of, plan_of, local_after, found_next, bound_next}
+use Rattle.rht_core.specs.declared.local.Doing.{Doing}
+use Rattle.rht_core.specs.declared.local.Doing.TheVariants.{Idle, Finding, Binding}
+use Rattle.rht_core.specs.Locals.{does_nothing, is_idle, machine_of, plan_of, doing_plan, doing_after, ending_of, found_next, bound_next}
+use Rattle.rht_core.specs.declared.book.Book.{Book}
 use Rattle.rht_core.specs.Runs.{World, Seen, seen, local_of, planned, beginning, world_step, run_of, IsSound, IsAdmittedCall, book_after, finished_with}
 use Rattle.rht_core.specs.Laws.{seen_begin, seen_step}
 use Rattle.rht_core.specs.StandsFor.{stands_for}
@@ -53,29 +55,26 @@ module _ (L : Type 0) (mix : ℕ → ℕ → ℕ → ℕ) (env : Env) (start : L
   kind = env.config.kind
 
   -- what the caller does is this call, and what its state says of the reply is so
-  abbrev IsDoing : Local L → Type 0
+  abbrev IsDoing : Doing L → Type 0
   IsDoing Idle = ⊥
   IsDoing (Finding m) = (call ≡ calls.Find m.port) × find_progress before kind m.port m.at
   IsDoing (Binding m) =
       (call ≡ calls.Bind m.port m.owner m.once) × (m.owner < 2 ^ 32) × (kind ≡ Single) × bind_progress before call m.at
 
-  abbrev done_with : Reply → Finished
-  done_with reply = record { call = call; reply = reply; owners = []; pairs = [] }
-
   -- the call goes on, and has changed nothing
   record Going (events : List Event) : Type 0 where
     agree : Agree (bindings_at L mix env events) before
-    doing : IsDoing (local_of (world events).core c)
+    doing : IsDoing (local_of (world events).core c).doing
     enrolled : c < (world events).core.enrolled
     book : ((world events).books c).call ≡ Some call
     past : ((world events).books c).finished ≡ old
 
   -- the call has ended, and meets the model
   record Ended (events : List Event) : Type 0 where
-    reply : Reply
+    done : Finished
     idle : is_idle (local_of (world events).core c) ≡ true
-    past : ((world events).books c).finished ≡ old ++ done_with reply ∷ []
-    meets : MeetsModel kind before (bindings_at L mix env events) call reply
+    past : ((world events).books c).finished ≡ old ++ done ∷ []
+    meets : MeetsModel kind before (bindings_at L mix env events) call done.reply
 
   -- the call hasn't begun
   record Never (events : List Event) : Type 0 where
@@ -95,7 +94,7 @@ module _ (L : Type 0) (mix : ℕ → ℕ → ℕ → ℕ) (env : Env) (start : L
 
   -- a step of a caller that is idle changes nothing
   idle_plans_none : (events : List Event) → is_idle (local_of (world events).core c) ≡ true
-      → planned (world events).core.enrolled (world events).core.locals c ≡ None
+      → planned (world events).core.env (world events).core.enrolled (world events).core.locals c ≡ None
   idle_plans_none events idle = by_test (λ t. cond t (plan_of (local_of (world events).core c)) None ≡ None) (nat_lt c (world events).core.enrolled)
       (λ t. idle_plans L (local_of (world events).core c) idle) (λ t. refl)
 
@@ -107,11 +106,11 @@ module _ (L : Type 0) (mix : ℕ → ℕ → ℕ → ℕ) (env : Env) (start : L
   ended_stays events e =
       let same = same_world events e.idle in
       record {
-        reply = e.reply;
+        done = e.done;
         idle = ap (λ (w : World L). is_idle (local_of w.core c)) same ∙ e.idle;
         past = ap (λ (w : World L). (w.books c).finished) same ∙ e.past;
         meets =
-            subst (λ (w : World L). MeetsModel kind before (stands_for env.geometry w.core.words) call e.reply) (sym same) e.meets;
+            subst (λ (w : World L). MeetsModel kind before (stands_for env.geometry w.core.words) call e.done.reply) (sym same) e.meets;
       }
 
   never_stays : (events : List Event) → Never events → Never (next events)
@@ -147,8 +146,8 @@ module _ (L : Type 0) (mix : ℕ → ℕ → ℕ → ℕ) (env : Env) (start : L
     below = omega (arith, going.enrolled, sound.few_enrolled, sound.all_locals)
 
     plans : (op : Op) → plan_of (local_of w.core c) ≡ Some op
-        → planned w.core.enrolled w.core.locals c ≡ Some op
-    plans op is = planned-enrolled w.core.enrolled w.core.locals c going.enrolled ∙ is
+        → planned w.core.env w.core.enrolled w.core.locals c ≡ Some op
+    plans op is = planned-enrolled w.core.env w.core.enrolled w.core.locals c going.enrolled ∙ is
 
     -- the world after the operation, as its caller sees it
     seen_after : (op : Op) → plan_of (local_of w.core c) ≡ Some op
@@ -164,65 +163,79 @@ module _ (L : Type 0) (mix : ℕ → ℕ → ℕ → ℕ) (env : Env) (start : L
     still_enrolled op is =
         subst (λ (v : World L). c < v.core.enrolled) (sym (pushed events)) (rw (plans op is) going.enrolled)
 
+    -- the book after this has become of what the caller does
+    abbrev book_told : Doing L × Option Reply → Book
+    book_told next = book_after (ending_of (record (local_of w.core c) { doing = next.0 }) next.1) (w.books c)
+
+    -- the call with which it ends
+    abbrev ending : Reply → Ending
+    ending reply =
+        record {
+          answer = record { reply = reply; owners = (local_of w.core c).owners.items };
+          pairs = (local_of w.core c).pairs.items;
+        }
+
     -- the call goes on
-    goes_on : (op : Op) (local : Local L) → plan_of (local_of w.core c) ≡ Some op
-        → local_after mix (local_of w.core c) (old_of words op) ≡ (local, None)
-        → IsDoing local → Agree (stands_for env.geometry (applied words op)) before → Status (next events)
+    goes_on : (op : Op) (doing : Doing L) → plan_of (local_of w.core c) ≡ Some op
+        → doing_after mix (local_of w.core c).doing (old_of words op) ≡ (doing, None)
+        → IsDoing doing → Agree (stands_for env.geometry (applied words op)) before → Status (next events)
     goes_on op local is after doing agree =
         let here = seen_after op is in
         inl (record {
           agree = subst (λ ws. Agree (stands_for env.geometry ws) before) (sym (words_after op is)) agree;
-          doing = subst IsDoing (sym (ap (λ (s : Seen L). s.local) here ∙ ap (λ p. p.0) after)) doing;
+          doing = subst IsDoing (sym (ap (λ (s : Seen L). s.local.doing) here ∙ ap (λ p. p.0) after)) doing;
           enrolled = still_enrolled op is;
-          book = ap (λ (s : Seen L). s.book.call) here ∙ ap (λ p. (book_after p.1 (w.books c)).call) after ∙ going.book;
+          book =
+              ap (λ (s : Seen L). s.book.call) here ∙ ap (λ p. (book_told p).call) after ∙ going.book;
           past =
-              ap (λ (s : Seen L). s.book.finished) here ∙ ap (λ p. (book_after p.1 (w.books c)).finished) after ∙ going.past;
+              ap (λ (s : Seen L). s.book.finished) here ∙ ap (λ p. (book_told p).finished) after ∙ going.past;
         })
 
     -- the call ends
     ends_now : (op : Op) (reply : Reply) → plan_of (local_of w.core c) ≡ Some op
-        → ◌≡◌ {A = Local L × Option Reply} (local_after mix (local_of w.core c) (old_of words op)) (Idle, Some reply)
+        → ◌≡◌ {A = Doing L × Option Reply} (doing_after mix (local_of w.core c).doing (old_of words op)) (Idle, Some reply)
         → MeetsModel kind before (stands_for env.geometry (applied words op)) call reply
         → Status (next events)
     ends_now op reply is after meets =
         let here = seen_after op is in
         inr (inl (record {
-          reply = reply;
-          idle = ap (λ (s : Seen L). is_idle s.local) here ∙ ap (λ p. is_idle p.0) after;
-          past = ap (λ (s : Seen L). s.book.finished) here ∙ ap (λ p. (book_after p.1 (w.books c)).finished) after
-              ∙ ap (λ o. (w.books c).finished ++ finished_with o reply) going.book ∙ ap (λ f. f ++ done_with reply ∷ []) going.past;
+          done = ended_with call (ending reply);
+          idle = ap (λ (s : Seen L). is_idle s.local) here ∙ ap (λ p. does_nothing p.0) after;
+          past = ap (λ (s : Seen L). s.book.finished) here ∙ ap (λ p. (book_told p).finished) after
+              ∙ ap (λ o. (w.books c).finished ++ finished_with o (ending reply)) going.book
+              ∙ ap (λ f. f ++ ended_with call (ending reply) ∷ []) going.past;
           meets =
               subst (λ ws. MeetsModel kind before (stands_for env.geometry ws) call reply) (sym (words_after op is)) meets;
         }))
 
-    found_on : (m : FindModel) → local_of w.core c ≡ Finding m → (r : FindAt × Next Reply)
+    found_on : (m : FindModel) → (local_of w.core c).doing ≡ Finding m → (r : FindAt × Next Reply)
         → r ≡ find_at.after_at mix m.env m.port m.at (old_of words (find_plan m))
         → (call ≡ calls.Find m.port) → FindAlone env before kind m.port r (applied words (find_plan m))
         → Status (next events)
     found_on m is (at, Go) r same alone =
-        goes_on (find_plan m) (Finding (record m { at = at })) (ap plan_of is)
-        (ap (λ l. local_after mix l (old_of words (find_plan m))) is ∙ ap (λ q. found_next (record m { at = q.0 }, q.1)) (sym r)) (same, alone.1) alone.0
+        goes_on (find_plan m) (Finding (record m { at = at })) (ap doing_plan is)
+        (ap (λ d. doing_after mix d (old_of words (find_plan m))) is ∙ ap (λ q. found_next (record m { at = q.0 }, q.1)) (sym r)) (same, alone.1) alone.0
     found_on m is (at, Done reply) r same alone =
-        ends_now (find_plan m) reply (ap plan_of is)
-        (ap (λ l. local_after mix l (old_of words (find_plan m))) is ∙ ap (λ q. found_next (record m { at = q.0 }, q.1)) (sym r)) (rw same alone)
+        ends_now (find_plan m) reply (ap doing_plan is)
+        (ap (λ d. doing_after mix d (old_of words (find_plan m))) is ∙ ap (λ q. found_next (record m { at = q.0 }, q.1)) (sym r)) (rw same alone)
 
-    bound_on : (m : BindModel) → local_of w.core c ≡ Binding m → (r : BindAt × Next Reply)
+    bound_on : (m : BindModel) → (local_of w.core c).doing ≡ Binding m → (r : BindAt × Next Reply)
         → r ≡ bind_at.after_at mix m.env m.port m.at (old_of words (bind_plan m))
         → (call ≡ calls.Bind m.port m.owner m.once) → m.owner < 2 ^ 32 → kind ≡ Single
         → BindAlone env before (calls.Bind m.port m.owner m.once) r (applied words (bind_plan m))
         → Status (next events)
     bound_on m is (at, Go) r same small single alone =
-        goes_on (bind_plan m) (Binding (record m { at = at })) (ap plan_of is)
-        (ap (λ l. local_after mix l (old_of words (bind_plan m))) is ∙ ap (λ q. bound_next (record m { at = q.0 }, q.1)) (sym r)) (same, small, single, rw same alone.1) alone.0
+        goes_on (bind_plan m) (Binding (record m { at = at })) (ap doing_plan is)
+        (ap (λ d. doing_after mix d (old_of words (bind_plan m))) is ∙ ap (λ q. bound_next (record m { at = q.0 }, q.1)) (sym r)) (same, small, single, rw same alone.1) alone.0
     bound_on m is (at, Done reply) r same small single alone =
-        ends_now (bind_plan m) reply (ap plan_of is)
-        (ap (λ l. local_after mix l (old_of words (bind_plan m))) is ∙ ap (λ q. bound_next (record m { at = q.0 }, q.1)) (sym r)) (subst (λ k. MeetsModel k before (stands_for env.geometry (applied words (bind_plan m))) call reply) (sym single) (subst (λ a. MeetsModel Single before (stands_for env.geometry (applied words (bind_plan m))) a reply) (sym same) alone))
+        ends_now (bind_plan m) reply (ap doing_plan is)
+        (ap (λ d. doing_after mix d (old_of words (bind_plan m))) is ∙ ap (λ q. bound_next (record m { at = q.0 }, q.1)) (sym r)) (subst (λ k. MeetsModel k before (stands_for env.geometry (applied words (bind_plan m))) call reply) (sym single) (subst (λ a. MeetsModel Single before (stands_for env.geometry (applied words (bind_plan m))) a reply) (sym same) alone))
 
     going_on : Status (next events)
-    going_on = go (local_of w.core c) refl going.doing (has.inv.each c)
+    going_on = go (local_of w.core c).doing refl going.doing (has.inv.each c)
       where
-        go : (local : Local L) → local_of w.core c ≡ local → IsDoing local
-            → CallerKnows env mix L c local (mem env mix words) has.ghost → Status (next events)
+        go : (doing : Doing L) → (local_of w.core c).doing ≡ doing → IsDoing doing
+            → CallerKnows env mix L c doing (mem env mix words) has.ghost → Status (next events)
         go Idle is doing knows = absurd doing
         go (Finding m) is doing knows =
             found_on m is (find_at.after_at mix m.env m.port m.at (old_of words (find_plan m))) refl doing.0
@@ -248,7 +261,7 @@ module _ (L : Type 0) (mix : ℕ → ℕ → ℕ → ℕ) (env : Env) (start : L
   pushed_begin = run_of-push L mix env start (Begin c call)
 
   -- a call whose numbers are in range begins with what its machine's first state says
-  first_doing : IsAdmittedCall call → (machine : Local L) → machine_of env c call ≡ Some machine
+  first_doing : IsAdmittedCall call → (machine : Doing L) → machine_of env c call ≡ Some machine
       → IsDoing machine
   first_doing small machine is =
       begins_so L env c (λ asked first. call ≡ asked → IsAdmittedCall asked → IsDoing first) (λ port e l. (e, tt)) (λ port owner once single e l. (e, l.1, single, tt))
@@ -260,7 +273,7 @@ module _ (L : Type 0) (mix : ℕ → ℕ → ℕ → ℕ) (env : Env) (start : L
       w0 : World L
       w0 = world start
 
-      go : (machine : Option (Local L))
+      go : (machine : Option (Doing L))
           → beginning (world start).core.env (world start).core.enrolled (world start).core.locals c call ≡ machine
           → Status began
       go None is =
@@ -282,7 +295,7 @@ module _ (L : Type 0) (mix : ℕ → ℕ → ℕ → ℕ) (env : Env) (start : L
           inl (record {
             agree = λ port. ap (λ (v : World L). stands_for env.geometry v.core.words port) pushed_begin;
             doing =
-                subst IsDoing (sym (ap (λ (s : Seen L). s.local) here)) (first_doing small machine (rw (sym inv.same_env) can.machine_is));
+                subst IsDoing (sym (ap (λ (s : Seen L). s.local.doing) here)) (first_doing small machine (rw (sym inv.same_env) can.machine_is));
             enrolled = subst (λ (v : World L). c < v.core.enrolled) (sym pushed_begin) can.below;
             book = ap (λ (s : Seen L). s.book.call) here;
             past = ap (λ (s : Seen L). s.book.finished) here;
@@ -317,9 +330,9 @@ module _ (L : Type 0) (mix : ℕ → ℕ → ℕ → ℕ) (env : Env) (start : L
       go (inl going) =
           let e : old ++ [] ≡ old ++ done ∷ [] = append-nil old ∙ sym going.past ∙ is in let q = append_cancel_left old [] (done ∷ []) e in absurd (cc)
       go (inr (inl ended)) =
-          let e : done_with ended.reply ∷ [] ≡ done ∷ [] =
-          append_cancel_left old (done_with ended.reply ∷ []) (done ∷ []) (sym ended.past ∙ is) in
-          let same : done_with ended.reply ≡ done = (cc) in
+          let e : ended.done ∷ [] ≡ done ∷ [] =
+          append_cancel_left old (ended.done ∷ []) (done ∷ []) (sym ended.past ∙ is) in
+          let same : ended.done ≡ done = (cc) in
           subst (λ r. MeetsModel kind before (bindings_at L mix env (start ++ call_events L mix c call count)) call r) (ap (λ f. f.reply) same) ended.meets
       go (inr (inr never)) =
           let e : old ++ [] ≡ old ++ done ∷ [] = append-nil old ∙ sym never.past ∙ is in let q = append_cancel_left old [] (done ∷ []) e in absurd (cc)

@@ -10,16 +10,17 @@ use Rattle.rht_model.specs.declared.history.Call.TheVariants.{Bind, Find}
 use Rattle.rht_find.specs.Find.{find_new}
 use Rattle.rht_bind.specs.Bind.{bind_new}
 use Rattle.rht_core.specs.declared.local.Local.{Local}
-use Rattle.rht_core.specs.declared.local.Local.TheVariants.{Idle, Finding, Binding}
-use Rattle.rht_core.specs.Locals.{is_idle, machine_of, binding_of, plan_of}
+use Rattle.rht_core.specs.declared.local.Doing.{Doing}
+use Rattle.rht_core.specs.declared.local.Doing.TheVariants.{Idle, Finding, Binding}
+use Rattle.rht_core.specs.Locals.{does_nothing, is_idle, machine_of, binding_of, doing_plan, plan_of}
 
 module _ (M : Type 0) where
   -- A call begins as a look-up or as a bind. What is so of these two is so of whatever begins.
-  module _ (env : Env) (c : ℕ) (So : Call → Local M → Type 0)
+  module _ (env : Env) (c : ℕ) (So : Call → Doing M → Type 0)
       (find : (port : ℕ) → So (Find port) (Finding (find_new env c port)))
       (bind : (port owner : ℕ) (once : Bool) → env.config.kind ≡ Single → So (Bind port owner once) (Binding (bind_new env c port owner once)))
     where
-      abbrev BeginsSo : Call → Option (Local M) → Type 0
+      abbrev BeginsSo : Call → Option (Doing M) → Type 0
       BeginsSo call None = Unit {0}
       BeginsSo call (Some machine) = So call machine
 
@@ -33,12 +34,15 @@ module _ (M : Type 0) where
       machine-so (Bind port owner once) = binding-so port owner once env.config.kind refl
       machine-so _ = tt
 
-      pub begins_so : (call : Call) (machine : Local M) → machine_of env c call ≡ Some machine
+      pub begins_so : (call : Call) (machine : Doing M) → machine_of env c call ≡ Some machine
           → So call machine
       begins_so call machine is = subst (BeginsSo call) is (machine-so call)
 
   -- who is in no call plans none
+  nothing_plans : (doing : Doing M) → does_nothing doing ≡ true → doing_plan doing ≡ None
+  nothing_plans Idle idle = refl
+  nothing_plans (Finding m) idle = absurd (cc)
+  nothing_plans (Binding m) idle = absurd (cc)
+
   pub idle_plans : (local : Local M) → is_idle local ≡ true → plan_of local ≡ None
-  idle_plans Idle idle = refl
-  idle_plans (Finding m) idle = absurd (cc)
-  idle_plans (Binding m) idle = absurd (cc)
+  idle_plans local idle = nothing_plans local.doing idle

@@ -132,11 +132,11 @@ module _ (M : Type 0) (mix : ℕ → ℕ → ℕ → ℕ) where
   raising-raisers : (env : Env) (core : Core M) (G : Ghost) → Inv env mix M core G
       → raising core ≡ raisers env mix G
   raising-raisers env core G inv =
-      ap (λ (e : Env). count_by_raising e) inv.same_env ∙ count_by-range (λ c. is_raising (local_of core c)) env.geometry.callers
-      ∙ count_below-same G.raised (λ c. is_raising (local_of core c)) env.geometry.callers (λ c l. sym (raises M mix env c (local_of core c) core.words G (inv.each c)))
+      ap (λ (e : Env). count_by_raising e) inv.same_env ∙ count_by-range (λ c. is_raising (local_of core c).doing) env.geometry.callers
+      ∙ count_below-same G.raised (λ c. is_raising (local_of core c).doing) env.geometry.callers (λ c l. sym (raises M mix env c (local_of core c).doing core.words G (inv.each c)))
     where
       count_by_raising : Env → ℕ
-      count_by_raising e = count_by (λ c. is_raising (local_of core c)) (range_with_len 0 e.geometry.callers)
+      count_by_raising e = count_by (λ c. is_raising (local_of core c).doing) (range_with_len 0 e.geometry.callers)
 
   pub counted : Counted M mix
   counted env events admitted =
@@ -155,7 +155,7 @@ module _ (M : Type 0) (mix : ℕ → ℕ → ℕ → ℕ) where
       let has = has_inv env mix M events in
       let G = has.ghost in
       let knows : (c : ℕ) → AllMean env mix c (mem env mix core.words) G nothing_held =
-      λ c. idle_knows env mix M c (local_of core c) (mem env mix core.words) G (quiet c) (has.inv.each c) in
+      λ c. idle_knows env mix M c (local_of core c).doing (mem env mix core.words) G (quiet c) (has.inv.each c) in
       let none_raised = count_below-none G.raised env.geometry.callers (λ c l. (knows c).0) in
       let all : word_at env.geometry core.words PortCount ≡ firsts env mix G = (let is = has.inv.whole.counted in omega (arith, is, none_raised)) in
       record {

@@ -21,9 +21,9 @@ use Rattle.rht_bind.specs.Bind.{plan_at}
 use Rattle.rht_bind.specs.declared.bind.BindAt.{BindAt}
 use Rattle.rht_bind.specs.declared.bind.BindAt.TheVariants as at
 use Rattle.rht_core.specs.declared.event.Event.{Event}
-use Rattle.rht_core.specs.declared.local.Local.{Local}
-use Rattle.rht_core.specs.declared.local.Local.TheVariants.{Idle, Finding, Binding}
-use Rattle.rht_core.specs.Locals.{is_idle, plan_of}
+use Rattle.rht_core.specs.declared.local.Doing.{Doing}
+use Rattle.rht_core.specs.declared.local.Doing.TheVariants.{Idle, Finding, Binding}
+use Rattle.rht_core.specs.Locals.{does_nothing, is_idle, doing_plan}
 use Rattle.rht_core.specs.Runs.{Core, local_of, planned, run_of}
 use Rattle.rht_core.specs.Traces.{Did}
 use Rattle.rht_core.specs.StandsFor.{stands_for}
@@ -136,8 +136,8 @@ module _ (M : Type 0) (mix : ℕ → ℕ → ℕ → ℕ) (env : Env) where
   bind_raises c port owner _ words G known = known.own.0
 
   -- a caller has raised the count exactly where it links its node next
-  pub raises : (c : ℕ) (local : Local M) (words : List ℕ) (G : Ghost)
-      → CallerKnows env mix M c local (mem env mix words) G → G.raised c ≡ is_raising local
+  pub raises : (c : ℕ) (doing : Doing M) (words : List ℕ) (G : Ghost)
+      → CallerKnows env mix M c doing (mem env mix words) G → G.raised c ≡ is_raising doing
   raises c Idle words G known = known.0
   raises c (Finding m) words G known = known.1.own.0
   raises c (Binding m) words G known = bind_raises c m.port m.owner m.at words G known.1
@@ -149,8 +149,8 @@ module _ (M : Type 0) (mix : ℕ → ℕ → ℕ → ℕ) (env : Env) where
   bind_loads-unraised e port owner place (at.Publish claimed kick) is = absurd (cc)
   bind_loads-unraised e port owner place _ is = refl
 
-  loads-unraised : (place : ℕ) (local : Local M) → plan_of local ≡ Some (Load place)
-      → is_raising local ≡ false
+  loads-unraised : (place : ℕ) (doing : Doing M) → doing_plan doing ≡ Some (Load place)
+      → is_raising doing ≡ false
   loads-unraised place Idle is = refl
   loads-unraised place (Finding m) is = refl
   loads-unraised place (Binding m) is =
@@ -158,15 +158,15 @@ module _ (M : Type 0) (mix : ℕ → ℕ → ℕ → ℕ) (env : Env) where
       bind_loads-unraised m.env m.port m.owner place m.at plan
 
   -- who has raised the count is in a call
-  raised-busy : (c : ℕ) (local : Local M) (words : List ℕ) (G : Ghost) → G.raised c ≡ true
-      → CallerKnows env mix M c local (mem env mix words) G → not (is_idle local) ≡ true
+  raised-busy : (c : ℕ) (doing : Doing M) (words : List ℕ) (G : Ghost) → G.raised c ≡ true
+      → CallerKnows env mix M c doing (mem env mix words) G → not (does_nothing doing) ≡ true
   raised-busy c Idle words G is known = let unraised = known.0 in absurd (cc)
   raised-busy c (Finding m) words G is known = refl
   raised-busy c (Binding m) words G is known = refl
 
   -- the callers that have raised the count are others in mid-call
   raisers-others : (core : Core M) (c : ℕ) (G : Ghost) → core.env ≡ env → G.raised c ≡ false
-      → ((d : ℕ) → CallerKnows env mix M d (local_of core d) (mem env mix core.words) G)
+      → ((d : ℕ) → CallerKnows env mix M d (local_of core d).doing (mem env mix core.words) G)
       → raisers env mix G ≤ others_in_call core c
   raisers-others core c G same unraised each =
       let other : ℕ → Bool = λ d. not (d == c) && not (is_idle (local_of core d)) in
@@ -175,7 +175,7 @@ module _ (M : Type 0) (mix : ℕ → ℕ → ℕ → ℕ) (env : Env) where
       let fewer = count_below-le G.raised other env.geometry.callers (λ d is.
       let differ : d ≢ c = λ e. let here : G.raised c ≡ true = ap G.raised (sym e) ∙ is in cc in
       and_from (not (d == c)) (not (is_idle (local_of core d))) (ap not (ne_eqb d c differ))
-      (raised-busy d (local_of core d) core.words G is (each d))) in
+      (raised-busy d (local_of core d).doing core.words G is (each d))) in
       omega arith
 
   -- ---- the load of the count
@@ -190,10 +190,10 @@ module _ (M : Type 0) (mix : ℕ → ℕ → ℕ → ℕ) (env : Env) where
       let has = has_inv env mix M before in
       let G = has.ghost in
       let place = place_of env.geometry PortCount in
-      let plans : planned core.enrolled core.locals c ≡ Some (Load place) = is.plan ∙ ap Some loaded in
-      let can = planned-some core.enrolled core.locals c (Load place) plans in
+      let plans : planned core.env core.enrolled core.locals c ≡ Some (Load place) = is.plan ∙ ap Some loaded in
+      let can = planned-some core.env core.enrolled core.locals c (Load place) plans in
       let unraised =
-      raises c (local_of core c) core.words G (has.inv.each c) ∙ loads-unraised place (local_of core c) can.plan in
+      raises c (local_of core c).doing core.words G (has.inv.each c) ∙ loads-unraised place (local_of core c).doing can.plan in
       let others = raisers-others core c G has.inv.same_env unraised has.inv.each in
       let word : mem env mix core.words PortCount ≡ count =
       sym (ap (old_of core.words) loaded) ∙ is.found ∙ found in

@@ -8,7 +8,7 @@ use Rattle.rht_words.proofs.Members.{count_below-none}
 use Rattle.rht_words.proofs.EachElement.{each_replicate}
 use Rattle.rht_core.specs.declared.event.Event.{Event}
 use Rattle.rht_core.specs.declared.local.Local.{Local}
-use Rattle.rht_core.specs.declared.local.Local.TheVariants.{Idle}
+use Rattle.rht_core.specs.Locals.{fresh}
 use Rattle.rht_core.specs.Runs.{Core, World, local_in, opening_core, run_of, IsSound}
 use Rattle.rht_core.proofs.Worlds.{induct_by_last, run_of-push}
 use Rattle.rht_core.proofs.RangesInRuns.{runs-in, IsInRange-stays}
@@ -72,8 +72,8 @@ module _ (env : Env) (mix : ℕ → ℕ → ℕ → ℕ) where
   }
 
   module _ (L : Type 0) where
-    idle_at_opening : (c : ℕ) → ◌≡◌ {A = Local L} (local_in (replicate env.geometry.callers Idle) c) Idle
-    idle_at_opening c = each_replicate (λ (local : Local L). local ≡ Idle) env.geometry.callers c Idle refl
+    idle_at_opening : (c : ℕ) → ◌≡◌ {A = Local L} (local_in env (replicate env.geometry.callers (fresh env)) c) (fresh env)
+    idle_at_opening c = each_replicate (λ (local : Local L). local ≡ fresh env) env.geometry.callers c (fresh env) refl
 
     opening_inv : Inv env mix L (opening_core env) (opening_ghost env)
     opening_inv = record {

@@ -80,8 +80,10 @@ pub mod AloneSteps
 pub mod AloneRuns
 -- going along links finds what the whole chain holds
 pub mod FirstNodes
--- a state that has just been opened is sound
+-- the words of a state that is being opened
 pub mod OpenedStates
+-- what holds of a state because a run has reached it
+pub mod ReachedStates
 -- one call alone meets the model, and has its cause
 pub mod AloneLaw
 -- the count of ports, and a table that nobody uses

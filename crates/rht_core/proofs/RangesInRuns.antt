@@ -25,10 +25,11 @@ use Rattle.rht_bind.specs.Bind.{BindModel, bind_after, plan_at as bind_plan_at}
 use Rattle.rht_core.specs.declared.event.Event.{Event}
 use Rattle.rht_core.specs.declared.event.Event.TheVariants.{Enroll, Begin, Step}
 use Rattle.rht_core.specs.declared.local.Local.{Local}
-use Rattle.rht_core.specs.declared.local.Local.TheVariants.{Idle, Finding, Binding}
-use Rattle.rht_core.specs.Locals.{machine_of, plan_of, local_after, found_next, bound_next, IsLocalOf}
+use Rattle.rht_core.specs.declared.local.Doing.{Doing}
+use Rattle.rht_core.specs.declared.local.Doing.TheVariants.{Idle, Finding, Binding}
+use Rattle.rht_core.specs.Locals.{fresh, machine_of, begin_with, doing_plan, plan_of, doing_after, local_after, found_next, bound_next, IsDoingOf, IsLocalOf}
 use Rattle.rht_core.specs.Runs.{Core, World, local_of, beginning, with_machine, planned, with_step, enrolling, enrolled_after, world_step, run_of, opening, opening_core}
-use Rattle.rht_core.specs.Laws.{IsFindOf, IsBindOf, IsPlannedIn, IsLocalIn, IsInRange, InRange, IsOfCaller, IsEnrolledKept, Enrolled}
+use Rattle.rht_core.specs.Laws.{IsFindOf, IsBindOf, IsPlannedIn, IsDoingIn, IsLocalIn, IsInRange, InRange, IsOfCaller, IsEnrolledKept, Enrolled}
 use Rattle.rht_core.proofs.FindRanges.{IsFindAtIn, find_after-in, find_planned-in}
 use Rattle.rht_core.proofs.BindRanges.{IsBindAtIn, bind_after-in, bind_planned-in}
 use Rattle.rht_core.proofs.CallBeginnings.{begins_so}
@@ -47,16 +48,16 @@ PlanIn env (Some op) = IsPlannedIn env.geometry op
 
 module _ (M : Type 0) where
   -- it does it in the table of the environment
-  IsLocalOf-in : (env : Env) (c : ℕ) (local : Local M) → IsLocalIn env c local → IsLocalOf env local
-  IsLocalOf-in env c Idle within = tt
-  IsLocalOf-in env c (Finding m) within = within.same_env
-  IsLocalOf-in env c (Binding m) within = within.same_env
+  IsDoingOf-in : (env : Env) (c : ℕ) (doing : Doing M) → IsDoingIn env c doing → IsDoingOf env doing
+  IsDoingOf-in env c Idle within = tt
+  IsDoingOf-in env c (Finding m) within = within.same_env
+  IsDoingOf-in env c (Binding m) within = within.same_env
 
   -- a caller that begins begins in range
-  pub begins-in : (env : Env) (c : ℕ) (call : Call) (machine : Local M) → machine_of env c call ≡ Some machine
-      → IsLocalIn env c machine
+  pub begins-in : (env : Env) (c : ℕ) (call : Call) (machine : Doing M) → machine_of env c call ≡ Some machine
+      → IsDoingIn env c machine
   begins-in env c =
-      begins_so M env c (λ call machine. IsLocalIn env c machine)
+      begins_so M env c (λ call machine. IsDoingIn env c machine)
       (λ port. record { same_env = refl; same_caller = refl; range = tt; piece = tt })
       (λ port owner once single. record {
         same_env = refl;
@@ -66,21 +67,21 @@ module _ (M : Type 0) where
       })
 
   found_next-in : (env : Env) (c : ℕ) (m : FindModel) (next : Next Reply) → IsFindOf env c m
-      → IsLocalIn env c (found_next {M = M} (m, next)).0
+      → IsDoingIn env c (found_next {M = M} (m, next)).0
   found_next-in env c m Go within = within
   found_next-in env c m (Done reply) within = tt
 
   bound_next-in : (env : Env) (c : ℕ) (m : BindModel) (next : Next Reply) → IsBindOf env c m
-      → IsLocalIn env c (bound_next {M = M} (m, next)).0
+      → IsDoingIn env c (bound_next {M = M} (m, next)).0
   bound_next-in env c m Go within = within
   bound_next-in env c m (Done reply) within = tt
 
   -- a caller that is told a word stays in range
-  pub local_after-in : (mix : ℕ → ℕ → ℕ → ℕ) (env : Env) (c : ℕ) (local : Local M) (old : ℕ)
-      → IsLocalIn env c local
-      → IsLocalIn env c (local_after mix local old).0
-  local_after-in mix env c Idle old within = tt
-  local_after-in mix env c (Finding m) old within =
+  doing_after-in : (mix : ℕ → ℕ → ℕ → ℕ) (env : Env) (c : ℕ) (doing : Doing M) (old : ℕ)
+      → IsDoingIn env c doing
+      → IsDoingIn env c (doing_after mix doing old).0
+  doing_after-in mix env c Idle old within = tt
+  doing_after-in mix env c (Finding m) old within =
       let here =
       subst (λ (e : Env). IsFindAtIn e m.at) (sym within.same_env)
       (record { range = within.range; piece = within.piece }) in
@@ -89,7 +90,7 @@ module _ (M : Type 0) where
       subst (λ (e : Env). IsFindAtIn e (find_after mix m old).0.at) within.same_env next in
       found_next-in env c (find_after mix m old).0 (find_after mix m old).1
       record { same_env = within.same_env; same_caller = within.same_caller; range = moved.range; piece = moved.piece }
-  local_after-in mix env c (Binding m) old within =
+  doing_after-in mix env c (Binding m) old within =
       let here =
       subst (λ (e : Env). IsBindAtIn e m.at) (sym within.same_env)
       (record { range = within.range; piece = within.piece }) in
@@ -99,7 +100,24 @@ module _ (M : Type 0) where
       bound_next-in env c (bind_after mix m old).0 (bind_after mix m old).1
       record { same_env = within.same_env; same_caller = within.same_caller; range = moved.range; piece = moved.piece }
 
-  plan_of-in : (env : Env) (c : ℕ) (local : Local M) → IsLocalIn env c local → PlanIn env (plan_of local)
+  -- and so does the caller, whose rooms stay as large as they were
+  pub local_after-in : (mix : ℕ → ℕ → ℕ → ℕ) (env : Env) (c : ℕ) (local : Local M) (old : ℕ)
+      → IsLocalIn env c local
+      → IsLocalIn env c (local_after mix local old).0
+  local_after-in mix env c local old within = record {
+    doing = doing_after-in mix env c local.doing old within.doing;
+    owners = within.owners;
+    pairs = within.pairs;
+  }
+
+  -- one that begins with a machine in range is in range
+  pub begin_with-in : (env : Env) (c : ℕ) (local : Local M) (machine : Doing M) → IsLocalIn env c local
+      → IsDoingIn env c machine
+      → IsLocalIn env c (begin_with local machine)
+  begin_with-in env c local machine within made =
+      record { doing = made; owners = within.owners; pairs = within.pairs }
+
+  plan_of-in : (env : Env) (c : ℕ) (doing : Doing M) → IsDoingIn env c doing → PlanIn env (doing_plan doing)
   plan_of-in env c Idle within = tt
   plan_of-in env c (Finding m) within =
       subst (λ (e : Env). IsPlannedIn env.geometry (find_plan_at e m.at)) (sym within.same_env)
@@ -110,7 +128,7 @@ module _ (M : Type 0) where
 
   pub plans-in : (env : Env) (c : ℕ) (local : Local M) (op : Op) → IsLocalIn env c local
       → plan_of local ≡ Some op → IsPlannedIn env.geometry op
-  plans-in env c local op within is = subst (PlanIn env) is (plan_of-in env c local within)
+  plans-in env c local op within is = subst (PlanIn env) is (plan_of-in env c local.doing within.doing)
 
 -- ---- runs
 
@@ -128,10 +146,11 @@ module _ (M : Type 0) (mix : ℕ → ℕ → ℕ → ℕ) (env : Env) where
   opens-in = record {
     same_env = refl;
     all_words = (stand_in_place env).count;
-    all_locals = length-replicate env.geometry.callers Idle;
+    all_locals = length-replicate env.geometry.callers (fresh env);
     few_enrolled = omega arith;
-    all_local = AllByRecursion-replicate (IsLocalOf env) env.geometry.callers Idle tt;
-    locals = λ c. each_replicate (IsLocalIn env c) env.geometry.callers c Idle tt;
+    all_local = AllByRecursion-replicate (IsLocalOf env) env.geometry.callers (fresh env) tt;
+    locals = λ c. each_replicate (IsLocalIn env c) env.geometry.callers c (fresh env)
+        record { doing = tt; owners = refl; pairs = refl };
   }
 
   -- a caller that there is has a place in the list
@@ -148,8 +167,8 @@ module _ (M : Type 0) (mix : ℕ → ℕ → ℕ → ℕ) (env : Env) where
     all_locals = length-set core.locals c local ∙ stays.all_locals;
     few_enrolled = stays.few_enrolled;
     all_local =
-        AllByRecursion-set (IsLocalOf env) core.locals c local (IsLocalOf-in M env c local within) stays.all_local;
-    locals = each_set (IsLocalIn env) Idle core.locals c local (has_place core c stays enrolled) within stays.locals;
+        AllByRecursion-set (IsLocalOf env) core.locals c local (IsDoingOf-in M env c local.doing within.doing) stays.all_local;
+    locals = each_set (IsLocalIn env) (fresh core.env) core.locals c local (has_place core c stays enrolled) within stays.locals;
   }
 
   -- the words are changed by an operation
@@ -175,25 +194,26 @@ module _ (M : Type 0) (mix : ℕ → ℕ → ℕ → ℕ) (env : Env) where
       (λ f. stays.few_enrolled)
 
   -- who begins does what the run's environment says
-  pub made_in : (core : Core M) (c : ℕ) (call : Call) (machine : Local M) → StaysIn core
+  pub made_in : (core : Core M) (c : ℕ) (call : Call) (machine : Doing M) → StaysIn core
       → CanBegin core.env core.enrolled core.locals c call machine → machine_of env c call ≡ Some machine
   made_in core c call machine stays can =
       subst (λ (e : Env). machine_of e c call ≡ Some machine) stays.same_env can.machine_is
 
-  begin-in : (core : Core M) (c : ℕ) (call : Call) (machine : Option (Local M))
+  begin-in : (core : Core M) (c : ℕ) (call : Call) (machine : Option (Doing M))
       → beginning core.env core.enrolled core.locals c call ≡ machine → StaysIn core
-      → StaysIn record core { locals = with_machine core.locals c machine }
+      → StaysIn record core { locals = with_machine core.env core.locals c machine }
   begin-in core c call None is stays = stays
   begin-in core c call (Some machine) is stays =
       let can = beginning-some core.env core.enrolled core.locals c call machine is in
-      set-in core c machine stays can.below
-      (begins-in M env c call machine (made_in core c call machine stays can))
+      let made = begins-in M env c call machine (made_in core c call machine stays can) in
+      set-in core c (begin_with (local_of core c) machine) stays can.below
+      (begin_with-in M env c (local_of core c) machine (stays.locals c) made)
 
-  step-in : (core : Core M) (c : ℕ) (op : Option Op) → planned core.enrolled core.locals c ≡ op → StaysIn core
+  step-in : (core : Core M) (c : ℕ) (op : Option Op) → planned core.env core.enrolled core.locals c ≡ op → StaysIn core
       → StaysIn (with_step mix core c op).0
   step-in core c None is stays = stays
   step-in core c (Some op) is stays =
-      let can = planned-some core.enrolled core.locals c op is in
+      let can = planned-some core.env core.enrolled core.locals c op is in
       let next = local_after mix (local_of core c) (old_of core.words op) in
       applied-in (record core { locals = slice_set core.locals c next.0 }) op
       (set-in core c next.0 stays can.below (local_after-in M mix env c (local_of core c) (old_of core.words op) (stays.locals c)))
@@ -211,7 +231,7 @@ module _ (M : Type 0) (mix : ℕ → ℕ → ℕ → ℕ) (env : Env) where
       }
   stays-in w (Begin c call) stays =
       begin-in w.core c call (beginning w.core.env w.core.enrolled w.core.locals c call) refl stays
-  stays-in w (Step c) stays = step-in w.core c (planned w.core.enrolled w.core.locals c) refl stays
+  stays-in w (Step c) stays = step-in w.core c (planned w.core.env w.core.enrolled w.core.locals c) refl stays
 
   pub runs-in : (events : List Event) → StaysIn (run_of mix env events).core
   runs-in events = run_keeps M mix (λ (w : World M). StaysIn w.core) stays-in (opening env) events opens-in
@@ -234,12 +254,12 @@ module _ (M : Type 0) (mix : ℕ → ℕ → ℕ → ℕ) (env : Env) where
 
   -- ---- who is enrolled
 
-  step-kept : (core : Core M) (c : ℕ) (op : Option Op) → planned core.enrolled core.locals c ≡ op
+  step-kept : (core : Core M) (c : ℕ) (op : Option Op) → planned core.env core.enrolled core.locals c ≡ op
       → StaysIn core
       → word_at env.geometry (with_step mix core c op).0.words EnrolledCallers ≡ word_at env.geometry core.words EnrolledCallers
   step-kept core c None is stays = refl
   step-kept core c (Some op) is stays =
-      let can = planned-some core.enrolled core.locals c op is in
+      let can = planned-some core.env core.enrolled core.locals c op is in
       let plan = plans-in M env c (local_of core c) op (stays.locals c) can.plan in
       applied-other core.words op (place_of env.geometry EnrolledCallers) (λ e. plan.apart (sym e))
 
@@ -254,8 +274,8 @@ module _ (M : Type 0) (mix : ℕ → ℕ → ℕ → ℕ) (env : Env) where
   event-kept w Enroll of stays = absurd of
   event-kept w (Begin c call) of stays = record { word = refl; count = refl }
   event-kept w (Step c) of stays = record {
-    word = step-kept w.core c (planned w.core.enrolled w.core.locals c) refl stays;
-    count = step-count w.core c (planned w.core.enrolled w.core.locals c);
+    word = step-kept w.core c (planned w.core.env w.core.enrolled w.core.locals c) refl stays;
+    count = step-count w.core c (planned w.core.env w.core.enrolled w.core.locals c);
   }
 
 module _ (M : Type 0) (mix : ℕ → ℕ → ℕ → ℕ) where

@@ -15,8 +15,8 @@ use Rattle.rht_model.specs.declared.history.Reply.{Reply}
 use Rattle.rht_core.specs.declared.event.Event.{Event}
 use Rattle.rht_core.specs.declared.event.Event.TheVariants.{Enroll, Begin, Step}
 use Rattle.rht_core.specs.declared.local.Local.{Local}
-use Rattle.rht_core.specs.declared.local.Local.TheVariants.{Idle}
-use Rattle.rht_core.specs.Locals.{is_idle, machine_of, plan_of, local_after}
+use Rattle.rht_core.specs.declared.local.Doing.{Doing}
+use Rattle.rht_core.specs.Locals.{fresh, is_idle, machine_of, plan_of, local_after, ending_of}
 use Rattle.rht_core.specs.Runs.{World, Seen, seen, local_of, new_book, beginning, planned, with_step, core_step, world_step, run_of}
 use Rattle.rht_core.specs.Traces.{Did, Trace, Traced, trace_begun, trace_did, traces_after, traced_step, traced_of}
 use Rattle.rht_core.specs.Laws.{IsLocalIn, IsRecorded, seen_begin, seen_step}
@@ -31,7 +31,7 @@ module _ (M : Type 0) (mix : ℕ → ℕ → ℕ → ℕ) (env : Env) where
 
   -- the operation that a caller plans in a world, and the reply that its step gives there
   abbrev planned_by : ℕ → World M → Option Op
-  planned_by c w = planned w.core.enrolled w.core.locals c
+  planned_by c w = planned w.core.env w.core.enrolled w.core.locals c
 
   abbrev pub reply_of : ℕ → World M → Option Reply
   reply_of c w = (core_step mix w.core (Step c)).1.reply
@@ -67,7 +67,7 @@ module _ (M : Type 0) (mix : ℕ → ℕ → ℕ → ℕ) (env : Env) where
   did_next-made events c op is =
       let core = (R events).world.core in
       record {
-        plan = (planned-some core.enrolled core.locals c op is).plan;
+        plan = (planned-some core.env core.enrolled core.locals c op is).plan;
         within = (stays_in events).locals c;
         index = count-traced_of M mix env events;
         recorded = record {
@@ -85,10 +85,10 @@ module _ (M : Type 0) (mix : ℕ → ℕ → ℕ → ℕ) (env : Env) where
   module _ (P : List Event → ℕ → Seen M → Trace → Type 0) where
     -- what is kept of a caller and its trace behind these events
     pub record IsKeptTraced : Type 0 where
-      pub opens : (c : ℕ) → P [] c (record { local = Idle; book = new_book }) no_trace
+      pub opens : (c : ℕ) → P [] c (record { local = fresh env; book = new_book }) no_trace
       pub stays : (events : List Event) (event : Event) (c : ℕ) (seen : Seen M) (trace : Trace)
           → P events c seen trace → P (events ++ event ∷ []) c seen trace
-      pub begins : (events : List Event) (c : ℕ) (call : Call) (machine : Local M) (index : ℕ)
+      pub begins : (events : List Event) (c : ℕ) (call : Call) (machine : Doing M) (index : ℕ)
           (seen : Seen M) (trace : Trace)
           → index ≡ length events
           → is_idle seen.local ≡ true → machine_of env c call ≡ Some machine
@@ -97,7 +97,8 @@ module _ (M : Type 0) (mix : ℕ → ℕ → ℕ → ℕ) (env : Env) where
       pub steps : (events : List Event) (c : ℕ) (did : Did) (seen : Seen M) (trace : Trace)
           → IsMade events c seen.local did
           → P events c seen trace
-          → P (events ++ Step c ∷ []) c (seen_step mix did.old seen) (trace_did seen.book.call did (local_after mix seen.local did.old).1 trace)
+          → let next = local_after mix seen.local did.old in
+          P (events ++ Step c ∷ []) c (seen_step mix did.old seen) (trace_did seen.book.call did (ending_of next.0 next.1) trace)
 
     abbrev AllKeep : List Event → Traced M → Type 0
     AllKeep events r = (k : ℕ) → P events k (seen r.world k) (r.traces k)
@@ -121,7 +122,7 @@ module _ (M : Type 0) (mix : ℕ → ℕ → ℕ → ℕ) (env : Env) where
           put (events ++ event ∷ []) k (seen r.world k) here trace (r.traces k) seen_is trace_is
           (kept.stays events event k (seen r.world k) (r.traces k) (each k))
 
-      begins : (c : ℕ) (call : Call) (machine : Option (Local M))
+      begins : (c : ℕ) (call : Call) (machine : Option (Doing M))
           → beginning r.world.core.env r.world.core.enrolled r.world.core.locals c call ≡ machine
           → AllKeep (events ++ Begin c call ∷ []) (traced_step mix r (Begin c call))
       begins c call None is k =
@@ -151,7 +152,7 @@ module _ (M : Type 0) (mix : ℕ → ℕ → ℕ → ℕ) (env : Env) where
           (ap (λ (t : ℕ → Trace). t k) (trace_step_none M mix r c is))
       steps c (Some op) is k =
           let more = events ++ Step c ∷ [] in
-          let can = planned-some r.world.core.enrolled r.world.core.locals c op is in
+          let can = planned-some r.world.core.env r.world.core.enrolled r.world.core.locals c op is in
           let did = did_next events op in
           let place = has_place M mix env r.world.core c (stays_in events) can.below in
           elim (cases_eq k c) [
@@ -178,7 +179,7 @@ module _ (M : Type 0) (mix : ℕ → ℕ → ℕ → ℕ) (env : Env) where
     traced_callers_keep kept =
         induct_by_last (λ events. AllKeep events (R events))
         (λ k.
-        each_replicate (λ (local : Local M). P [] k (record { local = local; book = new_book }) no_trace) env.geometry.callers k Idle
+        each_replicate (λ (local : Local M). P [] k (record { local = local; book = new_book }) no_trace) env.geometry.callers k (fresh env)
         (kept.opens k))
         (λ events event each.
         subst (AllKeep (events ++ event ∷ [])) (sym (traced_of-push M mix env events event)) (event_keeps kept events each event))
@@ -188,8 +189,8 @@ module _ (M : Type 0) (mix : ℕ → ℕ → ℕ → ℕ) (env : Env) where
   module _ (P : ℕ → Seen M → Type 0) where
     -- it is kept by a caller that begins a call, which is idle, and by one that is told a word, which plans an operation
     pub record IsKept : Type 0 where
-      pub opens : (c : ℕ) → P c (record { local = Idle; book = new_book })
-      pub begins : (c : ℕ) (call : Call) (machine : Local M) (seen : Seen M) → is_idle seen.local ≡ true
+      pub opens : (c : ℕ) → P c (record { local = fresh env; book = new_book })
+      pub begins : (c : ℕ) (call : Call) (machine : Doing M) (seen : Seen M) → is_idle seen.local ≡ true
           → machine_of env c call ≡ Some machine
           → P c seen → P c (seen_begin call machine seen)
       pub steps : (c : ℕ) (op : Op) (old : ℕ) (seen : Seen M) → plan_of seen.local ≡ Some op → P c seen

@@ -14,6 +14,7 @@ use Rattle.rht_words.proofs.EachElement.{AllByRecursion-push}
 use Rattle.rht_model.specs.declared.history.Call.{Call}
 use Rattle.rht_model.specs.declared.history.Call.TheVariants.{Bind, Find}
 use Rattle.rht_model.specs.declared.history.Reply.{Reply}
+use Rattle.rht_model.specs.Endings.{Ending, ended_with}
 use Rattle.rht_arena.specs.TakeNode.{take_node_new}
 use Rattle.rht_find.specs.Find as find
 use Rattle.rht_find.specs.Find.{FindModel, find_after}
@@ -26,17 +27,18 @@ use Rattle.rht_bind.specs.declared.bind.BindAt.TheVariants.{Taking}
 use Rattle.rht_core.specs.declared.event.Event.{Event}
 use Rattle.rht_core.specs.declared.book.Book.{Book}
 use Rattle.rht_core.specs.declared.local.Local.{Local}
-use Rattle.rht_core.specs.declared.local.Local.TheVariants.{Idle, Finding, Binding}
-use Rattle.rht_core.specs.Locals.{is_idle, machine_of, plan_of, local_after, found_next, bound_next}
+use Rattle.rht_core.specs.declared.local.Doing.{Doing}
+use Rattle.rht_core.specs.declared.local.Doing.TheVariants.{Idle, Finding, Binding}
+use Rattle.rht_core.specs.Locals.{is_idle, machine_of, doing_plan, doing_after, ending_of, found_next, bound_next}
 use Rattle.rht_core.specs.Runs.{Seen, local_of}
 use Rattle.rht_core.specs.Traces.{Did, Past, Trace, Traced, trace_begun, trace_did, traced_of}
-use Rattle.rht_core.specs.Laws.{IsLocalIn, seen_begin}
+use Rattle.rht_core.specs.Laws.{IsDoingIn, IsBookOf, seen_begin}
 use Rattle.rht_core.proofs.CallBeginnings.{begins_so}
 use Rattle.rht_core.proofs.FindRanges.{IsFindAtIn}
 use Rattle.rht_core.proofs.BindRanges.{IsBindAtIn}
 use Rattle.rht_core.proofs.MachinesGoOn.{GoesOrEnds}
 use Rattle.rht_core.proofs.MachineReplies.{HoldsFindReply, HoldsBindReply}
-use Rattle.rht_core.proofs.RepliesInRuns.{IsRight, kept-right}
+use Rattle.rht_core.proofs.RepliesInRuns.{HoldsReply, IsRight, kept-right}
 use Rattle.rht_core.proofs.TracedCallers.{IsKeptTraced, traced_callers_keep}
 
 -- a look-up in this state performs this operation; its state is in range, and the reply that it holds is one of a look-up's
@@ -77,61 +79,69 @@ module _ (M : Type 0) (mix : ℕ → ℕ → ℕ → ℕ) (env : Env) (Finds : �
     IsEndedSo past = Ended past.done.call past.done.reply past.steps
 
     -- what holds of the operations of the call in progress
-    abbrev pub IsNowSo : Local M → List Did → Type 0
+    abbrev pub IsNowSo : Doing M → List Did → Type 0
     IsNowSo Idle steps = Unit {0}
     IsNowSo (Finding m) steps = Finds m.port m.at steps
     IsNowSo (Binding m) steps = Binds m.port m.owner m.once m.at steps
 
     -- what is kept of the calls of a caller
-    pub record CallsAreSo (local : Local M) (trace : Trace) : Type 0 where
+    pub record CallsAreSo (doing : Doing M) (trace : Trace) : Type 0 where
       pub past : AllByRecursion IsEndedSo trace.past
-      pub now : IsNowSo local trace.steps
+      pub now : IsNowSo doing trace.steps
 
     -- what a caller keeps: it is right, and its calls are so
     record IsKeeping (c : ℕ) (here : Seen M) (trace : Trace) : Type 0 where
       right : IsRight M mix env c here
-      calls : CallsAreSo here.local trace
+      calls : CallsAreSo here.local.doing trace
 
     -- ---- a step of a call
 
     -- a call that ends joins the past ones
-    ended : (trace : Trace) (did : Did) (in_progress : Option Call) (call : Call) (reply : Reply)
+    ended : (trace : Trace) (did : Did) (in_progress : Option Call) (call : Call) (ending : Ending)
         → in_progress ≡ Some call
-        → Ended call reply (trace.steps ++ did ∷ []) → AllByRecursion IsEndedSo trace.past
-        → AllByRecursion IsEndedSo (trace_did in_progress did (Some reply) trace).past
-    ended trace did in_progress call reply is so past =
-        subst (λ (o : Option Call). AllByRecursion IsEndedSo (trace_did o did (Some reply) trace).past) (sym is)
+        → Ended call ending.answer.reply (trace.steps ++ did ∷ []) → AllByRecursion IsEndedSo trace.past
+        → AllByRecursion IsEndedSo (trace_did in_progress did (Some ending) trace).past
+    ended trace did in_progress call ending is so past =
+        subst (λ (o : Option Call). AllByRecursion IsEndedSo (trace_did o did (Some ending) trace).past) (sym is)
         (AllByRecursion-push IsEndedSo trace.past
         (record {
-          done = record { call = call; reply = reply; owners = []; pairs = [] };
+          done = ended_with call ending;
           begin = trace.begin;
           steps = trace.steps ++ did ∷ [];
         })
         past so)
 
-    module _ (trace : Trace) (did : Did) (in_progress : Option Call) (past : AllByRecursion IsEndedSo trace.past)
+    module _ (local : Local M) (trace : Trace) (did : Did) (in_progress : Option Call)
+        (past : AllByRecursion IsEndedSo trace.past)
       where
         abbrev all : List Did
         all = trace.steps ++ did ∷ []
 
+        -- the trace after this has become of what the caller does
+        abbrev pub trace_after : Doing M × Option Reply → Trace
+        trace_after next = trace_did in_progress did (ending_of (record local { doing = next.0 }) next.1) trace
+
+        abbrev ending : Reply → Ending
+        ending reply = record { answer = record { reply = reply; owners = local.owners.items }; pairs = local.pairs.items }
+
         found : (m : FindModel) (next : Next Reply) → in_progress ≡ Some (Find m.port)
             → GoesOrEnds (λ state. Finds m.port state all) (λ reply. Ended (Find m.port) reply all) (m.at, next)
-            → CallsAreSo (found_next (m, next)).0 (trace_did in_progress did (found_next {M = M} (m, next)).1 trace)
+            → CallsAreSo (found_next (m, next)).0 (trace_after (found_next (m, next)))
         found m Go is so = record { past = past; now = so }
         found m (Done reply) is so =
-            record { past = ended trace did in_progress (Find m.port) reply is so past; now = tt }
+            record { past = ended trace did in_progress (Find m.port) (ending reply) is so past; now = tt }
 
         bound : (m : BindModel) (next : Next Reply) → in_progress ≡ Some (Bind m.port m.owner m.once)
             → GoesOrEnds (λ state. Binds m.port m.owner m.once state all) (λ reply. Ended (Bind m.port m.owner m.once) reply all) (m.at, next)
-            → CallsAreSo (bound_next (m, next)).0 (trace_did in_progress did (bound_next {M = M} (m, next)).1 trace)
+            → CallsAreSo (bound_next (m, next)).0 (trace_after (bound_next (m, next)))
         bound m Go is so = record { past = past; now = so }
         bound m (Done reply) is so =
-            record { past = ended trace did in_progress (Bind m.port m.owner m.once) reply is so past; now = tt }
+            record { past = ended trace did in_progress (Bind m.port m.owner m.once) (ending reply) is so past; now = tt }
 
     module _ (keep : CallsKeep) where
       -- ---- the beginning of a call
 
-      begins-keeping : (c : ℕ) (call : Call) (machine : Local M) (index : ℕ) (here : Seen M) (trace : Trace)
+      begins-keeping : (c : ℕ) (call : Call) (machine : Doing M) (index : ℕ) (here : Seen M) (trace : Trace)
           → is_idle here.local ≡ true
           → machine_of env c call ≡ Some machine → IsKeeping c here trace
           → IsKeeping c (seen_begin call machine here) (trace_begun index trace)
@@ -146,12 +156,13 @@ module _ (M : Type 0) (mix : ℕ → ℕ → ℕ → ℕ) (env : Env) (Finds : �
       }
 
       -- each machine works in the table of the run, where what has to be shown of it is said
-      steps-keeping : (c : ℕ) (local : Local M) (book : Book) (trace : Trace) (did : Did)
-          → plan_of local ≡ Some did.op → IsLocalIn env c local
-          → IsKeeping c (record { local = local; book = book }) trace
-          → CallsAreSo (local_after mix local did.old).0 (trace_did book.call did (local_after mix local did.old).1 trace)
-      steps-keeping c Idle book trace did plan within keeping = absurd (cc)
-      steps-keeping c (Finding m) book trace did plan within keeping =
+      steps-keeping : (c : ℕ) (local : Local M) (doing : Doing M) (book : Book) (trace : Trace) (did : Did)
+          → doing_plan doing ≡ Some did.op → IsDoingIn env c doing
+          → IsBookOf env c doing book → HoldsReply M mix env doing → CallsAreSo doing trace
+          → let next = doing_after mix doing did.old in
+          CallsAreSo next.0 (trace_did book.call did (ending_of (record local { doing = next.0 }) next.1) trace)
+      steps-keeping c local Idle book trace did plan within progress holds calls = absurd (cc)
+      steps-keeping c local (Finding m) book trace did plan within progress holds calls =
           let all = trace.steps ++ did ∷ [] in
           let is : did.op ≡ find.plan_at m.env m.at = cc in
           let goes =
@@ -159,15 +170,15 @@ module _ (M : Type 0) (mix : ℕ → ℕ → ℕ → ℕ) (env : Env) (Finds : �
           record {
             planned = subst (λ (e : Env). did.op ≡ find.plan_at e m.at) within.same_env is;
             within = record { range = within.range; piece = within.piece };
-            holds = keeping.right.holds;
+            holds = holds;
           }
-          keeping.calls.now in
-          found trace did book.call keeping.calls.past (find_after mix m did.old).0 (find_after mix m did.old).1
-          keeping.right.progress.call
+          calls.now in
+          found local trace did book.call calls.past (find_after mix m did.old).0 (find_after mix m did.old).1
+          progress.call
           (subst
           (λ (e : Env). GoesOrEnds (λ next. Finds m.port next all) (λ reply. Ended (Find m.port) reply all) (find.after_at mix e m.port m.at did.old))
           (sym within.same_env) goes)
-      steps-keeping c (Binding m) book trace did plan within keeping =
+      steps-keeping c local (Binding m) book trace did plan within progress holds calls =
           let all = trace.steps ++ did ∷ [] in
           let is : did.op ≡ bind.plan_at m.env m.port m.owner m.at = cc in
           let goes =
@@ -175,11 +186,11 @@ module _ (M : Type 0) (mix : ℕ → ℕ → ℕ → ℕ) (env : Env) (Finds : �
           record {
             planned = subst (λ (e : Env). did.op ≡ bind.plan_at e m.port m.owner m.at) within.same_env is;
             within = record { range = within.range; piece = within.piece };
-            holds = keeping.right.holds;
+            holds = holds;
           }
-          keeping.calls.now in
-          bound trace did book.call keeping.calls.past (bind_after mix m did.old).0 (bind_after mix m did.old).1
-          keeping.right.progress.call
+          calls.now in
+          bound local trace did book.call calls.past (bind_after mix m did.old).0 (bind_after mix m did.old).1
+          progress.call
           (subst
           (λ (e : Env). GoesOrEnds (λ next. Binds m.port m.owner m.once next all) (λ reply. Ended (Bind m.port m.owner m.once) reply all) (bind.after_at mix e m.port m.at did.old))
           (sym within.same_env) goes)
@@ -196,11 +207,13 @@ module _ (M : Type 0) (mix : ℕ → ℕ → ℕ → ℕ) (env : Env) (Finds : �
         begins = λ events c call machine index here trace now. begins-keeping c call machine index here trace;
         steps = λ events c did here trace made keeping. record {
           right = (kept-right M mix env).steps c did.op did.old here made.plan keeping.right;
-          calls = steps-keeping c here.local here.book trace did made.plan made.within keeping;
+          calls =
+              steps-keeping c here.local here.local.doing here.book trace did made.plan made.within.doing keeping.right.progress
+              keeping.right.holds keeping.calls;
         };
       }
 
       -- so what machines keep holds of the calls of every caller in every run
       pub calls_keep : (events : List Event) (c : ℕ)
-          → let r : Traced M = traced_of mix env events in CallsAreSo (local_of r.world.core c) (r.traces c)
+          → let r : Traced M = traced_of mix env events in CallsAreSo (local_of r.world.core c).doing (r.traces c)
       calls_keep events c = (traced_callers_keep M mix env (λ past. IsKeeping) keeps events c).calls

@@ -9,9 +9,9 @@ use Rattle.rht_words.specs.Operations.{old_of}
 use Rattle.rht_model.specs.declared.history.Call.{Call}
 use Rattle.rht_core.specs.declared.event.Event.{Event}
 use Rattle.rht_core.specs.declared.event.Event.TheVariants.{Begin, Step}
-use Rattle.rht_core.specs.declared.local.Local.{Local}
-use Rattle.rht_core.specs.Locals.{local_after}
-use Rattle.rht_core.specs.Runs.{World, local_of, beginning, planned, with_step, run_from, run_of, opening}
+use Rattle.rht_core.specs.declared.local.Doing.{Doing}
+use Rattle.rht_core.specs.Locals.{local_after, ending_of}
+use Rattle.rht_core.specs.Runs.{World, local_of, beginning, planned, run_from, run_of, opening}
 use Rattle.rht_core.specs.Traces.{Trace, Traced, trace_begun, trace_did, traces_begun, traces_stepped, traces_after, traced_step, traced_from, traced_of}
 use Rattle.rht_core.proofs.Worlds.{induct_by_last, changed-same, changed-other}
 
@@ -54,18 +54,18 @@ module _ (M : Type 0) (mix : ℕ → ℕ → ℕ → ℕ) where
 
 module _ (M : Type 0) (mix : ℕ → ℕ → ℕ → ℕ) (r : Traced M) (c : ℕ) where
   module _ (call : Call) where
-    abbrev beginning_in : Option (Local M)
+    abbrev beginning_in : Option (Doing M)
     beginning_in = beginning r.world.core.env r.world.core.enrolled r.world.core.locals c call
 
     pub trace_begin_none : beginning_in ≡ None → traces_after mix r (Begin c call) ≡ r.traces
     trace_begin_none is = ap (traces_begun r c) is
 
-    pub trace_begin_self : (machine : Local M) → beginning_in ≡ Some machine
+    pub trace_begin_self : (machine : Doing M) → beginning_in ≡ Some machine
         → traces_after mix r (Begin c call) c ≡ trace_begun r.count (r.traces c)
     trace_begin_self machine is =
         ap (λ o. traces_begun r c o c) is ∙ changed-same r.traces c (trace_begun r.count (r.traces c))
 
-    begun_other : (k : ℕ) → k ≢ c → (machine : Option (Local M)) → traces_begun r c machine k ≡ r.traces k
+    begun_other : (k : ℕ) → k ≢ c → (machine : Option (Doing M)) → traces_begun r c machine k ≡ r.traces k
     begun_other k other None = refl
     begun_other k other (Some machine) = changed-other r.traces c (trace_begun r.count (r.traces c)) k other
 
@@ -73,18 +73,19 @@ module _ (M : Type 0) (mix : ℕ → ℕ → ℕ → ℕ) (r : Traced M) (c : �
     trace_begin_other k other = begun_other k other beginning_in
 
   abbrev planned_in : Option Op
-  planned_in = planned r.world.core.enrolled r.world.core.locals c
+  planned_in = planned r.world.core.env r.world.core.enrolled r.world.core.locals c
 
   -- the traces after a caller has performed this
   abbrev traces_with : Option Op → ℕ → Trace
-  traces_with op = traces_stepped r c op (with_step mix r.world.core c op).1.reply
+  traces_with op = traces_stepped mix r c op
 
   -- the trace after its own operation
   abbrev pub trace_with : Op → Trace
   trace_with op =
       let old = old_of r.world.core.words op in
-      trace_did (r.world.books c).call (record { index = r.count; op = op; old = old })
-      (local_after mix (local_of r.world.core c) old).1 (r.traces c)
+      let next = local_after mix (local_of r.world.core c) old in
+      trace_did (r.world.books c).call (record { index = r.count; op = op; old = old }) (ending_of next.0 next.1)
+      (r.traces c)
 
   pub trace_step_none : planned_in ≡ None → traces_after mix r (Step c) ≡ r.traces
   trace_step_none is = ap traces_with is

@@ -15,7 +15,8 @@ use Rattle.rht_model.specs.declared.history.Reply.{Reply}
 use Rattle.rht_core.specs.declared.event.Event.{Event}
 use Rattle.rht_core.specs.declared.event.Event.TheVariants.{Begin, Step}
 use Rattle.rht_core.specs.declared.book.Book.{Book}
-use Rattle.rht_core.specs.Locals.{local_after}
+use Rattle.rht_core.specs.declared.local.Local.{Local}
+use Rattle.rht_core.specs.Locals.{local_after, ending_of}
 use Rattle.rht_core.specs.Runs.{World, planned, book_after, run_of}
 use Rattle.rht_core.specs.Traces.{Did, Past, Trace, Traced, trace_begun, trace_did, traced_of, IsRising, behind_steps, behind_call, behind_calls, AreInOrder}
 use Rattle.rht_core.specs.Laws.{IsInProgress, IsRecorded, IsAnsweredAt, IsPastCall, AtEvents}
@@ -50,7 +51,7 @@ AreInOrder-push from (first ∷ calls) past order behind rising =
 module _ (M : Type 0) (mix : ℕ → ℕ → ℕ → ℕ) (env : Env) where
   -- the operation that a caller plans in a world
   abbrev planned_by : ℕ → World M → Option Op
-  planned_by c w = planned w.core.enrolled w.core.locals c
+  planned_by c w = planned w.core.env w.core.enrolled w.core.locals c
 
   -- a call in progress of which all steps lie before this event
   record IsUnderWay (events : List Event) (c : ℕ) (trace : Trace) (call : Call) : Type 0 where
@@ -170,13 +171,13 @@ module _ (M : Type 0) (mix : ℕ → ℕ → ℕ → ℕ) (env : Env) where
 
   -- a step of a call, which may have ended it
   did-holds : (events : List Event) (c : ℕ) (call : Option Call) (trace : Trace) (did : Did)
-      (reply : Option Reply) (book : Book)
+      (next : Local M) (reply : Option Reply) (book : Book)
       → book.call ≡ call
       → did.index ≡ length events → IsRecorded M mix env (events ++ Step c ∷ []) c did
       → reply_of M mix env c (run_of mix env (take did.index (events ++ Step c ∷ []))) ≡ reply
       → Holds events c call trace
-      → Holds (events ++ Step c ∷ []) c (book_after reply book).call (trace_did call did reply trace)
-  did-holds events c call trace did None book same is recorded gives holds =
+      → Holds (events ++ Step c ∷ []) c (book_after (ending_of next reply) book).call (trace_did call did (ending_of next reply) trace)
+  did-holds events c call trace did next None book same is recorded gives holds =
       let kept = holds-more events (Step c) c call trace holds in
       let went =
       IfSome_then call {P = IsUnderWay events c trace} {Q = IsUnderWay (events ++ Step c ∷ []) c (trace_did call did None trace)} holds.progress
@@ -190,7 +191,7 @@ module _ (M : Type 0) (mix : ℕ → ℕ → ℕ → ℕ) (env : Env) where
             subst (λ (o : Option Call). IfSome o (IsUnderWay (events ++ Step c ∷ []) c (trace_did call did None trace)))
             (sym same) went;
       }
-  did-holds events c None trace did (Some reply) book same is recorded gives holds =
+  did-holds events c None trace did next (Some reply) book same is recorded gives holds =
       let kept = holds-more events (Step c) c None trace holds in
       let none : trace.past ≡ trace.past ++ [] = sym (append-nil trace.past) in
       record {
@@ -201,11 +202,11 @@ module _ (M : Type 0) (mix : ℕ → ℕ → ℕ → ℕ) (env : Env) where
         steps = tt;
         progress = tt;
       }
-  did-holds events c (Some call) trace did (Some reply) book same is recorded gives holds =
+  did-holds events c (Some call) trace did next (Some reply) book same is recorded gives holds =
       let kept = holds-more events (Step c) c (Some call) trace holds in
       let went = goes_on events c trace did call is holds.progress in
       let ended : Past = record {
-        done = record { call = call; reply = reply; owners = []; pairs = [] };
+        done = record { call = call; reply = reply; owners = next.owners.items; pairs = next.pairs.items };
         begin = trace.begin;
         steps = trace.steps ++ did ∷ [];
       } in
@@ -233,8 +234,8 @@ module _ (M : Type 0) (mix : ℕ → ℕ → ℕ → ℕ) (env : Env) where
         begins =
             λ events c call machine index here trace now idle made holds. begin-holds events c call here.book.call trace index now holds;
         steps = λ events c did here trace made holds.
-            did-holds events c here.book.call trace did (local_after mix here.local did.old).1 here.book refl made.index made.recorded
-            made.reply holds;
+            let next = local_after mix here.local did.old in
+            did-holds events c here.book.call trace did next.0 next.1 here.book refl made.index made.recorded made.reply holds;
       }
 
 pub at_events : (M : Type 0) (mix : ℕ → ℕ → ℕ → ℕ) → AtEvents M mix

@@ -3,10 +3,10 @@ use Rattle.std.proofs.Common.{◌≡◌, ℕ, ◌+◌, List, [], ◌∷◌, ◌+
 use Rattle.std.specs.Prelude.{Option, Some, None}
 use Rattle.std.proofs.lemmas.List.{length_push, map-append}
 use Rattle.rht_model.specs.declared.history.Call.{Call}
-use Rattle.rht_model.specs.declared.history.Reply.{Reply}
+use Rattle.rht_model.specs.declared.finished.Finished.{Finished}
+use Rattle.rht_model.specs.Endings.{Ending}
 use Rattle.rht_core.specs.declared.book.Book.{Book}
-use Rattle.rht_core.specs.declared.book.Finished.{Finished}
-use Rattle.rht_core.specs.Locals.{local_after}
+use Rattle.rht_core.specs.Locals.{local_after, ending_of}
 use Rattle.rht_core.specs.Runs.{book_begun, book_after, finished_with}
 use Rattle.rht_core.specs.Traces.{Did, Past, Trace, trace_begun, trace_did}
 use Rattle.rht_core.specs.Laws.{IsTraceOf, Remembers}
@@ -24,12 +24,12 @@ begun-of : (index : ℕ) (call : Call) (book : Book) (trace : Trace) → IsTrace
     → IsTraceOf (book_begun call book) (trace_begun index trace)
 begun-of index call book trace of = record { past = of.past; steps = refl }
 
-did-of : (did : Did) (reply : Option Reply) (book : Book) (trace : Trace) → IsTraceOf book trace
-    → IsTraceOf (book_after reply book) (trace_did book.call did reply trace)
+did-of : (did : Did) (ending : Option Ending) (book : Book) (trace : Trace) → IsTraceOf book trace
+    → IsTraceOf (book_after ending book) (trace_did book.call did ending trace)
 did-of did None book trace of =
     record { past = of.past; steps = length_push trace.steps did ∙ ap (λ n. n + 1) of.steps }
-did-of did (Some reply) book trace of =
-    let ended = finished_with book.call reply in
+did-of did (Some ending) book trace of =
+    let ended = finished_with book.call ending in
     let steps = trace.steps ++ did ∷ [] in
     record {
       past =
@@ -50,7 +50,9 @@ remembers M mix env events admitted = record {
         opens = λ c. record { past = refl; steps = refl };
         stays = λ past event c here trace of. of;
         begins = λ past c call machine index here trace now idle made of. begun-of index call here.book trace of;
-        steps = λ past c did here trace made of. did-of did (local_after mix here.local did.old).1 here.book trace of;
+        steps = λ past c did here trace made of.
+            let next = local_after mix here.local did.old in
+            did-of did (ending_of next.0 next.1) here.book trace of;
       }
       events;
 }

@@ -22,11 +22,11 @@ use Rattle.rht_find.specs.Find.{FindModel, find_after}
 use Rattle.rht_bind.specs.Bind.{BindModel, bind_after, IsInRange as IsBindInRange}
 use Rattle.rht_core.specs.declared.event.Event.{Event}
 use Rattle.rht_core.specs.declared.event.Event.TheVariants.{Enroll, Begin, Step}
-use Rattle.rht_core.specs.declared.local.Local.{Local}
-use Rattle.rht_core.specs.declared.local.Local.TheVariants.{Idle, Finding, Binding}
-use Rattle.rht_core.specs.Locals.{machine_of, plan_of, local_after, found_next, bound_next}
+use Rattle.rht_core.specs.declared.local.Doing.{Doing}
+use Rattle.rht_core.specs.declared.local.Doing.TheVariants.{Idle, Finding, Binding}
+use Rattle.rht_core.specs.Locals.{fresh, machine_of, begin_with, doing_plan, doing_after, local_after, found_next, bound_next}
 use Rattle.rht_core.specs.Runs.{Core, World, local_of, beginning, with_machine, planned, with_step, enrolling, world_step, run_of, opening, IsAdmitted, IsAdmittedCall, IsAdmittedEvent}
-use Rattle.rht_core.specs.Laws.{IsLocalIn, IsFindPieceIn, IsBindPieceIn, WordsFit}
+use Rattle.rht_core.specs.Laws.{IsDoingIn, IsFindPieceIn, IsBindPieceIn, WordsFit}
 use Rattle.rht_core.proofs.MachinesGoOn.{GoesOrEnds}
 use Rattle.rht_core.proofs.CallBeginnings.{begins_so}
 use Rattle.rht_core.proofs.Worlds.{beginning-some, planned-some, run_keeps_admitted}
@@ -56,12 +56,12 @@ opening_word-fits env _ small = omega arith
 
 module _ (M : Type 0) where
   -- the port and the owner have 32 bits, and the words that the state holds 64
-  abbrev pub LocalFits : Local M → Type 0
+  abbrev pub LocalFits : Doing M → Type 0
   LocalFits Idle = Unit {0}
   LocalFits (Finding m) = FindFits m.at
   LocalFits (Binding m) = (m.port < 2 ^ 32) × (m.owner < 2 ^ 32) × BindFits m.at
 
-  begins-fit : (env : Env) (c : ℕ) (call : Call) (machine : Local M) → machine_of env c call ≡ Some machine
+  begins-fit : (env : Env) (c : ℕ) (call : Call) (machine : Doing M) → machine_of env c call ≡ Some machine
       → IsAdmittedCall call → LocalFits machine
   begins-fit env c =
       begins_so M env c (λ call machine. IsAdmittedCall call → LocalFits machine) (λ port admitted. tt)
@@ -78,20 +78,20 @@ module _ (M : Type 0) where
   bound-fits m Go small low fits = (small, low, fits)
   bound-fits m (Done reply) small low fits = tt
 
-  local_after-fits : (mix : ℕ → ℕ → ℕ → ℕ) (local : Local M) (old : ℕ) → LocalFits local → Fits old
-      → LocalFits (local_after mix local old).0
-  local_after-fits mix Idle old fits told = tt
-  local_after-fits mix (Finding m) old fits told =
+  doing_after-fits : (mix : ℕ → ℕ → ℕ → ℕ) (doing : Doing M) (old : ℕ) → LocalFits doing → Fits old
+      → LocalFits (doing_after mix doing old).0
+  doing_after-fits mix Idle old fits told = tt
+  doing_after-fits mix (Finding m) old fits told =
       found-fits (find_after mix m old).0 (find_after mix m old).1 (find_after-fits mix m.env m.port m.at old fits told)
-  local_after-fits mix (Binding m) old fits told =
+  doing_after-fits mix (Binding m) old fits told =
       bound-fits (bind_after mix m old).0 (bind_after mix m old).1 fits.0 fits.1 (bind_after-fits mix m.env m.port m.at old fits.2 told)
 
   abbrev PlanFits : Option Op → Type 0
   PlanFits None = Unit {0}
   PlanFits (Some op) = OpFits op
 
-  plan_of-fits : (env : Env) (c : ℕ) (local : Local M) → IsLocalIn env c local → LocalFits local
-      → PlanFits (plan_of local)
+  plan_of-fits : (env : Env) (c : ℕ) (doing : Doing M) → IsDoingIn env c doing → LocalFits doing
+      → PlanFits (doing_plan doing)
   plan_of-fits env c Idle within fits = tt
   plan_of-fits env c (Finding m) within fits =
       find_plan-fits m.env m.at fits (subst (λ (e : Env). IsFindPieceIn e.geometry m.at) (sym within.same_env) within.piece)
@@ -107,7 +107,7 @@ module _ (M : Type 0) (mix : ℕ → ℕ → ℕ → ℕ) (env : Env) where
   pub record AllFit (core : Core M) : Type 0 where
     pub stays : StaysIn M mix env core
     pub words : AllByRecursion Fits core.words
-    pub locals : (c : ℕ) → LocalFits M (local_of core c)
+    pub locals : (c : ℕ) → LocalFits M (local_of core c).doing
 
   opens-fit : env.config.seed < 2 ^ 32 → AllFit (opening env).core
   opens-fit small = record {
@@ -115,7 +115,7 @@ module _ (M : Type 0) (mix : ℕ → ℕ → ℕ → ℕ) (env : Env) where
     words =
         AllByRecursion-map Fits (λ place. opening_word env (address_at env.geometry place))
         (λ place. opening_word-fits env (address_at env.geometry place) small) _;
-    locals = λ c. each_replicate (LocalFits M) env.geometry.callers c Idle tt;
+    locals = λ c. each_replicate (λ local. LocalFits M local.doing) env.geometry.callers c (fresh env) tt;
   }
 
   -- the words stay so where an operation works with such values
@@ -125,34 +125,34 @@ module _ (M : Type 0) (mix : ℕ → ℕ → ℕ → ℕ) (env : Env) where
       AllByRecursion-set Fits words (op_place op) _
       (word_after-fits (old_of words op) op (AllByRecursion-get_or Fits words (op_place op) 0 (omega arith) all) fits) all
 
-  begin-fit : (core : Core M) (c : ℕ) (call : Call) (machine : Option (Local M)) → IsAdmittedCall call
+  begin-fit : (core : Core M) (c : ℕ) (call : Call) (machine : Option (Doing M)) → IsAdmittedCall call
       → beginning core.env core.enrolled core.locals c call ≡ machine → AllFit core
-      → (k : ℕ) → LocalFits M (local_of (record core { locals = with_machine core.locals c machine }) k)
+      → (k : ℕ) → LocalFits M (local_of (record core { locals = with_machine core.env core.locals c machine }) k).doing
   begin-fit core c call None admitted is fit k = fit.locals k
   begin-fit core c call (Some machine) admitted is fit k =
       let can = beginning-some core.env core.enrolled core.locals c call machine is in
       let fits = begins-fit M core.env c call machine can.machine_is admitted in
-      each_set (λ _. LocalFits M) Idle core.locals c machine (has_place M mix env core c fit.stays can.below) fits fit.locals k
+      each_set (λ _ local. LocalFits M local.doing) (fresh core.env) core.locals c (begin_with (local_of core c) machine) (has_place M mix env core c fit.stays can.below) fits fit.locals k
 
   record StepFits (core : Core M) : Type 0 where
     pub words : AllByRecursion Fits core.words
-    pub locals : (c : ℕ) → LocalFits M (local_of core c)
+    pub locals : (c : ℕ) → LocalFits M (local_of core c).doing
 
-  step-fit : (core : Core M) (c : ℕ) (op : Option Op) → planned core.enrolled core.locals c ≡ op → AllFit core
+  step-fit : (core : Core M) (c : ℕ) (op : Option Op) → planned core.env core.enrolled core.locals c ≡ op → AllFit core
       → StepFits (with_step mix core c op).0
   step-fit core c None is fit = record { words = fit.words; locals = fit.locals }
   step-fit core c (Some op) is fit =
-      let can = planned-some core.enrolled core.locals c op is in
+      let can = planned-some core.env core.enrolled core.locals c op is in
       let op_fits =
-      subst (PlanFits M) can.plan (plan_of-fits M env c (local_of core c) (fit.stays.locals c) (fit.locals c)) in
+      subst (PlanFits M) can.plan (plan_of-fits M env c (local_of core c).doing (fit.stays.locals c).doing (fit.locals c)) in
       let old : Fits (old_of core.words op) =
       AllByRecursion-get_or Fits core.words (op_place op) 0 (omega arith) fit.words in
       let next = local_after mix (local_of core c) (old_of core.words op) in
       record {
         words = applied-fit core.words op op_fits fit.words;
         locals =
-            each_set (λ _. LocalFits M) Idle core.locals c next.0 (has_place M mix env core c fit.stays can.below)
-            (local_after-fits M mix (local_of core c) (old_of core.words op) (fit.locals c) old) fit.locals;
+            each_set (λ _ local. LocalFits M local.doing) (fresh core.env) core.locals c next.0 (has_place M mix env core c fit.stays can.below)
+            (doing_after-fits M mix (local_of core c).doing (old_of core.words op) (fit.locals c) old) fit.locals;
       }
 
   event-fit : (w : World M) (event : Event) → IsAdmittedEvent env.config.kind event → AllFit w.core
@@ -168,7 +168,7 @@ module _ (M : Type 0) (mix : ℕ → ℕ → ℕ → ℕ) (env : Env) where
     locals = begin-fit w.core c call (beginning w.core.env w.core.enrolled w.core.locals c call) admitted.1 refl fit;
   }
   event-fit w (Step c) admitted fit =
-      let after = step-fit w.core c (planned w.core.enrolled w.core.locals c) refl fit in
+      let after = step-fit w.core c (planned w.core.env w.core.enrolled w.core.locals c) refl fit in
       record { stays = stays-in M mix env w (Step c) fit.stays; words = after.words; locals = after.locals }
 
   pub runs-fit : (events : List Event) → env.config.seed < 2 ^ 32 → IsAdmitted env.config.kind events

@@ -16,8 +16,8 @@ use Rattle.rht_core.specs.declared.event.Event.{Event}
 use Rattle.rht_core.specs.declared.event.Event.TheVariants.{Begin, Step}
 use Rattle.rht_core.specs.declared.book.Book.{Book}
 use Rattle.rht_core.specs.declared.local.Local.{Local}
-use Rattle.rht_core.specs.declared.local.Local.TheVariants.{Idle}
-use Rattle.rht_core.specs.Locals.{is_idle, machine_of, plan_of, local_after}
+use Rattle.rht_core.specs.declared.local.Doing.{Doing}
+use Rattle.rht_core.specs.Locals.{fresh, is_idle, machine_of, begin_with, plan_of, local_after, ending_of}
 use Rattle.rht_core.specs.Runs.{World, Seen, seen, local_in, local_of, beginning, with_machine, planned, with_step, book_at, book_begun, book_after, books_begun, books_stepped, world_step, run_from, run_of, opening, IsAdmitted, IsAdmittedEvent}
 use Rattle.rht_core.specs.Laws.{seen_begin, seen_step, Extends}
 
@@ -66,36 +66,36 @@ cond_none false option a is = absurd (cc)
 
 module _ {M : Type 0} where
   -- who begins is enrolled and idle, and has a machine for the call
-  pub record CanBegin (env : Env) (enrolled : ℕ) (locals : List (Local M)) (c : ℕ) (call : Call) (machine : Local M)
+  pub record CanBegin (env : Env) (enrolled : ℕ) (locals : List (Local M)) (c : ℕ) (call : Call) (machine : Doing M)
       : Type 0 where
     pub below : c < enrolled
-    pub idle : is_idle (local_in locals c) ≡ true
+    pub idle : is_idle (local_in env locals c) ≡ true
     pub machine_is : machine_of env c call ≡ Some machine
 
-  pub beginning-some : (env : Env) (enrolled : ℕ) (locals : List (Local M)) (c : ℕ) (call : Call) (machine : Local M)
+  pub beginning-some : (env : Env) (enrolled : ℕ) (locals : List (Local M)) (c : ℕ) (call : Call) (machine : Doing M)
       → beginning env enrolled locals c call ≡ Some machine → CanBegin env enrolled locals c call machine
   beginning-some env enrolled locals c call machine is =
       let parts =
-      cond_none (nat_lt c enrolled && is_idle (local_in locals c)) (machine_of env c call) machine is in
-      let both = and_parts (nat_lt c enrolled) (is_idle (local_in locals c)) parts.0 in
+      cond_none (nat_lt c enrolled && is_idle (local_in env locals c)) (machine_of env c call) machine is in
+      let both = and_parts (nat_lt c enrolled) (is_idle (local_in env locals c)) parts.0 in
       record { below = ltb-true c enrolled both.0; idle = both.1; machine_is = parts.1 }
 
   -- who plans an operation is enrolled
-  pub record CanStep (enrolled : ℕ) (locals : List (Local M)) (c : ℕ) (op : Op) : Type 0 where
+  pub record CanStep (env : Env) (enrolled : ℕ) (locals : List (Local M)) (c : ℕ) (op : Op) : Type 0 where
     pub below : c < enrolled
-    pub plan : plan_of (local_in locals c) ≡ Some op
+    pub plan : plan_of (local_in env locals c) ≡ Some op
 
-  pub planned-some : (enrolled : ℕ) (locals : List (Local M)) (c : ℕ) (op : Op)
-      → planned enrolled locals c ≡ Some op → CanStep enrolled locals c op
-  planned-some enrolled locals c op is =
-      let parts = cond_none (nat_lt c enrolled) (plan_of (local_in locals c)) op is in
+  pub planned-some : (env : Env) (enrolled : ℕ) (locals : List (Local M)) (c : ℕ) (op : Op)
+      → planned env enrolled locals c ≡ Some op → CanStep env enrolled locals c op
+  planned-some env enrolled locals c op is =
+      let parts = cond_none (nat_lt c enrolled) (plan_of (local_in env locals c)) op is in
       record { below = ltb-true c enrolled parts.0; plan = parts.1 }
 
   -- of who is enrolled the local alone says what it plans
-  pub planned-enrolled : (enrolled : ℕ) (locals : List (Local M)) (c : ℕ) → c < enrolled
-      → planned enrolled locals c ≡ plan_of (local_in locals c)
-  planned-enrolled enrolled locals c below =
-      ap (λ (v : Bool). cond v (plan_of (local_in locals c)) None) (lt-ltb c enrolled below)
+  pub planned-enrolled : (env : Env) (enrolled : ℕ) (locals : List (Local M)) (c : ℕ) → c < enrolled
+      → planned env enrolled locals c ≡ plan_of (local_in env locals c)
+  planned-enrolled env enrolled locals c below =
+      ap (λ (v : Bool). cond v (plan_of (local_in env locals c)) None) (lt-ltb c enrolled below)
 
 -- ---- what an event does
 
@@ -106,13 +106,13 @@ module _ (M : Type 0) (mix : ℕ → ℕ → ℕ → ℕ) (w : World M) where
 
   module _ (c : ℕ) (call : Call) where
     -- the operation with which a caller begins
-    abbrev pub beginning_in : Option (Local M)
+    abbrev pub beginning_in : Option (Doing M)
     beginning_in = beginning w.core.env w.core.enrolled w.core.locals c call
 
     -- the world after a caller has begun with this
-    abbrev began_with : Option (Local M) → World M
+    abbrev began_with : Option (Doing M) → World M
     began_with machine = record {
-      core = record w.core { locals = with_machine w.core.locals c machine };
+      core = record w.core { locals = with_machine w.core.env w.core.locals c machine };
       books = books_begun w.books c call machine;
     }
 
@@ -121,21 +121,23 @@ module _ (M : Type 0) (mix : ℕ → ℕ → ℕ → ℕ) (w : World M) where
     begin_none is = ap began_with is
 
     -- who begins has the machine and the call
-    pub begin_self : (machine : Local M) → beginning_in ≡ Some machine → c < length w.core.locals
+    pub begin_self : (machine : Doing M) → beginning_in ≡ Some machine → c < length w.core.locals
         → seen (world_step mix w (Begin c call)) c ≡ seen_begin call machine (seen w c)
     begin_self machine is below =
-        let local : local_in (slice_set w.core.locals c machine) c ≡ machine =
-        get_or-set_same w.core.locals c machine Idle below in
+        let begun = begin_with (local_of w.core c) machine in
+        let local : local_in w.core.env (slice_set w.core.locals c begun) c ≡ begun =
+        get_or-set_same w.core.locals c begun (fresh w.core.env) below in
         let book : book_at w.books c (book_begun call (w.books c)) c ≡ book_begun call (w.books c) =
         changed-same w.books c (book_begun call (w.books c)) in
         ap (λ o. seen (began_with o) c) is ∙ (λ i. pair (local i) (book i))
 
     -- another caller sees nothing of it
-    began_other : (k : ℕ) → k ≢ c → (machine : Option (Local M)) → seen (began_with machine) k ≡ seen w k
+    began_other : (k : ℕ) → k ≢ c → (machine : Option (Doing M)) → seen (began_with machine) k ≡ seen w k
     began_other k other None = refl
     began_other k other (Some machine) =
-        let local : local_in (slice_set w.core.locals c machine) k ≡ local_of w.core k =
-        get_or-set_other w.core.locals c k machine Idle other in
+        let begun = begin_with (local_of w.core c) machine in
+        let local : local_in w.core.env (slice_set w.core.locals c begun) k ≡ local_of w.core k =
+        get_or-set_other w.core.locals c k begun (fresh w.core.env) other in
         let book : book_at w.books c (book_begun call (w.books c)) k ≡ w.books k =
         changed-other w.books c (book_begun call (w.books c)) k other in
         (λ i. pair (local i) (book i))
@@ -146,13 +148,13 @@ module _ (M : Type 0) (mix : ℕ → ℕ → ℕ → ℕ) (w : World M) where
   module _ (c : ℕ) where
     -- the operation that a caller performs next
     abbrev pub planned_in : Option Op
-    planned_in = planned w.core.enrolled w.core.locals c
+    planned_in = planned w.core.env w.core.enrolled w.core.locals c
 
     -- the world after a caller has performed this
     abbrev stepped_with : Option Op → World M
     stepped_with op = record {
       core = (with_step mix w.core c op).0;
-      books = books_stepped w.books c op (with_step mix w.core c op).1.reply;
+      books = books_stepped mix w c op;
     }
 
     -- a step of a caller that plans nothing changes nothing
@@ -169,10 +171,10 @@ module _ (M : Type 0) (mix : ℕ → ℕ → ℕ → ℕ) (w : World M) where
         → seen (world_step mix w (Step c)) c ≡ seen_step mix (old_of w.core.words op) (seen w c)
     step_self op is below =
         let next = local_after mix (local_of w.core c) (old_of w.core.words op) in
-        let local : local_in (slice_set w.core.locals c next.0) c ≡ next.0 =
-        get_or-set_same w.core.locals c next.0 Idle below in
-        let book : book_at w.books c (book_after next.1 (w.books c)) c ≡ book_after next.1 (w.books c) =
-        changed-same w.books c (book_after next.1 (w.books c)) in
+        let after = book_after (ending_of next.0 next.1) (w.books c) in
+        let local : local_in w.core.env (slice_set w.core.locals c next.0) c ≡ next.0 =
+        get_or-set_same w.core.locals c next.0 (fresh w.core.env) below in
+        let book : book_at w.books c after c ≡ after = changed-same w.books c after in
         ap (λ o. seen (stepped_with o) c) is ∙ (λ i. pair (local i) (book i))
 
     -- another caller sees nothing of it
@@ -180,10 +182,10 @@ module _ (M : Type 0) (mix : ℕ → ℕ → ℕ → ℕ) (w : World M) where
     stepped_other k other None = refl
     stepped_other k other (Some op) =
         let next = local_after mix (local_of w.core c) (old_of w.core.words op) in
-        let local : local_in (slice_set w.core.locals c next.0) k ≡ local_of w.core k =
-        get_or-set_other w.core.locals c k next.0 Idle other in
-        let book : book_at w.books c (book_after next.1 (w.books c)) k ≡ w.books k =
-        changed-other w.books c (book_after next.1 (w.books c)) k other in
+        let after = book_after (ending_of next.0 next.1) (w.books c) in
+        let local : local_in w.core.env (slice_set w.core.locals c next.0) k ≡ local_of w.core k =
+        get_or-set_other w.core.locals c k next.0 (fresh w.core.env) other in
+        let book : book_at w.books c after k ≡ w.books k = changed-other w.books c after k other in
         (λ i. pair (local i) (book i))
 
     pub step_other : (k : ℕ) → k ≢ c → seen (world_step mix w (Step c)) k ≡ seen w k

@@ -9,8 +9,8 @@ use Rattle.rht_model.specs.Multimap.{Multimap}
 use Rattle.rht_bind.specs.declared.bind.BindAt.{BindAt}
 use Rattle.rht_bind.specs.declared.bind.BindAt.TheVariants.{Publish}
 use Rattle.rht_core.specs.declared.event.Event.{Event}
-use Rattle.rht_core.specs.declared.local.Local.{Local}
-use Rattle.rht_core.specs.declared.local.Local.TheVariants.{Binding}
+use Rattle.rht_core.specs.declared.local.Doing.{Doing}
+use Rattle.rht_core.specs.declared.local.Doing.TheVariants.{Idle, Finding, Binding}
 use Rattle.rht_core.specs.Runs.{Core, local_of, run_of, IsAdmitted}
 use Rattle.rht_core.specs.StandsFor.{first_node, stands_for}
 use Rattle.rht_core.specs.Causes.{AreBound}
@@ -27,13 +27,14 @@ is_linking (Publish claimed kick) = true
 is_linking _ = false
 
 -- the caller has raised the count for a node that it hasn't linked yet
-abbrev pub is_raising : {M : Type 0} → Local M → Bool
+abbrev pub is_raising : {M : Type 0} → Doing M → Bool
+is_raising Idle = false
+is_raising (Finding m) = false
 is_raising (Binding m) = is_linking m.at
-is_raising _ = false
 
 -- how many callers have
 abbrev pub raising : {M : Type 0} → Core M → ℕ
-raising core = count_by (λ c. is_raising (local_of core c)) (range_with_len 0 core.env.geometry.callers)
+raising core = count_by (λ c. is_raising (local_of core c).doing) (range_with_len 0 core.env.geometry.callers)
 
 -- the count of ports is the number of ports bound, and of the callers that have raised it for a node that they haven't linked yet
 pub record IsCounted {M : Type 0} (env : Env) (core : Core M) : Type 0 where

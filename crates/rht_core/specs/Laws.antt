@@ -1,5 +1,5 @@
 -- What holds of every run.
-use Rattle.std.specs.Prelude.{◌≡◌, ◌≢◌, ℕ, ◌+◌, ◌^◌, ◌<◌, ◌≤◌, ◌⊎◌, List, [], ◌∷◌, ◌++◌, length, map, take, Option, Some, None, IfSome}
+use Rattle.std.specs.Prelude.{◌≡◌, ◌≢◌, ℕ, ◌+◌, ◌^◌, ◌<◌, ◌≤◌, ◌⊎◌, if◌then◌else◌, List, [], ◌∷◌, ◌++◌, length, map, take, Option, Some, None, IfSome}
 use Rattle.std.specs.List.{AllByRecursion, slice_get}
 use Rattle.std.specs.Int.{bit_at}
 use Rattle.rht_words.specs.declared.op.Op.{Op}
@@ -21,13 +21,14 @@ use Rattle.rht_model.specs.declared.history.Call.{Call}
 use Rattle.rht_model.specs.declared.history.Call.TheVariants.{Bind, Find}
 use Rattle.rht_model.specs.declared.history.Reply.{Reply}
 use Rattle.rht_model.specs.declared.history.Reply.TheVariants.{Bound, Exists, Found, Missing, TooBig, NoNode}
-use Rattle.rht_core.specs.declared.book.Finished.{Finished}
+use Rattle.rht_model.specs.declared.finished.Finished.{Finished}
 use Rattle.rht_core.specs.declared.book.Book.{Book}
 use Rattle.rht_core.specs.declared.event.Event.{Event}
 use Rattle.rht_core.specs.declared.event.Event.TheVariants.{Enroll, Begin, Step}
 use Rattle.rht_core.specs.declared.local.Local.{Local}
-use Rattle.rht_core.specs.declared.local.Local.TheVariants.{Idle, Finding, Binding}
-use Rattle.rht_core.specs.Locals.{plan_of, local_after}
+use Rattle.rht_core.specs.declared.local.Doing.{Doing}
+use Rattle.rht_core.specs.declared.local.Doing.TheVariants.{Idle, Finding, Binding}
+use Rattle.rht_core.specs.Locals.{fresh, is_idle, begin_with, plan_of, local_after, ending_of}
 use Rattle.rht_core.specs.Runs.{Core, World, Seen, core_step, world_step, run_of, local_of, planned, seen, new_book, book_begun, book_after, IsSound, IsAdmitted, IsAdmittedEvent}
 use Rattle.rht_core.specs.Traces.{Did, Past, Trace, Traced, traced_of, behind_calls, IsRising, AreInOrder}
 
@@ -35,14 +36,14 @@ use Rattle.rht_core.specs.Traces.{Did, Past, Trace, Traced, traced_of, behind_ca
 
 module _ {M : Type 0} where
   -- it was given a call, and what it does for it
-  abbrev pub seen_begin : Call → Local M → Seen M → Seen M
-  seen_begin call machine seen = record { local = machine; book = book_begun call seen.book }
+  abbrev pub seen_begin : Call → Doing M → Seen M → Seen M
+  seen_begin call doing seen = record { local = begin_with seen.local doing; book = book_begun call seen.book }
 
   -- it has made an operation, which found this word
   abbrev pub seen_step : (ℕ → ℕ → ℕ → ℕ) → ℕ → Seen M → Seen M
   seen_step mix old seen =
       let next = local_after mix seen.local old in
-      record { local = next.0; book = book_after next.1 seen.book }
+      record { local = next.0; book = book_after (ending_of next.0 next.1) seen.book }
 
 -- ---- what a caller's state names
 
@@ -106,10 +107,16 @@ pub record IsPlannedIn (g : Geometry) (op : Op) : Type 0 where
 
 module _ {M : Type 0} where
   -- what this caller does is in range
-  abbrev pub IsLocalIn : Env → ℕ → Local M → Type 0
-  IsLocalIn env c Idle = Unit {0}
-  IsLocalIn env c (Finding m) = IsFindOf env c m
-  IsLocalIn env c (Binding m) = IsBindOf env c m
+  abbrev pub IsDoingIn : Env → ℕ → Doing M → Type 0
+  IsDoingIn env c Idle = Unit {0}
+  IsDoingIn env c (Finding m) = IsFindOf env c m
+  IsDoingIn env c (Binding m) = IsBindOf env c m
+
+  -- and its rooms may have one item a node
+  pub record IsLocalIn (env : Env) (c : ℕ) (local : Local M) : Type 0 where
+    pub doing : IsDoingIn env c local.doing
+    pub owners : local.owners.limit ≡ env.geometry.nodes
+    pub pairs : local.pairs.limit ≡ env.geometry.nodes
 
 -- all words and callers are there, what each caller does is in range, and so is the operation that it plans
 pub record IsInRange {M : Type 0} (env : Env) (core : Core M) : Type 0 where
@@ -163,15 +170,37 @@ pub record IsBookOfBind (env : Env) (c : ℕ) (m : BindModel) (book : Book) : Ty
 
 module _ {M : Type 0} where
   -- what a caller does is what its book says
-  abbrev pub IsBookOf : Env → ℕ → Local M → Book → Type 0
+  abbrev pub IsBookOf : Env → ℕ → Doing M → Book → Type 0
   IsBookOf env c Idle book = IsBookOfIdle book
   IsBookOf env c (Finding m) book = IsBookOfFind env c m book
   IsBookOf env c (Binding m) book = IsBookOfBind env c m book
 
--- each call of a caller that has ended was answered, and the one in progress is the one that it works at
+-- the last of these calls
+abbrev pub last_of : List Finished → Option Finished
+last_of [] = None
+last_of (done ∷ []) = Some done
+last_of (done ∷ next ∷ calls) = last_of (next ∷ calls)
+
+-- the owners that came with a call, and the pairs; none where there is no call
+abbrev pub owners_with : Option Finished → List ℕ
+owners_with None = []
+owners_with (Some done) = done.owners
+
+abbrev pub pairs_with : Option Finished → List (ℕ × ℕ)
+pairs_with None = []
+pairs_with (Some done) = done.pairs
+
+-- in no call a caller's rooms have the lists that came with its last finished call, and in a call they are empty
+pub record HasLists {M : Type 0} (local : Local M) (book : Book) : Type 0 where
+  pub owners : local.owners.items ≡ (if is_idle local then owners_with (last_of book.finished) else [])
+  pub pairs : local.pairs.items ≡ (if is_idle local then pairs_with (last_of book.finished) else [])
+
+-- each call of a caller that has ended was answered, the one in progress is the one that it works at, and its rooms
+-- have the lists of the last one that has ended
 pub record AnswersIn {M : Type 0} (env : Env) (c : ℕ) (local : Local M) (book : Book) : Type 0 where
   pub finished : AllByRecursion IsAnswered book.finished
-  pub progress : IsBookOf env c local book
+  pub progress : IsBookOf env c local.doing book
+  pub lists : HasLists local book
 
 -- ---- traces
 
@@ -266,7 +295,7 @@ module _ (M : Type 0) (mix : ℕ → ℕ → ℕ → ℕ) where
   NotEnrolled =
       (env : Env) (events : List Event) → IsAdmitted env.config.kind events
       → let w : World M = run_of mix env events in
-      (c : ℕ) → w.core.enrolled ≤ c → seen w c ≡ record { local = Idle; book = new_book }
+      (c : ℕ) → w.core.enrolled ≤ c → seen w c ≡ record { local = fresh env; book = new_book }
 
   -- in every run each call that has ended has a reply of its kind
   abbrev pub Replies : Type 0
@@ -293,7 +322,7 @@ module _ (M : Type 0) (mix : ℕ → ℕ → ℕ → ℕ) where
     pub event : slice_get events did.index ≡ Some (Step c)
     pub plan :
         let core : Core M = (run_of mix env (take did.index events)).core in
-        planned core.enrolled core.locals c ≡ Some did.op
+        planned core.env core.enrolled core.locals c ≡ Some did.op
     pub found : old_of (run_of {M = M} mix env (take did.index events)).core.words did.op ≡ did.old
 
   -- a past call was answered at its last step

@@ -1,5 +1,5 @@
--- What a caller is doing: the operation that it plans, and what it becomes with the word's old value.
-use Rattle.std.specs.Prelude.{◌≡◌, ℕ, Bool, true, false, Option, Some, None}
+-- A caller: what it is doing, the operation that it plans, what it becomes with the word's old value, and its rooms for lists.
+use Rattle.std.specs.Prelude.{◌≡◌, ℕ, Bool, true, false, Option, Some, None, []}
 use Rattle.rht_words.specs.declared.op.Op.{Op}
 use Rattle.rht_words.specs.declared.machine.Next.{Next}
 use Rattle.rht_words.specs.declared.machine.Next.TheVariants.{Go, Done}
@@ -9,52 +9,96 @@ use Rattle.rht_words.specs.declared.config.Kind.TheVariants.{Single, Listed}
 use Rattle.rht_model.specs.declared.history.Call.{Call}
 use Rattle.rht_model.specs.declared.history.Call.TheVariants.{Bind, Find}
 use Rattle.rht_model.specs.declared.history.Reply.{Reply}
+use Rattle.rht_model.specs.Rooms.{Kept, emptied}
+use Rattle.rht_model.specs.Endings.{Ending}
 use Rattle.rht_find.specs.Find.{FindModel, find_new, find_plan, find_after}
 use Rattle.rht_bind.specs.Bind.{BindModel, bind_new, bind_plan, bind_after}
 use Rattle.rht_core.specs.declared.local.Local.{Local}
-use Rattle.rht_core.specs.declared.local.Local.TheVariants.{Idle, Finding, Binding}
+use Rattle.rht_core.specs.declared.local.Doing.{Doing}
+use Rattle.rht_core.specs.declared.local.Doing.TheVariants.{Idle, Finding, Binding}
+
+-- ---- what a caller is doing
 
 module _ {M : Type 0} where
   -- it is in no call
-  abbrev pub is_idle : Local M → Bool
-  is_idle Idle = true
-  is_idle (Finding m) = false
-  is_idle (Binding m) = false
+  abbrev pub does_nothing : Doing M → Bool
+  does_nothing Idle = true
+  does_nothing (Finding m) = false
+  does_nothing (Binding m) = false
 
   -- a bind is built for tables of one owner each alone
-  abbrev pub binding_of : Env → ℕ → ℕ → ℕ → Bool → Kind → Option (Local M)
+  abbrev pub binding_of : Env → ℕ → ℕ → ℕ → Bool → Kind → Option (Doing M)
   binding_of env caller port owner once Single = Some (Binding (bind_new env caller port owner once))
   binding_of env caller port owner once Listed = None
 
   -- what a caller does that is given a call; none where there is no such machine yet
-  abbrev pub machine_of : Env → ℕ → Call → Option (Local M)
+  abbrev pub machine_of : Env → ℕ → Call → Option (Doing M)
   machine_of env caller (Find port) = Some (Finding (find_new env caller port))
   machine_of env caller (Bind port owner once) = binding_of env caller port owner once env.config.kind
   machine_of env caller _ = None
 
   -- the operation that it performs next
-  abbrev pub plan_of : Local M → Option Op
-  plan_of Idle = None
-  plan_of (Finding m) = Some (find_plan m)
-  plan_of (Binding m) = Some (bind_plan m)
+  abbrev pub doing_plan : Doing M → Option Op
+  doing_plan Idle = None
+  doing_plan (Finding m) = Some (find_plan m)
+  doing_plan (Binding m) = Some (bind_plan m)
 
   -- the caller is idle once its call has a reply
-  abbrev pub found_next : FindModel × Next Reply → Local M × Option Reply
+  abbrev pub found_next : FindModel × Next Reply → Doing M × Option Reply
   found_next (m, Go) = (Finding m, None)
   found_next (m, Done reply) = (Idle, Some reply)
 
-  abbrev pub bound_next : BindModel × Next Reply → Local M × Option Reply
+  abbrev pub bound_next : BindModel × Next Reply → Doing M × Option Reply
   bound_next (m, Go) = (Binding m, None)
   bound_next (m, Done reply) = (Idle, Some reply)
 
   -- what it does after its operation found this value, and the reply where the call has ended
-  abbrev pub local_after : (ℕ → ℕ → ℕ → ℕ) → Local M → ℕ → Local M × Option Reply
-  local_after mix Idle old = (Idle, None)
-  local_after mix (Finding m) old = found_next (find_after mix m old)
-  local_after mix (Binding m) old = bound_next (bind_after mix m old)
+  abbrev pub doing_after : (ℕ → ℕ → ℕ → ℕ) → Doing M → ℕ → Doing M × Option Reply
+  doing_after mix Idle old = (Idle, None)
+  doing_after mix (Finding m) old = found_next (find_after mix m old)
+  doing_after mix (Binding m) old = bound_next (bind_after mix m old)
 
   -- it does this in the table of this environment
+  abbrev pub IsDoingOf : Env → Doing M → Type 0
+  IsDoingOf env Idle = Unit {0}
+  IsDoingOf env (Finding m) = m.env ≡ env
+  IsDoingOf env (Binding m) = m.env ≡ env
+
+-- ---- a caller with its rooms
+
+-- an empty room for one item a node
+abbrev pub room_for_nodes : {A : Type 0} → Env → Kept A
+room_for_nodes env = record { items = []; limit = env.geometry.nodes }
+
+module _ {M : Type 0} where
+  -- it has made no call, and has rooms for all nodes
+  abbrev pub fresh : Env → Local M
+  fresh env = record { doing = Idle; owners = room_for_nodes env; pairs = room_for_nodes env }
+
+  -- it is in no call
+  abbrev pub is_idle : Local M → Bool
+  is_idle local = does_nothing local.doing
+
+  -- it begins with this: both rooms are emptied
+  abbrev pub begin_with : Local M → Doing M → Local M
+  begin_with local doing = record { doing = doing; owners = emptied local.owners; pairs = emptied local.pairs }
+
+  -- the operation that it performs next
+  abbrev pub plan_of : Local M → Option Op
+  plan_of local = doing_plan local.doing
+
+  -- what becomes of it after its operation found this value, and the reply where the call has ended; no machine has a
+  -- room of its caller's yet, so the rooms stay
+  abbrev pub local_after : (ℕ → ℕ → ℕ → ℕ) → Local M → ℕ → Local M × Option Reply
+  local_after mix local old =
+      let next = doing_after mix local.doing old in (record local { doing = next.0 }, next.1)
+
+  -- how its call has ended, where there is a reply: the lists that came with it are those in its rooms
+  abbrev pub ending_of : Local M → Option Reply → Option Ending
+  ending_of local None = None
+  ending_of local (Some reply) =
+      Some (record { answer = record { reply = reply; owners = local.owners.items }; pairs = local.pairs.items })
+
+  -- it does what it does in the table of this environment
   abbrev pub IsLocalOf : Env → Local M → Type 0
-  IsLocalOf env Idle = Unit {0}
-  IsLocalOf env (Finding m) = m.env ≡ env
-  IsLocalOf env (Binding m) = m.env ≡ env
+  IsLocalOf env local = IsDoingOf env local.doing

@@ -1,5 +1,5 @@
 -- A run: the words, what each caller is doing, and what is known of its calls, from the opening on by a list of events.
-use Rattle.std.specs.Prelude.{◌≡◌, ℕ, ◌+◌, ◌^◌, ◌<◌, ◌≤◌, ◌==◌, ◌&&◌, nat_lt, max, if◌then◌else◌, Option, Some, None, List, [], ◌∷◌, ◌++◌, length, replicate, slice_index_or, slice_set}
+use Rattle.std.specs.Prelude.{◌≡◌, ◌≢◌, ℕ, ◌+◌, ◌^◌, ◌<◌, ◌≤◌, ◌==◌, ◌&&◌, nat_lt, max, if◌then◌else◌, Option, Some, None, List, [], ◌∷◌, ◌++◌, length, replicate, slice_index_or, slice_set}
 use Rattle.std.specs.List.{AllByRecursion}
 use Rattle.rht_words.specs.declared.op.Op.{Op}
 use Rattle.rht_words.specs.declared.op.Op.TheVariants.{Add}
@@ -13,14 +13,15 @@ use Rattle.rht_words.specs.declared.config.Kind.TheVariants.{Listed}
 use Rattle.rht_model.specs.declared.history.Call.{Call}
 use Rattle.rht_model.specs.declared.history.Call.TheVariants.{Bind, Find, All, Release, Rebind, Walk}
 use Rattle.rht_model.specs.declared.history.Reply.{Reply}
+use Rattle.rht_model.specs.declared.finished.Finished.{Finished}
+use Rattle.rht_model.specs.Endings.{Ending, ended_with}
 use Rattle.rht_core.specs.declared.event.Event.{Event}
 use Rattle.rht_core.specs.declared.event.Event.TheVariants.{Enroll, Begin, Step}
 use Rattle.rht_core.specs.declared.event.Stepped.{Stepped}
-use Rattle.rht_core.specs.declared.book.Finished.{Finished}
 use Rattle.rht_core.specs.declared.book.Book.{Book}
 use Rattle.rht_core.specs.declared.local.Local.{Local}
-use Rattle.rht_core.specs.declared.local.Local.TheVariants.{Idle}
-use Rattle.rht_core.specs.Locals.{is_idle, machine_of, plan_of, local_after, IsLocalOf}
+use Rattle.rht_core.specs.declared.local.Doing.{Doing}
+use Rattle.rht_core.specs.Locals.{fresh, is_idle, machine_of, begin_with, plan_of, local_after, ending_of, IsLocalOf}
 
 -- what the program keeps of a run: the words, how many callers have enrolled, and what each is doing
 pub record Core (M : Type 0) : Type 0 where
@@ -46,29 +47,29 @@ abbrev pub enrolled_after : Env → ℕ → ℕ → ℕ
 enrolled_after env enrolled old = if nat_lt old env.geometry.callers then max enrolled (old + 1) else enrolled
 
 module _ {M : Type 0} where
-  -- what a caller is doing; one that isn't there is idle
-  abbrev pub local_in : List (Local M) → ℕ → Local M
-  local_in locals c = slice_index_or locals c Idle
+  -- a caller; one that isn't there has made no call
+  abbrev pub local_in : Env → List (Local M) → ℕ → Local M
+  local_in env locals c = slice_index_or locals c (fresh env)
 
   abbrev pub local_of : Core M → ℕ → Local M
-  local_of core c = local_in core.locals c
+  local_of core c = local_in core.env core.locals c
 
   -- what a caller does that is given this call; none where it isn't enrolled, is in a call, or has no machine for it
-  abbrev pub beginning : Env → ℕ → List (Local M) → ℕ → Call → Option (Local M)
+  abbrev pub beginning : Env → ℕ → List (Local M) → ℕ → Call → Option (Doing M)
   beginning env enrolled locals c call =
-      if nat_lt c enrolled && is_idle (local_in locals c) then machine_of env c call else None
+      if nat_lt c enrolled && is_idle (local_in env locals c) then machine_of env c call else None
 
-  -- what the callers are doing after one of them was given what it does
-  abbrev pub with_machine : List (Local M) → ℕ → Option (Local M) → List (Local M)
-  with_machine locals c None = locals
-  with_machine locals c (Some machine) = slice_set locals c machine
+  -- the callers after one of them has begun with what it does
+  abbrev pub with_machine : Env → List (Local M) → ℕ → Option (Doing M) → List (Local M)
+  with_machine env locals c None = locals
+  with_machine env locals c (Some doing) = slice_set locals c (begin_with (local_in env locals c) doing)
 
   abbrev pub begun : Env → ℕ → List (Local M) → ℕ → Call → List (Local M)
-  begun env enrolled locals c call = with_machine locals c (beginning env enrolled locals c call)
+  begun env enrolled locals c call = with_machine env locals c (beginning env enrolled locals c call)
 
   -- the operation that a caller performs next; none where it isn't enrolled or is idle
-  abbrev pub planned : ℕ → List (Local M) → ℕ → Option Op
-  planned enrolled locals c = if nat_lt c enrolled then plan_of (local_in locals c) else None
+  abbrev pub planned : Env → ℕ → List (Local M) → ℕ → Option Op
+  planned env enrolled locals c = if nat_lt c enrolled then plan_of (local_in env locals c) else None
 
   module _ (mix : ℕ → ℕ → ℕ → ℕ) where
     -- a caller has performed this operation, and is told the word's old value
@@ -89,7 +90,7 @@ module _ {M : Type 0} where
         (record core { words = applied core.words op; enrolled = enrolled_after core.env core.enrolled old }, has_done op old None)
     core_step core (Begin c call) =
         (record core { locals = begun core.env core.enrolled core.locals c call }, nothing_done)
-    core_step core (Step c) = with_step core c (planned core.enrolled core.locals c)
+    core_step core (Step c) = with_step core c (planned core.env core.enrolled core.locals c)
 
   -- what always holds of it
   pub record IsSound (core : Core M) : Type 0 where
@@ -109,24 +110,19 @@ abbrev pub book_begun : Call → Book → Book
 book_begun call book = record { call = Some call; steps = 0; finished = book.finished }
 
 -- the call in progress has ended; no call in progress ends in none
-abbrev pub finished_with : Option Call → Reply → List Finished
-finished_with None reply = []
-finished_with (Some call) reply = record { call = call; reply = reply; owners = []; pairs = [] } ∷ []
+abbrev pub finished_with : Option Call → Ending → List Finished
+finished_with None ending = []
+finished_with (Some call) ending = ended_with call ending ∷ []
 
 -- an operation was made, and may have ended the call
-abbrev pub book_after : Option Reply → Book → Book
+abbrev pub book_after : Option Ending → Book → Book
 book_after None book = record { call = book.call; steps = book.steps + 1; finished = book.finished }
-book_after (Some reply) book =
-    record { call = None; steps = 0; finished = book.finished ++ finished_with book.call reply }
+book_after (Some ending) book =
+    record { call = None; steps = 0; finished = book.finished ++ finished_with book.call ending }
 
 -- the books with another one for this caller
 abbrev pub book_at : (ℕ → Book) → ℕ → Book → ℕ → Book
 book_at books c book = λ other. if other == c then book else books other
-
--- what a caller's operation makes of the books
-abbrev pub books_stepped : (ℕ → Book) → ℕ → Option Op → Option Reply → ℕ → Book
-books_stepped books c None reply = books
-books_stepped books c (Some op) reply = book_at books c (book_after reply (books c))
 
 -- ---- runs
 
@@ -153,8 +149,8 @@ IsAdmittedCall _ = Unit {0}
 
 -- in a table of lists nothing is rebound
 abbrev pub IsBuiltFor : Kind → Call → Type 0
-IsBuiltFor Listed (Rebind port owner new) = ⊥
-IsBuiltFor _ _ = Unit {0}
+IsBuiltFor kind (Rebind port owner new) = kind ≢ Listed
+IsBuiltFor kind _ = Unit {0}
 
 abbrev pub IsAdmittedEvent : Kind → Event → Type 0
 IsAdmittedEvent kind Enroll = Unit {0}
@@ -164,11 +160,17 @@ IsAdmittedEvent kind (Step c) = c < 2 ^ 32
 abbrev pub IsAdmitted : Kind → List Event → Type 0
 IsAdmitted kind events = AllByRecursion (IsAdmittedEvent kind) events
 
+-- what is left of that where each number is of its type
+abbrev pub IsBuiltEvent : Kind → Event → Type 0
+IsBuiltEvent kind Enroll = Unit {0}
+IsBuiltEvent kind (Begin c call) = IsBuiltFor kind call
+IsBuiltEvent kind (Step c) = Unit {0}
+
 module _ {M : Type 0} where
   -- at opening nobody has enrolled
   abbrev pub opening_core : Env → Core M
   opening_core env =
-      record { env = env; words = opening_words env; enrolled = 0; locals = replicate env.geometry.callers Idle }
+      record { env = env; words = opening_words env; enrolled = 0; locals = replicate env.geometry.callers (fresh env) }
 
   -- it has just been opened with this config
   pub record IsOpened (config : Config) (core : Core M) : Type 0 where
@@ -179,17 +181,23 @@ module _ {M : Type 0} where
   opening env = record { core = opening_core env; books = λ _. new_book }
 
   -- what a caller's beginning makes of the books
-  abbrev pub books_begun : (ℕ → Book) → ℕ → Call → Option (Local M) → ℕ → Book
+  abbrev pub books_begun : (ℕ → Book) → ℕ → Call → Option (Doing M) → ℕ → Book
   books_begun books c call None = books
-  books_begun books c call (Some machine) = book_at books c (book_begun call (books c))
+  books_begun books c call (Some doing) = book_at books c (book_begun call (books c))
 
   module _ (mix : ℕ → ℕ → ℕ → ℕ) where
+    -- what a caller's operation makes of the books
+    abbrev pub books_stepped : World M → ℕ → Option Op → ℕ → Book
+    books_stepped w c None = w.books
+    books_stepped w c (Some op) =
+        let next = local_after mix (local_of w.core c) (old_of w.core.words op) in
+        book_at w.books c (book_after (ending_of next.0 next.1) (w.books c))
+
     abbrev pub books_after : World M → Event → ℕ → Book
     books_after w Enroll = w.books
     books_after w (Begin c call) =
         books_begun w.books c call (beginning w.core.env w.core.enrolled w.core.locals c call)
-    books_after w (Step c) =
-        books_stepped w.books c (planned w.core.enrolled w.core.locals c) (core_step mix w.core (Step c)).1.reply
+    books_after w (Step c) = books_stepped w c (planned w.core.env w.core.enrolled w.core.locals c)
 
     abbrev pub world_step : World M → Event → World M
     world_step w event = record { core = (core_step mix w.core event).0; books = books_after w event }
@@ -201,6 +209,12 @@ module _ {M : Type 0} where
     -- the run of these events, from the opening on
     abbrev pub run_of : Env → List Event → World M
     run_of env events = run_from (opening env) events
+
+    -- there is a run that leads here
+    pub record IsReached (core : Core M) : Type 0 where
+      pub events : List Event
+      pub admitted : IsAdmitted core.env.config.kind events
+      pub same : (run_of core.env events).core ≡ core
 
   abbrev pub seen : World M → ℕ → Seen M
   seen w c = record { local = local_of w.core c; book = w.books c }

@@ -5,12 +5,13 @@ use Rattle.rht_words.specs.declared.env.Env.{Env}
 use Rattle.rht_words.specs.Operations.{old_of}
 use Rattle.rht_words.specs.Machines.{Performed}
 use Rattle.rht_model.specs.declared.history.Call.{Call}
-use Rattle.rht_model.specs.declared.history.Reply.{Reply}
+use Rattle.rht_model.specs.declared.finished.Finished.{Finished}
+use Rattle.rht_model.specs.Endings.{Ending}
 use Rattle.rht_core.specs.declared.event.Event.{Event}
 use Rattle.rht_core.specs.declared.event.Event.TheVariants.{Enroll, Begin, Step}
-use Rattle.rht_core.specs.declared.book.Finished.{Finished}
-use Rattle.rht_core.specs.declared.local.Local.{Local}
-use Rattle.rht_core.specs.Runs.{World, opening, world_step, beginning, planned, core_step, finished_with}
+use Rattle.rht_core.specs.declared.local.Doing.{Doing}
+use Rattle.rht_core.specs.Locals.{local_after, ending_of}
+use Rattle.rht_core.specs.Runs.{World, opening, world_step, local_of, beginning, planned, finished_with}
 
 -- an operation of a run: the number of its event, counted from 0, and the word before it
 pub record Did : Type 0 where
@@ -49,32 +50,33 @@ abbrev pub trace_begun : ℕ → Trace → Trace
 trace_begun index trace = record { begin = index; steps = []; past = trace.past }
 
 -- an operation was made, and may have ended the call
-abbrev pub trace_did : Option Call → Did → Option Reply → Trace → Trace
+abbrev pub trace_did : Option Call → Did → Option Ending → Trace → Trace
 trace_did call did None trace = record { begin = trace.begin; steps = trace.steps ++ did ∷ []; past = trace.past }
-trace_did call did (Some reply) trace = record {
+trace_did call did (Some ending) trace = record {
   begin = trace.begin;
   steps = [];
   past =
-      trace.past ++ map (λ done. record { done = done; begin = trace.begin; steps = trace.steps ++ did ∷ [] }) (finished_with call reply);
+      trace.past ++ map (λ done. record { done = done; begin = trace.begin; steps = trace.steps ++ did ∷ [] }) (finished_with call ending);
 }
 
 module _ {M : Type 0} where
-  abbrev pub traces_begun : Traced M → ℕ → Option (Local M) → ℕ → Trace
+  abbrev pub traces_begun : Traced M → ℕ → Option (Doing M) → ℕ → Trace
   traces_begun r c None = r.traces
-  traces_begun r c (Some machine) = trace_at r.traces c (trace_begun r.count (r.traces c))
-
-  abbrev pub traces_stepped : Traced M → ℕ → Option Op → Option Reply → ℕ → Trace
-  traces_stepped r c None reply = r.traces
-  traces_stepped r c (Some op) reply =
-      trace_at r.traces c (trace_did (r.world.books c).call record { index = r.count; op = op; old = old_of r.world.core.words op } reply (r.traces c))
+  traces_begun r c (Some doing) = trace_at r.traces c (trace_begun r.count (r.traces c))
 
   module _ (mix : ℕ → ℕ → ℕ → ℕ) where
+    abbrev pub traces_stepped : Traced M → ℕ → Option Op → ℕ → Trace
+    traces_stepped r c None = r.traces
+    traces_stepped r c (Some op) =
+        let old = old_of r.world.core.words op in
+        let next = local_after mix (local_of r.world.core c) old in
+        trace_at r.traces c (trace_did (r.world.books c).call record { index = r.count; op = op; old = old } (ending_of next.0 next.1) (r.traces c))
+
     abbrev pub traces_after : Traced M → Event → ℕ → Trace
     traces_after r Enroll = r.traces
     traces_after r (Begin c call) =
         traces_begun r c (beginning r.world.core.env r.world.core.enrolled r.world.core.locals c call)
-    traces_after r (Step c) =
-        traces_stepped r c (planned r.world.core.enrolled r.world.core.locals c) (core_step mix r.world.core (Step c)).1.reply
+    traces_after r (Step c) = traces_stepped r c (planned r.world.core.env r.world.core.enrolled r.world.core.locals c)
 
     abbrev pub traced_step : Traced M → Event → Traced M
     traced_step r event =

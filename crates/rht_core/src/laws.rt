@@ -15,7 +15,8 @@ pub fn extends<M: Mix>()
 
 /// In every run all words and callers are there, and all that a caller's state names is the table's:
 /// its slots, nodes and buckets. So each operation that a caller plans is on one of the words, and
-/// never on that of the enrolled callers. It says nothing of what stands in a word.
+/// never on that of the enrolled callers. A caller's rooms may have as many items as there are nodes.
+/// It says nothing of what stands in a word.
 pub fn in_range<M: Mix>()
     ensures { InRange M M.mix_of }
 {}
@@ -41,8 +42,9 @@ pub fn words_fit<M: Mix>()
 {}
 
 /// In every run each call that has ended has a reply of its kind, and no list came with it; and what
-/// a caller works at is the call of its book, for that caller, in the run's table. It doesn't say
-/// which of the replies comes, nor that one comes.
+/// a caller works at is the call of its book, for that caller, in the run's table. While a caller is
+/// in no call its rooms have the lists of its last finished call, and while it is in one they are
+/// empty. It doesn't say which of the replies comes, nor that one comes.
 pub fn replies<M: Mix>()
     ensures { Replies M M.mix_of }
 {}

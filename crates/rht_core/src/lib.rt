@@ -12,10 +12,10 @@ pub mod laws;
 mod local;
 mod state;
 
-pub use book::{Book, Finished};
+pub use book::Book;
 pub use bound::owners_of;
 pub use event::{Event, Stepped};
-pub use local::Local;
+pub use local::{Doing, Local};
 pub use state::State;
 
 #[cfg(test)]

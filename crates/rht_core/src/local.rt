@@ -1,20 +1,21 @@
-//! What one caller is doing.
+//! One caller: what it is doing, and its rooms.
 
-ghost use Rattle.std.specs.Prelude.{◌≡◌, ◌<◌, IfSome};
+ghost use Rattle.std.specs.Prelude.{◌≡◌, ◌<◌, IfSome, IfOk};
 ghost use Rattle.rht_words.specs.Operations.{op_place};
 ghost use Rattle.rht_words.specs.Places.{words_in};
 ghost use Rattle.rht_words.specs.declared.env.Env.{Env};
-ghost use Rattle.rht_core.specs.Locals.{is_idle, machine_of, plan_of, local_after, IsLocalOf};
+ghost use Rattle.rht_core.specs.Locals.{does_nothing, is_idle, machine_of, doing_plan, plan_of, doing_after, local_after, begin_with, fresh, IsDoingOf, IsLocalOf};
 
 use rht_bind::Bind;
 use rht_find::Find;
-use rht_model::{Call, Reply};
+use rht_model::{Call, Reply, Room};
 use rht_policy::Mix;
-use rht_words::{Env, Kind, Next, Op};
+use rht_words::{Env, Kind, Next, Op, Port};
+use std::alloc::{AllocError, Global};
 
 /// What a caller is doing: nothing, or one of the machines.
 #[derive(Drop)]
-pub enum Local<M: Mix> {
+pub enum Doing<M: Mix> {
     /// It is in no call.
     Idle,
     /// It looks a port up.
@@ -23,30 +24,117 @@ pub enum Local<M: Mix> {
     Binding(Bind<M>),
 }
 
-impl<M: Mix> Local<M> {
-    /// Whether the caller is in no call.
+impl<M: Mix> Doing<M> {
+    /// Whether this is nothing.
     pub fn is_idle(&self) -> bool
-        ensures { result ≡ is_idle self.now }
+        ensures { result ≡ does_nothing self.now }
     {
         match self {
-            Local::Idle => true,
-            Local::Finding(_) | Local::Binding(_) => false,
+            Doing::Idle => true,
+            Doing::Finding(_) | Doing::Binding(_) => false,
         }
     }
 
     /// What a caller does that is given this call. `None` for a call of which there is no machine
     /// yet: `bind` in a table of lists, and all calls but `bind` and `find`.
-    pub fn of_call(env: Env, caller: u32, call: Call) -> Option<Local<M>>
+    pub fn of_call(env: Env, caller: u32, call: Call) -> Option<Doing<M>>
         ensures machine { result ≡ machine_of env caller call }
-        ensures env { IfSome result (IsLocalOf env) }
+        ensures env { IfSome result (IsDoingOf env) }
     {
         match call {
-            Call::Find { port } => Some(Local::Finding(Find::new(env, caller, port))),
+            Call::Find { port } => Some(Doing::Finding(Find::new(env, caller, port))),
             Call::Bind { port, owner, once } if env.config.kind == Kind::Single => {
-                Some(Local::Binding(Bind::new(env, caller, port, owner, once)))
+                Some(Doing::Binding(Bind::new(env, caller, port, owner, once)))
             }
             _ => None,
         }
+    }
+
+    /// The next operation. `None` where nothing is done.
+    pub fn plan(&self) -> Option<Op>
+        ensures plan { result ≡ doing_plan self.now }
+        ensures place { (env : Env) → IsDoingOf env self.now → IfSome result (λ op. op_place op < words_in env.geometry) }
+    {
+        match self {
+            Doing::Idle => None,
+            Doing::Finding(find) => Some(find.plan()),
+            Doing::Binding(bind) => Some(bind.plan()),
+        }
+    }
+
+    /// Takes in the old value of the word that the operation was on. A reply ends the call.
+    pub fn take(&mut self, old: u64) -> Option<Reply>
+        ensures taken { (self.new, result) ≡ doing_after M.mix_of self.old old }
+        ensures env { (env : Env) → IsDoingOf env self.old → IsDoingOf env self.new }
+    {
+        let next = match self {
+            Doing::Idle => return None,
+            Doing::Finding(find) => find.take(old),
+            Doing::Binding(bind) => bind.take(old),
+        };
+        match next {
+            Next::Go => None,
+            Next::Done(reply) => {
+                *self = Doing::Idle;
+                Some(reply)
+            }
+        }
+    }
+}
+
+/// One caller. Its rooms have all the memory that its calls will need.
+#[derive(Drop)]
+pub struct Local<M: Mix> {
+    /// What it is doing.
+    pub doing: Doing<M>,
+    /// The owners that came with `Listed`, once the call has ended.
+    pub owners: Room<u32>,
+    /// The pairs that came with `Walked`, once the call has ended.
+    pub pairs: Room<(Port, u32)>,
+}
+
+impl<M: Mix> Local<M> {
+    /// A caller that has made no call, with rooms for all nodes. The one refusal is want of memory.
+    pub fn new(alloc: Global, env: Env) -> Result<Local<M>, AllocError>
+        ensures { IfOk result (λ local. local ≡ fresh env) }
+    {
+        Ok(Local {
+            doing: Doing::Idle,
+            owners: Room::with_limit(alloc, env.geometry.nodes)?,
+            pairs: Room::with_limit(alloc, env.geometry.nodes)?,
+        })
+    }
+
+    /// Whether the caller is in no call.
+    pub fn is_idle(&self) -> bool
+        ensures { result ≡ is_idle self.now }
+    {
+        self.doing.is_idle()
+    }
+
+    /// The owners of the last finished call, while the caller is in no call and where that one
+    /// answered `Listed`; otherwise none.
+    pub fn owners(&self) -> &[u32]
+        ensures { result.now ≡ self.now.owners.items }
+    {
+        self.owners.as_slice()
+    }
+
+    /// The pairs of the last finished call, while the caller is in no call and where that one
+    /// answered `Walked`; otherwise none.
+    pub fn pairs(&self) -> &[(Port, u32)]
+        ensures { result.now ≡ self.now.pairs.items }
+    {
+        self.pairs.as_slice()
+    }
+
+    /// Begins with what a call is done by. Both rooms are emptied; no memory is given back.
+    pub fn begin(&mut self, doing: Doing<M>)
+        ensures { self.new ≡ begin_with self.old doing }
+    {
+        self.owners.clear();
+        self.pairs.clear();
+        self.doing = doing;
     }
 
     /// The next operation. `None` where the caller is idle.
@@ -54,11 +142,7 @@ impl<M: Mix> Local<M> {
         ensures plan { result ≡ plan_of self.now }
         ensures place { (env : Env) → IsLocalOf env self.now → IfSome result (λ op. op_place op < words_in env.geometry) }
     {
-        match self {
-            Local::Idle => None,
-            Local::Finding(find) => Some(find.plan()),
-            Local::Binding(bind) => Some(bind.plan()),
-        }
+        self.doing.plan()
     }
 
     /// Takes in the old value of the word that the operation was on. A reply ends the call.
@@ -66,17 +150,6 @@ impl<M: Mix> Local<M> {
         ensures taken { (self.new, result) ≡ local_after M.mix_of self.old old }
         ensures env { (env : Env) → IsLocalOf env self.old → IsLocalOf env self.new }
     {
-        let next = match self {
-            Local::Idle => return None,
-            Local::Finding(find) => find.take(old),
-            Local::Binding(bind) => bind.take(old),
-        };
-        match next {
-            Next::Go => None,
-            Next::Done(reply) => {
-                *self = Local::Idle;
-                Some(reply)
-            }
-        }
+        self.doing.take(old)
     }
 }

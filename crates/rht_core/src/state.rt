@@ -1,17 +1,16 @@
 //! One run on plain words, event by event.
 
-ghost use Rattle.std.specs.Prelude.{◌≡◌, ◌<◌, ◌≤◌, length, replicate, None, IfOk};
+ghost use Rattle.std.specs.Prelude.{◌≡◌, ◌<◌, ◌≤◌, length, replicate, true, None, IfOk};
 ghost use Rattle.std.specs.List.{AllByRecursion};
 ghost use Rattle.rht_words.specs.Operations.{old_of, applied};
 ghost use Rattle.rht_words.specs.Opening.{opening_words};
 ghost use Rattle.rht_words.specs.Places.{words_in};
 ghost use Rattle.rht_words.specs.Settled.{IsSettled};
-ghost use Rattle.rht_core.specs.Runs.{core_step, local_of, begun, planned, with_step, enrolling, enrolled_after, has_done, IsSound, IsOpened};
-ghost use Rattle.rht_core.specs.Locals.{IsLocalOf};
-ghost use Rattle.rht_core.specs.declared.local.Local.TheVariants.{Idle};
+ghost use Rattle.rht_core.specs.Runs.{core_step, local_of, begun, planned, with_step, enrolling, enrolled_after, has_done, IsSound, IsAdmittedEvent, IsBuiltEvent, IsOpened};
+ghost use Rattle.rht_core.specs.Locals.{fresh, is_idle, IsLocalOf};
 
-use crate::event::{Event, Stepped};
-use crate::local::Local;
+use crate::event::{Event, Stepped, admit};
+use crate::local::{Doing, Local};
 use rht_model::Call;
 use rht_policy::Mix;
 use rht_words::{Config, Env, Op, apply, opening_word, places};
@@ -28,13 +27,13 @@ pub struct State<M: Mix> {
 }
 
 impl<M: Mix> Model for State<M> {
-    ghost use Rattle.rht_core.specs.Runs.{Core, IsSound};
+    ghost use Rattle.rht_core.specs.Runs.{Core, IsReached};
 
     ghost Value = { Core M };
 
     ghost view = { λ s. record { env = s.env; words = s.words.items; enrolled = s.enrolled; locals = s.locals.items } };
 
-    ghost invariant = { λ s. IsSound record { env = s.env; words = s.words.items; enrolled = s.enrolled; locals = s.locals.items } };
+    ghost invariant = { λ s. IsReached M.mix_of record { env = s.env; words = s.words.items; enrolled = s.enrolled; locals = s.locals.items } };
 }
 
 /// What an event did that does nothing.
@@ -56,30 +55,23 @@ impl<M: Mix> State<M> {
             env,
             words: opening_words(alloc, env)?,
             enrolled: 0,
-            locals: idle_locals(alloc, env.geometry.callers)?,
+            locals: fresh_locals(alloc, env)?,
         })
     }
 
-    /// Performs the event. It takes no memory and refuses nothing.
+    /// Performs the event. It takes no memory and refuses nothing. In a table of lists nothing is
+    /// rebound.
     pub fn step(&mut self, event: Event) -> Stepped
+        requires { IsBuiltEvent self.old.env.config.kind event }
         ensures { (self.new, result) ≡ core_step M.mix_of self.old event }
     {
-        match event {
-            Event::Enroll => enroll(self.env, &mut self.words, &mut self.enrolled),
-            Event::Begin { caller, call } => {
-                begin(self.env, self.enrolled, &mut self.locals, caller, call);
-                NOTHING
-            }
-            Event::Step { caller } => {
-                step(
-                    self.env,
-                    &mut self.words,
-                    self.enrolled,
-                    &mut self.locals,
-                    caller,
-                )
-            }
-        }
+        perform(
+            self.env,
+            &mut self.words,
+            &mut self.enrolled,
+            &mut self.locals,
+            event,
+        )
     }
 
     /// All words.
@@ -92,7 +84,8 @@ impl<M: Mix> State<M> {
     /// What a caller is doing. One that isn't enrolled is idle.
     pub fn local(&self, caller: u32) -> &Local<M>
         requires { caller < self.now.env.geometry.callers }
-        ensures { result.now ≡ local_of self.now caller }
+        ensures local { result.now ≡ local_of self.now caller }
+        ensures idle { self.now.enrolled ≤ caller → is_idle result.now ≡ true }
     {
         &self.locals[caller as usize]
     }
@@ -110,15 +103,38 @@ fn opening_words(alloc: Global, env: Env) -> Result<Vec<u64>, AllocError>
     Ok(words)
 }
 
-/// So many callers, none of which is in a call.
-fn idle_locals<M: Mix>(alloc: Global, callers: u32) -> Result<Vec<Local<M>>, AllocError>
-    ensures { IfOk result (λ locals. locals.items ≡ replicate callers Idle) }
+/// All callers, none of which is in a call.
+fn fresh_locals<M: Mix>(alloc: Global, env: Env) -> Result<Vec<Local<M>>, AllocError>
+    ensures { IfOk result (λ locals. locals.items ≡ replicate env.geometry.callers (fresh env)) }
 {
-    let mut locals = Vec::with_capacity(alloc, callers as usize)?;
-    for _ in 0..callers {
-        locals.push(Local::Idle)?;
+    let mut locals = Vec::with_capacity(alloc, env.geometry.callers as usize)?;
+    for _ in 0..env.geometry.callers {
+        locals.push(Local::new(alloc, env)?)?;
     }
     Ok(locals)
+}
+
+/// Performs the event.
+fn perform<M: Mix>(
+    env: Env,
+    words: &mut Vec<u64>,
+    enrolled: &mut u32,
+    locals: &mut Vec<Local<M>>,
+    event: Event,
+) -> Stepped
+    requires { IsSound record { env = env; words = words.old.items; enrolled = enrolled.old; locals = locals.old.items } }
+    ensures step { (record { env = env; words = words.new.items; enrolled = enrolled.new; locals = locals.new.items }, result) ≡ core_step M.mix_of record { env = env; words = words.old.items; enrolled = enrolled.old; locals = locals.old.items } event }
+    ensures admitted { IsBuiltEvent env.config.kind event → IsAdmittedEvent env.config.kind event }
+{
+    match event {
+        Event::Enroll => enroll(env, words, enrolled),
+        Event::Begin { caller, call } => {
+            admit(call);
+            begin(env, *enrolled, locals, caller, call);
+            NOTHING
+        }
+        Event::Step { caller } => step(env, words, *enrolled, locals, caller),
+    }
 }
 
 /// One more caller, where there may be one more.
@@ -152,8 +168,8 @@ fn begin<M: Mix>(env: Env, enrolled: u32, locals: &mut Vec<Local<M>>, caller: u3
     if caller < enrolled {
         let local = &mut locals[caller as usize];
         if local.is_idle() {
-            if let Some(machine) = Local::of_call(env, caller, call) {
-                *local = machine;
+            if let Some(doing) = Doing::of_call(env, caller, call) {
+                local.begin(doing);
             }
         }
     }
@@ -169,7 +185,7 @@ fn step<M: Mix>(
 ) -> Stepped
     requires { IsSound record { env = env; words = words.old.items; enrolled = enrolled; locals = locals.old.items } }
     ensures sound { IsSound record { env = env; words = words.new.items; enrolled = enrolled; locals = locals.new.items } }
-    ensures step { (record { env = env; words = words.new.items; enrolled = enrolled; locals = locals.new.items }, result) ≡ with_step M.mix_of record { env = env; words = words.old.items; enrolled = enrolled; locals = locals.old.items } caller (planned enrolled locals.old.items caller) }
+    ensures step { (record { env = env; words = words.new.items; enrolled = enrolled; locals = locals.new.items }, result) ≡ with_step M.mix_of record { env = env; words = words.old.items; enrolled = enrolled; locals = locals.old.items } caller (planned env enrolled locals.old.items caller) }
 {
     if caller >= enrolled {
         return NOTHING;

@@ -3,6 +3,10 @@
 //! 282 + 4 * n on, and the pages from 314 on. With the low hash port 5 has bucket 5 of 64, which is
 //! at 314 + 5 = 319, and the marker of that place is 2 * 319 + 1 = 639.
 
+ghost use Rattle.std.specs.Prelude.{◌≡◌, true};
+ghost use Rattle.rht_words.specs.declared.config.Kind.{Kind};
+ghost use Rattle.rht_core.specs.Runs.{IsBuiltFor};
+
 use super::{Event, State, Stepped, owners_of};
 use rht_model::{Call, Reply};
 use rht_policy::{Lookup3, Low, Mix};
@@ -76,8 +80,16 @@ fn opened<M: Mix>(rt: &impl Abort, alloc: Global, config: Config) -> Result<Stat
     Ok(state)
 }
 
+/// Whether the call may begin in every table.
+fn is_built(call: Call) -> bool
+    ensures { result ≡ true → (kind : Kind) → IsBuiltFor kind call }
+{
+    !matches!(call, Call::Rebind { .. })
+}
+
 /// A caller is given a call, without an operation.
 fn begin<M: Mix>(rt: &impl Abort, state: &mut State<M>, caller: u32, call: Call) {
+    assert!(rt; is_built(call), "at {call:?}");
     let stepped = state.step(Event::Begin { caller, call });
     assert_eq!(rt; stepped, NOTHING, "at {call:?}");
 }
@@ -185,11 +197,6 @@ fn one_bind_and_one_find(rt: HostRuntime) -> Result<(), Fail> {
 #[test]
 fn calls_without_a_machine_are_not_begun(rt: HostRuntime) -> Result<(), Fail> {
     let release = Call::Release { port: 5, owner: 9 };
-    let rebind = Call::Rebind {
-        port: 5,
-        owner: 9,
-        new: 7,
-    };
     let walk = Call::Walk {
         from: None,
         limit: 1,
@@ -198,7 +205,6 @@ fn calls_without_a_machine_are_not_begun(rt: HostRuntime) -> Result<(), Fail> {
         (Kind::Listed, bind(5, 9)),
         (Kind::Single, Call::All { port: 5 }),
         (Kind::Single, release),
-        (Kind::Single, rebind),
         (Kind::Single, walk),
         (Kind::Single, Call::Work),
         (Kind::Single, Call::Tidy),
@@ -223,6 +229,8 @@ fn only_enrolled_and_idle_callers_begin(rt: HostRuntime) -> Result<(), Fail> {
     assert!(rt; config.is_settled());
     let mut state = State::<Low>::open(rt.alloc(), config)?;
     assert!(rt; state.local(0).is_idle());
+    assert!(rt; state.local(0).owners().is_empty());
+    assert!(rt; state.local(0).pairs().is_empty());
     let enroll = |old| Stepped {
         did: Some((add(4, 1), old)),
         reply: None,

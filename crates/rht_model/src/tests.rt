@@ -1,6 +1,6 @@
 //! The calls with ample memory, against pairs worked out by hand.
 
-use super::{Bindings, Call, Cursor, Entry, Owners, Reply, is_legal};
+use super::{Bindings, Call, Cursor, Entry, Owners, Reply, Room, is_legal};
 use rht_words::Kind;
 use std::alloc::{AllocError, Global};
 use std::process::Abort;
@@ -14,6 +14,20 @@ fn owners_stand_in_the_order_in_which_they_came(rt: HostRuntime) -> Result<(), F
     owners.push(3)?;
     owners.push(7)?;
     assert_eq!(rt; owners.as_slice(), [7, 3, 7].as_slice());
+    Ok(())
+}
+
+#[test]
+fn a_room_is_used_again_once_it_is_cleared(rt: HostRuntime) -> Result<(), Fail> {
+    let mut room: Room<(u32, u32)> = Room::with_limit(rt.alloc(), 2)?;
+    assert!(rt; room.as_slice().is_empty());
+    room.push((80, 1));
+    room.push((81, 7));
+    assert_eq!(rt; room.as_slice(), [(80, 1), (81, 7)].as_slice());
+    room.clear();
+    assert!(rt; room.as_slice().is_empty());
+    room.push((5, 3));
+    assert_eq!(rt; room.as_slice(), [(5, 3)].as_slice());
     Ok(())
 }
 

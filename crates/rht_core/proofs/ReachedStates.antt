@@ -1,0 +1,79 @@
+-- What holds of words and callers that a run has reached: they are sound, who isn't enrolled is idle, and after one more
+-- admitted event a run has reached them too.
+use Rattle.std.proofs.Common.{◌≡◌, ℕ, ◌<◌, ◌≤◌, true, [], ◌∷◌, ◌++◌, length, refl, sym, ap, ◌∙◌, subst, arith}
+use Rattle.std.specs.Prelude.{Option, Some, None, slice_index_or}
+use Rattle.std.specs.List.{AllByRecursion}
+use Rattle.std.proofs.lemmas.List.{get_or_read}
+use Rattle.rht_words.specs.declared.op.Op.{Op}
+use Rattle.rht_words.specs.declared.env.Env.{Env}
+use Rattle.rht_words.proofs.EachElement.{AllByRecursion-append}
+use Rattle.rht_core.specs.declared.event.Event.{Event}
+use Rattle.rht_core.specs.declared.event.Event.TheVariants.{Enroll, Begin, Step}
+use Rattle.rht_core.specs.declared.event.Stepped.{Stepped}
+use Rattle.rht_core.specs.declared.local.Local.{Local}
+use Rattle.rht_core.specs.Locals.{fresh, is_idle}
+use Rattle.rht_core.specs.Runs.{Core, World, Seen, local_of, planned, with_step, core_step, run_of, IsSound, IsAdmittedEvent, IsReached}
+use Rattle.rht_core.proofs.Worlds.{run_of-push}
+use Rattle.rht_core.proofs.RangesInRuns.{runs-in, IsInRange-stays}
+use Rattle.rht_core.proofs.CallersNotEnrolled.{all-fresh}
+
+module _ (M : Type 0) (mix : ℕ → ℕ → ℕ → ℕ) where
+  pub IsSound-reached : (core : Core M) → IsReached mix core → IsSound core
+  IsSound-reached core reached =
+      subst (λ (k : Core M). IsSound k) reached.same
+      (IsInRange-stays M mix core.env (run_of mix core.env reached.events).core (runs-in M mix core.env reached.events)).sound
+
+  -- a caller that there may be has a place
+  pub place-reached : (core : Core M) (c : ℕ) → IsReached mix core → c < core.env.geometry.callers
+      → c < length core.locals
+  place-reached core c reached low = omega (arith, (IsSound-reached core reached).all_locals)
+
+  -- what is read at its place is that caller, and one that isn't enrolled is idle
+  pub read-reached : (core : Core M) (c : ℕ) (local : Local M) → IsReached mix core
+      → c < core.env.geometry.callers
+      → local ≡ slice_index_or core.locals c local
+      → local ≡ local_of core c
+  read-reached core c local reached low read =
+      get_or_read core.locals c local (place-reached core c reached low) read (fresh core.env)
+
+  pub idle-reached : (core : Core M) (c : ℕ) → IsReached mix core → core.enrolled ≤ c
+      → is_idle (local_of core c) ≡ true
+  idle-reached core c reached =
+      subst (λ (k : Core M). k.enrolled ≤ c → is_idle (local_of k c) ≡ true) reached.same
+      (λ past. ap (λ (s : Seen M). is_idle s.local) (all-fresh M mix core.env reached.events c past))
+
+  -- no event changes the environment
+  step-env : (core : Core M) (c : ℕ) (op : Option Op) → (with_step mix core c op).0.env ≡ core.env
+  step-env core c None = refl
+  step-env core c (Some op) = refl
+
+  event-env : (core : Core M) (event : Event) → (core_step mix core event).0.env ≡ core.env
+  event-env core Enroll = refl
+  event-env core (Begin c call) = refl
+  event-env core (Step c) = step-env core c (planned core.env core.enrolled core.locals c)
+
+  core_step-reached : (core : Core M) (event : Event) → IsAdmittedEvent core.env.config.kind event
+      → IsReached mix core
+      → IsReached mix (core_step mix core event).0
+  core_step-reached core event more reached =
+      let after = (core_step mix core event).0 in
+      let events = reached.events ++ event ∷ [] in
+      let env = sym (event-env core event) in
+      let same : (run_of {M = M} mix core.env events).core ≡ after =
+      ap (λ (w : World M). w.core) (run_of-push M mix core.env reached.events event)
+      ∙ ap (λ (k : Core M). (core_step mix k event).0) reached.same in
+      record {
+        events = events;
+        admitted =
+            subst (λ (e : Env). AllByRecursion (IsAdmittedEvent e.config.kind) events) env
+            (AllByRecursion-append (IsAdmittedEvent core.env.config.kind) reached.events (event ∷ []) reached.admitted (more, tt));
+        same = subst (λ (e : Env). (run_of {M = M} mix e events).core ≡ after) env same;
+      }
+
+  -- what has become of it by one more event
+  pub IsReached-more : (core after : Core M) (event : Event) (stepped : Stepped)
+      → IsAdmittedEvent core.env.config.kind event → (after, stepped) ≡ core_step mix core event
+      → IsReached mix core
+      → IsReached mix after
+  IsReached-more core after event stepped more is reached =
+      subst (λ (k : Core M). IsReached mix k) (sym (ap (λ p. p.0) is)) (core_step-reached core event more reached)
