@@ -35,7 +35,8 @@ use Rattle.rht_core.specs.Alone.{MeetsModel, IsQuiet, bindings_at, call_events}
 use Rattle.rht_core.proofs.CallBeginnings.{begins_so, idle_plans}
 use Rattle.rht_core.proofs.Worlds.{beginning-some, planned-enrolled, run_of-push, begin_none, begin_self, step_none, step_self, step_words}
 use Rattle.rht_core.proofs.Steps.{by_test, mem}
-use Rattle.rht_core.proofs.Invariants.{home-within, CallerKnows}
+use Rattle.rht_core.proofs.FirstBuckets.{home-within}
+use Rattle.rht_core.proofs.Invariants.{CallerKnows}
 use Rattle.rht_core.proofs.InvariantRuns.{HasInv, has_inv, sound_in}
 use Rattle.rht_core.proofs.AloneSteps.{bind_progress, BindAlone, bind_alone, find_progress, FindAlone, find_alone}
 
@@ -243,7 +244,7 @@ module _ (L : Type 0) (mix : ℕ → ℕ → ℕ → ℕ) (env : Env) (start : L
             (find_alone env mix c m.port before words has.ghost all has.inv.whole low (home-within env mix m.port) going.agree kind m.at knows.1 doing.1))
         go (Binding m) is doing knows =
             bound_on m is (bind_at.after_at mix m.env m.port m.at (old_of words (bind_plan m))) refl doing.0 doing.1 doing.2
-            (subst (λ e. BindAlone env before (calls.Bind m.port m.owner m.once) (bind_at.after_at mix e m.port m.at (old_of words (bind_at.plan_at e m.port m.owner m.at))) (applied words (bind_at.plan_at e m.port m.owner m.at))) (sym knows.0)
+            (subst (λ e. BindAlone env before (calls.Bind m.port m.owner m.once) (bind_at.after_at mix e m.port m.at (old_of words (bind_at.plan_at e m.at))) (applied words (bind_at.plan_at e m.at))) (sym knows.0)
             (bind_alone env mix c m.port before words has.ghost all has.inv.whole low (home-within env mix m.port) going.agree m.owner m.once doing.1 m.at knows.1 (rw doing.0 at doing.3)))
 
   -- each step keeps what there is to say

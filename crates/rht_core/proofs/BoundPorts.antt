@@ -1,29 +1,27 @@
 -- What the words stand for is what the ghost says: the owner of the node to which each port is bound.
 -- The table in force is the one table; the nodes met in each bucket are the bucket's nodes; and of all these at most one has
 -- the port's key, the one to which the port is bound.
-use Rattle.std.proofs.Common.{◌≡◌, ℕ, zero, suc, ◌+◌, ◌-◌, ◌*◌, ◌%◌, ◌^◌, ◌<◌, ◌≤◌, List, [], ◌∷◌, length, map, Option, Some, None, true, refl, sym, ◌∙◌, ap, subst, inl, inr, slice_index, arith}
+use Rattle.std.proofs.Common.{◌≡◌, ℕ, zero, suc, ◌+◌, ◌-◌, ◌*◌, ◌%◌, ◌<◌, ◌≤◌, List, [], ◌∷◌, length, map, Option, Some, None, true, refl, sym, ◌∙◌, ap, subst, inl, inr, slice_index, arith}
 use Rattle.std.proofs.lemmas.Bool.{eqb-true, eq-eqb}
 use Rattle.std.proofs.lemmas.Bool.Decides.{nat_tests}
 use Rattle.std.proofs.lemmas.List.{append-nil}
-use Rattle.std.proofs.Math.Nat.{mod-lt}
 use Rattle.std.specs.List.{find, flat_map, range_with_len}
 use Rattle.rht_words.specs.declared.env.Env.{Env}
 use Rattle.rht_words.specs.declared.geometry.Geometry.{Geometry}
 use Rattle.rht_words.proofs.Memory.{Memory}
-use Rattle.rht_words.proofs.ShapeSizes.{IsSizeUpTo-size_of}
 use Rattle.rht_words.specs.Links.{node_of, head_of, marker_of}
 use Rattle.rht_words.specs.Ports.{owner_of}
-use Rattle.rht_words.specs.Shapes.{size_of, unpacked}
 use Rattle.rht_words.specs.Chains.{IsSegment}
 use Rattle.rht_words.specs.Places.{Node, OwnerWord, ListLink}
 use Rattle.rht_words.proofs.LinksRead.{links_tell_apart}
 use Rattle.rht_words.specs.Members.{In}
-use Rattle.rht_words.proofs.Members.{In-flat_map, flat_map-In, In-range_with_len, flat_map-same, find-Some, find-None, In-AllByRecursion, count_below-most, length-count_below}
+use Rattle.rht_words.proofs.Members.{In-flat_map, flat_map-In, In-range_with_len, range_with_len-In, flat_map-same, find-Some, find-None, In-AllByRecursion, count_below-most, length-count_below}
 use Rattle.rht_policy.specs.Mix.{bucket_of}
 use Rattle.rht_nest.specs.Place.{bucket_place, bucket_index}
 use Rattle.rht_core.specs.StandsFor.{in_force, chain_from, bucket_nodes, table_nodes, has_key, first_node, owners_from, stands_for}
 use Rattle.rht_core.proofs.Ghosts.{Ghost, lock_bit}
 use Rattle.rht_core.proofs.Wholes.{chain_of, key_of, shape_word, place_at, Whole}
+use Rattle.rht_core.proofs.FirstBuckets.{size, index-within, place-index, bucket_of-below}
 use Rattle.rht_core.proofs.Steps.{mem}
 
 -- the first of a list
@@ -58,7 +56,7 @@ module _ (env : Env) (mix : ℕ → ℕ → ℕ → ℕ) (words : List ℕ) (G :
   head_of-locked place plain None even = ap (head_of place) (omega arith)
   head_of-locked place plain (Some c) even = grind (arith, nat_tests, even)
 
-  bucket_met : (j : ℕ) → j < 64 * g.pages → bucket_nodes g words (place_at env mix j) ≡ (G.bucket j).nodes
+  bucket_met : (j : ℕ) → j < 64 * g.pages → bucket_nodes g words (Some (place_at env mix j)) ≡ (G.bucket j).nodes
   bucket_met j l =
       let right = whole.buckets j l in
       let b = G.bucket j in
@@ -76,21 +74,16 @@ module _ (env : Env) (mix : ℕ → ℕ → ℕ → ℕ) (words : List ℕ) (G :
 
   -- the index of a bucket's word
   abbrev index : ℕ → ℕ
-  index bucket = bucket_index g (shape_word env mix) bucket
-
-  index-within : (bucket : ℕ) → index bucket < 64 * g.pages
-  index-within bucket = let within = g.within in omega (arith, within.pages_within.0)
-
-  abbrev size : ℕ
-  size = size_of (unpacked (shape_word env mix))
+  index bucket = bucket_index (shape_word env mix) bucket
 
   abbrev all_nodes : List ℕ
-  all_nodes = flat_map (λ bucket. (G.bucket (index bucket)).nodes) (range_with_len 0 size)
+  all_nodes = flat_map (λ bucket. (G.bucket (index bucket)).nodes) (range_with_len 0 (size env mix))
 
   table_met : table_nodes g words 0 ≡ all_nodes
   table_met = rw whole.tables.shape_is
-      (flat_map-same (λ bucket. bucket_nodes g words (bucket_place g (shape_word env mix) bucket)) (λ bucket. (G.bucket (index bucket)).nodes) (range_with_len 0 size)
-      (λ bucket i. bucket_met (index bucket) (index-within bucket)))
+      (flat_map-same (λ bucket. bucket_nodes g words (bucket_place g (shape_word env mix) bucket)) (λ bucket. (G.bucket (index bucket)).nodes) (range_with_len 0 (size env mix))
+      (λ bucket i. let below : bucket < size env mix = omega (arith, range_with_len-In 0 (size env mix) bucket i) in
+      ap (bucket_nodes g words) (place-index env mix bucket below) ∙ bucket_met (index bucket) (index-within env mix bucket below)))
 
   one_in_force : in_force g words ≡ 0 ∷ []
   one_in_force = rw whole.tables.current_word (rw whole.tables.future_is refl)
@@ -101,7 +94,7 @@ module _ (env : Env) (mix : ℕ → ℕ → ℕ → ℕ) (words : List ℕ) (G :
   -- a node that is met is the one to which its port is bound
   met_bound : (n : ℕ) → In n all_nodes → G.bound (key_of M n) ≡ n ∷ []
   met_bound n i =
-      let from = flat_map-In (λ bucket. (G.bucket (index bucket)).nodes) n (range_with_len 0 size) i in
+      let from = flat_map-In (λ bucket. (G.bucket (index bucket)).nodes) n (range_with_len 0 (size env mix)) i in
       (whole.owned.first_at n (index from.0) (whole.owned.member (index from.0) n from.2)).bound_to
 
   -- a node to which a port is bound is met
@@ -111,15 +104,11 @@ module _ (env : Env) (mix : ℕ → ℕ → ℕ → ℕ) (words : List ℕ) (G :
       let to = whole.owned.bound_to port n behind b in
       let at = whole.owned.first_at n to.bucket to.first in
       let bucket = bucket_of mix (key_of M n) (shape_word env mix) env.config.seed in (
-        In-flat_map (λ x. (G.bucket (index x)).nodes) n bucket (range_with_len 0 size)
-            (In-range_with_len 0 size bucket (omega arith) (let low = bucket_below (key_of M n) in omega (arith, low)))
+        In-flat_map (λ x. (G.bucket (index x)).nodes) n bucket (range_with_len 0 (size env mix))
+            (In-range_with_len 0 (size env mix) bucket (omega arith) (let below = bucket_of-below env mix (key_of M n) in omega (arith, below)))
             (subst (λ j. In n (G.bucket j).nodes) at.at_home at.there),
         to.key_is,
       )
-    where
-      bucket_below : (k : ℕ) → bucket_of mix k (shape_word env mix) env.config.seed < size
-      bucket_below k =
-          mod-lt (mix k 0 (env.config.seed % 2 ^ 32)) {m = size} (let size_is = IsSizeUpTo-size_of (unpacked (shape_word env mix)) in omega (arith, size_is.least))
 
   -- ---- what the words stand for
 

@@ -16,7 +16,7 @@ use Rattle.rht_core.specs.Locals.{fresh}
 use Rattle.rht_core.specs.Runs.{World, Seen, seen, new_book, beginning, planned, enrolling, enrolled_after, world_step, run_of, opening}
 use Rattle.rht_core.specs.Laws.{NotEnrolled}
 use Rattle.rht_core.proofs.Worlds.{beginning-some, planned-some, begin_none, begin_other, step_none, step_other, run_keeps}
-use Rattle.rht_core.proofs.RangesInRuns.{step-count}
+use Rattle.rht_core.proofs.SoundRuns.{step-count}
 
 -- an enrolling takes no caller away
 enrolled_after-rises : (env : Env) (enrolled old : ℕ) → enrolled ≤ enrolled_after env enrolled old

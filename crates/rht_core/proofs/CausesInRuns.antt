@@ -4,7 +4,7 @@
 -- the one at which it stands was taken; and while its state holds a refusal, what the refusal says.
 -- So when it answers all of that was seen. How the run stood at the event of the operation that loaded
 -- the count of ports follows from the law that each recorded operation stands in the run at its event.
-use Rattle.std.proofs.Common.{◌≡◌, ℕ, ◌≤◌, List, [], ◌∷◌, ◌++◌, map, min, refl, sym, subst, arith}
+use Rattle.std.proofs.Common.{◌≡◌, ℕ, ◌≤◌, Bool, List, [], ◌∷◌, ◌++◌, map, min, refl, sym, ap, ◌∙◌, subst, arith}
 use Rattle.std.specs.Prelude.{Option, Some, None, IfSome, IsSome, if◌then◌else◌}
 use Rattle.std.specs.List.{AllByRecursion, Any}
 use Rattle.std.proofs.lemmas.Bool.{cond_both, leb-true}
@@ -17,25 +17,37 @@ use Rattle.rht_words.specs.declared.env.Env.{Env}
 use Rattle.rht_words.specs.declared.geometry.Geometry.{Geometry}
 use Rattle.rht_words.specs.declared.machine.Next.{Next}
 use Rattle.rht_words.specs.declared.machine.Next.TheVariants.{Go, Done}
+use Rattle.rht_words.specs.Operations.{old_of}
+use Rattle.rht_words.specs.Ports.{word_of}
 use Rattle.rht_words.specs.Places.{PortCount, place_of}
 use Rattle.rht_words.proofs.EachElement.{Any-append_left}
 use Rattle.rht_policy.specs.Sizes.{most_ports}
 use Rattle.rht_policy.specs.Thresholds.{is_above_max}
 use Rattle.rht_model.specs.declared.history.Reply.{Reply}
 use Rattle.rht_model.specs.declared.history.Reply.TheVariants.{NoNode, TooBig, Found, Missing, Again, Busy, NoTable}
-use Rattle.rht_arena.specs.TakeNode.{TakeNodeModel, take_node_after}
+use Rattle.rht_arena.specs.TakeNode.{TakeNodeModel, take_node_after, IsTakeAtIn}
+use Rattle.rht_arena.specs.NewNode.{NewNodeModel, new_node_plan_at, new_node_after_at, node_taken, node_of_new}
+use Rattle.rht_arena.specs.declared.new_node.NewNodeAt.{NewNodeAt}
+use Rattle.rht_arena.specs.declared.new_node.NewNodeAt.TheVariants as news
+use Rattle.rht_nest.specs.Locate.{locate_plan, locate_after}
+use Rattle.rht_chain.specs.Locked.{answer_behind}
+use Rattle.rht_chain.specs.Relink.{relink_after}
 use Rattle.rht_arena.proofs.NodesSeen.{first_unseen, SawAllBelow, SawAllBelow-push, SawSoFar, take_after-saw}
 use Rattle.rht_find.specs.Find.{after_at as find_after_at}
 use Rattle.rht_find.specs.declared.find.FindAt.{FindAt}
-use Rattle.rht_bind.specs.Bind.{plan_at, after_at, node_taken}
+use Rattle.rht_bind.specs.Bind.{after_at, filled}
 use Rattle.rht_bind.specs.declared.bind.BindAt.{BindAt}
 use Rattle.rht_bind.specs.declared.bind.BindAt.TheVariants as at
 use Rattle.rht_core.specs.declared.event.Event.{Event}
 use Rattle.rht_core.specs.Traces.{Did, Past, performed_of, traced_of}
 use Rattle.rht_core.specs.Laws.{IsFindReply, IsRecorded, IsPastCall}
 use Rattle.rht_core.specs.Causes.{SawFull, HasCauseIn, HasCause, Causes}
-use Rattle.rht_core.proofs.MachinesGoOn.{GoesOrEnds, GoesOrEnds-weaker}
-use Rattle.rht_core.proofs.HeldByBinds.{node_of_bind, reply_of_bind, bind_word_after, bind_reply_after, HoldsSo, bind_after-so}
+use Rattle.rht_words.specs.Machines.{GoesOrEnds}
+use Rattle.rht_words.proofs.MachineRuns.{GoesOrEnds-weaker}
+use Rattle.rht_core.proofs.HeldByBinds.{node_of_bind, reply_of_bind, no_table_reply, published_reply, bind_reply_after, HoldsSo, bind_after-so}
+use Rattle.rht_core.proofs.NodeSteps.{new_fits}
+use Rattle.rht_core.proofs.FirstBuckets.{home-within}
+use Rattle.rht_core.proofs.BindSteps.{bind_there}
 use Rattle.rht_core.proofs.MachineReplies.{HoldsFindReply, find_after-replies}
 use Rattle.rht_core.proofs.TracesAtEvents.{at_events}
 use Rattle.rht_core.proofs.TracedCalls.{FindDoes, BindDoes, calls_keep}
@@ -62,10 +74,26 @@ module _ (env : Env) where
   abbrev SawForReply : Option Reply → List Did → Type 0
   SawForReply reply steps = IfSome reply (λ r. SawFor r steps)
 
-  -- what a bind has seen so far
+  -- what a bind has seen so far, while it makes a new node and later
+  abbrev SawNew : NewNodeAt → List Did → Type 0
+  SawNew (news.Taking take) steps = SawAllBelow env.geometry (first_unseen take.at) (map performed_of steps)
+  SawNew (news.Key node) steps = Unit {0}
+  SawNew (news.Owner node) steps = Unit {0}
+  SawNew (news.ListLink node) steps = Unit {0}
+
   abbrev SawAt : BindAt → List Did → Type 0
-  SawAt (at.Taking take) steps = SawAllBelow env.geometry (first_unseen take.at) (map performed_of steps)
-  SawAt state steps = SawForReply (reply_of_bind state) steps
+  SawAt (at.Filling new) steps = SawNew new.at steps
+  SawAt (at.CurrentTable node) steps = Unit {0}
+  SawAt (at.Locating node locate) steps = Unit {0}
+  SawAt (at.Probing node table shape probe) steps = Unit {0}
+  SawAt (at.FoundOwner claimed found) steps = Unit {0}
+  SawAt (at.Future claimed length) steps = Unit {0}
+  SawAt (at.Count claimed) steps = Unit {0}
+  SawAt (at.Link claimed) steps = Unit {0}
+  SawAt (at.Raise claimed) steps = Unit {0}
+  SawAt (at.Publish node table relink kick) steps = Unit {0}
+  SawAt (at.Unlocking node table unlock next) steps = SawForReply (answer_behind next) steps
+  SawAt (at.Giving give reply) steps = SawFor reply steps
 
   -- what it has seen once it goes on, and once it has answered
   abbrev SawNext : List Did → BindAt × Next Reply → Type 0
@@ -85,12 +113,12 @@ module _ (env : Env) where
 
   -- ---- an operation of a bind
 
-  node_taken-saw : (take : TakeNodeModel) (next : Next (Option ℕ)) (steps : List Did)
+  taking-saw : (new : NewNodeModel) (take : TakeNodeModel) (next : Next (Option ℕ)) (steps : List Did)
       → SawSoFar env.geometry (map performed_of steps) (take, next)
-      → SawNext steps (node_taken take next)
-  node_taken-saw take Go steps saw = saw
-  node_taken-saw take (Done None) steps saw = saw
-  node_taken-saw take (Done (Some node)) steps saw = tt
+      → let after = node_taken take next in SawNext steps (filled (record new { at = after.0 }) after.1)
+  taking-saw new take Go steps saw = saw
+  taking-saw new take (Done None) steps saw = saw
+  taking-saw new take (Done (Some node)) steps saw = tt
 
   SawForReply-push : (reply : Option Reply) (steps : List Did) (did : Did) → SawForReply reply steps
       → SawForReply reply (steps ++ did ∷ [])
@@ -110,47 +138,96 @@ module _ (env : Env) where
       Any-push (LoadedFull count) steps did record { loaded = is; found = refl; full = omega arith })
       (λ f. tt)
 
-  -- Of the replies that come of an operation, `TooBig` alone tells what was seen; a reply that the bind has had is not forgotten.
-  bind_reply_after-saw : (port owner : ℕ) (state : BindAt) (steps : List Did) (did : Did)
-      → did.op ≡ plan_at env port owner state
-      → IsSome (node_of_bind state) → SawAt state steps
-      → SawForReply (bind_reply_after env state did.old) (steps ++ did ∷ [])
-  bind_reply_after-saw port owner (at.Taking take) steps did is has saw = absurd (cc)
-  bind_reply_after-saw port owner (at.FoundOwner claimed found) steps did is has saw = tt
-  bind_reply_after-saw port owner (at.Count claimed) steps did is has saw = count-saw steps did is
-  bind_reply_after-saw port owner (at.Publish claimed kick) steps did is has saw = tt
-  bind_reply_after-saw port owner state steps did is has saw = SawForReply-push (reply_of_bind state) steps did saw
-
-  SawForReply-at : (state : BindAt) (steps : List Did) → IsSome (node_of_bind state)
-      → SawForReply (reply_of_bind state) steps
-      → SawAt state steps
-  SawForReply-at (at.Taking take) steps has saw = absurd (cc)
-  SawForReply-at _ steps has saw = saw
-
   module _ (mix : ℕ → ℕ → ℕ → ℕ) (port owner : ℕ) where
-    with_node-saw : (state : BindAt) (steps : List Did) (did : Did) → BindDoes env port owner state did
+    -- Of the replies that come of an operation, `TooBig` alone tells what was seen; a reply that the bind has had is not
+    -- forgotten. The bucket is there, so that none tells of a want of tables.
+    bind_reply_after-saw : (state : BindAt) (steps : List Did) (did : Did) → BindDoes env mix port owner state did
+        → SawAt state steps
+        → SawForReply (bind_reply_after mix env port state did.old) (steps ++ did ∷ [])
+    bind_reply_after-saw (at.Filling new) steps did does saw = tt
+    bind_reply_after-saw (at.CurrentTable node) steps did does saw = tt
+    bind_reply_after-saw (at.Locating node locate) steps did does saw =
+        let is : did.old ≡ old_of does.words (locate_plan locate) = does.found ∙ ap (old_of does.words) does.planned in
+        let none =
+        bind_there env mix does.caller port owner (home-within env mix port) does.words does.ghost does.all does.whole node locate does.knows in
+        let reply : no_table_reply (locate_after mix port locate did.old).1 ≡ None =
+        ap (λ old. no_table_reply (locate_after mix port locate old).1) is ∙ none in
+        subst (λ (r : Option Reply). SawForReply r (steps ++ did ∷ [])) (sym reply) tt
+    bind_reply_after-saw (at.Probing node table shape probe) steps did does saw = tt
+    bind_reply_after-saw (at.FoundOwner claimed found) steps did does saw = tt
+    bind_reply_after-saw (at.Future claimed length) steps did does saw = tt
+    bind_reply_after-saw (at.Count claimed) steps did does saw = count-saw steps did does.planned
+    bind_reply_after-saw (at.Link claimed) steps did does saw = tt
+    bind_reply_after-saw (at.Raise claimed) steps did does saw = tt
+    bind_reply_after-saw (at.Publish node table relink kick) steps did does saw =
+        published-saw kick (relink_after relink).1 (steps ++ did ∷ [])
+      where
+        published-saw : (kick : Bool) (next : Next (Unit {0})) (all : List Did)
+            → SawForReply (published_reply kick next) all
+        published-saw kick Go all = tt
+        published-saw kick (Done done) all = tt
+    bind_reply_after-saw (at.Unlocking node table unlock next) steps did does saw =
+        SawForReply-push (answer_behind next) steps did saw
+    bind_reply_after-saw (at.Giving give reply) steps did does saw = SawFor-push reply steps did saw
+
+    -- what is seen for its reply is what there is to see in a state
+    SawForReply-new : (state : NewNodeAt) (steps : List Did) → IsSome (node_of_new state) → SawNew state steps
+    SawForReply-new (news.Taking take) steps has = absurd (cc)
+    SawForReply-new (news.Key node) steps has = tt
+    SawForReply-new (news.Owner node) steps has = tt
+    SawForReply-new (news.ListLink node) steps has = tt
+
+    SawForReply-at : (state : BindAt) (steps : List Did) → IsSome (node_of_bind state)
+        → SawForReply (reply_of_bind state) steps
+        → SawAt state steps
+    SawForReply-at (at.Filling new) steps has saw = SawForReply-new new.at steps has
+    SawForReply-at (at.CurrentTable node) steps has saw = tt
+    SawForReply-at (at.Locating node locate) steps has saw = tt
+    SawForReply-at (at.Probing node table shape probe) steps has saw = tt
+    SawForReply-at (at.FoundOwner claimed found) steps has saw = tt
+    SawForReply-at (at.Future claimed length) steps has saw = tt
+    SawForReply-at (at.Count claimed) steps has saw = tt
+    SawForReply-at (at.Link claimed) steps has saw = tt
+    SawForReply-at (at.Raise claimed) steps has saw = tt
+    SawForReply-at (at.Publish node table relink kick) steps has saw = tt
+    SawForReply-at (at.Unlocking node table unlock next) steps has saw = saw
+    SawForReply-at (at.Giving give reply) steps has saw = saw
+
+    with_node-saw : (state : BindAt) (steps : List Did) (did : Did) → BindDoes env mix port owner state did
         → IsSome (node_of_bind state)
         → SawAt state steps → SawNext (steps ++ did ∷ []) (after_at mix env port state did.old)
     with_node-saw state steps did does has saw =
         let all = steps ++ did ∷ [] in
-        let So = λ (node word : Option ℕ) (reply : Option Reply). IsSome node × SawForReply reply all in
-        GoesOrEnds-weaker (HoldsSo So) _ (λ (reply : Reply). So (node_of_bind state) (bind_word_after state did.old) (Some reply)) _ (λ next so. SawForReply-at next all so.0 so.1)
+        let So = λ (node : Option ℕ) (reply : Option Reply). IsSome node × SawForReply reply all in
+        GoesOrEnds-weaker (HoldsSo So) _ (λ (reply : Reply). So (node_of_bind state) (Some reply)) _ (λ next so. SawForReply-at next all so.0 so.1)
         (λ reply so. so.1)
         (after_at mix env port state did.old)
-        (bind_after-so So mix env port state did.old has (has, bind_reply_after-saw port owner state steps did does.planned has saw))
+        (bind_after-so So mix env port state did.old has (has, bind_reply_after-saw state steps did does saw))
 
-    bind-saw : (state : BindAt) (steps : List Did) (did : Did) → BindDoes env port owner state did
-        → SawAt state steps → SawNext (steps ++ did ∷ []) (after_at mix env port state did.old)
-    bind-saw (at.Taking take) steps did does saw =
+    -- while it makes a new node
+    new-saw : (new : NewNodeModel) (state : NewNodeAt) (steps : List Did) (did : Did) → new.at ≡ state
+        → BindDoes env mix port owner (at.Filling new) did → SawNew state steps
+        → let after = new_node_after_at state did.old in
+        SawNext (steps ++ did ∷ []) (filled (record new { at = after.0 }) after.1)
+    new-saw new (news.Taking take) steps did is does saw =
         let all = steps ++ did ∷ [] in
-        let same = does.within.range in
+        let fits = subst (new_fits env mix does.caller (word_of port) owner) is does.knows.fits.at_fits in
         let before = map performed_of steps in
-        let saw_below = subst (λ (h : Geometry). SawAllBelow h (first_unseen take.at) before) (sym same) saw in
-        let after = take_after-saw take take.at before (performed_of did) does.planned does.within.piece saw_below in
+        let planned = does.planned ∙ ap (new_node_plan_at new.geometry new.key new.owner) is in
+        let range = subst (λ (h : Geometry). IsTakeAtIn h take.at) (sym fits.0) fits.1 in
+        let saw_below = subst (λ (h : Geometry). SawAllBelow h (first_unseen take.at) before) (sym fits.0) saw in
+        let after = take_after-saw take take.at before (performed_of did) planned range saw_below in
         let here =
-        subst (λ (h : Geometry). SawSoFar h (before ++ performed_of did ∷ []) (take_node_after take did.old)) same after in
-        node_taken-saw (take_node_after take did.old).0 (take_node_after take did.old).1 all
+        subst (λ (h : Geometry). SawSoFar h (before ++ performed_of did ∷ []) (take_node_after take did.old)) fits.0 after in
+        taking-saw new (take_node_after take did.old).0 (take_node_after take did.old).1 all
         (subst (λ (list : List Performed). SawSoFar env.geometry list (take_node_after take did.old)) (sym (map-append performed_of steps (did ∷ []))) here)
+    new-saw new (news.Key node) steps did is does saw = tt
+    new-saw new (news.Owner node) steps did is does saw = tt
+    new-saw new (news.ListLink node) steps did is does saw = tt
+
+    bind-saw : (state : BindAt) (steps : List Did) (did : Did) → BindDoes env mix port owner state did
+        → SawAt state steps → SawNext (steps ++ did ∷ []) (after_at mix env port state did.old)
+    bind-saw (at.Filling new) steps did does saw = new-saw new new.at steps did refl does saw
     bind-saw state steps did does saw = with_node-saw state steps did does refl saw
 
   -- of a look-up's replies nothing is said

@@ -125,7 +125,7 @@ module _ (g : Geometry) (words : List ℕ) where
 
     module _ (shape count bucket : ℕ) (whole : Option ℕ)
         (within : bucket < count) (first : first_of_buckets shape count bucket ≡ whole)
-        (found : Option ℕ) (place : ℕ) (searched : found ≡ find (has_key g words key) (bucket_nodes g words place))
+        (found : Option ℕ) (place : Option ℕ) (searched : found ≡ find (has_key g words key) (bucket_nodes g words place))
         (at : place ≡ bucket_place g shape bucket) where
       -- the nodes in the buckets behind this one
       abbrev behind : List ℕ

@@ -12,12 +12,21 @@ use Rattle.std.proofs.lemmas.Bool.{and_from, ne_eqb}
 use Rattle.rht_words.specs.declared.op.Op.TheVariants.{Load}
 use Rattle.rht_words.specs.declared.env.Env.{Env}
 use Rattle.rht_words.specs.Operations.{old_of}
-use Rattle.rht_words.specs.Ports.{owner_of}
+use Rattle.rht_words.specs.Ports.{word_of, owner_of}
 use Rattle.rht_words.specs.Places.{PortCount, Node, OwnerWord, place_of}
 use Rattle.rht_words.specs.Members.{NotIn, IsDistinct}
 use Rattle.rht_words.proofs.Members.{count_below, count_below-le, count_by-range, one_if, not_in_from, AllByRecursion-In}
 use Rattle.rht_words.proofs.EachElement.{AllByRecursion-weaker}
+use Rattle.rht_arena.specs.declared.new_node.NewNodeAt.{NewNodeAt}
+use Rattle.rht_arena.specs.declared.new_node.NewNodeAt.TheVariants as news
+use Rattle.rht_chain.specs.Relink.{RelinkModel, relink_plan_at}
+use Rattle.rht_chain.specs.declared.relink.RelinkAt.{RelinkAt}
+use Rattle.rht_chain.specs.declared.relink.RelinkAt.TheVariants as relinks
+use Rattle.rht_find.specs.FindHeld.{held_of_find}
+use Rattle.rht_find.specs.declared.find.FindAt.{FindAt}
+use Rattle.rht_find.specs.declared.find.FindAt.TheVariants as find_at
 use Rattle.rht_bind.specs.Bind.{plan_at}
+use Rattle.rht_bind.specs.BindHeld.{held_of_bind}
 use Rattle.rht_bind.specs.declared.bind.BindAt.{BindAt}
 use Rattle.rht_bind.specs.declared.bind.BindAt.TheVariants as at
 use Rattle.rht_core.specs.declared.event.Event.{Event}
@@ -29,11 +38,13 @@ use Rattle.rht_core.specs.Traces.{Did}
 use Rattle.rht_core.specs.StandsFor.{stands_for}
 use Rattle.rht_core.specs.Laws.{IsRecorded}
 use Rattle.rht_core.specs.Causes.{AreBound, others_in_call, CountedAt}
-use Rattle.rht_core.specs.Counts.{is_linking, is_raising}
+use Rattle.rht_core.specs.Counts.{is_raising}
 use Rattle.rht_core.proofs.Worlds.{planned-some}
 use Rattle.rht_core.proofs.Ghosts.{Owner, First, Ghost, is_first}
 use Rattle.rht_core.proofs.Wholes.{key_of, firsts, raisers, Whole}
+use Rattle.rht_core.proofs.Knowledge.{AllMean}
 use Rattle.rht_core.proofs.Steps.{mem}
+use Rattle.rht_core.proofs.NodeSteps.{new_own}
 use Rattle.rht_core.proofs.BindSteps.{BindKnows}
 use Rattle.rht_core.proofs.Invariants.{CallerKnows}
 use Rattle.rht_core.proofs.InvariantRuns.{has_inv}
@@ -129,33 +140,76 @@ module _ (env : Env) (mix : ℕ → ℕ → ℕ → ℕ) (words : List ℕ) (G :
 -- ---- the callers that have raised the count
 
 module _ (M : Type 0) (mix : ℕ → ℕ → ℕ → ℕ) (env : Env) where
+  -- a new node is made before the count is raised
+  new_raises : (c key owner : ℕ) (state : NewNodeAt) (words : List ℕ) (G : Ghost)
+      → AllMean env mix c (mem env mix words) G (new_own key owner state) → G.raised c ≡ false
+  new_raises c key owner (news.Taking take) words G own = own.0
+  new_raises c key owner (news.Key node) words G own = own.0
+  new_raises c key owner (news.Owner node) words G own = own.0
+  new_raises c key owner (news.ListLink node) words G own = own.0
+
   -- a bind knows that it has raised the count where it links its node next, and there alone
   bind_raises : (c port owner : ℕ) (state : BindAt) (words : List ℕ) (G : Ghost)
-      → BindKnows env mix c port owner state (mem env mix words) G → G.raised c ≡ is_linking state
-  bind_raises c port owner (at.Publish claimed kick) words G known = known.own.0
-  bind_raises c port owner _ words G known = known.own.0
+      → BindKnows env mix c port owner state (mem env mix words) G → G.raised c ≡ (held_of_bind state).raised
+  bind_raises c port owner (at.Filling new) words G known = new_raises c (word_of port) owner new.at words G known.own
+  bind_raises c port owner (at.CurrentTable node) words G known = known.own.0
+  bind_raises c port owner (at.Locating node locate) words G known = known.own.0
+  bind_raises c port owner (at.Probing node table shape probe) words G known = known.own.0
+  bind_raises c port owner (at.FoundOwner claimed found) words G known = known.own.0
+  bind_raises c port owner (at.Future claimed length) words G known = known.own.0
+  bind_raises c port owner (at.Count claimed) words G known = known.own.0
+  bind_raises c port owner (at.Link claimed) words G known = known.own.0
+  bind_raises c port owner (at.Raise claimed) words G known = known.own.0
+  bind_raises c port owner (at.Publish node table relink kick) words G known = known.own.0
+  bind_raises c port owner (at.Unlocking node table unlock next) words G known = known.own.0
+  bind_raises c port owner (at.Giving give reply) words G known = known.own.0
+
+  -- a look-up raises none
+  find_raises : (state : FindAt) → (held_of_find state).raised ≡ false
+  find_raises find_at.CurrentTable = refl
+  find_raises (find_at.Locating locate) = refl
+  find_raises (find_at.Probing table probe) = refl
+  find_raises (find_at.Future table bucket) = refl
+  find_raises (find_at.FirstOwner table bucket node) = refl
+  find_raises (find_at.ListLink table bucket node owner) = refl
+  find_raises (find_at.LaterOwner table bucket node owner) = refl
+  find_raises (find_at.Unlocking table unlock next) = refl
 
   -- a caller has raised the count exactly where it links its node next
   pub raises : (c : ℕ) (doing : Doing M) (words : List ℕ) (G : Ghost)
       → CallerKnows env mix M c doing (mem env mix words) G → G.raised c ≡ is_raising doing
   raises c Idle words G known = known.0
-  raises c (Finding m) words G known = known.1.own.0
+  raises c (Finding m) words G known = known.1.own.0 ∙ sym (find_raises m.at)
   raises c (Binding m) words G known = bind_raises c m.port m.owner m.at words G known.1
 
+  -- what stores the link into a bucket loads nothing
+  relink_stores : (relink : RelinkModel) (state : RelinkAt) (place : ℕ) → relink_plan_at relink state ≢ Load place
+  relink_stores relink (relinks.ChainLink before) place is = cc
+  relink_stores relink (relinks.Word word) place is = cc
+
   -- and there it loads nothing
-  bind_loads-unraised : (e : Env) (port owner place : ℕ) (state : BindAt)
-      → plan_at e port owner state ≡ Load place
-      → is_linking state ≡ false
-  bind_loads-unraised e port owner place (at.Publish claimed kick) is = absurd (cc)
-  bind_loads-unraised e port owner place _ is = refl
+  bind_loads-unraised : (e : Env) (place : ℕ) (state : BindAt) → plan_at e state ≡ Load place
+      → (held_of_bind state).raised ≡ false
+  bind_loads-unraised e place (at.Filling new) is = refl
+  bind_loads-unraised e place (at.CurrentTable node) is = refl
+  bind_loads-unraised e place (at.Locating node locate) is = refl
+  bind_loads-unraised e place (at.Probing node table shape probe) is = refl
+  bind_loads-unraised e place (at.FoundOwner claimed found) is = refl
+  bind_loads-unraised e place (at.Future claimed length) is = refl
+  bind_loads-unraised e place (at.Count claimed) is = refl
+  bind_loads-unraised e place (at.Link claimed) is = refl
+  bind_loads-unraised e place (at.Raise claimed) is = refl
+  bind_loads-unraised e place (at.Publish node table relink kick) is = absurd (relink_stores relink relink.at place is)
+  bind_loads-unraised e place (at.Unlocking node table unlock next) is = refl
+  bind_loads-unraised e place (at.Giving give reply) is = refl
 
   loads-unraised : (place : ℕ) (doing : Doing M) → doing_plan doing ≡ Some (Load place)
       → is_raising doing ≡ false
   loads-unraised place Idle is = refl
-  loads-unraised place (Finding m) is = refl
+  loads-unraised place (Finding m) is = find_raises m.at
   loads-unraised place (Binding m) is =
-      let plan : plan_at m.env m.port m.owner m.at ≡ Load place = cc in
-      bind_loads-unraised m.env m.port m.owner place m.at plan
+      let plan : plan_at m.env m.at ≡ Load place = cc in
+      bind_loads-unraised m.env place m.at plan
 
   -- who has raised the count is in a call
   raised-busy : (c : ℕ) (doing : Doing M) (words : List ℕ) (G : Ghost) → G.raised c ≡ true

@@ -11,7 +11,7 @@ use Rattle.rht_core.specs.declared.local.Local.{Local}
 use Rattle.rht_core.specs.Locals.{fresh}
 use Rattle.rht_core.specs.Runs.{Core, World, local_in, opening_core, run_of, IsSound}
 use Rattle.rht_core.proofs.Worlds.{induct_by_last, run_of-push}
-use Rattle.rht_core.proofs.RangesInRuns.{runs-in, IsInRange-stays}
+use Rattle.rht_core.proofs.SoundRuns.{runs-in, IsSound-stays}
 use Rattle.rht_core.proofs.Ghosts.{Bucket, Free, Ghost, PageFree, SlotFree, is_first}
 use Rattle.rht_core.proofs.Wholes.{Whole}
 use Rattle.rht_core.proofs.Steps.{mem}
@@ -89,7 +89,7 @@ module _ (env : Env) (mix : ℕ → ℕ → ℕ → ℕ) where
 
     -- in every run the words and callers are sound
     pub sound_in : (events : List Event) → IsSound (run_of {M = L} mix env events).core
-    sound_in events = (IsInRange-stays L mix env (run_of mix env events).core (runs-in L mix env events)).sound
+    sound_in events = IsSound-stays L mix env (run_of mix env events).core (runs-in L mix env events)
 
     pub has_inv : (events : List Event) → HasInv (run_of mix env events).core
     has_inv events = induct_by_last (λ es. HasInv (run_of mix env es).core)

@@ -1,7 +1,7 @@
 -- The invariant of every run: there is a ghost of which the whole is true, and each caller knows what its state says.
 -- It holds at opening. A step of a caller keeps the whole and leads to what that caller's next state says; and since nobody's
 -- rights are touched by others, all others still know what they knew.
-use Rattle.std.proofs.Common.{◌≡◌, ℕ, ◌*◌, ◌<◌, List, length, Option, Some, None, true, refl, sym, subst, inl, inr, ◌⊎◌, arith}
+use Rattle.std.proofs.Common.{◌≡◌, ℕ, ◌<◌, List, length, Option, Some, None, true, refl, sym, subst, inl, inr, ◌⊎◌, arith}
 use Rattle.std.proofs.lemmas.Bool.{cases_eq}
 use Rattle.std.proofs.lemmas.List.{get_or-set_same, get_or-set_other}
 use Rattle.rht_words.specs.declared.env.Env.{Env}
@@ -29,7 +29,8 @@ use Rattle.rht_core.specs.Runs.{Core, core_step, local_of, beginning, planned, e
 use Rattle.rht_core.proofs.CallBeginnings.{begins_so}
 use Rattle.rht_core.proofs.Worlds.{beginning-some, planned-some}
 use Rattle.rht_core.proofs.Ghosts.{Ghost}
-use Rattle.rht_core.proofs.Wholes.{home, Whole}
+use Rattle.rht_core.proofs.Wholes.{Whole}
+use Rattle.rht_core.proofs.FirstBuckets.{home-within}
 use Rattle.rht_core.proofs.Knowledge.{AllMean, AllMean-rely, Rely}
 use Rattle.rht_core.proofs.QuietMoves.{aside}
 use Rattle.rht_core.proofs.Steps.{Move, mem, Step, step-map, ghost_after}
@@ -38,10 +39,6 @@ use Rattle.rht_core.proofs.BindSteps.{BindKnows, BindNext, bind_own, bind_lock, 
 use Rattle.rht_core.proofs.FindSteps.{FindKnows, FindNext, no_node, find_lock, find_step}
 
 module _ (env : Env) (mix : ℕ → ℕ → ℕ → ℕ) where
-  -- every port has a bucket
-  pub home-within : (port : ℕ) → home env mix port < 64 * env.geometry.pages
-  home-within port = let within = env.geometry.within in omega (arith, within.pages_within.0)
-
   module _ (L : Type 0) where
     -- what each caller knows, by what it is doing
     abbrev pub CallerKnows : ℕ → Doing L → Memory → Ghost → Type 0
@@ -104,15 +101,15 @@ module _ (env : Env) (mix : ℕ → ℕ → ℕ → ℕ) where
         (step-map env mix c words G (find_plan m) (FindNext env mix c m.port r) (CallerKnows c (found_next (record m { at = r.0 }, r.1)).0)
         (λ M' G' w k. found_knows c m r M' G' known.0 k)
         (subst (λ e. Step env mix c words G (find_at.plan_at e m.at) (FindNext env mix c m.port (find_at.after_at mix e m.port m.at (old_of words (find_at.plan_at e m.at))))) (sym known.0)
-        (find_step env mix c m.port (home-within m.port) words G all whole m.at known.1)))
+        (find_step env mix c m.port (home-within env mix m.port) words G all whole m.at known.1)))
     caller_step c (Binding m) op words G all whole low plans known =
         let here : bind_plan m ≡ op = (cc) in
         let r = bind_at.after_at mix m.env m.port m.at (old_of words (bind_plan m)) in
         subst (λ o. Step env mix c words G o (CallerKnows c (doing_after mix (Binding m) (old_of words o)).0)) here
         (step-map env mix c words G (bind_plan m) (BindNext env mix c m.port m.owner r) (CallerKnows c (bound_next (record m { at = r.0 }, r.1)).0)
         (λ M' G' w k. bound_knows c m r M' G' known.0 k)
-        (subst (λ e. Step env mix c words G (bind_at.plan_at e m.port m.owner m.at) (BindNext env mix c m.port m.owner (bind_at.after_at mix e m.port m.at (old_of words (bind_at.plan_at e m.port m.owner m.at))))) (sym known.0)
-        (bind_step env mix c m.port m.owner (home-within m.port) words G all whole low m.at known.1)))
+        (subst (λ e. Step env mix c words G (bind_at.plan_at e m.at) (BindNext env mix c m.port m.owner (bind_at.after_at mix e m.port m.at (old_of words (bind_at.plan_at e m.at))))) (sym known.0)
+        (bind_step env mix c m.port m.owner (home-within env mix m.port) words G all whole low m.at known.1)))
 
     -- ---- one event
 
@@ -134,7 +131,12 @@ module _ (env : Env) (mix : ℕ → ℕ → ℕ → ℕ) where
           record {
             own = (known.0, (known.1.0, tt));
             lock = (known.1.1.0, tt);
-            fits = (refl, (let within = env.geometry.within in omega (arith, within.nodes_within.0)));
+            fits = record {
+              geometry_same = refl;
+              key_same = refl;
+              owner_same = refl;
+              at_fits = (refl, (let within = env.geometry.within in omega (arith, within.nodes_within.0)));
+            };
           },
         ))
         call machine is

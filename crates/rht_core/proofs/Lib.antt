@@ -2,24 +2,14 @@
 pub mod Worlds
 -- a call begins as a look-up or a bind, and who is in no call plans no operation
 pub mod CallBeginnings
--- a machine goes on in a state, or has answered
-pub mod MachinesGoOn
--- the word that a look-up's lock has found, and the reply that it is going to answer
+-- the reply that a look-up is going to answer
 pub mod HeldByFinds
--- the node that a bind has taken, the word that its lock has found, and the reply that it is going to answer
+-- the node that a bind has taken, and the reply that it is going to answer
 pub mod HeldByBinds
--- on which words the pieces of machines work
-pub mod PiecesPlanned
--- a look-up stays in range
-pub mod FindRanges
--- a bind stays in range
-pub mod BindRanges
--- in every run all that callers name is in range
+-- in every run all words and callers are there, and each caller works in the run's table
+pub mod SoundRuns
+-- in every run all that callers name is in range, and each word is one
 pub mod RangesInRuns
--- the words that machines store have 64 bits
-pub mod StoredWords
--- in every run each word has 64 bits
-pub mod WordsInRuns
 -- in every run a caller that isn't enrolled has done nothing
 pub mod CallersNotEnrolled
 -- a run with its traces, event by event
@@ -54,6 +44,8 @@ pub mod QuietMoves
 pub mod Linking
 -- one operation of a caller, and what it knows afterwards
 pub mod Steps
+-- each port has a bucket in the one table, which has a place
+pub mod FirstBuckets
 -- the operations of the pieces
 pub mod PieceSteps
 -- taking a node, giving it back, and writing its words

@@ -12,6 +12,7 @@ use Rattle.rht_words.specs.declared.env.Env.{Env}
 use Rattle.rht_words.specs.declared.geometry.Geometry.{Geometry}
 use Rattle.rht_words.specs.declared.machine.Next.{Next}
 use Rattle.rht_words.specs.declared.machine.Next.TheVariants.{Go, Done}
+use Rattle.rht_words.specs.Ports.{word_of}
 use Rattle.rht_words.specs.Maps.{bits_above, lowest_free}
 use Rattle.rht_words.specs.Places.{map_words}
 use Rattle.rht_words.specs.Operations.{word_after}
@@ -19,11 +20,23 @@ use Rattle.rht_words.proofs.BitChanges.{bit_at-cleared_other}
 use Rattle.rht_words.proofs.EachElement.{AllByRecursion-push}
 use Rattle.rht_model.specs.declared.history.Reply.{Reply}
 use Rattle.rht_model.specs.declared.history.Reply.TheVariants.{NoNode}
-use Rattle.rht_arena.specs.TakeNode.{TakeNodeModel, take_node_after, plan_at as take_plan_at, after_at as take_after_at, next_word, claim_in, IsInRange as IsTakeInRange}
+use Rattle.rht_arena.specs.TakeNode.{TakeNodeModel, take_node_after, plan_at as take_plan_at, after_at as take_after_at, next_word, claim_in, IsTakeAtIn}
 use Rattle.rht_arena.specs.Laws.{map_bit, IsTaking}
 use Rattle.rht_arena.proofs.TakenWereFree.{claim_of-clears, claims}
 use Rattle.rht_arena.specs.declared.take_node.TakeNodeAt.{TakeNodeAt}
 use Rattle.rht_arena.specs.declared.take_node.TakeNodeAt.TheVariants.{MapWord, Claim}
+use Rattle.rht_arena.specs.NewNode.{NewNodeModel, new_node_plan_at, new_node_after_at, node_taken, node_of_new}
+use Rattle.rht_arena.specs.declared.new_node.NewNodeAt.{NewNodeAt}
+use Rattle.rht_arena.specs.declared.new_node.NewNodeAt.TheVariants as news
+use Rattle.rht_nest.specs.Locate.{locate_plan_at}
+use Rattle.rht_nest.specs.declared.locate.LocateAt.{LocateAt}
+use Rattle.rht_nest.specs.declared.locate.LocateAt.TheVariants as locate_at
+use Rattle.rht_chain.specs.Probe.{probe_plan_at}
+use Rattle.rht_chain.specs.declared.probe.ProbeAt.{ProbeAt}
+use Rattle.rht_chain.specs.declared.probe.ProbeAt.TheVariants as probe_at
+use Rattle.rht_chain.specs.Relink.{RelinkModel, relink_plan_at}
+use Rattle.rht_chain.specs.declared.relink.RelinkAt.{RelinkAt}
+use Rattle.rht_chain.specs.declared.relink.RelinkAt.TheVariants as relink_at
 use Rattle.rht_chain.specs.Lock.{lock_plan_at}
 use Rattle.rht_chain.specs.declared.lock.LockAt.{LockAt}
 use Rattle.rht_chain.specs.declared.lock.LockAt.TheVariants as lock_at
@@ -33,13 +46,15 @@ use Rattle.rht_chain.specs.declared.locked_walk.LockedWalkAt.TheVariants as walk
 use Rattle.rht_find.specs.Find.{plan_at as find_plan_at, after_at as find_after_at}
 use Rattle.rht_find.specs.declared.find.FindAt.{FindAt}
 use Rattle.rht_find.specs.declared.find.FindAt.TheVariants as find_at
-use Rattle.rht_bind.specs.Bind.{plan_at as bind_plan_at, after_at, node_taken}
+use Rattle.rht_bind.specs.Bind.{plan_at as bind_plan_at, after_at, filled}
 use Rattle.rht_bind.specs.declared.bind.BindAt.{BindAt}
 use Rattle.rht_bind.specs.declared.bind.BindAt.TheVariants as at
 use Rattle.rht_core.specs.Traces.{Did}
 use Rattle.rht_core.specs.Laws.{IsFindReply, IsNoTake, TakesNone, TakesOne, IsTakenBy, IsTakenIn, TakenAlone}
-use Rattle.rht_core.proofs.MachinesGoOn.{GoesOrEnds, GoesOrEnds-weaker}
-use Rattle.rht_core.proofs.HeldByBinds.{node_of_bind, bind_word_after, HoldsSo, bind_after-so}
+use Rattle.rht_words.specs.Machines.{GoesOrEnds}
+use Rattle.rht_words.proofs.MachineRuns.{GoesOrEnds-weaker}
+use Rattle.rht_core.proofs.HeldByBinds.{node_of_bind, HoldsSo, bind_after-so}
+use Rattle.rht_core.proofs.NodeSteps.{new_fits}
 use Rattle.rht_core.proofs.MachineReplies.{HoldsFindReply, IsReplyWithNode, IsNoneOrWithNode, find_after-replies, bind_reply_after-with_node}
 use Rattle.rht_core.proofs.TracedCalls.{FindDoes, BindDoes, calls_keep}
 
@@ -79,10 +94,27 @@ walk_no_and : (g : Geometry) (state : LockedWalkAt) → IsNoAnd (walk_plan_at g 
 walk_no_and g (walk_at.Key node) = tt
 walk_no_and g (walk_at.ChainLink node) = tt
 
+probe_no_and : (state : ProbeAt) → IsNoAnd (probe_plan_at state)
+probe_no_and (probe_at.Locking lock) = lock_no_and lock.place lock.at
+probe_no_and (probe_at.Walking bucket walk) = walk_no_and walk.geometry walk.at
+
+locate_no_and : (g : Geometry) (table : ℕ) (state : LocateAt) → IsNoAnd (locate_plan_at g table state)
+locate_no_and g table locate_at.Shape = tt
+locate_no_and g table (locate_at.Seed shape) = tt
+
+relink_no_and : (relink : RelinkModel) (state : RelinkAt) → IsNoAnd (relink_plan_at relink state)
+relink_no_and relink (relink_at.ChainLink before) = tt
+relink_no_and relink (relink_at.Word word) = tt
+
 find_no_and : (env : Env) (state : FindAt) → IsNoAnd (find_plan_at env state)
-find_no_and env (find_at.Locking table lock) = lock_no_and lock.place lock.at
-find_no_and env (find_at.Walking table bucket walk) = walk_no_and walk.geometry walk.at
-find_no_and env _ = tt
+find_no_and env find_at.CurrentTable = tt
+find_no_and env (find_at.Locating locate) = locate_no_and locate.geometry locate.table locate.at
+find_no_and env (find_at.Probing table probe) = probe_no_and probe.at
+find_no_and env (find_at.Future table bucket) = tt
+find_no_and env (find_at.FirstOwner table bucket node) = tt
+find_no_and env (find_at.ListLink table bucket node owner) = tt
+find_no_and env (find_at.LaterOwner table bucket node owner) = tt
+find_no_and env (find_at.Unlocking table unlock next) = tt
 
 -- ---- the taking of a node
 
@@ -118,7 +150,7 @@ module _ (take : TakeNodeModel) (did : Did) (none : IsNoTake take.geometry did) 
 
 take_took : (take : TakeNodeModel) (state : TakeNodeAt) (did : Did)
     → did.op ≡ take_plan_at take.geometry state
-    → IsTakeInRange take.geometry state
+    → IsTakeAtIn take.geometry state
     → TookAs take.geometry did (take_after_at take state did.old).1
 take_took take (MapWord index) did is range =
     claim_in-took take did (no_and_as take.geometry did is tt) index (lowest_free take.geometry.nodes index did.old)
@@ -134,12 +166,27 @@ take_took take (Claim index bit) did is range =
 
 -- ---- a bind
 
-bind_no_and : (env : Env) (port owner : ℕ) (state : BindAt) → IsSome (node_of_bind state)
-    → IsNoAnd (bind_plan_at env port owner state)
-bind_no_and env port owner (at.Taking take) has = absurd (cc)
-bind_no_and env port owner (at.Locking node table shape lock) has = lock_no_and lock.place lock.at
-bind_no_and env port owner (at.Walking table claimed walk) has = walk_no_and walk.geometry walk.at
-bind_no_and env port owner _ has = tt
+-- once a new node is taken, it is written by stores alone
+new_no_and : (g : Geometry) (key owner : ℕ) (state : NewNodeAt) → IsSome (node_of_new state)
+    → IsNoAnd (new_node_plan_at g key owner state)
+new_no_and g key owner (news.Taking take) has = absurd (cc)
+new_no_and g key owner (news.Key node) has = tt
+new_no_and g key owner (news.Owner node) has = tt
+new_no_and g key owner (news.ListLink node) has = tt
+
+bind_no_and : (env : Env) (state : BindAt) → IsSome (node_of_bind state) → IsNoAnd (bind_plan_at env state)
+bind_no_and env (at.Filling new) has = new_no_and new.geometry new.key new.owner new.at has
+bind_no_and env (at.CurrentTable node) has = tt
+bind_no_and env (at.Locating node locate) has = locate_no_and locate.geometry locate.table locate.at
+bind_no_and env (at.Probing node table shape probe) has = probe_no_and probe.at
+bind_no_and env (at.FoundOwner claimed found) has = tt
+bind_no_and env (at.Future claimed length) has = tt
+bind_no_and env (at.Count claimed) has = tt
+bind_no_and env (at.Link claimed) has = tt
+bind_no_and env (at.Raise claimed) has = tt
+bind_no_and env (at.Publish node table relink kick) has = relink_no_and relink relink.at
+bind_no_and env (at.Unlocking node table unlock next) has = tt
+bind_no_and env (at.Giving give reply) has = tt
 
 -- the steps took the node that the bind has, and none where it has none
 abbrev HasTaken : Geometry → Option ℕ → List Did → Type 0
@@ -173,36 +220,57 @@ module _ (mix : ℕ → ℕ → ℕ → ℕ) (env : Env) where
   abbrev BindGoes : List Did → BindAt × Next Reply → Type 0
   BindGoes steps next = GoesOrEnds (λ state. BindTakes state steps) (λ reply. IsTakenBy g reply steps) next
 
-  taking-goes : (take : TakeNodeModel) (next : Next (Option ℕ)) (steps : List Did) (did : Did)
+  taking-goes : (new : NewNodeModel) (take : TakeNodeModel) (next : Next (Option ℕ)) (steps : List Did) (did : Did)
       → TookAs g did next
-      → TakesNone g steps → BindGoes (steps ++ did ∷ []) (node_taken take next)
-  taking-goes take Go steps did took none = AllByRecursion-push (IsNoTake g) steps did none took
-  taking-goes take (Done None) steps did took none = AllByRecursion-push (IsNoTake g) steps did none took
-  taking-goes take (Done (Some node)) steps did took none = TakesOne-last g node steps did none took
+      → TakesNone g steps
+      → let after = node_taken take next in
+      BindGoes (steps ++ did ∷ []) (filled (record new { at = after.0 }) after.1)
+  taking-goes new take Go steps did took none = AllByRecursion-push (IsNoTake g) steps did none took
+  taking-goes new take (Done None) steps did took none = AllByRecursion-push (IsNoTake g) steps did none took
+  taking-goes new take (Done (Some node)) steps did took none = TakesOne-last g node steps did none took
 
   -- a bind that has its node performs no And, so the node stays the one that it took
   with_node-goes : (port owner : ℕ) (state : BindAt) (steps : List Did) (did : Did)
-      → BindDoes env port owner state did
+      → BindDoes env mix port owner state did
       → IsSome (node_of_bind state) → BindTakes state steps
       → BindGoes (steps ++ did ∷ []) (after_at mix env port state did.old)
   with_node-goes port owner state steps did does has taken =
       let all = steps ++ did ∷ [] in
       let still =
-      HasTaken-push g (node_of_bind state) steps did taken (no_and_as g did does.planned (bind_no_and env port owner state has)) in
-      let So = λ (node word : Option ℕ) (reply : Option Reply). HasTaken g node all × IsNoneOrWithNode reply in
-      GoesOrEnds-weaker (HoldsSo So) _ (λ (reply : Reply). So (node_of_bind state) (bind_word_after state did.old) (Some reply)) _ (λ next so. so.0)
+      HasTaken-push g (node_of_bind state) steps did taken (no_and_as g did does.planned (bind_no_and env state has)) in
+      let So = λ (node : Option ℕ) (reply : Option Reply). HasTaken g node all × IsNoneOrWithNode reply in
+      GoesOrEnds-weaker (HoldsSo So) _ (λ (reply : Reply). So (node_of_bind state) (Some reply)) _ (λ next so. so.0)
       (λ reply so. with_node g (node_of_bind state) all reply has so.1 so.0)
       (after_at mix env port state did.old)
-      (bind_after-so So mix env port state did.old has (still, bind_reply_after-with_node env state did.old does.holds))
+      (bind_after-so So mix env port state did.old has (still, bind_reply_after-with_node mix env port state did.old does.holds))
+
+  -- a new node is taken by the operation with which its taking ends
+  filling-goes : (port owner : ℕ) (new : NewNodeModel) (state : NewNodeAt) (steps : List Did) (did : Did)
+      → new.at ≡ state → BindDoes env mix port owner (at.Filling new) did
+      → HasTaken g (node_of_new state) steps
+      → let after = new_node_after_at state did.old in
+      BindGoes (steps ++ did ∷ []) (filled (record new { at = after.0 }) after.1)
+  filling-goes port owner new (news.Taking take) steps did is does taken =
+      let fits = subst (new_fits env mix does.caller (word_of port) owner) is does.knows.fits.at_fits in
+      let after = take_node_after take did.old in
+      let planned : did.op ≡ take_plan_at take.geometry take.at =
+      does.planned ∙ ap (new_node_plan_at new.geometry new.key new.owner) is in
+      let range = subst (λ (h : Geometry). IsTakeAtIn h take.at) (sym fits.0) fits.1 in
+      let took = take_took take take.at did planned range in
+      taking-goes new after.0 after.1 steps did (subst (λ (h : Geometry). TookAs h did after.1) fits.0 took) taken
+  filling-goes port owner new (news.Key node) steps did is does taken =
+      TakesOne-push g node steps did taken (no_and_as g did (does.planned ∙ ap (new_node_plan_at new.geometry new.key new.owner) is) tt)
+  filling-goes port owner new (news.Owner node) steps did is does taken =
+      TakesOne-push g node steps did taken (no_and_as g did (does.planned ∙ ap (new_node_plan_at new.geometry new.key new.owner) is) tt)
+  filling-goes port owner new (news.ListLink node) steps did is does taken =
+      TakesOne-push g node steps did taken (no_and_as g did (does.planned ∙ ap (new_node_plan_at new.geometry new.key new.owner) is) tt)
 
   bind-goes : (port owner : ℕ) (state : BindAt) (steps : List Did) (did : Did)
-      → BindDoes env port owner state did
+      → BindDoes env mix port owner state did
       → BindTakes state steps
       → BindGoes (steps ++ did ∷ []) (after_at mix env port state did.old)
-  bind-goes port owner (at.Taking take) steps did does taken =
-      let after = take_node_after take did.old in
-      let took = take_took take take.at did does.planned does.within.piece in
-      taking-goes after.0 after.1 steps did (subst (λ (h : Geometry). TookAs h did after.1) does.within.range took) taken
+  bind-goes port owner (at.Filling new) steps did does taken =
+      filling-goes port owner new new.at steps did refl does taken
   bind-goes port owner state steps did does taken = with_node-goes port owner state steps did does refl taken
 
   -- a look-up takes none

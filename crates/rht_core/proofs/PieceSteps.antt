@@ -1,4 +1,4 @@
--- The operations of the pieces: the lock, the walk under it and the unlocking, and the place of a port's bucket.
+-- The operations of the pieces: the finding of a port's bucket, the lock, the walk under it and the unlocking.
 use Rattle.std.proofs.Common.{◌≡◌, ◌≢◌, ℕ, ◌+◌, ◌*◌, ◌%◌, ◌<◌, ◌==◌, List, [], ◌∷◌, ◌++◌, length, Option, Some, None, false, cond, refl, sym, ap, ◌∙◌, subst, inl, arith}
 use Rattle.std.proofs.Math.Seq.{append_snoc}
 use Rattle.std.proofs.lemmas.Bool.{eqb-true, eqb-false, eq-eqb}
@@ -11,7 +11,7 @@ use Rattle.rht_words.specs.declared.machine.Start.TheVariants as starts
 use Rattle.rht_words.specs.Links.{link_of, node_of, head_of, marker_of}
 use Rattle.rht_words.specs.Chains.{IsSegment}
 use Rattle.rht_words.specs.Operations.{old_of, word_after, applied}
-use Rattle.rht_words.specs.Places.{Slot, SeedWord, Node, ChainLink, KeyWord, PageWord, place_of, words_in, word_at}
+use Rattle.rht_words.specs.Places.{Slot, ShapeWord, SeedWord, Node, ChainLink, KeyWord, PageWord, place_of, words_in, word_at}
 use Rattle.rht_words.proofs.LinksRead.{links_tell_apart}
 use Rattle.rht_words.proofs.Memory.{Memory, IsWrite, is_write}
 use Rattle.rht_words.specs.Members.{In}
@@ -19,6 +19,15 @@ use Rattle.rht_words.proofs.Members.{in-middle}
 use Rattle.rht_words.proofs.ChainLemmas.{IsSegment-cut}
 use Rattle.rht_policy.specs.Mix.{bucket_of}
 use Rattle.rht_nest.specs.Place.{bucket_place}
+use Rattle.rht_nest.specs.Locate.{LocateModel, locate_plan, locate_after, located}
+use Rattle.rht_nest.specs.declared.locate.Located.{Located}
+use Rattle.rht_nest.specs.declared.locate.LocateAt.{LocateAt}
+use Rattle.rht_nest.specs.declared.locate.LocateAt.TheVariants as locates
+use Rattle.rht_chain.specs.Probe.{ProbeModel, probe_plan, probe_after, lock_taken, walk_or_seen, walk_taken}
+use Rattle.rht_chain.specs.declared.locked.Locked.{Locked}
+use Rattle.rht_chain.specs.declared.probe.Probed.{Probed}
+use Rattle.rht_chain.specs.declared.probe.ProbeAt.{ProbeAt}
+use Rattle.rht_chain.specs.declared.probe.ProbeAt.TheVariants as probes
 use Rattle.rht_chain.specs.Lock.{LockModel, lock_plan, lock_after, IsEven}
 use Rattle.rht_chain.specs.declared.lock.LockAt.{LockAt}
 use Rattle.rht_chain.specs.declared.lock.LockAt.TheVariants as locks
@@ -30,7 +39,8 @@ use Rattle.rht_core.proofs.Ghosts.{put, put-same, put-none, put-only, Ghost, wit
 use Rattle.rht_core.proofs.Wholes.{chain_of, key_of, shape_word, home, place_at, Whole}
 use Rattle.rht_core.proofs.Knowledge.{Fact, Locks, Stands, Differs, Missed, Found, OnlyLock, AllMean, HoldsLock, NoKey, StandsAt, last_of}
 use Rattle.rht_core.proofs.QuietMoves.{take_lock, drop_lock}
-use Rattle.rht_core.proofs.Steps.{TakesLock, DropsLock, by_test, mem, Step, reads, AllOwn, own-kept}
+use Rattle.rht_core.proofs.Steps.{TakesLock, DropsLock, by_test, mem, Step, reads, step-map, AllOwn, own-kept}
+use Rattle.rht_core.proofs.FirstBuckets.{place-home}
 
 -- what is known at a state of the walk, of the bucket of a port whose word was this before it was locked
 abbrev pub walk_facts_at : ℕ → ℕ → Option ℕ → LockedWalkAt → List Fact
@@ -41,6 +51,43 @@ walk_facts_at port word before (walks.ChainLink node) = Stands port word node be
 abbrev pub seen_facts : ℕ → ℕ → Option ℕ → List Fact
 seen_facts port word None = Missed port word ∷ []
 seen_facts port word (Some node) = Found port word node ∷ []
+
+-- ---- where the finding of a port's bucket and the probe of it stand
+
+module _ (env : Env) (mix : ℕ → ℕ → ℕ → ℕ) (port : ℕ) where
+  -- what is known at a state of the probe: no lock is held, or that of the bucket that is walked
+  abbrev pub probe_facts : ProbeAt → List Fact
+  probe_facts (probes.Locking lock) = OnlyLock None ∷ []
+  probe_facts (probes.Walking bucket walk) =
+      OnlyLock (Some (home env mix port)) ∷ walk_facts_at port bucket.word walk.before walk.at
+
+  -- it works on the port's bucket
+  abbrev pub probe_fits : ProbeAt → Type 0
+  probe_fits (probes.Locking lock) = (lock.place ≡ place_at env mix (home env mix port)) × IsEven lock.at
+  probe_fits (probes.Walking bucket walk) =
+      (bucket.place ≡ place_at env mix (home env mix port)) × (walk.geometry ≡ env.geometry) × (walk.key ≡ port)
+
+  pub record ProbeFits (m : ProbeModel) : Type 0 where
+    pub geometry_same : m.geometry ≡ env.geometry
+    pub key_same : m.key ≡ port
+    pub at_fits : probe_fits m.at
+
+  -- the shape that it keeps is the one table's
+  abbrev pub locate_fits : LocateAt → Type 0
+  locate_fits locates.Shape = Unit {0}
+  locate_fits (locates.Seed shape) = shape ≡ shape_word env mix
+
+  pub record LocateFits (m : LocateModel) : Type 0 where
+    pub geometry_same : m.geometry ≡ env.geometry
+    pub table_first : m.table ≡ 0
+    pub at_fits : locate_fits m.at
+
+  -- the bucket is there, and is the port's
+  pub record IsFoundThere (m : LocateModel) (found : Located) : Type 0 where
+    pub table_first : m.table ≡ 0
+    pub shape_is : found.shape ≡ shape_word env mix
+    pub place_is : found.place ≡ Some (place_at env mix (home env mix port))
+
 
 module _ (env : Env) (mix : ℕ → ℕ → ℕ → ℕ) (c : ℕ) (port : ℕ) (own : List Fact)
     (all_own : AllOwn env mix own) (within : home env mix port < 64 * env.geometry.pages) where
@@ -170,6 +217,47 @@ module _ (env : Env) (mix : ℕ → ℕ → ℕ → ℕ) (c : ℕ) (port : ℕ) 
   LockKnows (lock, Done word) M G =
       Own M G × AllMean env mix c M G (OnlyLock (Some j) ∷ Locks port word ∷ []) × (lock.place ≡ place)
 
+  -- ---- the probe
+
+  -- what the caller knows once it has seen this in the bucket
+  abbrev pub ProbedKnows : Probed → Memory → Ghost → Type 0
+  ProbedKnows probed M G =
+      Own M G × AllMean env mix c M G (OnlyLock (Some j) ∷ seen_facts port probed.bucket.word probed.seen.found) × (probed.bucket.place ≡ place)
+
+  -- what it knows after an operation of the probe
+  abbrev pub ProbeKnows : ProbeAt × Next Probed → Memory → Ghost → Type 0
+  ProbeKnows (at, Go) M G = Own M G × AllMean env mix c M G (probe_facts env mix port at) × probe_fits env mix port at
+  ProbeKnows (at, Done probed) M G = ProbedKnows probed M G
+
+  abbrev pub ProbeNext : ProbeModel × Next Probed → Memory → Ghost → Type 0
+  ProbeNext (m, Go) M G = Own M G × AllMean env mix c M G (probe_facts env mix port m.at) × ProbeFits env mix port m
+  ProbeNext (m, Done probed) M G = ProbedKnows probed M G
+
+  walk_next : (bucket : Locked) (r : LockedWalkModel × Next Seen) (M : Memory) (G : Ghost) → bucket.place ≡ place
+      → WalkKnows bucket.word r M G → ProbeKnows (walk_taken bucket r.0 r.1) M G
+  walk_next bucket (walk, Go) M G p known = (known.0, known.1, (p, known.2.0, known.2.1))
+  walk_next bucket (walk, Done seen) M G p known = (known.0, known.1, p)
+
+  start_next : (lock : LockModel) (bucket : Locked) (start : Start LockedWalkModel Seen) (M : Memory) (G : Ghost)
+      → bucket.place ≡ place → StartKnows bucket.word start M G → ProbeKnows (walk_or_seen lock bucket start) M G
+  start_next lock bucket (starts.Running walk) M G p known = (known.0, known.1, (p, known.2.0, known.2.1))
+  start_next lock bucket (starts.Done seen) M G p known = (known.0, known.1, p)
+
+  lock_next : (r : LockModel × Next ℕ) (M : Memory) (G : Ghost) → Whole env mix M G → LockKnows r M G
+      → ProbeKnows (lock_taken env.geometry port r.0 r.1) M G
+  lock_next (lock, Go) M G whole known = (known.0, known.1, (known.2, known.3))
+  lock_next (lock, Done word) M G whole known =
+      let bucket : Locked = record { place = lock.place; word = word } in
+      let start = walk_start M G whole word known.0 known.1 in
+      let here : StartKnows word (locked_walk_new env.geometry lock.place word port) M G = rw known.2 start in
+      start_next lock bucket (locked_walk_new env.geometry lock.place word port) M G known.2 here
+
+  -- ---- the finding of the bucket
+
+  abbrev pub LocateKnows : LocateModel × Next Located → Memory → Ghost → Type 0
+  LocateKnows (m, Go) M G = Own M G × AllMean env mix c M G (OnlyLock None ∷ []) × LocateFits env mix port m
+  LocateKnows (m, Done found) M G = Own M G × AllMean env mix c M G (OnlyLock None ∷ []) × IsFoundThere env mix port m found
+
   module _ (words : List ℕ) (G : Ghost) (all : length words ≡ words_in env.geometry)
       (whole : Whole env mix (mem env mix words) G)
       (mine : Own (mem env mix words) G) where
@@ -290,13 +378,67 @@ module _ (env : Env) (mix : ℕ → ℕ → ℕ → ℕ) (c : ℕ) (port : ℕ) 
         same : ◌≡◌ {A = LockedWalkModel} walk (record { geometry = env.geometry; key = port; before = walk.before; length = walk.length; at = walk.at })
         same = rw is.0 (rw is.1 refl)
 
-    -- ---- the seed
+    -- ---- the probe
+
+    lifted : (r : ProbeAt × Next Probed) (M' : Memory) (G' : Ghost) → ProbeKnows r M' G'
+        → ProbeNext (record { geometry = env.geometry; key = port; at = r.0 }, r.1) M' G'
+    lifted (at, Go) M' G' known = (known.0, known.1, record { geometry_same = refl; key_same = refl; at_fits = known.2 })
+    lifted (at, Done probed) M' G' known = known
+
+    probe_step_at : (at : ProbeAt) → probe_fits env mix port at → AllMean env mix c M G (probe_facts env mix port at)
+        → let m : ProbeModel = record { geometry = env.geometry; key = port; at = at } in
+        Step env mix c words G (probe_plan m) (ProbeNext (probe_after m (old_of words (probe_plan m))))
+    probe_step_at (probes.Locking lock) fits knows =
+        let r = lock_after lock (old_of words (lock_plan lock)) in
+        step-map env mix c words G (lock_plan lock) (LockKnows r)
+        (ProbeNext (probe_after (record { geometry = env.geometry; key = port; at = probes.Locking lock }) (old_of words (lock_plan lock))))
+        (λ M' G' w k. lifted (lock_taken env.geometry port r.0 r.1) M' G' (lock_next r M' G' w k))
+        (lock_step lock fits.0 fits.1 knows)
+    probe_step_at (probes.Walking bucket walk) fits knows =
+        let r = locked_walk_after walk (old_of words (locked_walk_plan walk)) in
+        step-map env mix c words G (locked_walk_plan walk) (WalkKnows bucket.word r)
+        (ProbeNext (probe_after (record { geometry = env.geometry; key = port; at = probes.Walking bucket walk }) (old_of words (locked_walk_plan walk))))
+        (λ M' G' w k. lifted (walk_taken bucket r.0 r.1) M' G' (walk_next bucket r M' G' fits.0 k))
+        (walk_step bucket.word walk (fits.1, fits.2) knows)
+
+    pub probe_step : (probe : ProbeModel) → ProbeFits env mix port probe → AllMean env mix c M G (probe_facts env mix port probe.at)
+        → Step env mix c words G (probe_plan probe) (ProbeNext (probe_after probe (old_of words (probe_plan probe))))
+    probe_step probe fits knows =
+        subst (λ (m : ProbeModel). Step env mix c words G (probe_plan m) (ProbeNext (probe_after m (old_of words (probe_plan m)))))
+        (sym same) (probe_step_at probe.at fits.at_fits knows)
+      where
+        same : ◌≡◌ {A = ProbeModel} probe (record { geometry = env.geometry; key = port; at = probe.at })
+        same = rw fits.geometry_same (rw fits.key_same refl)
+
+    -- ---- the finding of the bucket
 
     -- the bucket that the words of the one table give is the port's
-    pub seed_place : (table shape : ℕ) → table ≡ 0 → shape ≡ shape_word env mix
-        → bucket_place env.geometry shape (bucket_of mix port shape (M (Slot table SeedWord))) ≡ place
-    seed_place table shape first is =
-        let seed : M (Slot table SeedWord) ≡ env.config.seed =
-        ap (λ t. M (Slot t SeedWord)) first ∙ whole.tables.seed_is in
-        ap (λ s. bucket_place env.geometry s (bucket_of mix port s (M (Slot table SeedWord)))) is
-        ∙ ap (λ s. bucket_place env.geometry (shape_word env mix) (bucket_of mix port (shape_word env mix) s)) seed
+    seed_place : (shape : ℕ) → shape ≡ shape_word env mix
+        → bucket_place env.geometry shape (bucket_of mix port shape (M (Slot 0 SeedWord))) ≡ Some place
+    seed_place shape is =
+        ap (λ s. bucket_place env.geometry s (bucket_of mix port s (M (Slot 0 SeedWord)))) is
+        ∙ ap (λ s. bucket_place env.geometry (shape_word env mix) (bucket_of mix port (shape_word env mix) s)) whole.tables.seed_is
+        ∙ place-home env mix port
+
+    locate_step_at : (at : LocateAt) → locate_fits env mix port at → AllMean env mix c M G (OnlyLock None ∷ [])
+        → let m : LocateModel = record { geometry = env.geometry; table = 0; at = at } in
+        Step env mix c words G (locate_plan m) (LocateKnows (locate_after mix port m (old_of words (locate_plan m))))
+    locate_step_at locates.Shape fits only =
+        let op = Load (place_of env.geometry (Slot 0 ShapeWord)) in
+        let next : LocateModel = record { geometry = env.geometry; table = 0; at = locates.Seed (old_of words op) } in
+        reads env mix c words G op (LocateKnows (next, Go)) whole refl
+        (mine, only, record { geometry_same = refl; table_first = refl; at_fits = whole.tables.shape_is })
+    locate_step_at (locates.Seed shape) fits only =
+        let op = Load (place_of env.geometry (Slot 0 SeedWord)) in
+        let m : LocateModel = record { geometry = env.geometry; table = 0; at = locates.Seed shape } in
+        reads env mix c words G op (LocateKnows (m, Done (located mix env.geometry port shape (old_of words op)))) whole refl
+        (mine, only, record { table_first = refl; shape_is = fits; place_is = seed_place shape fits })
+
+    pub locate_step : (locate : LocateModel) → LocateFits env mix port locate → AllMean env mix c M G (OnlyLock None ∷ [])
+        → Step env mix c words G (locate_plan locate) (LocateKnows (locate_after mix port locate (old_of words (locate_plan locate))))
+    locate_step locate fits only =
+        subst (λ (m : LocateModel). Step env mix c words G (locate_plan m) (LocateKnows (locate_after mix port m (old_of words (locate_plan m)))))
+        (sym same) (locate_step_at locate.at fits.at_fits only)
+      where
+        same : ◌≡◌ {A = LocateModel} locate (record { geometry = env.geometry; table = 0; at = locate.at })
+        same = rw fits.geometry_same (rw fits.table_first refl)

@@ -14,14 +14,14 @@ use Rattle.rht_core.specs.declared.local.Local.{Local}
 use Rattle.rht_core.specs.Locals.{fresh, is_idle}
 use Rattle.rht_core.specs.Runs.{Core, World, Seen, local_of, planned, with_step, core_step, run_of, IsSound, IsAdmittedEvent, IsReached}
 use Rattle.rht_core.proofs.Worlds.{run_of-push}
-use Rattle.rht_core.proofs.RangesInRuns.{runs-in, IsInRange-stays}
+use Rattle.rht_core.proofs.SoundRuns.{runs-in, IsSound-stays}
 use Rattle.rht_core.proofs.CallersNotEnrolled.{all-fresh}
 
 module _ (M : Type 0) (mix : ℕ → ℕ → ℕ → ℕ) where
   pub IsSound-reached : (core : Core M) → IsReached mix core → IsSound core
   IsSound-reached core reached =
       subst (λ (k : Core M). IsSound k) reached.same
-      (IsInRange-stays M mix core.env (run_of mix core.env reached.events).core (runs-in M mix core.env reached.events)).sound
+      (IsSound-stays M mix core.env (run_of mix core.env reached.events).core (runs-in M mix core.env reached.events))
 
   -- a caller that there may be has a place
   pub place-reached : (core : Core M) (c : ℕ) → IsReached mix core → c < core.env.geometry.callers

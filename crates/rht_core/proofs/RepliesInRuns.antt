@@ -24,7 +24,7 @@ use Rattle.rht_core.specs.declared.local.Doing.TheVariants.{Idle, Finding, Bindi
 use Rattle.rht_core.specs.Locals.{does_nothing, is_idle, machine_of, doing_plan, doing_after, ending_of, found_next, bound_next}
 use Rattle.rht_core.specs.Runs.{Seen, seen, book_begun, book_after, finished_with, run_of}
 use Rattle.rht_core.specs.Laws.{IsFindReply, IsBindReply, IsReplyTo, IsAnswered, IsBookOfFind, IsBookOfBind, IsBookOf, last_of, HasLists, owners_with, pairs_with, Replies, seen_begin}
-use Rattle.rht_core.proofs.MachinesGoOn.{GoesOrEnds}
+use Rattle.rht_words.specs.Machines.{GoesOrEnds}
 use Rattle.rht_core.proofs.MachineReplies.{HoldsFindReply, HoldsBindReply, find_after-replies, bind_after-replies}
 use Rattle.rht_core.proofs.CallBeginnings.{begins_so}
 use Rattle.rht_core.proofs.TracedCallers.{IsKept, callers_keep}

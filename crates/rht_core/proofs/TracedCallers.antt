@@ -9,6 +9,7 @@ use Rattle.std.proofs.lemmas.Bool.{cases_eq}
 use Rattle.rht_words.specs.declared.op.Op.{Op}
 use Rattle.rht_words.specs.declared.env.Env.{Env}
 use Rattle.rht_words.specs.Operations.{old_of}
+use Rattle.rht_words.specs.Places.{words_in}
 use Rattle.rht_words.proofs.EachElement.{each_replicate, slice_get-push_last}
 use Rattle.rht_model.specs.declared.history.Call.{Call}
 use Rattle.rht_model.specs.declared.history.Reply.{Reply}
@@ -19,9 +20,14 @@ use Rattle.rht_core.specs.declared.local.Doing.{Doing}
 use Rattle.rht_core.specs.Locals.{fresh, is_idle, machine_of, plan_of, local_after, ending_of}
 use Rattle.rht_core.specs.Runs.{World, Seen, seen, local_of, new_book, beginning, planned, with_step, core_step, world_step, run_of}
 use Rattle.rht_core.specs.Traces.{Did, Trace, Traced, trace_begun, trace_did, traces_after, traced_step, traced_of}
-use Rattle.rht_core.specs.Laws.{IsLocalIn, IsRecorded, seen_begin, seen_step}
+use Rattle.rht_core.specs.Laws.{IsRecorded, seen_begin, seen_step}
 use Rattle.rht_core.proofs.Worlds.{induct_by_last, take-push_all, beginning-some, planned-some, begin_none, begin_self, begin_other, step_none, step_self, step_other}
-use Rattle.rht_core.proofs.RangesInRuns.{StaysIn, runs-in, made_in, has_place}
+use Rattle.rht_core.proofs.SoundRuns.{StaysIn, runs-in, made_in, has_place}
+use Rattle.rht_core.proofs.Ghosts.{Ghost}
+use Rattle.rht_core.proofs.Wholes.{Whole}
+use Rattle.rht_core.proofs.Steps.{mem}
+use Rattle.rht_core.proofs.Invariants.{CallerKnows}
+use Rattle.rht_core.proofs.InvariantRuns.{HasInv, has_inv}
 use Rattle.rht_core.proofs.TracedRuns.{no_trace, traced_of-push, world-traced_of, count-traced_of, trace_with, trace_begin_none, trace_begin_self, trace_begin_other, trace_step_none, trace_step_self, trace_step_other}
 
 module _ (M : Type 0) (mix : ℕ → ℕ → ℕ → ℕ) (env : Env) where
@@ -38,10 +44,19 @@ module _ (M : Type 0) (mix : ℕ → ℕ → ℕ → ℕ) (env : Env) where
 
   -- ---- the operation at the last event
 
+  -- in these words a caller that does this knows what its state says, and the operation finds what it found
+  pub record IsKnown (c : ℕ) (local : Local M) (did : Did) : Type 0 where
+    pub words : List ℕ
+    pub ghost : Ghost
+    pub all : length words ≡ words_in env.geometry
+    pub whole : Whole env mix (mem env mix words) ghost
+    pub knows : CallerKnows env mix M c local.doing (mem env mix words) ghost
+    pub found : did.old ≡ old_of words did.op
+
   -- behind these events a caller that does this makes this operation, and the run remembers it
   pub record IsMade (events : List Event) (c : ℕ) (local : Local M) (did : Did) : Type 0 where
     pub plan : plan_of local ≡ Some did.op
-    pub within : IsLocalIn env c local
+    pub known : IsKnown c local did
     pub index : did.index ≡ length events
     pub recorded : IsRecorded M mix env (events ++ Step c ∷ []) c did
     pub reply :
@@ -58,6 +73,10 @@ module _ (M : Type 0) (mix : ℕ → ℕ → ℕ → ℕ) (env : Env) where
   stays_in events =
       subst (λ (w : World M). StaysIn M mix env w.core) (sym (world-traced_of M mix env events)) (runs-in M mix env events)
 
+  inv_now : (events : List Event) → HasInv env mix M (R events).world.core
+  inv_now events =
+      subst (λ (w : World M). HasInv env mix M w.core) (sym (world-traced_of M mix env events)) (has_inv env mix M events)
+
   -- the operation that is made next
   abbrev did_next : List Event → Op → Did
   did_next events op = record { index = (R events).count; op = op; old = old_of (R events).world.core.words op }
@@ -66,9 +85,17 @@ module _ (M : Type 0) (mix : ℕ → ℕ → ℕ → ℕ) (env : Env) where
       → IsMade events c (local_of (R events).world.core c) (did_next events op)
   did_next-made events c op is =
       let core = (R events).world.core in
+      let has = inv_now events in
       record {
         plan = (planned-some core.env core.enrolled core.locals c op is).plan;
-        within = (stays_in events).locals c;
+        known = record {
+          words = core.words;
+          ghost = has.ghost;
+          all = (stays_in events).all_words;
+          whole = has.inv.whole;
+          knows = has.inv.each c;
+          found = refl;
+        };
         index = count-traced_of M mix env events;
         recorded = record {
           event =

@@ -3,19 +3,20 @@
 --
 -- It is enough to look at the machines, one operation at a time. A call begins with no operations; an
 -- operation of a machine leads to one more of them, and where it ends the call, to what is kept of an ended one.
--- What callers keep besides is known here once for all: that each is right, and that its state is in range.
-use Rattle.std.proofs.Common.{◌≡◌, ℕ, Bool, true, List, [], ◌∷◌, ◌++◌, sym, subst}
+-- What callers keep besides is known here once for all: that each is right, and what it knows of the words.
+use Rattle.std.proofs.Common.{◌≡◌, ℕ, Bool, true, List, [], ◌∷◌, ◌++◌, length, sym, subst}
 use Rattle.std.specs.Prelude.{Option, Some}
 use Rattle.std.specs.List.{AllByRecursion}
 use Rattle.rht_words.specs.declared.env.Env.{Env}
 use Rattle.rht_words.specs.declared.machine.Next.{Next}
 use Rattle.rht_words.specs.declared.machine.Next.TheVariants.{Go, Done}
+use Rattle.rht_words.specs.Operations.{old_of}
+use Rattle.rht_words.specs.Places.{words_in}
 use Rattle.rht_words.proofs.EachElement.{AllByRecursion-push}
 use Rattle.rht_model.specs.declared.history.Call.{Call}
 use Rattle.rht_model.specs.declared.history.Call.TheVariants.{Bind, Find}
 use Rattle.rht_model.specs.declared.history.Reply.{Reply}
 use Rattle.rht_model.specs.Endings.{Ending, ended_with}
-use Rattle.rht_arena.specs.TakeNode.{take_node_new}
 use Rattle.rht_find.specs.Find as find
 use Rattle.rht_find.specs.Find.{FindModel, find_after}
 use Rattle.rht_find.specs.declared.find.FindAt.{FindAt}
@@ -23,7 +24,6 @@ use Rattle.rht_find.specs.declared.find.FindAt.TheVariants.{CurrentTable}
 use Rattle.rht_bind.specs.Bind as bind
 use Rattle.rht_bind.specs.Bind.{BindModel, bind_after}
 use Rattle.rht_bind.specs.declared.bind.BindAt.{BindAt}
-use Rattle.rht_bind.specs.declared.bind.BindAt.TheVariants.{Taking}
 use Rattle.rht_core.specs.declared.event.Event.{Event}
 use Rattle.rht_core.specs.declared.book.Book.{Book}
 use Rattle.rht_core.specs.declared.local.Local.{Local}
@@ -32,26 +32,34 @@ use Rattle.rht_core.specs.declared.local.Doing.TheVariants.{Idle, Finding, Bindi
 use Rattle.rht_core.specs.Locals.{is_idle, machine_of, doing_plan, doing_after, ending_of, found_next, bound_next}
 use Rattle.rht_core.specs.Runs.{Seen, local_of}
 use Rattle.rht_core.specs.Traces.{Did, Past, Trace, Traced, trace_begun, trace_did, traced_of}
-use Rattle.rht_core.specs.Laws.{IsDoingIn, IsBookOf, seen_begin}
+use Rattle.rht_core.specs.Laws.{IsBookOf, seen_begin}
 use Rattle.rht_core.proofs.CallBeginnings.{begins_so}
-use Rattle.rht_core.proofs.FindRanges.{IsFindAtIn}
-use Rattle.rht_core.proofs.BindRanges.{IsBindAtIn}
-use Rattle.rht_core.proofs.MachinesGoOn.{GoesOrEnds}
+use Rattle.rht_core.proofs.Ghosts.{Ghost}
+use Rattle.rht_core.proofs.Wholes.{Whole}
+use Rattle.rht_core.proofs.Steps.{mem}
+use Rattle.rht_core.proofs.BindSteps.{BindKnows}
+use Rattle.rht_words.specs.Machines.{GoesOrEnds}
 use Rattle.rht_core.proofs.MachineReplies.{HoldsFindReply, HoldsBindReply}
 use Rattle.rht_core.proofs.RepliesInRuns.{HoldsReply, IsRight, kept-right}
-use Rattle.rht_core.proofs.TracedCallers.{IsKeptTraced, traced_callers_keep}
+use Rattle.rht_core.proofs.TracedCallers.{IsKnown, IsKeptTraced, traced_callers_keep}
 
--- a look-up in this state performs this operation; its state is in range, and the reply that it holds is one of a look-up's
+-- a look-up in this state performs this operation, and the reply that it holds is one of a look-up's
 pub record FindDoes (env : Env) (state : FindAt) (did : Did) : Type 0 where
   pub planned : did.op ≡ find.plan_at env state
-  pub within : IsFindAtIn env state
   pub holds : HoldsFindReply state
 
--- a bind in this state performs this operation; its state is in range, and the reply that it holds is one of a bind with a node
-pub record BindDoes (env : Env) (port owner : ℕ) (state : BindAt) (did : Did) : Type 0 where
-  pub planned : did.op ≡ bind.plan_at env port owner state
-  pub within : IsBindAtIn env state
+-- a bind in this state performs this operation, in words in which it knows what its state says; and the reply that it holds is
+-- one of a bind with a node
+pub record BindDoes (env : Env) (mix : ℕ → ℕ → ℕ → ℕ) (port owner : ℕ) (state : BindAt) (did : Did) : Type 0 where
+  pub planned : did.op ≡ bind.plan_at env state
   pub holds : HoldsBindReply state
+  pub caller : ℕ
+  pub words : List ℕ
+  pub ghost : Ghost
+  pub all : length words ≡ words_in env.geometry
+  pub whole : Whole env mix (mem env mix words) ghost
+  pub knows : BindKnows env mix caller port owner state (mem env mix words) ghost
+  pub found : did.old ≡ old_of words did.op
 
 -- `Finds` and `Binds` say what is kept of the operations of a call in progress, by what it was asked and where it stands, and
 -- `Ended` what is kept of those of a call that has ended
@@ -63,13 +71,13 @@ module _ (M : Type 0) (mix : ℕ → ℕ → ℕ → ℕ) (env : Env) (Finds : �
     pub record CallsKeep : Type 0 where
       pub find_begins : (port : ℕ) → Finds port CurrentTable []
       pub bind_begins : (port owner : ℕ) (once : Bool)
-          → Binds port owner once (Taking (take_node_new env.geometry)) []
+          → Binds port owner once (bind.first_state env port owner) []
       pub find_goes : (port : ℕ) (state : FindAt) (steps : List Did) (did : Did) → FindDoes env state did
           → Finds port state steps
           → let all = steps ++ did ∷ [] in
           GoesOrEnds (λ next. Finds port next all) (λ reply. Ended (Find port) reply all) (find.after_at mix env port state did.old)
       pub bind_goes : (port owner : ℕ) (once : Bool) (state : BindAt) (steps : List Did) (did : Did)
-          → BindDoes env port owner state did
+          → BindDoes env mix port owner state did
           → Binds port owner once state steps
           → let all = steps ++ did ∷ [] in
           GoesOrEnds (λ next. Binds port owner once next all) (λ reply. Ended (Bind port owner once) reply all) (bind.after_at mix env port state did.old)
@@ -157,19 +165,18 @@ module _ (M : Type 0) (mix : ℕ → ℕ → ℕ → ℕ) (env : Env) (Finds : �
 
       -- each machine works in the table of the run, where what has to be shown of it is said
       steps-keeping : (c : ℕ) (local : Local M) (doing : Doing M) (book : Book) (trace : Trace) (did : Did)
-          → doing_plan doing ≡ Some did.op → IsDoingIn env c doing
+          → doing_plan doing ≡ Some did.op → IsKnown M mix env c (record local { doing = doing }) did
           → IsBookOf env c doing book → HoldsReply M mix env doing → CallsAreSo doing trace
           → let next = doing_after mix doing did.old in
           CallsAreSo next.0 (trace_did book.call did (ending_of (record local { doing = next.0 }) next.1) trace)
-      steps-keeping c local Idle book trace did plan within progress holds calls = absurd (cc)
-      steps-keeping c local (Finding m) book trace did plan within progress holds calls =
+      steps-keeping c local Idle book trace did plan known progress holds calls = absurd (cc)
+      steps-keeping c local (Finding m) book trace did plan known progress holds calls =
           let all = trace.steps ++ did ∷ [] in
           let is : did.op ≡ find.plan_at m.env m.at = cc in
           let goes =
           keep.find_goes m.port m.at trace.steps did
           record {
-            planned = subst (λ (e : Env). did.op ≡ find.plan_at e m.at) within.same_env is;
-            within = record { range = within.range; piece = within.piece };
+            planned = subst (λ (e : Env). did.op ≡ find.plan_at e m.at) progress.same_env is;
             holds = holds;
           }
           calls.now in
@@ -177,23 +184,29 @@ module _ (M : Type 0) (mix : ℕ → ℕ → ℕ → ℕ) (env : Env) (Finds : �
           progress.call
           (subst
           (λ (e : Env). GoesOrEnds (λ next. Finds m.port next all) (λ reply. Ended (Find m.port) reply all) (find.after_at mix e m.port m.at did.old))
-          (sym within.same_env) goes)
-      steps-keeping c local (Binding m) book trace did plan within progress holds calls =
+          (sym progress.same_env) goes)
+      steps-keeping c local (Binding m) book trace did plan known progress holds calls =
           let all = trace.steps ++ did ∷ [] in
-          let is : did.op ≡ bind.plan_at m.env m.port m.owner m.at = cc in
+          let is : did.op ≡ bind.plan_at m.env m.at = cc in
           let goes =
           keep.bind_goes m.port m.owner m.once m.at trace.steps did
           record {
-            planned = subst (λ (e : Env). did.op ≡ bind.plan_at e m.port m.owner m.at) within.same_env is;
-            within = record { range = within.range; piece = within.piece };
+            planned = subst (λ (e : Env). did.op ≡ bind.plan_at e m.at) progress.same_env is;
             holds = holds;
+            caller = c;
+            words = known.words;
+            ghost = known.ghost;
+            all = known.all;
+            whole = known.whole;
+            knows = known.knows.1;
+            found = known.found;
           }
           calls.now in
           bound local trace did book.call calls.past (bind_after mix m did.old).0 (bind_after mix m did.old).1
           progress.call
           (subst
           (λ (e : Env). GoesOrEnds (λ next. Binds m.port m.owner m.once next all) (λ reply. Ended (Bind m.port m.owner m.once) reply all) (bind.after_at mix e m.port m.at did.old))
-          (sym within.same_env) goes)
+          (sym progress.same_env) goes)
 
       -- ---- runs
 
@@ -208,7 +221,7 @@ module _ (M : Type 0) (mix : ℕ → ℕ → ℕ → ℕ) (env : Env) (Finds : �
         steps = λ events c did here trace made keeping. record {
           right = (kept-right M mix env).steps c did.op did.old here made.plan keeping.right;
           calls =
-              steps-keeping c here.local here.local.doing here.book trace did made.plan made.within.doing keeping.right.progress
+              steps-keeping c here.local here.local.doing here.book trace did made.plan made.known keeping.right.progress
               keeping.right.holds keeping.calls;
         };
       }

@@ -29,7 +29,7 @@ module _ (env : Env) (mix : ℕ → ℕ → ℕ → ℕ) where
 
   -- the index of the bucket to which a port belongs
   abbrev pub home : ℕ → ℕ
-  home port = bucket_index env.geometry shape_word (bucket_of mix port shape_word env.config.seed)
+  home port = bucket_index shape_word (bucket_of mix port shape_word env.config.seed)
 
   -- the place of the word of a bucket
   abbrev pub place_at : ℕ → ℕ

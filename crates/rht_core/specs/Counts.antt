@@ -1,13 +1,13 @@
 -- What the count of ports counts, and what a table is like while nobody is in a call.
-use Rattle.std.specs.Prelude.{◌≡◌, ℕ, ◌+◌, ◌*◌, ◌/◌, ◌%◌, ◌<◌, ◌≤◌, ◌⊎◌, Bool, true, false, Some, List, count_by}
+use Rattle.std.specs.Prelude.{◌≡◌, ℕ, ◌+◌, ◌*◌, ◌/◌, ◌%◌, ◌<◌, ◌≤◌, ◌⊎◌, Bool, false, Some, List, count_by}
 use Rattle.std.specs.List.{range_with_len}
 use Rattle.std.specs.Int.{bit_at}
 use Rattle.rht_words.specs.declared.env.Env.{Env}
 use Rattle.rht_words.specs.declared.geometry.Geometry.{Geometry}
 use Rattle.rht_words.specs.Places.{PortCount, NodeMap, PageWord, word_at}
 use Rattle.rht_model.specs.Multimap.{Multimap}
-use Rattle.rht_bind.specs.declared.bind.BindAt.{BindAt}
-use Rattle.rht_bind.specs.declared.bind.BindAt.TheVariants.{Publish}
+use Rattle.rht_find.specs.FindHeld.{held_of_find}
+use Rattle.rht_bind.specs.BindHeld.{held_of_bind}
 use Rattle.rht_core.specs.declared.event.Event.{Event}
 use Rattle.rht_core.specs.declared.local.Doing.{Doing}
 use Rattle.rht_core.specs.declared.local.Doing.TheVariants.{Idle, Finding, Binding}
@@ -21,16 +21,11 @@ pub record AreAllBound (bindings : Multimap) (count : ℕ) : Type 0 where
   pub are : AreBound bindings count
   pub most : (more : ℕ) → AreBound bindings more → more ≤ count
 
--- the bind has raised the count, and links its node next
-abbrev pub is_linking : BindAt → Bool
-is_linking (Publish claimed kick) = true
-is_linking _ = false
-
 -- the caller has raised the count for a node that it hasn't linked yet
 abbrev pub is_raising : {M : Type 0} → Doing M → Bool
 is_raising Idle = false
-is_raising (Finding m) = false
-is_raising (Binding m) = is_linking m.at
+is_raising (Finding m) = (held_of_find m.at).raised
+is_raising (Binding m) = (held_of_bind m.at).raised
 
 -- how many callers have
 abbrev pub raising : {M : Type 0} → Core M → ℕ

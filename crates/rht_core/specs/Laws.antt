@@ -1,26 +1,20 @@
 -- What holds of every run.
-use Rattle.std.specs.Prelude.{◌≡◌, ◌≢◌, ℕ, ◌+◌, ◌^◌, ◌<◌, ◌≤◌, ◌⊎◌, if◌then◌else◌, List, [], ◌∷◌, ◌++◌, length, map, take, Option, Some, None, IfSome}
+use Rattle.std.specs.Prelude.{◌≡◌, ◌≢◌, ℕ, ◌+◌, ◌≤◌, ◌⊎◌, if◌then◌else◌, List, [], ◌∷◌, ◌++◌, length, map, take, Option, Some, None, IfSome}
 use Rattle.std.specs.List.{AllByRecursion, slice_get}
 use Rattle.std.specs.Int.{bit_at}
 use Rattle.rht_words.specs.declared.op.Op.{Op}
 use Rattle.rht_words.specs.declared.env.Env.{Env}
 use Rattle.rht_words.specs.declared.geometry.Geometry.{Geometry}
-use Rattle.rht_words.specs.Operations.{op_place, old_of}
-use Rattle.rht_words.specs.Places.{EnrolledCallers, place_of, pages_at, words_in, word_at}
-use Rattle.rht_chain.specs.Lock.{IsEven}
-use Rattle.rht_chain.specs.LockedWalk.{IsInRange as IsWalkInRange}
-use Rattle.rht_arena.specs.TakeNode.{IsInRange as IsTakeInRange}
+use Rattle.rht_words.specs.Operations.{old_of}
+use Rattle.rht_words.specs.Places.{EnrolledCallers, word_at}
+use Rattle.rht_words.specs.Planned.{IsWord, IsPlannedIn}
 use Rattle.rht_arena.specs.Laws.{map_bit, claim_of, IsTaking}
-use Rattle.rht_find.specs.Find.{FindModel, IsInRange as IsFindInRange}
-use Rattle.rht_find.specs.declared.find.FindAt.{FindAt}
-use Rattle.rht_find.specs.declared.find.FindAt.TheVariants as find_at
-use Rattle.rht_bind.specs.Bind.{BindModel, IsInRange as IsBindInRange}
-use Rattle.rht_bind.specs.declared.bind.BindAt.{BindAt}
-use Rattle.rht_bind.specs.declared.bind.BindAt.TheVariants as bind_at
+use Rattle.rht_find.specs.Find.{FindModel, IsFindIn}
+use Rattle.rht_bind.specs.Bind.{BindModel, IsBindIn}
 use Rattle.rht_model.specs.declared.history.Call.{Call}
 use Rattle.rht_model.specs.declared.history.Call.TheVariants.{Bind, Find}
 use Rattle.rht_model.specs.declared.history.Reply.{Reply}
-use Rattle.rht_model.specs.declared.history.Reply.TheVariants.{Bound, Exists, Found, Missing, TooBig, NoNode}
+use Rattle.rht_model.specs.declared.history.Reply.TheVariants.{Bound, Exists, Found, Missing, TooBig, NoTable, NoNode}
 use Rattle.rht_model.specs.declared.finished.Finished.{Finished}
 use Rattle.rht_core.specs.declared.book.Book.{Book}
 use Rattle.rht_core.specs.declared.event.Event.{Event}
@@ -47,70 +41,12 @@ module _ {M : Type 0} where
 
 -- ---- what a caller's state names
 
--- the word at this place is a bucket's
-abbrev pub IsBucketPlace : Geometry → ℕ → Type 0
-IsBucketPlace g place = (pages_at g ≤ place) × (place < words_in g)
-
--- the bucket that a look-up's state names is one, and the piece that it holds is in range
-abbrev pub IsFindPieceIn : Geometry → FindAt → Type 0
-IsFindPieceIn g find_at.CurrentTable = Unit {0}
-IsFindPieceIn g (find_at.Shape table) = Unit {0}
-IsFindPieceIn g (find_at.Seed table shape) = Unit {0}
-IsFindPieceIn g (find_at.Locking table lock) = IsBucketPlace g lock.place × IsEven lock.at
-IsFindPieceIn g (find_at.Walking table bucket walk) =
-    IsBucketPlace g bucket.place × IsWalkInRange walk.geometry walk.before walk.at
-IsFindPieceIn g (find_at.Future table bucket) = IsBucketPlace g bucket.place
-IsFindPieceIn g (find_at.FirstOwner bucket node) = IsBucketPlace g bucket.place
-IsFindPieceIn g (find_at.ListLink bucket node owner) = IsBucketPlace g bucket.place
-IsFindPieceIn g (find_at.LaterOwner bucket node owner) = IsBucketPlace g bucket.place
-IsFindPieceIn g (find_at.Unlocking unlock next) = IsBucketPlace g unlock.place
-
--- and the same of a bind's state
-abbrev pub IsBindPieceIn : Geometry → BindAt → Type 0
-IsBindPieceIn g (bind_at.Taking take) = IsTakeInRange take.geometry take.at
-IsBindPieceIn g (bind_at.Key node) = Unit {0}
-IsBindPieceIn g (bind_at.Owner node) = Unit {0}
-IsBindPieceIn g (bind_at.ListLink node) = Unit {0}
-IsBindPieceIn g (bind_at.CurrentTable node) = Unit {0}
-IsBindPieceIn g (bind_at.Shape node table) = Unit {0}
-IsBindPieceIn g (bind_at.Seed node table shape) = Unit {0}
-IsBindPieceIn g (bind_at.Locking node table shape lock) = IsBucketPlace g lock.place × IsEven lock.at
-IsBindPieceIn g (bind_at.Walking table claimed walk) =
-    IsBucketPlace g claimed.bucket.place × IsWalkInRange walk.geometry walk.before walk.at
-IsBindPieceIn g (bind_at.FoundOwner claimed found) = IsBucketPlace g claimed.bucket.place
-IsBindPieceIn g (bind_at.Future table claimed) = IsBucketPlace g claimed.bucket.place
-IsBindPieceIn g (bind_at.Count claimed) = IsBucketPlace g claimed.bucket.place
-IsBindPieceIn g (bind_at.Link claimed) = IsBucketPlace g claimed.bucket.place
-IsBindPieceIn g (bind_at.Raise claimed) = IsBucketPlace g claimed.bucket.place
-IsBindPieceIn g (bind_at.Publish claimed kick) = IsBucketPlace g claimed.bucket.place
-IsBindPieceIn g (bind_at.Unlocking node unlock next) = IsBucketPlace g unlock.place
-IsBindPieceIn g (bind_at.Giving give reply) = give.node < give.geometry.nodes
-
--- a look-up of this caller in this table, all that its state names being the table's
-pub record IsFindOf (env : Env) (c : ℕ) (m : FindModel) : Type 0 where
-  pub same_env : m.env ≡ env
-  pub same_caller : m.caller ≡ c
-  pub range : IsFindInRange env m.at
-  pub piece : IsFindPieceIn env.geometry m.at
-
--- a bind of this caller in this table, all that its state names being the table's
-pub record IsBindOf (env : Env) (c : ℕ) (m : BindModel) : Type 0 where
-  pub same_env : m.env ≡ env
-  pub same_caller : m.caller ≡ c
-  pub range : IsBindInRange env m.at
-  pub piece : IsBindPieceIn env.geometry m.at
-
--- the operation is on one of the words, and not on that of the enrolled callers
-pub record IsPlannedIn (g : Geometry) (op : Op) : Type 0 where
-  pub within : op_place op < words_in g
-  pub apart : op_place op ≢ place_of g EnrolledCallers
-
 module _ {M : Type 0} where
   -- what this caller does is in range
   abbrev pub IsDoingIn : Env → ℕ → Doing M → Type 0
   IsDoingIn env c Idle = Unit {0}
-  IsDoingIn env c (Finding m) = IsFindOf env c m
-  IsDoingIn env c (Binding m) = IsBindOf env c m
+  IsDoingIn env c (Finding m) = IsFindIn env c m
+  IsDoingIn env c (Binding m) = IsBindIn env c m
 
   -- and its rooms may have one item a node
   pub record IsLocalIn (env : Env) (c : ℕ) (local : Local M) : Type 0 where
@@ -137,6 +73,7 @@ abbrev pub IsBindReply : Reply → Type 0
 IsBindReply (Bound kick) = Unit {0}
 IsBindReply (Exists owner) = Unit {0}
 IsBindReply (TooBig count) = Unit {0}
+IsBindReply (NoTable size) = Unit {0}
 IsBindReply NoNode = Unit {0}
 IsBindReply _ = ⊥
 
@@ -284,11 +221,11 @@ module _ (M : Type 0) (mix : ℕ → ℕ → ℕ → ℕ) where
       → IsAdmitted env.config.kind events → IsAdmittedEvent env.config.kind event → IsOfCaller event
       → IsEnrolledKept (run_of mix env events) (run_of mix env (events ++ event ∷ []))
 
-  -- in every run of a table whose seed has 32 bits each word has 64
+  -- in every run each word has 64 bits
   abbrev pub WordsFit : Type 0
   WordsFit =
-      (env : Env) (events : List Event) → env.config.seed < 2 ^ 32 → IsAdmitted env.config.kind events
-      → AllByRecursion (λ word. word < 2 ^ 64) (run_of {M = M} mix env events).core.words
+      (env : Env) (events : List Event) → IsAdmitted env.config.kind events
+      → AllByRecursion IsWord (run_of {M = M} mix env events).core.words
 
   -- in every run a caller that isn't enrolled is in no call and has made none
   abbrev pub NotEnrolled : Type 0

@@ -26,9 +26,10 @@ module _ (g : Geometry) (words : List ℕ) where
   chain_from (suc left) None = []
   chain_from (suc left) (Some node) = node ∷ chain_from left (node_of g.nodes (word_at g words (Node node ChainLink)))
 
-  -- the nodes of a bucket; a bucket whose first link leads to none is empty
-  abbrev pub bucket_nodes : ℕ → List ℕ
-  bucket_nodes place = chain_from g.nodes (node_of g.nodes (head_of place (slice_index words place)))
+  -- the nodes of a bucket; one that is missing is empty, and so is one whose first link leads to none
+  abbrev pub bucket_nodes : Option ℕ → List ℕ
+  bucket_nodes None = []
+  bucket_nodes (Some place) = chain_from g.nodes (node_of g.nodes (head_of place (slice_index words place)))
 
   -- the nodes of a table, with its buckets in rising order
   abbrev pub shape_of : ℕ → ℕ

@@ -1,15 +1,15 @@
 //! What the words of a table stand for, worked out the slow way: all buckets of all tables are
 //! read, as if nobody else were about. It is for tests; no machine looks at the words so.
 
-ghost use Rattle.std.specs.Prelude.{◌≡◌, ◌<◌, length, IfSome, IfOk};
+ghost use Rattle.std.specs.Prelude.{◌≡◌, ◌<◌, length, Some, IfSome, IfOk};
 ghost use Rattle.std.specs.List.{find};
 ghost use Rattle.rht_words.specs.Places.{words_in};
-ghost use Rattle.rht_nest.specs.Place.{bucket_place};
+ghost use Rattle.rht_nest.specs.Locate.{IsBucketOrNone};
 ghost use Rattle.rht_core.specs.StandsFor.{bucket_nodes, table_nodes, has_key, first_node, stands_for};
 
-use rht_nest::{Bucket, Place};
+use rht_nest::place_of;
 use rht_words::{
-    Geometry, Port, Shape, Start, head_of, node_of, owner_of, places, slot_of, table_of, word_of,
+    Geometry, Port, Shape, head_of, node_of, owner_of, places, slot_of, table_of, word_of,
 };
 use std::alloc::{AllocError, Global};
 
@@ -67,7 +67,7 @@ fn first_in_table(geometry: Geometry, words: &[u64], table: u32, key: u64) -> Op
 {
     let shape = words[places::shape(table)];
     for bucket in 0..Shape::from(shape).size() {
-        let found = first_in_bucket(geometry, words, place_of(geometry, shape, bucket), key);
+        let found = first_at(geometry, words, place_of(geometry, shape, bucket), key);
         if found.is_some() {
             return found;
         }
@@ -75,14 +75,16 @@ fn first_in_table(geometry: Geometry, words: &[u64], table: u32, key: u64) -> Op
     None
 }
 
-/// The place of a bucket's word in a table of this shape.
-fn place_of(geometry: Geometry, shape: u64, bucket: u32) -> usize
-    ensures place { result ≡ bucket_place geometry shape bucket }
-    ensures within { result < words_in geometry }
+/// The first node with this key in the bucket at a place, where it has one; else there is none.
+fn first_at(geometry: Geometry, words: &[u64], place: Option<usize>, key: u64) -> Option<u32>
+    requires words { length words.now ≡ words_in geometry }
+    requires place { IsBucketOrNone geometry place }
+    ensures first { result ≡ find (has_key geometry words.now key) (bucket_nodes geometry words.now place) }
+    ensures within { IfSome result (λ node. node < geometry.nodes) }
 {
-    match Place::new(geometry, shape, bucket) {
-        Start::Done(Bucket::At(place)) => place,
-        _ => unreachable!(),
+    match place {
+        Some(place) => first_in_bucket(geometry, words, place, key),
+        None => None,
     }
 }
 
@@ -90,7 +92,7 @@ fn place_of(geometry: Geometry, shape: u64, bucket: u32) -> usize
 fn first_in_bucket(geometry: Geometry, words: &[u64], place: usize, key: u64) -> Option<u32>
     requires words { length words.now ≡ words_in geometry }
     requires place { place < words_in geometry }
-    ensures first { result ≡ find (has_key geometry words.now key) (bucket_nodes geometry words.now place) }
+    ensures first { result ≡ find (has_key geometry words.now key) (bucket_nodes geometry words.now (Some place)) }
     ensures within { IfSome result (λ node. node < geometry.nodes) }
 {
     let mut next = node_of(geometry.nodes, head_of(place, words[place]));

@@ -20,7 +20,7 @@ bucket_is_in g shape bucket =
     (λ f. tt)
 
 -- a bucket that there is stands before the end of the last page
-placed : (g : Geometry) (shape bucket : ℕ) → HasBucket g (unpacked shape) bucket
+pub placed : (g : Geometry) (shape bucket : ℕ) → HasBucket g (unpacked shape) bucket
     → bucket_place g shape bucket ≡ Some (place_of g (PageWord (bucket_index shape bucket)))
 placed g shape bucket has =
     let index = bucket_index shape bucket in

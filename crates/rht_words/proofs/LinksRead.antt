@@ -1,11 +1,11 @@
 -- What links, bucket words and entries say comes back from the words that are made of it.
 -- They are read totally, so what any word names is there or is none.
-use Rattle.std.proofs.Common.{ℕ, ◌-◌, ◌/◌, ◌%◌, ◌<◌, ◌≤◌, refl, arith}
+use Rattle.std.proofs.Common.{◌≡◌, ℕ, ◌-◌, ◌/◌, ◌%◌, ◌<◌, ◌≤◌, refl, arith}
 use Rattle.std.specs.Prelude.{Option, Some, None, IfSome, ◌==◌, ◌&&◌, nat_lt, nat_le}
 use Rattle.std.proofs.lemmas.Bool.{cond_both, and_parts, ltb-true, leb-true}
 use Rattle.std.proofs.lemmas.Bool.Decides.{nat_tests}
 use Rattle.rht_words.specs.declared.geometry.Geometry.{Geometry}
-use Rattle.rht_words.specs.Links.{node_of, slot_of}
+use Rattle.rht_words.specs.Links.{link_of, plain_of, node_of, slot_of}
 use Rattle.rht_words.specs.Laws.{LinksTellApart, HeadsComeBack, EntriesComeBack}
 
 pub links_tell_apart : LinksTellApart
@@ -25,6 +25,10 @@ heads_come_back = record {
   head_link = λ place node. grind (arith, nat_tests);
   head_marker = λ place. grind (arith, nat_tests);
 }
+
+-- the word of a bucket whose first link leads to a node is that link
+pub plain_of-link : (place node : ℕ) → plain_of place (link_of node) ≡ link_of node
+plain_of-link place node = grind (arith, nat_tests)
 
 pub entries_come_back : EntriesComeBack
 entries_come_back = record {

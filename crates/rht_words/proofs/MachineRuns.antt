@@ -6,7 +6,7 @@ use Rattle.rht_words.specs.declared.op.Op.{Op}
 use Rattle.rht_words.specs.declared.machine.Next.{Next}
 use Rattle.rht_words.specs.declared.machine.Next.TheVariants.{Go, Done}
 use Rattle.rht_words.specs.Operations.{old_of, applied}
-use Rattle.rht_words.specs.Machines.{Performed, Ran, went_on, ran, EndsAlone}
+use Rattle.rht_words.specs.Machines.{GoesOrEnds, Performed, Ran, went_on, ran, EndsAlone}
 
 module _ {M R : Type 0} (plan : M → Op) (after : M → ℕ → M × Next R) where
   -- the next operation, where it finds this value
@@ -63,3 +63,11 @@ module _ {M R : Type 0} (plan : M → Op) (after : M → ℕ → M × Next R) wh
         ends = rw is rest.ends;
         leaves = rw is rest.leaves;
       }
+
+-- where it goes on, or ends, something weaker holds
+pub GoesOrEnds-weaker : {S R : Type 0} (Goes Went : S → Type 0) (Ends Ended : R → Type 0)
+    → ((state : S) → Goes state → Went state)
+    → ((answer : R) → Ends answer → Ended answer)
+    → (next : S × Next R) → GoesOrEnds Goes Ends next → GoesOrEnds Went Ended next
+GoesOrEnds-weaker Goes Went Ends Ended goes ends (state, Go) so = goes state so
+GoesOrEnds-weaker Goes Went Ends Ended goes ends (state, Done answer) so = ends answer so

@@ -108,6 +108,12 @@ In-range_with_len a (suc n) x low high = elim (cases_eq x a) [
   | inr ne ↦ inr (In-range_with_len (a + 1) n x (omega arith) (omega arith))
 ]
 
+-- and a member of it is one of them
+pub range_with_len-In : (a n x : ℕ) → In x (range_with_len a n) → x < a + n
+range_with_len-In a zero x i = absurd i
+range_with_len-In a (suc n) x (inl same) = omega (arith, same)
+range_with_len-In a (suc n) x (inr later) = let below = range_with_len-In (a + 1) n x later in omega arith
+
 -- what is found is a member that passes, and where nothing is found no member passes
 pub find-Some : (p : ℕ → Bool) (xs : List ℕ) (x : ℕ) → find p xs ≡ Some x → In x xs × (p x ≡ true)
 find-Some p [] x e = absurd (cc)

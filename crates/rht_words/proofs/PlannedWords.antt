@@ -10,10 +10,7 @@ use Rattle.std.proofs.lemmas.Nat.{and_le_l, or_lt}
 use Rattle.rht_words.specs.declared.op.Op.{Op}
 use Rattle.rht_words.specs.declared.op.Op.TheVariants.{Load, Store, Exchange, Add, Sub, And, Or}
 use Rattle.rht_words.specs.declared.geometry.Geometry.{Geometry}
-use Rattle.rht_words.specs.declared.machine.Next.{Next}
-use Rattle.rht_words.specs.declared.machine.Next.TheVariants.{Go, Done}
 use Rattle.rht_words.specs.Links.{head_of, plain_of, link_of, marker_of, unlocked}
-use Rattle.rht_words.specs.Machines.{GoesOrEnds}
 use Rattle.rht_words.specs.Maps.{bit_of}
 use Rattle.rht_words.specs.Operations.{op_place, op_value, old_of, word_after, applied}
 use Rattle.rht_words.specs.Places.{Address, EnrolledCallers, IsAddress, IsBucketPlace, place_of, words_in}
@@ -91,12 +88,3 @@ plain_of-fits place link fits =
 -- the link to a node is a word
 pub link_of-fits : (g : Geometry) (node : ℕ) → node < g.nodes → IsWord (link_of node)
 link_of-fits g node below = let within = g.within.nodes_within in omega arith
-
--- ---- machines that go on or end
-
-pub GoesOrEnds-weaker : {S R : Type 0} (Goes Went : S → Type 0) (Ends Ended : R → Type 0)
-    → ((state : S) → Goes state → Went state)
-    → ((answer : R) → Ends answer → Ended answer)
-    → (next : S × Next R) → GoesOrEnds Goes Ends next → GoesOrEnds Went Ended next
-GoesOrEnds-weaker Goes Went Ends Ended goes ends (state, Go) so = goes state so
-GoesOrEnds-weaker Goes Went Ends Ended goes ends (state, Done answer) so = ends answer so

@@ -1,4 +1,4 @@
-use Rattle.std.proofs.Common.{◌≡◌, ◌<◌, ◌-◌, IfSome}
+use Rattle.std.proofs.Common.{◌≡◌, ◌<◌, ◌-◌, Some, IfSome}
 use Rattle.std.specs.List.{find}
 use Rattle.rht_core.specs.StandsFor.{bucket_nodes, has_key}
 use Rattle.rht_core.proofs.FirstNodes.{first_left}
@@ -8,6 +8,6 @@ use Rattle.rht_core.proofs.bound.first_in_bucket.Given as goal
 abbrev pub invariant-loop : goal.invariant-loop
 invariant-loop l = record {
   first : first_left l.geometry l.words l.key (l.geometry.nodes - l.counter) l.next
-      ≡ find (has_key l.geometry l.words l.key) (bucket_nodes l.geometry l.words l.place);
+      ≡ find (has_key l.geometry l.words l.key) (bucket_nodes l.geometry l.words (Some l.place));
   within : IfSome l.next (λ node. node < l.geometry.nodes);
 }
