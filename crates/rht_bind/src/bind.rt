@@ -38,11 +38,18 @@ pub struct Claimed {
 #[derive(Clone, Copy, Debug, PartialEq, Eq)]
 pub enum BindAt {
     /// Takes a free node and stores the port and the owner in it.
-    Filling { new: NewNode },
+    Filling {
+        new: NewNode,
+    },
     /// Loads which table is the current one.
-    CurrentTable { node: u32 },
+    CurrentTable {
+        node: u32,
+    },
     /// Finds the port's bucket in a table. Where it is missing the bind is refused.
-    Locating { node: u32, locate: Locate },
+    Locating {
+        node: u32,
+        locate: Locate,
+    },
     /// Locks the bucket and walks its chain.
     Probing {
         node: u32,
@@ -51,16 +58,28 @@ pub enum BindAt {
         probe: Probe,
     },
     /// Loads the owner of the node that was found. The port is bound to it at this moment.
-    FoundOwner { claimed: Claimed, found: u32 },
+    FoundOwner {
+        claimed: Claimed,
+        found: u32,
+    },
     /// Loads the future of a table in which the port wasn't found, in a chain of this length. Where
     /// there is none, no table binds the port, and none will while this bucket is locked.
-    Future { claimed: Claimed, length: u32 },
+    Future {
+        claimed: Claimed,
+        length: u32,
+    },
     /// Loads how many ports are bound.
-    Count { claimed: Claimed },
+    Count {
+        claimed: Claimed,
+    },
     /// Stores the bucket's first link in the node, which nobody else sees yet.
-    Link { claimed: Claimed },
+    Link {
+        claimed: Claimed,
+    },
     /// Raises how many ports are bound.
-    Raise { claimed: Claimed },
+    Raise {
+        claimed: Claimed,
+    },
     /// Makes the node the bucket's first, and unlocks the bucket. The port is bound from here on.
     Publish {
         node: u32,
@@ -76,7 +95,10 @@ pub enum BindAt {
         then: Then<Reply>,
     },
     /// Gives the node back.
-    Giving { give: GiveNode, reply: Reply },
+    Giving {
+        give: GiveNode,
+        reply: Reply,
+    },
 }
 
 /// A bind of one port to one owner. The answers are `Bound`, `Exists`, `NoNode` and `TooBig`, and

@@ -2,53 +2,42 @@
 //! pages the chain link of node n is at `282 + 4 * n` and its key behind it, the first bucket's
 //! word is at 314, the link to n is `2 * n + 2`, and the marker of 314 is 629.
 
-use super::{Lock, LockedWalk, Relink, Seen, Unlock, seen_in};
+use super::{Lock, Locked, LockedWalk, Probe, Probed, Relink, Seen, Unlock, seen_in};
 use rht_words::{Geometry, Next, Op, Start};
 use std::test::Fail;
-
-/// A load.
-fn load(place: usize) -> Op {
-    Op::Load { place }
-}
-
-/// A store.
-fn store(place: usize, value: u64) -> Op {
-    Op::Store { place, value }
-}
-
-/// An exchange.
-fn exchange(place: usize, old: u64, new: u64) -> Op {
-    Op::Exchange { place, old, new }
-}
 
 #[test]
 fn a_lock_waits_and_tries_again(rt: HostRuntime) {
     // the operations with what each finds, and the word before it was locked
     let cases: [(&[(Op, u64)], u64); 4] = [
         // an empty bucket
-        (&[(load(314), 0), (exchange(314, 0, 1), 0)], 0),
+        (&[(Op::load(314), 0), (Op::exchange(314, 0, 1), 0)], 0),
         // another caller has the lock at first
         (
-            &[(load(314), 7), (load(314), 6), (exchange(314, 6, 7), 6)],
+            &[
+                (Op::load(314), 7),
+                (Op::load(314), 6),
+                (Op::exchange(314, 6, 7), 6),
+            ],
             6,
         ),
         // another caller links node 3 before the exchange
         (
             &[
-                (load(314), 6),
-                (exchange(314, 6, 7), 8),
-                (load(314), 8),
-                (exchange(314, 8, 9), 8),
+                (Op::load(314), 6),
+                (Op::exchange(314, 6, 7), 8),
+                (Op::load(314), 8),
+                (Op::exchange(314, 8, 9), 8),
             ],
             8,
         ),
         // another caller takes the lock before the exchange, and lets go of it
         (
             &[
-                (load(314), 6),
-                (exchange(314, 6, 7), 7),
-                (load(314), 6),
-                (exchange(314, 6, 7), 6),
+                (Op::load(314), 6),
+                (Op::exchange(314, 6, 7), 7),
+                (Op::load(314), 6),
+                (Op::exchange(314, 6, 7), 6),
             ],
             6,
         ),
@@ -92,7 +81,7 @@ fn a_walk_sees_the_first_node_with_its_key(rt: HostRuntime) -> Result<(), Fail> 
         (
             8,
             &[3, 0],
-            &[(load(295), 5)],
+            &[(Op::load(295), 5)],
             Seen {
                 found: Some(3),
                 before: None,
@@ -105,11 +94,11 @@ fn a_walk_sees_the_first_node_with_its_key(rt: HostRuntime) -> Result<(), Fail> 
             6,
             &[2, 0, 7],
             &[
-                (load(291), 1),
-                (load(290), 2),
-                (load(283), 9),
-                (load(282), 16),
-                (load(311), 5),
+                (Op::load(291), 1),
+                (Op::load(290), 2),
+                (Op::load(283), 9),
+                (Op::load(282), 16),
+                (Op::load(311), 5),
             ],
             Seen {
                 found: Some(7),
@@ -122,7 +111,7 @@ fn a_walk_sees_the_first_node_with_its_key(rt: HostRuntime) -> Result<(), Fail> 
         (
             6,
             &[2, 7, 3],
-            &[(load(291), 1), (load(290), 16), (load(311), 5)],
+            &[(Op::load(291), 1), (Op::load(290), 16), (Op::load(311), 5)],
             Seen {
                 found: Some(7),
                 before: Some(2),
@@ -135,10 +124,10 @@ fn a_walk_sees_the_first_node_with_its_key(rt: HostRuntime) -> Result<(), Fail> 
             6,
             &[2, 0],
             &[
-                (load(291), 1),
-                (load(290), 2),
-                (load(283), 9),
-                (load(282), 629),
+                (Op::load(291), 1),
+                (Op::load(290), 2),
+                (Op::load(283), 9),
+                (Op::load(282), 629),
             ],
             Seen {
                 found: None,
@@ -170,11 +159,11 @@ fn a_link_is_stored_and_the_bucket_unlocked(rt: HostRuntime) -> Result<(), Fail>
     let geometry = Geometry::new(8, 4, 1).ok_or("within limits")?;
     // the node before, the link, and the stores in a bucket that had the word 6
     let cases: [(Option<u32>, u64, &[Op]); 4] = [
-        (None, 2, &[store(314, 2)]),
+        (None, 2, &[Op::store(314, 2)]),
         // the marker is not stored in the bucket's word
-        (None, 629, &[store(314, 0)]),
-        (Some(2), 2, &[store(290, 2), store(314, 6)]),
-        (Some(7), 629, &[store(310, 629), store(314, 6)]),
+        (None, 629, &[Op::store(314, 0)]),
+        (Some(2), 2, &[Op::store(290, 2), Op::store(314, 6)]),
+        (Some(7), 629, &[Op::store(310, 629), Op::store(314, 6)]),
     ];
     for (before, link, stores) in cases {
         let mut machine = Relink::new(geometry, 314, 6, before, link);
@@ -189,7 +178,65 @@ fn a_link_is_stored_and_the_bucket_unlocked(rt: HostRuntime) -> Result<(), Fail>
     let mut unlock = Unlock::new(314, 6);
     assert_eq!(rt;
         (unlock.plan(), unlock.take(7)),
-        (store(314, 6), Next::Done(()))
+        (Op::store(314, 6), Next::Done(()))
     );
+    Ok(())
+}
+
+#[test]
+fn a_probe_locks_and_walks(rt: HostRuntime) -> Result<(), Fail> {
+    let geometry = Geometry::new(8, 4, 1).ok_or("within limits")?;
+    // the operations with what each finds, and what is seen of key 5
+    let cases: [(&[(Op, u64)], Probed); 2] = [
+        // an empty bucket is seen with the exchange
+        (
+            &[(Op::load(314), 0), (Op::exchange(314, 0, 1), 0)],
+            Probed {
+                bucket: Locked {
+                    place: 314,
+                    word: 0,
+                },
+                seen: Seen {
+                    found: None,
+                    before: None,
+                    length: 0,
+                    end: 629,
+                },
+            },
+        ),
+        // node 2 has another key, and node 3 this one
+        (
+            &[
+                (Op::load(314), 7),
+                (Op::load(314), 6),
+                (Op::exchange(314, 6, 7), 6),
+                (Op::load(291), 1),
+                (Op::load(290), 8),
+                (Op::load(295), 5),
+            ],
+            Probed {
+                bucket: Locked {
+                    place: 314,
+                    word: 6,
+                },
+                seen: Seen {
+                    found: Some(3),
+                    before: Some(2),
+                    length: 2,
+                    end: 8,
+                },
+            },
+        ),
+    ];
+    for (steps, want) in cases {
+        let mut machine = Probe::new(geometry, 314, 5);
+        let mut next = Next::Go;
+        for (op, old) in steps {
+            assert_eq!(rt; next, Next::Go, "before {op:?}");
+            assert_eq!(rt; machine.plan(), *op);
+            next = machine.take(*old);
+        }
+        assert_eq!(rt; next, Next::Done(want));
+    }
     Ok(())
 }

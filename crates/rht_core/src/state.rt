@@ -144,10 +144,7 @@ fn enroll(env: Env, words: &mut Vec<u64>, enrolled: &mut u32) -> Stepped
     ensures enrolled { enrolled.new ≡ enrolled_after env enrolled.old (old_of words.old.items (enrolling env)) }
     ensures did { result ≡ has_done (enrolling env) (old_of words.old.items (enrolling env)) None }
 {
-    let op = Op::Add {
-        place: places::enrolled_callers(),
-        by: 1,
-    };
+    let op = Op::add(places::enrolled_callers(), 1);
     let old = apply(words.as_mut_slice(), op);
     if old < u64::from(env.geometry.callers) {
         *enrolled = (*enrolled).max(old as u32 + 1);

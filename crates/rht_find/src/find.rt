@@ -21,12 +21,20 @@ pub enum FindAt {
     /// Loads which table is the current one.
     CurrentTable,
     /// Finds the port's bucket in a table. Where it is missing, so is the port.
-    Locating { locate: Locate },
+    Locating {
+        locate: Locate,
+    },
     /// Locks the bucket and walks its chain.
-    Probing { table: u32, probe: Probe },
+    Probing {
+        table: u32,
+        probe: Probe,
+    },
     /// Loads the future of a table in which the port wasn't found. Where there is none, the port
     /// is missing at this moment.
-    Future { table: u32, bucket: Locked },
+    Future {
+        table: u32,
+        bucket: Locked,
+    },
     /// Loads the owner of the first node with the port. The port is bound to it at this moment.
     FirstOwner {
         table: u32,
@@ -298,12 +306,7 @@ pub fn unlocking(table: u32, bucket: Locked, then: Then<Reply>) -> FindAt
 
 /// Behind the unlocking the look-up goes on in the future table, or has its answer.
 #[inline(always)]
-pub fn unlocked(
-    env: Env,
-    table: u32,
-    unlock: Unlock,
-    then: Then<Reply>,
-) -> (FindAt, Next<Reply>)
+pub fn unlocked(env: Env, table: u32, unlock: Unlock, then: Then<Reply>) -> (FindAt, Next<Reply>)
     requires { IsThenIn then }
     ensures { result ≡ unlocked env table unlock then }
 {

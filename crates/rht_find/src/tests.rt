@@ -21,22 +21,6 @@ const CONFIG: Config = Config {
     shrink: false,
 };
 
-fn load(place: usize) -> Op {
-    Op::Load { place }
-}
-
-fn store(place: usize, value: u64) -> Op {
-    Op::Store { place, value }
-}
-
-fn lock(place: usize, old: u64) -> Op {
-    Op::Exchange {
-        place,
-        old,
-        new: old.saturating_add(1),
-    }
-}
-
 /// A look-up of port 5 performs these operations, which find these words. The last one has this
 /// reply.
 fn assert_find(rt: &impl Abort, lines: &[(Op, u64)], reply: Reply) {
@@ -57,53 +41,56 @@ fn assert_find(rt: &impl Abort, lines: &[(Op, u64)], reply: Reply) {
 fn a_look_up_goes_through_its_states(rt: HostRuntime) {
     // Node 1 has another key, node 0 the first owner and node 2 the second one.
     let found = [
-        (load(0), 0),
-        (load(24), 6), // 64 buckets from page 0 on
-        (load(25), 1),
-        (load(319), 4), // 314 + 5
-        (lock(319, 4), 4),
-        (load(287), 69),
-        (load(286), 2),
-        (load(283), 5),
-        (load(284), 9),
-        (load(285), 6),
-        (load(292), 7),
-        (load(293), 0),
-        (store(319, 4), 5),
+        (Op::load(0), 0),
+        (Op::load(24), 6), // 64 buckets from page 0 on
+        (Op::load(25), 1),
+        (Op::load(319), 4), // 314 + 5
+        (Op::exchange(319, 4, 5), 4),
+        (Op::load(287), 69),
+        (Op::load(286), 2),
+        (Op::load(283), 5),
+        (Op::load(284), 9),
+        (Op::load(285), 6),
+        (Op::load(292), 7),
+        (Op::load(293), 0),
+        (Op::store(319, 4), 5),
     ];
     assert_find(&rt, &found, Reply::Found { owner: 9 });
     // The lock is waited for, and lost once. Node 0 has another key, and the link behind it is one
     // to a ninth node, which ends the chain. The future table is in slot 2.
     let missing = [
-        (load(0), 0),
-        (load(24), 6),
-        (load(25), 1),
-        (load(319), 3),
-        (load(319), 2),
-        (lock(319, 2), 3),
-        (load(319), 2),
-        (lock(319, 2), 2),
-        (load(283), 69),
-        (load(282), 18),
-        (load(26), 3),
-        (store(319, 2), 3),
-        (load(88), 2_055), // 7 + 1024 * 2: 128 buckets from page 2 on
-        (load(89), 2),
-        (load(447), 0), // 314 + 64 * 2 + 5
-        (lock(447, 0), 0),
-        (load(90), 0),
-        (store(447, 0), 1),
+        (Op::load(0), 0),
+        (Op::load(24), 6),
+        (Op::load(25), 1),
+        (Op::load(319), 3),
+        (Op::load(319), 2),
+        (Op::exchange(319, 2, 3), 3),
+        (Op::load(319), 2),
+        (Op::exchange(319, 2, 3), 2),
+        (Op::load(283), 69),
+        (Op::load(282), 18),
+        (Op::load(26), 3),
+        (Op::store(319, 2), 3),
+        (Op::load(88), 2_055), // 7 + 1024 * 2: 128 buckets from page 2 on
+        (Op::load(89), 2),
+        (Op::load(447), 0), // 314 + 64 * 2 + 5
+        (Op::exchange(447, 0, 1), 0),
+        (Op::load(90), 0),
+        (Op::store(447, 0), 1),
     ];
     assert_find(&rt, &missing, Reply::Missing);
     // A current table past the eighth slot is read as the eighth, and a ninth one has no future.
     let strange = [
-        (load(0), 12),
-        (load(248), 6), // 24 + 32 * 7
-        (load(249), 1),
-        (load(319), 0),
-        (lock(319, 0), 0),
-        (load(250), 9),
-        (store(319, 0), 1),
+        (Op::load(0), 12),
+        (Op::load(248), 6), // 24 + 32 * 7
+        (Op::load(249), 1),
+        (Op::load(319), 0),
+        (Op::exchange(319, 0, 1), 0),
+        (Op::load(250), 9),
+        (Op::store(319, 0), 1),
     ];
     assert_find(&rt, &strange, Reply::Missing);
+    // Four buckets from page 5 on, which there isn't: the bucket is missing.
+    let absent = [(Op::load(0), 0), (Op::load(24), 5_122), (Op::load(25), 1)];
+    assert_find(&rt, &absent, Reply::Missing);
 }

@@ -104,33 +104,17 @@ fn places_that_no_geometry_moves(rt: HostRuntime) {
 fn each_operation_answers_the_word_before(rt: HostRuntime) {
     let top = 18_446_744_073_709_551_615;
     let cases = [
-        (12, Op::Load { place: 1 }, 12),
-        (12, Op::Store { place: 1, value: 5 }, 5),
-        (
-            12,
-            Op::Exchange {
-                place: 1,
-                old: 12,
-                new: 5,
-            },
-            5,
-        ),
-        (
-            12,
-            Op::Exchange {
-                place: 1,
-                old: 11,
-                new: 5,
-            },
-            12,
-        ),
-        (12, Op::Add { place: 1, by: 3 }, 15),
-        (top, Op::Add { place: 1, by: 3 }, 2),
-        (12, Op::Sub { place: 1, by: 3 }, 9),
-        (2, Op::Sub { place: 1, by: 3 }, top),
-        (12, Op::Sub { place: 1, by: 0 }, 12),
-        (12, Op::And { place: 1, mask: 10 }, 8),
-        (12, Op::Or { place: 1, mask: 10 }, 14),
+        (12, Op::load(1), 12),
+        (12, Op::store(1, 5), 5),
+        (12, Op::exchange(1, 12, 5), 5),
+        (12, Op::exchange(1, 11, 5), 12),
+        (12, Op::add(1, 3), 15),
+        (top, Op::add(1, 3), 2),
+        (12, Op::sub(1, 3), 9),
+        (2, Op::sub(1, 3), top),
+        (12, Op::sub(1, 0), 12),
+        (12, Op::and(1, 10), 8),
+        (12, Op::or(1, 10), 14),
     ];
     for (before, op, after) in cases {
         let mut words = [70, before, 90];
