@@ -144,7 +144,7 @@ impl<M: Mix> Bind<M> {
         }
     }
 
-    /// The machine in another state.
+    /// The bind in another state.
     #[inline(always)]
     pub fn with(&self, at: BindAt) -> Bind<M>
         requires { IsBindAtIn self.now.env at }
@@ -193,8 +193,8 @@ impl<M: Mix> Bind<M> {
     pub fn take(&mut self, old: u64) -> Next<Reply>
         ensures { (self.new, result) ≡ bind_after M.mix_of self.old old }
     {
-        let (at, next) = after::<M>(self.env, self.port, &self.at, old);
-        self.at = at;
+        let (state, next) = after::<M>(self.env, self.port, &self.at, old);
+        self.at = state;
         next
     }
 }

@@ -99,7 +99,7 @@ impl<M: Mix> Find<M> {
         }
     }
 
-    /// The machine in another state.
+    /// The look-up in another state.
     #[inline(always)]
     pub fn with(&self, at: FindAt) -> Find<M>
         requires { IsFindAtIn self.now.env at }
@@ -114,7 +114,7 @@ impl<M: Mix> Find<M> {
         }
     }
 
-    /// The next operation.
+    /// The operation of its state.
     #[inline(always)]
     pub fn plan(&self) -> Op
         ensures plan { result ≡ find_plan self.now }
