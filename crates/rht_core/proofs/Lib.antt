@@ -2,6 +2,8 @@
 pub mod Worlds
 -- a call begins as a look-up or a bind, and who is in no call plans no operation
 pub mod CallBeginnings
+-- a caller in a call does what its job says
+pub mod JobsOfCallers
 -- a machine goes on in a state, or has answered
 pub mod MachinesGoOn
 -- the word that a look-up's lock has found, and the reply that it is going to answer
@@ -26,6 +28,8 @@ pub mod CallersNotEnrolled
 pub mod TracedRuns
 -- what each caller keeps of itself and of its trace holds in every run
 pub mod TracedCallers
+-- what jobs keep of their calls' operations holds of each call in every run
+pub mod TracedJobs
 -- what a look-up and a bind answer
 pub mod MachineReplies
 -- in every run each call that has ended has a reply of its kind

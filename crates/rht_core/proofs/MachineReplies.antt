@@ -1,6 +1,6 @@
 -- What a look-up and a bind answer: replies of their kind, whatever words they are told.
 -- A reply that is answered behind an unlocking stands in the state meanwhile, so it is looked at there.
-use Rattle.std.proofs.Common.{ℕ, refl}
+use Rattle.std.proofs.Common.{ℕ, Bool, refl}
 use Rattle.std.specs.Prelude.{Option, Some, None, IfSome, IsSome, min}
 use Rattle.std.proofs.lemmas.Bool.{cond_both}
 use Rattle.rht_words.specs.declared.env.Env.{Env}
@@ -17,7 +17,7 @@ use Rattle.rht_find.specs.declared.find.FindAt.TheVariants as find_at
 use Rattle.rht_bind.specs.Bind as bind
 use Rattle.rht_bind.specs.declared.bind.BindAt.{BindAt}
 use Rattle.rht_bind.specs.declared.bind.BindAt.TheVariants as bind_at
-use Rattle.rht_core.specs.Laws.{IsFindReply, IsBindReply}
+use Rattle.rht_core.specs.Replies.{IsFindReply, IsBindReply}
 use Rattle.rht_core.proofs.MachinesGoOn.{GoesOrEnds, GoesOrEnds-weaker}
 use Rattle.rht_core.proofs.HeldByFinds.{reply_of_find, future_reply, owner_reply, find_reply_after, find_after-so}
 use Rattle.rht_core.proofs.HeldByBinds.{node_of_bind, reply_of_bind, bind_reply_after, bind_after-so}
@@ -63,11 +63,11 @@ IsReplyWithNode (Exists owner) = Unit {0}
 IsReplyWithNode (TooBig count) = Unit {0}
 IsReplyWithNode _ = ⊥
 
-with_node_replies : (reply : Reply) → IsReplyWithNode reply → IsBindReply reply
-with_node_replies (Bound kick) is = tt
-with_node_replies (Exists owner) is = tt
-with_node_replies (TooBig count) is = tt
-with_node_replies _ is = absurd is
+with_node_replies : (once : Bool) (reply : Reply) → IsReplyWithNode reply → IsBindReply once reply
+with_node_replies once (Bound kick) is = tt
+with_node_replies once (Exists owner) is = tt
+with_node_replies once (TooBig count) is = tt
+with_node_replies once _ is = absurd is
 
 -- the reply that it is going to answer, where there is one, is such a one
 abbrev pub IsNoneOrWithNode : Option Reply → Type 0
@@ -85,23 +85,23 @@ bind_reply_after-with_node env (bind_at.Count claimed) word holds =
 bind_reply_after-with_node env (bind_at.Publish claimed kick) word holds = tt
 bind_reply_after-with_node env _ word holds = holds
 
-node_taken-replies : (take : TakeNodeModel) (next : Next (Option ℕ))
-    → GoesOrEnds HoldsBindReply IsBindReply (bind.node_taken take next)
-node_taken-replies take Go = tt
-node_taken-replies take (Done None) = tt
-node_taken-replies take (Done (Some node)) = tt
+node_taken-replies : (once : Bool) (take : TakeNodeModel) (next : Next (Option ℕ))
+    → GoesOrEnds HoldsBindReply (IsBindReply once) (bind.node_taken take next)
+node_taken-replies once take Go = tt
+node_taken-replies once take (Done None) = tt
+node_taken-replies once take (Done (Some node)) = tt
 
-module _ (mix : ℕ → ℕ → ℕ → ℕ) (env : Env) (port : ℕ) where
+module _ (mix : ℕ → ℕ → ℕ → ℕ) (env : Env) (port : ℕ) (once : Bool) where
   with_node-replies : (state : BindAt) (word : ℕ) → IsSome (node_of_bind state) → HoldsBindReply state
-      → GoesOrEnds HoldsBindReply IsBindReply (bind.after_at mix env port state word)
+      → GoesOrEnds HoldsBindReply (IsBindReply once) (bind.after_at mix env port state word)
   with_node-replies state word has holds =
-      GoesOrEnds-weaker HoldsBindReply HoldsBindReply IsReplyWithNode IsBindReply (λ next is. is) with_node_replies
+      GoesOrEnds-weaker HoldsBindReply HoldsBindReply IsReplyWithNode (IsBindReply once) (λ next is. is) (with_node_replies once)
       (bind.after_at mix env port state word)
       (bind_after-so (λ node held. IsNoneOrWithNode) mix env port state word has (bind_reply_after-with_node env state word holds))
 
   -- a bind that goes on holds such a reply, and one that answers answers one of a bind's
   pub bind_after-replies : (state : BindAt) (word : ℕ) → HoldsBindReply state
-      → GoesOrEnds HoldsBindReply IsBindReply (bind.after_at mix env port state word)
+      → GoesOrEnds HoldsBindReply (IsBindReply once) (bind.after_at mix env port state word)
   bind_after-replies (bind_at.Taking take) word holds =
-      node_taken-replies (take_node_after take word).0 (take_node_after take word).1
+      node_taken-replies once (take_node_after take word).0 (take_node_after take word).1
   bind_after-replies state word holds = with_node-replies state word refl holds

@@ -10,14 +10,14 @@ use Rattle.rht_chain.specs.declared.locked.Then.{Then}
 use Rattle.rht_chain.specs.declared.locked.Then.TheVariants.{Table, Answer}
 
 -- what holds of the state in which it goes on, or of its answer
-abbrev pub GoesOrEnds : {S : Type 0} → (S → Type 0) → (Reply → Type 0) → S × Next Reply → Type 0
+abbrev pub GoesOrEnds : {S R : Type 0} → (S → Type 0) → (R → Type 0) → S × Next R → Type 0
 GoesOrEnds Goes Ends (state, Go) = Goes state
 GoesOrEnds Goes Ends (state, Done reply) = Ends reply
 
-pub GoesOrEnds-weaker : {S : Type 0} (Goes Went : S → Type 0) (Ends Ended : Reply → Type 0)
+pub GoesOrEnds-weaker : {S R : Type 0} (Goes Went : S → Type 0) (Ends Ended : R → Type 0)
     → ((state : S) → Goes state → Went state)
-    → ((reply : Reply) → Ends reply → Ended reply)
-    → (next : S × Next Reply) → GoesOrEnds Goes Ends next → GoesOrEnds Went Ended next
+    → ((reply : R) → Ends reply → Ended reply)
+    → (next : S × Next R) → GoesOrEnds Goes Ends next → GoesOrEnds Went Ended next
 GoesOrEnds-weaker Goes Went Ends Ended goes ends (state, Go) so = goes state so
 GoesOrEnds-weaker Goes Went Ends Ended goes ends (state, Done reply) so = ends reply so
 

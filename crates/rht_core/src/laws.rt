@@ -41,10 +41,12 @@ pub fn words_fit<M: Mix>()
     ensures { WordsFit M M.mix_of }
 {}
 
-/// In every run each call that has ended has a reply of its kind, and no list came with it; and what
-/// a caller works at is the call of its book, for that caller, in the run's table. While a caller is
-/// in no call its rooms have the lists of its last finished call, and while it is in one they are
-/// empty. It doesn't say which of the replies comes, nor that one comes.
+/// In every run each call that has ended has a reply of its kind, and the lists that come with it:
+/// as many owners as a `Listed` says, as many pairs as a `Walked` says, and none with another reply.
+/// A bind answers `Again` only where it is tried once alone. What a caller works at is the call of
+/// its book, for that caller, in the run's table. While a caller is in no call its rooms have the
+/// lists of its last finished call, and while it is in one they are empty. It doesn't say which of
+/// the replies comes, nor that one comes.
 pub fn replies<M: Mix>()
     ensures { Replies M M.mix_of }
 {}
