@@ -38,6 +38,8 @@ pub mod RepliesInRuns
 pub mod TracesInRuns
 -- in every run the traces say what happened at which event
 pub mod TracesAtEvents
+-- in every run each operation stands in the trace of its call
+pub mod StepsInTraces
 -- what machines keep of their calls' operations holds of each call in every run
 pub mod TracedCalls
 -- in every run a bind takes one node at most

@@ -28,7 +28,7 @@ use Rattle.rht_core.specs.declared.local.Local.{Local}
 use Rattle.rht_core.specs.declared.local.Doing.{Doing}
 use Rattle.rht_core.specs.declared.local.Doing.TheVariants.{Idle, Finding, Binding}
 use Rattle.rht_core.specs.Locals.{fresh, machine_of, begin_with, doing_plan, plan_of, doing_after, local_after, found_next, bound_next, IsDoingOf, IsLocalOf}
-use Rattle.rht_core.specs.Runs.{Core, World, local_of, beginning, with_machine, planned, with_step, enrolling, enrolled_after, world_step, run_of, opening, opening_core}
+use Rattle.rht_core.specs.Runs.{Core, World, local_of, beginning_in, with_machine, planned_in, with_step, enrolling, enrolled_after, world_step, run_of, opening, opening_core}
 use Rattle.rht_core.specs.Laws.{IsFindOf, IsBindOf, IsPlannedIn, IsDoingIn, IsLocalIn, IsInRange, InRange, IsOfCaller, IsEnrolledKept, Enrolled}
 use Rattle.rht_core.proofs.FindRanges.{IsFindAtIn, find_after-in, find_planned-in}
 use Rattle.rht_core.proofs.BindRanges.{IsBindAtIn, bind_after-in, bind_planned-in}
@@ -200,7 +200,7 @@ module _ (M : Type 0) (mix : ℕ → ℕ → ℕ → ℕ) (env : Env) where
       subst (λ (e : Env). machine_of e c call ≡ Some machine) stays.same_env can.machine_is
 
   begin-in : (core : Core M) (c : ℕ) (call : Call) (machine : Option (Doing M))
-      → beginning core.env core.enrolled core.locals c call ≡ machine → StaysIn core
+      → beginning_in core c call ≡ machine → StaysIn core
       → StaysIn record core { locals = with_machine core.env core.locals c machine }
   begin-in core c call None is stays = stays
   begin-in core c call (Some machine) is stays =
@@ -209,7 +209,7 @@ module _ (M : Type 0) (mix : ℕ → ℕ → ℕ → ℕ) (env : Env) where
       set-in core c (begin_with (local_of core c) machine) stays can.below
       (begin_with-in M env c (local_of core c) machine (stays.locals c) made)
 
-  step-in : (core : Core M) (c : ℕ) (op : Option Op) → planned core.env core.enrolled core.locals c ≡ op → StaysIn core
+  step-in : (core : Core M) (c : ℕ) (op : Option Op) → planned_in core c ≡ op → StaysIn core
       → StaysIn (with_step mix core c op).0
   step-in core c None is stays = stays
   step-in core c (Some op) is stays =
@@ -230,8 +230,8 @@ module _ (M : Type 0) (mix : ℕ → ℕ → ℕ → ℕ) (env : Env) where
         locals = after.locals;
       }
   stays-in w (Begin c call) stays =
-      begin-in w.core c call (beginning w.core.env w.core.enrolled w.core.locals c call) refl stays
-  stays-in w (Step c) stays = step-in w.core c (planned w.core.env w.core.enrolled w.core.locals c) refl stays
+      begin-in w.core c call (beginning_in w.core c call) refl stays
+  stays-in w (Step c) stays = step-in w.core c (planned_in w.core c) refl stays
 
   pub runs-in : (events : List Event) → StaysIn (run_of mix env events).core
   runs-in events = run_keeps M mix (λ (w : World M). StaysIn w.core) stays-in (opening env) events opens-in
@@ -254,7 +254,7 @@ module _ (M : Type 0) (mix : ℕ → ℕ → ℕ → ℕ) (env : Env) where
 
   -- ---- who is enrolled
 
-  step-kept : (core : Core M) (c : ℕ) (op : Option Op) → planned core.env core.enrolled core.locals c ≡ op
+  step-kept : (core : Core M) (c : ℕ) (op : Option Op) → planned_in core c ≡ op
       → StaysIn core
       → word_at env.geometry (with_step mix core c op).0.words EnrolledCallers ≡ word_at env.geometry core.words EnrolledCallers
   step-kept core c None is stays = refl
@@ -274,8 +274,8 @@ module _ (M : Type 0) (mix : ℕ → ℕ → ℕ → ℕ) (env : Env) where
   event-kept w Enroll of stays = absurd of
   event-kept w (Begin c call) of stays = record { word = refl; count = refl }
   event-kept w (Step c) of stays = record {
-    word = step-kept w.core c (planned w.core.env w.core.enrolled w.core.locals c) refl stays;
-    count = step-count w.core c (planned w.core.env w.core.enrolled w.core.locals c);
+    word = step-kept w.core c (planned_in w.core c) refl stays;
+    count = step-count w.core c (planned_in w.core c);
   }
 
 module _ (M : Type 0) (mix : ℕ → ℕ → ℕ → ℕ) where

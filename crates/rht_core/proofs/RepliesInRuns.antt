@@ -62,10 +62,10 @@ ends-plainly : (call : Call) (reply : Reply) → IsReplyTo call reply → Brings
 ends-plainly call reply is none = record { reply = is; owners = none.owners; pairs = none.pairs }
 
 module _ (M : Type 0) (mix : ℕ → ℕ → ℕ → ℕ) (env : Env) where
-  abbrev Holds : Job → List Did → Type 0
+  abbrev pub Holds : Job → List Did → Type 0
   Holds job steps = JobHolds job
 
-  abbrev Answered : Call → Ending → List Did → Type 0
+  abbrev pub Answered : Call → Ending → List Did → Type 0
   Answered call ending steps = EndsRight call ending
 
   pub runs-right : (events : List Event) (c : ℕ)

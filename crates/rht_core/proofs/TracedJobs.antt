@@ -6,17 +6,16 @@
 -- shown here once for all: that the call of a book is that of the job, and what the rooms have.
 use Rattle.std.proofs.Common.{◌≡◌, ℕ, Bool, true, false, cond, List, [], ◌∷◌, ◌++◌, refl, sym, ap, ◌∙◌, subst}
 use Rattle.std.specs.Prelude.{Option, Some, None}
-use Rattle.std.specs.List.{AllByRecursion}
+use Rattle.std.specs.List.{AllByRecursion, last_or}
 use Rattle.rht_words.specs.declared.env.Env.{Env}
 use Rattle.rht_words.specs.declared.config.Kind.{Kind}
 use Rattle.rht_words.specs.declared.config.Kind.TheVariants.{Single, Listed}
 use Rattle.rht_words.specs.declared.machine.Next.{Next}
 use Rattle.rht_words.specs.declared.machine.Next.TheVariants.{Go, Done}
-use Rattle.rht_words.proofs.EachElement.{AllByRecursion-push}
+use Rattle.rht_words.proofs.EachElement.{AllByRecursion-push, last_or-push}
 use Rattle.rht_model.specs.declared.history.Call.{Call}
 use Rattle.rht_model.specs.declared.history.Call.TheVariants.{Bind, Find}
 use Rattle.rht_model.specs.declared.history.Reply.{Reply}
-use Rattle.rht_model.specs.declared.finished.Finished.{Finished}
 use Rattle.rht_model.specs.Endings.{Ending, ended_with, ending_in, plain_ending}
 use Rattle.rht_arena.specs.TakeNode.{take_node_new}
 use Rattle.rht_find.specs.Find as find
@@ -33,7 +32,7 @@ use Rattle.rht_core.specs.Locals.{is_idle, machine_of, local_after, ending_of}
 use Rattle.rht_core.specs.Jobs.{Job, finds, binds, call_of, first_bind, first_job, job_plan, finds_next, binds_next, job_after, job_of, told}
 use Rattle.rht_core.specs.Runs.{Seen, seen, book_begun, book_after, finished_with}
 use Rattle.rht_core.specs.Traces.{Did, Past, Trace, Traced, trace_begun, trace_did, traced_of}
-use Rattle.rht_core.specs.Replies.{IsBookOfIdle, last_of, owners_with, pairs_with, HasLists}
+use Rattle.rht_core.specs.Replies.{IsBookOfIdle, owners_with, pairs_with, HasLists}
 use Rattle.rht_core.specs.Laws.{seen_begin, seen_step}
 use Rattle.rht_core.proofs.MachinesGoOn.{GoesOrEnds}
 use Rattle.rht_core.proofs.JobsOfCallers.{IsJobIn, is_no_job, has_ended, HasNoLists, same_call, left-told, nothing-job, first_job-machine, plan-job, local_after-job}
@@ -41,17 +40,12 @@ use Rattle.rht_core.proofs.TracedCallers.{IsMade, IsKeptTraced, traced_callers_k
 
 -- ---- the calls of a book
 
--- the call that has ended last is the last one
-last_of-push : (calls : List Finished) (done : Finished) → last_of (calls ++ done ∷ []) ≡ Some done
-last_of-push [] done = refl
-last_of-push (first ∷ []) done = refl
-last_of-push (first ∷ second ∷ calls) done = last_of-push (second ∷ calls) done
-
-last_of-ended : (book : Book) (call : Call) (ending : Ending) → book.call ≡ Some call
-    → last_of (book_after (Some ending) book).finished ≡ Some (ended_with call ending)
-last_of-ended book call ending is =
-    ap (λ (o : Option Call). last_of (book.finished ++ finished_with o ending)) is
-    ∙ last_of-push book.finished (ended_with call ending)
+-- the call that has just ended is the last one
+last_or-ended : (book : Book) (call : Call) (ending : Ending) → book.call ≡ Some call
+    → last_or None (book_after (Some ending) book).finished ≡ Some (ended_with call ending)
+last_or-ended book call ending is =
+    ap (λ (o : Option Call). last_or None (book.finished ++ finished_with o ending)) is
+    ∙ last_or-push None book.finished (ended_with call ending)
 
 -- ---- the rooms
 
@@ -69,14 +63,14 @@ module _ {M : Type 0} where
   -- a caller in a call has empty rooms
   busy-none : (local : Local M) (book : Book) → is_idle local ≡ false → HasLists local book → HasNoLists local
   busy-none local book busy lists = record {
-    owners = lists.owners ∙ ap (λ b. cond b (owners_with (last_of book.finished)) []) busy;
-    pairs = lists.pairs ∙ ap (λ b. cond b (pairs_with (last_of book.finished)) []) busy;
+    owners = lists.owners ∙ ap (λ b. cond b (owners_with (last_or None book.finished)) []) busy;
+    pairs = lists.pairs ∙ ap (λ b. cond b (pairs_with (last_or None book.finished)) []) busy;
   }
 
   none-lists : (local : Local M) (book : Book) → is_idle local ≡ false → HasNoLists local → HasLists local book
   none-lists local book busy none = record {
-    owners = none.owners ∙ ap (λ b. cond b (owners_with (last_of book.finished)) []) (sym busy);
-    pairs = none.pairs ∙ ap (λ b. cond b (pairs_with (last_of book.finished)) []) (sym busy);
+    owners = none.owners ∙ ap (λ b. cond b (owners_with (last_or None book.finished)) []) (sym busy);
+    pairs = none.pairs ∙ ap (λ b. cond b (pairs_with (last_or None book.finished)) []) (sym busy);
   }
 
   -- a caller whose call goes on has empty rooms, and one whose call has ended has the lists that came with it
@@ -89,11 +83,11 @@ module _ {M : Type 0} where
         answer = record { reply = reply; owners = local.owners.items };
         pairs = local.pairs.items;
       } in
-      let last = sym (last_of-ended book call ending is) in
+      let last = sym (last_or-ended book call ending is) in
       let after = (book_after (Some ending) book).finished in
       record {
-        owners = ap owners_with last ∙ ap (λ b. cond b (owners_with (last_of after)) []) (sym idle);
-        pairs = ap pairs_with last ∙ ap (λ b. cond b (pairs_with (last_of after)) []) (sym idle);
+        owners = ap owners_with last ∙ ap (λ b. cond b (owners_with (last_or None after)) []) (sym idle);
+        pairs = ap pairs_with last ∙ ap (λ b. cond b (pairs_with (last_or None after)) []) (sym idle);
       }
 
 -- ---- what is kept of calls

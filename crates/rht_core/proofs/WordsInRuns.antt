@@ -25,7 +25,7 @@ use Rattle.rht_core.specs.declared.event.Event.TheVariants.{Enroll, Begin, Step}
 use Rattle.rht_core.specs.declared.local.Doing.{Doing}
 use Rattle.rht_core.specs.declared.local.Doing.TheVariants.{Idle, Finding, Binding}
 use Rattle.rht_core.specs.Locals.{fresh, machine_of, begin_with, doing_plan, doing_after, local_after, found_next, bound_next}
-use Rattle.rht_core.specs.Runs.{Core, World, local_of, beginning, with_machine, planned, with_step, enrolling, world_step, run_of, opening, IsAdmitted, IsAdmittedCall, IsAdmittedEvent}
+use Rattle.rht_core.specs.Runs.{Core, World, local_of, beginning_in, with_machine, planned_in, with_step, enrolling, world_step, run_of, opening, IsAdmitted, IsAdmittedCall, IsAdmittedEvent}
 use Rattle.rht_core.specs.Laws.{IsDoingIn, IsFindPieceIn, IsBindPieceIn, WordsFit}
 use Rattle.rht_core.proofs.MachinesGoOn.{GoesOrEnds}
 use Rattle.rht_core.proofs.CallBeginnings.{begins_so}
@@ -126,7 +126,7 @@ module _ (M : Type 0) (mix : ℕ → ℕ → ℕ → ℕ) (env : Env) where
       (word_after-fits (old_of words op) op (AllByRecursion-get_or Fits words (op_place op) 0 (omega arith) all) fits) all
 
   begin-fit : (core : Core M) (c : ℕ) (call : Call) (machine : Option (Doing M)) → IsAdmittedCall call
-      → beginning core.env core.enrolled core.locals c call ≡ machine → AllFit core
+      → beginning_in core c call ≡ machine → AllFit core
       → (k : ℕ) → LocalFits M (local_of (record core { locals = with_machine core.env core.locals c machine }) k).doing
   begin-fit core c call None admitted is fit k = fit.locals k
   begin-fit core c call (Some machine) admitted is fit k =
@@ -138,7 +138,7 @@ module _ (M : Type 0) (mix : ℕ → ℕ → ℕ → ℕ) (env : Env) where
     pub words : AllByRecursion Fits core.words
     pub locals : (c : ℕ) → LocalFits M (local_of core c).doing
 
-  step-fit : (core : Core M) (c : ℕ) (op : Option Op) → planned core.env core.enrolled core.locals c ≡ op → AllFit core
+  step-fit : (core : Core M) (c : ℕ) (op : Option Op) → planned_in core c ≡ op → AllFit core
       → StepFits (with_step mix core c op).0
   step-fit core c None is fit = record { words = fit.words; locals = fit.locals }
   step-fit core c (Some op) is fit =
@@ -165,10 +165,10 @@ module _ (M : Type 0) (mix : ℕ → ℕ → ℕ → ℕ) (env : Env) where
   event-fit w (Begin c call) admitted fit = record {
     stays = stays-in M mix env w (Begin c call) fit.stays;
     words = fit.words;
-    locals = begin-fit w.core c call (beginning w.core.env w.core.enrolled w.core.locals c call) admitted.1 refl fit;
+    locals = begin-fit w.core c call (beginning_in w.core c call) admitted.1 refl fit;
   }
   event-fit w (Step c) admitted fit =
-      let after = step-fit w.core c (planned w.core.env w.core.enrolled w.core.locals c) refl fit in
+      let after = step-fit w.core c (planned_in w.core c) refl fit in
       record { stays = stays-in M mix env w (Step c) fit.stays; words = after.words; locals = after.locals }
 
   pub runs-fit : (events : List Event) → env.config.seed < 2 ^ 32 → IsAdmitted env.config.kind events

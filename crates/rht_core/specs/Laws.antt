@@ -28,9 +28,9 @@ use Rattle.rht_core.specs.declared.local.Local.{Local}
 use Rattle.rht_core.specs.declared.local.Doing.{Doing}
 use Rattle.rht_core.specs.declared.local.Doing.TheVariants.{Idle, Finding, Binding}
 use Rattle.rht_core.specs.Locals.{fresh, begin_with, plan_of, local_after, ending_of}
-use Rattle.rht_core.specs.Runs.{Core, World, Seen, core_step, world_step, run_of, local_of, planned, seen, new_book, book_begun, book_after, IsSound, IsAdmitted, IsAdmittedEvent}
+use Rattle.rht_core.specs.Runs.{Core, World, Seen, core_step, world_step, run_of, local_of, planned_in, seen, new_book, book_begun, book_after, IsSound, IsAdmitted, IsAdmittedEvent}
 use Rattle.rht_core.specs.Replies.{AnswersIn}
-use Rattle.rht_core.specs.Traces.{Did, Past, Trace, Traced, traced_of, behind_calls, IsRising, AreInOrder}
+use Rattle.rht_core.specs.Traces.{Did, Past, Trace, Traced, traced_of, IsStepOf, behind_calls, IsRising, AreInOrder}
 
 -- ---- what one caller knows of itself, after an event of its own
 
@@ -245,7 +245,7 @@ module _ (M : Type 0) (mix : ℕ → ℕ → ℕ → ℕ) where
     pub event : slice_get events did.index ≡ Some (Step c)
     pub plan :
         let core : Core M = (run_of mix env (take did.index events)).core in
-        planned core.env core.enrolled core.locals c ≡ Some did.op
+        planned_in core c ≡ Some did.op
     pub found : old_of (run_of {M = M} mix env (take did.index events)).core.words did.op ≡ did.old
 
   -- a past call was answered at its last step
@@ -276,6 +276,18 @@ module _ (M : Type 0) (mix : ℕ → ℕ → ℕ → ℕ) where
       (env : Env) (events : List Event) → IsAdmitted env.config.kind events
       → let r : Traced M = traced_of mix env events in
       (c : ℕ) → IsTraceAt env events c (r.world.books c).call (r.traces c)
+
+  -- how many calls of this caller have ended
+  abbrev pub calls_ended : Env → List Event → ℕ → ℕ
+  calls_ended env events c = length ((run_of {M = M} mix env events).books c).finished
+
+  -- in every run each operation that a caller performed at an event stands in the trace of the call that it had in
+  -- progress there: as many of its calls had ended before
+  abbrev pub AllStepsTraced : Type 0
+  AllStepsTraced =
+      (env : Env) (events : List Event) (c : ℕ) (did : Did) → IsAdmitted env.config.kind events
+      → IsRecorded env events c did
+      → IsStepOf ((traced_of {M = M} mix env events).traces c) (calls_ended env (take did.index events) c) did
 
   -- in every run a bind that has ended took one node, but for one that was answered that there was none
   abbrev pub TakenAlone : Type 0

@@ -1,6 +1,6 @@
 -- What calls are answered, what a caller's book says of the call in progress, and what its rooms have.
-use Rattle.std.specs.Prelude.{◌≡◌, ℕ, if◌then◌else◌, Bool, true, List, [], ◌∷◌, length, Option, Some, None}
-use Rattle.std.specs.List.{AllByRecursion}
+use Rattle.std.specs.Prelude.{◌≡◌, ℕ, if◌then◌else◌, Bool, true, List, [], length, Option, Some, None}
+use Rattle.std.specs.List.{AllByRecursion, last_or}
 use Rattle.rht_words.specs.declared.env.Env.{Env}
 use Rattle.rht_model.specs.declared.history.Call.{Call}
 use Rattle.rht_model.specs.declared.history.Call.TheVariants.{Bind, Find, All, Release, Rebind, Walk, Work, Tidy, Count}
@@ -127,12 +127,6 @@ module _ {M : Type 0} where
 
 -- ---- the rooms
 
--- the last of these calls
-abbrev pub last_of : List Finished → Option Finished
-last_of [] = None
-last_of (done ∷ []) = Some done
-last_of (done ∷ next ∷ calls) = last_of (next ∷ calls)
-
 -- the owners that came with a call, and the pairs; none where there is no call
 abbrev pub owners_with : Option Finished → List ℕ
 owners_with None = []
@@ -144,8 +138,8 @@ pairs_with (Some done) = done.pairs
 
 -- in no call a caller's rooms have the lists that came with its last finished call, and in a call they are empty
 pub record HasLists {M : Type 0} (local : Local M) (book : Book) : Type 0 where
-  pub owners : local.owners.items ≡ (if is_idle local then owners_with (last_of book.finished) else [])
-  pub pairs : local.pairs.items ≡ (if is_idle local then pairs_with (last_of book.finished) else [])
+  pub owners : local.owners.items ≡ (if is_idle local then owners_with (last_or None book.finished) else [])
+  pub pairs : local.pairs.items ≡ (if is_idle local then pairs_with (last_or None book.finished) else [])
 
 -- each call of a caller that has ended was answered, the one in progress is the one that it works at, and its rooms
 -- have the lists of the last one that has ended

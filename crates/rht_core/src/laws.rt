@@ -3,7 +3,7 @@
 ghost use Rattle.rht_core.specs.Alone.{Alone};
 ghost use Rattle.rht_core.specs.Causes.{Causes};
 ghost use Rattle.rht_core.specs.Counts.{Counted, AtRest};
-ghost use Rattle.rht_core.specs.Laws.{Extends, InRange, Enrolled, NotEnrolled, Replies, Remembers, AtEvents, TakenAlone, WordsFit};
+ghost use Rattle.rht_core.specs.Laws.{Extends, InRange, Enrolled, NotEnrolled, Replies, Remembers, AtEvents, AllStepsTraced, TakenAlone, WordsFit};
 
 use rht_policy::Mix;
 
@@ -64,6 +64,13 @@ pub fn remembers<M: Mix>()
 /// of two callers lie.
 pub fn at_events<M: Mix>()
     ensures { AtEvents M M.mix_of }
+{}
+
+/// In every run each operation that a caller performs stands in the trace of the call that it has in
+/// progress there, at its event, with the word that it found: no step is left out of a trace, and
+/// none stands in the trace of another call. It says nothing of `Enroll`s, which are in no call.
+pub fn all_steps_traced<M: Mix>()
+    ensures { AllStepsTraced M M.mix_of }
 {}
 
 /// In every run a bind that has ended took exactly one of the nodes, which was free when it took it,
