@@ -1,17 +1,18 @@
 -- In every run each operation that a caller performs stands in the trace of the call that it has in progress there.
 -- By induction over the events: what is recorded earlier stands in its call, whatever event comes next, since calls are only
 -- added to and a call that begins finds no operations of another; and what is recorded at the last event was added there.
-use Rattle.std.proofs.Common.{◌≡◌, ℕ, zero, suc, ◌<◌, true, inl, inr, List, [], ◌∷◌, ◌++◌, length, map, take, refl, sym, ap, ◌∙◌, subst, arith}
-use Rattle.std.specs.Prelude.{Option, Some, None}
-use Rattle.std.specs.List.{Contains, slice_get}
+-- It stands in no other call, since the operations of all calls of a caller come in rising order of their events.
+use Rattle.std.proofs.Common.{◌≡◌, ℕ, zero, suc, ◌+◌, ◌≤◌, ◌<◌, true, inl, inr, List, [], ◌∷◌, ◌++◌, length, map, take, refl, sym, ap, ◌∙◌, subst, arith}
+use Rattle.std.specs.Prelude.{Option, Some, None, IfSome}
+use Rattle.std.specs.List.{AllByRecursion, Contains, slice_get}
 use Rattle.std.proofs.lemmas.Bool.{cases_eq}
 use Rattle.std.proofs.lemmas.List.{length_push, length-map, map-append, nil_from_length}
-use Rattle.std.proofs.lemmas.List.Elements.{Contains-append_left, Contains-append_right}
+use Rattle.std.proofs.lemmas.List.Elements.{All-contains, All-from_recursion, Contains-append_left, Contains-append_right}
 use Rattle.std.proofs.lemmas.Option.{slice_get_within}
 use Rattle.rht_words.specs.declared.op.Op.{Op}
 use Rattle.rht_words.specs.declared.env.Env.{Env}
 use Rattle.rht_words.specs.Operations.{old_of}
-use Rattle.rht_words.proofs.EachElement.{slice_get-push, slice_get-push_last}
+use Rattle.rht_words.proofs.EachElement.{AllByRecursion-weaker, slice_get-push, slice_get-push_last}
 use Rattle.rht_model.specs.declared.history.Call.{Call}
 use Rattle.rht_model.specs.Endings.{Ending, ended_with}
 use Rattle.rht_core.specs.declared.book.Book.{Book}
@@ -21,15 +22,16 @@ use Rattle.rht_core.specs.declared.local.Local.{Local}
 use Rattle.rht_core.specs.declared.local.Doing.{Doing}
 use Rattle.rht_core.specs.Locals.{is_idle, plan_of, local_after, ending_of}
 use Rattle.rht_core.specs.Jobs.{Job, call_of, job_of}
-use Rattle.rht_core.specs.Runs.{World, local_of, beginning_in, planned_in, run_of}
-use Rattle.rht_core.specs.Traces.{Did, Past, Trace, Traced, trace_begun, trace_did, traces_after, traced_of, steps_by_call, IsStepOf}
-use Rattle.rht_core.specs.Laws.{IsRecorded, calls_ended, AllStepsTraced}
+use Rattle.rht_core.specs.Runs.{World, local_of, beginning_in, planned_in, run_of, IsAdmitted}
+use Rattle.rht_core.specs.Traces.{Did, Past, Trace, Traced, trace_begun, trace_did, traces_after, traced_of, steps_by_call, IsStepOf, IsRising, behind_steps, behind_call, behind_calls, AreInOrder}
+use Rattle.rht_core.specs.Laws.{IsInProgress, IsRecorded, calls_ended, AllStepsTraced}
 use Rattle.rht_core.proofs.Worlds.{induct_by_last, take-push, take-push_all, beginning-some, planned-some}
 use Rattle.rht_core.proofs.CallBeginnings.{idle_plans}
 use Rattle.rht_core.proofs.JobsOfCallers.{is_no_job, nothing-job}
 use Rattle.rht_core.proofs.TracedJobs.{IsAtJob}
 use Rattle.rht_core.proofs.RepliesInRuns.{Holds, Answered, runs-right}
 use Rattle.rht_core.proofs.TracesInRuns.{traces_of_books}
+use Rattle.rht_core.proofs.TracesAtEvents.{at_events}
 use Rattle.rht_core.proofs.TracedRuns.{traced_of-push, world-traced_of, count-traced_of, trace_with, trace_begin_none, trace_begin_self, trace_begin_other, trace_step_none, trace_step_self, trace_step_other}
 
 -- ---- lists of operations, one for each call
@@ -290,5 +292,130 @@ module _ (M : Type 0) (mix : ℕ → ℕ → ℕ → ℕ) (env : Env) where
       subst (λ (r : Traced M). IsStepOf (r.traces c) (calls_ended M mix env (take did.index (events ++ event ∷ [])) c) did)
       (sym (traced_of-push M mix env events event)) stands)
 
+-- ---- no operation stands in two calls
+
+-- rising numbers may begin lower
+IsRising-lower : (from later : ℕ) (steps : List Did) → from ≤ later → IsRising later steps → IsRising from steps
+IsRising-lower from later [] lower rising = tt
+IsRising-lower from later (did ∷ steps) lower rising = (omega (arith, lower, rising.0), rising.1)
+
+behind_steps-lower : (from later : ℕ) (steps : List Did) → from ≤ later
+    → behind_steps from steps ≤ behind_steps later steps
+behind_steps-lower from later [] lower = lower
+behind_steps-lower from later (did ∷ steps) lower = omega arith
+
+-- they lie from where they begin up to the one behind them
+from-behind : (from : ℕ) (steps : List Did) → IsRising from steps → from ≤ behind_steps from steps
+from-behind from [] rising = omega arith
+from-behind from (did ∷ steps) rising = omega (arith, rising.0, from-behind (did.index + 1) steps rising.1)
+
+rising-within : (from : ℕ) (steps : List Did) → IsRising from steps
+    → AllByRecursion (λ did. (from ≤ did.index) × (did.index < behind_steps from steps)) steps
+rising-within from [] rising = tt
+rising-within from (did ∷ steps) rising =
+    let behind = behind_steps (did.index + 1) steps in
+    let here = from-behind (did.index + 1) steps rising.1 in (
+      (rising.0, omega (arith, here)),
+      AllByRecursion-weaker (λ (d : Did). (did.index + 1 ≤ d.index) × (d.index < behind)) (λ (d : Did). (from ≤ d.index) × (d.index < behind))
+          (λ d within. (omega (arith, rising.0, within.0), within.1)) steps (rising-within (did.index + 1) steps rising.1),
+    )
+
+-- each list begins behind the one before
+abbrev AreRisingLists : ℕ → List (List Did) → Type 0
+AreRisingLists from [] = Unit {0}
+AreRisingLists from (steps ∷ lists) = IsRising from steps × AreRisingLists (behind_steps from steps) lists
+
+AreRisingLists-lower : (from later : ℕ) (lists : List (List Did)) → from ≤ later → AreRisingLists later lists
+    → AreRisingLists from lists
+AreRisingLists-lower from later [] lower rising = tt
+AreRisingLists-lower from later (steps ∷ lists) lower rising = (
+  IsRising-lower from later steps lower rising.0,
+  AreRisingLists-lower (behind_steps from steps) (behind_steps later steps) lists (behind_steps-lower from later steps lower) rising.1,
+)
+
+-- an operation of the first list lies within it
+in_first : (from : ℕ) (steps : List Did) (lists : List (List Did)) (did : Did) → IsRising from steps
+    → IsIn (steps ∷ lists) 0 did
+    → (from ≤ did.index) × (did.index < behind_steps from steps)
+in_first from steps lists did rising is =
+    let same : is.steps ≡ steps = sym (cc) in
+    let P = λ (d : Did). (from ≤ d.index) × (d.index < behind_steps from steps) in
+    All-contains P steps did (All-from_recursion P steps (rising-within from steps rising))
+    (subst (λ (s : List Did). Contains s did) same is.stands)
+
+in_rest : (steps : List Did) (lists : List (List Did)) (number : ℕ) (did : Did) → IsIn (steps ∷ lists) (suc number) did
+    → IsIn lists number did
+in_rest steps lists number did is = record { steps = is.steps; call = is.call; stands = is.stands }
+
+at_least : (from : ℕ) (lists : List (List Did)) (number : ℕ) (did : Did) → AreRisingLists from lists
+    → IsIn lists number did
+    → from ≤ did.index
+at_least from [] number did rising is = let none = is.call in absurd (cc)
+at_least from (steps ∷ lists) zero did rising is = (in_first from steps lists did rising.0 is).0
+at_least from (steps ∷ lists) (suc number) did rising is =
+    let behind = at_least (behind_steps from steps) lists number did rising.1 (in_rest steps lists number did is) in
+    omega (arith, behind, from-behind from steps rising.0)
+
+-- so no operation is in two of them
+in_one : (from : ℕ) (lists : List (List Did)) (one other : ℕ) (did : Did) → AreRisingLists from lists
+    → IsIn lists one did → IsIn lists other did
+    → other ≡ one
+in_one from [] one other did rising here there = let none = here.call in absurd (cc)
+in_one from (steps ∷ lists) zero zero did rising here there = refl
+in_one from (steps ∷ lists) zero (suc other) did rising here there =
+    let first = in_first from steps lists did rising.0 here in
+    let later = at_least (behind_steps from steps) lists other did rising.1 (in_rest steps lists other did there) in
+    absurd (omega (arith, first.1, later))
+in_one from (steps ∷ lists) (suc one) zero did rising here there =
+    let first = in_first from steps lists did rising.0 there in
+    let later = at_least (behind_steps from steps) lists one did rising.1 (in_rest steps lists one did here) in
+    absurd (omega (arith, first.1, later))
+in_one from (steps ∷ lists) (suc one) (suc other) did rising here there =
+    ap (λ n. suc n)
+    (in_one (behind_steps from steps) lists one other did rising.1 (in_rest steps lists one did here) (in_rest steps lists other did there))
+
+-- calls that come one behind the other have such lists
+calls-rising : (from : ℕ) (calls : List Past) (last : List Did) → AreInOrder from calls
+    → IsRising (behind_calls from calls) last
+    → AreRisingLists from (map (λ past. past.steps) calls ++ last ∷ [])
+calls-rising from [] last order rising = (rising, tt)
+calls-rising from (past ∷ calls) last order rising =
+    let lower : from ≤ past.begin + 1 = omega (arith, order.0) in (
+      IsRising-lower from (past.begin + 1) past.steps lower order.1,
+      AreRisingLists-lower (behind_steps from past.steps) (behind_call past) (map (λ past. past.steps) calls ++ last ∷ [])
+          (behind_steps-lower from (past.begin + 1) past.steps lower) (calls-rising (behind_call past) calls last order.2 rising),
+    )
+
+module _ (M : Type 0) (mix : ℕ → ℕ → ℕ → ℕ) (env : Env) (events : List Event) (c : ℕ)
+    (admitted : IsAdmitted env.config.kind events) where
+  abbrev trace : Trace
+  trace = (traced_of {M = M} mix env events).traces c
+
+  abbrev book : Book
+  book = (traced_of {M = M} mix env events).world.books c
+
+  -- the operations of the call in progress come behind those of the past ones
+  last-rising : (job : Option Job) → IsAtJob M mix env (Holds M mix env) (Answered M mix env) job book trace.steps
+      → IsRising (behind_calls 0 trace.past) trace.steps
+  last-rising None at =
+      let none = nil_from_length trace.steps ((traces_of_books M mix env events c).steps ∙ at.steps) in
+      subst (IsRising (behind_calls 0 trace.past)) (sym none) tt
+  last-rising (Some job) at =
+      let progress = subst (λ (o : Option Call). IfSome o (IsInProgress events c trace)) at.call (at_events M mix env events admitted c).progress in
+      IsRising-lower (behind_calls 0 trace.past) (trace.begin + 1) trace.steps (omega (arith, progress.behind)) progress.rising
+
+  all-rising : AreRisingLists 0 (steps_by_call trace)
+  all-rising =
+      calls-rising 0 trace.past trace.steps (at_events M mix env events admitted c).in_order
+      (last-rising _ (runs-right M mix env events c).now)
+
 pub all_steps_traced : (M : Type 0) (mix : ℕ → ℕ → ℕ → ℕ) → AllStepsTraced M mix
-all_steps_traced M mix env events c did admitted = all_stand M mix env events c did
+all_steps_traced M mix env events c did admitted recorded =
+    let there = all_stand M mix env events c did recorded in
+    record {
+      there = there;
+      only = λ other is.
+          in_one 0 (steps_by_call ((traced_of {M = M} mix env events).traces c)) _ other did (all-rising M mix env events c admitted)
+          (record { steps = there.steps; call = there.call; stands = there.stands })
+          (record { steps = is.steps; call = is.call; stands = is.stands });
+    }

@@ -30,7 +30,7 @@ use Rattle.rht_core.specs.declared.local.Doing.TheVariants.{Idle, Finding, Bindi
 use Rattle.rht_core.specs.Locals.{fresh, begin_with, plan_of, local_after, ending_of}
 use Rattle.rht_core.specs.Runs.{Core, World, Seen, core_step, world_step, run_of, local_of, planned_in, seen, new_book, book_begun, book_after, IsSound, IsAdmitted, IsAdmittedEvent}
 use Rattle.rht_core.specs.Replies.{AnswersIn}
-use Rattle.rht_core.specs.Traces.{Did, Past, Trace, Traced, traced_of, IsStepOf, behind_calls, IsRising, AreInOrder}
+use Rattle.rht_core.specs.Traces.{Did, Past, Trace, Traced, traced_of, IsStepOfOne, behind_calls, IsRising, AreInOrder}
 
 -- ---- what one caller knows of itself, after an event of its own
 
@@ -282,12 +282,12 @@ module _ (M : Type 0) (mix : ℕ → ℕ → ℕ → ℕ) where
   calls_ended env events c = length ((run_of {M = M} mix env events).books c).finished
 
   -- in every run each operation that a caller performed at an event stands in the trace of the call that it had in
-  -- progress there: as many of its calls had ended before
+  -- progress there, of which as many of its calls had ended before, and in that of no other call
   abbrev pub AllStepsTraced : Type 0
   AllStepsTraced =
       (env : Env) (events : List Event) (c : ℕ) (did : Did) → IsAdmitted env.config.kind events
       → IsRecorded env events c did
-      → IsStepOf ((traced_of {M = M} mix env events).traces c) (calls_ended env (take did.index events) c) did
+      → IsStepOfOne ((traced_of {M = M} mix env events).traces c) (calls_ended env (take did.index events) c) did
 
   -- in every run a bind that has ended took one node, but for one that was answered that there was none
   abbrev pub TakenAlone : Type 0

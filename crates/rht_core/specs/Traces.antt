@@ -104,6 +104,11 @@ pub record IsStepOf (trace : Trace) (number : ℕ) (did : Did) : Type 0 where
   pub call : slice_get (steps_by_call trace) number ≡ Some steps
   pub stands : Contains steps did
 
+-- and of none of the others
+pub record IsStepOfOne (trace : Trace) (number : ℕ) (did : Did) : Type 0 where
+  pub there : IsStepOf trace number did
+  pub only : (other : ℕ) → IsStepOf trace other did → other ≡ number
+
 -- the steps of a call stand in rising order of their events, from this event on
 abbrev pub IsRising : ℕ → List Did → Type 0
 IsRising from [] = Unit {0}
