@@ -6,10 +6,10 @@ ghost use Rattle.rht_words.specs.Operations.{old_of, applied};
 ghost use Rattle.rht_words.specs.Opening.{opening_words};
 ghost use Rattle.rht_words.specs.Places.{words_in};
 ghost use Rattle.rht_words.specs.Settled.{IsSettled};
-ghost use Rattle.rht_core.specs.Runs.{core_step, local_of, begun, planned, with_step, enrolling, enrolled_after, has_done, IsSound, IsAdmittedEvent, IsBuiltEvent, IsOpened};
+ghost use Rattle.rht_core.specs.Runs.{core_step, local_of, begun, planned, with_step, enrolling, enrolled_after, has_done, IsSound, IsBuiltEvent, IsOpened};
 ghost use Rattle.rht_core.specs.Locals.{fresh, is_idle, IsLocalOf};
 
-use crate::event::{Event, Stepped, admit};
+use crate::event::{Event, Stepped};
 use crate::local::{Doing, Local};
 use rht_model::Call;
 use rht_policy::Mix;
@@ -123,13 +123,11 @@ fn perform<M: Mix>(
     event: Event,
 ) -> Stepped
     requires { IsSound record { env = env; words = words.old.items; enrolled = enrolled.old; locals = locals.old.items } }
-    ensures step { (record { env = env; words = words.new.items; enrolled = enrolled.new; locals = locals.new.items }, result) ≡ core_step M.mix_of record { env = env; words = words.old.items; enrolled = enrolled.old; locals = locals.old.items } event }
-    ensures admitted { IsBuiltEvent env.config.kind event → IsAdmittedEvent env.config.kind event }
+    ensures { (record { env = env; words = words.new.items; enrolled = enrolled.new; locals = locals.new.items }, result) ≡ core_step M.mix_of record { env = env; words = words.old.items; enrolled = enrolled.old; locals = locals.old.items } event }
 {
     match event {
         Event::Enroll => enroll(env, words, enrolled),
         Event::Begin { caller, call } => {
-            admit(call);
             begin(env, *enrolled, locals, caller, call);
             NOTHING
         }
