@@ -30,6 +30,10 @@ pub record Core (M : Type 0) : Type 0 where
   pub enrolled : ℕ
   pub locals : List (Local M)
 
+-- these parts of it together
+abbrev pub core_of : {M : Type 0} → Env → List ℕ → ℕ → List (Local M) → Core M
+core_of env words enrolled locals = record { env = env; words = words; enrolled = enrolled; locals = locals }
+
 -- an event that does nothing
 abbrev pub nothing_done : Stepped
 nothing_done = record { did = None; reply = None }
