@@ -28,7 +28,7 @@ use Rattle.rht_core.specs.declared.local.Doing.{Doing}
 use Rattle.rht_core.specs.declared.local.Doing.TheVariants.{Idle, Finding, Binding}
 use Rattle.rht_core.specs.Locals.{does_nothing, is_idle, machine_of, plan_of, doing_plan, doing_after, ending_of, found_next, bound_next}
 use Rattle.rht_core.specs.declared.book.Book.{Book}
-use Rattle.rht_core.specs.Runs.{World, Seen, seen, local_of, planned, beginning, world_step, run_of, IsSound, IsAdmittedCall, book_after, finished_with}
+use Rattle.rht_core.specs.Runs.{World, Seen, seen, local_of, planned_in, beginning_in, world_step, run_of, IsSound, IsAdmittedCall, book_after, finished_with}
 use Rattle.rht_core.specs.Laws.{seen_begin, seen_step}
 use Rattle.rht_core.specs.StandsFor.{stands_for}
 use Rattle.rht_core.specs.Alone.{MeetsModel, IsQuiet, bindings_at, call_events}
@@ -95,7 +95,7 @@ module _ (L : Type 0) (mix : ℕ → ℕ → ℕ → ℕ) (env : Env) (start : L
 
   -- a step of a caller that is idle changes nothing
   idle_plans_none : (events : List Event) → is_idle (local_of (world events).core c) ≡ true
-      → planned (world events).core.env (world events).core.enrolled (world events).core.locals c ≡ None
+      → planned_in (world events).core c ≡ None
   idle_plans_none events idle = by_test (λ t. cond t (plan_of (local_of (world events).core c)) None ≡ None) (nat_lt c (world events).core.enrolled)
       (λ t. idle_plans L (local_of (world events).core c) idle) (λ t. refl)
 
@@ -147,7 +147,7 @@ module _ (L : Type 0) (mix : ℕ → ℕ → ℕ → ℕ) (env : Env) (start : L
     below = omega (arith, going.enrolled, sound.few_enrolled, sound.all_locals)
 
     plans : (op : Op) → plan_of (local_of w.core c) ≡ Some op
-        → planned w.core.env w.core.enrolled w.core.locals c ≡ Some op
+        → planned_in w.core c ≡ Some op
     plans op is = planned-enrolled w.core.env w.core.enrolled w.core.locals c going.enrolled ∙ is
 
     -- the world after the operation, as its caller sees it
@@ -269,13 +269,13 @@ module _ (L : Type 0) (mix : ℕ → ℕ → ℕ → ℕ) (env : Env) (start : L
       call machine is refl small
 
   first_status : IsQuiet L mix env start → IsAdmittedCall call → Status began
-  first_status quiet small = go (beginning w0.core.env w0.core.enrolled w0.core.locals c call) refl
+  first_status quiet small = go (beginning_in w0.core c call) refl
     where
       w0 : World L
       w0 = world start
 
       go : (machine : Option (Doing L))
-          → beginning (world start).core.env (world start).core.enrolled (world start).core.locals c call ≡ machine
+          → beginning_in (world start).core c call ≡ machine
           → Status began
       go None is =
           let same : ◌≡◌ {A = World L} (world began) (world start) =

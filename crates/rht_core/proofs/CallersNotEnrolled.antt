@@ -13,7 +13,7 @@ use Rattle.rht_core.specs.declared.event.Event.TheVariants.{Enroll, Begin, Step}
 use Rattle.rht_core.specs.declared.local.Local.{Local}
 use Rattle.rht_core.specs.declared.local.Doing.{Doing}
 use Rattle.rht_core.specs.Locals.{fresh}
-use Rattle.rht_core.specs.Runs.{World, Seen, seen, new_book, beginning, planned, enrolling, enrolled_after, world_step, run_of, opening}
+use Rattle.rht_core.specs.Runs.{World, Seen, seen, new_book, beginning_in, planned_in, enrolling, enrolled_after, world_step, run_of, opening}
 use Rattle.rht_core.specs.Laws.{NotEnrolled}
 use Rattle.rht_core.proofs.Worlds.{beginning-some, planned-some, begin_none, begin_other, step_none, step_other, run_keeps}
 use Rattle.rht_core.proofs.SoundRuns.{step-count}
@@ -33,7 +33,7 @@ module _ (M : Type 0) (mix : ℕ → ℕ → ℕ → ℕ) (env : Env) where
   OthersFresh w = (c : ℕ) → w.core.enrolled ≤ c → IsFresh w c
 
   begins-fresh : (w : World M) (c : ℕ) (call : Call) (machine : Option (Doing M))
-      → beginning w.core.env w.core.enrolled w.core.locals c call ≡ machine → OthersFresh w
+      → beginning_in w.core c call ≡ machine → OthersFresh w
       → (k : ℕ) → w.core.enrolled ≤ k → IsFresh (world_step mix w (Begin c call)) k
   begins-fresh w c call None is fresh k past =
       ap (λ (v : World M). seen v k) (begin_none M mix w c call is) ∙ fresh k past
@@ -41,7 +41,7 @@ module _ (M : Type 0) (mix : ℕ → ℕ → ℕ → ℕ) (env : Env) where
       let can = beginning-some w.core.env w.core.enrolled w.core.locals c call machine is in
       begin_other M mix w c call k (λ same. omega (arith, can.below)) ∙ fresh k past
 
-  steps-fresh : (w : World M) (c : ℕ) (op : Option Op) → planned w.core.env w.core.enrolled w.core.locals c ≡ op
+  steps-fresh : (w : World M) (c : ℕ) (op : Option Op) → planned_in w.core c ≡ op
       → OthersFresh w
       → (k : ℕ) → w.core.enrolled ≤ k → IsFresh (world_step mix w (Step c)) k
   steps-fresh w c None is fresh k past = ap (λ (v : World M). seen v k) (step_none M mix w c is) ∙ fresh k past
@@ -54,10 +54,10 @@ module _ (M : Type 0) (mix : ℕ → ℕ → ℕ → ℕ) (env : Env) where
       let rises = enrolled_after-rises w.core.env w.core.enrolled (old_of w.core.words (enrolling w.core.env)) in
       fresh k (omega (arith, rises, past))
   event-fresh w (Begin c call) fresh k past =
-      begins-fresh w c call (beginning w.core.env w.core.enrolled w.core.locals c call) refl fresh k past
+      begins-fresh w c call (beginning_in w.core c call) refl fresh k past
   event-fresh w (Step c) fresh k past =
-      let count = step-count M mix w.core.env w.core c (planned w.core.env w.core.enrolled w.core.locals c) in
-      steps-fresh w c (planned w.core.env w.core.enrolled w.core.locals c) refl fresh k (omega (arith, count, past))
+      let count = step-count M mix w.core.env w.core c (planned_in w.core c) in
+      steps-fresh w c (planned_in w.core c) refl fresh k (omega (arith, count, past))
 
   -- what a caller sees that does this and has made no call
   abbrev alone : Local M → Seen M

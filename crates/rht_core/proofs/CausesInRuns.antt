@@ -39,8 +39,10 @@ use Rattle.rht_bind.specs.Bind.{after_at, filled}
 use Rattle.rht_bind.specs.declared.bind.BindAt.{BindAt}
 use Rattle.rht_bind.specs.declared.bind.BindAt.TheVariants as at
 use Rattle.rht_core.specs.declared.event.Event.{Event}
+use Rattle.rht_core.specs.Jobs.{Job, finds, binds}
+use Rattle.rht_core.specs.Replies.{IsFindReply}
 use Rattle.rht_core.specs.Traces.{Did, Past, performed_of, traced_of}
-use Rattle.rht_core.specs.Laws.{IsFindReply, IsRecorded, IsPastCall}
+use Rattle.rht_core.specs.Laws.{IsRecorded, IsPastCall}
 use Rattle.rht_core.specs.Causes.{SawFull, HasCauseIn, HasCause, Causes}
 use Rattle.rht_words.specs.Machines.{GoesOrEnds}
 use Rattle.rht_words.proofs.MachineRuns.{GoesOrEnds-weaker}
@@ -94,6 +96,11 @@ module _ (env : Env) where
   SawAt (at.Publish node table relink kick) steps = Unit {0}
   SawAt (at.Unlocking node table unlock next) steps = SawForReply (answer_behind next) steps
   SawAt (at.Giving give reply) steps = SawFor reply steps
+
+  -- of a look-up nothing is kept
+  abbrev JobSaw : Job → List Did → Type 0
+  JobSaw (finds port state) steps = Unit {0}
+  JobSaw (binds port owner once state) steps = SawAt state steps
 
   -- what it has seen once it goes on, and once it has answered
   abbrev SawNext : List Did → BindAt × Next Reply → Type 0
@@ -252,14 +259,14 @@ module _ (M : Type 0) (mix : ℕ → ℕ → ℕ → ℕ) (env : Env) where
   past-saw : (events : List Event) (c : ℕ)
       → AllByRecursion (λ (past : Past). SawFor env past.done.reply past.steps) ((traced_of {M = M} mix env events).traces c).past
   past-saw events c =
-      (calls_keep M mix env (λ port state steps. Unit {0}) (λ port owner once. SawAt env) (λ call. SawFor env)
+      calls_keep M mix env (JobSaw env) (λ call ending. SawFor env ending.answer.reply)
       record {
         find_begins = λ port. tt;
         bind_begins = λ port owner once node l. absurd (omega arith);
         find_goes = λ port state steps did does saw. find-saw env mix port state steps did does;
         bind_goes = λ port owner once. bind-saw env mix port owner;
       }
-      events c).past
+      events c
 
   -- ---- the causes
 

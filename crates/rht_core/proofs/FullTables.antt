@@ -33,7 +33,7 @@ use Rattle.rht_core.specs.declared.event.Event.{Event}
 use Rattle.rht_core.specs.declared.local.Doing.{Doing}
 use Rattle.rht_core.specs.declared.local.Doing.TheVariants.{Idle, Finding, Binding}
 use Rattle.rht_core.specs.Locals.{does_nothing, is_idle, doing_plan}
-use Rattle.rht_core.specs.Runs.{Core, local_of, planned, run_of}
+use Rattle.rht_core.specs.Runs.{Core, local_of, planned_in, run_of}
 use Rattle.rht_core.specs.Traces.{Did}
 use Rattle.rht_core.specs.StandsFor.{stands_for}
 use Rattle.rht_core.specs.Laws.{IsRecorded}
@@ -244,7 +244,7 @@ module _ (M : Type 0) (mix : ℕ → ℕ → ℕ → ℕ) (env : Env) where
       let has = has_inv env mix M before in
       let G = has.ghost in
       let place = place_of env.geometry PortCount in
-      let plans : planned core.env core.enrolled core.locals c ≡ Some (Load place) = is.plan ∙ ap Some loaded in
+      let plans : planned_in core c ≡ Some (Load place) = is.plan ∙ ap Some loaded in
       let can = planned-some core.env core.enrolled core.locals c (Load place) plans in
       let unraised =
       raises c (local_of core c).doing core.words G (has.inv.each c) ∙ loads-unraised place (local_of core c).doing can.plan in

@@ -25,7 +25,7 @@ use Rattle.rht_core.specs.declared.event.Event.TheVariants.{Enroll, Begin, Step 
 use Rattle.rht_core.specs.declared.local.Doing.{Doing}
 use Rattle.rht_core.specs.declared.local.Doing.TheVariants.{Idle, Finding, Binding}
 use Rattle.rht_core.specs.Locals.{fresh, does_nothing, machine_of, begin_with, doing_plan, found_next, bound_next, doing_after, local_after}
-use Rattle.rht_core.specs.Runs.{Core, core_step, local_of, beginning, planned, enrolling, IsSound}
+use Rattle.rht_core.specs.Runs.{Core, core_step, local_of, beginning_in, planned_in, enrolling, IsSound}
 use Rattle.rht_core.proofs.CallBeginnings.{begins_so}
 use Rattle.rht_core.proofs.Worlds.{beginning-some, planned-some}
 use Rattle.rht_core.proofs.Ghosts.{Ghost}
@@ -156,7 +156,7 @@ module _ (env : Env) (mix : ℕ → ℕ → ℕ → ℕ) where
 
     begin_kept : (core : Core L) (G : Ghost) (c : ℕ) (call : Call) (machine : Option (Doing L))
         → IsSound core → Inv core G
-        → beginning core.env core.enrolled core.locals c call ≡ machine → Kept core G (Begin c call)
+        → beginning_in core c call ≡ machine → Kept core G (Begin c call)
     begin_kept core G c call None sound inv is = record {
       ghost = G;
       inv = rw is (record { same_env = inv.same_env; whole = inv.whole; each = inv.each });
@@ -181,7 +181,7 @@ module _ (env : Env) (mix : ℕ → ℕ → ℕ → ℕ) where
         }
 
     step_kept : (core : Core L) (G : Ghost) (c : ℕ) (plan : Option Op) → IsSound core → Inv core G
-        → planned core.env core.enrolled core.locals c ≡ plan → Kept core G (StepOf c)
+        → planned_in core c ≡ plan → Kept core G (StepOf c)
     step_kept core G c None sound inv is = record {
       ghost = G;
       inv = rw is (record { same_env = inv.same_env; whole = inv.whole; each = inv.each });
@@ -235,5 +235,5 @@ module _ (env : Env) (mix : ℕ → ℕ → ℕ → ℕ) where
     pub kept : (core : Core L) (G : Ghost) (event : Event) → IsSound core → Inv core G → Kept core G event
     kept core G Enroll sound inv = enroll_kept core G sound inv
     kept core G (Begin c call) sound inv =
-        begin_kept core G c call (beginning core.env core.enrolled core.locals c call) sound inv refl
-    kept core G (StepOf c) sound inv = step_kept core G c (planned core.env core.enrolled core.locals c) sound inv refl
+        begin_kept core G c call (beginning_in core c call) sound inv refl
+    kept core G (StepOf c) sound inv = step_kept core G c (planned_in core c) sound inv refl

@@ -2,6 +2,8 @@
 pub mod Worlds
 -- a call begins as a look-up or a bind, and who is in no call plans no operation
 pub mod CallBeginnings
+-- a caller in a call does what its job says
+pub mod JobsOfCallers
 -- the reply that a look-up is going to answer
 pub mod HeldByFinds
 -- the node that a bind has taken, and the reply that it is going to answer
@@ -16,6 +18,8 @@ pub mod CallersNotEnrolled
 pub mod TracedRuns
 -- what each caller keeps of itself and of its trace holds in every run
 pub mod TracedCallers
+-- what jobs keep of their calls' operations holds of each call in every run
+pub mod TracedJobs
 -- what a look-up and a bind answer
 pub mod MachineReplies
 -- in every run each call that has ended has a reply of its kind
@@ -24,6 +28,8 @@ pub mod RepliesInRuns
 pub mod TracesInRuns
 -- in every run the traces say what happened at which event
 pub mod TracesAtEvents
+-- in every run each operation stands in the trace of its call
+pub mod StepsInTraces
 -- what machines keep of their calls' operations holds of each call in every run
 pub mod TracedCalls
 -- in every run a bind takes one node at most

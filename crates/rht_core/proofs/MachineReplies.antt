@@ -23,7 +23,7 @@ use Rattle.rht_find.specs.declared.find.FindAt.TheVariants as find_at
 use Rattle.rht_bind.specs.Bind as bind
 use Rattle.rht_bind.specs.declared.bind.BindAt.{BindAt}
 use Rattle.rht_bind.specs.declared.bind.BindAt.TheVariants as bind_at
-use Rattle.rht_core.specs.Laws.{IsFindReply, IsBindReply}
+use Rattle.rht_core.specs.Replies.{IsFindReply, IsBindReply}
 use Rattle.rht_core.proofs.HeldByFinds.{reply_of_find, place_reply as find_place_reply, missing_reply, future_reply, owner_reply, find_reply_after, find_after-so}
 use Rattle.rht_core.proofs.HeldByBinds.{node_of_bind, reply_of_bind, place_reply, no_table_reply, published_reply, bind_reply_after, bind_after-so}
 
@@ -83,12 +83,12 @@ IsReplyWithNode (TooBig count) = Unit {0}
 IsReplyWithNode (NoTable size) = Unit {0}
 IsReplyWithNode _ = ⊥
 
-with_node_replies : (reply : Reply) → IsReplyWithNode reply → IsBindReply reply
-with_node_replies (Bound kick) is = tt
-with_node_replies (Exists owner) is = tt
-with_node_replies (TooBig count) is = tt
-with_node_replies (NoTable size) is = tt
-with_node_replies _ is = absurd is
+with_node_replies : (once : Bool) (reply : Reply) → IsReplyWithNode reply → IsBindReply once reply
+with_node_replies once (Bound kick) is = tt
+with_node_replies once (Exists owner) is = tt
+with_node_replies once (TooBig count) is = tt
+with_node_replies once (NoTable size) is = tt
+with_node_replies once _ is = absurd is
 
 -- the reply that it is going to answer, where there is one, is such a one
 abbrev pub IsNoneOrWithNode : Option Reply → Type 0
@@ -129,22 +129,22 @@ bind_reply_after-with_node mix env port (bind_at.Publish node table relink kick)
 bind_reply_after-with_node mix env port (bind_at.Unlocking node table unlock next) word holds = holds
 bind_reply_after-with_node mix env port (bind_at.Giving give reply) word holds = holds
 
-taken-replies : (new : NewNodeModel) (next : NewNodeAt × Next (Option ℕ))
-    → GoesOrEnds HoldsBindReply IsBindReply (bind.filled (record new { at = next.0 }) next.1)
-taken-replies new (at, Go) = tt
-taken-replies new (at, Done None) = tt
-taken-replies new (at, Done (Some node)) = tt
+taken-replies : (once : Bool) (new : NewNodeModel) (next : NewNodeAt × Next (Option ℕ))
+    → GoesOrEnds HoldsBindReply (IsBindReply once) (bind.filled (record new { at = next.0 }) next.1)
+taken-replies once new (at, Go) = tt
+taken-replies once new (at, Done None) = tt
+taken-replies once new (at, Done (Some node)) = tt
 
-module _ (mix : ℕ → ℕ → ℕ → ℕ) (env : Env) (port : ℕ) where
+module _ (mix : ℕ → ℕ → ℕ → ℕ) (env : Env) (port : ℕ) (once : Bool) where
   -- a bind that goes on holds such a reply, and one that answers answers one of a bind's
   with_node-replies : (state : BindAt) (word : ℕ) → IsSome (node_of_bind state) → HoldsBindReply state
-      → GoesOrEnds HoldsBindReply IsBindReply (bind.after_at mix env port state word)
+      → GoesOrEnds HoldsBindReply (IsBindReply once) (bind.after_at mix env port state word)
   with_node-replies state word has holds =
-      GoesOrEnds-weaker HoldsBindReply HoldsBindReply IsReplyWithNode IsBindReply (λ next is. is) with_node_replies
+      GoesOrEnds-weaker HoldsBindReply HoldsBindReply IsReplyWithNode (IsBindReply once) (λ next is. is) (with_node_replies once)
       (bind.after_at mix env port state word)
       (bind_after-so (λ node. IsNoneOrWithNode) mix env port state word has (bind_reply_after-with_node mix env port state word holds))
 
   pub bind_after-replies : (state : BindAt) (word : ℕ) → HoldsBindReply state
-      → GoesOrEnds HoldsBindReply IsBindReply (bind.after_at mix env port state word)
-  bind_after-replies (bind_at.Filling new) word holds = taken-replies new (new_node_after_at new.at word)
+      → GoesOrEnds HoldsBindReply (IsBindReply once) (bind.after_at mix env port state word)
+  bind_after-replies (bind_at.Filling new) word holds = taken-replies once new (new_node_after_at new.at word)
   bind_after-replies state word holds = with_node-replies state word refl holds

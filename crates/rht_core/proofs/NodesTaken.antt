@@ -50,7 +50,9 @@ use Rattle.rht_bind.specs.Bind.{plan_at as bind_plan_at, after_at, filled}
 use Rattle.rht_bind.specs.declared.bind.BindAt.{BindAt}
 use Rattle.rht_bind.specs.declared.bind.BindAt.TheVariants as at
 use Rattle.rht_core.specs.Traces.{Did}
-use Rattle.rht_core.specs.Laws.{IsFindReply, IsNoTake, TakesNone, TakesOne, IsTakenBy, IsTakenIn, TakenAlone}
+use Rattle.rht_core.specs.Jobs.{Job, finds, binds}
+use Rattle.rht_core.specs.Replies.{IsFindReply}
+use Rattle.rht_core.specs.Laws.{IsNoTake, TakesNone, TakesOne, IsTakenBy, IsTakenIn, TakenAlone}
 use Rattle.rht_words.specs.Machines.{GoesOrEnds}
 use Rattle.rht_words.proofs.MachineRuns.{GoesOrEnds-weaker}
 use Rattle.rht_core.proofs.HeldByBinds.{node_of_bind, HoldsSo, bind_after-so}
@@ -216,6 +218,10 @@ module _ (mix : ℕ → ℕ → ℕ → ℕ) (env : Env) where
   abbrev BindTakes : BindAt → List Did → Type 0
   BindTakes state steps = HasTaken g (node_of_bind state) steps
 
+  abbrev JobTakes : Job → List Did → Type 0
+  JobTakes (finds port state) = FindTakes state
+  JobTakes (binds port owner once state) = BindTakes state
+
   -- what a bind has taken once it goes on, and once it has answered
   abbrev BindGoes : List Did → BindAt × Next Reply → Type 0
   BindGoes steps next = GoesOrEnds (λ state. BindTakes state steps) (λ reply. IsTakenBy g reply steps) next
@@ -287,11 +293,11 @@ module _ (mix : ℕ → ℕ → ℕ → ℕ) (env : Env) where
 
 pub taken_alone : (M : Type 0) (mix : ℕ → ℕ → ℕ → ℕ) → TakenAlone M mix
 taken_alone M mix env events admitted c =
-    (calls_keep M mix env (λ port. FindTakes mix env) (λ port owner once. BindTakes mix env) (IsTakenIn env.geometry)
+    calls_keep M mix env (JobTakes mix env) (λ call ending. IsTakenIn env.geometry call ending.answer.reply)
     record {
       find_begins = λ port. tt;
       bind_begins = λ port owner once. tt;
       find_goes = find-goes mix env;
       bind_goes = λ port owner once. bind-goes mix env port owner;
     }
-    events c).past
+    events c

@@ -36,7 +36,7 @@ use Rattle.rht_core.specs.declared.local.Local.{Local}
 use Rattle.rht_core.specs.declared.local.Doing.{Doing}
 use Rattle.rht_core.specs.declared.local.Doing.TheVariants.{Idle, Finding, Binding}
 use Rattle.rht_core.specs.Locals.{fresh, machine_of, begin_with, doing_plan, plan_of, doing_after, local_after, found_next, bound_next}
-use Rattle.rht_core.specs.Runs.{Core, World, local_of, beginning, with_machine, planned, with_step, enrolling, world_step, run_of, opening, IsAdmitted, IsAdmittedCall, IsAdmittedEvent}
+use Rattle.rht_core.specs.Runs.{Core, World, local_of, beginning_in, with_machine, planned_in, with_step, enrolling, world_step, run_of, opening, IsAdmitted, IsAdmittedCall, IsAdmittedEvent}
 use Rattle.rht_core.specs.Laws.{IsDoingIn, IsLocalIn, InRange, WordsFit, IsOfCaller, IsEnrolledKept, Enrolled}
 use Rattle.rht_core.proofs.CallBeginnings.{begins_so}
 use Rattle.rht_core.proofs.Worlds.{beginning-some, planned-some, run_of-push, run_keeps_admitted}
@@ -160,7 +160,7 @@ module _ (M : Type 0) (mix : ℕ → ℕ → ℕ → ℕ) (env : Env) where
   }
 
   begin-all : (core : Core M) (c : ℕ) (call : Call) (machine : Option (Doing M)) → IsAdmittedCall call
-      → beginning core.env core.enrolled core.locals c call ≡ machine → AllIn core
+      → beginning_in core c call ≡ machine → AllIn core
       → (k : ℕ) → IsLocalIn env k (local_of (record core { locals = with_machine core.env core.locals c machine }) k)
   begin-all core c call None admitted is all k = all.locals k
   begin-all core c call (Some machine) admitted is all k =
@@ -175,7 +175,7 @@ module _ (M : Type 0) (mix : ℕ → ℕ → ℕ → ℕ) (env : Env) where
     words : AllByRecursion IsWord core.words
     locals : (c : ℕ) → IsLocalIn env c (local_of core c)
 
-  step-all : (core : Core M) (c : ℕ) (op : Option Op) → planned core.env core.enrolled core.locals c ≡ op → AllIn core
+  step-all : (core : Core M) (c : ℕ) (op : Option Op) → planned_in core c ≡ op → AllIn core
       → StepsIn (with_step mix core c op).0
   step-all core c None is all = record { words = all.words; locals = all.locals }
   step-all core c (Some op) is all =
@@ -206,10 +206,10 @@ module _ (M : Type 0) (mix : ℕ → ℕ → ℕ → ℕ) (env : Env) where
   event-all w (Begin c call) admitted all = record {
     stays = stays-in M mix env w (Begin c call) all.stays;
     words = all.words;
-    locals = begin-all w.core c call (beginning w.core.env w.core.enrolled w.core.locals c call) admitted.1 refl all;
+    locals = begin-all w.core c call (beginning_in w.core c call) admitted.1 refl all;
   }
   event-all w (Step c) admitted all =
-      let after = step-all w.core c (planned w.core.env w.core.enrolled w.core.locals c) refl all in
+      let after = step-all w.core c (planned_in w.core c) refl all in
       record { stays = stays-in M mix env w (Step c) all.stays; words = after.words; locals = after.locals }
 
   runs-all : (events : List Event) → IsAdmitted env.config.kind events → AllIn (run_of mix env events).core
@@ -218,7 +218,7 @@ module _ (M : Type 0) (mix : ℕ → ℕ → ℕ → ℕ) (env : Env) where
 
   -- ---- who is enrolled
 
-  step-kept : (core : Core M) (c : ℕ) (op : Option Op) → planned core.env core.enrolled core.locals c ≡ op
+  step-kept : (core : Core M) (c : ℕ) (op : Option Op) → planned_in core c ≡ op
       → AllIn core
       → word_at env.geometry (with_step mix core c op).0.words EnrolledCallers ≡ word_at env.geometry core.words EnrolledCallers
   step-kept core c None is all = refl
@@ -233,8 +233,8 @@ module _ (M : Type 0) (mix : ℕ → ℕ → ℕ → ℕ) (env : Env) where
   event-kept w Enroll of all = absurd of
   event-kept w (Begin c call) of all = record { word = refl; count = refl }
   event-kept w (Step c) of all = record {
-    word = step-kept w.core c (planned w.core.env w.core.enrolled w.core.locals c) refl all;
-    count = step-count M mix env w.core c (planned w.core.env w.core.enrolled w.core.locals c);
+    word = step-kept w.core c (planned_in w.core c) refl all;
+    count = step-count M mix env w.core c (planned_in w.core c);
   }
 
 module _ (M : Type 0) (mix : ℕ → ℕ → ℕ → ℕ) where

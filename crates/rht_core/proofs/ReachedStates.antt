@@ -12,7 +12,7 @@ use Rattle.rht_core.specs.declared.event.Event.TheVariants.{Enroll, Begin, Step}
 use Rattle.rht_core.specs.declared.event.Stepped.{Stepped}
 use Rattle.rht_core.specs.declared.local.Local.{Local}
 use Rattle.rht_core.specs.Locals.{fresh, is_idle}
-use Rattle.rht_core.specs.Runs.{Core, World, Seen, local_of, planned, with_step, core_step, run_of, IsSound, IsAdmittedEvent, IsReached}
+use Rattle.rht_core.specs.Runs.{Core, World, Seen, local_of, planned_in, with_step, core_step, run_of, IsSound, IsAdmittedEvent, IsReached}
 use Rattle.rht_core.proofs.Worlds.{run_of-push}
 use Rattle.rht_core.proofs.SoundRuns.{runs-in, IsSound-stays}
 use Rattle.rht_core.proofs.CallersNotEnrolled.{all-fresh}
@@ -50,7 +50,7 @@ module _ (M : Type 0) (mix : ℕ → ℕ → ℕ → ℕ) where
   event-env : (core : Core M) (event : Event) → (core_step mix core event).0.env ≡ core.env
   event-env core Enroll = refl
   event-env core (Begin c call) = refl
-  event-env core (Step c) = step-env core c (planned core.env core.enrolled core.locals c)
+  event-env core (Step c) = step-env core c (planned_in core c)
 
   core_step-reached : (core : Core M) (event : Event) → IsAdmittedEvent core.env.config.kind event
       → IsReached mix core

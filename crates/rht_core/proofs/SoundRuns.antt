@@ -25,7 +25,7 @@ use Rattle.rht_core.specs.declared.local.Local.{Local}
 use Rattle.rht_core.specs.declared.local.Doing.{Doing}
 use Rattle.rht_core.specs.declared.local.Doing.TheVariants.{Idle, Finding, Binding}
 use Rattle.rht_core.specs.Locals.{fresh, machine_of, begin_with, doing_after, local_after, found_next, bound_next, IsDoingOf, IsLocalOf}
-use Rattle.rht_core.specs.Runs.{Core, World, local_of, beginning, with_machine, planned, with_step, enrolling, enrolled_after, world_step, run_of, opening, opening_core, IsSound}
+use Rattle.rht_core.specs.Runs.{Core, World, local_of, beginning_in, with_machine, planned_in, with_step, enrolling, enrolled_after, world_step, run_of, opening, opening_core, IsSound}
 use Rattle.rht_core.proofs.CallBeginnings.{begins_so}
 use Rattle.rht_core.proofs.Worlds.{CanBegin, beginning-some, planned-some, run_keeps}
 
@@ -123,7 +123,7 @@ module _ (M : Type 0) (mix : ℕ → ℕ → ℕ → ℕ) (env : Env) where
       subst (λ (e : Env). machine_of e c call ≡ Some machine) stays.same_env can.machine_is
 
   begin-in : (core : Core M) (c : ℕ) (call : Call) (machine : Option (Doing M))
-      → beginning core.env core.enrolled core.locals c call ≡ machine → StaysIn core
+      → beginning_in core c call ≡ machine → StaysIn core
       → StaysIn record core { locals = with_machine core.env core.locals c machine }
   begin-in core c call None is stays = stays
   begin-in core c call (Some machine) is stays =
@@ -131,7 +131,7 @@ module _ (M : Type 0) (mix : ℕ → ℕ → ℕ → ℕ) (env : Env) where
       let made = begins-of M env c call machine (made_in core c call machine stays can) in
       set-in core c (begin_with (local_of core c) machine) stays can.below made
 
-  step-in : (core : Core M) (c : ℕ) (op : Option Op) → planned core.env core.enrolled core.locals c ≡ op → StaysIn core
+  step-in : (core : Core M) (c : ℕ) (op : Option Op) → planned_in core c ≡ op → StaysIn core
       → StaysIn (with_step mix core c op).0
   step-in core c None is stays = stays
   step-in core c (Some op) is stays =
@@ -153,8 +153,8 @@ module _ (M : Type 0) (mix : ℕ → ℕ → ℕ → ℕ) (env : Env) where
         locals_of = after.locals_of;
       }
   stays-in w (Begin c call) stays =
-      begin-in w.core c call (beginning w.core.env w.core.enrolled w.core.locals c call) refl stays
-  stays-in w (Step c) stays = step-in w.core c (planned w.core.env w.core.enrolled w.core.locals c) refl stays
+      begin-in w.core c call (beginning_in w.core c call) refl stays
+  stays-in w (Step c) stays = step-in w.core c (planned_in w.core c) refl stays
 
   pub runs-in : (events : List Event) → StaysIn (run_of mix env events).core
   runs-in events = run_keeps M mix (λ (w : World M). StaysIn w.core) stays-in (opening env) events opens-in

@@ -17,8 +17,8 @@ use Rattle.rht_core.specs.declared.event.Event.{Event}
 use Rattle.rht_core.specs.declared.event.Event.TheVariants.{Enroll, Begin, Step}
 use Rattle.rht_core.specs.declared.local.Local.{Local}
 use Rattle.rht_core.specs.declared.local.Doing.{Doing}
-use Rattle.rht_core.specs.Locals.{fresh, is_idle, machine_of, plan_of, local_after, ending_of}
-use Rattle.rht_core.specs.Runs.{World, Seen, seen, local_of, new_book, beginning, planned, with_step, core_step, world_step, run_of}
+use Rattle.rht_core.specs.Locals.{IsLocalOf, fresh, is_idle, machine_of, plan_of, local_after, ending_of}
+use Rattle.rht_core.specs.Runs.{World, Seen, seen, local_of, new_book, beginning_in, planned_in, with_step, core_step, world_step, run_of}
 use Rattle.rht_core.specs.Traces.{Did, Trace, Traced, trace_begun, trace_did, traces_after, traced_step, traced_of}
 use Rattle.rht_core.specs.Laws.{IsRecorded, seen_begin, seen_step}
 use Rattle.rht_core.proofs.Worlds.{induct_by_last, take-push_all, beginning-some, planned-some, begin_none, begin_self, begin_other, step_none, step_self, step_other}
@@ -37,7 +37,7 @@ module _ (M : Type 0) (mix : ℕ → ℕ → ℕ → ℕ) (env : Env) where
 
   -- the operation that a caller plans in a world, and the reply that its step gives there
   abbrev planned_by : ℕ → World M → Option Op
-  planned_by c w = planned w.core.env w.core.enrolled w.core.locals c
+  planned_by c w = planned_in w.core c
 
   abbrev pub reply_of : ℕ → World M → Option Reply
   reply_of c w = (core_step mix w.core (Step c)).1.reply
@@ -56,6 +56,7 @@ module _ (M : Type 0) (mix : ℕ → ℕ → ℕ → ℕ) (env : Env) where
   -- behind these events a caller that does this makes this operation, and the run remembers it
   pub record IsMade (events : List Event) (c : ℕ) (local : Local M) (did : Did) : Type 0 where
     pub plan : plan_of local ≡ Some did.op
+    pub of : IsLocalOf env local
     pub known : IsKnown c local did
     pub index : did.index ≡ length events
     pub recorded : IsRecorded M mix env (events ++ Step c ∷ []) c did
@@ -88,6 +89,7 @@ module _ (M : Type 0) (mix : ℕ → ℕ → ℕ → ℕ) (env : Env) where
       let has = inv_now events in
       record {
         plan = (planned-some core.env core.enrolled core.locals c op is).plan;
+        of = (stays_in events).locals_of c;
         known = record {
           words = core.words;
           ghost = has.ghost;
@@ -150,7 +152,7 @@ module _ (M : Type 0) (mix : ℕ → ℕ → ℕ → ℕ) (env : Env) where
           (kept.stays events event k (seen r.world k) (r.traces k) (each k))
 
       begins : (c : ℕ) (call : Call) (machine : Option (Doing M))
-          → beginning r.world.core.env r.world.core.enrolled r.world.core.locals c call ≡ machine
+          → beginning_in r.world.core c call ≡ machine
           → AllKeep (events ++ Begin c call ∷ []) (traced_step mix r (Begin c call))
       begins c call None is k =
           stay (Begin c call) k _ _ (ap (λ (v : World M). seen v k) (begin_none M mix r.world c call is))
@@ -197,7 +199,7 @@ module _ (M : Type 0) (mix : ℕ → ℕ → ℕ → ℕ) (env : Env) where
       event_keeps : (event : Event) → AllKeep (events ++ event ∷ []) (traced_step mix r event)
       event_keeps Enroll k = stay Enroll k _ _ refl refl
       event_keeps (Begin c call) k =
-          begins c call (beginning r.world.core.env r.world.core.enrolled r.world.core.locals c call) refl k
+          begins c call (beginning_in r.world.core c call) refl k
       event_keeps (Step c) k = steps c (planned_by c r.world) refl k
 
     -- so it holds of every caller in every run

@@ -11,7 +11,7 @@ use Rattle.rht_core.specs.declared.event.Event.{Event}
 use Rattle.rht_core.specs.declared.event.Event.TheVariants.{Begin, Step}
 use Rattle.rht_core.specs.declared.local.Doing.{Doing}
 use Rattle.rht_core.specs.Locals.{local_after, ending_of}
-use Rattle.rht_core.specs.Runs.{World, local_of, beginning, planned, run_from, run_of, opening}
+use Rattle.rht_core.specs.Runs.{World, local_of, beginning_in, planned_in, run_from, run_of, opening}
 use Rattle.rht_core.specs.Traces.{Trace, Traced, trace_begun, trace_did, traces_begun, traces_stepped, traces_after, traced_step, traced_from, traced_of}
 use Rattle.rht_core.proofs.Worlds.{induct_by_last, changed-same, changed-other}
 
@@ -54,13 +54,10 @@ module _ (M : Type 0) (mix : ℕ → ℕ → ℕ → ℕ) where
 
 module _ (M : Type 0) (mix : ℕ → ℕ → ℕ → ℕ) (r : Traced M) (c : ℕ) where
   module _ (call : Call) where
-    abbrev beginning_in : Option (Doing M)
-    beginning_in = beginning r.world.core.env r.world.core.enrolled r.world.core.locals c call
-
-    pub trace_begin_none : beginning_in ≡ None → traces_after mix r (Begin c call) ≡ r.traces
+    pub trace_begin_none : beginning_in r.world.core c call ≡ None → traces_after mix r (Begin c call) ≡ r.traces
     trace_begin_none is = ap (traces_begun r c) is
 
-    pub trace_begin_self : (machine : Doing M) → beginning_in ≡ Some machine
+    pub trace_begin_self : (machine : Doing M) → beginning_in r.world.core c call ≡ Some machine
         → traces_after mix r (Begin c call) c ≡ trace_begun r.count (r.traces c)
     trace_begin_self machine is =
         ap (λ o. traces_begun r c o c) is ∙ changed-same r.traces c (trace_begun r.count (r.traces c))
@@ -70,10 +67,7 @@ module _ (M : Type 0) (mix : ℕ → ℕ → ℕ → ℕ) (r : Traced M) (c : �
     begun_other k other (Some machine) = changed-other r.traces c (trace_begun r.count (r.traces c)) k other
 
     pub trace_begin_other : (k : ℕ) → k ≢ c → traces_after mix r (Begin c call) k ≡ r.traces k
-    trace_begin_other k other = begun_other k other beginning_in
-
-  abbrev planned_in : Option Op
-  planned_in = planned r.world.core.env r.world.core.enrolled r.world.core.locals c
+    trace_begin_other k other = begun_other k other (beginning_in r.world.core c call)
 
   -- the traces after a caller has performed this
   abbrev traces_with : Option Op → ℕ → Trace
@@ -87,10 +81,10 @@ module _ (M : Type 0) (mix : ℕ → ℕ → ℕ → ℕ) (r : Traced M) (c : �
       trace_did (r.world.books c).call (record { index = r.count; op = op; old = old }) (ending_of next.0 next.1)
       (r.traces c)
 
-  pub trace_step_none : planned_in ≡ None → traces_after mix r (Step c) ≡ r.traces
+  pub trace_step_none : planned_in r.world.core c ≡ None → traces_after mix r (Step c) ≡ r.traces
   trace_step_none is = ap traces_with is
 
-  pub trace_step_self : (op : Op) → planned_in ≡ Some op → traces_after mix r (Step c) c ≡ trace_with op
+  pub trace_step_self : (op : Op) → planned_in r.world.core c ≡ Some op → traces_after mix r (Step c) c ≡ trace_with op
   trace_step_self op is = ap (λ o. traces_with o c) is ∙ changed-same r.traces c (trace_with op)
 
   stepped_other : (k : ℕ) → k ≢ c → (op : Option Op) → traces_with op k ≡ r.traces k
@@ -98,4 +92,4 @@ module _ (M : Type 0) (mix : ℕ → ℕ → ℕ → ℕ) (r : Traced M) (c : �
   stepped_other k other (Some op) = changed-other r.traces c (trace_with op) k other
 
   pub trace_step_other : (k : ℕ) → k ≢ c → traces_after mix r (Step c) k ≡ r.traces k
-  trace_step_other k other = stepped_other k other planned_in
+  trace_step_other k other = stepped_other k other (planned_in r.world.core c)

@@ -17,7 +17,7 @@ use Rattle.rht_core.specs.declared.event.Event.TheVariants.{Begin, Step}
 use Rattle.rht_core.specs.declared.book.Book.{Book}
 use Rattle.rht_core.specs.declared.local.Local.{Local}
 use Rattle.rht_core.specs.Locals.{local_after, ending_of}
-use Rattle.rht_core.specs.Runs.{World, planned, book_after, run_of}
+use Rattle.rht_core.specs.Runs.{World, planned_in, book_after, run_of}
 use Rattle.rht_core.specs.Traces.{Did, Past, Trace, Traced, trace_begun, trace_did, traced_of, IsRising, behind_steps, behind_call, behind_calls, AreInOrder}
 use Rattle.rht_core.specs.Laws.{IsInProgress, IsRecorded, IsAnsweredAt, IsPastCall, AtEvents}
 use Rattle.rht_core.proofs.Worlds.{take-push}
@@ -51,7 +51,7 @@ AreInOrder-push from (first ∷ calls) past order behind rising =
 module _ (M : Type 0) (mix : ℕ → ℕ → ℕ → ℕ) (env : Env) where
   -- the operation that a caller plans in a world
   abbrev planned_by : ℕ → World M → Option Op
-  planned_by c w = planned w.core.env w.core.enrolled w.core.locals c
+  planned_by c w = planned_in w.core c
 
   -- a call in progress of which all steps lie before this event
   record IsUnderWay (events : List Event) (c : ℕ) (trace : Trace) (call : Call) : Type 0 where

@@ -2,13 +2,15 @@
 use Rattle.std.proofs.Common.{◌≡◌, ℕ, ◌+◌, List, [], ◌∷◌, ◌++◌, map, refl, ap, ◌∙◌}
 use Rattle.std.specs.Prelude.{Option, Some, None}
 use Rattle.std.proofs.lemmas.List.{length_push, map-append}
+use Rattle.rht_words.specs.declared.env.Env.{Env}
 use Rattle.rht_model.specs.declared.history.Call.{Call}
 use Rattle.rht_model.specs.declared.finished.Finished.{Finished}
 use Rattle.rht_model.specs.Endings.{Ending}
+use Rattle.rht_core.specs.declared.event.Event.{Event}
 use Rattle.rht_core.specs.declared.book.Book.{Book}
 use Rattle.rht_core.specs.Locals.{local_after, ending_of}
 use Rattle.rht_core.specs.Runs.{book_begun, book_after, finished_with}
-use Rattle.rht_core.specs.Traces.{Did, Past, Trace, trace_begun, trace_did}
+use Rattle.rht_core.specs.Traces.{Did, Past, Trace, Traced, trace_begun, trace_did, traced_of}
 use Rattle.rht_core.specs.Laws.{IsTraceOf, Remembers}
 use Rattle.rht_core.proofs.TracedRuns.{world-traced_of, count-traced_of}
 use Rattle.rht_core.proofs.TracedCallers.{traced_callers_keep}
@@ -40,19 +42,22 @@ did-of did (Some ending) book trace of =
       steps = refl;
     }
 
+pub traces_of_books : (M : Type 0) (mix : ℕ → ℕ → ℕ → ℕ) (env : Env) (events : List Event) (c : ℕ)
+    → let r : Traced M = traced_of mix env events in IsTraceOf (r.world.books c) (r.traces c)
+traces_of_books M mix env =
+    traced_callers_keep M mix env (λ past c here trace. IsTraceOf here.book trace)
+    record {
+      opens = λ c. record { past = refl; steps = refl };
+      stays = λ past event c here trace of. of;
+      begins = λ past c call machine index here trace now idle made of. begun-of index call here.book trace of;
+      steps = λ past c did here trace made of.
+          let next = local_after mix here.local did.old in
+          did-of did (ending_of next.0 next.1) here.book trace of;
+    }
+
 pub remembers : (M : Type 0) (mix : ℕ → ℕ → ℕ → ℕ) → Remembers M mix
 remembers M mix env events admitted = record {
   world = world-traced_of M mix env events;
   count = count-traced_of M mix env events;
-  traces =
-      traced_callers_keep M mix env (λ past c here trace. IsTraceOf here.book trace)
-      record {
-        opens = λ c. record { past = refl; steps = refl };
-        stays = λ past event c here trace of. of;
-        begins = λ past c call machine index here trace now idle made of. begun-of index call here.book trace of;
-        steps = λ past c did here trace made of.
-            let next = local_after mix here.local did.old in
-            did-of did (ending_of next.0 next.1) here.book trace of;
-      }
-      events;
+  traces = traces_of_books M mix env events;
 }

@@ -18,7 +18,7 @@ use Rattle.rht_core.specs.declared.book.Book.{Book}
 use Rattle.rht_core.specs.declared.local.Local.{Local}
 use Rattle.rht_core.specs.declared.local.Doing.{Doing}
 use Rattle.rht_core.specs.Locals.{fresh, is_idle, machine_of, begin_with, plan_of, local_after, ending_of}
-use Rattle.rht_core.specs.Runs.{World, Seen, seen, local_in, local_of, beginning, with_machine, planned, with_step, book_at, book_begun, book_after, books_begun, books_stepped, world_step, run_from, run_of, opening, IsAdmitted, IsAdmittedEvent}
+use Rattle.rht_core.specs.Runs.{World, Seen, seen, local_in, local_of, beginning, beginning_in, with_machine, planned, planned_in, with_step, book_at, book_begun, book_after, books_begun, books_stepped, world_step, run_from, run_of, opening, IsAdmitted, IsAdmittedEvent}
 use Rattle.rht_core.specs.Laws.{seen_begin, seen_step, Extends}
 
 -- ---- lists of events
@@ -105,10 +105,6 @@ module _ (M : Type 0) (mix : ℕ → ℕ → ℕ → ℕ) (w : World M) where
   pair local book = record { local = local; book = book }
 
   module _ (c : ℕ) (call : Call) where
-    -- the operation with which a caller begins
-    abbrev pub beginning_in : Option (Doing M)
-    beginning_in = beginning w.core.env w.core.enrolled w.core.locals c call
-
     -- the world after a caller has begun with this
     abbrev began_with : Option (Doing M) → World M
     began_with machine = record {
@@ -117,11 +113,11 @@ module _ (M : Type 0) (mix : ℕ → ℕ → ℕ → ℕ) (w : World M) where
     }
 
     -- one that can't be changes nothing
-    pub begin_none : beginning_in ≡ None → world_step mix w (Begin c call) ≡ w
+    pub begin_none : beginning_in w.core c call ≡ None → world_step mix w (Begin c call) ≡ w
     begin_none is = ap began_with is
 
     -- who begins has the machine and the call
-    pub begin_self : (machine : Doing M) → beginning_in ≡ Some machine → c < length w.core.locals
+    pub begin_self : (machine : Doing M) → beginning_in w.core c call ≡ Some machine → c < length w.core.locals
         → seen (world_step mix w (Begin c call)) c ≡ seen_begin call machine (seen w c)
     begin_self machine is below =
         let begun = begin_with (local_of w.core c) machine in
@@ -143,13 +139,9 @@ module _ (M : Type 0) (mix : ℕ → ℕ → ℕ → ℕ) (w : World M) where
         (λ i. pair (local i) (book i))
 
     pub begin_other : (k : ℕ) → k ≢ c → seen (world_step mix w (Begin c call)) k ≡ seen w k
-    begin_other k other = began_other k other beginning_in
+    begin_other k other = began_other k other (beginning_in w.core c call)
 
   module _ (c : ℕ) where
-    -- the operation that a caller performs next
-    abbrev pub planned_in : Option Op
-    planned_in = planned w.core.env w.core.enrolled w.core.locals c
-
     -- the world after a caller has performed this
     abbrev stepped_with : Option Op → World M
     stepped_with op = record {
@@ -158,16 +150,16 @@ module _ (M : Type 0) (mix : ℕ → ℕ → ℕ → ℕ) (w : World M) where
     }
 
     -- a step of a caller that plans nothing changes nothing
-    pub step_none : planned_in ≡ None → world_step mix w (Step c) ≡ w
+    pub step_none : planned_in w.core c ≡ None → world_step mix w (Step c) ≡ w
     step_none is = ap stepped_with is
 
     -- one of a caller that plans an operation performs it
-    pub step_words : (op : Op) → planned_in ≡ Some op
+    pub step_words : (op : Op) → planned_in w.core c ≡ Some op
         → (world_step mix w (Step c)).core.words ≡ applied w.core.words op
     step_words op is = ap (λ o. (stepped_with o).core.words) is
 
     -- who steps goes on with the old word
-    pub step_self : (op : Op) → planned_in ≡ Some op → c < length w.core.locals
+    pub step_self : (op : Op) → planned_in w.core c ≡ Some op → c < length w.core.locals
         → seen (world_step mix w (Step c)) c ≡ seen_step mix (old_of w.core.words op) (seen w c)
     step_self op is below =
         let next = local_after mix (local_of w.core c) (old_of w.core.words op) in
@@ -189,7 +181,7 @@ module _ (M : Type 0) (mix : ℕ → ℕ → ℕ → ℕ) (w : World M) where
         (λ i. pair (local i) (book i))
 
     pub step_other : (k : ℕ) → k ≢ c → seen (world_step mix w (Step c)) k ≡ seen w k
-    step_other k other = stepped_other k other planned_in
+    step_other k other = stepped_other k other (planned_in w.core c)
 
 -- ---- runs
 

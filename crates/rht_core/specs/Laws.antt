@@ -1,5 +1,5 @@
 -- What holds of every run.
-use Rattle.std.specs.Prelude.{◌≡◌, ◌≢◌, ℕ, ◌+◌, ◌≤◌, ◌⊎◌, if◌then◌else◌, List, [], ◌∷◌, ◌++◌, length, map, take, Option, Some, None, IfSome}
+use Rattle.std.specs.Prelude.{◌≡◌, ◌≢◌, ℕ, ◌+◌, ◌≤◌, ◌⊎◌, List, [], ◌∷◌, ◌++◌, length, map, take, Option, Some, IfSome}
 use Rattle.std.specs.List.{AllByRecursion, slice_get}
 use Rattle.std.specs.Int.{bit_at}
 use Rattle.rht_words.specs.declared.op.Op.{Op}
@@ -9,22 +9,22 @@ use Rattle.rht_words.specs.Operations.{old_of}
 use Rattle.rht_words.specs.Places.{EnrolledCallers, word_at}
 use Rattle.rht_words.specs.Planned.{IsWord, IsPlannedIn}
 use Rattle.rht_arena.specs.Laws.{map_bit, claim_of, IsTaking}
-use Rattle.rht_find.specs.Find.{FindModel, IsFindIn}
-use Rattle.rht_bind.specs.Bind.{BindModel, IsBindIn}
+use Rattle.rht_find.specs.Find.{IsFindIn}
+use Rattle.rht_bind.specs.Bind.{IsBindIn}
 use Rattle.rht_model.specs.declared.history.Call.{Call}
-use Rattle.rht_model.specs.declared.history.Call.TheVariants.{Bind, Find}
+use Rattle.rht_model.specs.declared.history.Call.TheVariants.{Bind}
 use Rattle.rht_model.specs.declared.history.Reply.{Reply}
-use Rattle.rht_model.specs.declared.history.Reply.TheVariants.{Bound, Exists, Found, Missing, TooBig, NoTable, NoNode}
-use Rattle.rht_model.specs.declared.finished.Finished.{Finished}
+use Rattle.rht_model.specs.declared.history.Reply.TheVariants.{NoNode}
 use Rattle.rht_core.specs.declared.book.Book.{Book}
 use Rattle.rht_core.specs.declared.event.Event.{Event}
 use Rattle.rht_core.specs.declared.event.Event.TheVariants.{Enroll, Begin, Step}
 use Rattle.rht_core.specs.declared.local.Local.{Local}
 use Rattle.rht_core.specs.declared.local.Doing.{Doing}
 use Rattle.rht_core.specs.declared.local.Doing.TheVariants.{Idle, Finding, Binding}
-use Rattle.rht_core.specs.Locals.{fresh, is_idle, begin_with, plan_of, local_after, ending_of}
-use Rattle.rht_core.specs.Runs.{Core, World, Seen, core_step, world_step, run_of, local_of, planned, seen, new_book, book_begun, book_after, IsSound, IsAdmitted, IsAdmittedEvent}
-use Rattle.rht_core.specs.Traces.{Did, Past, Trace, Traced, traced_of, behind_calls, IsRising, AreInOrder}
+use Rattle.rht_core.specs.Locals.{fresh, begin_with, plan_of, local_after, ending_of}
+use Rattle.rht_core.specs.Runs.{Core, World, Seen, core_step, world_step, run_of, local_of, planned_in, seen, new_book, book_begun, book_after, IsSound, IsAdmitted, IsAdmittedEvent}
+use Rattle.rht_core.specs.Replies.{AnswersIn}
+use Rattle.rht_core.specs.Traces.{Did, Past, Trace, Traced, traced_of, IsStepOfOne, behind_calls, IsRising, AreInOrder}
 
 -- ---- what one caller knows of itself, after an event of its own
 
@@ -60,84 +60,6 @@ pub record IsInRange {M : Type 0} (env : Env) (core : Core M) : Type 0 where
   pub sound : IsSound core
   pub locals : (c : ℕ) → IsLocalIn env c (local_of core c)
   pub plans : (c : ℕ) (op : Op) → plan_of (local_of core c) ≡ Some op → IsPlannedIn env.geometry op
-
--- ---- what is answered
-
--- the replies that a look-up may have, and those that a bind may have
-abbrev pub IsFindReply : Reply → Type 0
-IsFindReply (Found owner) = Unit {0}
-IsFindReply Missing = Unit {0}
-IsFindReply _ = ⊥
-
-abbrev pub IsBindReply : Reply → Type 0
-IsBindReply (Bound kick) = Unit {0}
-IsBindReply (Exists owner) = Unit {0}
-IsBindReply (TooBig count) = Unit {0}
-IsBindReply (NoTable size) = Unit {0}
-IsBindReply NoNode = Unit {0}
-IsBindReply _ = ⊥
-
--- the reply is one of those that the call may have; the other calls are never answered yet
-abbrev pub IsReplyTo : Call → Reply → Type 0
-IsReplyTo (Find port) reply = IsFindReply reply
-IsReplyTo (Bind port owner once) reply = IsBindReply reply
-IsReplyTo _ reply = ⊥
-
--- a call that has ended has a reply of its kind, and no list came with it
-pub record IsAnswered (done : Finished) : Type 0 where
-  pub reply : IsReplyTo done.call done.reply
-  pub owners : done.owners ≡ []
-  pub pairs : done.pairs ≡ []
-
--- in no call a caller has made no step
-pub record IsBookOfIdle (book : Book) : Type 0 where
-  pub call : book.call ≡ None
-  pub steps : book.steps ≡ 0
-
--- the machine works at the call that is in progress, for this caller, in this table
-pub record IsBookOfFind (env : Env) (c : ℕ) (m : FindModel) (book : Book) : Type 0 where
-  pub same_env : m.env ≡ env
-  pub same_caller : m.caller ≡ c
-  pub call : book.call ≡ Some (Find m.port)
-
-pub record IsBookOfBind (env : Env) (c : ℕ) (m : BindModel) (book : Book) : Type 0 where
-  pub same_env : m.env ≡ env
-  pub same_caller : m.caller ≡ c
-  pub call : book.call ≡ Some (Bind m.port m.owner m.once)
-
-module _ {M : Type 0} where
-  -- what a caller does is what its book says
-  abbrev pub IsBookOf : Env → ℕ → Doing M → Book → Type 0
-  IsBookOf env c Idle book = IsBookOfIdle book
-  IsBookOf env c (Finding m) book = IsBookOfFind env c m book
-  IsBookOf env c (Binding m) book = IsBookOfBind env c m book
-
--- the last of these calls
-abbrev pub last_of : List Finished → Option Finished
-last_of [] = None
-last_of (done ∷ []) = Some done
-last_of (done ∷ next ∷ calls) = last_of (next ∷ calls)
-
--- the owners that came with a call, and the pairs; none where there is no call
-abbrev pub owners_with : Option Finished → List ℕ
-owners_with None = []
-owners_with (Some done) = done.owners
-
-abbrev pub pairs_with : Option Finished → List (ℕ × ℕ)
-pairs_with None = []
-pairs_with (Some done) = done.pairs
-
--- in no call a caller's rooms have the lists that came with its last finished call, and in a call they are empty
-pub record HasLists {M : Type 0} (local : Local M) (book : Book) : Type 0 where
-  pub owners : local.owners.items ≡ (if is_idle local then owners_with (last_of book.finished) else [])
-  pub pairs : local.pairs.items ≡ (if is_idle local then pairs_with (last_of book.finished) else [])
-
--- each call of a caller that has ended was answered, the one in progress is the one that it works at, and its rooms
--- have the lists of the last one that has ended
-pub record AnswersIn {M : Type 0} (env : Env) (c : ℕ) (local : Local M) (book : Book) : Type 0 where
-  pub finished : AllByRecursion IsAnswered book.finished
-  pub progress : IsBookOf env c local.doing book
-  pub lists : HasLists local book
 
 -- ---- traces
 
@@ -259,7 +181,7 @@ module _ (M : Type 0) (mix : ℕ → ℕ → ℕ → ℕ) where
     pub event : slice_get events did.index ≡ Some (Step c)
     pub plan :
         let core : Core M = (run_of mix env (take did.index events)).core in
-        planned core.env core.enrolled core.locals c ≡ Some did.op
+        planned_in core c ≡ Some did.op
     pub found : old_of (run_of {M = M} mix env (take did.index events)).core.words did.op ≡ did.old
 
   -- a past call was answered at its last step
@@ -290,6 +212,18 @@ module _ (M : Type 0) (mix : ℕ → ℕ → ℕ → ℕ) where
       (env : Env) (events : List Event) → IsAdmitted env.config.kind events
       → let r : Traced M = traced_of mix env events in
       (c : ℕ) → IsTraceAt env events c (r.world.books c).call (r.traces c)
+
+  -- how many calls of this caller have ended
+  abbrev pub calls_ended : Env → List Event → ℕ → ℕ
+  calls_ended env events c = length ((run_of {M = M} mix env events).books c).finished
+
+  -- in every run each operation that a caller performed at an event stands in the trace of the call that it had in
+  -- progress there, of which as many of its calls had ended before, and in that of no other call
+  abbrev pub AllStepsTraced : Type 0
+  AllStepsTraced =
+      (env : Env) (events : List Event) (c : ℕ) (did : Did) → IsAdmitted env.config.kind events
+      → IsRecorded env events c did
+      → IsStepOfOne ((traced_of {M = M} mix env events).traces c) (calls_ended env (take did.index events) c) did
 
   -- in every run a bind that has ended took one node, but for one that was answered that there was none
   abbrev pub TakenAlone : Type 0

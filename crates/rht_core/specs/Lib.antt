@@ -1,11 +1,15 @@
 -- what a caller is doing
 pub mod Locals
+-- what a caller does, said without its table
+pub mod Jobs
 -- what events make of words and callers
 pub mod Runs
 -- each call's operations, with the numbers of their events
 pub mod Traces
 -- what the words stand for
 pub mod StandsFor
+-- what calls are answered
+pub mod Replies
 -- what holds of every run
 pub mod Laws
 -- why a call was refused

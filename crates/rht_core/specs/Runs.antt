@@ -30,6 +30,10 @@ pub record Core (M : Type 0) : Type 0 where
   pub enrolled : ℕ
   pub locals : List (Local M)
 
+-- these parts of it together
+abbrev pub core_of : {M : Type 0} → Env → List ℕ → ℕ → List (Local M) → Core M
+core_of env words enrolled locals = record { env = env; words = words; enrolled = enrolled; locals = locals }
+
 -- an event that does nothing
 abbrev pub nothing_done : Stepped
 nothing_done = record { did = None; reply = None }
@@ -71,6 +75,13 @@ module _ {M : Type 0} where
   abbrev pub planned : Env → ℕ → List (Local M) → ℕ → Option Op
   planned env enrolled locals c = if nat_lt c enrolled then plan_of (local_in env locals c) else None
 
+  -- the same of all that the program keeps
+  abbrev pub planned_in : Core M → ℕ → Option Op
+  planned_in core c = planned core.env core.enrolled core.locals c
+
+  abbrev pub beginning_in : Core M → ℕ → Call → Option (Doing M)
+  beginning_in core c call = beginning core.env core.enrolled core.locals c call
+
   module _ (mix : ℕ → ℕ → ℕ → ℕ) where
     -- a caller has performed this operation, and is told the word's old value
     abbrev pub performed : Core M → ℕ → Op → Core M × Stepped
@@ -90,7 +101,7 @@ module _ {M : Type 0} where
         (record core { words = applied core.words op; enrolled = enrolled_after core.env core.enrolled old }, has_done op old None)
     core_step core (Begin c call) =
         (record core { locals = begun core.env core.enrolled core.locals c call }, nothing_done)
-    core_step core (Step c) = with_step core c (planned core.env core.enrolled core.locals c)
+    core_step core (Step c) = with_step core c (planned_in core c)
 
   -- what always holds of it
   pub record IsSound (core : Core M) : Type 0 where
@@ -196,8 +207,8 @@ module _ {M : Type 0} where
     abbrev pub books_after : World M → Event → ℕ → Book
     books_after w Enroll = w.books
     books_after w (Begin c call) =
-        books_begun w.books c call (beginning w.core.env w.core.enrolled w.core.locals c call)
-    books_after w (Step c) = books_stepped w c (planned w.core.env w.core.enrolled w.core.locals c)
+        books_begun w.books c call (beginning_in w.core c call)
+    books_after w (Step c) = books_stepped w c (planned_in w.core c)
 
     abbrev pub world_step : World M → Event → World M
     world_step w event = record { core = (core_step mix w.core event).0; books = books_after w event }

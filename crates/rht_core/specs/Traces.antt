@@ -1,5 +1,6 @@
 -- The steps of each call of a run, with the numbers of their events. Nothing that a caller does depends on them.
-use Rattle.std.specs.Prelude.{ℕ, ◌+◌, ◌≤◌, ◌==◌, if◌then◌else◌, Option, Some, None, List, [], ◌∷◌, ◌++◌, map}
+use Rattle.std.specs.Prelude.{◌≡◌, ℕ, ◌+◌, ◌≤◌, ◌==◌, if◌then◌else◌, Option, Some, None, List, [], ◌∷◌, ◌++◌, map}
+use Rattle.std.specs.List.{Contains, slice_get}
 use Rattle.rht_words.specs.declared.op.Op.{Op}
 use Rattle.rht_words.specs.declared.env.Env.{Env}
 use Rattle.rht_words.specs.Operations.{old_of}
@@ -11,7 +12,7 @@ use Rattle.rht_core.specs.declared.event.Event.{Event}
 use Rattle.rht_core.specs.declared.event.Event.TheVariants.{Enroll, Begin, Step}
 use Rattle.rht_core.specs.declared.local.Doing.{Doing}
 use Rattle.rht_core.specs.Locals.{local_after, ending_of}
-use Rattle.rht_core.specs.Runs.{World, opening, world_step, local_of, beginning, planned, finished_with}
+use Rattle.rht_core.specs.Runs.{World, opening, world_step, local_of, beginning_in, planned_in, finished_with}
 
 -- an operation of a run: the number of its event, counted from 0, and the word before it
 pub record Did : Type 0 where
@@ -75,8 +76,8 @@ module _ {M : Type 0} where
     abbrev pub traces_after : Traced M → Event → ℕ → Trace
     traces_after r Enroll = r.traces
     traces_after r (Begin c call) =
-        traces_begun r c (beginning r.world.core.env r.world.core.enrolled r.world.core.locals c call)
-    traces_after r (Step c) = traces_stepped r c (planned r.world.core.env r.world.core.enrolled r.world.core.locals c)
+        traces_begun r c (beginning_in r.world.core c call)
+    traces_after r (Step c) = traces_stepped r c (planned_in r.world.core c)
 
     abbrev pub traced_step : Traced M → Event → Traced M
     traced_step r event =
@@ -92,6 +93,21 @@ module _ {M : Type 0} where
         traced_from (record { world = opening env; count = 0; traces = λ _. record { begin = 0; steps = []; past = [] } }) events
 
 -- ---- what is said of traces
+
+-- the operations of a caller's calls, one list for each call, that of the call in progress last
+abbrev pub steps_by_call : Trace → List (List Did)
+steps_by_call trace = map (λ past. past.steps) trace.past ++ trace.steps ∷ []
+
+-- the operation is one of those of the call with this number, counted from 0
+pub record IsStepOf (trace : Trace) (number : ℕ) (did : Did) : Type 0 where
+  pub steps : List Did
+  pub call : slice_get (steps_by_call trace) number ≡ Some steps
+  pub stands : Contains steps did
+
+-- and of none of the others
+pub record IsStepOfOne (trace : Trace) (number : ℕ) (did : Did) : Type 0 where
+  pub there : IsStepOf trace number did
+  pub only : (other : ℕ) → IsStepOf trace other did → other ≡ number
 
 -- the steps of a call stand in rising order of their events, from this event on
 abbrev pub IsRising : ℕ → List Did → Type 0

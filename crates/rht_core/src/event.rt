@@ -1,7 +1,5 @@
 //! The events of a run.
 
-ghost use Rattle.rht_core.specs.Runs.{IsAdmittedCall};
-
 use rht_model::{Call, Reply};
 use rht_words::Op;
 
@@ -25,32 +23,4 @@ pub struct Stepped {
     pub did: Option<(Op, u64)>,
     /// The reply, where the event ended a call.
     pub reply: Option<Reply>,
-}
-
-/// Each number of a call lies in the range of its type. Nothing is done for it: the check learns
-/// it where the call is taken apart.
-pub(crate) fn admit(call: Call)
-    ensures { IsAdmittedCall call }
-{
-    match call {
-        Call::Bind { port, owner, .. } | Call::Release { port, owner } => {
-            let _numbers = (port, owner);
-        }
-        Call::Find { port } | Call::All { port } => {
-            let _number = port;
-        }
-        Call::Rebind { port, owner, new } => {
-            let _numbers = (port, owner, new);
-        }
-        Call::Walk { from: None, limit } => {
-            let _number = limit;
-        }
-        Call::Walk {
-            from: Some(cursor),
-            limit,
-        } => {
-            let _numbers = (cursor.serial, cursor.bucket, limit);
-        }
-        Call::Work | Call::Tidy | Call::Count => {}
-    }
 }

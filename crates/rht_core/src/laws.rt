@@ -3,7 +3,7 @@
 ghost use Rattle.rht_core.specs.Alone.{Alone};
 ghost use Rattle.rht_core.specs.Causes.{Causes};
 ghost use Rattle.rht_core.specs.Counts.{Counted, AtRest};
-ghost use Rattle.rht_core.specs.Laws.{Extends, InRange, Enrolled, NotEnrolled, Replies, Remembers, AtEvents, TakenAlone, WordsFit};
+ghost use Rattle.rht_core.specs.Laws.{Extends, InRange, Enrolled, NotEnrolled, Replies, Remembers, AtEvents, AllStepsTraced, TakenAlone, WordsFit};
 
 use rht_policy::Mix;
 
@@ -41,10 +41,12 @@ pub fn words_fit<M: Mix>()
     ensures { WordsFit M M.mix_of }
 {}
 
-/// In every run each call that has ended has a reply of its kind, and no list came with it; and what
-/// a caller works at is the call of its book, for that caller, in the run's table. While a caller is
-/// in no call its rooms have the lists of its last finished call, and while it is in one they are
-/// empty. It doesn't say which of the replies comes, nor that one comes.
+/// In every run each call that has ended has a reply of its kind, and the lists that come with it:
+/// as many owners as a `Listed` says, as many pairs as a `Walked` says, and none with another reply.
+/// A bind answers `Again` only where it is tried once alone. What a caller works at is the call of
+/// its book, for that caller, in the run's table. While a caller is in no call its rooms have the
+/// lists of its last finished call, and while it is in one they are empty. It doesn't say which of
+/// the replies comes, nor that one comes.
 pub fn replies<M: Mix>()
     ensures { Replies M M.mix_of }
 {}
@@ -62,6 +64,13 @@ pub fn remembers<M: Mix>()
 /// of two callers lie.
 pub fn at_events<M: Mix>()
     ensures { AtEvents M M.mix_of }
+{}
+
+/// In every run each operation that a caller performs stands in the trace of the call that it has in
+/// progress there, at its event, with the word that it found: no step is left out of a trace, and
+/// none stands in the trace of another call. It says nothing of `Enroll`s, which are in no call.
+pub fn all_steps_traced<M: Mix>()
+    ensures { AllStepsTraced M M.mix_of }
 {}
 
 /// In every run a bind that has ended took exactly one of the nodes, which was free when it took it,

@@ -1,15 +1,14 @@
 //! One run on plain words, event by event.
 
 ghost use Rattle.std.specs.Prelude.{◌≡◌, ◌<◌, ◌≤◌, length, replicate, true, None, IfOk};
-ghost use Rattle.std.specs.List.{AllByRecursion};
 ghost use Rattle.rht_words.specs.Operations.{old_of, applied};
 ghost use Rattle.rht_words.specs.Opening.{opening_words};
 ghost use Rattle.rht_words.specs.Places.{words_in};
 ghost use Rattle.rht_words.specs.Settled.{IsSettled};
-ghost use Rattle.rht_core.specs.Runs.{core_step, local_of, begun, planned, with_step, enrolling, enrolled_after, has_done, IsSound, IsAdmittedEvent, IsBuiltEvent, IsOpened};
-ghost use Rattle.rht_core.specs.Locals.{fresh, is_idle, IsLocalOf};
+ghost use Rattle.rht_core.specs.Runs.{core_of, core_step, local_of, begun, planned, with_step, enrolling, enrolled_after, has_done, IsSound, IsBuiltEvent, IsOpened};
+ghost use Rattle.rht_core.specs.Locals.{fresh, is_idle};
 
-use crate::event::{Event, Stepped, admit};
+use crate::event::{Event, Stepped};
 use crate::local::{Doing, Local};
 use rht_model::Call;
 use rht_policy::Mix;
@@ -27,13 +26,13 @@ pub struct State<M: Mix> {
 }
 
 impl<M: Mix> Model for State<M> {
-    ghost use Rattle.rht_core.specs.Runs.{Core, IsReached};
+    ghost use Rattle.rht_core.specs.Runs.{Core, core_of, IsReached};
 
     ghost Value = { Core M };
 
-    ghost view = { λ s. record { env = s.env; words = s.words.items; enrolled = s.enrolled; locals = s.locals.items } };
+    ghost view = { λ s. core_of s.env s.words.items s.enrolled s.locals.items };
 
-    ghost invariant = { λ s. IsReached M.mix_of record { env = s.env; words = s.words.items; enrolled = s.enrolled; locals = s.locals.items } };
+    ghost invariant = { λ s. IsReached M.mix_of (core_of s.env s.words.items s.enrolled s.locals.items) };
 }
 
 /// What an event did that does nothing.
@@ -122,14 +121,12 @@ fn perform<M: Mix>(
     locals: &mut Vec<Local<M>>,
     event: Event,
 ) -> Stepped
-    requires { IsSound record { env = env; words = words.old.items; enrolled = enrolled.old; locals = locals.old.items } }
-    ensures step { (record { env = env; words = words.new.items; enrolled = enrolled.new; locals = locals.new.items }, result) ≡ core_step M.mix_of record { env = env; words = words.old.items; enrolled = enrolled.old; locals = locals.old.items } event }
-    ensures admitted { IsBuiltEvent env.config.kind event → IsAdmittedEvent env.config.kind event }
+    requires { IsSound (core_of env words.old.items enrolled.old locals.old.items) }
+    ensures { (core_of env words.new.items enrolled.new locals.new.items, result) ≡ core_step M.mix_of (core_of env words.old.items enrolled.old locals.old.items) event }
 {
     match event {
         Event::Enroll => enroll(env, words, enrolled),
         Event::Begin { caller, call } => {
-            admit(call);
             begin(env, *enrolled, locals, caller, call);
             NOTHING
         }
@@ -157,10 +154,8 @@ fn enroll(env: Env, words: &mut Vec<u64>, enrolled: &mut u32) -> Stepped
 
 /// Gives a caller a call, where it can be given one.
 fn begin<M: Mix>(env: Env, enrolled: u32, locals: &mut Vec<Local<M>>, caller: u32, call: Call)
-    requires enrolled { enrolled ≤ length locals.old.items }
-    requires env { AllByRecursion (IsLocalOf env) locals.old.items }
-    ensures locals { locals.new.items ≡ begun env enrolled locals.old.items caller call }
-    ensures env { AllByRecursion (IsLocalOf env) locals.new.items }
+    requires { enrolled ≤ length locals.old.items }
+    ensures { locals.new.items ≡ begun env enrolled locals.old.items caller call }
 {
     if caller < enrolled {
         let local = &mut locals[caller as usize];
@@ -180,9 +175,8 @@ fn step<M: Mix>(
     locals: &mut Vec<Local<M>>,
     caller: u32,
 ) -> Stepped
-    requires { IsSound record { env = env; words = words.old.items; enrolled = enrolled; locals = locals.old.items } }
-    ensures sound { IsSound record { env = env; words = words.new.items; enrolled = enrolled; locals = locals.new.items } }
-    ensures step { (record { env = env; words = words.new.items; enrolled = enrolled; locals = locals.new.items }, result) ≡ with_step M.mix_of record { env = env; words = words.old.items; enrolled = enrolled; locals = locals.old.items } caller (planned env enrolled locals.old.items caller) }
+    requires { IsSound (core_of env words.old.items enrolled locals.old.items) }
+    ensures { (core_of env words.new.items enrolled locals.new.items, result) ≡ with_step M.mix_of (core_of env words.old.items enrolled locals.old.items) caller (planned env enrolled locals.old.items caller) }
 {
     if caller >= enrolled {
         return NOTHING;

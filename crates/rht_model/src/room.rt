@@ -58,7 +58,8 @@ impl<T: Drop> Room<T> {
 
     /// The list.
     pub fn as_slice(&self) -> &[T]
-        ensures { result.now ≡ self.now.items }
+        ensures items { result.now ≡ self.now.items }
+        ensures within { length result.now ≤ self.now.limit }
     {
         self.items.as_slice()
     }

@@ -1,5 +1,5 @@
-use Rattle.std.proofs.Common.{subst, sym}
-use Rattle.rht_core.specs.Runs.{Core, IsBuiltEvent}
+use Rattle.std.proofs.Common.{rules, subst, sym}
+use Rattle.rht_core.specs.Runs.{Core, IsAdmittedEvent, IsBuiltEvent}
 use Rattle.rht_core.proofs.ReachedStates.{IsSound-reached, IsReached-more}
 use Rattle.rht_core.proofs.state.State.step.Goals as goal
 
@@ -8,7 +8,15 @@ perform-requires g c = IsSound-reached g.row.M.Denot g.M.Mix.mix_of _ c.self.inv
 
 pub invariant_of-self : goal.invariant_of-self
 invariant_of-self g c =
-    let done = c.perform.ensures in
+    let kind = c.self.inside.env.config.kind in
     let built = subst (λ (core : Core g.row.M.Denot). IsBuiltEvent core.env.config.kind c.args.event) (sym c.self.view_is) c.requires in
-    IsReached-more g.row.M.Denot g.M.Mix.mix_of _ _ c.args.event c.perform.result (done.admitted built) done.step
+    let admitted : IsBuiltEvent kind c.args.event → IsAdmittedEvent kind c.args.event = search rules in
+    let new = c.perform.new in
+    let after : Core g.row.M.Denot = record {
+      env = c.self.inside.env;
+      words = new.words.items;
+      enrolled = new.enrolled;
+      locals = new.locals.items;
+    } in
+    IsReached-more g.row.M.Denot g.M.Mix.mix_of _ after c.args.event c.perform.result (admitted built) c.perform.ensures
     c.self.invariant

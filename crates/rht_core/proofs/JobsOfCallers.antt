@@ -1,0 +1,167 @@
+-- A caller that is in a call does what its job says: it plans the job's operation, what becomes of it is what becomes of
+-- the job, and a call that begins begins as its first job. Each is shown by cases on machines; what is said of callers
+-- above is said of jobs.
+use Rattle.std.proofs.Common.{◌≡◌, ℕ, Bool, true, false, [], refl, ap, ◌∙◌, subst}
+use Rattle.std.specs.Prelude.{Option, Some, None}
+use Rattle.rht_words.specs.declared.op.Op.{Op}
+use Rattle.rht_words.specs.declared.env.Env.{Env}
+use Rattle.rht_words.specs.declared.machine.Next.{Next}
+use Rattle.rht_words.proofs.Memory.{Memory}
+use Rattle.rht_words.specs.declared.machine.Next.TheVariants.{Go, Done}
+use Rattle.rht_model.specs.declared.history.Call.{Call}
+use Rattle.rht_model.specs.declared.history.Call.TheVariants.{Bind, Find}
+use Rattle.rht_model.specs.declared.history.Reply.{Reply}
+use Rattle.rht_model.specs.Endings.{Ending}
+use Rattle.rht_find.specs.Find as find
+use Rattle.rht_find.specs.Find.{FindModel}
+use Rattle.rht_find.specs.declared.find.FindAt.{FindAt}
+use Rattle.rht_bind.specs.Bind as bind
+use Rattle.rht_bind.specs.Bind.{BindModel}
+use Rattle.rht_bind.specs.declared.bind.BindAt.{BindAt}
+use Rattle.rht_core.specs.declared.local.Local.{Local}
+use Rattle.rht_core.specs.declared.local.Doing.{Doing}
+use Rattle.rht_core.specs.declared.local.Doing.TheVariants.{Idle, Finding, Binding}
+use Rattle.rht_core.specs.Locals.{does_nothing, machine_of, doing_plan, doing_after, local_after, ending_of, found_next, bound_next, IsDoingOf}
+use Rattle.rht_core.specs.Jobs.{Job, finds, binds, call_of, first_job, first_bind, job_plan, job_after, finds_next, binds_next, job_of, told}
+use Rattle.rht_core.proofs.CallBeginnings.{begins_so}
+use Rattle.rht_core.proofs.Ghosts.{Ghost}
+use Rattle.rht_core.proofs.FindSteps.{FindKnows}
+use Rattle.rht_core.proofs.BindSteps.{BindKnows}
+use Rattle.rht_core.proofs.Invariants.{CallerKnows}
+
+-- what a caller with this job knows of the words
+abbrev pub JobKnows : Env → (ℕ → ℕ → ℕ → ℕ) → ℕ → Job → Memory → Ghost → Type 0
+JobKnows env mix c (finds port state) M G = FindKnows env mix c port state M G
+JobKnows env mix c (binds port owner once state) M G = BindKnows env mix c port owner state M G
+
+-- there is no job
+abbrev pub is_no_job : Option Job → Bool
+is_no_job None = true
+is_no_job (Some job) = false
+
+-- there is an ending
+abbrev pub has_ended : Option Ending → Bool
+has_ended None = false
+has_ended (Some ending) = true
+
+-- a caller whose rooms are empty
+pub record HasNoLists {M : Type 0} (local : Local M) : Type 0 where
+  pub owners : local.owners.items ≡ []
+  pub pairs : local.pairs.items ≡ []
+
+-- no operation makes a job one of another call
+finds_next-call : (port : ℕ) (next : FindAt × Next Reply) → call_of (finds_next port next).0 ≡ Find port
+finds_next-call port (state, Go) = refl
+finds_next-call port (state, Done reply) = refl
+
+binds_next-call : (port owner : ℕ) (once : Bool) (next : BindAt × Next Reply)
+    → call_of (binds_next port owner once next).0 ≡ Bind port owner once
+binds_next-call port owner once (state, Go) = refl
+binds_next-call port owner once (state, Done reply) = refl
+
+pub same_call : (mix : ℕ → ℕ → ℕ → ℕ) (env : Env) (job : Job) (old : ℕ)
+    → call_of (job_after mix env job old).0 ≡ call_of job
+same_call mix env (finds port state) old = finds_next-call port (find.after_at mix env port state old)
+same_call mix env (binds port owner once state) old =
+    binds_next-call port owner once (bind.after_at mix env port state old)
+
+-- a job leaves either no ending, and goes on, or an ending, and no job
+pub left-told : (next : Job × Next Ending) → is_no_job (told next).0 ≡ has_ended (told next).1
+left-told (job, Go) = refl
+left-told (job, Done ending) = refl
+
+module _ {M : Type 0} where
+  -- who is in no call has no job
+  pub nothing-job : (doing : Doing M) → does_nothing doing ≡ is_no_job (job_of doing)
+  nothing-job Idle = refl
+  nothing-job (Finding m) = refl
+  nothing-job (Binding m) = refl
+
+  -- ---- the beginning of a call
+
+  -- the job with which a call begins is that of its machine, and does the call
+  pub record IsFirst (env : Env) (call : Call) (doing : Doing M) : Type 0 where
+    pub job : Job
+    pub first : first_job env call ≡ Some job
+    pub does : job_of doing ≡ Some job
+    pub asked : call_of job ≡ call
+
+  pub first_job-machine : (env : Env) (c : ℕ) (call : Call) (doing : Doing M) → machine_of env c call ≡ Some doing
+      → IsFirst env call doing
+  first_job-machine env c =
+      begins_so M env c (IsFirst env) (λ port. record { job = _; first = refl; does = refl; asked = refl })
+      (λ port owner once single. record {
+        job = _;
+        first = ap (first_bind env port owner once) single;
+        does = refl;
+        asked = refl;
+      })
+
+  -- ---- an operation
+
+  -- what a caller plans is its job's operation, in the table of the run
+  pub record PlansJob (env : Env) (doing : Doing M) (op : Op) : Type 0 where
+    pub job : Job
+    pub does : job_of doing ≡ Some job
+    pub plan : op ≡ job_plan env job
+
+  pub plan-job : (env : Env) (doing : Doing M) (op : Op) → IsDoingOf env doing → doing_plan doing ≡ Some op
+      → PlansJob env doing op
+  plan-job env Idle op of plan = absurd (cc)
+  plan-job env (Finding m) op of plan =
+      let here : op ≡ find.plan_at m.env m.at = cc in
+      record { job = finds m.port m.at; does = refl; plan = subst (λ (e : Env). op ≡ find.plan_at e m.at) of here }
+  plan-job env (Binding m) op of plan =
+      let here : op ≡ bind.plan_at m.env m.at = cc in
+      record {
+        job = binds m.port m.owner m.once m.at;
+        does = refl;
+        plan = subst (λ (e : Env). op ≡ bind.plan_at e m.at) of here;
+      }
+
+  -- what it knows is what its job says
+  pub knows-job : (env : Env) (mix : ℕ → ℕ → ℕ → ℕ) (c : ℕ) (doing : Doing M) (job : Job) (N : Memory) (G : Ghost)
+      → job_of doing ≡ Some job → CallerKnows env mix M c doing N G → JobKnows env mix c job N G
+  knows-job env mix c Idle job N G is knows = absurd (cc)
+  knows-job env mix c (Finding m) job N G is knows =
+      let here : finds m.port m.at ≡ job = cc in subst (λ (j : Job). JobKnows env mix c j N G) here knows.1
+  knows-job env mix c (Binding m) job N G is knows =
+      let here : binds m.port m.owner m.once m.at ≡ job = cc in
+      subst (λ (j : Job). JobKnows env mix c j N G) here knows.1
+
+  module _ (local : Local M) (none : HasNoLists local) where
+    -- the job that a caller has after this has become of what it does, and how its call has ended
+    abbrev job_left : Doing M × Option Reply → Option Job × Option Ending
+    job_left next = (job_of next.0, ending_of (record local { doing = next.0 }) next.1)
+
+    found-told : (m : FindModel) (r : FindAt × Next Reply)
+        → job_left (found_next (record m { at = r.0 }, r.1)) ≡ told (finds_next m.port r)
+    found-told m (state, Go) = refl
+    found-told m (state, Done reply) = (λ i. (None, Some record { answer = record { reply = reply; owners = none.owners i }; pairs = none.pairs i }))
+
+    bound-told : (m : BindModel) (r : BindAt × Next Reply)
+        → job_left (bound_next (record m { at = r.0 }, r.1)) ≡ told (binds_next m.port m.owner m.once r)
+    bound-told m (state, Go) = refl
+    bound-told m (state, Done reply) = (λ i. (None, Some record { answer = record { reply = reply; owners = none.owners i }; pairs = none.pairs i }))
+
+    doing_after-job : (mix : ℕ → ℕ → ℕ → ℕ) (env : Env) (doing : Doing M) (job : Job) (old : ℕ)
+        → IsDoingOf env doing → job_of doing ≡ Some job
+        → job_left (doing_after mix doing old) ≡ told (job_after mix env job old)
+    doing_after-job mix env Idle job old of is = absurd (cc)
+    doing_after-job mix env (Finding m) job old of is =
+        let here : finds m.port m.at ≡ job = cc in
+        found-told m (find.after_at mix m.env m.port m.at old)
+        ∙ ap (λ (e : Env). told (job_after mix e (finds m.port m.at) old)) of
+        ∙ ap (λ (j : Job). told (job_after mix env j old)) here
+    doing_after-job mix env (Binding m) job old of is =
+        let here : binds m.port m.owner m.once m.at ≡ job = cc in
+        bound-told m (bind.after_at mix m.env m.port m.at old)
+        ∙ ap (λ (e : Env). told (job_after mix e (binds m.port m.owner m.once m.at) old)) of
+        ∙ ap (λ (j : Job). told (job_after mix env j old)) here
+
+  -- what becomes of a caller is what becomes of its job
+  pub local_after-job : (mix : ℕ → ℕ → ℕ → ℕ) (env : Env) (local : Local M) (job : Job) (old : ℕ)
+      → HasNoLists local → IsDoingOf env local.doing → job_of local.doing ≡ Some job
+      → let next = local_after mix local old in
+      ◌≡◌ {A = Option Job × Option Ending} (job_of next.0.doing, ending_of next.0 next.1) (told (job_after mix env job old))
+  local_after-job mix env local job old none of is = doing_after-job local none mix env local.doing job old of is

@@ -1,0 +1,421 @@
+-- In every run each operation that a caller performs stands in the trace of the call that it has in progress there.
+-- By induction over the events: what is recorded earlier stands in its call, whatever event comes next, since calls are only
+-- added to and a call that begins finds no operations of another; and what is recorded at the last event was added there.
+-- It stands in no other call, since the operations of all calls of a caller come in rising order of their events.
+use Rattle.std.proofs.Common.{◌≡◌, ℕ, zero, suc, ◌+◌, ◌≤◌, ◌<◌, true, inl, inr, List, [], ◌∷◌, ◌++◌, length, map, take, refl, sym, ap, ◌∙◌, subst, arith}
+use Rattle.std.specs.Prelude.{Option, Some, None, IfSome}
+use Rattle.std.specs.List.{AllByRecursion, Contains, slice_get}
+use Rattle.std.proofs.lemmas.Bool.{cases_eq}
+use Rattle.std.proofs.lemmas.List.{length_push, length-map, map-append, nil_from_length}
+use Rattle.std.proofs.lemmas.List.Elements.{All-contains, All-from_recursion, Contains-append_left, Contains-append_right}
+use Rattle.std.proofs.lemmas.Option.{slice_get_within}
+use Rattle.rht_words.specs.declared.op.Op.{Op}
+use Rattle.rht_words.specs.declared.env.Env.{Env}
+use Rattle.rht_words.specs.Operations.{old_of}
+use Rattle.rht_words.proofs.EachElement.{AllByRecursion-weaker, slice_get-push, slice_get-push_last}
+use Rattle.rht_model.specs.declared.history.Call.{Call}
+use Rattle.rht_model.specs.Endings.{Ending, ended_with}
+use Rattle.rht_core.specs.declared.book.Book.{Book}
+use Rattle.rht_core.specs.declared.event.Event.{Event}
+use Rattle.rht_core.specs.declared.event.Event.TheVariants.{Enroll, Begin, Step}
+use Rattle.rht_core.specs.declared.local.Local.{Local}
+use Rattle.rht_core.specs.declared.local.Doing.{Doing}
+use Rattle.rht_core.specs.Locals.{is_idle, plan_of, local_after, ending_of}
+use Rattle.rht_core.specs.Jobs.{Job, call_of, job_of}
+use Rattle.rht_core.specs.Runs.{World, local_of, beginning_in, planned_in, run_of, IsAdmitted}
+use Rattle.rht_core.specs.Traces.{Did, Past, Trace, Traced, trace_begun, trace_did, traces_after, traced_of, steps_by_call, IsStepOf, IsRising, behind_steps, behind_call, behind_calls, AreInOrder}
+use Rattle.rht_core.specs.Laws.{IsInProgress, IsRecorded, calls_ended, AllStepsTraced}
+use Rattle.rht_core.proofs.Worlds.{induct_by_last, take-push, take-push_all, beginning-some, planned-some}
+use Rattle.rht_core.proofs.CallBeginnings.{idle_plans}
+use Rattle.rht_core.proofs.JobsOfCallers.{is_no_job, nothing-job}
+use Rattle.rht_core.proofs.TracedJobs.{IsAtJob}
+use Rattle.rht_core.proofs.RepliesInRuns.{Holds, Answered, runs-right}
+use Rattle.rht_core.proofs.TracesInRuns.{traces_of_books}
+use Rattle.rht_core.proofs.TracesAtEvents.{at_events}
+use Rattle.rht_core.proofs.TracedRuns.{traced_of-push, world-traced_of, count-traced_of, trace_with, trace_begin_none, trace_begin_self, trace_begin_other, trace_step_none, trace_step_self, trace_step_other}
+
+-- ---- lists of operations, one for each call
+
+-- the operation is in the list with this number
+record IsIn (lists : List (List Did)) (number : ℕ) (did : Did) : Type 0 where
+  steps : List Did
+  call : slice_get lists number ≡ Some steps
+  stands : Contains steps did
+
+in_push : (lists : List (List Did)) (more : List Did) (number : ℕ) (did : Did) → IsIn lists number did
+    → IsIn (lists ++ more ∷ []) number did
+in_push lists more number did is =
+    record { steps = is.steps; call = slice_get-push lists more number is.steps is.call; stands = is.stands }
+
+-- the last list may get longer
+in_longer : (lists : List (List Did)) (last more : List Did) (number : ℕ) (did : Did)
+    → IsIn (lists ++ last ∷ []) number did
+    → IsIn (lists ++ (last ++ more) ∷ []) number did
+in_longer [] last more zero did is =
+    let same : is.steps ≡ last = sym (cc) in
+    record {
+      steps = last ++ more;
+      call = refl;
+      stands = Contains-append_left last more did (subst (λ (s : List Did). Contains s did) same is.stands);
+    }
+in_longer [] last more (suc number) did is = let none = is.call in absurd (cc)
+in_longer (first ∷ lists) last more zero did is = record { steps = is.steps; call = is.call; stands = is.stands }
+in_longer (first ∷ lists) last more (suc number) did is =
+    let behind =
+    in_longer lists last more number did record { steps = is.steps; call = is.call; stands = is.stands } in
+    record { steps = behind.steps; call = behind.call; stands = behind.stands }
+
+-- ---- what becomes of a trace
+
+-- a call begins, of a caller that had no operations of a call in progress
+begun-in : (index : ℕ) (trace : Trace) (number : ℕ) (did : Did) → trace.steps ≡ [] → IsStepOf trace number did
+    → IsStepOf (trace_begun index trace) number did
+begun-in index trace number did none is =
+    let lists = λ (steps : List Did). map (λ (past : Past). past.steps) trace.past ++ steps ∷ [] in
+    record {
+      steps = is.steps;
+      call = ap (λ steps. slice_get (lists steps) number) (sym none) ∙ is.call;
+      stands = is.stands;
+    }
+
+-- the operations of each call after one more, which may have ended the call in progress
+steps_by_call-ended : (trace : Trace) (did : Did) (call : Call) (ending : Ending)
+    → steps_by_call (trace_did (Some call) did (Some ending) trace)
+    ≡ (map (λ past. past.steps) trace.past ++ (trace.steps ++ did ∷ []) ∷ []) ++ [] ∷ []
+steps_by_call-ended trace did call ending =
+    ap (λ lists. lists ++ [] ∷ [])
+    (map-append (λ (past : Past). past.steps) trace.past
+    ((record { done = ended_with call ending; begin = trace.begin; steps = trace.steps ++ did ∷ [] }) ∷ []))
+
+did-in : (trace : Trace) (new : Did) (call : Call) (ending : Option Ending) (number : ℕ) (did : Did)
+    → IsIn (map (λ past. past.steps) trace.past ++ (trace.steps ++ new ∷ []) ∷ []) number did
+    → IsStepOf (trace_did (Some call) new ending trace) number did
+did-in trace new call None number did is = record { steps = is.steps; call = is.call; stands = is.stands }
+did-in trace new call (Some ending) number did is =
+    let lists = map (λ (past : Past). past.steps) trace.past ++ (trace.steps ++ new ∷ []) ∷ [] in
+    let further = in_push lists [] number did is in
+    record {
+      steps = further.steps;
+      call = ap (λ l. slice_get l number) (steps_by_call-ended trace new call ending) ∙ further.call;
+      stands = further.stands;
+    }
+
+-- what stood in a call stands in it with one more operation
+older-in : (trace : Trace) (new : Did) (call : Call) (ending : Option Ending) (number : ℕ) (did : Did)
+    → IsStepOf trace number did → IsStepOf (trace_did (Some call) new ending trace) number did
+older-in trace new call ending number did is =
+    did-in trace new call ending number did
+    (in_longer (map (λ past. past.steps) trace.past) trace.steps (new ∷ []) number did
+    record { steps = is.steps; call = is.call; stands = is.stands })
+
+-- and the new one stands in the call in progress
+newest-in : (trace : Trace) (did : Did) (call : Call) (ending : Option Ending)
+    → IsStepOf (trace_did (Some call) did ending trace) (length trace.past) did
+newest-in trace did call ending =
+    let before = map (λ (past : Past). past.steps) trace.past in
+    let steps = trace.steps ++ did ∷ [] in
+    did-in trace did call ending (length trace.past) did
+    record {
+      steps = steps;
+      call =
+          ap (slice_get (before ++ steps ∷ [])) (sym (length-map trace.past (λ (past : Past). past.steps)))
+          ∙ slice_get-push_last before steps;
+      stands = Contains-append_right trace.steps (did ∷ []) did (0, omega arith, refl);
+    }
+
+-- ---- one event
+
+-- what stands at a place that isn't the last one stood there before
+slice_get-shorter : {X : Type 0} (xs : List X) (x : X) (i : ℕ) (y : X) → i < length xs
+    → slice_get (xs ++ x ∷ []) i ≡ Some y → slice_get xs i ≡ Some y
+slice_get-shorter [] x i y less is = absurd (omega (arith, less))
+slice_get-shorter (z ∷ zs) x zero y less is = is
+slice_get-shorter (z ∷ zs) x (suc i) y less is = slice_get-shorter zs x i y (omega (arith, less)) is
+
+module _ (M : Type 0) (mix : ℕ → ℕ → ℕ → ℕ) (env : Env) where
+  abbrev R : List Event → Traced M
+  R events = traced_of mix env events
+
+  -- a caller in no call has no operations of one
+  at_rest-none : (job : Option Job) (book : Book) (steps : List Did) → is_no_job job ≡ true
+      → IsAtJob M mix env (Holds M mix env) (Answered M mix env) job book steps → book.steps ≡ 0
+  at_rest-none None book steps none at = at.steps
+  at_rest-none (Some job) book steps none at = absurd (cc)
+
+  idle-none : (events : List Event) (c : ℕ) → is_idle (local_of (R events).world.core c) ≡ true
+      → ((R events).traces c).steps ≡ []
+  idle-none events c idle =
+      let local = local_of (R events).world.core c in
+      let book = (R events).world.books c in
+      let none = at_rest-none (job_of local.doing) book _ (sym (nothing-job local.doing) ∙ idle) (runs-right M mix env events c).now in
+      nil_from_length ((R events).traces c).steps ((traces_of_books M mix env events c).steps ∙ none)
+
+  -- and one that plans an operation has a call in its book
+  at_work-call : (local : Local M) (op : Op) (job : Option Job) (book : Book) (steps : List Did)
+      → plan_of local ≡ Some op → job_of local.doing ≡ job
+      → IsAtJob M mix env (Holds M mix env) (Answered M mix env) job book steps
+      → (call : Call) × (book.call ≡ Some call)
+  at_work-call local op None book steps plan is at =
+      let none : plan_of local ≡ None = idle_plans M local (nothing-job local.doing ∙ ap is_no_job is) in
+      absurd (cc)
+  at_work-call local op (Some job) book steps plan is at = (call_of job, at.call)
+
+  busy-call : (events : List Event) (c : ℕ) (op : Op)
+      → planned_in (R events).world.core c ≡ Some op
+      → (call : Call) × (((R events).world.books c).call ≡ Some call)
+  busy-call events c op is =
+      let core = (R events).world.core in
+      let can = planned-some core.env core.enrolled core.locals c op is in
+      at_work-call (local_of core c) op (job_of (local_of core c).doing) _ _ can.plan refl (runs-right M mix env events c).now
+
+  module _ (events : List Event) (c : ℕ) (number : ℕ) (did : Did) (stood : IsStepOf ((R events).traces c) number did) where
+    abbrev r : Traced M
+    r = R events
+
+    -- the trace is as it was
+    unchanged : (trace : Trace) → trace ≡ r.traces c → IsStepOf trace number did
+    unchanged trace same = subst (λ (t : Trace). IsStepOf t number did) (sym same) stood
+
+    begin-later : (d : ℕ) (call : Call) (machine : Option (Doing M))
+        → beginning_in r.world.core d call ≡ machine
+        → IsStepOf (traces_after mix r (Begin d call) c) number did
+    begin-later d call None is = unchanged _ (ap (λ (t : ℕ → Trace). t c) (trace_begin_none M mix r d call is))
+    begin-later d call (Some machine) is = elim (cases_eq c d) [
+      | inl same ↦
+          let can = beginning-some r.world.core.env r.world.core.enrolled r.world.core.locals d call machine is in
+          let idle = subst (λ k. is_idle (local_of r.world.core k) ≡ true) (sym same) can.idle in
+          let begun : traces_after mix r (Begin d call) c ≡ trace_begun r.count (r.traces c) =
+          subst (λ k. traces_after mix r (Begin d call) k ≡ trace_begun r.count (r.traces k)) (sym same)
+          (trace_begin_self M mix r d call machine is) in
+          subst (λ (t : Trace). IsStepOf t number did) (sym begun)
+          (begun-in r.count (r.traces c) number did (idle-none events c idle) stood)
+      | inr other ↦ unchanged _ (trace_begin_other M mix r d call c other)
+    ]
+
+    step-later : (d : ℕ) (op : Option Op)
+        → planned_in r.world.core d ≡ op
+        → IsStepOf (traces_after mix r (Step d) c) number did
+    step-later d None is = unchanged _ (ap (λ (t : ℕ → Trace). t c) (trace_step_none M mix r d is))
+    step-later d (Some op) is = elim (cases_eq c d) [
+      | inl same ↦
+          let plan = subst (λ k. planned_in r.world.core k ≡ Some op) (sym same) is in
+          let busy = busy-call events c op plan in
+          let made : Did = record { index = r.count; op = op; old = old_of r.world.core.words op } in
+          let next = local_after mix (local_of r.world.core c) made.old in
+          let stepped : traces_after mix r (Step d) c ≡ trace_with M mix r c op =
+          subst (λ k. traces_after mix r (Step k) c ≡ trace_with M mix r c op) same (trace_step_self M mix r c op plan) in
+          subst (λ (t : Trace). IsStepOf t number did)
+          (sym (stepped ∙ ap (λ (o : Option Call). trace_did o made (ending_of next.0 next.1) (r.traces c)) busy.1))
+          (older-in (r.traces c) made busy.0 (ending_of next.0 next.1) number did stood)
+      | inr other ↦ unchanged _ (trace_step_other M mix r d c other)
+    ]
+
+    -- what stands in a call stands in it after any event
+    later : (event : Event) → IsStepOf (traces_after mix r event c) number did
+    later Enroll = stood
+    later (Begin d call) =
+        begin-later d call (beginning_in r.world.core d call) refl
+    later (Step d) = step-later d (planned_in r.world.core d) refl
+
+  -- ---- runs
+
+  -- each recorded operation stands in its call
+  abbrev AllStand : List Event → Type 0
+  AllStand events =
+      (c : ℕ) (did : Did) → IsRecorded M mix env events c did
+      → IsStepOf ((R events).traces c) (calls_ended M mix env (take did.index events) c) did
+
+  module _ (events : List Event) (event : Event) (c : ℕ) (did : Did)
+      (recorded : IsRecorded M mix env (events ++ event ∷ []) c did) where
+    abbrev more : List Event
+    more = events ++ event ∷ []
+
+    -- one that was recorded before
+    older : AllStand events → did.index < length events
+        → IsStepOf (traces_after mix (R events) event c) (calls_ended M mix env (take did.index more) c) did
+    older each less =
+        let same : take did.index more ≡ take did.index events = take-push events event did.index (omega (arith, less)) in
+        let was : IsRecorded M mix env events c did = record {
+          event = slice_get-shorter events event did.index (Step c) less recorded.event;
+          plan =
+              subst (λ (before : List Event). planned_in (run_of {M = M} mix env before).core c ≡ Some did.op)
+              same recorded.plan;
+          found =
+              subst (λ (before : List Event). old_of (run_of {M = M} mix env before).core.words did.op ≡ did.old) same recorded.found;
+        } in
+        later events c (calls_ended M mix env (take did.index more) c) did
+        (subst (λ (before : List Event). IsStepOf ((R events).traces c) (calls_ended M mix env before c) did) (sym same) (each c did was))
+        event
+
+    -- one of the last event
+    newest : did.index ≡ length events
+        → IsStepOf (traces_after mix (R events) event c) (calls_ended M mix env (take did.index more) c) did
+    newest last =
+        let r = R events in
+        let before : take did.index more ≡ events = ap (λ n. take n more) last ∙ take-push_all events event in
+        let world : ◌≡◌ {A = World M} (run_of mix env (take did.index more)) r.world =
+        ap (run_of {M = M} mix env) before ∙ sym (world-traced_of M mix env events) in
+        let plan : planned_in r.world.core c ≡ Some did.op =
+        subst (λ (w : World M). planned_in w.core c ≡ Some did.op) world recorded.plan in
+        let found : old_of r.world.core.words did.op ≡ did.old =
+        subst (λ (w : World M). old_of w.core.words did.op ≡ did.old) world recorded.found in
+        let is_step : event ≡ Step c =
+        let here : Some event ≡ Some (Step c) =
+        sym (slice_get-push_last events event) ∙ ap (slice_get more) (sym last) ∙ recorded.event in cc in
+        let busy = busy-call events c did.op plan in
+        let index : r.count ≡ did.index = count-traced_of M mix env events ∙ sym last in
+        let made : ◌≡◌ {A = Did} (record { index = r.count; op = did.op; old = old_of r.world.core.words did.op }) did =
+        (λ i. record { index = index i; op = did.op; old = found i }) in
+        let next = local_after mix (local_of r.world.core c) (old_of r.world.core.words did.op) in
+        let stepped : traces_after mix r event c ≡ trace_did (Some busy.0) did (ending_of next.0 next.1) (r.traces c) =
+        ap (λ (e : Event). traces_after mix r e c) is_step ∙ trace_step_self M mix r c did.op plan
+        ∙ ap (λ (o : Option Call). trace_did o (record { index = r.count; op = did.op; old = old_of r.world.core.words did.op }) (ending_of next.0 next.1) (r.traces c)) busy.1
+        ∙ ap (λ (d : Did). trace_did (Some busy.0) d (ending_of next.0 next.1) (r.traces c)) made in
+        let number : length (r.traces c).past ≡ calls_ended M mix env (take did.index more) c =
+        sym (length-map (r.traces c).past (λ (past : Past). past.done)) ∙ ap length (traces_of_books M mix env events c).past
+        ∙ ap (λ (w : World M). length (w.books c).finished) (sym world) in
+        subst (λ (t : Trace). IsStepOf t (calls_ended M mix env (take did.index more) c) did) (sym stepped)
+        (subst (λ n. IsStepOf (trace_did (Some busy.0) did (ending_of next.0 next.1) (r.traces c)) n did) number
+        (newest-in (r.traces c) did busy.0 (ending_of next.0 next.1)))
+
+  all_stand : (events : List Event) → AllStand events
+  all_stand =
+      induct_by_last AllStand (λ c did recorded. let none = recorded.event in absurd (cc))
+      (λ events event each c did recorded.
+      let within = slice_get_within (events ++ event ∷ []) did.index (Step c) recorded.event in
+      let longer = length_push events event in
+      let stands : IsStepOf (traces_after mix (R events) event c) (calls_ended M mix env (take did.index (events ++ event ∷ [])) c) did =
+      elim (cases_eq did.index (length events)) [
+        | inl last ↦ newest events event c did recorded last
+        | inr less ↦ older events event c did recorded each (omega (arith, within, longer, less))
+      ] in
+      subst (λ (r : Traced M). IsStepOf (r.traces c) (calls_ended M mix env (take did.index (events ++ event ∷ [])) c) did)
+      (sym (traced_of-push M mix env events event)) stands)
+
+-- ---- no operation stands in two calls
+
+-- rising numbers may begin lower
+IsRising-lower : (from later : ℕ) (steps : List Did) → from ≤ later → IsRising later steps → IsRising from steps
+IsRising-lower from later [] lower rising = tt
+IsRising-lower from later (did ∷ steps) lower rising = (omega (arith, lower, rising.0), rising.1)
+
+behind_steps-lower : (from later : ℕ) (steps : List Did) → from ≤ later
+    → behind_steps from steps ≤ behind_steps later steps
+behind_steps-lower from later [] lower = lower
+behind_steps-lower from later (did ∷ steps) lower = omega arith
+
+-- they lie from where they begin up to the one behind them
+from-behind : (from : ℕ) (steps : List Did) → IsRising from steps → from ≤ behind_steps from steps
+from-behind from [] rising = omega arith
+from-behind from (did ∷ steps) rising = omega (arith, rising.0, from-behind (did.index + 1) steps rising.1)
+
+rising-within : (from : ℕ) (steps : List Did) → IsRising from steps
+    → AllByRecursion (λ did. (from ≤ did.index) × (did.index < behind_steps from steps)) steps
+rising-within from [] rising = tt
+rising-within from (did ∷ steps) rising =
+    let behind = behind_steps (did.index + 1) steps in
+    let here = from-behind (did.index + 1) steps rising.1 in (
+      (rising.0, omega (arith, here)),
+      AllByRecursion-weaker (λ (d : Did). (did.index + 1 ≤ d.index) × (d.index < behind)) (λ (d : Did). (from ≤ d.index) × (d.index < behind))
+          (λ d within. (omega (arith, rising.0, within.0), within.1)) steps (rising-within (did.index + 1) steps rising.1),
+    )
+
+-- each list begins behind the one before
+abbrev AreRisingLists : ℕ → List (List Did) → Type 0
+AreRisingLists from [] = Unit {0}
+AreRisingLists from (steps ∷ lists) = IsRising from steps × AreRisingLists (behind_steps from steps) lists
+
+AreRisingLists-lower : (from later : ℕ) (lists : List (List Did)) → from ≤ later → AreRisingLists later lists
+    → AreRisingLists from lists
+AreRisingLists-lower from later [] lower rising = tt
+AreRisingLists-lower from later (steps ∷ lists) lower rising = (
+  IsRising-lower from later steps lower rising.0,
+  AreRisingLists-lower (behind_steps from steps) (behind_steps later steps) lists (behind_steps-lower from later steps lower) rising.1,
+)
+
+-- an operation of the first list lies within it
+in_first : (from : ℕ) (steps : List Did) (lists : List (List Did)) (did : Did) → IsRising from steps
+    → IsIn (steps ∷ lists) 0 did
+    → (from ≤ did.index) × (did.index < behind_steps from steps)
+in_first from steps lists did rising is =
+    let same : is.steps ≡ steps = sym (cc) in
+    let P = λ (d : Did). (from ≤ d.index) × (d.index < behind_steps from steps) in
+    All-contains P steps did (All-from_recursion P steps (rising-within from steps rising))
+    (subst (λ (s : List Did). Contains s did) same is.stands)
+
+in_rest : (steps : List Did) (lists : List (List Did)) (number : ℕ) (did : Did) → IsIn (steps ∷ lists) (suc number) did
+    → IsIn lists number did
+in_rest steps lists number did is = record { steps = is.steps; call = is.call; stands = is.stands }
+
+at_least : (from : ℕ) (lists : List (List Did)) (number : ℕ) (did : Did) → AreRisingLists from lists
+    → IsIn lists number did
+    → from ≤ did.index
+at_least from [] number did rising is = let none = is.call in absurd (cc)
+at_least from (steps ∷ lists) zero did rising is = (in_first from steps lists did rising.0 is).0
+at_least from (steps ∷ lists) (suc number) did rising is =
+    let behind = at_least (behind_steps from steps) lists number did rising.1 (in_rest steps lists number did is) in
+    omega (arith, behind, from-behind from steps rising.0)
+
+-- so no operation is in two of them
+in_one : (from : ℕ) (lists : List (List Did)) (one other : ℕ) (did : Did) → AreRisingLists from lists
+    → IsIn lists one did → IsIn lists other did
+    → other ≡ one
+in_one from [] one other did rising here there = let none = here.call in absurd (cc)
+in_one from (steps ∷ lists) zero zero did rising here there = refl
+in_one from (steps ∷ lists) zero (suc other) did rising here there =
+    let first = in_first from steps lists did rising.0 here in
+    let later = at_least (behind_steps from steps) lists other did rising.1 (in_rest steps lists other did there) in
+    absurd (omega (arith, first.1, later))
+in_one from (steps ∷ lists) (suc one) zero did rising here there =
+    let first = in_first from steps lists did rising.0 there in
+    let later = at_least (behind_steps from steps) lists one did rising.1 (in_rest steps lists one did here) in
+    absurd (omega (arith, first.1, later))
+in_one from (steps ∷ lists) (suc one) (suc other) did rising here there =
+    ap (λ n. suc n)
+    (in_one (behind_steps from steps) lists one other did rising.1 (in_rest steps lists one did here) (in_rest steps lists other did there))
+
+-- calls that come one behind the other have such lists
+calls-rising : (from : ℕ) (calls : List Past) (last : List Did) → AreInOrder from calls
+    → IsRising (behind_calls from calls) last
+    → AreRisingLists from (map (λ past. past.steps) calls ++ last ∷ [])
+calls-rising from [] last order rising = (rising, tt)
+calls-rising from (past ∷ calls) last order rising =
+    let lower : from ≤ past.begin + 1 = omega (arith, order.0) in (
+      IsRising-lower from (past.begin + 1) past.steps lower order.1,
+      AreRisingLists-lower (behind_steps from past.steps) (behind_call past) (map (λ past. past.steps) calls ++ last ∷ [])
+          (behind_steps-lower from (past.begin + 1) past.steps lower) (calls-rising (behind_call past) calls last order.2 rising),
+    )
+
+module _ (M : Type 0) (mix : ℕ → ℕ → ℕ → ℕ) (env : Env) (events : List Event) (c : ℕ)
+    (admitted : IsAdmitted env.config.kind events) where
+  abbrev trace : Trace
+  trace = (traced_of {M = M} mix env events).traces c
+
+  abbrev book : Book
+  book = (traced_of {M = M} mix env events).world.books c
+
+  -- the operations of the call in progress come behind those of the past ones
+  last-rising : (job : Option Job) → IsAtJob M mix env (Holds M mix env) (Answered M mix env) job book trace.steps
+      → IsRising (behind_calls 0 trace.past) trace.steps
+  last-rising None at =
+      let none = nil_from_length trace.steps ((traces_of_books M mix env events c).steps ∙ at.steps) in
+      subst (IsRising (behind_calls 0 trace.past)) (sym none) tt
+  last-rising (Some job) at =
+      let progress = subst (λ (o : Option Call). IfSome o (IsInProgress events c trace)) at.call (at_events M mix env events admitted c).progress in
+      IsRising-lower (behind_calls 0 trace.past) (trace.begin + 1) trace.steps (omega (arith, progress.behind)) progress.rising
+
+  all-rising : AreRisingLists 0 (steps_by_call trace)
+  all-rising =
+      calls-rising 0 trace.past trace.steps (at_events M mix env events admitted c).in_order
+      (last-rising _ (runs-right M mix env events c).now)
+
+pub all_steps_traced : (M : Type 0) (mix : ℕ → ℕ → ℕ → ℕ) → AllStepsTraced M mix
+all_steps_traced M mix env events c did admitted recorded =
+    let there = all_stand M mix env events c did recorded in
+    record {
+      there = there;
+      only = λ other is.
+          in_one 0 (steps_by_call ((traced_of {M = M} mix env events).traces c)) _ other did (all-rising M mix env events c admitted)
+          (record { steps = there.steps; call = there.call; stands = there.stands })
+          (record { steps = is.steps; call = is.call; stands = is.stands });
+    }

@@ -1,0 +1,304 @@
+-- What is kept of each caller's calls holds of every caller in every run: something of each call that has ended, and
+-- something of the operations so far of the one in progress.
+--
+-- It is enough to look at jobs, one operation at a time. A call begins as its first job with no operations; an operation
+-- leads to one more of them, and where it ends the call, to what is kept of an ended one. What callers keep besides is
+-- shown here once for all: that the call of a book is that of the job, and what the rooms have.
+use Rattle.std.proofs.Common.{◌≡◌, ℕ, Bool, true, false, cond, List, [], ◌∷◌, ◌++◌, length, refl, sym, ap, ◌∙◌, subst}
+use Rattle.std.specs.Prelude.{Option, Some, None}
+use Rattle.std.specs.List.{AllByRecursion, last_or}
+use Rattle.rht_words.specs.declared.env.Env.{Env}
+use Rattle.rht_words.specs.declared.config.Kind.{Kind}
+use Rattle.rht_words.specs.declared.config.Kind.TheVariants.{Single, Listed}
+use Rattle.rht_words.specs.declared.machine.Next.{Next}
+use Rattle.rht_words.specs.declared.machine.Next.TheVariants.{Go, Done}
+use Rattle.rht_words.specs.Operations.{old_of}
+use Rattle.rht_words.specs.Places.{words_in}
+use Rattle.rht_words.proofs.EachElement.{AllByRecursion-push, last_or-push}
+use Rattle.rht_model.specs.declared.history.Call.{Call}
+use Rattle.rht_model.specs.declared.history.Call.TheVariants.{Bind, Find}
+use Rattle.rht_model.specs.declared.history.Reply.{Reply}
+use Rattle.rht_model.specs.Endings.{Ending, ended_with, ending_in, plain_ending}
+use Rattle.rht_find.specs.Find as find
+use Rattle.rht_find.specs.declared.find.FindAt.{FindAt}
+use Rattle.rht_find.specs.declared.find.FindAt.TheVariants.{CurrentTable}
+use Rattle.rht_bind.specs.Bind as bind
+use Rattle.rht_bind.specs.declared.bind.BindAt.{BindAt}
+use Rattle.rht_core.specs.declared.event.Event.{Event}
+use Rattle.rht_core.specs.declared.book.Book.{Book}
+use Rattle.rht_core.specs.declared.local.Local.{Local}
+use Rattle.rht_core.specs.declared.local.Doing.{Doing}
+use Rattle.rht_core.specs.Locals.{is_idle, machine_of, local_after, ending_of}
+use Rattle.rht_core.specs.Jobs.{Job, finds, binds, call_of, first_bind, first_job, job_plan, finds_next, binds_next, job_after, job_of, told}
+use Rattle.rht_core.specs.Runs.{Seen, seen, book_begun, book_after, finished_with}
+use Rattle.rht_core.specs.Traces.{Did, Past, Trace, Traced, trace_begun, trace_did, traced_of}
+use Rattle.rht_core.specs.Replies.{IsBookOfIdle, owners_with, pairs_with, HasLists}
+use Rattle.rht_core.specs.Laws.{seen_begin, seen_step}
+use Rattle.rht_words.specs.Machines.{GoesOrEnds}
+use Rattle.rht_core.proofs.Ghosts.{Ghost}
+use Rattle.rht_core.proofs.Wholes.{Whole}
+use Rattle.rht_core.proofs.Steps.{mem}
+use Rattle.rht_core.proofs.JobsOfCallers.{JobKnows, is_no_job, has_ended, HasNoLists, same_call, left-told, nothing-job, first_job-machine, plan-job, knows-job, local_after-job}
+use Rattle.rht_core.proofs.TracedCallers.{IsMade, IsKeptTraced, traced_callers_keep}
+
+-- ---- the calls of a book
+
+-- the call that has just ended is the last one
+last_or-ended : (book : Book) (call : Call) (ending : Ending) → book.call ≡ Some call
+    → last_or None (book_after (Some ending) book).finished ≡ Some (ended_with call ending)
+last_or-ended book call ending is =
+    ap (λ (o : Option Call). last_or None (book.finished ++ finished_with o ending)) is
+    ∙ last_or-push None book.finished (ended_with call ending)
+
+-- ---- the rooms
+
+-- whether there is a reply
+abbrev has_reply : Option Reply → Bool
+has_reply None = false
+has_reply (Some reply) = true
+
+module _ {M : Type 0} where
+  -- whoever has a reply has ended a call
+  ended-replied : (local : Local M) (reply : Option Reply) → has_ended (ending_of local reply) ≡ has_reply reply
+  ended-replied local None = refl
+  ended-replied local (Some reply) = refl
+
+  -- a caller in a call has empty rooms
+  busy-none : (local : Local M) (book : Book) → is_idle local ≡ false → HasLists local book → HasNoLists local
+  busy-none local book busy lists = record {
+    owners = lists.owners ∙ ap (λ b. cond b (owners_with (last_or None book.finished)) []) busy;
+    pairs = lists.pairs ∙ ap (λ b. cond b (pairs_with (last_or None book.finished)) []) busy;
+  }
+
+  none-lists : (local : Local M) (book : Book) → is_idle local ≡ false → HasNoLists local → HasLists local book
+  none-lists local book busy none = record {
+    owners = none.owners ∙ ap (λ b. cond b (owners_with (last_or None book.finished)) []) (sym busy);
+    pairs = none.pairs ∙ ap (λ b. cond b (pairs_with (last_or None book.finished)) []) (sym busy);
+  }
+
+  -- a caller whose call goes on has empty rooms, and one whose call has ended has the lists that came with it
+  lists-after : (local : Local M) (reply : Option Reply) (book : Book) (call : Call) → book.call ≡ Some call
+      → is_idle local ≡ has_reply reply → HasNoLists local
+      → HasLists local (book_after (ending_of local reply) book)
+  lists-after local None book call is idle none = none-lists local _ idle none
+  lists-after local (Some reply) book call is idle none =
+      let ending : Ending = record {
+        answer = record { reply = reply; owners = local.owners.items };
+        pairs = local.pairs.items;
+      } in
+      let last = sym (last_or-ended book call ending is) in
+      let after = (book_after (Some ending) book).finished in
+      record {
+        owners = ap owners_with last ∙ ap (λ b. cond b (owners_with (last_or None after)) []) (sym idle);
+        pairs = ap pairs_with last ∙ ap (λ b. cond b (pairs_with (last_or None after)) []) (sym idle);
+      }
+
+-- ---- what is kept of calls
+
+-- `Now` says what is kept of the operations of a call in progress, by its job, and `Ended` what is kept of those of a call
+-- that has ended
+module _ (M : Type 0) (mix : ℕ → ℕ → ℕ → ℕ) (env : Env) (Now : Job → List Did → Type 0)
+    (Ended : Call → Ending → List Did → Type 0)
+  where
+    -- a job performs this operation, in words of which its caller knows what its state says
+    pub record Performs (job : Job) (did : Did) : Type 0 where
+      pub planned : did.op ≡ job_plan env job
+      pub caller : ℕ
+      pub words : List ℕ
+      pub ghost : Ghost
+      pub all : length words ≡ words_in env.geometry
+      pub whole : Whole env mix (mem env mix words) ghost
+      pub knows : JobKnows env mix caller job (mem env mix words) ghost
+      pub found : did.old ≡ old_of words did.op
+
+    -- what a job's operation leads to, which is the last of these
+    abbrev pub LeadsOn : Job → List Did → Job × Next Ending → Type 0
+    LeadsOn job all next = GoesOrEnds (λ after. Now after all) (λ ending. Ended (call_of job) ending all) next
+
+    -- what has to be shown of jobs; no job turns into one of another call
+    pub record JobsKeep : Type 0 where
+      pub begins : (call : Call) (job : Job) → first_job env call ≡ Some job → Now job []
+      pub goes : (job : Job) (steps : List Did) (did : Did) → Performs job did → Now job steps
+          → LeadsOn job (steps ++ did ∷ []) (job_after mix env job did.old)
+
+    -- what holds of a call that has ended
+    abbrev pub IsEndedSo : Past → Type 0
+    IsEndedSo past = Ended past.done.call (ending_in past.done) past.steps
+
+    -- the job does the call of the book, and what is kept of its operations holds
+    pub record IsAtWork (job : Job) (book : Book) (steps : List Did) : Type 0 where
+      pub call : book.call ≡ Some (call_of job)
+      pub now : Now job steps
+
+    -- the call in progress is the job's, and in no call there is none
+    abbrev pub IsAtJob : Option Job → Book → List Did → Type 0
+    IsAtJob None book steps = IsBookOfIdle book
+    IsAtJob (Some job) book steps = IsAtWork job book steps
+
+    -- what a caller keeps
+    pub record IsKeeping (here : Seen M) (trace : Trace) : Type 0 where
+      pub past : AllByRecursion IsEndedSo trace.past
+      pub now : IsAtJob (job_of here.local.doing) here.book trace.steps
+      pub lists : HasLists here.local here.book
+
+    -- ---- the beginning of a call
+
+    module _ (keep : JobsKeep) where
+      begins-keeping : (c : ℕ) (call : Call) (machine : Doing M) (index : ℕ) (here : Seen M) (trace : Trace)
+          → machine_of env c call ≡ Some machine → IsKeeping here trace
+          → IsKeeping (seen_begin call machine here) (trace_begun index trace)
+      begins-keeping c call machine index here trace is keeping =
+          let first = first_job-machine env c call machine is in
+          let busy = nothing-job machine ∙ ap is_no_job first.does in
+          record {
+            past = keeping.past;
+            now =
+                subst (λ (job : Option Job). IsAtJob job (book_begun call here.book) []) (sym first.does)
+                record { call = ap Some (sym first.asked); now = keep.begins call first.job first.first };
+            lists = none-lists _ (book_begun call here.book) busy record { owners = refl; pairs = refl };
+          }
+
+      -- ---- an operation of a job
+
+      -- what is kept once the job goes on, and once its call has ended
+      record IsKeptBy (book : Book) (trace : Trace) (did : Did) (left : Option Job × Option Ending) : Type 0 where
+        past : AllByRecursion IsEndedSo (trace_did book.call did left.1 trace).past
+        now : IsAtJob left.0 (book_after left.1 book) (trace_did book.call did left.1 trace).steps
+
+      told-kept : (book : Book) (trace : Trace) (did : Did) (job : Job) (next : Job × Next Ending)
+          → call_of next.0 ≡ call_of job
+          → book.call ≡ Some (call_of job)
+          → AllByRecursion IsEndedSo trace.past
+          → LeadsOn job (trace.steps ++ did ∷ []) next → IsKeptBy book trace did (told next)
+      told-kept book trace did job (after, Go) same is past leads =
+          record { past = past; now = record { call = is ∙ ap Some (sym same); now = leads } }
+      told-kept book trace did job (after, Done ending) same is past leads =
+          let done : Past = record {
+            done = ended_with (call_of job) ending;
+            begin = trace.begin;
+            steps = trace.steps ++ did ∷ [];
+          } in
+          record {
+            past =
+                subst (λ (o : Option Call). AllByRecursion IsEndedSo (trace_did o did (Some ending) trace).past) (sym is)
+                (AllByRecursion-push IsEndedSo trace.past done past leads);
+            now = record { call = refl; steps = refl };
+          }
+
+      steps-keeping : (events : List Event) (c : ℕ) (did : Did) (here : Seen M) (trace : Trace)
+          → IsMade M mix env events c here.local did → IsKeeping here trace
+          → let next = local_after mix here.local did.old in
+          IsKeeping (seen_step mix did.old here) (trace_did here.book.call did (ending_of next.0 next.1) trace)
+      steps-keeping events c did here trace made keeping =
+          let next = local_after mix here.local did.old in
+          let planning = plan-job env here.local.doing did.op made.of made.plan in
+          let job = planning.job in
+          let busy = nothing-job here.local.doing ∙ ap is_no_job planning.does in
+          let none = busy-none here.local here.book busy keeping.lists in
+          let work : IsAtWork job here.book trace.steps =
+          subst (λ (j : Option Job). IsAtJob j here.book trace.steps) planning.does keeping.now in
+          let leads = keep.goes job trace.steps did
+          record {
+            planned = planning.plan;
+            caller = c;
+            words = made.known.words;
+            ghost = made.known.ghost;
+            all = made.known.all;
+            whole = made.known.whole;
+            knows = knows-job env mix c here.local.doing job _ _ planning.does made.known.knows;
+            found = made.known.found;
+          }
+          work.now in
+          let after = job_after mix env job did.old in
+          let left = local_after-job mix env here.local job did.old none made.of planning.does in
+          let kept =
+          subst (IsKeptBy here.book trace did) (sym left)
+          (told-kept here.book trace did job after (same_call mix env job did.old) work.call keeping.past leads) in
+          let idle : is_idle next.0 ≡ has_reply next.1 =
+          nothing-job next.0.doing ∙ ap (λ l. is_no_job l.0) left ∙ left-told after ∙ ap (λ l. has_ended l.1) (sym left)
+          ∙ ended-replied next.0 next.1 in
+          record {
+            past = kept.past;
+            now = kept.now;
+            lists =
+                lists-after next.0 next.1 here.book (call_of job) work.call idle
+                record { owners = none.owners; pairs = none.pairs };
+          }
+
+      -- ---- runs
+
+      keeps : IsKeptTraced M mix env (λ events c. IsKeeping)
+      keeps = record {
+        opens = λ c. record {
+          past = tt;
+          now = record { call = refl; steps = refl };
+          lists = record { owners = refl; pairs = refl };
+        };
+        stays = λ events event c here trace keeping. keeping;
+        begins = λ events c call machine index here trace now idle is. begins-keeping c call machine index here trace is;
+        steps = steps-keeping;
+      }
+
+      -- so what jobs keep holds of the calls of every caller in every run
+      pub jobs_keep : (events : List Event) (c : ℕ)
+          → let r : Traced M = traced_of mix env events in IsKeeping (seen r.world c) (r.traces c)
+      jobs_keep = traced_callers_keep M mix env (λ events c. IsKeeping) keeps
+
+    -- ---- machine by machine
+
+    -- the same, asked of each machine
+    pub record MachinesKeep : Type 0 where
+      pub find_begins : (port : ℕ) → Now (finds port CurrentTable) []
+      pub bind_begins : (port owner : ℕ) (once : Bool)
+          → Now (binds port owner once (bind.first_state env port owner)) []
+      pub find_goes : (port : ℕ) (state : FindAt) (steps : List Did) (did : Did) → Performs (finds port state) did
+          → Now (finds port state) steps
+          → let all = steps ++ did ∷ [] in
+          GoesOrEnds (λ next. Now (finds port next) all) (λ reply. Ended (Find port) (plain_ending reply) all) (find.after_at mix env port state did.old)
+      pub bind_goes : (port owner : ℕ) (once : Bool) (state : BindAt) (steps : List Did) (did : Did)
+          → Performs (binds port owner once state) did
+          → Now (binds port owner once state) steps
+          → let all = steps ++ did ∷ [] in
+          GoesOrEnds (λ next. Now (binds port owner once next) all) (λ reply. Ended (Bind port owner once) (plain_ending reply) all) (bind.after_at mix env port state did.old)
+
+    finds-leads : (port : ℕ) (all : List Did) (next : FindAt × Next Reply)
+        → GoesOrEnds (λ state. Now (finds port state) all) (λ reply. Ended (Find port) (plain_ending reply) all) next
+        → GoesOrEnds (λ after. Now after all) (λ ending. Ended (Find port) ending all) (finds_next port next)
+    finds-leads port all (state, Go) leads = leads
+    finds-leads port all (state, Done reply) leads = leads
+
+    binds-leads : (port owner : ℕ) (once : Bool) (all : List Did) (next : BindAt × Next Reply)
+        → GoesOrEnds (λ state. Now (binds port owner once state) all) (λ reply. Ended (Bind port owner once) (plain_ending reply) all) next
+        → GoesOrEnds (λ after. Now after all) (λ ending. Ended (Bind port owner once) ending all) (binds_next port owner once next)
+    binds-leads port owner once all (state, Go) leads = leads
+    binds-leads port owner once all (state, Done reply) leads = leads
+
+    module _ (keep : MachinesKeep) where
+      -- what holds of a first job that there is
+      abbrev IsFirstSo : Option Job → Type 0
+      IsFirstSo None = Unit {0}
+      IsFirstSo (Some job) = Now job []
+
+      first_bind-so : (port owner : ℕ) (once : Bool) (kind : Kind) → IsFirstSo (first_bind env port owner once kind)
+      first_bind-so port owner once Single = keep.bind_begins port owner once
+      first_bind-so port owner once Listed = tt
+
+      first_job-so : (call : Call) → IsFirstSo (first_job env call)
+      first_job-so (Find port) = keep.find_begins port
+      first_job-so (Bind port owner once) = first_bind-so port owner once env.config.kind
+      first_job-so _ = tt
+
+      job-goes : (job : Job) (steps : List Did) (did : Did) → Performs job did → Now job steps
+          → LeadsOn job (steps ++ did ∷ []) (job_after mix env job did.old)
+      job-goes (finds port state) steps did performs now =
+          finds-leads port (steps ++ did ∷ []) (find.after_at mix env port state did.old)
+          (keep.find_goes port state steps did performs now)
+      job-goes (binds port owner once state) steps did performs now =
+          binds-leads port owner once (steps ++ did ∷ []) (bind.after_at mix env port state did.old)
+          (keep.bind_goes port owner once state steps did performs now)
+
+      pub by_machines : JobsKeep
+      by_machines = record {
+        begins = λ call job is. subst IsFirstSo is (first_job-so call);
+        goes = job-goes;
+      }

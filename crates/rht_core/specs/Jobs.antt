@@ -1,0 +1,77 @@
+-- Jobs: what a caller does, said without its number, its table and the type of its mix. What is said of a caller by where
+-- its machine stands is said of its job, so that each machine is told apart from the others here and in few places else.
+use Rattle.std.specs.Prelude.{ℕ, Bool, Option, Some, None}
+use Rattle.rht_words.specs.declared.op.Op.{Op}
+use Rattle.rht_words.specs.declared.env.Env.{Env}
+use Rattle.rht_words.specs.declared.config.Kind.{Kind}
+use Rattle.rht_words.specs.declared.config.Kind.TheVariants.{Single, Listed}
+use Rattle.rht_words.specs.declared.machine.Next.{Next}
+use Rattle.rht_words.specs.declared.machine.Next.TheVariants.{Go, Done}
+use Rattle.rht_model.specs.declared.history.Call.{Call}
+use Rattle.rht_model.specs.declared.history.Call.TheVariants.{Bind, Find, All, Release, Rebind, Walk, Work, Tidy, Count}
+use Rattle.rht_model.specs.declared.history.Reply.{Reply}
+use Rattle.rht_model.specs.Endings.{Ending, plain_ending}
+use Rattle.rht_find.specs.Find as find
+use Rattle.rht_find.specs.declared.find.FindAt.{FindAt}
+use Rattle.rht_find.specs.declared.find.FindAt.TheVariants.{CurrentTable}
+use Rattle.rht_bind.specs.Bind as bind
+use Rattle.rht_bind.specs.declared.bind.BindAt.{BindAt}
+use Rattle.rht_core.specs.declared.local.Doing.{Doing}
+use Rattle.rht_core.specs.declared.local.Doing.TheVariants.{Idle, Finding, Binding}
+
+-- a look-up of a port, and a bind of a port to an owner, with the state in which it is
+pub data Job : Type 0 where
+  finds : (port : ℕ) (state : FindAt) → Job
+  binds : (port owner : ℕ) (once : Bool) (state : BindAt) → Job
+
+-- the call that it does
+abbrev pub call_of : Job → Call
+call_of (finds port state) = Find port
+call_of (binds port owner once state) = Bind port owner once
+
+-- the job with which a call begins; none for a call of which there is no machine yet
+abbrev pub first_bind : Env → ℕ → ℕ → Bool → Kind → Option Job
+first_bind env port owner once Single = Some (binds port owner once (bind.first_state env port owner))
+first_bind env port owner once Listed = None
+
+abbrev pub first_job : Env → Call → Option Job
+first_job env (Find port) = Some (finds port CurrentTable)
+first_job env (Bind port owner once) = first_bind env port owner once env.config.kind
+first_job env (All port) = None
+first_job env (Release port owner) = None
+first_job env (Rebind port owner new) = None
+first_job env (Walk from limit) = None
+first_job env Work = None
+first_job env Tidy = None
+first_job env Count = None
+
+-- the operation that it performs next
+abbrev pub job_plan : Env → Job → Op
+job_plan env (finds port state) = find.plan_at env state
+job_plan env (binds port owner once state) = bind.plan_at env state
+
+-- the job goes on in this state, or its call has ended with this reply and no list
+abbrev pub finds_next : ℕ → FindAt × Next Reply → Job × Next Ending
+finds_next port (state, Go) = (finds port state, Go)
+finds_next port (state, Done reply) = (finds port state, Done (plain_ending reply))
+
+abbrev pub binds_next : ℕ → ℕ → Bool → BindAt × Next Reply → Job × Next Ending
+binds_next port owner once (state, Go) = (binds port owner once state, Go)
+binds_next port owner once (state, Done reply) = (binds port owner once state, Done (plain_ending reply))
+
+-- what becomes of it after its operation found this value
+abbrev pub job_after : (ℕ → ℕ → ℕ → ℕ) → Env → Job → ℕ → Job × Next Ending
+job_after mix env (finds port state) old = finds_next port (find.after_at mix env port state old)
+job_after mix env (binds port owner once state) old =
+    binds_next port owner once (bind.after_at mix env port state old)
+
+-- the job of what a caller does
+abbrev pub job_of : {M : Type 0} → Doing M → Option Job
+job_of Idle = None
+job_of (Finding m) = Some (finds m.port m.at)
+job_of (Binding m) = Some (binds m.port m.owner m.once m.at)
+
+-- what is left of a job after an operation, and how its call has ended where it has
+abbrev pub told : Job × Next Ending → Option Job × Option Ending
+told (job, Go) = (Some job, None)
+told (job, Done ending) = (None, Some ending)

@@ -1,0 +1,149 @@
+-- What calls are answered, what a caller's book says of the call in progress, and what its rooms have.
+use Rattle.std.specs.Prelude.{◌≡◌, ℕ, if◌then◌else◌, Bool, true, List, [], length, Option, Some, None}
+use Rattle.std.specs.List.{AllByRecursion, last_or}
+use Rattle.rht_words.specs.declared.env.Env.{Env}
+use Rattle.rht_model.specs.declared.history.Call.{Call}
+use Rattle.rht_model.specs.declared.history.Call.TheVariants.{Bind, Find, All, Release, Rebind, Walk, Work, Tidy, Count}
+use Rattle.rht_model.specs.declared.history.Reply.{Reply}
+use Rattle.rht_model.specs.declared.history.Reply.TheVariants.{Bound, Exists, Found, Missing, Listed, Released, Absent, Rebound, TooBig, Again, Busy, NoTable, NoNode, Pending, Elsewhere, Walked, Moved, Clear, Counted}
+use Rattle.rht_model.specs.declared.history.Reply.TheVariants as replies
+use Rattle.rht_model.specs.declared.finished.Finished.{Finished}
+use Rattle.rht_find.specs.Find.{FindModel}
+use Rattle.rht_bind.specs.Bind.{BindModel}
+use Rattle.rht_core.specs.declared.book.Book.{Book}
+use Rattle.rht_core.specs.declared.local.Local.{Local}
+use Rattle.rht_core.specs.declared.local.Doing.{Doing}
+use Rattle.rht_core.specs.declared.local.Doing.TheVariants.{Idle, Finding, Binding}
+use Rattle.rht_core.specs.Locals.{is_idle}
+
+-- ---- the replies of each call
+
+-- a bind that isn't tried once alone never answers that it has to be made again
+abbrev pub IsBindReply : Bool → Reply → Type 0
+IsBindReply once (Bound kick) = Unit {0}
+IsBindReply once (Exists owner) = Unit {0}
+IsBindReply once (TooBig count) = Unit {0}
+IsBindReply once (Again table) = once ≡ true
+IsBindReply once (Busy root last) = Unit {0}
+IsBindReply once (NoTable size) = Unit {0}
+IsBindReply once NoNode = Unit {0}
+IsBindReply once _ = ⊥
+
+abbrev pub IsFindReply : Reply → Type 0
+IsFindReply (Found owner) = Unit {0}
+IsFindReply Missing = Unit {0}
+IsFindReply _ = ⊥
+
+abbrev pub IsAllReply : Reply → Type 0
+IsAllReply (Listed len) = Unit {0}
+IsAllReply _ = ⊥
+
+abbrev pub IsReleaseReply : Reply → Type 0
+IsReleaseReply (Released kick) = Unit {0}
+IsReleaseReply Absent = Unit {0}
+IsReleaseReply _ = ⊥
+
+abbrev pub IsRebindReply : Reply → Type 0
+IsRebindReply Rebound = Unit {0}
+IsRebindReply Absent = Unit {0}
+IsRebindReply NoNode = Unit {0}
+IsRebindReply _ = ⊥
+
+abbrev pub IsWalkReply : Reply → Type 0
+IsWalkReply (Walked len next) = Unit {0}
+IsWalkReply (Again table) = Unit {0}
+IsWalkReply _ = ⊥
+
+abbrev pub IsWorkReply : Reply → Type 0
+IsWorkReply (Moved again) = Unit {0}
+IsWorkReply replies.Idle = Unit {0}
+IsWorkReply (NoTable size) = Unit {0}
+IsWorkReply Elsewhere = Unit {0}
+IsWorkReply _ = ⊥
+
+abbrev pub IsTidyReply : Reply → Type 0
+IsTidyReply (Clear returned) = Unit {0}
+IsTidyReply (Pending caller section) = Unit {0}
+IsTidyReply _ = ⊥
+
+abbrev pub IsCountReply : Reply → Type 0
+IsCountReply (Counted count) = Unit {0}
+IsCountReply _ = ⊥
+
+-- the reply is one of those that the call may have; a call of which there is no machine yet never ends
+abbrev pub IsReplyTo : Call → Reply → Type 0
+IsReplyTo (Bind port owner once) reply = IsBindReply once reply
+IsReplyTo (Find port) reply = IsFindReply reply
+IsReplyTo (All port) reply = IsAllReply reply
+IsReplyTo (Release port owner) reply = IsReleaseReply reply
+IsReplyTo (Rebind port owner new) reply = IsRebindReply reply
+IsReplyTo (Walk from limit) reply = IsWalkReply reply
+IsReplyTo Work reply = IsWorkReply reply
+IsReplyTo Tidy reply = IsTidyReply reply
+IsReplyTo Count reply = IsCountReply reply
+
+-- ---- the lists beside them
+
+-- these owners come with the reply: as many as Listed says, and none with another one
+abbrev pub AreOwnersWith : Reply → List ℕ → Type 0
+AreOwnersWith (Listed len) owners = length owners ≡ len
+AreOwnersWith _ owners = owners ≡ []
+
+-- these pairs come with it: as many as Walked says, and none with another one
+abbrev pub ArePairsWith : Reply → List (ℕ × ℕ) → Type 0
+ArePairsWith (Walked len next) pairs = length pairs ≡ len
+ArePairsWith _ pairs = pairs ≡ []
+
+-- a call that has ended has a reply of its kind, and the lists that come with that
+pub record IsAnswered (done : Finished) : Type 0 where
+  pub reply : IsReplyTo done.call done.reply
+  pub owners : AreOwnersWith done.reply done.owners
+  pub pairs : ArePairsWith done.reply done.pairs
+
+-- ---- the call in progress
+
+-- in no call a caller has made no step
+pub record IsBookOfIdle (book : Book) : Type 0 where
+  pub call : book.call ≡ None
+  pub steps : book.steps ≡ 0
+
+-- the machine works at the call that is in progress, for this caller, in this table
+pub record IsBookOfFind (env : Env) (c : ℕ) (m : FindModel) (book : Book) : Type 0 where
+  pub same_env : m.env ≡ env
+  pub same_caller : m.caller ≡ c
+  pub call : book.call ≡ Some (Find m.port)
+
+pub record IsBookOfBind (env : Env) (c : ℕ) (m : BindModel) (book : Book) : Type 0 where
+  pub same_env : m.env ≡ env
+  pub same_caller : m.caller ≡ c
+  pub call : book.call ≡ Some (Bind m.port m.owner m.once)
+
+module _ {M : Type 0} where
+  -- what a caller does is what its book says
+  abbrev pub IsBookOf : Env → ℕ → Doing M → Book → Type 0
+  IsBookOf env c Idle book = IsBookOfIdle book
+  IsBookOf env c (Finding m) book = IsBookOfFind env c m book
+  IsBookOf env c (Binding m) book = IsBookOfBind env c m book
+
+-- ---- the rooms
+
+-- the owners that came with a call, and the pairs; none where there is no call
+abbrev pub owners_with : Option Finished → List ℕ
+owners_with None = []
+owners_with (Some done) = done.owners
+
+abbrev pub pairs_with : Option Finished → List (ℕ × ℕ)
+pairs_with None = []
+pairs_with (Some done) = done.pairs
+
+-- in no call a caller's rooms have the lists that came with its last finished call, and in a call they are empty
+pub record HasLists {M : Type 0} (local : Local M) (book : Book) : Type 0 where
+  pub owners : local.owners.items ≡ (if is_idle local then owners_with (last_or None book.finished) else [])
+  pub pairs : local.pairs.items ≡ (if is_idle local then pairs_with (last_or None book.finished) else [])
+
+-- each call of a caller that has ended was answered, the one in progress is the one that it works at, and its rooms
+-- have the lists of the last one that has ended
+pub record AnswersIn {M : Type 0} (env : Env) (c : ℕ) (local : Local M) (book : Book) : Type 0 where
+  pub finished : AllByRecursion IsAnswered book.finished
+  pub progress : IsBookOf env c local.doing book
+  pub lists : HasLists local book
