@@ -14,9 +14,10 @@ pub fn extends<M: Mix>()
 {}
 
 /// In every run all words and callers are there, and all that a caller's state names is the table's:
-/// its slots, nodes and buckets. So each operation that a caller plans is on one of the words, and
-/// never on that of the enrolled callers. A caller's rooms may have as many items as there are nodes.
-/// It says nothing of what stands in a word.
+/// its slots, nodes and buckets; and the words that it keeps have 64 bits. So each operation that a
+/// caller plans is on one of the words, never on that of the enrolled callers, and brings a word of 64
+/// bits. A caller's rooms may have as many items as there are nodes. It says nothing else of what
+/// stands in a word.
 pub fn in_range<M: Mix>()
     ensures { InRange M M.mix_of }
 {}
@@ -34,9 +35,8 @@ pub fn not_enrolled<M: Mix>()
     ensures { NotEnrolled M M.mix_of }
 {}
 
-/// In every run each word has 64 bits, where the table's seed has 32. So what holds of words of 64 bits
-/// holds of what a caller finds. It wants admitted events, whose ports and owners have 32 bits, and
-/// says no more of a word.
+/// In every run each word has 64 bits. So what holds of words of 64 bits holds of what a caller finds.
+/// It wants admitted events, whose ports and owners have 32 bits, and says no more of a word.
 pub fn words_fit<M: Mix>()
     ensures { WordsFit M M.mix_of }
 {}
