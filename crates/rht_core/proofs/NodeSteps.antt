@@ -56,7 +56,6 @@ module _ (key owner : ℕ) where
   new_own (news.Owner n) = with_key n
   new_own (news.ListLink n) = with_owner n
 
-
 module _ (env : Env) (mix : ℕ → ℕ → ℕ → ℕ) (c : ℕ) where
   -- the taking stands at a word or a node that there is
   abbrev pub IsTaking : TakeNodeModel → Type 0

@@ -88,7 +88,6 @@ module _ (env : Env) (mix : ℕ → ℕ → ℕ → ℕ) (port : ℕ) where
     pub shape_is : found.shape ≡ shape_word env mix
     pub place_is : found.place ≡ Some (place_at env mix (home env mix port))
 
-
 module _ (env : Env) (mix : ℕ → ℕ → ℕ → ℕ) (c : ℕ) (port : ℕ) (own : List Fact)
     (all_own : AllOwn env mix own) (within : home env mix port < 64 * env.geometry.pages) where
   abbrev j : ℕ
