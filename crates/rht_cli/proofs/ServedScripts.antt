@@ -5,7 +5,7 @@ use Rattle.std.proofs.Common.{◌≡◌, ℕ, Option, Result, Ok, Err, List, Mat
 use Rattle.std.specs.Prelude.{IfOk}
 use Rattle.std.specs.Io.KnownBytes.{IsAtEnd}
 use Rattle.std.specs.List.{AllByRecursion}
-use Rattle.rht_words.specs.declared.config.Config.{Config}
+use Rattle.rht_script.specs.declared.script.TableLine.{TableLine}
 use Rattle.rht_script.specs.Grammar.{Said, reading_of}
 use Rattle.rht_script.specs.CommandLines.{command_of}
 use Rattle.rht_script.proofs.ReadCommands.{call_holds, command_holds, reading_holds}
@@ -18,10 +18,10 @@ use Rattle.rht_cli.specs.Printed.{printed_of}
 use Rattle.rht_cli.specs.Pairs.{IsServed}
 use Rattle.rht_cli.specs.Printing.{IsServedCommand, Writes}
 
-served_each : (config : Config) (words : List (List ℕ))
-    → IfOk (command_of config.callers words) IsServedCommand
-served_each config =
-    command_holds IsServedCommand IsServed config.callers (λ worker call within served. served)
+served_each : (table : TableLine) (words : List (List ℕ))
+    → IfOk (command_of table words) IsServedCommand
+served_each table =
+    command_holds IsServedCommand IsServed table (λ worker call within served. served)
     (call_holds IsServed (λ port owner. tt) (λ port. tt) (λ port owner. tt))
 
 pub served-script : (bytes : List ℕ) (said : Said) → reading_of bytes ≡ Ok said

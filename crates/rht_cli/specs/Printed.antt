@@ -1,8 +1,7 @@
 -- The text that a script prints: a line for each reply, then the last bindings.
 use Rattle.std.specs.Prelude.{ℕ, false, Option, Some, None, List, [], ◌∷◌, ◌++◌, length}
 use Rattle.std.specs.List.{flat_map}
-use Rattle.rht_words.specs.Sizes.{starting_size}
-use Rattle.rht_words.specs.declared.config.Config.{Config}
+use Rattle.rht_words.specs.Sizes.{first_size}
 use Rattle.rht_words.specs.declared.config.Kind.TheVariants.{Single}
 use Rattle.rht_model.specs.declared.history.Call.{Call}
 use Rattle.rht_model.specs.declared.history.Call.TheVariants.{Bind}
@@ -42,15 +41,11 @@ bound_ports (command ∷ commands) = onto_bound command.1 (bound_ports commands)
 abbrev pub last_pairs : List (ℕ × Call) → List (ℕ × List ℕ)
 last_pairs commands = listing_of (bound_ports commands) (bindings_of unbound commands)
 
--- the size of the table, in buckets: that of the first table of the config
-abbrev pub table_size : Config → ℕ
-table_size config = starting_size config.hint config.min config.max
-
 -- the lines of the last bindings of a table of this size: a line for each port, and the last line
 abbrev pub bindings_text : ℕ → List (ℕ × List ℕ) → List ℕ
 bindings_text size pairs = flat_map port_line pairs ++ last_line size (length pairs)
 
--- the text of what a script says
+-- the text of what a script says; the size is that of the first table of its config
 abbrev pub printed_of : Said → List ℕ
 printed_of said =
-    replies_text unbound said.commands ++ bindings_text (table_size said.config) (last_pairs said.commands)
+    replies_text unbound said.commands ++ bindings_text (first_size said.config) (last_pairs said.commands)

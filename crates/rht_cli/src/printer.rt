@@ -5,13 +5,12 @@
 ghost use Rattle.std.specs.Prelude.{◌≡◌, ◌+◌, ◌^◌, ◌<◌, ◌≤◌, ◌++◌, [], length, OnOk};
 ghost use Rattle.std.specs.List.{AllByRecursion};
 ghost use Rattle.rht_words.specs.declared.config.Kind.TheVariants.{Single};
-ghost use Rattle.rht_words.specs.Settled.{IsSettled};
 ghost use Rattle.rht_model.specs.Multimap.{unbound};
 ghost use Rattle.rht_model.specs.Answers.{answer_of, bindings_after};
-ghost use Rattle.rht_script.specs.Sound.{IsSound};
+ghost use Rattle.rht_script.specs.Sound.{IsSoundScript};
 ghost use Rattle.rht_script.specs.Reading.{said_by};
 ghost use Rattle.rht_cli.specs.Pairs.{bindings_in, listed, IsRising, IsServed};
-ghost use Rattle.rht_cli.specs.Printed.{answer_line, replies_text, bindings_of, last_pairs, table_size, bindings_text, printed_of};
+ghost use Rattle.rht_cli.specs.Printed.{answer_line, replies_text, bindings_of, last_pairs, bindings_text, printed_of};
 ghost use Rattle.rht_cli.specs.Printing.{Prints, Writes, IsServedCommand};
 
 use crate::ending::Ending;
@@ -19,24 +18,16 @@ use crate::registry::Registry;
 use rht_io::Sink;
 use rht_model::Call;
 use rht_script::{Script, TextBuffer, add_closed, add_reply};
-use rht_words::{Config, starting_size};
 use std::alloc::Global;
 
-/// Prints a line for each reply, in the order of the commands, and then the last bindings.
+/// Prints a line for each reply, in the order of the commands, and then the last bindings. The
+/// registry has no size; that of the first table is printed.
 pub fn print<O: Sink>(alloc: Global, script: &Script, out: &mut O) -> Result<(), Ending>
-    requires sound { IsSound script.now }
+    requires sound { IsSoundScript script.now }
     requires served { AllByRecursion IsServedCommand script.now.commands.items }
     ensures { Writes O.held O.faults out.old out.new result (printed_of (said_by script.now)) }
 {
-    print_table(alloc, &script.commands, size_of(&script.config), out)
-}
-
-/// The size in buckets of the first table. The registry has none; it is printed as a table's is.
-fn size_of(config: &Config) -> u32
-    requires { IsSettled config.now }
-    ensures { result ≡ table_size config.now }
-{
-    starting_size(config.hint, config.min, config.max)
+    print_table(alloc, &script.commands, script.config.starting_size(), out)
 }
 
 /// Prints the replies of a table of this size, and then the last bindings.

@@ -14,8 +14,6 @@ pub mod ReadCommands
 pub mod ReadingLemmas
 -- the commands so far, before those still to be read
 pub mod CommandsSoFar
--- lists of pieces, by their places
-pub mod PlaceLemmas
 -- pieces of a text that are added one after another
 pub mod AddedPieces
 -- a list whose items are added one after another

@@ -14,8 +14,6 @@ pub mod Cursors
 pub mod Reading
 -- which scripts can be run
 pub mod Sound
--- what the slow program of the tests reads
-pub mod Places
 -- the text of replies and of last bindings
 pub mod Text
 -- what a step of writing text does

@@ -13,5 +13,5 @@ mod script;
 mod writer;
 
 pub use reader::{MOST_BYTES, read};
-pub use script::{ReadError, Sched, Script, ScriptFault};
+pub use script::{ReadError, Sched, Script, ScriptFault, TableLine};
 pub use writer::{TextBuffer, add_closed, add_reply, write_closed, write_fault, write_reply};
