@@ -12,6 +12,8 @@ pub mod LineLemmas
 pub mod ReadCommands
 -- the two ways to read bytes
 pub mod ReadingLemmas
+-- the first fault of an input, and the lines before it and behind it
+pub mod FirstFaults
 -- the commands so far, before those still to be read
 pub mod CommandsSoFar
 -- pieces of a text that are added one after another

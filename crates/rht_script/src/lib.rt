@@ -7,6 +7,7 @@
 #![tactic(auto)]
 
 mod cause;
+pub mod laws;
 mod options;
 mod reader;
 mod script;
