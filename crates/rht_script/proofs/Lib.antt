@@ -14,6 +14,8 @@ pub mod ReadCommands
 pub mod ReadingLemmas
 -- the first fault of an input, and the lines before it and behind it
 pub mod FirstFaults
+-- what is read follows from the words of the lines that aren't skipped
+pub mod Meanings
 -- the commands so far, before those still to be read
 pub mod CommandsSoFar
 -- pieces of a text that are added one after another
