@@ -16,6 +16,10 @@ pub mod ReadingLemmas
 pub mod FirstFaults
 -- what is read follows from the words of the lines that aren't skipped
 pub mod Meanings
+-- plain words, and numbers in decimal
+pub mod PlainWords
+-- what is spelled plainly is read back
+pub mod PlainScripts
 -- the commands so far, before those still to be read
 pub mod CommandsSoFar
 -- pieces of a text that are added one after another
