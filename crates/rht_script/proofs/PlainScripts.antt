@@ -1,7 +1,7 @@
 -- What is spelled plainly is read back. A plain line has the words that it was made of ("PlainWords"), so a command's line is read
 -- as the command, case by case of the verbs, and the table line as the config, option by option: each is set once, its number is
 -- within its limits, and the least size is rounded already. By induction over the commands, their lines are read as they.
-use Rattle.std.proofs.Common.{◌≡◌, ℕ, suc, ◌+◌, ◌*◌, ◌^◌, ◌<◌, ◌≤◌, ◌==◌, Bool, true, false, cond, Option, Some, None, Result, Ok, Err, List, [], ◌∷◌, ◌++◌, length, map, max, refl, sym, ap, ◌∙◌, subst, inl, inr, arith}
+use Rattle.std.proofs.Common.{◌≡◌, ℕ, suc, ◌+◌, ◌*◌, ◌^◌, ◌<◌, ◌≤◌, ◌==◌, Bool, true, false, cond, Option, Some, None, Result, Ok, Err, List, [], ◌∷◌, ◌++◌, length, map, max, unwrap_or, refl, sym, ap, ◌∙◌, subst, inl, inr, arith}
 use Rattle.std.specs.Prelude.{All, codes, decimal}
 use Rattle.std.specs.Char.{is_ascii_digit}
 use Rattle.std.specs.List.{AllByRecursion, list_all, flat_map}
@@ -151,6 +151,24 @@ options_from-step : (options : Options) (setting : Setting) (name value : List �
     → options_from options (name ∷ value ∷ words) ≡ options_from (with_setting options setting) words
 options_from-step options setting name value words is = rw is refl
 
+-- a config of these numbers
+made : Config → ℕ → ℕ → ℕ → ℕ → ℕ → Kind → Bool → Config
+made config nodes callers hint min max kind shrink = record config {
+  nodes = nodes;
+  callers = callers;
+  hint = hint;
+  min = min;
+  max = max;
+  kind = kind;
+  shrink = shrink;
+}
+
+-- a config is made of its own numbers
+made-same : (config : Config)
+    → made config config.nodes config.callers config.hint config.min config.max config.kind config.shrink ≡ config
+unfolding made
+made-same config = refl
+
 -- the options that the config's line sets
 abbrev options_said : Config → Option ℕ → Options
 options_said config hint = record {
@@ -178,7 +196,7 @@ module _ (config : Config) (sayable : IsSayableConfig config) where
         (set_hint config.hint (positive, sayable.settled.hint)))
   ]
 
-  pub options_from-plain : options_from no_options (codes "hash" ∷ hash_word config.hash
+  options_from-plain : options_from no_options (codes "hash" ∷ hash_word config.hash
       ∷ codes "min" ∷ decimal config.min ∷ codes "pages" ∷ decimal config.pages
       ∷ codes "seed" ∷ decimal config.seed ∷ codes "rewalks" ∷ decimal config.rewalks
       ∷ hint_words config.hint) ≡ Ok (options_said config hint_said)
@@ -189,3 +207,87 @@ module _ (config : Config) (sayable : IsSayableConfig config) where
       (rw (set_pages config.pages s.geometry.pages_within)
       (rw (set_seed config.seed (omega arith, s.seed))
       (rw (set_rewalks config.rewalks (omega arith, s.rewalks)) options_from-hint))))
+
+  hint_same : unwrap_or hint_said plain_config.hint ≡ config.hint
+  hint_same = elim (cases_Bool (config.hint == 0)) [
+    | inl none ↦ rw none (sym (eqb-true config.hint 0 none))
+    | inr some ↦ rw some refl
+  ]
+
+  min_same : rounded_min config.min ≡ config.min
+  min_same =
+      let least = sayable.settled.least in
+      ap (max 4) least.rounded ∙ omega (arith, least.within)
+
+  -- the options stand for the config
+  configured-said : configured (options_said config hint_said) ≡ config
+  unfolding configured made
+  configured-said =
+      let same : made config plain_config.nodes plain_config.callers (unwrap_or hint_said plain_config.hint) (rounded_min config.min) plain_config.max plain_config.kind plain_config.shrink
+          ≡ made config config.nodes config.callers config.hint config.min config.max config.kind config.shrink =
+      rw (hint_same, min_same, sayable.nodes, sayable.callers, sayable.max, sayable.kind, sayable.shrink) refl in
+      same ∙ made-same config
+
+  config_of-plain : config_of (options_said config hint_said) ≡ Ok config
+  unfolding config_of
+  config_of-plain =
+      let room : has_room config ≡ true = le-leb (first_size config) (page_words * config.pages) sayable.settled.starts in
+      rw (configured-said, room) refl
+
+  table_of-plain : table_of (table_words config) ≡ Ok (record { config = config; auto = true })
+  unfolding table_of
+  table_of-plain = rw (options_from-plain, config_of-plain) refl
+
+  -- the words of the table line are plain, and at most fourteen
+  hash_word-plain : (hash : Hash) → IsPlainWord (hash_word hash)
+  hash_word-plain Mix = record { some = refl; bytes = refl; short = omega arith }
+  hash_word-plain Low = record { some = refl; bytes = refl; short = omega arith }
+
+  hint_words-plain : AllByRecursion IsPlainWord (hint_words config.hint) × (length (hint_words config.hint) ≤ 2)
+  hint_words-plain = elim (cases_Bool (config.hint == 0)) [
+    | inl none ↦ rw none (tt, omega arith)
+    | inr some ↦
+        rw some
+        ((record { some = refl; bytes = refl; short = omega arith }, (IsPlainWord-decimal config.hint (omega (arith, sayable.settled.hint)), tt)), omega arith)
+  ]
+
+  table_words-plain : AllByRecursion IsPlainWord (table_words config) × (length (table_words config) ≤ 14)
+  table_words-plain =
+      let s = sayable.settled in
+      let hint = hint_words-plain in
+      let number = IsPlainWord-decimal in (
+        (record { some = refl; bytes = refl; short = omega arith },
+        (record { some = refl; bytes = refl; short = omega arith },
+        (record { some = refl; bytes = refl; short = omega arith }, (hash_word-plain config.hash,
+        (record { some = refl; bytes = refl; short = omega arith }, (number config.min (omega (arith, s.least.within)),
+        (record { some = refl; bytes = refl; short = omega arith }, (number config.pages (omega (arith, s.geometry.pages_within)),
+        (record { some = refl; bytes = refl; short = omega arith }, (number config.seed (omega (arith, s.seed)),
+        (record { some = refl; bytes = refl; short = omega arith }, (number config.rewalks (omega (arith, s.rewalks)),
+        hint.0)))))))))))),
+        omega (arith, hint.1),
+      )
+
+-- ---- the whole script
+
+-- what holds of all holds of each in turn
+by_recursion : {X : Type 0} (P : X → Type 0) (xs : List X) → All P xs → AllByRecursion P xs
+by_recursion P [] all = tt
+by_recursion P (x ∷ xs) all = (All-head P x xs all, by_recursion P xs (All-tail P x xs all))
+
+pub reads_back : ReadsBack
+unfolding plain_script
+reads_back config commands sayable each few short =
+    let table : TableLine = record { config = config; auto = true } in
+    let words = table_words config in
+    let plain = table_words-plain config sayable in
+    let behind = flat_map (λ command. plain_line (command_words command)) commands in
+    let callers : config.callers < 2 ^ 32 = omega (arith, sayable.settled.geometry.callers_within) in
+    let read : words_at 1 (spaced_words words) ≡ Ok words =
+    words_at-right 1 (spaced_words words) (omega arith) (omega (arith, length-spaced words plain.0, plain.1))
+    ∙ ap (λ (ws : List (List ℕ)). Ok ws) (words_of-spaced words plain.0) in
+    let commands_read =
+    commands_from-plain table callers 2 commands (by_recursion (IsSayableCommand config) commands each) (omega (arith, few)) in
+    reading_of-lines (plain_line words ++ behind) short
+    ∙ ap (said_from 1) (lines_of-plain words behind plain.0)
+    ∙ rw (read, table_of-plain config sayable)
+    (said_with-commands table 2 (lines_of behind) commands commands_read)
