@@ -1,17 +1,16 @@
 -- Where a line is at fault, reading stops there: it gives the same fault whatever lines come behind, and the lines before
 -- it have no fault of their own. By induction over the lines. A line that can't be read, or that is no table line or no command,
 -- is where reading stops. Any other line goes on to the lines behind it, and stops where they do.
-use Rattle.std.proofs.Common.{◌≡◌, ℕ, suc, ◌+◌, ◌-◌, ◌<◌, ◌≤◌, Bool, true, false, Result, Ok, Err, List, [], ◌∷◌, ◌++◌, length, take, drop, refl, sym, ap, ◌∙◌, subst, inl, inr, arith, length-append, append_assoc, take-append-drop}
+use Rattle.std.proofs.Common.{◌≡◌, ℕ, ◌+◌, ◌-◌, ◌<◌, ◌≤◌, true, false, Result, Ok, Err, List, [], ◌∷◌, ◌++◌, length, take, drop, refl, sym, ap, ◌∙◌, subst, inl, inr, arith, append_assoc, take-append-drop}
 use Rattle.std.specs.Prelude.{◌⊎◌, IsOk}
 use Rattle.std.proofs.Math.Seq.{take-append_seam, take-append-add}
 use Rattle.std.proofs.lemmas.Bool.{cases_Bool}
-use Rattle.rht_model.specs.declared.history.Call.{Call}
 use Rattle.rht_script.specs.declared.script.ScriptFault.{ScriptFault}
 use Rattle.rht_script.specs.declared.script.TableLine.{TableLine}
 use Rattle.rht_script.specs.declared.cause.Cause.{Cause}
 use Rattle.rht_script.specs.declared.cause.Cause.TheVariants.{NoTableLine}
 use Rattle.rht_script.specs.Spelling.{◌>>=◌, lines_of, is_skipped}
-use Rattle.rht_script.specs.Grammar.{most_bytes, at_line, fault_at, words_at, Said, said_of, commands_from, said_with, said_from, reading_of}
+use Rattle.rht_script.specs.Grammar.{most_bytes, at_line, fault_at, words_at, commands_from, said_with, said_from, reading_of}
 use Rattle.rht_script.specs.TableLines.{table_of}
 use Rattle.rht_script.specs.CommandLines.{command_of}
 use Rattle.rht_script.specs.Laws.{IsLineFault, IsFirstOfLines, HasNoLineFault, FaultsAreFirst}
@@ -97,26 +96,26 @@ module _ (table : TableLine) (fault : ScriptFault) where
         | inl wrong ↦ stops_here (commands_from number table) Goes number line lines fault
             (line-at_line number (words_at number line) fault wrong) (λ other. rw wrong refl) refl
         | inr read ↦ elim (cases_Bool (is_skipped read.0)) [
-            | inl skipped ↦
-                let onward = rw skipped at read.2 in
-                stops_later (commands_from number table) Goes (commands_from (number + 1) table) Onward number line lines fault
-                (λ other stop. rw (read.1, skipped) stop) (λ other go. rw (read.1, skipped) go)
-                (commands_stop (number + 1) lines onward)
-            | inr said ↦
-                let asked = rw said at read.2 in
-                elim (bind-err (at_line number (command_of table read.0)) _ fault asked) [
-                  | inl wrong ↦ stops_here (commands_from number table) Goes number line lines fault
-                      (line-at_line number (command_of table read.0) fault wrong) (λ other. rw (read.1, said, wrong) refl) refl
-                  | inr command ↦ elim (bind-err (commands_from (number + 1) table lines) _ fault command.2) [
-                      | inl later ↦
-                          stops_later (commands_from number table) Goes (commands_from (number + 1) table) Onward number line lines fault
-                          (λ other stop. rw (read.1, said, command.1, stop) refl)
-                          (λ other go. rw (read.1, said, command.1) (IsOk-bind (commands_from (number + 1) table other) _ go (λ commands. refl)))
-                          (commands_stop (number + 1) lines later)
-                      | inr commands ↦ absurd (let never = commands.2 in cc)
-                    ]
+          | inl skipped ↦
+              let onward = rw skipped at read.2 in
+              stops_later (commands_from number table) Goes (commands_from (number + 1) table) Onward number line lines fault
+              (λ other stop. rw (read.1, skipped) stop) (λ other go. rw (read.1, skipped) go)
+              (commands_stop (number + 1) lines onward)
+          | inr said ↦
+              let asked = rw said at read.2 in
+              elim (bind-err (at_line number (command_of table read.0)) _ fault asked) [
+                | inl wrong ↦ stops_here (commands_from number table) Goes number line lines fault
+                    (line-at_line number (command_of table read.0) fault wrong) (λ other. rw (read.1, said, wrong) refl) refl
+                | inr command ↦ elim (bind-err (commands_from (number + 1) table lines) _ fault command.2) [
+                  | inl later ↦
+                      stops_later (commands_from number table) Goes (commands_from (number + 1) table) Onward number line lines fault
+                      (λ other stop. rw (read.1, said, command.1, stop) refl)
+                      (λ other go. rw (read.1, said, command.1) (IsOk-bind (commands_from (number + 1) table other) _ go (λ commands. refl)))
+                      (commands_stop (number + 1) lines later)
+                  | inr commands ↦ absurd (let never = commands.2 in cc)
                 ]
-          ]
+              ]
+        ]
       ]
 
 -- ---- the whole script
@@ -162,19 +161,19 @@ module _ (fault : ScriptFault) where
         | inl wrong ↦ stops_here (said_from number) (HaveNoFault number) number line lines fault
             (line-at_line number (words_at number line) fault wrong) (λ other. rw wrong refl) (inr (at_end number))
         | inr read ↦ elim (cases_Bool (is_skipped read.0)) [
-            | inl skipped ↦
-                let onward = rw skipped at read.2 in
-                stops_later (said_from number) (HaveNoFault number) (said_from (number + 1)) (HaveNoFault (number + 1)) number line lines fault
-                (λ other stop. rw (read.1, skipped) stop) (λ other. onto_skipped number line other read.0 read.1 skipped)
-                (said_stops (number + 1) lines onward (omega (arith, within)))
-            | inr said ↦
-                let asked = rw said at read.2 in
-                elim (bind-err (at_line number (table_of read.0)) _ fault asked) [
-                  | inl wrong ↦ stops_here (said_from number) (HaveNoFault number) number line lines fault
-                      (line-at_line number (table_of read.0) fault wrong) (λ other. rw (read.1, said, wrong) refl) (inr (at_end number))
-                  | inr table ↦ said_stops-table number line lines read.0 table.0 read.1 said table.1 table.2
-                ]
-          ]
+          | inl skipped ↦
+              let onward = rw skipped at read.2 in
+              stops_later (said_from number) (HaveNoFault number) (said_from (number + 1)) (HaveNoFault (number + 1)) number line lines fault
+              (λ other stop. rw (read.1, skipped) stop) (λ other. onto_skipped number line other read.0 read.1 skipped)
+              (said_stops (number + 1) lines onward (omega (arith, within)))
+          | inr said ↦
+              let asked = rw said at read.2 in
+              elim (bind-err (at_line number (table_of read.0)) _ fault asked) [
+                | inl wrong ↦ stops_here (said_from number) (HaveNoFault number) number line lines fault
+                    (line-at_line number (table_of read.0) fault wrong) (λ other. rw (read.1, said, wrong) refl) (inr (at_end number))
+                | inr table ↦ said_stops-table number line lines read.0 table.0 read.1 said table.1 table.2
+              ]
+        ]
       ]
     where
       at_end : (n : ℕ) → said_from n [] ≡ Err (fault_at (n + 0) NoTableLine)

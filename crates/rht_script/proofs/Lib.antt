@@ -20,6 +20,8 @@ pub mod Meanings
 pub mod PlainWords
 -- what is spelled plainly is read back
 pub mod PlainScripts
+-- inputs, and what the definitions give for them
+pub mod WorkedInputs
 -- the commands so far, before those still to be read
 pub mod CommandsSoFar
 -- pieces of a text that are added one after another

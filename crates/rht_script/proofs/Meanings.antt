@@ -1,7 +1,7 @@
 -- Within the bounds no line is one too many, and none is too long. So what is read follows from the words of the lines that are not
 -- skipped: it is read from these words alone, in which no line has a number. By induction over the lines, for commands
 -- first: a line that is skipped leaves both as they are, and any other is read from its words on either side.
-use Rattle.std.proofs.Common.{◌≡◌, ℕ, suc, ◌+◌, ◌≤◌, Bool, true, false, not, Result, Ok, Err, List, [], ◌∷◌, length, refl, sym, ap, ◌∙◌, inl, inr, arith}
+use Rattle.std.proofs.Common.{◌≡◌, ℕ, ◌+◌, ◌≤◌, not, Result, Ok, Err, List, [], ◌∷◌, length, refl, sym, ap, ◌∙◌, inl, inr, arith}
 use Rattle.std.specs.Prelude.{All, map, filter}
 use Rattle.std.proofs.lemmas.Bool.{cases_Bool}
 use Rattle.std.proofs.lemmas.List.Elements.{All-head, All-tail}
@@ -11,7 +11,7 @@ use Rattle.rht_script.specs.declared.script.TableLine.{TableLine}
 use Rattle.rht_script.specs.declared.cause.Cause.{Cause}
 use Rattle.rht_script.specs.declared.cause.Cause.TheVariants.{NoTableLine}
 use Rattle.rht_script.specs.Spelling.{◌>>=◌, lines_of, words_of, is_skipped}
-use Rattle.rht_script.specs.Grammar.{most_bytes, most_lines, most_in_line, code_of, at_line, fault_at, words_at, Said, said_of, commands_from, said_with, said_from, reading_of}
+use Rattle.rht_script.specs.Grammar.{most_lines, most_in_line, code_of, at_line, words_at, Said, said_of, commands_from, said_from, reading_of}
 use Rattle.rht_script.specs.TableLines.{table_of}
 use Rattle.rht_script.specs.CommandLines.{command_of}
 use Rattle.rht_script.specs.Laws.{IsWithinBounds, words_said, meaning_of, WordsDecide}

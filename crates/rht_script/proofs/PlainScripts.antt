@@ -1,10 +1,9 @@
 -- What is spelled plainly is read back. A plain line has the words that it was made of ("PlainWords"), so a command's line is read
 -- as the command, case by case of the verbs, and the table line as the config, option by option: each is set once, its number is
 -- within its limits, and the least size is rounded already. By induction over the commands, their lines are read as they.
-use Rattle.std.proofs.Common.{◌≡◌, ℕ, suc, ◌+◌, ◌*◌, ◌^◌, ◌<◌, ◌≤◌, ◌==◌, Bool, true, false, cond, Option, Some, None, Result, Ok, Err, List, [], ◌∷◌, ◌++◌, length, map, max, unwrap_or, refl, sym, ap, ◌∙◌, subst, inl, inr, arith}
+use Rattle.std.proofs.Common.{◌≡◌, ℕ, ◌+◌, ◌*◌, ◌^◌, ◌<◌, ◌≤◌, ◌==◌, Bool, true, false, cond, Option, Some, None, Ok, List, [], ◌∷◌, ◌++◌, length, max, unwrap_or, refl, sym, ap, ◌∙◌, inl, inr, arith}
 use Rattle.std.specs.Prelude.{All, codes, decimal}
-use Rattle.std.specs.Char.{is_ascii_digit}
-use Rattle.std.specs.List.{AllByRecursion, list_all, flat_map}
+use Rattle.std.specs.List.{AllByRecursion, flat_map}
 use Rattle.std.proofs.lemmas.Bool.{cases_Bool, le-leb, eqb-false, eqb-true}
 use Rattle.std.proofs.lemmas.List.Elements.{All-head, All-tail}
 use Rattle.rht_words.specs.declared.config.Config.{Config}
@@ -20,10 +19,10 @@ use Rattle.rht_script.specs.declared.script.TableLine.{TableLine}
 use Rattle.rht_script.specs.declared.options.Setting.{Setting}
 use Rattle.rht_script.specs.declared.options.Setting.TheVariants.{Hint, Min, Pages, Seed, Rewalks, Hashing}
 use Rattle.rht_script.specs.declared.options.Options.{Options}
-use Rattle.rht_script.specs.Spelling.{◌>>=◌, lines_of, words_of, is_word, is_skipped, number_of}
-use Rattle.rht_script.specs.Grammar.{most_bytes, most_lines, most_in_line, at_line, words_at, Said, said_of, commands_from, said_with, said_from, reading_of}
-use Rattle.rht_script.specs.TableLines.{no_options, with_setting, setting_of, options_from, hash_of, plain_config, configured, has_room, rounded_min, config_of, table_of}
-use Rattle.rht_script.specs.CommandLines.{port_limits, owner_limits, worker_limits, bind_of, find_of, release_of, call_of, is_schedule, command_of}
+use Rattle.rht_script.specs.Spelling.{◌>>=◌, lines_of, is_skipped, number_of}
+use Rattle.rht_script.specs.Grammar.{most_lines, words_at, commands_from, said_from}
+use Rattle.rht_script.specs.TableLines.{no_options, with_setting, setting_of, options_from, plain_config, configured, has_room, rounded_min, config_of, table_of}
+use Rattle.rht_script.specs.CommandLines.{port_limits, owner_limits, worker_limits, bind_of, find_of, release_of, call_of, command_of}
 use Rattle.rht_script.specs.Plain.{IsSayableConfig, IsSayableCall, IsSayableCommand, hint_words, hash_word, table_words, call_words, command_words, plain_line, plain_script}
 use Rattle.rht_script.specs.Laws.{ReadsBack}
 use Rattle.rht_script.proofs.LineLemmas.{words_at-right}
@@ -224,7 +223,7 @@ module _ (config : Config) (sayable : IsSayableConfig config) where
   unfolding configured made
   configured-said =
       let same : made config plain_config.nodes plain_config.callers (unwrap_or hint_said plain_config.hint) (rounded_min config.min) plain_config.max plain_config.kind plain_config.shrink
-          ≡ made config config.nodes config.callers config.hint config.min config.max config.kind config.shrink =
+      ≡ made config config.nodes config.callers config.hint config.min config.max config.kind config.shrink =
       rw (hint_same, min_same, sayable.nodes, sayable.callers, sayable.max, sayable.kind, sayable.shrink) refl in
       same ∙ made-same config
 
@@ -256,14 +255,43 @@ module _ (config : Config) (sayable : IsSayableConfig config) where
       let s = sayable.settled in
       let hint = hint_words-plain in
       let number = IsPlainWord-decimal in (
-        (record { some = refl; bytes = refl; short = omega arith },
-        (record { some = refl; bytes = refl; short = omega arith },
-        (record { some = refl; bytes = refl; short = omega arith }, (hash_word-plain config.hash,
-        (record { some = refl; bytes = refl; short = omega arith }, (number config.min (omega (arith, s.least.within)),
-        (record { some = refl; bytes = refl; short = omega arith }, (number config.pages (omega (arith, s.geometry.pages_within)),
-        (record { some = refl; bytes = refl; short = omega arith }, (number config.seed (omega (arith, s.seed)),
-        (record { some = refl; bytes = refl; short = omega arith }, (number config.rewalks (omega (arith, s.rewalks)),
-        hint.0)))))))))))),
+        (
+          record { some = refl; bytes = refl; short = omega arith },
+          (
+            record { some = refl; bytes = refl; short = omega arith },
+            (
+              record { some = refl; bytes = refl; short = omega arith },
+              (
+                hash_word-plain config.hash,
+                (
+                  record { some = refl; bytes = refl; short = omega arith },
+                  (
+                    number config.min (omega (arith, s.least.within)),
+                    (
+                      record { some = refl; bytes = refl; short = omega arith },
+                      (
+                        number config.pages (omega (arith, s.geometry.pages_within)),
+                        (
+                          record { some = refl; bytes = refl; short = omega arith },
+                          (
+                            number config.seed (omega (arith, s.seed)),
+                            (
+                              record { some = refl; bytes = refl; short = omega arith },
+                              (
+                                number config.rewalks (omega (arith, s.rewalks)),
+                                hint.0,
+                              ),
+                            ),
+                          ),
+                        ),
+                      ),
+                    ),
+                  ),
+                ),
+              ),
+            ),
+          ),
+        ),
         omega (arith, hint.1),
       )
 

@@ -1,22 +1,22 @@
 -- A plain word has a byte, no blank and no line feed, and it is short: so are the names in a script, and so are numbers in decimal.
 -- Words in a row with a space between each two are the words of that line, and lines that each end with a line feed are the lines
 -- of their text. A number in decimal is read as that number.
-use Rattle.std.proofs.Common.{◌≡◌, ℕ, suc, ◌+◌, ◌-◌, ◌*◌, ◌/◌, ◌%◌, ◌^◌, ◌<◌, ◌≤◌, ◌==◌, Bool, true, false, not, ◌&&◌, ◌||◌, Result, Ok, Err, List, [], ◌∷◌, ◌++◌, length, fold, refl, sym, ap, ◌∙◌, inl, inr, arith, length-append, append_assoc}
-use Rattle.std.specs.Prelude.{All, codes, decimal, filter, nat_le}
+use Rattle.std.proofs.Common.{◌≡◌, ℕ, ◌+◌, ◌-◌, ◌*◌, ◌%◌, ◌^◌, ◌<◌, ◌≤◌, ◌==◌, Bool, true, false, not, ◌&&◌, Ok, List, [], ◌∷◌, ◌++◌, length, refl, ap, ◌∙◌, arith, length-append, append_assoc}
+use Rattle.std.specs.Prelude.{All, decimal, filter, nat_le}
 use Rattle.std.specs.Char.{is_ascii_digit}
 use Rattle.std.specs.List.{AllByRecursion, list_all, join_with_byte, slice_split}
 use Rattle.std.proofs.lemmas.Bool.{le-leb, leb-true, lt-ltb, ne_eqb, and_from, and_parts, not-true, cond-true}
 use Rattle.std.proofs.lemmas.Fmt.{decimal_by_steps, decimal_nonempty, length-decimal-le}
-use Rattle.std.proofs.lemmas.List.Elements.{All-nil, All-cons, All-append, All-weaker}
+use Rattle.std.proofs.lemmas.List.Elements.{All-nil, All-cons, All-append}
 use Rattle.std.proofs.lemmas.List.Folds.{list_all-append}
-use Rattle.std.proofs.lemmas.List.Sums.{AllPass-from_list_all, fold-append}
+use Rattle.std.proofs.lemmas.List.Sums.{fold-append}
 use Rattle.std.proofs.lemmas.List.Splits.{slice_split_at, slice_split_none, length-slice_split}
 use Rattle.rht_words.specs.declared.limits.Limits.{Limits}
 use Rattle.rht_words.specs.Limits.{IsWithinLimits}
 use Rattle.rht_script.specs.Spelling.{without_empty_end, lines_of, is_blank, is_some_text, words_of, is_comment, is_number, value_of, is_within, number_of, most_digits}
 use Rattle.rht_script.specs.CommandLines.{is_schedule}
 use Rattle.rht_script.specs.Plain.{plain_line}
-use Rattle.rht_script.proofs.PiecesLemmas.{onto_pieces, words_of-empty}
+use Rattle.rht_script.proofs.PiecesLemmas.{onto_pieces}
 
 -- ---- numbers
 
@@ -73,9 +73,10 @@ first_digit (byte ∷ word) some digits =
     let first = (and_parts (is_ascii_digit byte) (list_all is_ascii_digit word) digits).0 in
     let parts = and_parts (nat_le 48 byte) (nat_le byte 57) first in
     let above : 48 ≤ byte = leb-true 48 byte parts.0 in
-    let below : byte ≤ 57 = leb-true byte 57 parts.1 in
-    ( ne_eqb byte 35 (λ same. absurd (omega (arith, above, same)))
-    , rw (ne_eqb byte 115 (λ same. absurd (omega (arith, below, same))), ne_eqb byte 102 (λ same. absurd (omega (arith, below, same)))) refl)
+    let below : byte ≤ 57 = leb-true byte 57 parts.1 in (
+      ne_eqb byte 35 (λ same. absurd (omega (arith, above, same))),
+      rw (ne_eqb byte 115 (λ same. absurd (omega (arith, below, same))), ne_eqb byte 102 (λ same. absurd (omega (arith, below, same)))) refl,
+    )
 
 pub is_schedule-decimal : (number : ℕ) → number < 2 ^ 32 → is_schedule (decimal number) ≡ false
 is_schedule-decimal number small =

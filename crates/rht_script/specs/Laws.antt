@@ -6,7 +6,7 @@ use Rattle.rht_model.specs.declared.history.Call.{Call}
 use Rattle.rht_script.specs.declared.script.ScriptFault.{ScriptFault}
 use Rattle.rht_script.specs.declared.cause.Cause.TheVariants.{NoTableLine}
 use Rattle.rht_script.specs.Spelling.{lines_of, words_of, is_skipped}
-use Rattle.rht_script.specs.Grammar.{most_bytes, most_lines, most_in_line, fault_at, Said, reading_of}
+use Rattle.rht_script.specs.Grammar.{most_bytes, most_lines, most_in_line, fault_at, reading_of}
 use Rattle.rht_script.specs.Reading.{FirstFault}
 use Rattle.rht_script.specs.Plain.{IsSayableConfig, IsSayableCommand, plain_script}
 
