@@ -20,6 +20,8 @@ pub mod Meanings
 pub mod PlainWords
 -- what is spelled plainly is read back
 pub mod PlainScripts
+-- whatever is read can be said
+pub mod SayableScripts
 -- inputs, and what the definitions give for them
 pub mod WorkedInputs
 -- the commands so far, before those still to be read

@@ -304,7 +304,10 @@ by_recursion P (x ∷ xs) all = (All-head P x xs all, by_recursion P xs (All-tai
 
 pub reads_back : ReadsBack
 unfolding plain_script
-reads_back config commands sayable each few short =
+reads_back said can short =
+    let config = said.config in
+    let commands = said.commands in
+    let sayable = can.config in
     let table : TableLine = record { config = config; auto = true } in
     let words = table_words config in
     let plain = table_words-plain config sayable in
@@ -314,8 +317,9 @@ reads_back config commands sayable each few short =
     words_at-right 1 (spaced_words words) (omega arith) (omega (arith, length-spaced words plain.0, plain.1))
     ∙ ap (λ (ws : List (List ℕ)). Ok ws) (words_of-spaced words plain.0) in
     let commands_read =
-    commands_from-plain table callers 2 commands (by_recursion (IsSayableCommand config) commands each) (omega (arith, few)) in
+    commands_from-plain table callers 2 commands (by_recursion (IsSayableCommand config) commands can.commands) (omega (arith, can.few)) in
     reading_of-lines (plain_line words ++ behind) short
     ∙ ap (said_from 1) (lines_of-plain words behind plain.0)
     ∙ rw (read, table_of-plain config sayable)
-    (said_with-commands table 2 (lines_of behind) commands commands_read)
+    (said_with-commands table 2 (lines_of behind) commands commands_read
+    ∙ rw (← can.auto, ← can.schedule) refl)

@@ -23,59 +23,28 @@ use Rattle.rht_script.specs.Sound.{is_sound_call, is_sound_command}
 
 -- ---- what holds of a value holds on the way to it
 
-IfOk-then : {A B E : Type 0} (P : A → Type 0) (Q : B → Type 0) (read : Result A E) (next : A → Result B E)
+pub IfOk-then : {A B E : Type 0} (P : A → Type 0) (Q : B → Type 0) (read : Result A E) (next : A → Result B E)
     → IfOk read P
     → ((value : A) → P value → IfOk (next value) Q) → IfOk (read >>= next) Q
 IfOk-then P Q (Ok value) next holds goes_on = goes_on value holds
 IfOk-then P Q (Err fault) next holds goes_on = tt
 
-IfOk-after : {A B E : Type 0} (Q : B → Type 0) (read : Result A E) (next : A → Result B E)
+pub IfOk-after : {A B E : Type 0} (Q : B → Type 0) (read : Result A E) (next : A → Result B E)
     → ((value : A) → IfOk (next value) Q) → IfOk (read >>= next) Q
 IfOk-after Q (Ok value) next goes_on = goes_on value
 IfOk-after Q (Err fault) next goes_on = tt
 
-IfOk-cond : {A E : Type 0} (P : A → Type 0) (b : Bool) (x y : Result A E) → IfOk x P → IfOk y P
+pub IfOk-cond : {A E : Type 0} (P : A → Type 0) (b : Bool) (x y : Result A E) → IfOk x P → IfOk y P
     → IfOk (cond b x y) P
 IfOk-cond P true x y first second = first
 IfOk-cond P false x y first second = second
 
-IfOk-at_line : {A : Type 0} (P : A → Type 0) (number : ℕ) (read : Result A Cause) → IfOk read P
+pub IfOk-at_line : {A : Type 0} (P : A → Type 0) (number : ℕ) (read : Result A Cause) → IfOk read P
     → IfOk (at_line number read) P
 IfOk-at_line P number (Ok value) holds = holds
 IfOk-at_line P number (Err cause) holds = tt
 
 -- ---- a command line
-
-module _ (Q : Call → Type 0) (bind : (port owner : ℕ) → Q (Bind port owner false)) (find : (port : ℕ) → Q (Find port))
-    (release : (port owner : ℕ) → Q (Release port owner)) where
-  bind_holds : (words : List (List ℕ)) → IfOk (bind_of words) Q
-  unfolding bind_of
-  bind_holds words =
-      IfOk-after Q (number_first port_limits words) _ (λ port.
-      IfOk-after Q (number_first owner_limits port.1) _ (λ owner.
-      IfOk-after Q (end_of owner.1) _ (λ end. bind port.0 owner.0)))
-
-  find_holds : (words : List (List ℕ)) → IfOk (find_of words) Q
-  unfolding find_of
-  find_holds words =
-      IfOk-after Q (number_first port_limits words) _ (λ port.
-      IfOk-after Q (end_of port.1) _ (λ end. find port.0))
-
-  release_holds : (words : List (List ℕ)) → IfOk (release_of words) Q
-  unfolding release_of
-  release_holds words =
-      IfOk-after Q (number_first port_limits words) _ (λ port.
-      IfOk-after Q (number_first owner_limits port.1) _ (λ owner.
-      IfOk-after Q (end_of owner.1) _ (λ end. release port.0 owner.0)))
-
-  -- what holds of each call that can be written holds of what a verb asks
-  pub call_holds : (words : List (List ℕ)) → IfOk (call_of words) Q
-  unfolding call_of
-  call_holds [] = tt
-  call_holds (verb ∷ words) =
-      IfOk-cond Q (is_word verb (codes "bind")) _ _ (bind_holds words)
-      (IfOk-cond Q (is_word verb (codes "find")) _ _ (find_holds words)
-      (IfOk-cond Q (is_word verb (codes "release")) _ (Err UnknownWord) (release_holds words) tt))
 
 -- a number that is read is within its limits
 pub number_within : (limits : Limits) (word : List ℕ)
@@ -89,6 +58,60 @@ number_within limits word =
     by_test true within is = tt
     by_test false true is = is
     by_test false false is = tt
+
+-- the number that the next word stands for is too
+first_within : (limits : Limits) (words : List (List ℕ))
+    → IfOk (number_first limits words) (λ read. is_within limits read.0 ≡ true)
+first_within limits [] = tt
+first_within limits (word ∷ words) =
+    IfOk-then (λ number. is_within limits number ≡ true) (λ (read : ℕ × List (List ℕ)). is_within limits read.0 ≡ true)
+    (number_of limits word) _ (number_within limits word) (λ number within. within)
+
+-- the port, or the owner, is within its limits
+abbrev IsPort : ℕ → Type 0
+IsPort port = is_within port_limits port ≡ true
+
+abbrev IsOwner : ℕ → Type 0
+IsOwner owner = is_within owner_limits owner ≡ true
+
+module _ (Q : Call → Type 0) (bind : (port owner : ℕ) → IsPort port → IsOwner owner → Q (Bind port owner false))
+    (find : (port : ℕ) → IsPort port → Q (Find port))
+    (release : (port owner : ℕ) → IsPort port → IsOwner owner → Q (Release port owner)) where
+  bind_holds : (words : List (List ℕ)) → IfOk (bind_of words) Q
+  unfolding bind_of
+  bind_holds words =
+      IfOk-then (λ (read : ℕ × List (List ℕ)). IsPort read.0) Q (number_first port_limits words) _ (first_within port_limits words) (λ port is_port.
+      IfOk-then (λ (read : ℕ × List (List ℕ)). IsOwner read.0) Q (number_first owner_limits port.1) _ (first_within owner_limits port.1) (λ owner is_owner.
+      IfOk-after Q (end_of owner.1) _ (λ end. bind port.0 owner.0 is_port is_owner)))
+
+  find_holds : (words : List (List ℕ)) → IfOk (find_of words) Q
+  unfolding find_of
+  find_holds words =
+      IfOk-then (λ (read : ℕ × List (List ℕ)). IsPort read.0) Q (number_first port_limits words) _ (first_within port_limits words) (λ port is_port.
+      IfOk-after Q (end_of port.1) _ (λ end. find port.0 is_port))
+
+  release_holds : (words : List (List ℕ)) → IfOk (release_of words) Q
+  unfolding release_of
+  release_holds words =
+      IfOk-then (λ (read : ℕ × List (List ℕ)). IsPort read.0) Q (number_first port_limits words) _ (first_within port_limits words) (λ port is_port.
+      IfOk-then (λ (read : ℕ × List (List ℕ)). IsOwner read.0) Q (number_first owner_limits port.1) _ (first_within owner_limits port.1) (λ owner is_owner.
+      IfOk-after Q (end_of owner.1) _ (λ end. release port.0 owner.0 is_port is_owner)))
+
+  -- what holds of each call that can be written holds of what a verb asks
+  pub call_holds_within : (words : List (List ℕ)) → IfOk (call_of words) Q
+  unfolding call_of
+  call_holds_within [] = tt
+  call_holds_within (verb ∷ words) =
+      IfOk-cond Q (is_word verb (codes "bind")) _ _ (bind_holds words)
+      (IfOk-cond Q (is_word verb (codes "find")) _ _ (find_holds words)
+      (IfOk-cond Q (is_word verb (codes "release")) _ (Err UnknownWord) (release_holds words) tt))
+
+-- the same of a fact that holds whatever port and owner it is
+pub call_holds : (Q : Call → Type 0) (bind : (port owner : ℕ) → Q (Bind port owner false)) (find : (port : ℕ) → Q (Find port))
+    (release : (port owner : ℕ) → Q (Release port owner)) (words : List (List ℕ)) → IfOk (call_of words) Q
+call_holds Q bind find release =
+    call_holds_within Q (λ port owner is_port is_owner. bind port owner) (λ port is_port. find port)
+    (λ port owner is_port is_owner. release port owner)
 
 module _ (P : ℕ × Call → Type 0) (Q : Call → Type 0) (table : TableLine)
     (both : (worker : ℕ) (call : Call) → is_within (worker_limits table.config) worker ≡ true → Q call → P (worker, call))
@@ -144,9 +167,9 @@ module _ (P : ℕ × Call → Type 0) (table : TableLine)
 
 module _ (P : Config → ℕ × Call → Type 0)
     (each : (table : TableLine) (words : List (List ℕ)) → IfOk (command_of table words) (P table.config)) where
-  -- what is said has such commands, and no more of them than a script may have lines
+  -- what is said has such commands, and no more of them than a script may have lines below the table line
   abbrev AreSaid : Said → Type 0
-  AreSaid said = AreCommands (P said.config) 1 said.commands
+  AreSaid said = AreCommands (P said.config) 2 said.commands
 
   -- By induction over the lines up to the table line.
   said_hold : (number : ℕ) (lines : List (List ℕ)) → 1 ≤ number → number ≤ 1000001
@@ -163,7 +186,7 @@ module _ (P : Config → ℕ × Call → Type 0)
       record { each = are.each; few = (let more = are.few in omega arith) }))))
 
   pub reading_holds : (bytes : List ℕ) (said : Said) → reading_of bytes ≡ Ok said
-      → AreCommands (P said.config) 1 said.commands
+      → AreCommands (P said.config) 2 said.commands
   unfolding reading_of
   reading_holds bytes said read =
       IfOk-at_ok AreSaid read

@@ -1,14 +1,12 @@
 -- What follows from the grammar, in the words of scripts: which lines a fault depends on, that what can be said is read back as
 -- it was, and what a script's meaning doesn't depend on.
-use Rattle.std.specs.Prelude.{◌≡◌, ℕ, ◌+◌, ◌-◌, ◌<◌, ◌≤◌, ◌⊎◌, true, not, Result, Ok, Err, IsOk, All, List, [], length, map, filter, take}
-use Rattle.rht_words.specs.declared.config.Config.{Config}
-use Rattle.rht_model.specs.declared.history.Call.{Call}
+use Rattle.std.specs.Prelude.{◌≡◌, ℕ, ◌+◌, ◌-◌, ◌≤◌, ◌⊎◌, not, Result, Ok, Err, IsOk, All, List, length, map, filter, take}
 use Rattle.rht_script.specs.declared.script.ScriptFault.{ScriptFault}
 use Rattle.rht_script.specs.declared.cause.Cause.TheVariants.{NoTableLine}
 use Rattle.rht_script.specs.Spelling.{lines_of, words_of, is_skipped}
-use Rattle.rht_script.specs.Grammar.{most_bytes, most_lines, most_in_line, fault_at, reading_of}
+use Rattle.rht_script.specs.Grammar.{most_bytes, most_lines, most_in_line, fault_at, Said, reading_of}
 use Rattle.rht_script.specs.Reading.{FirstFault}
-use Rattle.rht_script.specs.Plain.{IsSayableConfig, IsSayableCommand, plain_script}
+use Rattle.rht_script.specs.Plain.{IsSayable, plain_script}
 
 -- ---- first faults
 
@@ -39,14 +37,17 @@ FaultsAreFirst =
 
 -- ---- what can be said is read back
 
--- A config and commands that today's words can say are read back from their plain spelling, where that isn't too long.
+-- What today's words can say is read back from its plain spelling, where that isn't too long.
 -- That says nothing of inputs that are spelled otherwise, and nothing of faults.
 abbrev pub ReadsBack : Type 0
 ReadsBack =
-    (config : Config) (commands : List (ℕ × Call))
-    → IsSayableConfig config → All (IsSayableCommand config) commands
-    → length commands < most_lines → length (plain_script config commands) ≤ most_bytes
-    → reading_of (plain_script config commands) ≡ Ok (record { config = config; auto = true; commands = commands; schedule = [] })
+    (said : Said) → IsSayable said → length (plain_script said) ≤ most_bytes
+    → reading_of (plain_script said) ≡ Ok said
+
+-- And whatever is read, today's words can say, so that the law above leaves nothing out that is ever said.
+-- That says nothing of which inputs say it.
+abbrev pub SaysSayable : Type 0
+SaysSayable = (bytes : List ℕ) (said : Said) → reading_of bytes ≡ Ok said → IsSayable said
 
 -- ---- what a script's meaning doesn't depend on
 

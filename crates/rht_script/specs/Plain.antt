@@ -1,6 +1,6 @@
 -- What today's words can say, and how that is spelled plainly: one table line, one line a command, numbers in decimal, one space
 -- between two words, and a line feed behind each line.
-use Rattle.std.specs.Prelude.{◌≡◌, ℕ, ◌==◌, false, if◌then◌else◌, List, [], ◌∷◌, ◌++◌, codes, decimal}
+use Rattle.std.specs.Prelude.{◌≡◌, ℕ, ◌<◌, ◌==◌, true, false, if◌then◌else◌, All, List, [], ◌∷◌, ◌++◌, length, codes, decimal}
 use Rattle.std.specs.List.{flat_map, join_with_byte}
 use Rattle.rht_words.specs.declared.config.Config.{Config}
 use Rattle.rht_words.specs.declared.config.Hash.{Hash}
@@ -9,6 +9,7 @@ use Rattle.rht_words.specs.Limits.{IsWithinLimits}
 use Rattle.rht_words.specs.Settled.{IsSettled}
 use Rattle.rht_model.specs.declared.history.Call.{Call}
 use Rattle.rht_model.specs.declared.history.Call.TheVariants.{Bind, Find, All as ListAll, Release, Rebind, Walk, Work, Tidy, Count}
+use Rattle.rht_script.specs.Grammar.{most_lines, Said}
 use Rattle.rht_script.specs.TableLines.{plain_config}
 use Rattle.rht_script.specs.CommandLines.{port_limits, owner_limits, worker_limits}
 
@@ -40,6 +41,14 @@ IsSayableCall Count = ⊥
 abbrev pub IsSayableCommand : Config → ℕ × Call → Type 0
 IsSayableCommand config command =
     IsWithinLimits (worker_limits config) command.0 × IsSayableCall command.1
+
+-- today's words can say this: a config and commands that they can say, one line each, and nothing else
+pub record IsSayable (said : Said) : Type 0 where
+  pub config : IsSayableConfig said.config
+  pub auto : said.auto ≡ true
+  pub commands : All (IsSayableCommand said.config) said.commands
+  pub few : length said.commands < most_lines
+  pub schedule : said.schedule ≡ []
 
 -- ---- how it is spelled
 
@@ -80,7 +89,7 @@ command_words command = decimal command.0 ∷ call_words command.1
 unfoldable pub plain_line : List (List ℕ) → List ℕ
 plain_line words = join_with_byte 32 words ++ codes "\n"
 
--- a script of this config and these commands
-unfoldable pub plain_script : Config → List (ℕ × Call) → List ℕ
-plain_script config commands =
-    plain_line (table_words config) ++ flat_map (λ command. plain_line (command_words command)) commands
+-- a script that says this
+unfoldable pub plain_script : Said → List ℕ
+plain_script said =
+    plain_line (table_words said.config) ++ flat_map (λ command. plain_line (command_words command)) said.commands
