@@ -1,6 +1,6 @@
--- Where a line is at fault, reading stops there: it gives the same fault whatever lines come behind, and the lines before
--- it have no fault of their own. By induction over the lines. A line that can't be read, or that is no table line or no command,
--- is where reading stops. Any other line goes on to the lines behind it, and stops where they do.
+-- Where a line is at fault, reading stops there: it gives the same fault whatever lines come behind, and the lines
+-- before it have no fault of their own. By induction over the lines. A line that can't be read, or that is no table
+-- line or no command, is where reading stops. Behind any other line reading goes on, and it stops where that stops.
 use Rattle.std.proofs.Common.{◌≡◌, ℕ, ◌+◌, ◌-◌, ◌<◌, ◌≤◌, true, false, Result, Ok, Err, List, [], ◌∷◌, ◌++◌, length, take, drop, refl, sym, ap, ◌∙◌, subst, inl, inr, arith, append_assoc, take-append-drop}
 use Rattle.std.specs.Prelude.{◌⊎◌, IsOk}
 use Rattle.std.proofs.Math.Seq.{take-append_seam, take-append-add}
@@ -40,7 +40,8 @@ line-at_line number (Err cause) fault stopped =
 
 -- ---- where reading lines stops
 
--- Reading lines that are counted on from a number stops at one of them, whatever comes behind it, and goes on over those before it.
+-- Reading lines that are counted on from a number stops at one of them, whatever comes behind it, and goes on over
+-- those before it.
 record Stops {X : Type 0} (read : List (List ℕ) → Result X ScriptFault) (GoesOn : List (List ℕ) → Type 0)
     (number : ℕ) (lines : List (List ℕ)) (fault : ScriptFault) : Type 0 where
   front : List (List ℕ)
@@ -90,27 +91,30 @@ module _ (table : TableLine) (fault : ScriptFault) where
       → Stops (commands_from number table) (λ front. IsOk (commands_from number table front)) number lines fault
   commands_stop number [] stopped = absurd (cc)
   commands_stop number (line ∷ lines) stopped =
-      let Goes = λ (front : List (List ℕ)). IsOk (commands_from number table front) in
-      let Onward = λ (front : List (List ℕ)). IsOk (commands_from (number + 1) table front) in
+      let read_from = λ (n : ℕ). commands_from n table in
+      let Goes = λ (n : ℕ) (front : List (List ℕ)). IsOk (commands_from n table front) in
       elim (bind-err (at_line number (words_at number line)) _ fault stopped) [
-        | inl wrong ↦ stops_here (commands_from number table) Goes number line lines fault
+        | inl wrong ↦ stops_here (read_from number) (Goes number) number line lines fault
             (line-at_line number (words_at number line) fault wrong) (λ other. rw wrong refl) refl
         | inr read ↦ elim (cases_Bool (is_skipped read.0)) [
           | inl skipped ↦
               let onward = rw skipped at read.2 in
-              stops_later (commands_from number table) Goes (commands_from (number + 1) table) Onward number line lines fault
+              stops_later (read_from number) (Goes number) (read_from (number + 1)) (Goes (number + 1)) number line lines fault
               (λ other stop. rw (read.1, skipped) stop) (λ other go. rw (read.1, skipped) go)
               (commands_stop (number + 1) lines onward)
           | inr said ↦
               let asked = rw said at read.2 in
               elim (bind-err (at_line number (command_of table read.0)) _ fault asked) [
-                | inl wrong ↦ stops_here (commands_from number table) Goes number line lines fault
-                    (line-at_line number (command_of table read.0) fault wrong) (λ other. rw (read.1, said, wrong) refl) refl
+                | inl wrong ↦ stops_here (read_from number) (Goes number) number line lines fault
+                    (line-at_line number (command_of table read.0) fault wrong)
+                    (λ other. rw (read.1, said, wrong) refl) refl
                 | inr command ↦ elim (bind-err (commands_from (number + 1) table lines) _ fault command.2) [
                   | inl later ↦
-                      stops_later (commands_from number table) Goes (commands_from (number + 1) table) Onward number line lines fault
+                      stops_later (read_from number) (Goes number) (read_from (number + 1)) (Goes (number + 1))
+                      number line lines fault
                       (λ other stop. rw (read.1, said, command.1, stop) refl)
-                      (λ other go. rw (read.1, said, command.1) (IsOk-bind (commands_from (number + 1) table other) _ go (λ commands. refl)))
+                      (λ other go. rw (read.1, said, command.1)
+                      (IsOk-bind (commands_from (number + 1) table other) _ go (λ commands. refl)))
                       (commands_stop (number + 1) lines later)
                   | inr commands ↦ absurd (let never = commands.2 in cc)
                 ]
@@ -137,7 +141,8 @@ module _ (fault : ScriptFault) where
             stops_later (said_from number) (HaveNoFault number) (commands_from (number + 1) table)
             (λ front. IsOk (commands_from (number + 1) table front)) number line lines fault
             (λ other stop. rw (read, said, is, stop) refl)
-            (λ other go. inl (rw (read, said, is) (IsOk-bind (commands_from (number + 1) table other) _ go (λ commands. refl))))
+            (λ other go. inl (rw (read, said, is)
+            (IsOk-bind (commands_from (number + 1) table other) _ go (λ commands. refl))))
             (commands_stop table fault (number + 1) lines later)
         | inr commands ↦ absurd (let never = commands.2 in cc)
       ]
@@ -163,14 +168,16 @@ module _ (fault : ScriptFault) where
         | inr read ↦ elim (cases_Bool (is_skipped read.0)) [
           | inl skipped ↦
               let onward = rw skipped at read.2 in
-              stops_later (said_from number) (HaveNoFault number) (said_from (number + 1)) (HaveNoFault (number + 1)) number line lines fault
+              stops_later (said_from number) (HaveNoFault number) (said_from (number + 1)) (HaveNoFault (number + 1))
+              number line lines fault
               (λ other stop. rw (read.1, skipped) stop) (λ other. onto_skipped number line other read.0 read.1 skipped)
               (said_stops (number + 1) lines onward (omega (arith, within)))
           | inr said ↦
               let asked = rw said at read.2 in
               elim (bind-err (at_line number (table_of read.0)) _ fault asked) [
                 | inl wrong ↦ stops_here (said_from number) (HaveNoFault number) number line lines fault
-                    (line-at_line number (table_of read.0) fault wrong) (λ other. rw (read.1, said, wrong) refl) (inr (at_end number))
+                    (line-at_line number (table_of read.0) fault wrong)
+                    (λ other. rw (read.1, said, wrong) refl) (inr (at_end number))
                 | inr table ↦ said_stops-table number line lines read.0 table.0 read.1 said table.1 table.2
               ]
         ]
@@ -193,15 +200,17 @@ same_front front line behind lines same =
 
 module _ (bytes : List ℕ) (fault : ScriptFault) (wrong : IsLineFault bytes fault) where
   stop : Stops (said_from 1) (HaveNoFault 1) 1 (lines_of bytes) fault
-  stop = said_stops fault 1 (lines_of bytes) (sym (reading_of-lines bytes wrong.few) ∙ wrong.first) (omega (arith, wrong.line))
+  stop =
+      let read = sym (reading_of-lines bytes wrong.few) ∙ wrong.first in
+      said_stops fault 1 (lines_of bytes) read (omega (arith, wrong.line))
 
   alone : (other : List ℕ) → length other ≤ most_bytes
       → take fault.line (lines_of other) ≡ take fault.line (lines_of bytes) → reading_of other ≡ Err fault
   alone other few same =
       let place : fault.line ≡ length stop.front + 1 = (let at = stop.place in omega arith) in
-      let first : take (length stop.front + 1) (lines_of other) ≡ take (length stop.front + 1) (stop.front ++ stop.line ∷ stop.behind) =
-      subst (λ n. take n (lines_of other) ≡ take n (stop.front ++ stop.line ∷ stop.behind)) place
-      (same ∙ ap (take fault.line) stop.split) in
+      let lines_are = stop.front ++ stop.line ∷ stop.behind in
+      let first : take (length stop.front + 1) (lines_of other) ≡ take (length stop.front + 1) lines_are =
+      subst (λ n. take n (lines_of other) ≡ take n lines_are) place (same ∙ ap (take fault.line) stop.split) in
       let lines = same_front stop.front stop.line stop.behind (lines_of other) first in
       reading_of-lines other few ∙ ap (said_from 1) lines ∙ stop.alone (drop (length stop.front + 1) (lines_of other))
 

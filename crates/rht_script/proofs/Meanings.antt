@@ -1,6 +1,6 @@
--- Within the bounds no line is one too many, and none is too long. So what is read follows from the words of the lines that are not
--- skipped: it is read from these words alone, in which no line has a number. By induction over the lines, for commands
--- first: a line that is skipped leaves both as they are, and any other is read from its words on either side.
+-- Within the bounds no line is one too many, and none is too long. So what is read follows from the words of the lines
+-- that aren't skipped: it is read from these words alone, in which no line has a number. By induction over the lines,
+-- for commands first: a line that is skipped leaves both as they are, and any other is read from its words on either side.
 use Rattle.std.proofs.Common.{◌≡◌, ℕ, ◌+◌, ◌≤◌, not, Result, Ok, Err, List, [], ◌∷◌, length, refl, sym, ap, ◌∙◌, inl, inr, arith}
 use Rattle.std.specs.Prelude.{All, map, filter}
 use Rattle.std.proofs.lemmas.Bool.{cases_Bool}
@@ -60,6 +60,9 @@ words_kept lines = filter (λ words. not (is_skipped words)) (map words_of lines
 abbrev AreShort : List (List ℕ) → Type 0
 AreShort lines = All (λ line. length line ≤ most_in_line) lines
 
+short_behind : (line : List ℕ) (lines : List (List ℕ)) → AreShort (line ∷ lines) → AreShort lines
+short_behind line lines short = All-tail (λ line. length line ≤ most_in_line) line lines short
+
 -- the first line has the words that it has
 read_first : (number : ℕ) (line : List ℕ) (lines : List (List ℕ)) → number + length (line ∷ lines) ≤ most_lines + 1
     → AreShort (line ∷ lines) → words_at number line ≡ Ok (words_of line)
@@ -75,13 +78,15 @@ meaning_of-commands table number (line ∷ lines) few short =
     let words = words_of line in
     let read = read_first number line lines few short in
     let onward : meaning_of (commands_from (number + 1) table lines) ≡ commands_in table (words_kept lines) =
-    meaning_of-commands table (number + 1) lines (omega (arith, few)) (All-tail (λ line. length line ≤ most_in_line) line lines short) in
+    meaning_of-commands table (number + 1) lines (omega (arith, few)) (short_behind line lines short) in
     elim (cases_Bool (is_skipped words)) [
       | inl skipped ↦ rw (read, skipped) onward
       | inr said ↦
           rw (read, said)
-          (meaning_of-bind (at_line number (command_of table words)) _ (coded (command_of table words)) _ (meaning_of-at_line number (command_of table words)) (λ command.
-          meaning_of-bind (commands_from (number + 1) table lines) _ (commands_in table (words_kept lines)) _ onward (λ commands. refl)))
+          (meaning_of-bind (at_line number (command_of table words)) _ (coded (command_of table words)) _
+          (meaning_of-at_line number (command_of table words)) (λ command.
+          meaning_of-bind (commands_from (number + 1) table lines) _ (commands_in table (words_kept lines)) _ onward
+          (λ commands. refl)))
     ]
 
 meaning_of-said : (number : ℕ) (lines : List (List ℕ)) → number + length lines ≤ most_lines + 1
@@ -91,14 +96,15 @@ meaning_of-said number [] few short = refl
 meaning_of-said number (line ∷ lines) few short =
     let words = words_of line in
     let read = read_first number line lines few short in
-    let short_behind = All-tail (λ line. length line ≤ most_in_line) line lines short in
+    let others_short = short_behind line lines short in
     elim (cases_Bool (is_skipped words)) [
-      | inl skipped ↦ rw (read, skipped) (meaning_of-said (number + 1) lines (omega (arith, few)) short_behind)
+      | inl skipped ↦ rw (read, skipped) (meaning_of-said (number + 1) lines (omega (arith, few)) others_short)
       | inr said ↦
           rw (read, said)
-          (meaning_of-bind (at_line number (table_of words)) _ (coded (table_of words)) _ (meaning_of-at_line number (table_of words)) (λ table.
+          (meaning_of-bind (at_line number (table_of words)) _ (coded (table_of words)) _
+          (meaning_of-at_line number (table_of words)) (λ table.
           meaning_of-bind (commands_from (number + 1) table lines) _ (commands_in table (words_kept lines)) _
-          (meaning_of-commands table (number + 1) lines (omega (arith, few)) short_behind) (λ commands. refl)))
+          (meaning_of-commands table (number + 1) lines (omega (arith, few)) others_short) (λ commands. refl)))
     ]
 
 meaning_of-reading : (bytes : List ℕ) → IsWithinBounds bytes → meaning_of (reading_of bytes) ≡ said_in (words_said bytes)

@@ -1,6 +1,7 @@
--- What is spelled plainly is read back. A plain line has the words that it was made of ("PlainWords"), so a command's line is read
--- as the command, case by case of the verbs, and the table line as the config, option by option: each is set once, its number is
--- within its limits, and the least size is rounded already. By induction over the commands, their lines are read as they.
+-- What is spelled plainly is read back. A plain line has the words that it was made of (`PlainWords`), so a command's line
+-- is read as the command, case by case of the verbs, and the table line as the config, option by option: each is set once,
+-- its number is within its limits, and the least size is rounded already. By induction over the commands, their lines are
+-- read as they.
 use Rattle.std.proofs.Common.{◌≡◌, ℕ, ◌+◌, ◌*◌, ◌^◌, ◌<◌, ◌≤◌, ◌==◌, Bool, true, false, cond, Option, Some, None, Ok, List, [], ◌∷◌, ◌++◌, length, max, unwrap_or, refl, sym, ap, ◌∙◌, inl, inr, arith}
 use Rattle.std.specs.Prelude.{All, codes, decimal}
 use Rattle.std.specs.List.{AllByRecursion, flat_map}
@@ -81,7 +82,8 @@ module _ (table : TableLine) (callers : table.config.callers < 2 ^ 32) where
   unfolding command_of
   command_of-plain command sayable =
       let worker : command.0 < 2 ^ 32 = omega (arith, sayable.0, callers) in
-      rw (is_schedule-decimal command.0 worker, number_of-decimal command.0 worker (worker_limits table.config) sayable.0, call_of-plain command.1 sayable.1) refl
+      let worker_is = number_of-decimal command.0 worker (worker_limits table.config) sayable.0 in
+      rw (is_schedule-decimal command.0 worker, worker_is, call_of-plain command.1 sayable.1) refl
 
   -- the words of a command are plain, and at most four
   command_words-plain : (command : ℕ × Call) → IsSayableCommand table.config command
@@ -92,7 +94,8 @@ module _ (table : TableLine) (callers : table.config.callers < 2 ^ 32) where
       ((IsPlainWord-decimal command.0 worker, call.0), omega (arith, call.1))
 
   -- By induction: the line of a command is neither skipped nor too long, and is read as the command.
-  commands_from-plain : (number : ℕ) (commands : List (ℕ × Call)) → AllByRecursion (IsSayableCommand table.config) commands
+  commands_from-plain : (number : ℕ) (commands : List (ℕ × Call))
+      → AllByRecursion (IsSayableCommand table.config) commands
       → number + length commands ≤ most_lines + 1
       → commands_from number table (lines_of (flat_map (λ command. plain_line (command_words command)) commands)) ≡ Ok commands
   commands_from-plain number [] sayable few = ap (commands_from number table) lines_of-empty
@@ -122,22 +125,27 @@ set_min : (number : ℕ) → IsWithinLimits min_limits number → setting_of (co
 unfolding setting_of
 set_min number within = set_number Min min_limits (codes "min") (λ value. refl) number (omega (arith, within)) within
 
-set_hint : (number : ℕ) → IsWithinLimits hint_limits number → setting_of (codes "hint") (decimal number) ≡ Ok (Hint number)
+set_hint : (number : ℕ) → IsWithinLimits hint_limits number
+    → setting_of (codes "hint") (decimal number) ≡ Ok (Hint number)
 unfolding setting_of
 set_hint number within = set_number Hint hint_limits (codes "hint") (λ value. refl) number (omega (arith, within)) within
 
-set_pages : (number : ℕ) → IsWithinLimits page_limits number → setting_of (codes "pages") (decimal number) ≡ Ok (Pages number)
+set_pages : (number : ℕ) → IsWithinLimits page_limits number
+    → setting_of (codes "pages") (decimal number) ≡ Ok (Pages number)
 unfolding setting_of
-set_pages number within = set_number Pages page_limits (codes "pages") (λ value. refl) number (omega (arith, within)) within
+set_pages number within =
+    set_number Pages page_limits (codes "pages") (λ value. refl) number (omega (arith, within)) within
 
-set_seed : (number : ℕ) → IsWithinLimits seed_limits number → setting_of (codes "seed") (decimal number) ≡ Ok (Seed number)
+set_seed : (number : ℕ) → IsWithinLimits seed_limits number
+    → setting_of (codes "seed") (decimal number) ≡ Ok (Seed number)
 unfolding setting_of
 set_seed number within = set_number Seed seed_limits (codes "seed") (λ value. refl) number (omega (arith, within)) within
 
 set_rewalks : (number : ℕ) → IsWithinLimits rewalk_limits number
     → setting_of (codes "rewalks") (decimal number) ≡ Ok (Rewalks number)
 unfolding setting_of
-set_rewalks number within = set_number Rewalks rewalk_limits (codes "rewalks") (λ value. refl) number (omega (arith, within)) within
+set_rewalks number within =
+    set_number Rewalks rewalk_limits (codes "rewalks") (λ value. refl) number (omega (arith, within)) within
 
 set_hash : (hash : Hash) → setting_of (codes "hash") (hash_word hash) ≡ Ok (Hashing hash)
 unfolding setting_of
@@ -222,7 +230,8 @@ module _ (config : Config) (sayable : IsSayableConfig config) where
   configured-said : configured (options_said config hint_said) ≡ config
   unfolding configured made
   configured-said =
-      let same : made config plain_config.nodes plain_config.callers (unwrap_or hint_said plain_config.hint) (rounded_min config.min) plain_config.max plain_config.kind plain_config.shrink
+      let hint = unwrap_or hint_said plain_config.hint in
+      let same : made config plain_config.nodes plain_config.callers hint (rounded_min config.min) plain_config.max plain_config.kind plain_config.shrink
       ≡ made config config.nodes config.callers config.hint config.min config.max config.kind config.shrink =
       rw (hint_same, min_same, sayable.nodes, sayable.callers, sayable.max, sayable.kind, sayable.shrink) refl in
       same ∙ made-same config
@@ -246,8 +255,8 @@ module _ (config : Config) (sayable : IsSayableConfig config) where
   hint_words-plain = elim (cases_Bool (config.hint == 0)) [
     | inl none ↦ rw none (tt, omega arith)
     | inr some ↦
-        rw some
-        ((record { some = refl; bytes = refl; short = omega arith }, (IsPlainWord-decimal config.hint (omega (arith, sayable.settled.hint)), tt)), omega arith)
+        let number = IsPlainWord-decimal config.hint (omega (arith, sayable.settled.hint)) in
+        rw some ((record { some = refl; bytes = refl; short = omega arith }, (number, tt)), omega arith)
   ]
 
   table_words-plain : AllByRecursion IsPlainWord (table_words config) × (length (table_words config) ≤ 14)
@@ -316,8 +325,8 @@ reads_back said can short =
     let read : words_at 1 (spaced_words words) ≡ Ok words =
     words_at-right 1 (spaced_words words) (omega arith) (omega (arith, length-spaced words plain.0, plain.1))
     ∙ ap (λ (ws : List (List ℕ)). Ok ws) (words_of-spaced words plain.0) in
-    let commands_read =
-    commands_from-plain table callers 2 commands (by_recursion (IsSayableCommand config) commands can.commands) (omega (arith, can.few)) in
+    let each = by_recursion (IsSayableCommand config) commands can.commands in
+    let commands_read = commands_from-plain table callers 2 commands each (omega (arith, can.few)) in
     reading_of-lines (plain_line words ++ behind) short
     ∙ ap (said_from 1) (lines_of-plain words behind plain.0)
     ∙ rw (read, table_of-plain config sayable)

@@ -1,6 +1,6 @@
--- A plain word has a byte, no blank and no line feed, and it is short: so are the names in a script, and so are numbers in decimal.
--- Words in a row with a space between each two are the words of that line, and lines that each end with a line feed are the lines
--- of their text. A number in decimal is read as that number.
+-- A plain word has a byte, no blank and no line feed, and it is short: so are the names in a script, and so are numbers
+-- in decimal. Words in a row with a space between each two are the words of that line, and lines that each end with a
+-- line feed are the lines of their text. A number in decimal is read as that number.
 use Rattle.std.proofs.Common.{◌≡◌, ℕ, ◌+◌, ◌-◌, ◌*◌, ◌%◌, ◌^◌, ◌<◌, ◌≤◌, ◌==◌, Bool, true, false, not, ◌&&◌, Ok, List, [], ◌∷◌, ◌++◌, length, refl, ap, ◌∙◌, arith, length-append, append_assoc}
 use Rattle.std.specs.Prelude.{All, decimal, filter, nat_le}
 use Rattle.std.specs.Char.{is_ascii_digit}
@@ -18,7 +18,7 @@ use Rattle.rht_script.specs.CommandLines.{is_schedule}
 use Rattle.rht_script.specs.Plain.{plain_line}
 use Rattle.rht_script.proofs.PiecesLemmas.{onto_pieces}
 
--- ---- numbers
+-- ---- digits
 
 -- these are digits, and stand for the number
 abbrev IsDigitsOf : ℕ → List ℕ → Type 0
@@ -26,7 +26,8 @@ IsDigitsOf number digits = (list_all is_ascii_digit digits ≡ true) × (value_o
 
 is_ascii_digit-digit : (digit : ℕ) → digit < 10 → is_ascii_digit (48 + digit) ≡ true
 is_ascii_digit-digit digit small =
-    and_from (nat_le 48 (48 + digit)) (nat_le (48 + digit) 57) (le-leb 48 (48 + digit) (omega arith)) (le-leb (48 + digit) 57 (omega (arith, small)))
+    and_from (nat_le 48 (48 + digit)) (nat_le (48 + digit) 57)
+    (le-leb 48 (48 + digit) (omega arith)) (le-leb (48 + digit) 57 (omega (arith, small)))
 
 -- by steps of one digit more
 IsDigitsOf-decimal : (number : ℕ) → number < 2 ^ 64 → IsDigitsOf number (decimal number)
@@ -34,63 +35,42 @@ IsDigitsOf-decimal =
     decimal_by_steps IsDigitsOf
     (λ digit small. (and_from (is_ascii_digit (48 + digit)) true (is_ascii_digit-digit digit small) refl, omega arith))
     (λ number digits large digits_are.
-    let last : number % 10 < 10 = omega arith in
-    let value = fold-append (λ value digit. value * 10 + (digit - 48)) 0 digits ((48 + number % 10) ∷ []) in
-    let digit = and_from (is_ascii_digit (48 + number % 10)) true (is_ascii_digit-digit (number % 10) last) refl in (
-      list_all-append is_ascii_digit digits ((48 + number % 10) ∷ []) ∙ and_from (list_all is_ascii_digit digits) _ digits_are.0 digit,
+    let last = (48 + number % 10) ∷ [] in
+    let small : number % 10 < 10 = omega arith in
+    let value = fold-append (λ value digit. value * 10 + (digit - 48)) 0 digits last in
+    let digit = and_from (is_ascii_digit (48 + number % 10)) true (is_ascii_digit-digit (number % 10) small) refl in (
+      list_all-append is_ascii_digit digits last ∙ and_from (list_all is_ascii_digit digits) _ digits_are.0 digit,
       omega (arith, value, digits_are.1),
     ))
 
--- a number of 32 bits has at most ten digits
-module _ (number : ℕ) (small : number < 2 ^ 32) where
-  digits_few : length (decimal number) ≤ 10
-  digits_few = length-decimal-le 10 number (omega arith) (omega (arith, small)) (omega (arith, small))
+-- A word that begins with a digit is no comment, and begins no line of a schedule.
+record BeginsWithDigit (word : List ℕ) : Type 0 where
+  some : is_some_text word ≡ true
+  no_comment : is_comment word ≡ false
+  no_schedule : is_schedule word ≡ false
 
-  is_number-decimal : is_number (decimal number) ≡ true
-  is_number-decimal =
-      let digits = decimal number in
-      let some = decimal_nonempty number (omega (arith, small)) in
-      and_from _ (list_all is_ascii_digit digits)
-      (and_from _ (nat_le (length digits) most_digits) (lt-ltb 0 (length digits) some) (le-leb (length digits) most_digits (omega (arith, digits_few))))
-      (IsDigitsOf-decimal number (omega (arith, small))).0
-
-  -- it is read as it is
-  pub number_of-decimal : (limits : Limits) → IsWithinLimits limits number → number_of limits (decimal number) ≡ Ok number
-  unfolding number_of
-  number_of-decimal limits within =
-      let value = (IsDigitsOf-decimal number (omega (arith, small))).1 in
-      let is : is_within limits number ≡ true =
-      and_from (nat_le limits.least number) (nat_le number limits.greatest) (le-leb limits.least number within.0) (le-leb number limits.greatest within.1) in
-      rw (is_number-decimal, value, is) refl
-
--- ---- words
-
--- a word that begins with a digit is no comment, and begins no line of a schedule
-first_digit : (word : List ℕ) → 0 < length word → list_all is_ascii_digit word ≡ true
-    → (is_comment word ≡ false) × (is_schedule word ≡ false)
-first_digit [] some digits = absurd (omega (arith, some))
-first_digit (byte ∷ word) some digits =
+BeginsWithDigit-digits : (word : List ℕ) → 0 < length word → list_all is_ascii_digit word ≡ true → BeginsWithDigit word
+BeginsWithDigit-digits [] some digits = absurd (omega (arith, some))
+BeginsWithDigit-digits (byte ∷ word) some digits =
     let first = (and_parts (is_ascii_digit byte) (list_all is_ascii_digit word) digits).0 in
     let parts = and_parts (nat_le 48 byte) (nat_le byte 57) first in
     let above : 48 ≤ byte = leb-true 48 byte parts.0 in
-    let below : byte ≤ 57 = leb-true byte 57 parts.1 in (
-      ne_eqb byte 35 (λ same. absurd (omega (arith, above, same))),
-      rw (ne_eqb byte 115 (λ same. absurd (omega (arith, below, same))), ne_eqb byte 102 (λ same. absurd (omega (arith, below, same)))) refl,
-    )
+    let below : byte ≤ 57 = leb-true byte 57 parts.1 in
+    let no_s = ne_eqb byte 115 (λ same. absurd (omega (arith, below, same))) in
+    let no_f = ne_eqb byte 102 (λ same. absurd (omega (arith, below, same))) in
+    record {
+      some = refl;
+      no_comment = ne_eqb byte 35 (λ same. absurd (omega (arith, above, same)));
+      no_schedule = rw (no_s, no_f) refl;
+    }
 
-pub is_schedule-decimal : (number : ℕ) → number < 2 ^ 32 → is_schedule (decimal number) ≡ false
-is_schedule-decimal number small =
-    (first_digit (decimal number) (decimal_nonempty number (omega (arith, small))) (IsDigitsOf-decimal number (omega (arith, small))).0).1
-
-pub is_comment-decimal : (number : ℕ) → number < 2 ^ 32 → is_comment (decimal number) ≡ false
-is_comment-decimal number small =
-    (first_digit (decimal number) (decimal_nonempty number (omega (arith, small))) (IsDigitsOf-decimal number (omega (arith, small))).0).0
+-- ---- words
 
 -- the byte parts neither words nor lines
 abbrev is_plain_byte : ℕ → Bool
 is_plain_byte byte = not (is_blank byte) && not (byte == 10)
 
--- a word of up to ten bytes, which part neither words nor lines
+-- A word of up to ten bytes, which part neither words nor lines.
 pub record IsPlainWord (word : List ℕ) : Type 0 where
   pub some : is_some_text word ≡ true
   pub bytes : list_all is_plain_byte word ≡ true
@@ -100,8 +80,8 @@ pub record IsPlainWord (word : List ℕ) : Type 0 where
 is_plain_byte-digit : (byte : ℕ) → is_ascii_digit byte ≡ true → is_plain_byte byte ≡ true
 is_plain_byte-digit byte digit =
     let above : 48 ≤ byte = leb-true 48 byte (and_parts (nat_le 48 byte) (nat_le byte 57) digit).0 in
-    let no_blank = λ (blank : ℕ) (low : blank < 48). ne_eqb byte blank (λ same. absurd (omega (arith, above, low, same))) in
-    rw (no_blank 32 (omega arith), no_blank 9 (omega arith), no_blank 13 (omega arith), no_blank 10 (omega arith)) refl
+    let other = λ (blank : ℕ) (low : blank < 48). ne_eqb byte blank (λ same. absurd (omega (arith, above, low, same))) in
+    rw (other 32 (omega arith), other 9 (omega arith), other 13 (omega arith), other 10 (omega arith)) refl
 
 -- what passes one test passes a weaker one
 list_all-weaker : (strong weak : ℕ → Bool) → ((byte : ℕ) → strong byte ≡ true → weak byte ≡ true)
@@ -111,17 +91,52 @@ list_all-weaker strong weak each (byte ∷ bytes) all =
     let parts = and_parts (strong byte) (list_all strong bytes) all in
     and_from (weak byte) (list_all weak bytes) (each byte parts.0) (list_all-weaker strong weak each bytes parts.1)
 
-is_some_text-length : (text : List ℕ) → 0 < length text → is_some_text text ≡ true
-is_some_text-length [] some = absurd (omega (arith, some))
-is_some_text-length (byte ∷ text) some = refl
+-- ---- numbers of 32 bits
 
-pub IsPlainWord-decimal : (number : ℕ) → number < 2 ^ 32 → IsPlainWord (decimal number)
-IsPlainWord-decimal number small = record {
-  some = is_some_text-length (decimal number) (decimal_nonempty number (omega (arith, small)));
-  bytes =
-      list_all-weaker is_ascii_digit is_plain_byte is_plain_byte-digit (decimal number) (IsDigitsOf-decimal number (omega (arith, small))).0;
-  short = digits_few number small;
-}
+module _ (number : ℕ) (small : number < 2 ^ 32) where
+  digits_are : IsDigitsOf number (decimal number)
+  digits_are = IsDigitsOf-decimal number (omega (arith, small))
+
+  digits_some : 0 < length (decimal number)
+  digits_some = decimal_nonempty number (omega (arith, small))
+
+  -- there are at most ten digits
+  digits_few : length (decimal number) ≤ 10
+  digits_few = length-decimal-le 10 number (omega arith) (omega (arith, small)) (omega (arith, small))
+
+  begins_with_digit : BeginsWithDigit (decimal number)
+  begins_with_digit = BeginsWithDigit-digits (decimal number) digits_some digits_are.0
+
+  pub is_schedule-decimal : is_schedule (decimal number) ≡ false
+  is_schedule-decimal = begins_with_digit.no_schedule
+
+  pub is_comment-decimal : is_comment (decimal number) ≡ false
+  is_comment-decimal = begins_with_digit.no_comment
+
+  pub IsPlainWord-decimal : IsPlainWord (decimal number)
+  IsPlainWord-decimal = record {
+    some = begins_with_digit.some;
+    bytes = list_all-weaker is_ascii_digit is_plain_byte is_plain_byte-digit (decimal number) digits_are.0;
+    short = digits_few;
+  }
+
+  is_number-decimal : is_number (decimal number) ≡ true
+  is_number-decimal =
+      let count = length (decimal number) in
+      and_from _ (list_all is_ascii_digit (decimal number))
+      (and_from _ (nat_le count most_digits) (lt-ltb 0 count digits_some) (le-leb count most_digits (omega (arith, digits_few))))
+      digits_are.0
+
+  -- the number is read as it is
+  pub number_of-decimal : (limits : Limits) → IsWithinLimits limits number → number_of limits (decimal number) ≡ Ok number
+  unfolding number_of
+  number_of-decimal limits within =
+      let is : is_within limits number ≡ true =
+      and_from (nat_le limits.least number) (nat_le number limits.greatest)
+      (le-leb limits.least number within.0) (le-leb number limits.greatest within.1) in
+      rw (is_number-decimal, digits_are.1, is) refl
+
+-- ---- lines
 
 -- none of the bytes is a blank
 no_blanks : (word : List ℕ) → list_all is_plain_byte word ≡ true → All (λ byte. is_blank byte ≡ false) word
@@ -139,8 +154,6 @@ no_line_feeds (byte ∷ word) plain =
     let first = (and_parts (not (is_blank byte)) (not (byte == 10)) parts.0).1 in
     All-cons (λ byte. (byte == 10) ≡ false) byte word (not-true (byte == 10) first) (no_line_feeds word parts.1)
 
--- ---- lines
-
 -- words in a row, with a space between each two
 abbrev pub spaced_words : List (List ℕ) → List ℕ
 spaced_words words = join_with_byte 32 words
@@ -153,7 +166,8 @@ words_of-spaced (word ∷ []) plain =
     ap (filter is_some_text) (slice_split_none is_blank word (no_blanks word plain.0.bytes))
     ∙ cond-true (is_some_text word) _ _ plain.0.some
 words_of-spaced (word ∷ next ∷ words) plain =
-    ap (filter is_some_text) (slice_split_at is_blank word 32 (spaced_words (next ∷ words)) (no_blanks word plain.0.bytes) refl)
+    let behind = spaced_words (next ∷ words) in
+    ap (filter is_some_text) (slice_split_at is_blank word 32 behind (no_blanks word plain.0.bytes) refl)
     ∙ cond-true (is_some_text word) _ _ plain.0.some
     ∙ ap (λ (ws : List (List ℕ)). word ∷ ws) (words_of-spaced (next ∷ words) plain.1)
 
@@ -163,8 +177,9 @@ no_line_feeds-spaced : (words : List (List ℕ)) → AllByRecursion IsPlainWord 
 no_line_feeds-spaced [] plain = All-nil (λ byte. (byte == 10) ≡ false)
 no_line_feeds-spaced (word ∷ []) plain = no_line_feeds word plain.0.bytes
 no_line_feeds-spaced (word ∷ next ∷ words) plain =
-    All-append (λ byte. (byte == 10) ≡ false) word (32 ∷ spaced_words (next ∷ words)) (no_line_feeds word plain.0.bytes)
-    (All-cons (λ byte. (byte == 10) ≡ false) 32 (spaced_words (next ∷ words)) refl (no_line_feeds-spaced (next ∷ words) plain.1))
+    let behind = spaced_words (next ∷ words) in
+    All-append (λ byte. (byte == 10) ≡ false) word (32 ∷ behind) (no_line_feeds word plain.0.bytes)
+    (All-cons (λ byte. (byte == 10) ≡ false) 32 behind refl (no_line_feeds-spaced (next ∷ words) plain.1))
 
 -- words of up to ten bytes, each with a space
 pub length-spaced : (words : List (List ℕ)) → AllByRecursion IsPlainWord words
@@ -172,7 +187,8 @@ pub length-spaced : (words : List (List ℕ)) → AllByRecursion IsPlainWord wor
 length-spaced [] plain = omega arith
 length-spaced (word ∷ []) plain = omega (arith, plain.0.short)
 length-spaced (word ∷ next ∷ words) plain =
-    omega (arith, plain.0.short, length-append word (32 ∷ spaced_words (next ∷ words)), length-spaced (next ∷ words) plain.1)
+    let joined = length-append word (32 ∷ spaced_words (next ∷ words)) in
+    omega (arith, plain.0.short, joined, length-spaced (next ∷ words) plain.1)
 
 -- a plain line is the first line of a text
 pub lines_of-plain : (words : List (List ℕ)) (text : List ℕ) → AllByRecursion IsPlainWord words

@@ -54,7 +54,8 @@ number_within limits word =
     by_test (not (is_number word)) (is_within limits (value_of word)) refl
   where
     by_test : (no_number within : Bool) → is_within limits (value_of word) ≡ within
-        → IfOk (cond no_number (Err BadNumber) (cond within (Ok (value_of word)) (Err OutOfRange))) (λ number. is_within limits number ≡ true)
+        → IfOk (cond no_number (Err BadNumber) (cond within (Ok (value_of word)) (Err OutOfRange)))
+        (λ number. is_within limits number ≡ true)
     by_test true within is = tt
     by_test false true is = is
     by_test false false is = tt
@@ -74,27 +75,43 @@ IsPort port = is_within port_limits port ≡ true
 abbrev IsOwner : ℕ → Type 0
 IsOwner owner = is_within owner_limits owner ≡ true
 
+module _ (Q : Call → Type 0) where
+  -- what holds behind a port that is read, and behind an owner
+  behind_port : (words : List (List ℕ)) (next : ℕ × List (List ℕ) → Result Call Cause)
+      → ((read : ℕ × List (List ℕ)) → IsPort read.0 → IfOk (next read) Q)
+      → IfOk (number_first port_limits words >>= next) Q
+  behind_port words next holds =
+      IfOk-then (λ (read : ℕ × List (List ℕ)). IsPort read.0) Q (number_first port_limits words) next
+      (first_within port_limits words) holds
+
+  behind_owner : (words : List (List ℕ)) (next : ℕ × List (List ℕ) → Result Call Cause)
+      → ((read : ℕ × List (List ℕ)) → IsOwner read.0 → IfOk (next read) Q)
+      → IfOk (number_first owner_limits words >>= next) Q
+  behind_owner words next holds =
+      IfOk-then (λ (read : ℕ × List (List ℕ)). IsOwner read.0) Q (number_first owner_limits words) next
+      (first_within owner_limits words) holds
+
 module _ (Q : Call → Type 0) (bind : (port owner : ℕ) → IsPort port → IsOwner owner → Q (Bind port owner false))
     (find : (port : ℕ) → IsPort port → Q (Find port))
     (release : (port owner : ℕ) → IsPort port → IsOwner owner → Q (Release port owner)) where
   bind_holds : (words : List (List ℕ)) → IfOk (bind_of words) Q
   unfolding bind_of
   bind_holds words =
-      IfOk-then (λ (read : ℕ × List (List ℕ)). IsPort read.0) Q (number_first port_limits words) _ (first_within port_limits words) (λ port is_port.
-      IfOk-then (λ (read : ℕ × List (List ℕ)). IsOwner read.0) Q (number_first owner_limits port.1) _ (first_within owner_limits port.1) (λ owner is_owner.
+      behind_port Q words _ (λ port is_port.
+      behind_owner Q port.1 _ (λ owner is_owner.
       IfOk-after Q (end_of owner.1) _ (λ end. bind port.0 owner.0 is_port is_owner)))
 
   find_holds : (words : List (List ℕ)) → IfOk (find_of words) Q
   unfolding find_of
   find_holds words =
-      IfOk-then (λ (read : ℕ × List (List ℕ)). IsPort read.0) Q (number_first port_limits words) _ (first_within port_limits words) (λ port is_port.
+      behind_port Q words _ (λ port is_port.
       IfOk-after Q (end_of port.1) _ (λ end. find port.0 is_port))
 
   release_holds : (words : List (List ℕ)) → IfOk (release_of words) Q
   unfolding release_of
   release_holds words =
-      IfOk-then (λ (read : ℕ × List (List ℕ)). IsPort read.0) Q (number_first port_limits words) _ (first_within port_limits words) (λ port is_port.
-      IfOk-then (λ (read : ℕ × List (List ℕ)). IsOwner read.0) Q (number_first owner_limits port.1) _ (first_within owner_limits port.1) (λ owner is_owner.
+      behind_port Q words _ (λ port is_port.
+      behind_owner Q port.1 _ (λ owner is_owner.
       IfOk-after Q (end_of owner.1) _ (λ end. release port.0 owner.0 is_port is_owner)))
 
   -- what holds of each call that can be written holds of what a verb asks
@@ -107,8 +124,9 @@ module _ (Q : Call → Type 0) (bind : (port owner : ℕ) → IsPort port → Is
       (IfOk-cond Q (is_word verb (codes "release")) _ (Err UnknownWord) (release_holds words) tt))
 
 -- the same of a fact that holds whatever port and owner it is
-pub call_holds : (Q : Call → Type 0) (bind : (port owner : ℕ) → Q (Bind port owner false)) (find : (port : ℕ) → Q (Find port))
-    (release : (port owner : ℕ) → Q (Release port owner)) (words : List (List ℕ)) → IfOk (call_of words) Q
+pub call_holds : (Q : Call → Type 0) (bind : (port owner : ℕ) → Q (Bind port owner false))
+    (find : (port : ℕ) → Q (Find port)) (release : (port owner : ℕ) → Q (Release port owner))
+    (words : List (List ℕ)) → IfOk (call_of words) Q
 call_holds Q bind find release =
     call_holds_within Q (λ port owner is_port is_owner. bind port owner) (λ port is_port. find port)
     (λ port owner is_port is_owner. release port owner)
@@ -121,8 +139,9 @@ module _ (P : ℕ × Call → Type 0) (Q : Call → Type 0) (table : TableLine)
   unfolding command_of
   command_holds [] = tt
   command_holds (worker ∷ words) =
+      let limits = worker_limits table.config in
       IfOk-cond P (is_schedule worker) (Err UnknownWord) _ tt
-      (IfOk-then (λ number. is_within (worker_limits table.config) number ≡ true) P (number_of (worker_limits table.config) worker) _ (number_within (worker_limits table.config) worker) (λ number within.
+      (IfOk-then (λ number. is_within limits number ≡ true) P (number_of limits worker) _ (number_within limits worker) (λ number within.
       IfOk-then Q P (call_of words) _ (each words) (λ call holds. both number call within holds)))
 
 -- ---- all command lines

@@ -1,6 +1,6 @@
--- Whatever is read, today's words can say. Each number of an option is read within its limits, so the options are allowed, and
--- where their first table has room their config is settled; what no option sets is as without options. Each command is
--- read with its worker, port and owner within their limits ("ReadCommands").
+-- Whatever is read, today's words can say. Each number of an option is read within its limits, so the options are
+-- allowed, and where their first table has room their config is settled; what no option sets is as without options. Each
+-- command is read with its worker, port and owner within their limits (`ReadCommands`).
 use Rattle.std.proofs.Common.{◌≡◌, ℕ, ◌+◌, ◌*◌, Bool, true, false, cond, Ok, Err, List, [], ◌∷◌, length, codes, refl, arith}
 use Rattle.std.specs.Prelude.{IfOk, nat_le, nat_lt}
 use Rattle.std.proofs.lemmas.Bool.{leb-true, and_parts}
@@ -39,8 +39,8 @@ module _ (value : List ℕ) where
       → ((number : ℕ) → IsWithinLimits limits number → IsAllowed (setting number))
       → IfOk (numbered setting limits value) IsAllowed
   numbered_allowed setting limits allowed =
-      IfOk-then (λ number. is_within limits number ≡ true) IsAllowed (number_of limits value) _ (number_within limits value)
-      (λ number within. allowed number (IsWithinLimits-test limits number within))
+      IfOk-then (λ number. is_within limits number ≡ true) IsAllowed (number_of limits value) _
+      (number_within limits value) (λ number within. allowed number (IsWithinLimits-test limits number within))
 
   setting_allowed : (name : List ℕ) → IfOk (setting_of name value) IsAllowed
   unfolding setting_of
@@ -91,7 +91,9 @@ config_sayable options are =
     where_room : (room : Bool) → has_room (configured options) ≡ room
         → IfOk (cond room (Ok (configured options)) (Err OptionsDisagree)) IsSayableConfig
     where_room true is = record {
-      settled = IsSettled-configured options are (leb-true (first_size (configured options)) (page_words * (configured options).pages) is);
+      settled =
+          IsSettled-configured options are
+          (leb-true (first_size (configured options)) (page_words * (configured options).pages) is);
       kind = refl;
       nodes = refl;
       callers = refl;
@@ -112,7 +114,8 @@ table_sayable (table ∷ []) = IfOk-cond IsSayableTable (is_word table (codes "t
 table_sayable (table ∷ kind ∷ words) =
     IfOk-cond IsSayableTable (is_word table (codes "table")) _ (Err NoTableLine)
     (IfOk-cond IsSayableTable (is_word kind (codes "single")) _ (Err UnknownWord)
-    (IfOk-then AreAllowed IsSayableTable (options_from no_options words) _ (options_allowed no_options words no_options_allowed) (λ options are.
+    (IfOk-then AreAllowed IsSayableTable (options_from no_options words) _
+    (options_allowed no_options words no_options_allowed) (λ options are.
     IfOk-then IsSayableConfig IsSayableTable (config_of options) _ (config_sayable options are) (λ config is.
     record { config = is; auto = refl })))
     tt)
@@ -132,12 +135,14 @@ said_sayable number [] = tt
 said_sayable number (line ∷ lines) =
     IfOk-after IsSayableAbove (at_line number (words_at number line)) _ (λ words.
     IfOk-cond IsSayableAbove (is_skipped words) (said_from (number + 1) lines) _ (said_sayable (number + 1) lines)
-    (IfOk-then IsSayableTable IsSayableAbove (at_line number (table_of words)) _ (IfOk-at_line IsSayableTable number (table_of words) (table_sayable words)) (λ table is.
+    (IfOk-then IsSayableTable IsSayableAbove (at_line number (table_of words)) _
+    (IfOk-at_line IsSayableTable number (table_of words) (table_sayable words)) (λ table is.
     IfOk-after IsSayableAbove (commands_from (number + 1) table lines) _ (λ commands.
     record { config = is.config; auto = is.auto; schedule = refl }))))
 
 -- each command is one of a worker, and its call has a verb
-command_sayable : (table : TableLine) (words : List (List ℕ)) → IfOk (command_of table words) (IsSayableCommand table.config)
+command_sayable : (table : TableLine) (words : List (List ℕ))
+    → IfOk (command_of table words) (IsSayableCommand table.config)
 command_sayable table =
     let port_is = IsWithinLimits-test port_limits in
     let owner_is = IsWithinLimits-test owner_limits in
@@ -151,8 +156,9 @@ command_sayable table =
 pub says_sayable : SaysSayable
 unfolding reading_of
 says_sayable bytes said read =
+    let lines = lines_of bytes in
     let above = IfOk-at_ok IsSayableAbove read
-    (IfOk-cond IsSayableAbove (nat_lt most_bytes (length bytes)) _ (said_from 1 (lines_of bytes)) tt (said_sayable 1 (lines_of bytes))) in
+    (IfOk-cond IsSayableAbove (nat_lt most_bytes (length bytes)) _ (said_from 1 lines) tt (said_sayable 1 lines)) in
     let are = reading_holds IsSayableCommand command_sayable bytes said read in
     record {
       config = above.config;

@@ -1,5 +1,5 @@
--- What follows from the grammar, in the words of scripts: which lines a fault depends on, that what can be said is read back as
--- it was, and what a script's meaning doesn't depend on.
+-- What follows from the grammar, in the words of scripts: which lines a fault depends on, that what can be said is read
+-- back as it was, and what a script's meaning doesn't depend on.
 use Rattle.std.specs.Prelude.{◌≡◌, ℕ, ◌+◌, ◌-◌, ◌≤◌, ◌⊎◌, not, Result, Ok, Err, IsOk, All, List, length, map, filter, take}
 use Rattle.rht_script.specs.declared.script.ScriptFault.{ScriptFault}
 use Rattle.rht_script.specs.declared.cause.Cause.TheVariants.{NoTableLine}
@@ -10,7 +10,7 @@ use Rattle.rht_script.specs.Plain.{IsSayable, plain_script}
 
 -- ---- first faults
 
--- a line of the input is at fault: the fault is neither that of too many bytes nor that the input ends without a table line
+-- a line of the input is at fault: the fault isn't that of too many bytes, nor that the input ends without a table line
 pub record IsLineFault (bytes : List ℕ) (fault : ScriptFault) : Type 0 where
   pub few : length bytes ≤ most_bytes
   pub line : fault.line ≤ length (lines_of bytes)
@@ -67,8 +67,8 @@ meaning_of (Ok said) = Ok said
 meaning_of (Err fault) = Err fault.cause
 
 -- Within these bounds the words of the lines that aren't skipped decide what is said, or the fault's cause: blank lines,
--- comments, and which blanks stand between words change nothing. That says nothing of what the words mean: it would hold as
--- well, were no input a script.
+-- comments, and which blanks stand between words change nothing. That says nothing of what the words mean: it would hold
+-- as well, were no input a script.
 abbrev pub WordsDecide : Type 0
 WordsDecide =
     (bytes other : List ℕ) → IsWithinBounds bytes → IsWithinBounds other

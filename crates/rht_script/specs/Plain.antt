@@ -1,5 +1,5 @@
--- What today's words can say, and how that is spelled plainly: one table line, one line a command, numbers in decimal, one space
--- between two words, and a line feed behind each line.
+-- What today's words can say, and how that is spelled plainly: one table line, one line a command, numbers in decimal,
+-- one space between two words, and a line feed behind each line.
 use Rattle.std.specs.Prelude.{◌≡◌, ℕ, ◌<◌, ◌==◌, true, false, if◌then◌else◌, All, List, [], ◌∷◌, ◌++◌, length, codes, decimal}
 use Rattle.std.specs.List.{flat_map, join_with_byte}
 use Rattle.rht_words.specs.declared.config.Config.{Config}
@@ -15,7 +15,7 @@ use Rattle.rht_script.specs.CommandLines.{port_limits, owner_limits, worker_limi
 
 -- ---- what can be said
 
--- the options can say the config: a table can be opened with it, and what no option sets is as it is without options
+-- the options can say the config: a table can be opened with it, and what no option sets is as without options
 pub record IsSayableConfig (config : Config) : Type 0 where
   pub settled : IsSettled config
   pub kind : config.kind ≡ plain_config.kind
@@ -24,7 +24,7 @@ pub record IsSayableConfig (config : Config) : Type 0 where
   pub max : config.max ≡ plain_config.max
   pub shrink : config.shrink ≡ plain_config.shrink
 
--- there is a verb for the call: each bind that is tried until it ends, each look-up and each release, of any port and owner
+-- there is a verb for the call: a bind that is tried until it ends, a look-up and a release, each of any port and owner
 abbrev pub IsSayableCall : Call → Type 0
 IsSayableCall (Bind port owner once) =
     IsWithinLimits port_limits port × IsWithinLimits owner_limits owner × (once ≡ false)

@@ -102,8 +102,8 @@ impl<'a> Words<'a> {
     pub fn is_skipped(&self) -> bool
         ensures { result ≡ is_skipped self.now }
     {
-        match (Words { rest: self.rest }).next() {
-            Some(word) => word.first() == Some(&b'#'),
+        match letter_at(self.rest) {
+            Some(start) => self.rest[start] == b'#',
             None => true,
         }
     }
