@@ -2,10 +2,8 @@
 -- lines, of all commands of a script; and there are no more commands than a script may have lines.
 use Rattle.std.proofs.Common.{◌≡◌, ℕ, ◌+◌, ◌≤◌, Bool, true, false, not, cond, Result, Ok, Err, List, [], ◌∷◌, length, codes, refl, arith}
 use Rattle.std.specs.Prelude.{IfOk, nat_lt}
-use Rattle.std.specs.List.{AllByRecursion, list_all}
-use Rattle.std.proofs.lemmas.Bool.{ltb-false, and_from}
-use Rattle.std.proofs.lemmas.List.Elements.{All-from_recursion}
-use Rattle.std.proofs.lemmas.List.Sums.{list_all-from_AllPass}
+use Rattle.std.specs.List.{AllByRecursion}
+use Rattle.std.proofs.lemmas.Bool.{ltb-false}
 use Rattle.std.proofs.lemmas.Result.{IfOk-at_ok}
 use Rattle.rht_words.specs.declared.config.Config.{Config}
 use Rattle.rht_words.specs.declared.limits.Limits.{Limits}
@@ -19,7 +17,6 @@ use Rattle.rht_script.specs.Grammar.{most_bytes, most_lines, most_in_line, at_li
 use Rattle.rht_script.specs.TableLines.{table_of}
 use Rattle.rht_script.specs.CommandLines.{port_limits, owner_limits, worker_limits, number_first, end_of, bind_of, find_of, release_of, call_of, is_schedule, command_of}
 use Rattle.rht_script.specs.Spelling.{◌>>=◌, is_word, is_number, value_of, is_within, number_of, lines_of, words_of, is_skipped}
-use Rattle.rht_script.specs.Sound.{is_sound_call, is_sound_command}
 
 -- ---- what holds of a value holds on the way to it
 
@@ -210,23 +207,3 @@ module _ (P : Config → ℕ × Call → Type 0)
   reading_holds bytes said read =
       IfOk-at_ok AreSaid read
       (IfOk-cond AreSaid (nat_lt most_bytes (length bytes)) _ (said_from 1 (lines_of bytes)) tt (said_hold 1 (lines_of bytes) (omega arith) (omega arith)))
-
--- ---- sound commands
-
-abbrev IsSoundCommand : Config → ℕ × Call → Type 0
-IsSoundCommand config command = is_sound_command config command ≡ true
-
-sound_each : (table : TableLine) (words : List (List ℕ))
-    → IfOk (command_of table words) (IsSoundCommand table.config)
-sound_each table =
-    command_holds (IsSoundCommand table.config) (λ call. is_sound_call table.config call ≡ true) table
-    (λ worker call within sound.
-    and_from (is_within (worker_limits table.config) worker) (is_sound_call table.config call) within sound)
-    (call_holds (λ call. is_sound_call table.config call ≡ true) (λ port owner. refl) (λ port. refl) (λ port owner. refl))
-
--- the commands that are read are sound, and few enough
-pub commands_sound : (bytes : List ℕ) (said : Said) → reading_of bytes ≡ Ok said
-    → (list_all (is_sound_command said.config) said.commands ≡ true) × (length said.commands ≤ most_lines)
-commands_sound bytes said read =
-    let are = reading_holds IsSoundCommand sound_each bytes said read in
-    (list_all-from_AllPass (is_sound_command said.config) said.commands (All-from_recursion (IsSoundCommand said.config) said.commands are.each), (let few = are.few in omega arith))

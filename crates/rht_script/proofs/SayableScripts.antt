@@ -1,14 +1,19 @@
 -- Whatever is read, today's words can say. Each number of an option is read within its limits, so the options are
 -- allowed, and where their first table has room their config is settled; what no option sets is as without options. Each
 -- command is read with its worker, port and owner within their limits (`ReadCommands`).
-use Rattle.std.proofs.Common.{◌≡◌, ℕ, ◌+◌, ◌*◌, Bool, true, false, cond, Ok, Err, List, [], ◌∷◌, length, codes, refl, arith}
+use Rattle.std.proofs.Common.{◌≡◌, ℕ, ◌+◌, ◌*◌, Bool, true, false, not, cond, Ok, Err, List, [], ◌∷◌, length, codes, refl, ap, arith}
 use Rattle.std.specs.Prelude.{IfOk, nat_le, nat_lt}
-use Rattle.std.proofs.lemmas.Bool.{leb-true, and_parts}
-use Rattle.std.proofs.lemmas.List.Elements.{All-from_recursion}
+use Rattle.std.proofs.lemmas.Bool.{le-leb, leb-true, and_from, and_parts}
+use Rattle.std.proofs.lemmas.List.Elements.{All-from_recursion, All-weaker}
+use Rattle.std.proofs.lemmas.List.Sums.{list_all-from_AllPass}
 use Rattle.std.proofs.lemmas.Result.{IfOk-at_ok}
+use Rattle.rht_words.specs.declared.config.Config.{Config}
 use Rattle.rht_words.specs.declared.limits.Limits.{Limits}
 use Rattle.rht_words.specs.Limits.{IsWithinLimits, hint_limits, min_limits, page_limits, seed_limits, rewalk_limits, page_words}
 use Rattle.rht_words.specs.Sizes.{first_size}
+use Rattle.rht_model.specs.declared.history.Call.{Call}
+use Rattle.rht_model.specs.declared.history.Call.TheVariants.{Bind, Find, All as ListAll, Release, Rebind, Walk, Work, Tidy, Count}
+use Rattle.rht_script.specs.declared.script.Script.{Script}
 use Rattle.rht_script.specs.declared.script.TableLine.{TableLine}
 use Rattle.rht_script.specs.declared.cause.Cause.TheVariants.{NoTableLine, UnknownWord, OptionsDisagree}
 use Rattle.rht_script.specs.declared.options.Setting.{Setting}
@@ -20,6 +25,8 @@ use Rattle.rht_script.specs.CommandLines.{port_limits, owner_limits, worker_limi
 use Rattle.rht_script.specs.Grammar.{most_bytes, at_line, words_at, Said, commands_from, said_from, reading_of}
 use Rattle.rht_script.specs.Allowed.{IsAllowed, AreAllowed}
 use Rattle.rht_script.specs.Plain.{IsSayableConfig, IsSayableCall, IsSayableCommand}
+use Rattle.rht_script.specs.Reading.{said_by}
+use Rattle.rht_script.specs.Sound.{is_sound_call, is_sound_command, IsSoundScript}
 use Rattle.rht_script.specs.Laws.{SaysSayable}
 use Rattle.rht_script.proofs.ConfigLemmas.{IsSettled-configured}
 use Rattle.rht_script.proofs.ReadCommands.{IfOk-then, IfOk-after, IfOk-cond, IfOk-at_line, number_within, call_holds_within, command_holds, reading_holds}
@@ -166,4 +173,41 @@ says_sayable bytes said read =
       commands = All-from_recursion (IsSayableCommand said.config) said.commands are.each;
       few = (let few = are.few in omega arith);
       schedule = above.schedule;
+    }
+
+-- ---- sound scripts
+
+-- a call for which there is a verb can be run
+is_sound_call-sayable : (config : Config) (call : Call) → IsSayableCall call → is_sound_call config call ≡ true
+is_sound_call-sayable config (Bind port owner once) sayable = ap not sayable.2
+is_sound_call-sayable config (Find port) sayable = refl
+is_sound_call-sayable config (ListAll port) sayable = absurd sayable
+is_sound_call-sayable config (Release port owner) sayable = refl
+is_sound_call-sayable config (Rebind port owner new) sayable = absurd sayable
+is_sound_call-sayable config (Walk from limit) sayable = absurd sayable
+is_sound_call-sayable config Work sayable = absurd sayable
+is_sound_call-sayable config Tidy sayable = absurd sayable
+is_sound_call-sayable config Count sayable = absurd sayable
+
+-- so a command that can be said is sound
+is_sound_command-sayable : (config : Config) (command : ℕ × Call) → IsSayableCommand config command
+    → is_sound_command config command ≡ true
+is_sound_command-sayable config command sayable =
+    let limits = worker_limits config in
+    let within = sayable.0 in
+    and_from (is_within limits command.0) (is_sound_call config command.1)
+    (and_from (nat_le limits.least command.0) (nat_le command.0 limits.greatest) (le-leb limits.least command.0 within.0) (le-leb command.0 limits.greatest within.1))
+    (is_sound_call-sayable config command.1 sayable.1)
+
+-- and a script that the bytes say is sound
+pub IsSoundScript-read : (bytes : List ℕ) (script : Script) → reading_of bytes ≡ Ok (said_by script) → IsSoundScript script
+IsSoundScript-read bytes script read =
+    let sayable = says_sayable bytes (said_by script) read in
+    let each = All-weaker (IsSayableCommand script.config) (λ command. is_sound_command script.config command ≡ true)
+    (is_sound_command-sayable script.config) script.commands.items sayable.commands in
+    record {
+      settled = sayable.config.settled;
+      few = (let few = sayable.few in omega (arith, script.commands.ok.0));
+      commands = list_all-from_AllPass (is_sound_command script.config) script.commands.items each;
+      schedule = rw sayable.schedule refl;
     }

@@ -2,8 +2,7 @@
 //!
 //! Stands on `rht_words`, which rounds sizes and says how large a first table is.
 
-ghost use Rattle.std.specs.Prelude.{◌≡◌, IfOk};
-ghost use Rattle.rht_words.specs.Settled.{IsSettled};
+ghost use Rattle.std.specs.Prelude.{◌≡◌};
 ghost use Rattle.rht_script.specs.TableLines.{no_options, with_setting, configured, config_of};
 ghost use Rattle.rht_script.specs.Allowed.{AreAllowed, IsAllowed};
 
@@ -107,12 +106,11 @@ impl Options {
         }
     }
 
-    /// The config of these options. It is settled, so a table can be opened with it.
+    /// The config of these options, where they agree.
     #[tactic(auto, unfolding(crate::specs::TableLines::config_of))]
     pub(crate) fn config(self) -> Result<Config, Cause>
         requires { AreAllowed self }
-        ensures value { result ≡ config_of self }
-        ensures settled { IfOk result IsSettled }
+        ensures { result ≡ config_of self }
     {
         let config = self.configured();
         if self.twice || config.starting_size() > PAGE_WORDS * config.pages {

@@ -4,7 +4,6 @@
 //! on the options of a table line. Begin with `read`.
 
 ghost use Rattle.std.specs.Prelude.{◌≡◌, ◌+◌, ◌<◌, ◌≤◌, ◌==◌, Ok, Err, IfOk, IfErr, MatchResult, MatchOption, count_by, length, take, fold};
-ghost use Rattle.rht_words.specs.Settled.{IsSettled};
 ghost use Rattle.rht_script.specs.Grammar.{fault_at, commands_from, said_with, said_from};
 ghost use Rattle.rht_script.specs.TableLines.{no_options, table_of, hash_of, setting_of, options_from};
 ghost use Rattle.rht_script.specs.CommandLines.{command_of, call_of, bind_of, find_of, release_of, is_schedule};
@@ -76,10 +75,9 @@ fn line_feeds(bytes: &[u8]) -> u32
 
 /// What the table line says, which is the first line that isn't skipped.
 fn table_line(lines: &mut Lines) -> Result<TableLine, ScriptFault>
-    ensures reading { MatchResult result
+    ensures { MatchResult result
         (λ table. said_from lines.old.number lines.old.lines ≡ said_with table lines.new.number lines.new.lines)
         (λ fault. said_from lines.old.number lines.old.lines ≡ Err fault) }
-    ensures settled { IfOk result (λ table. IsSettled table.config) }
 {
     while let Some((number, line)) = lines.next()? {
         let words = Words::new(line);
@@ -114,8 +112,7 @@ fn commands(
 /// What a table line of these words says.
 #[tactic(auto, unfolding(crate::specs::TableLines::table_of))]
 fn table(mut words: Words) -> Result<TableLine, Cause>
-    ensures value { result ≡ table_of words.entry }
-    ensures settled { IfOk result (λ table. IsSettled table.config) }
+    ensures { result ≡ table_of words.entry }
 {
     if words.next() != Some(TABLE) {
         return Err(Cause::NoTableLine);
