@@ -1,26 +1,17 @@
--- The registry's list of pairs, each a port and its one owner, as bindings.
+-- The plain list's pairs, each a port and its one owner, as bindings.
 use Rattle.std.specs.Prelude.{◌≡◌, ℕ, ◌+◌, ◌<◌, ◌≤◌, ◌==◌, if◌then◌else◌, Option, None, Some, List, [], ◌∷◌, length, map, take, drop}
 use Rattle.std.specs.List.{AllByRecursion}
-use Rattle.rht_model.specs.declared.history.Call.{Call}
-use Rattle.rht_model.specs.declared.history.Call.TheVariants.{Bind, Find, Release}
 use Rattle.rht_model.specs.Multimap.{Multimap}
 
--- the calls that the registry serves
-abbrev pub IsServed : Call → Type 0
-IsServed (Bind port owner once) = Unit {0}
-IsServed (Find port) = Unit {0}
-IsServed (Release port owner) = Unit {0}
-IsServed _ = ⊥
-
 -- what the pairs say of a port: the owner of the first pair that has it
-abbrev pub bindings_in : List (ℕ × ℕ) → Multimap
-bindings_in [] port = []
-bindings_in (pair ∷ pairs) port = if port == pair.0 then pair.1 ∷ [] else bindings_in pairs port
+abbrev pub bound_in : List (ℕ × ℕ) → Multimap
+bound_in [] port = []
+bound_in (pair ∷ pairs) port = if port == pair.0 then pair.1 ∷ [] else bound_in pairs port
 
 -- each pair has a lower port than those after it
-abbrev pub IsRising : List (ℕ × ℕ) → Type 0
-IsRising [] = Unit {0}
-IsRising (pair ∷ pairs) = AllByRecursion (λ other. pair.0 < other.0) pairs × IsRising pairs
+abbrev pub HasRisingPorts : List (ℕ × ℕ) → Type 0
+HasRisingPorts [] = Unit {0}
+HasRisingPorts (pair ∷ pairs) = AllByRecursion (λ other. pair.0 < other.0) pairs × HasRisingPorts pairs
 
 -- The pairs before this place have lower ports, and none from it on has.
 pub record IsPlace (pairs : List (ℕ × ℕ)) (port place : ℕ) : Type 0 where
