@@ -1,20 +1,16 @@
--- How `Replies` keeps a reply: lists lie apart where there are any.
-use Rattle.std.specs.Prelude.{ℕ, Option, None, Some, List, []}
-use Rattle.std.specs.declared.alloc.Global.{Global}
-use Rattle.std.specs.declared.boxed.Box.{Box}
-use Rattle.rht_model.specs.declared.replies.Lists.{Lists}
+-- How `Replies` keeps a reply: most by themselves, and the others apart, with their lists.
+use Rattle.std.specs.Prelude.{[]}
+use Rattle.rht_model.specs.declared.history.Reply.TheVariants as replies
 use Rattle.rht_model.specs.declared.replies.Kept.{Kept}
+use Rattle.rht_model.specs.declared.replies.Kept.TheVariants.{Bound, Exists, Found, Missing, Released, Absent, Apart}
 use Rattle.rht_model.specs.Endings.{Ending, replied}
-
--- the owners, and the pairs, that lie apart
-abbrev pub owners_beside : Option (Box Lists Global) → List ℕ
-owners_beside None = []
-owners_beside (Some lists) = lists.value.owners.items
-
-abbrev pub pairs_beside : Option (Box Lists Global) → List (ℕ × ℕ)
-pairs_beside None = []
-pairs_beside (Some lists) = lists.value.pairs.items
 
 -- the ending that is kept so
 abbrev pub ending_of : Kept → Ending
-ending_of kept = replied kept.reply (owners_beside kept.beside) (pairs_beside kept.beside)
+ending_of (Bound kick) = replied (replies.Bound kick) [] []
+ending_of (Exists owner) = replied (replies.Exists owner) [] []
+ending_of (Found owner) = replied (replies.Found owner) [] []
+ending_of Missing = replied replies.Missing [] []
+ending_of (Released kick) = replied (replies.Released kick) [] []
+ending_of Absent = replied replies.Absent [] []
+ending_of (Apart whole) = replied whole.value.reply whole.value.owners.items whole.value.pairs.items

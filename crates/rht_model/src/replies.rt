@@ -2,25 +2,31 @@
 
 ghost use Rattle.std.specs.Prelude.{◌≡◌, ◌<◌, [], ◌∷◌, ◌++◌, length, IsTrue, ◌↔◌, IfSome, IfOk, OnOk, OnErr, slice_get};
 ghost use Rattle.rht_model.specs.Endings.{replied};
-ghost use Rattle.rht_model.specs.KeptReplies.{owners_beside, pairs_beside};
+ghost use Rattle.rht_model.specs.KeptReplies.{ending_of};
 
 use crate::history::Reply;
 use rht_words::Port;
 use std::alloc::{AllocError, Global};
 use std::marker::Model;
 
-/// The lists that come beside a reply.
+/// A reply with the lists that came beside it.
 #[derive(Debug, Drop)]
-struct Lists {
+struct Whole {
+    reply: Reply,
     owners: Vec<u32>,
     pairs: Vec<(Port, u32)>,
 }
 
-/// A reply. Few have a list, so lists lie apart.
+/// A reply as it is kept. Those that scripts have most, without lists, take the least room.
 #[derive(Debug, Drop)]
-struct Kept {
-    reply: Reply,
-    beside: Option<Box<Lists>>,
+enum Kept {
+    Bound { kick: bool },
+    Exists { owner: u32 },
+    Found { owner: u32 },
+    Missing,
+    Released { kick: bool },
+    Absent,
+    Apart(Box<Whole>),
 }
 
 /// Replies, each with the lists that came beside it, in the order of the commands. Contracts see
@@ -61,8 +67,8 @@ impl Replies {
         ensures ok { OnOk result (self.new ≡ self.old ++ replied reply owners.now pairs.now ∷ []) }
         ensures err { OnErr result (self.new ≡ self.old) }
     {
-        let beside = lists_of(*self.kept.allocator(), owners, pairs)?;
-        self.kept.push(Kept { reply, beside })?;
+        let kept = kept_of(*self.kept.allocator(), reply, owners, pairs)?;
+        self.kept.push(kept)?;
         Ok(())
     }
 
@@ -85,7 +91,15 @@ impl Replies {
         requires { i < length self.now }
         ensures { IfSome (slice_get self.now i) (λ ending. result ≡ ending.answer.reply) }
     {
-        self.kept[i].reply
+        match &self.kept[i] {
+            Kept::Bound { kick } => Reply::Bound { kick: *kick },
+            Kept::Exists { owner } => Reply::Exists { owner: *owner },
+            Kept::Found { owner } => Reply::Found { owner: *owner },
+            Kept::Missing => Reply::Missing,
+            Kept::Released { kick } => Reply::Released { kick: *kick },
+            Kept::Absent => Reply::Absent,
+            Kept::Apart(whole) => whole.reply,
+        }
     }
 
     /// The owners that came beside the reply at this place, counted from 0.
@@ -93,9 +107,9 @@ impl Replies {
         requires { i < length self.now }
         ensures { IfSome (slice_get self.now i) (λ ending. result.now ≡ ending.answer.owners) }
     {
-        match &self.kept[i].beside {
-            Some(lists) => &lists.owners,
-            None => &[],
+        match &self.kept[i] {
+            Kept::Apart(whole) => &whole.owners,
+            _ => &[],
         }
     }
 
@@ -104,26 +118,48 @@ impl Replies {
         requires { i < length self.now }
         ensures { IfSome (slice_get self.now i) (λ ending. result.now ≡ ending.pairs) }
     {
-        match &self.kept[i].beside {
-            Some(lists) => &lists.pairs,
-            None => &[],
+        match &self.kept[i] {
+            Kept::Apart(whole) => &whole.pairs,
+            _ => &[],
         }
     }
 }
 
-/// The lists, where one of them isn't empty.
-fn lists_of(
+/// How the reply is kept with its lists.
+fn kept_of(
     alloc: Global,
+    reply: Reply,
     owners: &[u32],
     pairs: &[(Port, u32)],
-) -> Result<Option<Box<Lists>>, AllocError>
-    ensures owners { IfOk result (λ beside. owners_beside beside ≡ owners.now) }
-    ensures pairs { IfOk result (λ beside. pairs_beside beside ≡ pairs.now) }
+) -> Result<Kept, AllocError>
+    ensures { IfOk result (λ kept. ending_of kept ≡ replied reply owners.now pairs.now) }
 {
     if owners.is_empty() && pairs.is_empty() {
-        return Ok(None);
+        if let Some(kept) = without_lists(reply) {
+            return Ok(kept);
+        }
     }
     let owners = owners.to_vec(alloc)?;
     let pairs = pairs.to_vec(alloc)?;
-    Ok(Some(Box::new(alloc, Lists { owners, pairs })?))
+    let whole = Whole {
+        reply,
+        owners,
+        pairs,
+    };
+    Ok(Kept::Apart(Box::new(alloc, whole)?))
+}
+
+/// How the reply is kept where no list came with it, if it isn't kept apart.
+fn without_lists(reply: Reply) -> Option<Kept>
+    ensures { IfSome result (λ kept. ending_of kept ≡ replied reply [] []) }
+{
+    match reply {
+        Reply::Bound { kick } => Some(Kept::Bound { kick }),
+        Reply::Exists { owner } => Some(Kept::Exists { owner }),
+        Reply::Found { owner } => Some(Kept::Found { owner }),
+        Reply::Missing => Some(Kept::Missing),
+        Reply::Released { kick } => Some(Kept::Released { kick }),
+        Reply::Absent => Some(Kept::Absent),
+        _ => None,
+    }
 }
