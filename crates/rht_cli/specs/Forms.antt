@@ -3,6 +3,7 @@
 use Rattle.std.specs.Prelude.{◌≡◌, ℕ, if◌then◌else◌, Option, None, Some, Ok, List, [], ◌∷◌, codes}
 use Rattle.std.specs.Io.KnownBytes.{IsAtEnd, Consumes}
 use Rattle.std.specs.Str.{bytes_eq}
+use Rattle.rht_words.specs.Sizes.{first_size}
 use Rattle.rht_model.specs.Multimap.{unbound}
 use Rattle.rht_model.specs.Listing.{Lists}
 use Rattle.rht_script.specs.declared.script.ScriptFault.{ScriptFault}
@@ -12,7 +13,7 @@ use Rattle.rht_script.specs.Text.{run_text}
 use Rattle.rht_cli.specs.declared.form.Form.{Form}
 use Rattle.rht_cli.specs.declared.form.Form.TheVariants.{Run}
 use Rattle.rht_cli.specs.Input.{IsRead}
-use Rattle.rht_cli.specs.Outcomes.{workers_endings, bindings_of, table_size}
+use Rattle.rht_cli.specs.Outcomes.{workers_endings, bindings_of}
 
 -- the form that a single word is
 abbrev pub form_of_word : List ℕ → Option Form
@@ -47,7 +48,7 @@ pub record IsNoScript (left left_after : Option (List ℕ)) (fault : ScriptFault
 pub record IsPlainText (said : Said) (text : List ℕ) : Type 0 where
   pub bound : List (ℕ × List ℕ)
   pub lists : Lists bound (bindings_of unbound said.commands)
-  pub written : text ≡ run_text (workers_endings said) bound (table_size said.config)
+  pub written : text ≡ run_text (workers_endings said) bound (first_size said.config)
 
 -- what reading this form's input means, and that the input says this
 unfoldable pub IsInputOf : Form → Option (List ℕ) → Option (List ℕ) → Said → Type 0

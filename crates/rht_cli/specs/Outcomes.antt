@@ -2,8 +2,7 @@
 -- Calls are made one after another, in the order of the script.
 use Rattle.std.specs.Prelude.{◌≡◌, ℕ, ◌+◌, ◌≤◌, ◌==◌, if◌then◌else◌, Option, None, Some, List, [], ◌∷◌, ◌++◌, length, map}
 use Rattle.std.specs.List.{range_with_len}
-use Rattle.rht_words.specs.Sizes.{starting_size}
-use Rattle.rht_words.specs.declared.config.Config.{Config}
+use Rattle.rht_words.specs.Sizes.{first_size}
 use Rattle.rht_words.specs.declared.config.Kind.TheVariants.{Single}
 use Rattle.rht_model.specs.declared.history.Call.{Call}
 use Rattle.rht_model.specs.Multimap.{Multimap, unbound}
@@ -46,13 +45,9 @@ abbrev pub workers_endings : Said → List (List Ending)
 workers_endings said =
     map (λ worker. endings_of worker unbound said.commands) (range_with_len 1 said.config.callers)
 
--- the size of the table, in buckets: that of the first table of the config
-abbrev pub table_size : Config → ℕ
-table_size config = starting_size config.hint config.min config.max
-
 -- The workers leave how each one's commands end, and the listing of what is bound then.
 pub record IsOutcome (said : Said) (outcome : Outcome) : Type 0 where
   pub replies : outcome.replies.items ≡ workers_endings said
   pub bound : Lists outcome.closed.bindings.pairs (bindings_of unbound said.commands)
-  pub size : outcome.closed.size ≡ table_size said.config
+  pub size : outcome.closed.size ≡ first_size said.config
   pub keys : outcome.closed.keys ≡ length outcome.closed.bindings.pairs

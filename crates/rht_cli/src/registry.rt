@@ -6,7 +6,7 @@
 
 ghost use Rattle.std.specs.Prelude.{◌≡◌, ◌+◌, ◌<◌, ◌≤◌, List, [], length, IfOk, OnOk, replicate, ◌∷◌};
 ghost use Rattle.std.specs.List.{AllByRecursion};
-ghost use Rattle.rht_script.specs.Sound.{IsSound};
+ghost use Rattle.rht_script.specs.Sound.{IsSoundScript};
 ghost use Rattle.rht_script.specs.Reading.{said_by};
 ghost use Rattle.rht_cli.specs.Pairs.{bound_in, HasRisingPorts};
 ghost use Rattle.rht_cli.specs.Outcomes.{bindings_of, gained, IsWorkersCommand, IsOutcome};
@@ -17,7 +17,6 @@ use self::plain_list::PlainList;
 use rht_io::Gate;
 use rht_model::{Call, Closed, Replies};
 use rht_script::Script;
-use rht_words::starting_size;
 use std::alloc::{AllocError, Global};
 use std::sync::Wait;
 use std::thread::Threads;
@@ -38,16 +37,15 @@ pub fn run_workers<R: Threads + Wait + Sync, G: Gate + Sync>(
     script: &Script,
     _gate: &G,
 ) -> Result<Outcome, AllocError>
-    requires { IsSound script.now }
+    requires { IsSoundScript script.now }
     ensures { IfOk result (IsOutcome (said_by script.now)) }
 {
-    let config = &script.config;
-    let mut replies = no_replies(alloc, config.callers)?;
+    let mut replies = no_replies(alloc, script.config.callers)?;
     let mut list = PlainList::new(alloc);
     answer_all(&script.commands, &mut list, &mut replies)?;
     let closed = Closed {
         bindings: list.bindings(alloc)?,
-        size: starting_size(config.hint, config.min, config.max),
+        size: script.config.starting_size(),
         keys: list.len() as u32,
     };
     Ok(Outcome { replies, closed })

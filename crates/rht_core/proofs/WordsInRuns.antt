@@ -13,7 +13,8 @@ use Rattle.rht_words.specs.declared.machine.Next.{Next}
 use Rattle.rht_words.specs.declared.machine.Next.TheVariants.{Go, Done}
 use Rattle.rht_words.specs.Operations.{op_place, old_of, applied}
 use Rattle.rht_words.specs.Maps.{map_bits}
-use Rattle.rht_words.specs.Opening.{first_size, first_slot, opening_word}
+use Rattle.rht_words.specs.Opening.{first_slot, opening_word}
+use Rattle.rht_words.specs.Sizes.{first_size}
 use Rattle.rht_words.specs.Places.{Address, NextSerial, Slot, NodeMap, PageMap, SlotWord, ShapeWord, SeedWord, StateWord, address_at}
 use Rattle.rht_words.proofs.EachElement.{AllByRecursion-set, AllByRecursion-map, AllByRecursion-get_or, each_set, each_replicate}
 use Rattle.rht_model.specs.declared.history.Call.{Call}
@@ -36,7 +37,7 @@ use Rattle.rht_core.proofs.StoredWords.{Fits, OpFits, word_after-fits, FindFits,
 -- ---- at opening
 
 first_slot-fits : (env : Env) (word : SlotWord) → env.config.seed < 2 ^ 32 → Fits (first_slot env word)
-first_slot-fits env ShapeWord small = omega (arith, trailing_le 32 (first_size env))
+first_slot-fits env ShapeWord small = omega (arith, trailing_le 32 (first_size env.config))
 first_slot-fits env SeedWord small = omega arith
 first_slot-fits env StateWord small = omega arith
 first_slot-fits env _ small = omega arith

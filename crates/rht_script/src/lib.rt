@@ -7,11 +7,12 @@
 #![tactic(auto)]
 
 mod cause;
+pub mod laws;
 mod options;
 mod reader;
 mod script;
 mod writer;
 
 pub use reader::{MOST_BYTES, read};
-pub use script::{ReadError, Sched, Script, ScriptFault};
+pub use script::{ReadError, Sched, Script, ScriptFault, TableLine};
 pub use writer::{write_closed, write_fault, write_reply, write_run};

@@ -27,7 +27,7 @@ returns-in-Ok g c =
     let said = said_by c.in_ok-script.script in
     let bytes = c.in_ok-bytes.bytes.items in
     let script : reading_of bytes ≡ Ok said =
-    subst (λ (l : List ℕ). reading_of l ≡ Ok said) c.deref.ensures.value c.in_ok-script.ensures.script.said in
+    subst (λ (l : List ℕ). reading_of l ≡ Ok said) c.deref.ensures.value c.in_ok-script.ensures.script in
     let left = g.S.Source.left in
     let read = IsInputOf-read (left c.args.source.now) (left c.read_all.new.source) bytes said c.in_ok-bytes.ensures.read script in
     let printed : IsTextOf Run said text =
@@ -44,7 +44,7 @@ returns g c =
     let said = said_by c.in_ok-script.script in
     let bytes = c.in_ok-bytes.bytes.items in
     let script : reading_of bytes ≡ Ok said =
-    subst (λ (l : List ℕ). reading_of l ≡ Ok said) c.deref.ensures.value c.in_ok-script.ensures.script.said in
+    subst (λ (l : List ℕ). reading_of l ≡ Ok said) c.deref.ensures.value c.in_ok-script.ensures.script in
     let left = g.S.Source.left in
     let read = IsInputOf-read (left c.args.source.now) (left c.read_all.new.source) bytes said c.in_ok-bytes.ensures.read script in
     let printed : IsTextOf Run said text =

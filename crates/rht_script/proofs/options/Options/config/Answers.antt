@@ -1,7 +1,8 @@
 use Rattle.std.proofs.Common.{◌≤◌, ◌*◌, sym, ap, subst, arith}
 use Rattle.rht_words.specs.declared.config.Config.{Config}
 use Rattle.rht_words.specs.Settled.{IsSettled}
-use Rattle.rht_words.specs.Sizes.{starting_size}
+use Rattle.rht_words.specs.Limits.{page_words}
+use Rattle.rht_words.specs.Sizes.{first_size}
 use Rattle.rht_script.proofs.ConfigLemmas.{hint_within, pages_within, IsSettled-configured}
 use Rattle.rht_script.proofs.options.Options.config.Goals as goal
 
@@ -16,7 +17,7 @@ overflow_mul-config c =
 pub returns-clause-settled : goal.returns-clause-settled
 returns-clause-settled c =
     let config = c.configured-config.result in
-    let room : starting_size config.hint config.min config.max ≤ 64 * config.pages = omega arith in
+    let room : first_size config ≤ page_words * config.pages = omega arith in
     subst IsSettled (sym c.configured-config.ensures)
     (IsSettled-configured c.args.self c.requires
-    (subst (λ (config : Config). starting_size config.hint config.min config.max ≤ 64 * config.pages) c.configured-config.ensures room))
+    (subst (λ (config : Config). first_size config ≤ page_words * config.pages) c.configured-config.ensures room))
