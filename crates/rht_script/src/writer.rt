@@ -148,11 +148,7 @@ fn add_closed<O: Sink>(text: &mut Writer<'_, O>, closed: &Closed) -> Result<(), 
 
 /// Writes the text of a run: the reply lines of the first worker in the order of its commands, then
 /// those of the second, and so on, and then the last bindings.
-pub fn write_run<O: Sink>(
-    out: &mut O,
-    workers: &[Replies],
-    closed: &Closed,
-) -> Result<(), Failed>
+pub fn write_run<O: Sink>(out: &mut O, workers: &[Replies], closed: &Closed) -> Result<(), Failed>
     requires { closed.now.keys ≡ length closed.now.bindings.pairs }
     ensures { Puts O.held O.faults out.old out.new result
         (run_text workers.now closed.now.bindings.pairs closed.now.size) }
@@ -211,11 +207,7 @@ fn add_ports<O: Sink>(text: &mut Writer<'_, O>, bindings: &Bindings) -> Result<(
 }
 
 /// Adds the line of a port.
-fn add_port<O: Sink>(
-    text: &mut Writer<'_, O>,
-    port: Port,
-    owners: &[u32],
-) -> Result<(), Failed>
+fn add_port<O: Sink>(text: &mut Writer<'_, O>, port: Port, owners: &[u32]) -> Result<(), Failed>
     ensures text { Adds O.held O.faults text.old.out.now text.new.out.now result
         text.old.waiting text.new.waiting (port_line (port, owners.now)) }
     ensures same_sink { text.new.out.ghost_name ≡ text.old.out.ghost_name }
@@ -227,11 +219,7 @@ fn add_port<O: Sink>(
 }
 
 /// Adds the last line.
-fn add_last_line<O: Sink>(
-    text: &mut Writer<'_, O>,
-    size: u32,
-    keys: u32,
-) -> Result<(), Failed>
+fn add_last_line<O: Sink>(text: &mut Writer<'_, O>, size: u32, keys: u32) -> Result<(), Failed>
     ensures text { Adds O.held O.faults text.old.out.now text.new.out.now result
         text.old.waiting text.new.waiting (last_line size keys) }
     ensures same_sink { text.new.out.ghost_name ≡ text.old.out.ghost_name }

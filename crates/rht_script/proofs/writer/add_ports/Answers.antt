@@ -14,7 +14,7 @@ pub loop-i-preserved : goal.loop-i-preserved
 loop-i-preserved g c =
     record {
       text = Adds-item port_line c.args.bindings.now.pairs c.loop-i.i _
-        (pair_at c.args.bindings.now.pairs c.loop-i.i _ _ c.port.ensures c.owners.ensures)
-        c.loop-i.invariant.text c.in_ok-add_port.ensures.text;
+          (pair_at c.args.bindings.now.pairs c.loop-i.i _ _ c.port.ensures c.owners.ensures)
+          c.loop-i.invariant.text c.in_ok-add_port.ensures.text;
       same_sink = c.in_ok-add_port.ensures.same_sink ∙ c.loop-i.invariant.same_sink;
     }

@@ -18,6 +18,6 @@ loop-owner-preserved g c =
     let next = Adds-same c.in_ok-add_spaced.ensures.text (ap spaced c.into.ensures) in
     record {
       text = Adds-item spaced c.args.owners.now c.loop-owner.owner-index _ (slice_get-get_or _ _ 0 within)
-        c.loop-owner.invariant.text next;
+          c.loop-owner.invariant.text next;
       same_sink = c.in_ok-add_spaced.ensures.same_sink ∙ c.loop-owner.invariant.same_sink;
     }
