@@ -4,7 +4,7 @@ use Rattle.std.specs.Prelude.{◌≡◌, ℕ, if◌then◌else◌, Option, None,
 use Rattle.std.specs.Io.KnownBytes.{IsAtEnd, Consumes}
 use Rattle.std.specs.Str.{bytes_eq}
 use Rattle.rht_words.specs.Sizes.{first_size}
-use Rattle.rht_model.specs.Multimap.{unbound}
+use Rattle.rht_model.specs.Multimap.{Port, unbound}
 use Rattle.rht_model.specs.Listing.{Lists}
 use Rattle.rht_script.specs.declared.script.ScriptFault.{ScriptFault}
 use Rattle.rht_script.specs.Grammar.{Said, reading_of}
@@ -46,7 +46,7 @@ pub record IsNoScript (left left_after : Option (List ℕ)) (fault : ScriptFault
 
 -- The text is that of a plain list of ports that does the commands one after another.
 pub record IsPlainText (said : Said) (text : List ℕ) : Type 0 where
-  pub bound : List (ℕ × List ℕ)
+  pub bound : List (Port × List ℕ)
   pub lists : Lists bound (bindings_of unbound said.commands)
   pub written : text ≡ run_text (workers_endings said) bound (first_size said.config)
 

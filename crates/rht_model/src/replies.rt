@@ -58,6 +58,7 @@ impl Replies {
 
     /// Appends a reply with the lists that came beside it. The one refusal is want of memory; the
     /// replies are then as before.
+    #[inline]
     pub fn push(
         &mut self,
         reply: Reply,
@@ -73,6 +74,7 @@ impl Replies {
     }
 
     /// The number of replies.
+    #[inline]
     pub fn len(&self) -> usize
         ensures { result ≡ length self.now }
     {
@@ -87,6 +89,7 @@ impl Replies {
     }
 
     /// The reply at this place, counted from 0.
+    #[inline]
     pub fn reply(&self, i: usize) -> Reply
         requires { i < length self.now }
         ensures { IfSome (slice_get self.now i) (λ ending. result ≡ ending.answer.reply) }
@@ -103,6 +106,7 @@ impl Replies {
     }
 
     /// The owners that came beside the reply at this place, counted from 0.
+    #[inline]
     pub fn owners(&self, i: usize) -> &[u32]
         requires { i < length self.now }
         ensures { IfSome (slice_get self.now i) (λ ending. result.now ≡ ending.answer.owners) }
@@ -114,6 +118,7 @@ impl Replies {
     }
 
     /// The pairs that came beside the reply at this place, counted from 0.
+    #[inline]
     pub fn pairs(&self, i: usize) -> &[(Port, u32)]
         requires { i < length self.now }
         ensures { IfSome (slice_get self.now i) (λ ending. result.now ≡ ending.pairs) }
@@ -126,6 +131,7 @@ impl Replies {
 }
 
 /// How the reply is kept with its lists.
+#[inline]
 fn kept_of(
     alloc: Global,
     reply: Reply,
@@ -150,6 +156,7 @@ fn kept_of(
 }
 
 /// How the reply is kept where no list came with it, if it isn't kept apart.
+#[inline]
 fn without_lists(reply: Reply) -> Option<Kept>
     ensures { IfSome result (λ kept. ending_of kept ≡ replied reply [] []) }
 {

@@ -3,6 +3,7 @@ use Rattle.std.specs.Prelude.{ℕ, Bool, false, ◌&&◌, ◌==◌, if◌then◌
 use Rattle.std.specs.List.{flat_map, enumerate_from}
 use Rattle.rht_model.specs.declared.history.Cursor.{Cursor}
 use Rattle.rht_model.specs.declared.bindings.Closed.{Closed}
+use Rattle.rht_model.specs.Multimap.{Port}
 use Rattle.rht_model.specs.Endings.{Ending}
 use Rattle.rht_script.specs.declared.script.ScriptFault.{ScriptFault}
 use Rattle.rht_model.specs.declared.history.Reply.{Reply}
@@ -21,7 +22,7 @@ abbrev pub owners_text : List ℕ → List ℕ
 owners_text owners = flat_map spaced owners
 
 -- a port and its first owner, after a space
-abbrev pub pair_text : ℕ × ℕ → List ℕ
+abbrev pub pair_text : Port × ℕ → List ℕ
 pair_text pair = spaced pair.0 ++ codes "=" ++ decimal pair.1
 
 -- a word that is there only in some cases
@@ -34,7 +35,7 @@ walk_end None = codes " end"
 walk_end (Some next) = codes " more"
 
 -- a reply without its worker; a kick is shown only where kicks are
-abbrev pub reply_text : Reply → List ℕ → List (ℕ × ℕ) → Bool → List ℕ
+abbrev pub reply_text : Reply → List ℕ → List (Port × ℕ) → Bool → List ℕ
 reply_text (Bound kick) owners pairs kicks = codes "bound" ++ only_if (kick && kicks) (codes " kick")
 reply_text (Exists owner) owners pairs kicks = codes "exists" ++ spaced owner
 reply_text (Found owner) owners pairs kicks = codes "found" ++ spaced owner
@@ -57,12 +58,12 @@ reply_text (Clear returned) owners pairs kicks = codes "clear" ++ spaced returne
 reply_text (Counted count) owners pairs kicks = codes "count" ++ spaced count
 
 -- a reply line: the worker, and the reply
-abbrev pub reply_line : ℕ → Reply → List ℕ → List (ℕ × ℕ) → Bool → List ℕ
+abbrev pub reply_line : ℕ → Reply → List ℕ → List (Port × ℕ) → Bool → List ℕ
 reply_line worker reply owners pairs kicks =
     decimal worker ++ codes ": " ++ reply_text reply owners pairs kicks ++ codes "\n"
 
 -- the line of a bound port: its owners, the first one first
-abbrev pub port_line : ℕ × List ℕ → List ℕ
+abbrev pub port_line : Port × List ℕ → List ℕ
 port_line pair = codes "port" ++ spaced pair.0 ++ codes ":" ++ owners_text pair.1 ++ codes "\n"
 
 -- the last line: the size in buckets, and the number of bound ports
@@ -82,12 +83,12 @@ abbrev pub worker_text : ℕ × List Ending → List ℕ
 worker_text worker = flat_map (ending_line worker.0) worker.1
 
 -- the lines of what is bound at the end: a line for each port, and the last line
-abbrev pub bound_text : List (ℕ × List ℕ) → ℕ → List ℕ
+abbrev pub bound_text : List (Port × List ℕ) → ℕ → List ℕ
 bound_text bound size = flat_map port_line bound ++ last_line size (length bound)
 
 -- The printed text of a run: how the commands of each worker ended, the first worker's before the second's,
 -- and then what is bound at the end, in a table of this size.
-abbrev pub run_text : List (List Ending) → List (ℕ × List ℕ) → ℕ → List ℕ
+abbrev pub run_text : List (List Ending) → List (Port × List ℕ) → ℕ → List ℕ
 run_text workers bound size = flat_map worker_text (enumerate_from 1 workers) ++ bound_text bound size
 
 -- what is wrong, by the number of the cause
