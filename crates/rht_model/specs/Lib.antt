@@ -8,6 +8,12 @@ pub mod Heads
 pub mod Pairs
 -- what a call answers on bindings, and what it changes
 pub mod Answers
+-- how a call ends
+pub mod Endings
+-- how `Replies` keeps endings
+pub mod KeptReplies
+-- a list with a limit, as contracts see a room
+pub mod Rooms
 -- which lists of entries are legal histories
 pub mod Histories
 -- what follows from the definitions alone

@@ -5,6 +5,7 @@ ghost use Rattle.std.specs.Prelude.{◌≡◌, ◌+◌, ◌<◌, ◌≤◌, ◌�
 ghost use Rattle.rht_model.specs.Listing.{added, ports_of, owners_of};
 ghost use Rattle.rht_model.specs.Heads.{begun, first_start, last_port, IsInOrder};
 
+use crate::room::push_within;
 use rht_words::Port;
 use std::alloc::{AllocError, Global};
 use std::marker::Model;
@@ -137,16 +138,6 @@ fn start_at(heads: &[Head], i: usize, end: usize) -> usize
     ensures { result ≡ first_start (drop i heads.now) end }
 {
     heads.get(i).map_or(end, |head| head.start)
-}
-
-/// Appends within the capacity, so that no memory is taken.
-fn push_within<T: Drop>(items: &mut Vec<T>, item: T)
-    requires { vec_len items.old < vec_capacity items.old }
-    ensures items { items.new.items ≡ items.old.items ++ item ∷ [] }
-    ensures len { vec_len items.new ≡ vec_len items.old + 1 }
-    ensures capacity { vec_capacity items.old ≤ vec_capacity items.new }
-{
-    items.push(item).unwrap();
 }
 
 /// What a table held when it was closed.

@@ -7,15 +7,21 @@
 #![tactic(auto)]
 
 mod bindings;
+mod finished;
 mod history;
 pub mod laws;
 mod legal;
 mod owners;
 mod pair_list;
+mod replies;
+mod room;
 #[cfg(test)]
 mod tests;
 
 pub use bindings::{Bindings, Closed};
+pub use finished::Finished;
 pub use history::{Call, Cursor, Entry, Reply};
 pub use legal::is_legal;
 pub use owners::Owners;
+pub use replies::Replies;
+pub use room::Room;

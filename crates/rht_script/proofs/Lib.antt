@@ -32,3 +32,5 @@ pub mod AddedPieces
 pub mod AddedLists
 -- what stands at a place of bindings
 pub mod PlacesOfBindings
+-- what stands at a place of replies and of workers
+pub mod WorkerLines

@@ -112,21 +112,13 @@ module _ (Q : Call → Type 0) (bind : (port owner : ℕ) → IsPort port → Is
       IfOk-after Q (end_of owner.1) _ (λ end. release port.0 owner.0 is_port is_owner)))
 
   -- what holds of each call that can be written holds of what a verb asks
-  pub call_holds_within : (words : List (List ℕ)) → IfOk (call_of words) Q
+  pub call_holds : (words : List (List ℕ)) → IfOk (call_of words) Q
   unfolding call_of
-  call_holds_within [] = tt
-  call_holds_within (verb ∷ words) =
+  call_holds [] = tt
+  call_holds (verb ∷ words) =
       IfOk-cond Q (is_word verb (codes "bind")) _ _ (bind_holds words)
       (IfOk-cond Q (is_word verb (codes "find")) _ _ (find_holds words)
       (IfOk-cond Q (is_word verb (codes "release")) _ (Err UnknownWord) (release_holds words) tt))
-
--- the same of a fact that holds whatever port and owner it is
-pub call_holds : (Q : Call → Type 0) (bind : (port owner : ℕ) → Q (Bind port owner false))
-    (find : (port : ℕ) → Q (Find port)) (release : (port owner : ℕ) → Q (Release port owner))
-    (words : List (List ℕ)) → IfOk (call_of words) Q
-call_holds Q bind find release =
-    call_holds_within Q (λ port owner is_port is_owner. bind port owner) (λ port is_port. find port)
-    (λ port owner is_port is_owner. release port owner)
 
 module _ (P : ℕ × Call → Type 0) (Q : Call → Type 0) (table : TableLine)
     (both : (worker : ℕ) (call : Call) → is_within (worker_limits table.config) worker ≡ true → Q call → P (worker, call))

@@ -29,7 +29,7 @@ use Rattle.rht_script.specs.Reading.{said_by}
 use Rattle.rht_script.specs.Sound.{is_sound_call, is_sound_command, IsSoundScript}
 use Rattle.rht_script.specs.Laws.{SaysSayable}
 use Rattle.rht_script.proofs.ConfigLemmas.{IsSettled-configured}
-use Rattle.rht_script.proofs.ReadCommands.{IfOk-then, IfOk-after, IfOk-cond, IfOk-at_line, number_within, call_holds_within, command_holds, reading_holds}
+use Rattle.rht_script.proofs.ReadCommands.{IfOk-then, IfOk-after, IfOk-cond, IfOk-at_line, number_within, call_holds, command_holds, reading_holds}
 
 -- ---- numbers
 
@@ -155,7 +155,7 @@ command_sayable table =
     let owner_is = IsWithinLimits-test owner_limits in
     command_holds (IsSayableCommand table.config) IsSayableCall table
     (λ worker call within sayable. (IsWithinLimits-test (worker_limits table.config) worker within, sayable))
-    (call_holds_within IsSayableCall
+    (call_holds IsSayableCall
     (λ port owner is_port is_owner. (port_is port is_port, owner_is owner is_owner, refl))
     (λ port is_port. port_is port is_port)
     (λ port owner is_port is_owner. (port_is port is_port, owner_is owner is_owner)))
