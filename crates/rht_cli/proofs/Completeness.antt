@@ -1,83 +1,41 @@
--- Where the source tells its bytes and nothing fails, a script is served and any other input refused.
--- What was read, to the end of the input, is the whole input; and what was read of a longer one shows that it is
--- too long for a script. So a run that ends otherwise ends for want of memory.
-use Rattle.std.proofs.Common.{◌≡◌, ℕ, ◌⊎◌, List, ◌++◌, Option, None, Some, Ok, refl, sym, ap, ◌∙◌, subst, inl, inr, arith, append-nil}
-use Rattle.std.specs.Io.KnownBytes.{Consumes, IsAtEnd}
+-- Where the source tells its bytes and nothing fails, whole input is served and input at fault refused:
+-- told input isn't both, and has one first fault. So a run that ends otherwise ends for want of memory.
+use Rattle.std.proofs.Common.{◌≡◌, ℕ, ◌⊎◌, List, Option, Result, Some, Ok, Err, refl, ap, subst, inl, inr}
 use Rattle.rht_io.specs.Told.{Rose}
 use Rattle.rht_script.specs.declared.script.ScriptFault.{ScriptFault}
-use Rattle.rht_script.specs.Grammar.{Said, reading_of}
-use Rattle.rht_script.specs.Reading.{FirstFault}
+use Rattle.rht_script.specs.Grammar.{Said}
 use Rattle.rht_script.specs.Text.{fault_line}
-use Rattle.rht_script.proofs.ReadingLemmas.{reading_of-front}
-use Rattle.rht_cli.specs.declared.ending.Ending.{Ending}
-use Rattle.rht_cli.specs.declared.ending.Ending.TheVariants.{Done, Usage, Fault, ReadFailed, WriteFailed, Memory}
-use Rattle.rht_cli.specs.Endings.{IsNoScript, Ends, status_of, ending_line}
-
--- what was read of told bytes, to their end, is all of them
-all_read : (bytes piece : List ℕ) (left left_after : Option (List ℕ)) → left ≡ Some bytes
-    → Consumes left left_after piece → IsAtEnd left_after → piece ≡ bytes
-all_read bytes piece None left_after told taken ended = absurd (cc)
-all_read bytes piece (Some all) None told taken ended = absurd taken
-all_read bytes piece (Some all) (Some rest) told taken ended =
-    let same : all ≡ bytes = cc in
-    sym (append-nil piece) ∙ ap (λ l. piece ++ l) (sym ended) ∙ sym taken ∙ same
-
--- what was read of told bytes begins them
-begins : (bytes piece : List ℕ) (left left_after : Option (List ℕ)) → left ≡ Some bytes
-    → Consumes left left_after piece → (rest : List ℕ) × (bytes ≡ piece ++ rest)
-begins bytes piece None left_after told taken = absurd (cc)
-begins bytes piece (Some all) None told taken = absurd taken
-begins bytes piece (Some all) (Some rest) told taken =
-    let same : all ≡ bytes = cc in
-    (rest, sym same ∙ taken)
-
--- the first fault of what was read of told bytes is their own
-no_script : (bytes : List ℕ) (left left_after : Option (List ℕ)) (fault : ScriptFault)
-    → left ≡ Some bytes → IsNoScript left left_after fault → FirstFault bytes fault
-no_script bytes left left_after fault told refused = elim refused.read.enough [
-  | inl whole ↦ subst (λ l. FirstFault l fault) (all_read bytes refused.bytes left left_after told refused.read.taken whole.0) refused.first
-  | inr long ↦
-      let front = begins bytes refused.bytes left left_after told refused.read.taken in
-      reading_of-front bytes refused.bytes front.0 front.1 (omega (arith, long)) ∙ refused.first
-]
+use Rattle.rht_cli.specs.declared.form.Form.{Form}
+use Rattle.rht_cli.specs.declared.ending.Failure.{Failure}
+use Rattle.rht_cli.specs.declared.ending.Failure.TheVariants.{Fault, Read, Write, Memory}
+use Rattle.rht_cli.specs.Forms.{IsInputOf, IsFaultOf}
+use Rattle.rht_cli.specs.Endings.{Serves, ending_of, ending_line, status_of}
+use Rattle.rht_cli.proofs.ToldInput.{not_both, one_fault}
 
 module _ {S O : Type 0} (left : S → Option (List ℕ)) (sfaults : S → ℕ) (held : O → Option (List ℕ))
-    (ofaults : O → ℕ) (s s' : S) (o o' : O) where
-  -- serving a script doesn't end as words that are no form do
-  pub never_usage : (ending : Ending) → Ends left sfaults held ofaults s s' o o' ending
-      → status_of ending ≡ 1 → ⊥
-  never_usage Done ends same = cc
-  never_usage Usage ends same = ends
-  never_usage (Fault fault) ends same = cc
-  never_usage ReadFailed ends same = cc
-  never_usage WriteFailed ends same = cc
-  never_usage Memory ends same = cc
-
-module _ {S O : Type 0} (left : S → Option (List ℕ)) (sfaults : S → ℕ) (held : O → Option (List ℕ))
-    (ofaults : O → ℕ) (s s' : S) (o o' : O) (bytes : List ℕ) (told : left s ≡ Some bytes) where
-  pub served : (ending : Ending) → Ends left sfaults held ofaults s s' o o' ending → (said : Said)
-      → reading_of bytes ≡ Ok said
+    (ofaults : O → ℕ) (form : Form) (s s' : S) (o o' : O) (bytes : List ℕ) (rest : Option (List ℕ)) (told : left s ≡ Some bytes) where
+  pub served_whole : (served : Result (Unit {0}) Failure) → Serves left sfaults held ofaults form s s' o o' served
+      → (said : Said) → IsInputOf form (Some bytes) rest said
       → (Rose (sfaults s) (sfaults s') → ⊥) → (Rose (ofaults o) (ofaults o') → ⊥)
-      → (status_of ending ≡ 0) ⊎ (status_of ending ≡ 5)
-  served Done ends said script reads writes = inl refl
-  served Usage ends said script reads writes = absurd ends
-  served (Fault fault) ends said script reads writes =
-      let first = no_script bytes (left s) (left s') fault told ends.0 in absurd (cc)
-  served ReadFailed ends said script reads writes = absurd (reads ends.0)
-  served WriteFailed ends said script reads writes = absurd (writes ends.0)
-  served Memory ends said script reads writes = inr refl
+      → (status_of (ending_of served) ≡ 0) ⊎ (status_of (ending_of served) ≡ 5)
+  served_whole (Ok all) serves said input reads writes = inl refl
+  served_whole (Err (Fault fault)) serves said input reads writes =
+      absurd (not_both form bytes rest (left s') said fault input (subst (λ l. IsFaultOf form l (left s') fault) told serves.0))
+  served_whole (Err Read) serves said input reads writes = absurd (reads serves.0)
+  served_whole (Err Write) serves said input reads writes = absurd (writes serves.0)
+  served_whole (Err Memory) serves said input reads writes = inr refl
 
-  pub refused : (ending : Ending) → Ends left sfaults held ofaults s s' o o' ending
-      → (fault : ScriptFault) → FirstFault bytes fault
+  pub refused_fault : (served : Result (Unit {0}) Failure) → Serves left sfaults held ofaults form s s' o o' served
+      → (fault : ScriptFault) → IsFaultOf form (Some bytes) rest fault
       → (Rose (sfaults s) (sfaults s') → ⊥)
-      → ((status_of ending ≡ 2) × (ending_line ending ≡ fault_line fault)) ⊎ (status_of ending ≡ 5)
-  refused Done ends fault first reads =
-      let whole = subst (λ l. reading_of l ≡ Ok ends.said) (all_read bytes ends.bytes (left s) (left s') told ends.read ends.to_end) ends.script in absurd (cc)
-  refused Usage ends fault first reads = absurd ends
-  refused (Fault named) ends fault first reads =
-      let same : named ≡ fault = (let told_fault = no_script bytes (left s) (left s') named told ends.0 in cc) in
+      → ((status_of (ending_of served) ≡ 2) × (ending_line (ending_of served) ≡ fault_line fault)) ⊎ (status_of (ending_of served) ≡ 5)
+  refused_fault (Ok all) serves fault refused reads =
+      absurd (not_both form bytes (left s') rest serves.said fault (subst (λ l. IsInputOf form l (left s') serves.said) told serves.read) refused)
+  refused_fault (Err (Fault named)) serves fault refused reads =
+      let same = one_fault form bytes rest (left s') fault named refused (subst (λ l. IsFaultOf form l (left s') named) told serves.0) in
       inl (refl, ap fault_line same)
-  refused ReadFailed ends fault first reads = absurd (reads ends.0)
-  refused WriteFailed ends fault first reads =
-      let whole = subst (λ l. reading_of l ≡ Ok ends.1.said) (all_read bytes ends.1.bytes (left s) (left s') told ends.1.read ends.1.to_end) ends.1.script in absurd (cc)
-  refused Memory ends fault first reads = inr refl
+  refused_fault (Err Read) serves fault refused reads = absurd (reads serves.0)
+  refused_fault (Err Write) serves fault refused reads =
+      let cut = serves.1 in
+      absurd (not_both form bytes (left s') rest cut.said fault (subst (λ l. IsInputOf form l (left s') cut.said) told cut.read) refused)
+  refused_fault (Err Memory) serves fault refused reads = inr refl

@@ -1,75 +1,46 @@
--- A script's commands are binds, look-ups and releases: those are all that a command line can ask. What was read as
--- a script was read to the end of the input, since one byte more than a script can have is none; and how printing
--- it ends is how serving it ends.
-use Rattle.std.proofs.Common.{◌≡◌, ℕ, Option, Result, Ok, Err, List, MatchResult, inl, inr, arith}
-use Rattle.std.specs.Prelude.{IfOk}
-use Rattle.std.specs.Io.KnownBytes.{IsAtEnd}
-use Rattle.std.specs.List.{AllByRecursion}
-use Rattle.rht_words.specs.declared.config.Config.{Config}
-use Rattle.rht_script.specs.Grammar.{Said, reading_of}
-use Rattle.rht_script.specs.CommandLines.{command_of}
-use Rattle.rht_script.proofs.ReadCommands.{call_holds, command_holds, reading_holds}
-use Rattle.rht_script.proofs.ReadingLemmas.{reading_of-long}
-use Rattle.rht_cli.specs.declared.ending.Ending.{Ending}
-use Rattle.rht_cli.specs.declared.ending.Ending.TheVariants.{Done, Usage, Fault, ReadFailed, WriteFailed, Memory}
+-- How the form `run` is served: what was read of a script is its input, what its workers leave is a text of its,
+-- and that text was written whole, or where the sink failed a prefix of it.
+use Rattle.std.proofs.Common.{◌≡◌, ℕ, List, Option, refl, ap, ◌∙◌, inl}
+use Rattle.std.specs.Io.KnownBytes.{Appends}
+use Rattle.rht_io.specs.Told.{AppendsPrefix}
+use Rattle.rht_script.specs.declared.script.ReadError.{ReadError}
+use Rattle.rht_script.specs.declared.script.ReadError.TheVariants as reads
+use Rattle.rht_script.specs.Grammar.{Said}
+use Rattle.rht_script.specs.Reading.{IsReason}
+use Rattle.rht_script.specs.Text.{run_text}
+use Rattle.rht_cli.specs.declared.registry.Outcome.{Outcome}
+use Rattle.rht_cli.specs.declared.form.Form.TheVariants.{Run}
 use Rattle.rht_cli.specs.Input.{IsRead}
-use Rattle.rht_cli.specs.Endings.{Ends}
-use Rattle.rht_cli.specs.Printed.{printed_of}
-use Rattle.rht_cli.specs.Pairs.{IsServed}
-use Rattle.rht_cli.specs.Printing.{IsServedCommand, Writes}
+use Rattle.rht_cli.specs.Outcomes.{workers_endings, IsOutcome}
+use Rattle.rht_cli.specs.Forms.{IsInputOf, IsTextOf}
+use Rattle.rht_cli.specs.Endings.{IsDone, IsCutShort, FailsBy, of_read_error}
+use Rattle.rht_cli.proofs.ToldInput.{IsFaultOf-read}
 
-served_each : (config : Config) (words : List (List ℕ))
-    → IfOk (command_of config.callers words) IsServedCommand
-served_each config =
-    command_holds IsServedCommand IsServed config.callers (λ worker call within served. served)
-    (call_holds IsServed (λ port owner. tt) (λ port. tt) (λ port owner. tt))
-
-pub served-script : (bytes : List ℕ) (said : Said) → reading_of bytes ≡ Ok said
-    → AllByRecursion IsServedCommand said.commands
-served-script bytes said read = (reading_holds (λ config. IsServedCommand) served_each bytes said read).each
-
--- the input was read to its end
-to_end : (left left_after : Option (List ℕ)) (bytes : List ℕ) (said : Said)
-    → IsRead left left_after bytes → reading_of bytes ≡ Ok said → IsAtEnd left_after
-to_end left left_after bytes said read script = elim read.enough [
-  | inl whole ↦ whole.0
-  | inr long ↦ let too_long = reading_of-long bytes (omega (arith, long)) in absurd (cc)
-]
+-- the text of an outcome is one of the form's
+pub IsTextOf-outcome : (said : Said) (outcome : Outcome) → IsOutcome said outcome
+    → IsTextOf Run said (run_text outcome.replies.items outcome.closed.bindings.pairs outcome.closed.size)
+unfolding IsTextOf
+IsTextOf-outcome said outcome is = record {
+  bound = outcome.closed.bindings.pairs;
+  lists = is.bound;
+  written =
+      ap (λ workers. run_text workers outcome.closed.bindings.pairs outcome.closed.size) is.replies
+      ∙ ap (λ size. run_text (workers_endings said) outcome.closed.bindings.pairs size) is.size;
+}
 
 module _ {S O : Type 0} (left : S → Option (List ℕ)) (sfaults : S → ℕ) (held : O → Option (List ℕ))
-    (ofaults : O → ℕ) (s s' : S) (o o' : O)
-    (bytes : List ℕ) (said : Said) (read : IsRead (left s) (left s') bytes) (script : reading_of bytes ≡ Ok said) where
-  -- where the script is printed, serving it ends as printing it does
-  pub Ends-printed : (r : Result (Unit {0}) Ending) → Writes held ofaults o o' r (printed_of said)
-      → MatchResult r (λ done. Ends left sfaults held ofaults s s' o o' Done) (λ ending. Ends left sfaults held ofaults s s' o o' ending)
-  Ends-printed (Ok done) writes = record {
-    bytes = bytes;
-    said = said;
-    read = read.taken;
-    to_end = to_end (left s) (left s') bytes said read script;
-    script = script;
-    written = writes.whole;
-  }
-  Ends-printed (Err Done) writes = absurd writes.reason
-  Ends-printed (Err Usage) writes = absurd writes.reason
-  Ends-printed (Err (Fault fault)) writes = absurd writes.reason
-  Ends-printed (Err ReadFailed) writes = absurd writes.reason
-  Ends-printed (Err WriteFailed) writes = (
-    writes.reason,
-    record {
-      bytes = bytes;
-      said = said;
-      read = read.taken;
-      to_end = to_end (left s) (left s') bytes said read script;
-      script = script;
-      written = writes.prefix;
-    },
-  )
-  Ends-printed (Err Memory) writes = inr (record {
-    bytes = bytes;
-    said = said;
-    read = read.taken;
-    to_end = to_end (left s) (left s') bytes said read script;
-    script = script;
-    written = writes.prefix;
-  })
+    (ofaults : O → ℕ) (s s' : S) where
+  -- bytes were read that are no script, or memory ran out on the way
+  pub FailsBy-read : (o : O) (bytes : List ℕ) (error : ReadError) → IsRead (left s) (left s') bytes → IsReason bytes error
+      → FailsBy left sfaults held ofaults Run s s' o o (of_read_error error)
+  FailsBy-read o bytes (reads.Fault fault) read reason = (IsFaultOf-read (left s) (left s') bytes fault read reason, refl)
+  FailsBy-read o bytes reads.Memory read reason = inl refl
+
+  module _ (o o' : O) (said : Said) (text : List ℕ) (read : IsInputOf Run (left s) (left s') said) (printed : IsTextOf Run said text) where
+    -- the text was written
+    pub IsDone-written : Appends (held o) (held o') text → IsDone Run (left s) (left s') (held o) (held o')
+    IsDone-written written = record { said = said; text = text; read = read; printed = printed; written = written }
+
+    -- the sink failed, and a prefix of the text was written
+    pub IsCutShort-written : AppendsPrefix (held o) (held o') text → IsCutShort Run (left s) (left s') (held o) (held o')
+    IsCutShort-written written = record { said = said; text = text; read = read; printed = printed; written = written }

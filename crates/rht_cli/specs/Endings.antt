@@ -1,87 +1,93 @@
 -- How a run can end: its status, its line, and what was read and written.
-use Rattle.std.specs.Prelude.{◌≡◌, ℕ, ◌==◌, ◌⊎◌, if◌then◌else◌, Option, Ok, List, [], ◌∷◌, codes}
-use Rattle.std.specs.Io.KnownBytes.{Appends, IsAtEnd, Consumes}
+use Rattle.std.specs.Prelude.{◌≡◌, ℕ, ◌==◌, ◌⊎◌, if◌then◌else◌, Option, Result, Ok, Err, List, [], codes}
+use Rattle.std.specs.Io.KnownBytes.{Appends}
 use Rattle.rht_io.specs.Told.{Rose, AppendsPrefix}
-use Rattle.rht_script.specs.declared.script.ScriptFault.{ScriptFault}
 use Rattle.rht_script.specs.declared.script.ReadError.{ReadError}
 use Rattle.rht_script.specs.declared.script.ReadError.TheVariants as reads
-use Rattle.rht_script.specs.Grammar.{Said, reading_of}
-use Rattle.rht_script.specs.Reading.{FirstFault}
+use Rattle.rht_script.specs.Grammar.{Said}
 use Rattle.rht_script.specs.Text.{fault_line}
+use Rattle.rht_cli.specs.declared.form.Form.{Form}
+use Rattle.rht_cli.specs.declared.ending.Failure.{Failure}
+use Rattle.rht_cli.specs.declared.ending.Failure.TheVariants.{Fault, Read, Write, Memory}
 use Rattle.rht_cli.specs.declared.ending.Ending.{Ending}
-use Rattle.rht_cli.specs.declared.ending.Ending.TheVariants.{Done, Usage, Fault, ReadFailed, WriteFailed, Memory}
-use Rattle.rht_cli.specs.Input.{IsRead}
-use Rattle.rht_cli.specs.Printed.{printed_of}
+use Rattle.rht_cli.specs.declared.ending.Ending.TheVariants.{Done, Usage, Unserved}
+use Rattle.rht_cli.specs.Forms.{IsInputOf, IsFaultOf, IsTextOf}
 
--- the words of the one command form that is built: to run a script
-abbrev pub IsRun : List (List ℕ) → Type 0
-IsRun words = words ≡ codes "run" ∷ []
-
--- how a run ends that can't read its script
-abbrev pub of_read_error : ReadError → Ending
+-- why a script wasn't read
+abbrev pub of_read_error : ReadError → Failure
 of_read_error (reads.Fault fault) = Fault fault
 of_read_error reads.Memory = Memory
 
+-- how a run of a form ends that was served or failed so
+abbrev pub ending_of : Result (Unit {0}) Failure → Ending
+ending_of (Ok done) = Done
+ending_of (Err failure) = Unserved failure
+
 -- the exit status
+abbrev pub failure_status : Failure → ℕ
+failure_status (Fault fault) = 2
+failure_status Read = 3
+failure_status Write = 4
+failure_status Memory = 5
+
 abbrev pub status_of : Ending → ℕ
 status_of Done = 0
 status_of Usage = 1
-status_of (Fault fault) = 2
-status_of ReadFailed = 3
-status_of WriteFailed = 4
-status_of Memory = 5
+status_of (Unserved failure) = failure_status failure
 
 -- the line on standard error
+abbrev pub failure_line : Failure → List ℕ
+failure_line (Fault fault) = fault_line fault
+failure_line Read = codes "rht: read failed\n"
+failure_line Write = codes "rht: write failed\n"
+failure_line Memory = codes "rht: out of memory\n"
+
 abbrev pub ending_line : Ending → List ℕ
 ending_line Done = []
 ending_line Usage = codes "rht: usage: rht run | rht replay | rht gen NUMBER\n"
-ending_line (Fault fault) = fault_line fault
-ending_line ReadFailed = codes "rht: read failed\n"
-ending_line WriteFailed = codes "rht: write failed\n"
-ending_line Memory = codes "rht: out of memory\n"
+ending_line (Unserved failure) = failure_line failure
 
 -- the line on standard error, by the status; at 2 it is the line of the script's first fault instead
 abbrev pub status_line : ℕ → List ℕ
 status_line status =
     if status == 0 then ending_line Done
     else if status == 1 then ending_line Usage
-    else if status == 3 then ending_line ReadFailed
-    else if status == 4 then ending_line WriteFailed
-    else ending_line Memory
+    else if status == 3 then ending_line (Unserved Read)
+    else if status == 4 then ending_line (Unserved Write)
+    else ending_line (Unserved Memory)
 
--- The script was read to its end, and its whole text was written.
-pub record IsDone (left left_after held held_after : Option (List ℕ)) : Type 0 where
-  pub bytes : List ℕ
+-- The form's input was read, and the whole of a text that it prints was written.
+pub record IsDone (form : Form) (left left_after held held_after : Option (List ℕ)) : Type 0 where
   pub said : Said
-  pub read : Consumes left left_after bytes
-  pub to_end : IsAtEnd left_after
-  pub script : reading_of bytes ≡ Ok said
-  pub written : Appends held held_after (printed_of said)
+  pub text : List ℕ
+  pub read : IsInputOf form left left_after said
+  pub printed : IsTextOf form said text
+  pub written : Appends held held_after text
 
--- The script was read to its end, and a prefix of its text was written.
-pub record IsCutShort (left left_after held held_after : Option (List ℕ)) : Type 0 where
-  pub bytes : List ℕ
+-- The form's input was read, and a prefix of a text that it prints was written.
+pub record IsCutShort (form : Form) (left left_after held held_after : Option (List ℕ)) : Type 0 where
   pub said : Said
-  pub read : Consumes left left_after bytes
-  pub to_end : IsAtEnd left_after
-  pub script : reading_of bytes ≡ Ok said
-  pub written : AppendsPrefix held held_after (printed_of said)
+  pub text : List ℕ
+  pub read : IsInputOf form left left_after said
+  pub printed : IsTextOf form said text
+  pub written : AppendsPrefix held held_after text
 
--- The whole input was read, or one byte more than a script can have, and this is its first fault.
-pub record IsNoScript (left left_after : Option (List ℕ)) (fault : ScriptFault) : Type 0 where
-  pub bytes : List ℕ
-  pub read : IsRead left left_after bytes
-  pub first : FirstFault bytes fault
+-- what a failure to serve a form means for the source and the sink
+abbrev pub FailsBy : {S O : Type 0} → (S → Option (List ℕ)) → (S → ℕ) → (O → Option (List ℕ)) → (O → ℕ)
+    → Form → S → S → O → O → Failure → Type 0
+FailsBy left sfaults held ofaults form s s_after o o_after (Fault fault) =
+    IsFaultOf form (left s) (left s_after) fault × (o_after ≡ o)
+FailsBy left sfaults held ofaults form s s_after o o_after Read =
+    Rose (sfaults s) (sfaults s_after) × (o_after ≡ o)
+FailsBy left sfaults held ofaults form s s_after o o_after Write =
+    Rose (ofaults o) (ofaults o_after) × IsCutShort form (left s) (left s_after) (held o) (held o_after)
+FailsBy left sfaults held ofaults form s s_after o o_after Memory =
+    (o_after ≡ o) ⊎ IsCutShort form (left s) (left s_after) (held o) (held o_after)
 
--- what an ending of serving a script means for the source and the sink
-abbrev pub Ends : {S O : Type 0} → (S → Option (List ℕ)) → (S → ℕ) → (O → Option (List ℕ)) → (O → ℕ) → S
-    → S → O → O → Ending → Type 0
-Ends left sfaults held ofaults s s_after o o_after Done = IsDone (left s) (left s_after) (held o) (held o_after)
-Ends left sfaults held ofaults s s_after o o_after Usage = ⊥
-Ends left sfaults held ofaults s s_after o o_after (Fault fault) =
-    IsNoScript (left s) (left s_after) fault × (o_after ≡ o)
-Ends left sfaults held ofaults s s_after o o_after ReadFailed = Rose (sfaults s) (sfaults s_after) × (o_after ≡ o)
-Ends left sfaults held ofaults s s_after o o_after WriteFailed =
-    Rose (ofaults o) (ofaults o_after) × IsCutShort (left s) (left s_after) (held o) (held o_after)
-Ends left sfaults held ofaults s s_after o o_after Memory =
-    (o_after ≡ o) ⊎ IsCutShort (left s) (left s_after) (held o) (held o_after)
+-- what the way in which a form was served means for them
+abbrev pub Serves : {S O : Type 0} → (S → Option (List ℕ)) → (S → ℕ) → (O → Option (List ℕ)) → (O → ℕ)
+    → Form → S → S → O → O → Result (Unit {0}) Failure → Type 0
+Serves left sfaults held ofaults form s s_after o o_after (Ok done) =
+    IsDone form (left s) (left s_after) (held o) (held o_after)
+Serves left sfaults held ofaults form s s_after o o_after (Err failure) =
+    FailsBy left sfaults held ofaults form s s_after o o_after failure

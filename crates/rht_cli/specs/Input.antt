@@ -3,8 +3,8 @@ use Rattle.std.specs.Prelude.{◌≡◌, ℕ, ◌+◌, ◌<◌, ◌≤◌, ◌�
 use Rattle.std.specs.Io.KnownBytes.{Consumes, IsAtEnd}
 use Rattle.rht_io.specs.Told.{Rose}
 use Rattle.rht_script.specs.Grammar.{most_bytes}
-use Rattle.rht_cli.specs.declared.ending.Ending.{Ending}
-use Rattle.rht_cli.specs.declared.ending.Ending.TheVariants.{ReadFailed, Memory}
+use Rattle.rht_cli.specs.declared.ending.Failure.{Failure}
+use Rattle.rht_cli.specs.declared.ending.Failure.TheVariants.{Fault, Read, Write, Memory}
 
 -- These bytes were read: the whole input, or one byte more than the longest script has.
 pub record IsRead (left left_after : Option (List ℕ)) (bytes : List ℕ) : Type 0 where
@@ -20,7 +20,8 @@ pub record IsMore (left left_after : Option (List ℕ)) (bytes bytes_after : Lis
   pub ends : MatchBool more (0 < length piece) ((piece ≡ []) × IsAtEnd left_after)
 
 -- why reading stopped: the source's faults rose, or memory ran out
-abbrev pub IsReadFault : ℕ → ℕ → Ending → Type 0
-IsReadFault before after ReadFailed = Rose before after
+abbrev pub IsReadFault : ℕ → ℕ → Failure → Type 0
+IsReadFault before after (Fault fault) = ⊥
+IsReadFault before after Read = Rose before after
+IsReadFault before after Write = ⊥
 IsReadFault before after Memory = Unit {0}
-IsReadFault before after _ = ⊥

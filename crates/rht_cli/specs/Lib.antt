@@ -1,10 +1,10 @@
 -- which bytes are read of an input
 pub mod Input
--- what the registry's pairs stand for
+-- what the pairs of the plain list stand for
 pub mod Pairs
--- the text that a script prints
-pub mod Printed
--- what printing does
-pub mod Printing
+-- what a script's commands come to
+pub mod Outcomes
+-- the command forms: their words, their input and their text
+pub mod Forms
 -- how a run can end, and what each end means
 pub mod Endings

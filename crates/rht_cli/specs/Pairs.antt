@@ -1,51 +1,42 @@
--- The registry's list of pairs, each a port and its one owner, as bindings.
-use Rattle.std.specs.Prelude.{◌≡◌, ℕ, ◌+◌, ◌<◌, ◌≤◌, ◌==◌, if◌then◌else◌, Option, None, Some, List, [], ◌∷◌, length, map, take, drop}
+-- The plain list's pairs, each a port and its one owner, as bindings.
+use Rattle.std.specs.Prelude.{◌≡◌, ℕ, ◌+◌, ◌<◌, ◌≤◌, if◌then◌else◌, Option, None, Some, List, [], ◌∷◌, length, map, take, drop}
 use Rattle.std.specs.List.{AllByRecursion}
-use Rattle.rht_model.specs.declared.history.Call.{Call}
-use Rattle.rht_model.specs.declared.history.Call.TheVariants.{Bind, Find, Release}
-use Rattle.rht_model.specs.Multimap.{Multimap}
-
--- the calls that the registry serves
-abbrev pub IsServed : Call → Type 0
-IsServed (Bind port owner once) = Unit {0}
-IsServed (Find port) = Unit {0}
-IsServed (Release port owner) = Unit {0}
-IsServed _ = ⊥
+use Rattle.rht_model.specs.Multimap.{Port, same_port, IsBefore, Multimap}
 
 -- what the pairs say of a port: the owner of the first pair that has it
-abbrev pub bindings_in : List (ℕ × ℕ) → Multimap
-bindings_in [] port = []
-bindings_in (pair ∷ pairs) port = if port == pair.0 then pair.1 ∷ [] else bindings_in pairs port
+abbrev pub bound_in : List (Port × ℕ) → Multimap
+bound_in [] port = []
+bound_in (pair ∷ pairs) port = if same_port port pair.0 then pair.1 ∷ [] else bound_in pairs port
 
 -- each pair has a lower port than those after it
-abbrev pub IsRising : List (ℕ × ℕ) → Type 0
-IsRising [] = Unit {0}
-IsRising (pair ∷ pairs) = AllByRecursion (λ other. pair.0 < other.0) pairs × IsRising pairs
+abbrev pub HasRisingPorts : List (Port × ℕ) → Type 0
+HasRisingPorts [] = Unit {0}
+HasRisingPorts (pair ∷ pairs) = AllByRecursion (λ other. IsBefore pair.0 other.0) pairs × HasRisingPorts pairs
 
 -- The pairs before this place have lower ports, and none from it on has.
-pub record IsPlace (pairs : List (ℕ × ℕ)) (port place : ℕ) : Type 0 where
+pub record IsPlace (pairs : List (Port × ℕ)) (port : Port) (place : ℕ) : Type 0 where
   pub within : place ≤ length pairs
-  pub below : AllByRecursion (λ pair. pair.0 < port) (take place pairs)
+  pub below : AllByRecursion (λ pair. IsBefore pair.0 port) (take place pairs)
   pub others : AllByRecursion (λ pair. port ≤ pair.0) (drop place pairs)
 
 -- The pairs before this place have lower ports, and those from it on have higher ports.
-pub record IsGap (pairs : List (ℕ × ℕ)) (port place : ℕ) : Type 0 where
+pub record IsGap (pairs : List (Port × ℕ)) (port : Port) (place : ℕ) : Type 0 where
   pub within : place ≤ length pairs
-  pub below : AllByRecursion (λ pair. pair.0 < port) (take place pairs)
-  pub above : AllByRecursion (λ pair. port < pair.0) (drop place pairs)
+  pub below : AllByRecursion (λ pair. IsBefore pair.0 port) (take place pairs)
+  pub above : AllByRecursion (λ pair. IsBefore port pair.0) (drop place pairs)
 
 -- The pair at this place is the port's, with this owner.
-pub record IsAt (pairs : List (ℕ × ℕ)) (port place owner : ℕ) : Type 0 where
+pub record IsAt (pairs : List (Port × ℕ)) (port : Port) (place owner : ℕ) : Type 0 where
   pub within : place < length pairs
-  pub below : AllByRecursion (λ pair. pair.0 < port) (take place pairs)
+  pub below : AllByRecursion (λ pair. IsBefore pair.0 port) (take place pairs)
   pub here : drop place pairs ≡ (port, owner) ∷ drop (place + 1) pairs
-  pub above : AllByRecursion (λ pair. port < pair.0) (drop (place + 1) pairs)
+  pub above : AllByRecursion (λ pair. IsBefore port pair.0) (drop (place + 1) pairs)
 
 -- the owner of the port's pair at this place, or none where a pair of the port would go there
-abbrev pub IsFoundAt : List (ℕ × ℕ) → ℕ → ℕ → Option ℕ → Type 0
+abbrev pub IsFoundAt : List (Port × ℕ) → Port → ℕ → Option ℕ → Type 0
 IsFoundAt pairs port place None = IsGap pairs port place
 IsFoundAt pairs port place (Some owner) = IsAt pairs port place owner
 
 -- the pairs as a closed table lists them: each port with the list of its one owner
-abbrev pub listed : List (ℕ × ℕ) → List (ℕ × List ℕ)
+abbrev pub listed : List (Port × ℕ) → List (Port × List ℕ)
 listed pairs = map (λ pair. (pair.0, pair.1 ∷ [])) pairs

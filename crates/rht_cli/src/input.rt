@@ -3,7 +3,7 @@
 ghost use Rattle.std.specs.Prelude.{◌≡◌, ◌<◌, ◌≤◌, ◌++◌, length, vec_len, IfOk, IfErr, MatchBool};
 ghost use Rattle.rht_cli.specs.Input.{IsRead, IsMore, IsReadFault};
 
-use crate::ending::Ending;
+use crate::ending::Failure;
 use rht_io::Source;
 use rht_script::MOST_BYTES;
 use std::alloc::{AllocError, Global};
@@ -12,9 +12,9 @@ use std::alloc::{AllocError, Global};
 const PIECE: usize = 65_536;
 
 /// Reads the input to its end, or until it has one byte more than a script can have.
-pub fn read_all<S: Source>(alloc: Global, source: &mut S) -> Result<Vec<u8>, Ending>
+pub fn read_all<S: Source>(alloc: Global, source: &mut S) -> Result<Vec<u8>, Failure>
     ensures read { IfOk result (λ bytes. IsRead (S.left source.old) (S.left source.new) bytes.items) }
-    ensures fault { IfErr result (λ ending. IsReadFault (S.faults source.old) (S.faults source.new) ending) }
+    ensures fault { IfErr result (IsReadFault (S.faults source.old) (S.faults source.new)) }
 {
     let mut room = empty_room(alloc, PIECE)?;
     let mut bytes = Vec::new(alloc);
@@ -33,14 +33,14 @@ fn read_more<S: Source>(
     source: &mut S,
     room: &mut [u8],
     bytes: &mut Vec<u8>,
-) -> Result<bool, Ending>
+) -> Result<bool, Failure>
     requires { 0 < length room.old }
     ensures more { IfOk result (λ more. IsMore (S.left source.old) (S.left source.new) bytes.old.items bytes.new.items (length room.old) more) }
-    ensures fault { IfErr result (λ ending. IsReadFault (S.faults source.old) (S.faults source.new) ending) }
+    ensures fault { IfErr result (IsReadFault (S.faults source.old) (S.faults source.new)) }
     ensures kept { S.faults source.old ≤ S.faults source.new }
 {
     match source.take(room) {
-        Err(_) => Err(Ending::ReadFailed),
+        Err(_) => Err(Failure::Read),
         Ok(count) => {
             bytes.extend_from_slice(&room[..count])?;
             Ok(count > 0)

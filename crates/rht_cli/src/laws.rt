@@ -1,10 +1,11 @@
 //! What follows for a run over a source and sinks that never fail.
 
-ghost use Rattle.std.specs.Prelude.{◌≡◌, ◌↔◌, ◌⊎◌, Ok, string_bytes, map};
+ghost use Rattle.std.specs.Prelude.{◌≡◌, ◌↔◌, ◌⊎◌, None, Some, Ok, string_bytes, map};
 ghost use Rattle.rht_script.specs.declared.script.ScriptFault.{ScriptFault};
 ghost use Rattle.rht_script.specs.Grammar.{Said, reading_of};
 ghost use Rattle.rht_script.specs.Reading.{FirstFault};
-ghost use Rattle.rht_cli.specs.Endings.{IsRun};
+ghost use Rattle.rht_cli.specs.declared.form.Form.TheVariants.{Run};
+ghost use Rattle.rht_cli.specs.Forms.{form_of};
 
 use crate::program::run;
 use rht_io::{Gate, SureSink, SureSource};
@@ -21,10 +22,10 @@ pub fn complete<R: Threads + Wait + Sync, G: Gate + Sync>(
     bytes: Vec<u8>,
     gate: &G,
 ) -> u8
-    ensures usage { (result ≡ 1) ↔ ¬ IsRun (map string_bytes words.now.items) }
-    ensures served { (said : Said) → IsRun (map string_bytes words.now.items)
+    ensures usage { (result ≡ 1) ↔ (form_of (map string_bytes words.now.items) ≡ None) }
+    ensures served { (said : Said) → form_of (map string_bytes words.now.items) ≡ Some Run
         → reading_of bytes.items ≡ Ok said → (result ≡ 0) ⊎ (result ≡ 5) }
-    ensures refused { (fault : ScriptFault) → IsRun (map string_bytes words.now.items)
+    ensures refused { (fault : ScriptFault) → form_of (map string_bytes words.now.items) ≡ Some Run
         → FirstFault bytes.items fault → (result ≡ 2) ⊎ (result ≡ 5) }
 {
     let mut source = SureSource::new(bytes);

@@ -2,19 +2,20 @@
 //! then the last bindings.
 //!
 //! Stands on `rht_script`, `rht_model`, `rht_words` and `rht_io`. `program` has the top call and
-//! its theorem; `main` here only makes the real source, sinks and gate.
+//! its theorem, and `registry` does a script's commands; `main` here only makes the real source,
+//! sinks and gate.
 #![tactic(auto)]
 
 mod ending;
+mod form;
 mod input;
 pub mod laws;
-mod printer;
 pub mod program;
 mod registry;
 #[cfg(test)]
 mod tests;
 
-use ending::Ending;
+use ending::{Ending, Failure};
 use rht_io::{InputSource, NoGate, OutputSink};
 use std::alloc::AllocError;
 use std::env;
@@ -25,8 +26,9 @@ use std::rt::Env;
 fn main(rt: HostRuntime) -> ExitCode {
     let mut err = OutputSink::new(rt.stderr());
     let words = match words_of(&rt) {
-        Ok(words) => words,
-        Err(AllocError) => return ExitCode::from(Ending::Memory.end(&mut err)),
+        Ok(Some(words)) => words,
+        Ok(None) => return ExitCode::from(Ending::Usage.end(&mut err)),
+        Err(AllocError) => return ExitCode::from(Ending::Unserved(Failure::Memory).end(&mut err)),
     };
     let mut source = InputSource::new(rt.stdin());
     let mut out = OutputSink::new(rt.stdout());
@@ -41,12 +43,11 @@ fn main(rt: HostRuntime) -> ExitCode {
     ))
 }
 
-/// The words after the program's name. Words of which one isn't UTF-8 are no command form, as no
-/// words are.
-fn words_of(rt: &(impl Env + AllocGlobal)) -> Result<Vec<String>, AllocError> {
+/// The words after the program's name, or none where one of them isn't text.
+fn words_of(rt: &(impl Env + AllocGlobal)) -> Result<Option<Vec<String>>, AllocError> {
     match env::args(rt) {
-        Ok(args) => args.skip(1).collect(rt.alloc()),
-        Err(error) if error.kind() == ErrorKind::InvalidData => Ok(Vec::new(rt.alloc())),
+        Ok(args) => Ok(Some(args.skip(1).collect(rt.alloc())?)),
+        Err(error) if error.kind() == ErrorKind::InvalidData => Ok(None),
         Err(_) => Err(AllocError),
     }
 }

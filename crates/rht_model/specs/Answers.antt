@@ -8,7 +8,7 @@ use Rattle.rht_model.specs.declared.history.Call.{Call}
 use Rattle.rht_model.specs.declared.history.Call.TheVariants.{Bind, Find, All, Release, Rebind}
 use Rattle.rht_model.specs.declared.history.Reply.{Reply}
 use Rattle.rht_model.specs.declared.history.Reply.TheVariants.{Bound, Exists, Found, Missing, Listed, Released, Absent, Rebound, TooBig, Again, Busy, NoTable, NoNode, Pending, Elsewhere}
-use Rattle.rht_model.specs.Multimap.{Multimap, with_owners}
+use Rattle.rht_model.specs.Multimap.{Port, Multimap, with_owners}
 
 -- an answer: the reply, and the list that comes with it, which is empty but for Listed
 pub record Answer : Type 0 where
@@ -67,7 +67,7 @@ answer_of kind bindings (Rebind port owner new) = Some (plain (rebind_reply owne
 answer_of kind bindings _ = None
 
 -- the port that a call speaks of; none for a call that isn't about bindings
-abbrev pub port_of : Call → Option ℕ
+abbrev pub port_of : Call → Option Port
 port_of (Bind port owner once) = Some port
 port_of (Find port) = Some port
 port_of (All port) = Some port

@@ -10,6 +10,8 @@ pub mod Pairs
 pub mod Answers
 -- how a call ends
 pub mod Endings
+-- how `Replies` keeps endings
+pub mod KeptReplies
 -- a list with a limit, as contracts see a room
 pub mod Rooms
 -- which lists of entries are legal histories

@@ -13,6 +13,7 @@ pub mod laws;
 mod legal;
 mod owners;
 mod pair_list;
+mod replies;
 mod room;
 #[cfg(test)]
 mod tests;
@@ -22,4 +23,5 @@ pub use finished::Finished;
 pub use history::{Call, Cursor, Entry, Reply};
 pub use legal::is_legal;
 pub use owners::Owners;
+pub use replies::Replies;
 pub use room::Room;

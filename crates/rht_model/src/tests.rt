@@ -1,6 +1,6 @@
 //! The calls with ample memory, against pairs worked out by hand.
 
-use super::{Bindings, Call, Cursor, Entry, Owners, Reply, Room, is_legal};
+use super::{Bindings, Call, Cursor, Entry, Owners, Replies, Reply, Room, is_legal};
 use rht_words::Kind;
 use std::alloc::{AllocError, Global};
 use std::process::Abort;
@@ -28,6 +28,30 @@ fn a_room_is_used_again_once_it_is_cleared(rt: HostRuntime) -> Result<(), Fail> 
     assert!(rt; room.as_slice().is_empty());
     room.push((5, 3));
     assert_eq!(rt; room.as_slice(), [(5, 3)].as_slice());
+    Ok(())
+}
+
+#[test]
+fn each_reply_keeps_the_lists_beside_it(rt: HostRuntime) -> Result<(), Fail> {
+    let mut replies = Replies::new(rt.alloc());
+    assert!(rt; replies.is_empty());
+    let walked = Reply::Walked { len: 1, next: None };
+    let cases: [(Reply, &[u32], &[(u32, u32)]); 4] = [
+        (Reply::Missing, &[], &[]),
+        (Reply::Listed { len: 2 }, &[7, 5], &[]),
+        (walked, &[], &[(80, 1)]),
+        (Reply::Bound { kick: true }, &[], &[]),
+    ];
+    for (reply, owners, pairs) in cases {
+        replies.push(reply, owners, pairs)?;
+    }
+    assert_eq!(rt; replies.len(), 4);
+    for i in 0..4 {
+        let (reply, owners, pairs) = cases[i];
+        assert_eq!(rt; replies.reply(i), reply, "{i}");
+        assert_eq!(rt; replies.owners(i), owners, "{i}");
+        assert_eq!(rt; replies.pairs(i), pairs, "{i}");
+    }
     Ok(())
 }
 

@@ -1,5 +1,8 @@
 -- The mix of three words of 32 bits: seven rounds, each of which changes one word by another.
 use Rattle.std.specs.Prelude.{ℕ, ◌+◌, ◌-◌, ◌*◌, ◌/◌, ◌%◌, ◌^◌, bit_xor}
+use Rattle.rht_words.specs.declared.config.Config.{Config}
+use Rattle.rht_words.specs.declared.config.Hash.{Hash}
+use Rattle.rht_words.specs.declared.config.Hash.TheVariants as hashes
 use Rattle.rht_words.specs.Shapes.{size_of, unpacked}
 
 -- the difference of two words, which wraps
@@ -24,6 +27,18 @@ final_mix a b c =
     let a2 = after_round a1 c2 4 in
     let b2 = after_round b1 a2 14 in
     after_round c2 b2 24
+
+-- the mix that is the number itself
+abbrev pub low_mix : ℕ → ℕ → ℕ → ℕ
+low_mix number net seed = number
+
+-- the mix that a config's hash names
+abbrev pub mix_of_hash : Hash → ℕ → ℕ → ℕ → ℕ
+mix_of_hash hashes.Mix = final_mix
+mix_of_hash hashes.Low = low_mix
+
+abbrev pub mix_named : Config → ℕ → ℕ → ℕ → ℕ
+mix_named config = mix_of_hash config.hash
 
 -- the bucket of a port in a table whose slot has these words for its shape and its seed
 abbrev pub bucket_of : (ℕ → ℕ → ℕ → ℕ) → ℕ → ℕ → ℕ → ℕ

@@ -1,7 +1,7 @@
-//! The mixes of a port, a net and a seed, of which a hash is made.
+//! The mixes of a port's number, its net and a seed, of which a hash is made.
 
 ghost use Rattle.std.specs.Prelude.{◌≡◌, ℕ, ◌<◌};
-ghost use Rattle.rht_policy.specs.Mix.{after_round, final_mix, bucket_of};
+ghost use Rattle.rht_policy.specs.Mix.{after_round, final_mix, low_mix, bucket_of};
 
 use rht_words::{Port, Shape};
 
@@ -9,12 +9,12 @@ use rht_words::{Port, Shape};
 pub trait Mix {
     ghost mix_of: { ℕ → ℕ → ℕ → ℕ };
 
-    /// Mixes the number of a port, its net and the seed of a table.
-    fn mix(port: Port, net: u32, seed: u32) -> u32
-        ensures { result ≡ mix_of port net seed };
+    /// Mixes the number of a port, its net and the seed of a table, all as plain numbers.
+    fn mix(number: u32, net: u32, seed: u32) -> u32
+        ensures { result ≡ mix_of number net seed };
 }
 
-/// The final mix of the kernel's `jhash`, of port, net and seed in this order.
+/// The final mix of the kernel's `jhash`, of number, net and seed in this order.
 #[derive(Clone, Copy, Debug, PartialEq, Eq)]
 pub struct Lookup3;
 
@@ -23,8 +23,8 @@ impl Mix for Lookup3 {
 
     #[inline(always)]
     #[tactic(auto, unfolding(crate::specs::Mix::final_mix))]
-    fn mix(port: Port, net: u32, seed: u32) -> u32 {
-        let (mut a, mut b, mut c) = (port, net, seed);
+    fn mix(number: u32, net: u32, seed: u32) -> u32 {
+        let (mut a, mut b, mut c) = (number, net, seed);
         c = round(c, b, 14);
         a = round(a, c, 11);
         b = round(b, a, 25);
@@ -35,16 +35,16 @@ impl Mix for Lookup3 {
     }
 }
 
-/// The port itself, so that whoever chooses the ports chooses the buckets.
+/// The port's number itself, so that whoever chooses the ports chooses the buckets.
 #[derive(Clone, Copy, Debug, PartialEq, Eq)]
 pub struct Low;
 
 impl Mix for Low {
-    ghost mix_of = { λ port _ _. port };
+    ghost mix_of = { low_mix };
 
     #[inline(always)]
-    fn mix(port: Port, _net: u32, _seed: u32) -> u32 {
-        port
+    fn mix(number: u32, _net: u32, _seed: u32) -> u32 {
+        number
     }
 }
 

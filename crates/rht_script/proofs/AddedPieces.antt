@@ -130,3 +130,9 @@ module _ {S E : Type 0} {held : S → Option (List ℕ)} {faults : S → ℕ} {a
       let both_added : Adds held faults a c r waited waits text =
       subst (Adds held faults a c r waited waits) (append-nil text) (both held faults a b c r waited between waits text [] added put) in
       all_put held faults a c r waits text (subst (λ w. Adds held faults a c r w waits text) none_before both_added) none_behind
+
+-- a text that was put between two states was put between the same states under other names
+pub Puts-between : {S E : Type 0} {held : S → Option (List ℕ)} {faults : S → ℕ} {a b c d : S} {r : Result (Unit {0}) E} {text : List ℕ}
+    → a ≡ b → c ≡ d → Puts held faults a c r text → Puts held faults b d r text
+Puts-between {held = held} {faults = faults} {b = b} {c = c} {r = r} {text = text} before after put =
+    subst (λ s. Puts held faults b s r text) after (subst (λ s. Puts held faults s c r text) before put)

@@ -12,13 +12,25 @@ pub mod LineLemmas
 pub mod ReadCommands
 -- the two ways to read bytes
 pub mod ReadingLemmas
+-- the first fault of an input, and the lines before it and behind it
+pub mod FirstFaults
+-- what is read follows from the words of the lines that aren't skipped
+pub mod Meanings
+-- plain words, and numbers in decimal
+pub mod PlainWords
+-- what is spelled plainly is read back
+pub mod PlainScripts
+-- whatever is read can be said
+pub mod SayableScripts
+-- inputs, and what the definitions give for them
+pub mod WorkedInputs
 -- the commands so far, before those still to be read
 pub mod CommandsSoFar
--- lists of pieces, by their places
-pub mod PlaceLemmas
 -- pieces of a text that are added one after another
 pub mod AddedPieces
 -- a list whose items are added one after another
 pub mod AddedLists
 -- what stands at a place of bindings
 pub mod PlacesOfBindings
+-- what stands at a place of replies and of workers
+pub mod WorkerLines

@@ -1,13 +1,14 @@
 -- The first line of a text ends where its first line feed is, and the other lines are those of what stands
 -- behind it. The first word of a line begins at the first byte that is no blank and ends at the next blank.
-use Rattle.std.proofs.Common.{◌≡◌, ◌≢◌, ℕ, ◌+◌, ◌<◌, ◌≤◌, ◌==◌, Bool, true, false, not, cond, List, [], ◌∷◌, length, take, drop, nat_lt, Some, None, position, suc, refl, ap, ◌∙◌, sym, arith, inl, inr}
+use Rattle.std.proofs.Common.{◌≡◌, ◌≢◌, ℕ, ◌+◌, ◌<◌, ◌≤◌, ◌==◌, Bool, true, false, not, cond, List, [], ◌∷◌, length, get_or, take, drop, nat_lt, Some, None, position, suc, refl, ap, ◌∙◌, sym, arith, inl, inr}
 use Rattle.std.specs.Prelude.{filter}
 use Rattle.std.specs.List.{slice_split, position_or_len, onto_first}
-use Rattle.std.proofs.lemmas.List.Splits.{slice_split_first, slice_split-cons_yes, length-slice_split}
+use Rattle.std.proofs.lemmas.List.{get_or-drop}
+use Rattle.std.proofs.lemmas.List.Splits.{slice_split_first, slice_split-cons_yes, slice_split-cons_no, length-slice_split}
 use Rattle.std.proofs.lemmas.Option.{cond_some, none-some}
 use Rattle.std.proofs.lemmas.Bool.{ltb-true, ltb-false, cases_Bool, cond-true}
 use Rattle.rht_script.specs.Cursors.{BeginsWord}
-use Rattle.rht_script.specs.Spelling.{without_empty_end, lines_of, is_blank, is_some_text, words_of}
+use Rattle.rht_script.specs.Spelling.{without_empty_end, lines_of, is_blank, is_some_text, words_of, is_skipped}
 
 module _ (test : ℕ → Bool) where
   -- the text has a byte that passes first at this place
@@ -133,6 +134,26 @@ words_of-position line start found =
     let at = cond_some (nat_lt place (length line)) place start found in
     let within : place < length line = ltb-true place (length line) at.0 in
     rw at.1 at (from_letter line within)
+
+-- the first byte of a word tells a comment
+is_skipped-letter : (text : List ℕ) → BeginsWord text → is_skipped (words_of text) ≡ (get_or text 0 0 == 35)
+unfolding words_of
+is_skipped-letter [] begins = absurd begins
+is_skipped-letter (byte ∷ text) begins =
+    rw (slice_split-cons_no is_blank byte text begins)
+    (elim (slice_split is_blank text) as (λ pieces. is_skipped (filter is_some_text (onto_first byte pieces)) ≡ (byte == 35)) [
+      | [] ↦ refl
+      | piece ∷ pieces ↦ refl
+    ])
+
+-- so does the first byte of a line that is no blank
+pub is_skipped-position : (line : List ℕ) (start : ℕ) → position is_letter line ≡ Some start
+    → is_skipped (words_of line) ≡ (get_or line start 0 == 35)
+is_skipped-position line start found =
+    let begins = words_of-position line start found in
+    let here : start + 0 ≡ start = omega arith in
+    let first = get_or-drop start line 0 0 ∙ ap (λ n. get_or line n 0) here in
+    ap is_skipped begins.0 ∙ is_skipped-letter (drop start line) begins.1 ∙ ap (λ b. b == 35) first
 
 -- a word that a blank ends
 some_text : (text : List ℕ) (end : ℕ) → BeginsWord text → position is_blank text ≡ Some end

@@ -1,16 +1,26 @@
 -- What the words of a command line stand for: a worker, and what that asks. Words are read from left to right.
 use Rattle.std.specs.Prelude.{ℕ, Bool, false, ◌||◌, if◌then◌else◌, Result, Ok, Err, List, [], ◌∷◌, codes}
+use Rattle.rht_words.specs.declared.config.Config.{Config}
+use Rattle.rht_words.specs.declared.limits.Limits.{Limits}
 use Rattle.rht_model.specs.declared.history.Call.{Call}
 use Rattle.rht_model.specs.declared.history.Call.TheVariants.{Bind, Find, Release}
+use Rattle.rht_script.specs.declared.script.TableLine.{TableLine}
 use Rattle.rht_script.specs.declared.cause.Cause.{Cause}
 use Rattle.rht_script.specs.declared.cause.Cause.TheVariants.{UnknownWord}
-use Rattle.rht_script.specs.Spelling.{◌>>=◌, is_word, number_of, most}
+use Rattle.rht_script.specs.Spelling.{◌>>=◌, is_word, number_of}
+
+-- a port and an owner are any number of 32 bits
+abbrev pub port_limits : Limits
+port_limits = record { least = 0; greatest = 4294967295 }
+
+abbrev pub owner_limits : Limits
+owner_limits = record { least = 0; greatest = 4294967295 }
 
 -- the number that the next word stands for, and the words behind it
-abbrev pub number_first : ℕ → ℕ → List (List ℕ) → Result (ℕ × List (List ℕ)) Cause
-number_first least greatest [] = Err UnknownWord
-number_first least greatest (word ∷ words) = do
-  number ← number_of least greatest word
+abbrev pub number_first : Limits → List (List ℕ) → Result (ℕ × List (List ℕ)) Cause
+number_first limits [] = Err UnknownWord
+number_first limits (word ∷ words) = do
+  number ← number_of limits word
   Ok (number, words)
 
 -- no word is left over
@@ -21,21 +31,21 @@ end_of (word ∷ words) = Err UnknownWord
 -- what each verb asks with these words
 unfoldable pub bind_of : List (List ℕ) → Result Call Cause
 bind_of words = do
-  port ← number_first 0 most words
-  owner ← number_first 0 most port.1
+  port ← number_first port_limits words
+  owner ← number_first owner_limits port.1
   end ← end_of owner.1
   Ok (Bind port.0 owner.0 false)
 
 unfoldable pub find_of : List (List ℕ) → Result Call Cause
 find_of words = do
-  port ← number_first 0 most words
+  port ← number_first port_limits words
   end ← end_of port.1
   Ok (Find port.0)
 
 unfoldable pub release_of : List (List ℕ) → Result Call Cause
 release_of words = do
-  port ← number_first 0 most words
-  owner ← number_first 0 most port.1
+  port ← number_first port_limits words
+  owner ← number_first owner_limits port.1
   end ← end_of owner.1
   Ok (Release port.0 owner.0)
 
@@ -52,12 +62,16 @@ call_of (verb ∷ words) =
 abbrev pub is_schedule : List ℕ → Bool
 is_schedule word = is_word word (codes "step") || is_word word (codes "skip") || is_word word (codes "finish")
 
--- the command of a line of these words: its worker, and what that asks
-unfoldable pub command_of : ℕ → List (List ℕ) → Result (ℕ × Call) Cause
-command_of callers [] = Err UnknownWord
-command_of callers (worker ∷ words) =
+-- the workers are the callers of the table, counted from 1
+abbrev pub worker_limits : Config → Limits
+worker_limits config = record { least = 1; greatest = config.callers }
+
+-- the command of a line of these words below this table line: its worker, and what that asks
+unfoldable pub command_of : TableLine → List (List ℕ) → Result (ℕ × Call) Cause
+command_of table [] = Err UnknownWord
+command_of table (worker ∷ words) =
     if is_schedule worker then Err UnknownWord
     else do
-      number ← number_of 1 callers worker
+      number ← number_of (worker_limits table.config) worker
       call ← call_of words
       Ok (number, call)

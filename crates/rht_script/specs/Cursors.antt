@@ -3,7 +3,7 @@ use Rattle.std.specs.Prelude.{◌≡◌, ℕ, ◌+◌, false, Option, None, Some
 use Rattle.std.specs.Borrow.{Bor}
 use Rattle.rht_script.specs.declared.script.ScriptFault.{ScriptFault}
 use Rattle.rht_script.specs.declared.cause.Cause.{Cause}
-use Rattle.rht_script.specs.Grammar.{words_in, at_line}
+use Rattle.rht_script.specs.Grammar.{words_at, at_line}
 use Rattle.rht_script.specs.Spelling.{is_blank, words_of}
 
 -- the lines that are left, and the number of the first of them
@@ -16,14 +16,14 @@ pub record Takes (before after : Unread) (number : ℕ) (line : List ℕ) : Type
   pub first : before.lines ≡ line ∷ after.lines
   pub here : number ≡ before.number
   pub counted : after.number ≡ before.number + 1
-  pub words : words_in before.number line ≡ Ok (words_of line)
+  pub words : words_at before.number line ≡ Ok (words_of line)
 
 -- The next line is at fault.
 pub record IsAtFault (before : Unread) (fault : ScriptFault) : Type 0 where
   pub line : List ℕ
   pub lines : List (List ℕ)
   pub first : before.lines ≡ line ∷ lines
-  pub wrong : at_line before.number (words_in before.number line) ≡ Err fault
+  pub wrong : at_line before.number (words_at before.number line) ≡ Err fault
 
 -- what taking the next line comes to; none is taken where none is left, or where it is at fault
 abbrev pub TakesNext : Unread → Unread → Result (Option (ℕ × Bor (List ℕ))) ScriptFault → Type 0

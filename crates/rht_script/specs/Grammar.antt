@@ -1,9 +1,11 @@
 -- Which bytes are a script and what it says, and where other bytes have their first fault.
 -- Lines are read from the first to the last: the table line, and then command lines. The first that is wrong is at fault.
-use Rattle.std.specs.Prelude.{ℕ, ◌+◌, ◌==◌, nat_lt, if◌then◌else◌, Result, Ok, Err, List, [], ◌∷◌, length, take, count_by}
+use Rattle.std.specs.Prelude.{ℕ, Bool, ◌+◌, ◌==◌, nat_lt, if◌then◌else◌, Result, Ok, Err, List, [], ◌∷◌, length, take, count_by}
 use Rattle.rht_words.specs.declared.config.Config.{Config}
 use Rattle.rht_model.specs.declared.history.Call.{Call}
+use Rattle.rht_script.specs.declared.script.Sched.{Sched}
 use Rattle.rht_script.specs.declared.script.ScriptFault.{ScriptFault}
+use Rattle.rht_script.specs.declared.script.TableLine.{TableLine}
 use Rattle.rht_script.specs.declared.cause.Cause.{Cause}
 use Rattle.rht_script.specs.declared.cause.Cause.TheVariants.{NoTableLine, UnknownWord, BadNumber, OutOfRange, TooManyLines, LineTooLong, OptionsDisagree, ScriptTooLong}
 use Rattle.rht_script.specs.Spelling.{◌>>=◌, lines_of, words_of, is_skipped}
@@ -41,43 +43,50 @@ at_line line (Ok value) = Ok value
 at_line line (Err cause) = Err (fault_at line cause)
 
 -- the words of the line of this number, where there are not too many lines, and the line isn't too long
-abbrev pub words_in : ℕ → List ℕ → Result (List (List ℕ)) Cause
-words_in number line =
+abbrev pub words_at : ℕ → List ℕ → Result (List (List ℕ)) Cause
+words_at number line =
     if nat_lt most_lines number then Err TooManyLines
     else if nat_lt most_in_line (length line) then Err LineTooLong
     else Ok (words_of line)
 
--- what a script says: what the table is opened with, and the commands, each with its worker
+-- what a script says: what the table is opened with, whether a worker runs `work` by itself where a reply asks for it,
+-- the commands, each with its worker, and the schedule of a replay
 pub record Said : Type 0 where
   pub config : Config
+  pub auto : Bool
   pub commands : List (ℕ × Call)
+  pub schedule : List Sched
 
 -- the commands of the lines below the table line, which are counted on from this number
-abbrev pub commands_from : ℕ → Config → List (List ℕ) → Result (List (ℕ × Call)) ScriptFault
-commands_from number config [] = Ok []
-commands_from number config (line ∷ lines) = do
-  words ← at_line number (words_in number line)
-  if is_skipped words then commands_from (number + 1) config lines
+abbrev pub commands_from : ℕ → TableLine → List (List ℕ) → Result (List (ℕ × Call)) ScriptFault
+commands_from number table [] = Ok []
+commands_from number table (line ∷ lines) = do
+  words ← at_line number (words_at number line)
+  if is_skipped words then commands_from (number + 1) table lines
       else do
-        command ← at_line number (command_of config.callers words)
-        commands ← commands_from (number + 1) config lines
+        command ← at_line number (command_of table words)
+        commands ← commands_from (number + 1) table lines
         Ok (command ∷ commands)
 
--- what is said with this config, and the commands of these lines
-abbrev pub said_with : Config → ℕ → List (List ℕ) → Result Said ScriptFault
-said_with config number lines = do
-  commands ← commands_from number config lines
-  Ok (record { config = config; commands = commands })
+-- a table line and commands say this; no line says a schedule yet
+abbrev pub said_of : TableLine → List (ℕ × Call) → Said
+said_of table commands = record { config = table.config; auto = table.auto; commands = commands; schedule = [] }
+
+-- what is said with this table line, and the commands of these lines
+abbrev pub said_with : TableLine → ℕ → List (List ℕ) → Result Said ScriptFault
+said_with table number lines = do
+  commands ← commands_from number table lines
+  Ok (said_of table commands)
 
 -- what is said in these lines, which are counted on from this number: the first that isn't skipped is the table line
 abbrev pub said_from : ℕ → List (List ℕ) → Result Said ScriptFault
 said_from number [] = Err (fault_at number NoTableLine)
 said_from number (line ∷ lines) = do
-  words ← at_line number (words_in number line)
+  words ← at_line number (words_at number line)
   if is_skipped words then said_from (number + 1) lines
       else do
-        config ← at_line number (table_of words)
-        said_with config (number + 1) lines
+        table ← at_line number (table_of words)
+        said_with table (number + 1) lines
 
 -- what the bytes say, or their first fault; of too many bytes the fault is at the line at which they become too many
 unfoldable pub reading_of : List ℕ → Result Said ScriptFault

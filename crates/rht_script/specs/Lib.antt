@@ -14,8 +14,10 @@ pub mod Cursors
 pub mod Reading
 -- which scripts can be run
 pub mod Sound
--- what the slow program of the tests reads
-pub mod Places
+-- what today's words can say, and how it is spelled plainly
+pub mod Plain
+-- what follows from the grammar, in the words of scripts
+pub mod Laws
 -- the text of replies and of last bindings
 pub mod Text
 -- what a step of writing text does

@@ -1,20 +1,23 @@
 -- What `read` answers: what the bytes say, or their first fault.
-use Rattle.std.specs.Prelude.{◌≡◌, ℕ, true, Result, Ok, Err, List, []}
+use Rattle.std.specs.Prelude.{◌≡◌, ℕ, Result, Ok, Err, List}
 use Rattle.rht_script.specs.declared.script.Script.{Script}
 use Rattle.rht_script.specs.declared.script.ScriptFault.{ScriptFault}
 use Rattle.rht_script.specs.declared.script.ReadError.{ReadError}
 use Rattle.rht_script.specs.declared.script.ReadError.TheVariants.{Fault, Memory}
 use Rattle.rht_script.specs.Grammar.{Said, reading_of}
 
--- what the script says, of its schedule aside
+-- what the script says
 abbrev pub said_by : Script → Said
-said_by script = record { config = script.config; commands = script.commands.items }
+said_by script = record {
+  config = script.config;
+  auto = script.auto;
+  commands = script.commands.items;
+  schedule = script.schedule.items;
+}
 
--- The bytes are this script. A script asks for `work` by itself, and has no schedule yet.
-pub record IsScript (bytes : List ℕ) (script : Script) : Type 0 where
-  pub said : reading_of bytes ≡ Ok (said_by script)
-  pub auto : script.auto ≡ true
-  pub schedule : script.schedule.items ≡ []
+-- the bytes are this script
+abbrev pub IsScript : List ℕ → Script → Type 0
+IsScript bytes script = reading_of bytes ≡ Ok (said_by script)
 
 -- the bytes are no script, and this is their first fault
 abbrev pub FirstFault : List ℕ → ScriptFault → Type 0

@@ -4,6 +4,7 @@ use Rattle.std.specs.List.{list_all}
 use Rattle.rht_words.specs.declared.config.Config.{Config}
 use Rattle.rht_words.specs.declared.config.Kind.{Kind}
 use Rattle.rht_words.specs.declared.config.Kind.TheVariants.{Single, Listed}
+use Rattle.rht_words.specs.declared.limits.Limits.{Limits}
 use Rattle.rht_words.specs.Settled.{IsSettled}
 use Rattle.rht_model.specs.declared.history.Call.{Call}
 use Rattle.rht_model.specs.declared.history.Call.TheVariants.{Bind, Rebind, Walk}
@@ -11,6 +12,7 @@ use Rattle.rht_script.specs.declared.script.Script.{Script}
 use Rattle.rht_script.specs.declared.script.Sched.{Sched}
 use Rattle.rht_script.specs.declared.script.Sched.TheVariants.{Step, Skip, Finish}
 use Rattle.rht_script.specs.Grammar.{most_lines}
+use Rattle.rht_script.specs.CommandLines.{worker_limits}
 use Rattle.rht_script.specs.Spelling.{is_within}
 
 -- a port has at most one owner
@@ -27,16 +29,20 @@ is_sound_call config _ = true
 
 -- the command is a worker's, and its call can be run
 abbrev pub is_sound_command : Config → ℕ × Call → Bool
-is_sound_command config command = is_within 1 config.callers command.0 && is_sound_call config command.1
+is_sound_command config command = is_within (worker_limits config) command.0 && is_sound_call config command.1
+
+-- the events of a line of a schedule, and at `finish` the calls that end
+abbrev pub event_limits : Limits
+event_limits = record { least = 1; greatest = 1000000 }
 
 -- the line of a schedule is a worker's, and its number is within its limits
 abbrev pub is_sound_line : Config → Sched → Bool
-is_sound_line config (Step worker number) = is_within 1 config.callers worker && is_within 1 1000000 number
-is_sound_line config (Skip worker number) = is_within 1 config.callers worker && is_within 1 1000000 number
-is_sound_line config (Finish worker number) = is_within 1 config.callers worker && is_within 1 1000000 number
+is_sound_line config (Step worker number) = is_within (worker_limits config) worker && is_within event_limits number
+is_sound_line config (Skip worker number) = is_within (worker_limits config) worker && is_within event_limits number
+is_sound_line config (Finish worker number) = is_within (worker_limits config) worker && is_within event_limits number
 
 -- The config is settled, and each command and each line of the schedule fits it.
-pub record IsSound (script : Script) : Type 0 where
+pub record IsSoundScript (script : Script) : Type 0 where
   pub settled : IsSettled script.config
   pub few : vec_len script.commands ≤ most_lines
   pub commands : IsTrue (list_all (is_sound_command script.config) script.commands.items)

@@ -3,6 +3,7 @@ use Rattle.std.specs.Prelude.{ℕ, ◌+◌, ◌-◌, ◌*◌, Bool, true, false,
 use Rattle.std.specs.Char.{is_ascii_digit}
 use Rattle.std.specs.List.{list_all, slice_split}
 use Rattle.std.specs.Str.{bytes_eq}
+use Rattle.rht_words.specs.declared.limits.Limits.{Limits}
 use Rattle.rht_script.specs.declared.cause.Cause.{Cause}
 use Rattle.rht_script.specs.declared.cause.Cause.TheVariants.{BadNumber, OutOfRange}
 
@@ -53,25 +54,25 @@ is_word word text = bytes_eq word text
 
 -- ---- numbers
 
+-- the greatest number of digits of a number
+abbrev pub most_digits : ℕ
+most_digits = 20
+
 -- 1 to 20 digits, leading zeros allowed
 abbrev pub is_number : List ℕ → Bool
-is_number word = nat_lt 0 (length word) && nat_le (length word) 20 && list_all is_ascii_digit word
+is_number word = nat_lt 0 (length word) && nat_le (length word) most_digits && list_all is_ascii_digit word
 
 -- what digits stand for, the first one highest
 abbrev pub value_of : List ℕ → ℕ
 value_of digits = fold (λ value digit. value * 10 + (digit - 48)) 0 digits
 
--- the number is one of those from the least to the greatest
-abbrev pub is_within : ℕ → ℕ → ℕ → Bool
-is_within least greatest number = nat_le least number && nat_le number greatest
+-- the number is within these limits
+abbrev pub is_within : Limits → ℕ → Bool
+is_within limits number = nat_le limits.least number && nat_le number limits.greatest
 
--- the number that the word stands for, of those from the least to the greatest
-unfoldable pub number_of : ℕ → ℕ → List ℕ → Result ℕ Cause
-number_of least greatest word =
+-- the number that the word stands for, of those within these limits
+unfoldable pub number_of : Limits → List ℕ → Result ℕ Cause
+number_of limits word =
     if not (is_number word) then Err BadNumber
-    else if is_within least greatest (value_of word) then Ok (value_of word)
+    else if is_within limits (value_of word) then Ok (value_of word)
     else Err OutOfRange
-
--- the greatest port, owner and seed
-abbrev pub most : ℕ
-most = 4294967295

@@ -1,22 +1,25 @@
--- What the words of a table line stand for: the config that the table is opened with.
+-- What the words of a table line stand for: what the table is opened with.
 -- Words are read from left to right; that the options agree is asked of the whole line, last.
-use Rattle.std.specs.Prelude.{ℕ, ◌*◌, Bool, false, ◌||◌, nat_le, max, if◌then◌else◌, None, Some, is_some, unwrap_or, Result, Ok, Err, List, [], ◌∷◌, codes}
+use Rattle.std.specs.Prelude.{ℕ, ◌*◌, Bool, true, false, ◌||◌, nat_le, max, if◌then◌else◌, None, Some, is_some, unwrap_or, Result, Ok, Err, List, [], ◌∷◌, codes}
 use Rattle.rht_words.specs.declared.config.Config.{Config}
 use Rattle.rht_words.specs.declared.config.Kind.TheVariants.{Single}
 use Rattle.rht_words.specs.declared.config.Hash.{Hash}
 use Rattle.rht_words.specs.declared.config.Hash.TheVariants.{Mix, Low}
-use Rattle.rht_words.specs.Sizes.{rounded_up, starting_size}
+use Rattle.rht_words.specs.declared.limits.Limits.{Limits}
+use Rattle.rht_words.specs.Limits.{hint_limits, min_limits, page_limits, seed_limits, rewalk_limits, least_size, page_words}
+use Rattle.rht_words.specs.Sizes.{rounded_up, first_size}
+use Rattle.rht_script.specs.declared.script.TableLine.{TableLine}
 use Rattle.rht_script.specs.declared.cause.Cause.{Cause}
 use Rattle.rht_script.specs.declared.cause.Cause.TheVariants.{NoTableLine, UnknownWord, OptionsDisagree}
 use Rattle.rht_script.specs.declared.options.Setting.{Setting}
 use Rattle.rht_script.specs.declared.options.Setting.TheVariants.{Hint, Min, Pages, Seed, Rewalks, Hashing}
 use Rattle.rht_script.specs.declared.options.Options.{Options}
-use Rattle.rht_script.specs.Spelling.{◌>>=◌, is_word, number_of, most}
+use Rattle.rht_script.specs.Spelling.{◌>>=◌, is_word, number_of}
 
 -- a setting with the number that the word stands for
-abbrev pub numbered : (ℕ → Setting) → ℕ → ℕ → List ℕ → Result Setting Cause
-numbered setting least greatest value = do
-  number ← number_of least greatest value
+abbrev pub numbered : (ℕ → Setting) → Limits → List ℕ → Result Setting Cause
+numbered setting limits value = do
+  number ← number_of limits value
   Ok (setting number)
 
 -- the hash of this name
@@ -29,11 +32,11 @@ hash_of value =
 -- what an option of this name is set to by its value
 unfoldable pub setting_of : List ℕ → List ℕ → Result Setting Cause
 setting_of name value =
-    if is_word name (codes "hint") then numbered Hint 1 65536 value
-    else if is_word name (codes "min") then numbered Min 1 65536 value
-    else if is_word name (codes "pages") then numbered Pages 4 4096 value
-    else if is_word name (codes "seed") then numbered Seed 0 most value
-    else if is_word name (codes "rewalks") then numbered Rewalks 0 255 value
+    if is_word name (codes "hint") then numbered Hint hint_limits value
+    else if is_word name (codes "min") then numbered Min min_limits value
+    else if is_word name (codes "pages") then numbered Pages page_limits value
+    else if is_word name (codes "seed") then numbered Seed seed_limits value
+    else if is_word name (codes "rewalks") then numbered Rewalks rewalk_limits value
     else if is_word name (codes "hash") then (hash_of value >>= (λ hash. Ok (Hashing hash)))
     else Err UnknownWord
 
@@ -62,29 +65,40 @@ options_from options (name ∷ value ∷ words) = do
   setting ← setting_of name value
   options_from (with_setting options setting) words
 
--- the least size, rounded up to a power of two from 4 on
+-- the least size, rounded up to a power of two from the least number of buckets on
 abbrev pub rounded_min : ℕ → ℕ
-rounded_min number = max 4 (rounded_up number)
+rounded_min number = max least_size (rounded_up number)
 
--- what a table with these options is opened with, and where an option isn't set
-unfoldable pub configured : Options → Config
-configured options = record {
+-- what a table is opened with where no option is set
+abbrev pub plain_config : Config
+plain_config = record {
   kind = Single;
   nodes = 4096;
-  pages = unwrap_or options.pages 256;
+  pages = 256;
   callers = 1;
-  hint = unwrap_or options.hint 0;
-  min = rounded_min (unwrap_or options.min 4);
+  hint = 0;
+  min = 4;
   max = 0;
-  seed = unwrap_or options.seed 1;
-  rewalks = unwrap_or options.rewalks 8;
-  hash = unwrap_or options.hash Mix;
+  seed = 1;
+  rewalks = 8;
+  hash = Mix;
   shrink = false;
 }
 
--- a table can be opened so: its first buckets have room in its pages of 64
+-- what a table with these options is opened with
+unfoldable pub configured : Options → Config
+configured options = record plain_config {
+  pages = unwrap_or options.pages plain_config.pages;
+  hint = unwrap_or options.hint plain_config.hint;
+  min = rounded_min (unwrap_or options.min plain_config.min);
+  seed = unwrap_or options.seed plain_config.seed;
+  rewalks = unwrap_or options.rewalks plain_config.rewalks;
+  hash = unwrap_or options.hash plain_config.hash;
+}
+
+-- a table can be opened so: its first buckets have room in its pages
 abbrev pub has_room : Config → Bool
-has_room config = nat_le (starting_size config.hint config.min config.max) (64 * config.pages)
+has_room config = nat_le (first_size config) (page_words * config.pages)
 
 -- the config of these options, where they agree
 unfoldable pub config_of : Options → Result Config Cause
@@ -93,14 +107,19 @@ config_of options =
     else if has_room (configured options) then Ok (configured options)
     else Err OptionsDisagree
 
--- the config of a table line's words: the kind, which is single, and the options
-abbrev pub config_below_kind : List (List ℕ) → Result Config Cause
-config_below_kind [] = Err UnknownWord
-config_below_kind (kind ∷ words) =
-    if is_word kind (codes "single") then options_from no_options words >>= config_of
-    else Err UnknownWord
+-- what the words of a table line behind its kind say; no word says yet that a worker doesn't run `work` by itself
+abbrev pub table_with : List (List ℕ) → Result TableLine Cause
+table_with words = do
+  options ← options_from no_options words
+  config ← config_of options
+  Ok (record { config = config; auto = true })
 
--- the config of a table line of these words
-unfoldable pub table_of : List (List ℕ) → Result Config Cause
+-- what the words of a table line behind `table` say: the kind, which is single, and the options
+abbrev pub table_below : List (List ℕ) → Result TableLine Cause
+table_below [] = Err UnknownWord
+table_below (kind ∷ words) = if is_word kind (codes "single") then table_with words else Err UnknownWord
+
+-- what a table line of these words says
+unfoldable pub table_of : List (List ℕ) → Result TableLine Cause
 table_of [] = Err NoTableLine
-table_of (table ∷ words) = if is_word table (codes "table") then config_below_kind words else Err NoTableLine
+table_of (table ∷ words) = if is_word table (codes "table") then table_below words else Err NoTableLine

@@ -1,8 +1,10 @@
 -- The text of replies and of last bindings, byte by byte. Every line ends with a line feed.
-use Rattle.std.specs.Prelude.{ℕ, Bool, ◌&&◌, ◌==◌, if◌then◌else◌, Option, None, Some, List, [], ◌++◌, codes, decimal}
-use Rattle.std.specs.List.{flat_map}
+use Rattle.std.specs.Prelude.{ℕ, Bool, false, ◌&&◌, ◌==◌, if◌then◌else◌, Option, None, Some, List, [], ◌++◌, length, codes, decimal}
+use Rattle.std.specs.List.{flat_map, enumerate_from}
 use Rattle.rht_model.specs.declared.history.Cursor.{Cursor}
 use Rattle.rht_model.specs.declared.bindings.Closed.{Closed}
+use Rattle.rht_model.specs.Multimap.{Port}
+use Rattle.rht_model.specs.Endings.{Ending}
 use Rattle.rht_script.specs.declared.script.ScriptFault.{ScriptFault}
 use Rattle.rht_model.specs.declared.history.Reply.{Reply}
 use Rattle.rht_model.specs.declared.history.Reply.TheVariants.{Bound, Exists, Found, Missing, Listed, Released, Absent, Rebound, TooBig, Again, Busy, NoTable, NoNode, Pending, Elsewhere, Walked, Moved, Idle, Clear, Counted}
@@ -20,7 +22,7 @@ abbrev pub owners_text : List ℕ → List ℕ
 owners_text owners = flat_map spaced owners
 
 -- a port and its first owner, after a space
-abbrev pub pair_text : ℕ × ℕ → List ℕ
+abbrev pub pair_text : Port × ℕ → List ℕ
 pair_text pair = spaced pair.0 ++ codes "=" ++ decimal pair.1
 
 -- a word that is there only in some cases
@@ -33,7 +35,7 @@ walk_end None = codes " end"
 walk_end (Some next) = codes " more"
 
 -- a reply without its worker; a kick is shown only where kicks are
-abbrev pub reply_text : Reply → List ℕ → List (ℕ × ℕ) → Bool → List ℕ
+abbrev pub reply_text : Reply → List ℕ → List (Port × ℕ) → Bool → List ℕ
 reply_text (Bound kick) owners pairs kicks = codes "bound" ++ only_if (kick && kicks) (codes " kick")
 reply_text (Exists owner) owners pairs kicks = codes "exists" ++ spaced owner
 reply_text (Found owner) owners pairs kicks = codes "found" ++ spaced owner
@@ -56,12 +58,12 @@ reply_text (Clear returned) owners pairs kicks = codes "clear" ++ spaced returne
 reply_text (Counted count) owners pairs kicks = codes "count" ++ spaced count
 
 -- a reply line: the worker, and the reply
-abbrev pub reply_line : ℕ → Reply → List ℕ → List (ℕ × ℕ) → Bool → List ℕ
+abbrev pub reply_line : ℕ → Reply → List ℕ → List (Port × ℕ) → Bool → List ℕ
 reply_line worker reply owners pairs kicks =
     decimal worker ++ codes ": " ++ reply_text reply owners pairs kicks ++ codes "\n"
 
 -- the line of a bound port: its owners, the first one first
-abbrev pub port_line : ℕ × List ℕ → List ℕ
+abbrev pub port_line : Port × List ℕ → List ℕ
 port_line pair = codes "port" ++ spaced pair.0 ++ codes ":" ++ owners_text pair.1 ++ codes "\n"
 
 -- the last line: the size in buckets, and the number of bound ports
@@ -71,6 +73,23 @@ last_line size keys = named (codes "size") size ++ named (codes " keys") keys ++
 -- the lines of the last bindings: a line for each port, and the last line
 abbrev pub closed_text : Closed → List ℕ
 closed_text closed = flat_map port_line closed.bindings.pairs ++ last_line closed.size closed.keys
+
+-- the line of a worker's command that ended so
+abbrev pub ending_line : ℕ → Ending → List ℕ
+ending_line worker ending = reply_line worker ending.answer.reply ending.answer.owners ending.pairs false
+
+-- the lines of a worker of this number, whose commands ended so
+abbrev pub worker_text : ℕ × List Ending → List ℕ
+worker_text worker = flat_map (ending_line worker.0) worker.1
+
+-- the lines of what is bound at the end: a line for each port, and the last line
+abbrev pub bound_text : List (Port × List ℕ) → ℕ → List ℕ
+bound_text bound size = flat_map port_line bound ++ last_line size (length bound)
+
+-- The printed text of a run: how the commands of each worker ended, the first worker's before the second's,
+-- and then what is bound at the end, in a table of this size.
+abbrev pub run_text : List (List Ending) → List (Port × List ℕ) → ℕ → List ℕ
+run_text workers bound size = flat_map worker_text (enumerate_from 1 workers) ++ bound_text bound size
 
 -- what is wrong, by the number of the cause
 abbrev pub cause_text : ℕ → List ℕ

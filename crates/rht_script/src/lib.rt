@@ -1,17 +1,18 @@
 //! Scripts and the text that answers them.
 //!
 //! Stands on `rht_model`, `rht_words` and `rht_io`. The program reads a script's bytes by `read`,
-//! and gathers the text of replies and of the last bindings in a `TextBuffer` by `add_reply` and
-//! `add_closed`; `write_reply`, `write_closed` and `write_fault` write such text at once.
+//! and writes the text of a run by `write_run`; `write_reply`, `write_closed` and `write_fault`
+//! write parts of such text.
 //! Read `specs/Grammar.antt` and `specs/Text.antt` first.
 #![tactic(auto)]
 
 mod cause;
+pub mod laws;
 mod options;
 mod reader;
 mod script;
 mod writer;
 
 pub use reader::{MOST_BYTES, read};
-pub use script::{ReadError, Sched, Script, ScriptFault};
-pub use writer::{TextBuffer, add_closed, add_reply, write_closed, write_fault, write_reply};
+pub use script::{ReadError, Sched, Script, ScriptFault, TableLine};
+pub use writer::{write_closed, write_fault, write_reply, write_run};

@@ -2,13 +2,28 @@
 //!
 //! Stands on `rht_words`, which rounds sizes and says how large a first table is.
 
-ghost use Rattle.std.specs.Prelude.{◌≡◌, IfOk};
-ghost use Rattle.rht_words.specs.Settled.{IsSettled};
+ghost use Rattle.std.specs.Prelude.{◌≡◌};
 ghost use Rattle.rht_script.specs.TableLines.{no_options, with_setting, configured, config_of};
 ghost use Rattle.rht_script.specs.Allowed.{AreAllowed, IsAllowed};
 
 use crate::cause::Cause;
-use rht_words::{Config, Hash, Kind, rounded_up, starting_size};
+use rht_words::limits::{LEAST_SIZE, PAGE_WORDS};
+use rht_words::{Config, Hash, Kind, rounded_up};
+
+/// What a table is opened with where no option is set.
+pub(crate) const PLAIN: Config = Config {
+    kind: Kind::Single,
+    nodes: 4096,
+    pages: 256,
+    callers: 1,
+    hint: 0,
+    min: 4,
+    max: 0,
+    seed: 1,
+    rewalks: 8,
+    hash: Hash::Mix,
+    shrink: false,
+};
 
 /// An option with its value.
 #[derive(Clone, Copy, Debug, PartialEq, Eq)]
@@ -91,15 +106,14 @@ impl Options {
         }
     }
 
-    /// The config of these options. It is settled, so a table can be opened with it.
+    /// The config of these options, where they agree.
     #[tactic(auto, unfolding(crate::specs::TableLines::config_of))]
     pub(crate) fn config(self) -> Result<Config, Cause>
         requires { AreAllowed self }
-        ensures value { result ≡ config_of self }
-        ensures settled { IfOk result IsSettled }
+        ensures { result ≡ config_of self }
     {
         let config = self.configured();
-        if self.twice || starting_size(config.hint, config.min, config.max) > 64 * config.pages {
+        if self.twice || config.starting_size() > PAGE_WORDS * config.pages {
             return Err(Cause::OptionsDisagree);
         }
         Ok(config)
@@ -112,17 +126,13 @@ impl Options {
         ensures { result ≡ configured self }
     {
         Config {
-            kind: Kind::Single,
-            nodes: 4096,
-            pages: self.pages.unwrap_or(256),
-            callers: 1,
-            hint: self.hint.unwrap_or(0),
-            min: rounded_up(self.min.unwrap_or(4)).max(4),
-            max: 0,
-            seed: self.seed.unwrap_or(1),
-            rewalks: self.rewalks.unwrap_or(8),
-            hash: self.hash.unwrap_or(Hash::Mix),
-            shrink: false,
+            pages: self.pages.unwrap_or(PLAIN.pages),
+            hint: self.hint.unwrap_or(PLAIN.hint),
+            min: rounded_up(self.min.unwrap_or(PLAIN.min)).max(LEAST_SIZE),
+            seed: self.seed.unwrap_or(PLAIN.seed),
+            rewalks: self.rewalks.unwrap_or(PLAIN.rewalks),
+            hash: self.hash.unwrap_or(PLAIN.hash),
+            ..PLAIN
         }
     }
 }

@@ -4,34 +4,31 @@
 //! on the options of a table line. Begin with `read`.
 
 ghost use Rattle.std.specs.Prelude.{◌≡◌, ◌+◌, ◌<◌, ◌≤◌, ◌==◌, Ok, Err, IfOk, IfErr, MatchResult, MatchOption, count_by, length, take, fold};
-ghost use Rattle.rht_words.specs.Settled.{IsSettled};
 ghost use Rattle.rht_script.specs.Grammar.{fault_at, commands_from, said_with, said_from};
 ghost use Rattle.rht_script.specs.TableLines.{no_options, table_of, hash_of, setting_of, options_from};
 ghost use Rattle.rht_script.specs.CommandLines.{command_of, call_of, bind_of, find_of, release_of, is_schedule};
 ghost use Rattle.rht_script.specs.Reading.{IsScript, IsReason, IsReasonFor};
 ghost use Rattle.rht_script.specs.Allowed.{IsAllowed, AreAllowed};
-ghost use Rattle.rht_script.specs.Sound.{IsSound};
+ghost use Rattle.rht_script.specs.Sound.{IsSoundScript};
 ghost use Rattle.rht_script.specs.declared.cause.Cause.TheVariants.{ScriptTooLong};
 
 mod cursors;
 mod names;
 mod numbers;
 #[cfg(test)]
-mod slow;
-#[cfg(test)]
 mod tests;
 
 use crate::cause::{Cause, at_line};
 use crate::options::{Options, Setting};
-use crate::script::{ReadError, Script, ScriptFault};
+use crate::script::{ReadError, Script, ScriptFault, TableLine, worker_limits};
 use cursors::{Lines, Words};
 use names::{
     BIND, FIND, FINISH, HASH, HINT, LOW, MIN, MIX, PAGES, RELEASE, REWALKS, SEED, SINGLE, SKIP,
     STEP, TABLE,
 };
-use numbers::number_within;
+use numbers::{OWNER, PORT, number_within};
 use rht_model::Call;
-use rht_words::{Config, Hash};
+use rht_words::{Hash, limits};
 use std::alloc::Global;
 
 /// The greatest number of bytes of a script.
@@ -43,18 +40,18 @@ pub const MOST_BYTES: usize = 16_777_216;
 /// Each byte is looked at a few times, and no memory is taken but that of the commands.
 pub fn read(alloc: Global, bytes: &[u8]) -> Result<Script, ReadError>
     ensures script { IfOk result (IsScript bytes.now) }
-    ensures sound { IfOk result IsSound }
+    ensures sound { IfOk result IsSoundScript }
     ensures reason { IfErr result (IsReason bytes.now) }
 {
     if bytes.len() > MOST_BYTES {
         return Err(ReadError::Fault(too_long(bytes)));
     }
     let mut lines = Lines::new(bytes);
-    let config = config(&mut lines)?;
+    let table = table_line(&mut lines)?;
     Ok(Script {
-        config,
-        auto: true,
-        commands: commands(alloc, &config, lines)?,
+        config: table.config,
+        auto: table.auto,
+        commands: commands(alloc, &table, lines)?,
         schedule: Vec::new(alloc),
     })
 }
@@ -76,12 +73,11 @@ fn line_feeds(bytes: &[u8]) -> u32
     bytes.iter().filter(|byte| **byte == b'\n').count() as u32
 }
 
-/// The config of the table line, which is the first line that isn't skipped.
-fn config(lines: &mut Lines) -> Result<Config, ScriptFault>
-    ensures reading { MatchResult result
-        (λ config. said_from lines.old.number lines.old.lines ≡ said_with config lines.new.number lines.new.lines)
+/// What the table line says, which is the first line that isn't skipped.
+fn table_line(lines: &mut Lines) -> Result<TableLine, ScriptFault>
+    ensures { MatchResult result
+        (λ table. said_from lines.old.number lines.old.lines ≡ said_with table lines.new.number lines.new.lines)
         (λ fault. said_from lines.old.number lines.old.lines ≡ Err fault) }
-    ensures settled { IfOk result IsSettled }
 {
     while let Some((number, line)) = lines.next()? {
         let words = Words::new(line);
@@ -93,27 +89,30 @@ fn config(lines: &mut Lines) -> Result<Config, ScriptFault>
 }
 
 /// The commands of the lines that are left, each with its worker.
-fn commands(alloc: Global, config: &Config, mut lines: Lines) -> Result<Vec<(u32, Call)>, ReadError>
+fn commands(
+    alloc: Global,
+    table: &TableLine,
+    mut lines: Lines,
+) -> Result<Vec<(u32, Call)>, ReadError>
     ensures commands { IfOk result
-        (λ commands. commands_from lines.entry.number config.now lines.entry.lines ≡ Ok commands.items) }
+        (λ commands. commands_from lines.entry.number table.now lines.entry.lines ≡ Ok commands.items) }
     ensures reason { IfErr result
-        (IsReasonFor (commands_from lines.entry.number config.now lines.entry.lines)) }
+        (IsReasonFor (commands_from lines.entry.number table.now lines.entry.lines)) }
 {
     let mut commands = Vec::new(alloc);
     while let Some((number, line)) = lines.next()? {
         let words = Words::new(line);
         if !words.is_skipped() {
-            commands.push(at_line(number, command(config.callers, words))?)?;
+            commands.push(at_line(number, command(table, words))?)?;
         }
     }
     Ok(commands)
 }
 
-/// The config that the words of a table line stand for.
+/// What a table line of these words says.
 #[tactic(auto, unfolding(crate::specs::TableLines::table_of))]
-fn table(mut words: Words) -> Result<Config, Cause>
-    ensures value { result ≡ table_of words.entry }
-    ensures settled { IfOk result IsSettled }
+fn table(mut words: Words) -> Result<TableLine, Cause>
+    ensures { result ≡ table_of words.entry }
 {
     if words.next() != Some(TABLE) {
         return Err(Cause::NoTableLine);
@@ -121,7 +120,10 @@ fn table(mut words: Words) -> Result<Config, Cause>
     if words.next() != Some(SINGLE) {
         return Err(Cause::UnknownWord);
     }
-    options(words)?.config()
+    Ok(TableLine {
+        config: options(words)?.config()?,
+        auto: true,
+    })
 }
 
 /// The options of the words behind the kind, which are names each with its value.
@@ -146,15 +148,15 @@ fn setting(name: &[u8], value: &[u8]) -> Result<Setting, Cause>
     ensures allowed { IfOk result IsAllowed }
 {
     if name == HINT {
-        Ok(Setting::Hint(number_within(1, 65_536, value)?))
+        Ok(Setting::Hint(number_within(limits::HINT, value)?))
     } else if name == MIN {
-        Ok(Setting::Min(number_within(1, 65_536, value)?))
+        Ok(Setting::Min(number_within(limits::MIN, value)?))
     } else if name == PAGES {
-        Ok(Setting::Pages(number_within(4, 4096, value)?))
+        Ok(Setting::Pages(number_within(limits::PAGES, value)?))
     } else if name == SEED {
-        Ok(Setting::Seed(number_within(0, u32::MAX, value)?))
+        Ok(Setting::Seed(number_within(limits::SEED, value)?))
     } else if name == REWALKS {
-        Ok(Setting::Rewalks(number_within(0, 255, value)?))
+        Ok(Setting::Rewalks(number_within(limits::REWALKS, value)?))
     } else if name == HASH {
         Ok(Setting::Hashing(hash(value)?))
     } else {
@@ -177,14 +179,14 @@ fn hash(value: &[u8]) -> Result<Hash, Cause>
 
 /// The command that the words of a line stand for: its worker, and what that asks.
 #[tactic(auto, unfolding(crate::specs::CommandLines::command_of))]
-fn command(callers: u32, mut words: Words) -> Result<(u32, Call), Cause>
-    ensures { result ≡ command_of callers words.entry }
+fn command(table: &TableLine, mut words: Words) -> Result<(u32, Call), Cause>
+    ensures { result ≡ command_of table.now words.entry }
 {
     let worker = words.next().ok_or(Cause::UnknownWord)?;
     if is_schedule(worker) {
         return Err(Cause::UnknownWord);
     }
-    let worker = number_within(1, callers, worker)?;
+    let worker = number_within(worker_limits(&table.config), worker)?;
     Ok((worker, call(words)?))
 }
 
@@ -217,8 +219,8 @@ fn call(mut words: Words) -> Result<Call, Cause>
 fn bind(mut words: Words) -> Result<Call, Cause>
     ensures { result ≡ bind_of words.entry }
 {
-    let port = words.number(0, u32::MAX)?;
-    let owner = words.number(0, u32::MAX)?;
+    let port = words.number(PORT)?;
+    let owner = words.number(OWNER)?;
     words.end()?;
     Ok(Call::Bind {
         port,
@@ -232,7 +234,7 @@ fn bind(mut words: Words) -> Result<Call, Cause>
 fn find(mut words: Words) -> Result<Call, Cause>
     ensures { result ≡ find_of words.entry }
 {
-    let port = words.number(0, u32::MAX)?;
+    let port = words.number(PORT)?;
     words.end()?;
     Ok(Call::Find { port })
 }
@@ -242,8 +244,8 @@ fn find(mut words: Words) -> Result<Call, Cause>
 fn release(mut words: Words) -> Result<Call, Cause>
     ensures { result ≡ release_of words.entry }
 {
-    let port = words.number(0, u32::MAX)?;
-    let owner = words.number(0, u32::MAX)?;
+    let port = words.number(PORT)?;
+    let owner = words.number(OWNER)?;
     words.end()?;
     Ok(Call::Release { port, owner })
 }

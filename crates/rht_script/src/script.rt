@@ -3,15 +3,24 @@
 ghost use Rattle.std.specs.Prelude.{◌≡◌, ◌↔◌, IsTrue};
 ghost use Rattle.rht_script.specs.declared.script.ReadError.TheVariants.{Fault, Memory};
 ghost use Rattle.std.specs.List.{list_all};
-ghost use Rattle.rht_script.specs.Sound.{IsSound, is_sound_command, is_sound_call, is_sound_line};
-ghost use Rattle.rht_script.specs.Spelling.{is_within};
+ghost use Rattle.rht_script.specs.Sound.{IsSoundScript, is_sound_command, is_sound_call, is_sound_line};
+ghost use Rattle.rht_script.specs.CommandLines.{worker_limits};
 
 #[cfg(test)]
 mod tests;
 
 use rht_model::Call;
-use rht_words::{Config, Kind};
+use rht_words::{Config, Kind, Limits};
 use std::alloc::{AllocError, AllocFailed};
+
+/// What a table line says.
+#[derive(Clone, Copy, Debug, PartialEq, Eq)]
+pub struct TableLine {
+    /// What the table is opened with.
+    pub config: Config,
+    /// Whether a worker runs `work` by itself where a reply asks for it.
+    pub auto: bool,
+}
 
 /// A script: what the table is opened with, and what the workers do.
 #[derive(Debug, Drop)]
@@ -29,14 +38,17 @@ pub struct Script {
 /// The greatest number of lines of a script, and of its commands.
 pub(crate) const MOST_LINES: usize = 1_000_000;
 
-/// The greatest number that a line of a schedule has.
-const MOST_EVENTS: u32 = 1_000_000;
+/// The events of a line of a schedule, and at `finish` the calls that end.
+const EVENTS: Limits = Limits {
+    least: 1,
+    greatest: 1_000_000,
+};
 
 impl Script {
     /// Whether the script can be run: a table can be opened with its config, and each command and
     /// each line of its schedule fits that table and its workers.
     pub fn is_sound(&self) -> bool
-        ensures { IsTrue result ↔ IsSound self.now }
+        ensures { IsTrue result ↔ IsSoundScript self.now }
     {
         self.config.is_settled()
             && self.commands.len() <= MOST_LINES
@@ -65,7 +77,7 @@ fn are_sound_lines(config: &Config, schedule: &[Sched]) -> bool
 fn is_sound_command(config: &Config, command: (u32, Call)) -> bool
     ensures { result ≡ is_sound_command config.now command }
 {
-    is_within(1, config.callers, command.0) && is_sound_call(config, command.1)
+    worker_limits(config).allow(command.0) && is_sound_call(config, command.1)
 }
 
 /// Whether a table of this config serves the call.
@@ -87,14 +99,17 @@ fn is_sound_line(config: &Config, line: Sched) -> bool
     let (Sched::Step { worker, number }
     | Sched::Skip { worker, number }
     | Sched::Finish { worker, number }) = line;
-    is_within(1, config.callers, worker) && is_within(1, MOST_EVENTS, number)
+    worker_limits(config).allow(worker) && EVENTS.allow(number)
 }
 
-/// Whether the number is one of those from the least to the greatest.
-fn is_within(least: u32, greatest: u32, number: u32) -> bool
-    ensures { result ≡ is_within least greatest number }
+/// The numbers of workers, which are the callers of the table, counted from 1.
+pub(crate) fn worker_limits(config: &Config) -> Limits
+    ensures { result ≡ worker_limits config.now }
 {
-    least <= number && number <= greatest
+    Limits {
+        least: 1,
+        greatest: config.callers,
+    }
 }
 
 /// A line of a schedule, of a worker counted from 1. Its number is from 1 to 1,000,000.

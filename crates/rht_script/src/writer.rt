@@ -1,21 +1,23 @@
-//! The text of replies and of a table's last bindings.
+//! The text of replies, of a table's last bindings, and of a whole run.
 //!
 //! Stands on `rht_io`'s sinks. Text is gathered in a buffer, which takes no memory, and is put
-//! where it doesn't fit there, so that a line that isn't too long is put whole.
+//! where it doesn't fit there. After a put that failed nothing more is put.
 
-ghost use Rattle.std.specs.Prelude.{◌≡◌, ◌≤◌, [], ◌++◌, length, codes, flat_map, OnOk};
+ghost use Rattle.std.specs.Prelude.{◌≡◌, ◌≤◌, ◌+◌, ◌++◌, length, codes, flat_map};
+ghost use Rattle.std.specs.List.{enumerate_from};
 ghost use Rattle.rht_io.specs.Told.{Puts};
-ghost use Rattle.rht_script.specs.Text.{pair_text, owners_text, walk_end, reply_text, reply_line, port_line, last_line, closed_text, cause_text, fault_line};
+ghost use Rattle.rht_script.specs.Text.{pair_text, owners_text, walk_end, reply_text, reply_line, port_line, last_line, closed_text, worker_text, ending_line, run_text, cause_text, fault_line};
 ghost use Rattle.rht_script.specs.Writing.{Adds};
 
 mod buffer;
+mod pieces;
 #[cfg(test)]
 mod tests;
 
-pub use self::buffer::TextBuffer;
+use self::pieces::Writer;
 use crate::script::ScriptFault;
 use rht_io::{Failed, Sink};
-use rht_model::{Bindings, Closed, Cursor, Reply};
+use rht_model::{Bindings, Closed, Cursor, Replies, Reply};
 use rht_words::Port;
 
 /// Writes a reply line: the worker, counted from 1, and the reply with the list that comes beside
@@ -33,94 +35,94 @@ pub fn write_reply<O: Sink>(
     ensures { Puts O.held O.faults out.old out.new result
         (reply_line worker reply owners.now pairs.now kicks) }
 {
-    let mut text = TextBuffer::new();
-    add_reply(&mut text, out, worker, reply, owners, pairs, kicks)?;
-    text.put(out)
+    let mut text = Writer::new(out);
+    add_reply(&mut text, worker.into(), reply, owners, pairs, kicks)?;
+    text.put()
 }
 
-/// Adds the reply line that `write_reply` writes to the text that waits, so that many lines cost
-/// one put.
-pub fn add_reply<O: Sink>(
-    text: &mut TextBuffer,
-    out: &mut O,
-    worker: u32,
+/// Adds a reply line.
+fn add_reply<O: Sink>(
+    text: &mut Writer<'_, O>,
+    worker: u64,
     reply: Reply,
     owners: &[u32],
     pairs: &[(Port, u32)],
     kicks: bool,
 ) -> Result<(), Failed>
-    ensures { Adds O.held O.faults out.old out.new result text.old text.new
-        (reply_line worker reply owners.now pairs.now kicks) }
+    ensures text { Adds O.held O.faults text.old.out.now text.new.out.now result
+        text.old.waiting text.new.waiting (reply_line worker reply owners.now pairs.now kicks) }
+    ensures same_sink { text.new.out.ghost_name ≡ text.old.out.ghost_name }
 {
-    text.add_number(out, worker.into())?;
-    text.add(out, b": ")?;
-    add_answer(text, out, reply, owners, pairs, kicks)?;
-    text.end_line(out)
+    text.add_number(worker)?;
+    text.add(b": ")?;
+    add_answer(text, reply, owners, pairs, kicks)?;
+    text.end_line()
 }
 
 /// Adds a reply without its worker.
 fn add_answer<O: Sink>(
-    text: &mut TextBuffer,
-    out: &mut O,
+    text: &mut Writer<'_, O>,
     reply: Reply,
     owners: &[u32],
     pairs: &[(Port, u32)],
     kicks: bool,
 ) -> Result<(), Failed>
-    ensures { Adds O.held O.faults out.old out.new result text.old text.new
-        (reply_text reply owners.now pairs.now kicks) }
+    ensures text { Adds O.held O.faults text.old.out.now text.new.out.now result
+        text.old.waiting text.new.waiting (reply_text reply owners.now pairs.now kicks) }
+    ensures same_sink { text.new.out.ghost_name ≡ text.old.out.ghost_name }
 {
     match reply {
-        Reply::Bound { kick } if kick && kicks => text.add(out, b"bound kick"),
-        Reply::Bound { .. } => text.add(out, b"bound"),
-        Reply::Exists { owner } => text.add_named(out, b"exists", owner.into()),
-        Reply::Found { owner } => text.add_named(out, b"found", owner.into()),
-        Reply::Missing => text.add(out, b"missing"),
-        Reply::Listed { .. } => add_list(text, out, owners),
-        Reply::Released { kick } if kick && kicks => text.add(out, b"released kick"),
-        Reply::Released { .. } => text.add(out, b"released"),
-        Reply::Absent => text.add(out, b"absent"),
-        Reply::Rebound => text.add(out, b"rebound"),
-        Reply::TooBig { count } => text.add_named(out, b"toobig", count),
-        Reply::Again { table } => text.add_named(out, b"walk again", table.into()),
-        Reply::Busy { root, last } => text.add_two(out, b"busy", root.into(), last.into()),
-        Reply::NoTable { size } => text.add_named(out, b"notable", size.into()),
-        Reply::NoNode => text.add(out, b"nonode"),
-        Reply::Pending { caller, section } => text.add_two(out, b"pending", caller.into(), section),
-        Reply::Elsewhere => text.add(out, b"elsewhere"),
-        Reply::Walked { next, .. } => add_walk(text, out, pairs, next),
-        Reply::Moved { again: true } => text.add(out, b"moved again"),
-        Reply::Moved { again: false } => text.add(out, b"moved"),
-        Reply::Idle => text.add(out, b"idle"),
-        Reply::Clear { returned } => text.add_named(out, b"clear", returned.into()),
-        Reply::Counted { count } => text.add_named(out, b"count", count),
+        Reply::Bound { kick } if kick && kicks => text.add(b"bound kick"),
+        Reply::Bound { .. } => text.add(b"bound"),
+        Reply::Exists { owner } => text.add_named(b"exists", owner.into()),
+        Reply::Found { owner } => text.add_named(b"found", owner.into()),
+        Reply::Missing => text.add(b"missing"),
+        Reply::Listed { .. } => add_list(text, owners),
+        Reply::Released { kick } if kick && kicks => text.add(b"released kick"),
+        Reply::Released { .. } => text.add(b"released"),
+        Reply::Absent => text.add(b"absent"),
+        Reply::Rebound => text.add(b"rebound"),
+        Reply::TooBig { count } => text.add_named(b"toobig", count),
+        Reply::Again { table } => text.add_named(b"walk again", table.into()),
+        Reply::Busy { root, last } => text.add_two(b"busy", root.into(), last.into()),
+        Reply::NoTable { size } => text.add_named(b"notable", size.into()),
+        Reply::NoNode => text.add(b"nonode"),
+        Reply::Pending { caller, section } => text.add_two(b"pending", caller.into(), section),
+        Reply::Elsewhere => text.add(b"elsewhere"),
+        Reply::Walked { next, .. } => add_walk(text, pairs, next),
+        Reply::Moved { again: true } => text.add(b"moved again"),
+        Reply::Moved { again: false } => text.add(b"moved"),
+        Reply::Idle => text.add(b"idle"),
+        Reply::Clear { returned } => text.add_named(b"clear", returned.into()),
+        Reply::Counted { count } => text.add_named(b"count", count),
     }
 }
 
 /// Adds the list of a port's owners.
-fn add_list<O: Sink>(text: &mut TextBuffer, out: &mut O, owners: &[u32]) -> Result<(), Failed>
-    ensures { Adds O.held O.faults out.old out.new result text.old text.new
-        (codes "list" ++ owners_text owners.now) }
+fn add_list<O: Sink>(text: &mut Writer<'_, O>, owners: &[u32]) -> Result<(), Failed>
+    ensures text { Adds O.held O.faults text.old.out.now text.new.out.now result
+        text.old.waiting text.new.waiting (codes "list" ++ owners_text owners.now) }
+    ensures same_sink { text.new.out.ghost_name ≡ text.old.out.ghost_name }
 {
-    text.add(out, b"list")?;
-    text.add_owners(out, owners)
+    text.add(b"list")?;
+    text.add_owners(owners)
 }
 
 /// Adds what a walk showed, and whether there is more.
 fn add_walk<O: Sink>(
-    text: &mut TextBuffer,
-    out: &mut O,
+    text: &mut Writer<'_, O>,
     pairs: &[(Port, u32)],
     next: Option<Cursor>,
 ) -> Result<(), Failed>
-    ensures { Adds O.held O.faults out.old out.new result text.old text.new
-        (codes "walk" ++ flat_map pair_text pairs.now ++ walk_end next) }
+    ensures text { Adds O.held O.faults text.old.out.now text.new.out.now result
+        text.old.waiting text.new.waiting (codes "walk" ++ flat_map pair_text pairs.now ++ walk_end next) }
+    ensures same_sink { text.new.out.ghost_name ≡ text.old.out.ghost_name }
 {
-    text.add(out, b"walk")?;
-    text.add_pairs(out, pairs)?;
+    text.add(b"walk")?;
+    text.add_pairs(pairs)?;
     match next {
-        None => text.add(out, b" end"),
-        Some(_) => text.add(out, b" more"),
+        None => text.add(b" end"),
+        Some(_) => text.add(b" more"),
     }
 }
 
@@ -129,63 +131,102 @@ fn add_walk<O: Sink>(
 pub fn write_closed<O: Sink>(out: &mut O, closed: &Closed) -> Result<(), Failed>
     ensures { Puts O.held O.faults out.old out.new result (closed_text closed.now) }
 {
-    let mut text = TextBuffer::new();
-    add_closed(&mut text, out, closed)?;
-    text.put(out)
+    let mut text = Writer::new(out);
+    add_closed(&mut text, closed)?;
+    text.put()
 }
 
-/// Adds the lines that `write_closed` writes to the text that waits.
-pub fn add_closed<O: Sink>(
-    text: &mut TextBuffer,
-    out: &mut O,
-    closed: &Closed,
-) -> Result<(), Failed>
-    ensures { Adds O.held O.faults out.old out.new result text.old text.new (closed_text closed.now) }
+/// Adds the lines of a table's last bindings.
+fn add_closed<O: Sink>(text: &mut Writer<'_, O>, closed: &Closed) -> Result<(), Failed>
+    ensures text { Adds O.held O.faults text.old.out.now text.new.out.now result
+        text.old.waiting text.new.waiting (closed_text closed.now) }
+    ensures same_sink { text.new.out.ghost_name ≡ text.old.out.ghost_name }
 {
-    add_ports(text, out, &closed.bindings)?;
-    add_last_line(text, out, closed.size, closed.keys)
+    add_ports(text, &closed.bindings)?;
+    add_last_line(text, closed.size, closed.keys)
+}
+
+/// Writes the text of a run: the reply lines of the first worker in the order of its commands, then
+/// those of the second, and so on, and then the last bindings.
+pub fn write_run<O: Sink>(out: &mut O, workers: &[Replies], closed: &Closed) -> Result<(), Failed>
+    requires { closed.now.keys ≡ length closed.now.bindings.pairs }
+    ensures { Puts O.held O.faults out.old out.new result
+        (run_text workers.now closed.now.bindings.pairs closed.now.size) }
+{
+    let mut text = Writer::new(out);
+    add_workers(&mut text, workers)?;
+    add_closed(&mut text, closed)?;
+    text.put()
+}
+
+/// Adds the reply lines of each worker in turn.
+fn add_workers<O: Sink>(text: &mut Writer<'_, O>, workers: &[Replies]) -> Result<(), Failed>
+    ensures text { Adds O.held O.faults text.old.out.now text.new.out.now result
+        text.old.waiting text.new.waiting (flat_map worker_text (enumerate_from 1 workers.now)) }
+    ensures same_sink { text.new.out.ghost_name ≡ text.old.out.ghost_name }
+{
+    for i in 0..workers.len() {
+        add_replies(text, i as u64 + 1, &workers[i])?;
+    }
+    Ok(())
+}
+
+/// Adds the reply lines of a worker.
+fn add_replies<O: Sink>(
+    text: &mut Writer<'_, O>,
+    worker: u64,
+    replies: &Replies,
+) -> Result<(), Failed>
+    ensures text { Adds O.held O.faults text.old.out.now text.new.out.now result
+        text.old.waiting text.new.waiting (flat_map (ending_line worker) replies.now) }
+    ensures same_sink { text.new.out.ghost_name ≡ text.old.out.ghost_name }
+{
+    for i in 0..replies.len() {
+        add_reply(
+            text,
+            worker,
+            replies.reply(i),
+            replies.owners(i),
+            replies.pairs(i),
+            false,
+        )?;
+    }
+    Ok(())
 }
 
 /// Adds a line for each port.
-fn add_ports<O: Sink>(text: &mut TextBuffer, out: &mut O, bindings: &Bindings) -> Result<(), Failed>
-    ensures { Adds O.held O.faults out.old out.new result text.old text.new
-        (flat_map port_line bindings.now.pairs) }
+fn add_ports<O: Sink>(text: &mut Writer<'_, O>, bindings: &Bindings) -> Result<(), Failed>
+    ensures text { Adds O.held O.faults text.old.out.now text.new.out.now result
+        text.old.waiting text.new.waiting (flat_map port_line bindings.now.pairs) }
+    ensures same_sink { text.new.out.ghost_name ≡ text.old.out.ghost_name }
 {
     for i in 0..bindings.len() {
-        add_port(text, out, bindings.port(i), bindings.owners(i))?;
+        add_port(text, bindings.port(i), bindings.owners(i))?;
     }
     Ok(())
 }
 
 /// Adds the line of a port.
-fn add_port<O: Sink>(
-    text: &mut TextBuffer,
-    out: &mut O,
-    port: Port,
-    owners: &[u32],
-) -> Result<(), Failed>
-    ensures { Adds O.held O.faults out.old out.new result text.old text.new
-        (port_line (port, owners.now)) }
+fn add_port<O: Sink>(text: &mut Writer<'_, O>, port: Port, owners: &[u32]) -> Result<(), Failed>
+    ensures text { Adds O.held O.faults text.old.out.now text.new.out.now result
+        text.old.waiting text.new.waiting (port_line (port, owners.now)) }
+    ensures same_sink { text.new.out.ghost_name ≡ text.old.out.ghost_name }
 {
-    text.add_named(out, b"port", port.into())?;
-    text.add(out, b":")?;
-    text.add_owners(out, owners)?;
-    text.end_line(out)
+    text.add_named(b"port", port.into())?;
+    text.add(b":")?;
+    text.add_owners(owners)?;
+    text.end_line()
 }
 
 /// Adds the last line.
-fn add_last_line<O: Sink>(
-    text: &mut TextBuffer,
-    out: &mut O,
-    size: u32,
-    keys: u32,
-) -> Result<(), Failed>
-    ensures { Adds O.held O.faults out.old out.new result text.old text.new
-        (last_line size keys) }
+fn add_last_line<O: Sink>(text: &mut Writer<'_, O>, size: u32, keys: u32) -> Result<(), Failed>
+    ensures text { Adds O.held O.faults text.old.out.now text.new.out.now result
+        text.old.waiting text.new.waiting (last_line size keys) }
+    ensures same_sink { text.new.out.ghost_name ≡ text.old.out.ghost_name }
 {
-    text.add_named(out, b"size", size.into())?;
-    text.add_named(out, b" keys", keys.into())?;
-    text.end_line(out)
+    text.add_named(b"size", size.into())?;
+    text.add_named(b" keys", keys.into())?;
+    text.end_line()
 }
 
 /// Writes the line that tells of a script's first fault: `rht: line`, the line's number, and what
@@ -193,12 +234,12 @@ fn add_last_line<O: Sink>(
 pub fn write_fault<O: Sink>(out: &mut O, fault: ScriptFault) -> Result<(), Failed>
     ensures { Puts O.held O.faults out.old out.new result (fault_line fault) }
 {
-    let mut text = TextBuffer::new();
-    text.add_named(out, b"rht: line", fault.line.into())?;
-    text.add(out, b": ")?;
-    text.add(out, cause_text(fault.cause))?;
-    text.end_line(out)?;
-    text.put(out)
+    let mut text = Writer::new(out);
+    text.add_named(b"rht: line", fault.line.into())?;
+    text.add(b": ")?;
+    text.add(cause_text(fault.cause))?;
+    text.end_line()?;
+    text.put()
 }
 
 /// What is wrong, in words.

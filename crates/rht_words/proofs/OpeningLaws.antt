@@ -9,8 +9,9 @@ use Rattle.std.proofs.lemmas.Nat.{pow_pos, pow-add}
 use Rattle.std.proofs.lemmas.Nat.Bits.{bit_at-pow_other, bit_at-trailing_zeros, bit_at_ones, bit_at_ones_above, bit_at_mask_inside, bit_at_mask_below, bit_at_mask_above}
 use Rattle.rht_words.specs.Laws.{StandInPlace, OpensFlat, OpensFree}
 use Rattle.rht_words.specs.Maps.{map_bits}
-use Rattle.rht_words.specs.Opening.{first_size, first_pages, opening_word}
+use Rattle.rht_words.specs.Opening.{first_pages, opening_word}
 use Rattle.rht_words.specs.Places.{PageMap, words_in, place_of, address_at}
+use Rattle.rht_words.specs.Sizes.{first_size}
 use Rattle.rht_words.specs.Shapes.{packed, unpacked, exponent_of}
 use Rattle.rht_words.specs.declared.env.Env.{Env}
 use Rattle.rht_words.specs.declared.shape.Shape.{Shape}
@@ -50,7 +51,7 @@ record IsSizeOf (e size : ℕ) : Type 0 where
   low : 2 ≤ e
   high : e ≤ 17
 
-first_exponent : (env : Env) → (e : ℕ) × IsSizeOf e (first_size env)
+first_exponent : (env : Env) → (e : ℕ) × IsSizeOf e (first_size env.config)
 first_exponent env =
     let starts = tables_start_within env.config env.settled in
     let e = starts.power.0 in
@@ -86,7 +87,7 @@ opens_flat env =
     let e = (first_exponent env).0 in
     let is = (first_exponent env).1 in
     record {
-      shape = unpacked-packed (exponent_of (first_size env)) (omega (arith, is.exponent, is.high));
+      shape = unpacked-packed (exponent_of (first_size env.config)) (omega (arith, is.exponent, is.high));
       flat = refl;
       size = ap (λ n. 2 ^ max 2 (min n 18)) is.exponent ∙ ap (λ n. 2 ^ n) (inside e is.low is.high) ∙ sym is.power;
       holds = subst (λ size. size ≤ 64 * max 1 (size / 64)) (sym is.power) (held e);

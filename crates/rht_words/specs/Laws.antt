@@ -2,14 +2,15 @@
 use Rattle.std.specs.Prelude.{◌≡◌, ◌≢◌, ◌↔◌, ℕ, ◌*◌, ◌/◌, ◌%◌, ◌^◌, ◌<◌, ◌≤◌, bit_and, bit_or, List, length, Some, None}
 use Rattle.std.specs.Int.{bit_at, bit_not, w64}
 use Rattle.rht_words.specs.Ports.{word_of, port_of}
-use Rattle.rht_words.specs.Sizes.{rounded_up, rounded_down, starting_size, IsSizeUpTo, IsLeastPower, IsGreatestPower}
+use Rattle.rht_words.specs.Sizes.{rounded_up, rounded_down, first_size, IsSizeUpTo, IsLeastPower, IsGreatestPower}
+use Rattle.rht_words.specs.Limits.{max_limits}
 use Rattle.rht_words.specs.Settled.{IsSettled}
 use Rattle.rht_words.specs.Operations.{op_place, word_after, applied}
 use Rattle.rht_words.specs.Places.{Address, Slot, NodeMap, PageMap, ShapeWord, IsAddress, place_of, address_at, words_in, word_at}
 use Rattle.rht_words.specs.Links.{link_of, marker_of, node_of, unlocked, head_of, plain_of, future_of, slot_of, entry_of, page_of}
 use Rattle.rht_words.specs.Shapes.{packed, unpacked, IsPackable, size_of}
 use Rattle.rht_words.specs.Maps.{bit_of}
-use Rattle.rht_words.specs.Opening.{first_size, first_pages, first_shape, opening_word, opening_words}
+use Rattle.rht_words.specs.Opening.{first_pages, first_shape, opening_word, opening_words}
 use Rattle.rht_words.specs.declared.config.Config.{Config}
 use Rattle.rht_words.specs.declared.env.Env.{Env}
 use Rattle.rht_words.specs.declared.op.Op.{Op}
@@ -28,7 +29,7 @@ pub record RoundsToNext : Type 0 where
 -- the first table of each settled config has a power of two from 4 to 131,072 for its size
 abbrev pub TablesStartWithin : Type 0
 TablesStartWithin =
-    (config : Config) → IsSettled config → IsSizeUpTo 131072 (starting_size config.hint config.min config.max)
+    (config : Config) → IsSettled config → IsSizeUpTo max_limits.greatest (first_size config)
 
 -- the places of different things are different, all are below the number of words, and no place is without a thing
 pub record PlacesStandApart (g : Geometry) : Type 0 where
@@ -101,8 +102,8 @@ WordsOpen = (env : Env) → StandInPlace env
 pub record OpensFlat (env : Env) : Type 0 where
   pub shape : unpacked (opening_word env (Slot 0 ShapeWord)) ≡ first_shape env
   pub flat : (first_shape env).nest ≡ 0
-  pub size : size_of (first_shape env) ≡ first_size env
-  pub holds : first_size env ≤ 64 * first_pages env
+  pub size : size_of (first_shape env) ≡ first_size env.config
+  pub holds : first_size env.config ≤ 64 * first_pages env
   pub fits : first_pages env ≤ env.geometry.pages
 
 -- each first table is flat and fits the pages

@@ -1,24 +1,20 @@
 -- The words of a table that has just been opened: its first table stands in slot 0 and is empty, and no caller has enrolled.
 use Rattle.std.specs.Prelude.{ℕ, ◌-◌, ◌/◌, ◌==◌, max, List, map, if◌then◌else◌}
 use Rattle.std.specs.List.{range_with_len}
-use Rattle.rht_words.specs.Sizes.{starting_size}
+use Rattle.rht_words.specs.Sizes.{first_size}
 use Rattle.rht_words.specs.Maps.{map_bits}
 use Rattle.rht_words.specs.Shapes.{packed, exponent_of}
 use Rattle.rht_words.specs.Places.{Address, NextSerial, Slot, NodeMap, PageMap, SlotWord, ShapeWord, SeedWord, StateWord, words_in, address_at}
 use Rattle.rht_words.specs.declared.env.Env.{Env}
 use Rattle.rht_words.specs.declared.shape.Shape.{Shape}
 
--- the size of the first table
-abbrev pub first_size : Env → ℕ
-first_size env = starting_size env.config.hint env.config.min env.config.max
-
--- the pages that it takes, from the first page on
+-- the pages that the first table takes, from the first page on
 abbrev pub first_pages : Env → ℕ
-first_pages env = max 1 (first_size env / 64)
+first_pages env = max 1 (first_size env.config / 64)
 
 -- its shape, which is flat
 abbrev pub first_shape : Env → Shape
-first_shape env = record { exponent = exponent_of (first_size env); nest = 0; page = 0 }
+first_shape env = record { exponent = exponent_of (first_size env.config); nest = 0; page = 0 }
 
 -- the words of its slot, which is taken
 abbrev pub first_slot : Env → SlotWord → ℕ

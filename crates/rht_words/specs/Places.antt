@@ -37,9 +37,13 @@ pub data Address : Type 0 where
 abbrev pub map_words : ℕ → ℕ
 map_words count = (count + 63) / 64
 
+-- the place at which the node map begins, behind the single words, the section words and the slots
+abbrev pub node_map_at : ℕ
+node_map_at = 280
+
 -- the places at which the page map, the nodes and the pages begin
 unfoldable pub page_map_at : Geometry → ℕ
-page_map_at g = 280 + map_words g.nodes
+page_map_at g = node_map_at + map_words g.nodes
 
 unfoldable pub nodes_at : Geometry → ℕ
 nodes_at g = page_map_at g + map_words g.pages
@@ -87,7 +91,7 @@ place_of g EnrolledCallers = 4
 place_of g (Spare place) = place
 place_of g (Section caller) = section_place caller
 place_of g (Slot slot word) = slot_place slot word
-place_of g (NodeMap index) = 280 + index
+place_of g (NodeMap index) = node_map_at + index
 place_of g (PageMap index) = page_map_at g + index
 place_of g (Node node word) = nodes_at g + 4 * node + node_offset word
 place_of g (PageWord index) = pages_at g + index
@@ -102,7 +106,7 @@ IsSpareOffset offset = ((5 ≤ offset) × (offset < 8)) ⊎ (24 ≤ offset)
 
 -- the word at this place is in no use
 abbrev pub IsSpare : ℕ → Type 0
-IsSpare place = ((5 ≤ place) × (place < 8)) ⊎ ((24 ≤ place) × (place < 280) × IsSpareOffset ((place - 24) % 32))
+IsSpare place = ((5 ≤ place) × (place < 8)) ⊎ ((24 ≤ place) × (place < node_map_at) × IsSpareOffset ((place - 24) % 32))
 
 -- the word is one of a slot
 abbrev pub IsSlotWord : SlotWord → Type 0
@@ -152,8 +156,8 @@ unfoldable pub address_at : Geometry → ℕ → Address
 address_at g place =
     if nat_lt place 8 then first_address place
     else if nat_lt place 24 then Section (place - 8)
-    else if nat_lt place 280 then slot_address place ((place - 24) / 32) ((place - 24) % 32)
-    else if nat_lt place (page_map_at g) then NodeMap (place - 280)
+    else if nat_lt place node_map_at then slot_address place ((place - 24) / 32) ((place - 24) % 32)
+    else if nat_lt place (page_map_at g) then NodeMap (place - node_map_at)
     else if nat_lt place (nodes_at g) then PageMap (place - page_map_at g)
     else if nat_lt place (pages_at g) then Node ((place - nodes_at g) / 4) (node_word ((place - nodes_at g) % 4))
     else PageWord (place - pages_at g)

@@ -1,20 +1,20 @@
 -- Which configs a table can be opened with.
-use Rattle.std.specs.Prelude.{◌≡◌, ◌≢◌, ◌*◌, ◌^◌, ◌<◌, ◌≤◌}
-use Rattle.rht_words.specs.Limits.{IsGeometry}
-use Rattle.rht_words.specs.Sizes.{IsLeastSize, IsGreatestSize, starting_size}
+use Rattle.std.specs.Prelude.{◌≡◌, ◌≢◌, ◌*◌, ◌≤◌}
+use Rattle.rht_words.specs.Limits.{IsGeometry, hint_limits, seed_limits, rewalk_limits, page_words}
+use Rattle.rht_words.specs.Sizes.{IsLeastSize, IsGreatestSize, first_size}
 use Rattle.rht_words.specs.declared.config.Config.{Config}
 use Rattle.rht_words.specs.declared.geometry.Geometry.{Geometry}
 
--- each number is within its limits, sizes are rounded and agree, and the first table fits the pages
+-- each number is within its limits (a hint of 0 says nothing), sizes are rounded and agree, and the first table fits the pages
 pub record IsSettled (config : Config) : Type 0 where
   pub geometry : IsGeometry config.nodes config.pages config.callers
-  pub hint : config.hint ≤ 65536
+  pub hint : config.hint ≤ hint_limits.greatest
   pub least : IsLeastSize config.min
   pub greatest : IsGreatestSize config.max
   pub agree : config.max ≢ 0 → config.min ≤ config.max
-  pub seed : config.seed < 2 ^ 32
-  pub rewalks : config.rewalks ≤ 255
-  pub starts : starting_size config.hint config.min config.max ≤ 64 * config.pages
+  pub seed : config.seed ≤ seed_limits.greatest
+  pub rewalks : config.rewalks ≤ rewalk_limits.greatest
+  pub starts : first_size config ≤ page_words * config.pages
 
 -- the geometry has the config's numbers
 pub record IsGeometryOf (config : Config) (g : Geometry) : Type 0 where

@@ -1,6 +1,7 @@
 //! The config that a table is opened with. It is handed to the table once and never changes.
 
 use crate::geometry::Geometry;
+use crate::limits::{HINT, PAGE_WORDS, REWALKS};
 use crate::sizes::{is_greatest_size, is_least_size, starting_size};
 
 /// How many owners a port may have. The kernel's counterparts are `rhashtable` and `rhltable`.
@@ -49,8 +50,10 @@ pub struct Config {
 }
 
 impl Config {
-    ghost use Rattle.std.specs.Prelude.{◌↔◌, IsTrue};
+    ghost use Rattle.std.specs.Prelude.{◌≡◌, ◌≤◌, ◌↔◌, IsTrue};
+    ghost use Rattle.rht_words.specs.Limits.{hint_limits};
     ghost use Rattle.rht_words.specs.Settled.{IsSettled};
+    ghost use Rattle.rht_words.specs.Sizes.{first_size};
 
     /// Whether a table can be opened with the config: each number is within its limits, `min` and
     /// `max` are rounded and agree, and the first table fits the pages.
@@ -58,11 +61,20 @@ impl Config {
         ensures { IsTrue result ↔ IsSettled self.now }
     {
         Geometry::new(self.nodes, self.pages, self.callers).is_some()
-            && self.hint <= 65_536
+            && self.hint <= HINT.greatest
             && is_least_size(self.min)
             && is_greatest_size(self.max)
             && (self.max == 0 || self.min <= self.max)
-            && self.rewalks <= 255
-            && starting_size(self.hint, self.min, self.max) <= 64 * self.pages
+            && self.rewalks <= REWALKS.greatest
+            && self.starting_size() <= PAGE_WORDS * self.pages
+    }
+
+    /// How many buckets the first table has. The kernel's counterpart is `rounded_hashtable_size`,
+    /// which doesn't cut to the greatest size.
+    pub fn starting_size(&self) -> u32
+        requires { self.now.hint ≤ hint_limits.greatest }
+        ensures { result ≡ first_size self.now }
+    {
+        starting_size(self.hint, self.min, self.max)
     }
 }

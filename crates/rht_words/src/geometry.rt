@@ -3,6 +3,12 @@
 ghost use Rattle.std.specs.Prelude.{◌≡◌, ◌+◌, ◌*◌, ◌^◌, ◌<◌, ◌≤◌, ◌↔◌, IsSome, IfSome};
 ghost use Rattle.rht_words.specs.Limits.{IsGeometry};
 
+use crate::limits::{CALLERS, NODES, PAGES};
+
+/// The place at which the node map begins, behind the single words, the section words and the
+/// slots.
+pub(crate) const NODE_MAP_START: usize = 280;
+
 /// The numbers by which the words are laid out, within their limits.
 #[derive(Clone, Copy, Debug, PartialEq, Eq)]
 pub struct Geometry {
@@ -25,13 +31,7 @@ impl Geometry {
         ensures pages { IfSome result (λ g. g.pages ≡ pages) }
         ensures callers { IfSome result (λ g. g.callers ≡ callers) }
     {
-        if 1 <= nodes
-            && nodes <= 65_536
-            && 4 <= pages
-            && pages <= 4_096
-            && 1 <= callers
-            && callers <= 16
-        {
+        if NODES.allow(nodes) && PAGES.allow(pages) && CALLERS.allow(callers) {
             Some(Geometry {
                 nodes,
                 pages,
@@ -65,7 +65,7 @@ impl Geometry {
         ensures place { result ≡ page_map_at self }
         ensures low { result ≤ 1304 }
     {
-        280 + self.node_map_words() as usize
+        NODE_MAP_START + self.node_map_words() as usize
     }
 
     /// The place at which the nodes begin.
@@ -103,7 +103,7 @@ impl Geometry {
         ensures place { result ≡ place_of self (NodeMap index) }
         ensures within { index < map_words self.nodes → result < words_in self }
     {
-        280 + index as usize
+        NODE_MAP_START + index as usize
     }
 
     /// A word of the page map. A page's bit is set where it is free.

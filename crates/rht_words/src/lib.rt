@@ -10,6 +10,7 @@ mod config;
 mod env;
 mod geometry;
 pub mod laws;
+pub mod limits;
 mod links;
 mod machine;
 mod maps;
@@ -24,6 +25,7 @@ mod words;
 pub use config::{Config, Hash, Kind};
 pub use env::Env;
 pub use geometry::Geometry;
+pub use limits::Limits;
 pub use links::{
     entry_of, future_of, head_of, is_locked, link_of, marker_of, node_of, page_of, plain_of,
     slot_of, table_of, unlocked,

@@ -1,14 +1,15 @@
 //! The words of a table that has just been opened.
 
 ghost use Rattle.std.specs.Prelude.{◌≡◌, ◌<◌, ◌≤◌};
-ghost use Rattle.rht_words.specs.Opening.{opening_word, first_size, first_pages, first_shape};
+ghost use Rattle.rht_words.specs.Opening.{opening_word, first_pages, first_shape};
 ghost use Rattle.rht_words.specs.Places.{PageMap, words_in, address_at};
 
 use crate::env::Env;
+use crate::geometry::NODE_MAP_START;
+use crate::limits::PAGE_WORDS;
 use crate::maps::map_bits;
 use crate::places;
 use crate::shape::Shape;
-use crate::sizes::starting_size;
 
 /// The serial of the table that is made next, after the first one, which has 0.
 const NEXT_SERIAL: u64 = 1;
@@ -39,7 +40,7 @@ pub fn opening_word(env: Env, place: usize) -> u64
 
 /// A word before the maps: one of the single words, the section words and the slots.
 fn first_word(env: Env, place: usize) -> u64
-    requires { place < 280 }
+    requires { place < NODE_MAP_START }
     ensures { result ≡ opening_word env (address_at env.geometry place) }
 {
     if place == places::next_serial() {
@@ -60,7 +61,7 @@ fn first_shape(env: Env) -> Shape
     ensures { result ≡ first_shape env }
 {
     Shape {
-        exponent: first_size(env).trailing_zeros(),
+        exponent: env.config.starting_size().trailing_zeros(),
         nest: 0,
         page: 0,
     }
@@ -73,16 +74,9 @@ fn page_bits(env: Env, index: u32) -> u64
     map_bits(env.geometry.pages, index) - map_bits(first_pages(env), index)
 }
 
-/// The size of the first table in buckets.
-fn first_size(env: Env) -> u32
-    ensures { result ≡ first_size env }
-{
-    starting_size(env.config.hint, env.config.min, env.config.max)
-}
-
 /// How many pages the first table takes.
 fn first_pages(env: Env) -> u32
     ensures { result ≡ first_pages env }
 {
-    (first_size(env) / 64).max(1)
+    (env.config.starting_size() / PAGE_WORDS).max(1)
 }

@@ -3,6 +3,8 @@
 ghost use Rattle.std.specs.Prelude.{◌≡◌, ◌^◌, ◌<◌, ◌≤◌, ◌↔◌, IsTrue};
 ghost use Rattle.rht_words.specs.Sizes.{rounded_up, rounded_down, starting_size, IsLeastSize, IsGreatestSize};
 
+use crate::limits::{LEAST_SIZE, MAX, MIN};
+
 /// The least power of two at or above the number. The kernel's counterpart is
 /// `roundup_pow_of_two`, but for 0, which gives 1 here.
 #[inline(always)]
@@ -26,14 +28,14 @@ pub fn rounded_down(number: u32) -> u32
 pub(crate) fn is_least_size(number: u32) -> bool
     ensures { IsTrue result ↔ IsLeastSize number }
 {
-    4 <= number && number <= 65_536 && rounded_up(number) == number
+    LEAST_SIZE <= number && number <= MIN.greatest && rounded_up(number) == number
 }
 
 /// Whether the number can be the greatest size of a table, or says that there is none.
 pub(crate) fn is_greatest_size(number: u32) -> bool
     ensures { IsTrue result ↔ IsGreatestSize number }
 {
-    number == 0 || (4 <= number && number <= 131_072 && rounded_down(number) == number)
+    number == 0 || (MAX.allow(number) && rounded_down(number) == number)
 }
 
 /// How many buckets the first table has. A `hint` is how many ports are expected, `greatest` the

@@ -264,6 +264,13 @@ fn a_table_starts_so_large(rt: HostRuntime) {
         assert!(rt; hint <= 65_536);
         let size = starting_size(hint, least, greatest);
         assert_eq!(rt; size, want, "at {hint} {least} {greatest}");
+        let config = Config {
+            hint,
+            min: least,
+            max: greatest,
+            ..SMALLEST
+        };
+        assert_eq!(rt; config.starting_size(), want, "at {config:?}");
     }
 }
 

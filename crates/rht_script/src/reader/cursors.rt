@@ -9,6 +9,7 @@ ghost use Rattle.rht_script.specs.Cursors.{TakesNext, Reads, BeginsWord};
 use super::numbers::number_within;
 use crate::cause::Cause;
 use crate::script::{MOST_LINES, ScriptFault};
+use rht_words::Limits;
 use std::marker::Model;
 
 /// The greatest number of bytes of a line without its line feed.
@@ -101,8 +102,8 @@ impl<'a> Words<'a> {
     pub fn is_skipped(&self) -> bool
         ensures { result ≡ is_skipped self.now }
     {
-        match (Words { rest: self.rest }).next() {
-            Some(word) => word.first() == Some(&b'#'),
+        match letter_at(self.rest) {
+            Some(start) => self.rest[start] == b'#',
             None => true,
         }
     }
@@ -118,13 +119,13 @@ impl<'a> Words<'a> {
         Some(word)
     }
 
-    /// The next word's number, which is one from the least to the greatest. After an `Err` the
-    /// words are of no more use.
-    pub fn number(&mut self, least: u32, greatest: u32) -> Result<u32, Cause>
-        ensures { Reads result self.new (number_first least greatest self.old) }
+    /// The next word's number, which is within the limits. After an `Err` the words are of no more
+    /// use.
+    pub fn number(&mut self, limits: Limits) -> Result<u32, Cause>
+        ensures { Reads result self.new (number_first limits self.old) }
     {
         match self.next() {
-            Some(word) => number_within(least, greatest, word),
+            Some(word) => number_within(limits, word),
             None => Err(Cause::UnknownWord),
         }
     }

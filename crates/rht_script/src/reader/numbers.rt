@@ -4,27 +4,39 @@ ghost use Rattle.std.specs.Prelude.{◌≡◌, ◌^◌, ◌<◌, IfOk, true};
 ghost use Rattle.std.specs.Char.{is_ascii_digit};
 ghost use Rattle.std.specs.List.{list_all};
 ghost use Rattle.std.specs.Option.{SomeIff};
-ghost use Rattle.rht_words.specs.Limits.{IsWithin};
+ghost use Rattle.rht_words.specs.Limits.{IsWithinLimits};
 ghost use Rattle.rht_script.specs.Spelling.{number_of, is_number, value_of};
 
 use crate::cause::Cause;
+use rht_words::Limits;
 
 /// The greatest number of digits of a number.
 const MOST_DIGITS: usize = 20;
 
-/// The number that the word stands for, where it is one from the least to the greatest.
+/// A port is any number of 32 bits.
+pub const PORT: Limits = Limits {
+    least: 0,
+    greatest: u32::MAX,
+};
+
+/// An owner is too.
+pub const OWNER: Limits = Limits {
+    least: 0,
+    greatest: u32::MAX,
+};
+
+/// The number that the word stands for, where it is within the limits.
 #[tactic(auto, unfolding(crate::specs::Spelling::number_of))]
-pub fn number_within(least: u32, greatest: u32, word: &[u8]) -> Result<u32, Cause>
-    ensures value { result ≡ number_of least greatest word.now }
-    ensures within { IfOk result (IsWithin least greatest) }
+pub fn number_within(limits: Limits, word: &[u8]) -> Result<u32, Cause>
+    ensures value { result ≡ number_of limits word.now }
+    ensures within { IfOk result (IsWithinLimits limits) }
 {
     if !is_number(word) {
         return Err(Cause::BadNumber);
     }
     match value(word) {
-        Some(number) if u64::from(least) <= number && number <= u64::from(greatest) => Ok(
-            number as u32,
-        ),
+        Some(number) if u64::from(limits.least) <= number && number <= u64::from(limits.greatest) =>
+            Ok(number as u32),
         _ => Err(Cause::OutOfRange),
     }
 }

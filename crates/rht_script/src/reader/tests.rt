@@ -2,7 +2,7 @@
 //! from the rules of scripts, and stands beside it.
 
 use super::*;
-use rht_words::Kind;
+use rht_words::{Config, Kind};
 use std::alloc::AllocError;
 use std::process::Abort;
 use std::test::Fail;
@@ -175,18 +175,13 @@ fn assert_fault(rt: &impl Abort, alloc: Global, bytes: &[u8], line: u32, cause: 
 #[test]
 fn finds_the_first_fault(rt: HostRuntime) {
     for (text, line, cause) in FAULTS {
-        let fault = Some(ReadError::Fault(ScriptFault {
+        let fault = ReadError::Fault(ScriptFault {
             line: *line,
             cause: *cause,
-        }));
+        });
         assert_eq!(rt;
             read(rt.alloc(), text.as_bytes()).err(),
-            fault,
-            "at {text:?}"
-        );
-        assert_eq!(rt;
-            slow::read(rt.alloc(), text.as_bytes()).err(),
-            fault,
+            Some(fault),
             "at {text:?}"
         );
     }
@@ -280,11 +275,6 @@ fn reads_scripts(rt: HostRuntime) -> Result<(), Fail> {
         assert_eq!(rt; script.commands.as_slice(), *commands, "at {text:?}");
         assert!(rt; script.auto && script.schedule.is_empty());
         assert!(rt; script.is_sound(), "at {text:?}");
-        let slow = slow::read(rt.alloc(), text.as_bytes())
-            .ok()
-            .ok_or("refused")?;
-        assert_eq!(rt; slow.config, *config, "at {text:?}");
-        assert_eq!(rt; slow.commands.as_slice(), *commands, "at {text:?}");
     }
     Ok(())
 }

@@ -6,7 +6,7 @@ use Rattle.rht_script.proofs.reader.commands.Given as goal
 -- the commands so far and those of the lines that are left are those of all lines
 abbrev pub invariant-loop-commands : goal.invariant-loop-commands
 invariant-loop-commands l =
-    with_front l.commands.items (commands_from l.lines.number l.config l.lines.lines) ≡ commands_from l.initial.lines.number l.config l.initial.lines.lines
+    with_front l.commands.items (commands_from l.lines.number l.table l.lines.lines) ≡ commands_from l.initial.lines.number l.table l.initial.lines.lines
 
 -- the lines that are left
 abbrev pub decreases-loop-commands : goal.decreases-loop-commands

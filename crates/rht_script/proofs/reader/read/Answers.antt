@@ -1,9 +1,10 @@
-use Rattle.std.proofs.Common.{◌≡◌, Result, Ok, Err, refl, sym, ap, ◌∙◌, arith}
+use Rattle.std.proofs.Common.{Result, Ok, Err, List, sym, ap, ◌∙◌}
 use Rattle.std.proofs.lemmas.Result.{err_from_is_err_and}
+use Rattle.rht_script.specs.declared.script.Sched.{Sched}
 use Rattle.rht_script.specs.declared.script.ScriptFault.{ScriptFault}
-use Rattle.rht_script.specs.Grammar.{Said, reading_of, said_from}
+use Rattle.rht_script.specs.Grammar.{Said, reading_of, said_from, said_of}
 use Rattle.rht_script.specs.Cursors.{Unread}
-use Rattle.rht_script.proofs.ReadCommands.{commands_sound}
+use Rattle.rht_script.proofs.SayableScripts.{IsSoundScript-read}
 use Rattle.rht_script.proofs.ReadingLemmas.{reading_of-long, reading_of-lines, said_with-commands, said_with-reason}
 use Rattle.rht_script.proofs.reader.read.Goals as goal
 
@@ -15,38 +16,28 @@ pub returns-then-bytes-gt-MOST_BYTES-clause-reason : goal.returns-then-bytes-gt-
 returns-then-bytes-gt-MOST_BYTES-clause-reason c =
     reading_of-long c.args.bytes.now c.if-bytes-gt-MOST_BYTES.true ∙ ap (λ (fault : ScriptFault). Err fault) (sym c.too_long.ensures)
 
-pub returns-in_err-config-clause-reason : goal.returns-in_err-config-clause-reason
-returns-in_err-config-clause-reason c =
+pub returns-in_err-table-clause-reason : goal.returns-in_err-table-clause-reason
+returns-in_err-table-clause-reason c =
     let p = err_from_is_err_and c.from_residual.result c.from_residual.ensures.1 in
     rw (p.1, p.2)
-    (reading_of-lines c.args.bytes.now c.if-bytes-gt-MOST_BYTES.false ∙ sym (ap said_in c.new-lines.ensures) ∙ c.in_err-config.ensures.reading)
+    (reading_of-lines c.args.bytes.now c.if-bytes-gt-MOST_BYTES.false ∙ sym (ap said_in c.new-lines.ensures) ∙ c.in_err-table.ensures)
 
 pub returns-in_err-commands-clause-reason : goal.returns-in_err-commands-clause-reason
 returns-in_err-commands-clause-reason c =
     let p = err_from_is_err_and c.from_residual-in_err-commands.result c.from_residual-in_err-commands.ensures.1 in
-    let left = c.config.new.lines in
+    let left = c.table_line.new.lines in
     let reading =
-    reading_of-lines c.args.bytes.now c.if-bytes-gt-MOST_BYTES.false ∙ sym (ap said_in c.new-lines.ensures) ∙ c.in_ok-config.ensures.reading in
-    rw p.1 (rw p.2 (said_with-reason c.in_ok-config.config left.number left.lines (reading_of c.args.bytes.now) c.in_err-commands.field-0.0 reading c.in_err-commands.ensures.reason))
+    reading_of-lines c.args.bytes.now c.if-bytes-gt-MOST_BYTES.false ∙ sym (ap said_in c.new-lines.ensures) ∙ c.in_ok-table.ensures in
+    rw p.1 (rw p.2 (said_with-reason c.in_ok-table.table left.number left.lines (reading_of c.args.bytes.now) c.in_err-commands.field-0.0 reading c.in_err-commands.ensures.reason))
 
 pub returns-clause-script : goal.returns-clause-script
-returns-clause-script c = record {
-  said = reading_of-lines c.args.bytes.now c.if-bytes-gt-MOST_BYTES.false ∙ sym (ap said_in c.new-lines.ensures) ∙ c.in_ok-config.ensures.reading
-      ∙ said_with-commands c.in_ok-config.config c.config.new.lines.number c.config.new.lines.lines c.in_ok-commands.field-0.items c.in_ok-commands.ensures.commands;
-  auto = refl;
-  schedule = c.new.ensures.items;
-}
+returns-clause-script c =
+    let table = c.in_ok-table.table in
+    let commands = c.in_ok-commands.field-0.items in
+    let left = c.table_line.new.lines in
+    reading_of-lines c.args.bytes.now c.if-bytes-gt-MOST_BYTES.false ∙ sym (ap said_in c.new-lines.ensures) ∙ c.in_ok-table.ensures
+    ∙ said_with-commands table left.number left.lines commands c.in_ok-commands.ensures.commands
+    ∙ ap (λ (s : List Sched). Ok (record (said_of table commands) { schedule = s })) (sym c.new.ensures.items)
 
 pub returns-clause-sound : goal.returns-clause-sound
-returns-clause-sound c =
-    let said : Said = record { config = c.in_ok-config.config; commands = c.in_ok-commands.field-0.items } in
-    let read : reading_of c.args.bytes.now ≡ Ok said =
-    reading_of-lines c.args.bytes.now c.if-bytes-gt-MOST_BYTES.false ∙ sym (ap said_in c.new-lines.ensures) ∙ c.in_ok-config.ensures.reading
-    ∙ said_with-commands c.in_ok-config.config c.config.new.lines.number c.config.new.lines.lines c.in_ok-commands.field-0.items c.in_ok-commands.ensures.commands in
-    let sound = commands_sound c.args.bytes.now said read in
-    record {
-      settled = c.in_ok-config.ensures.settled;
-      few = omega (arith, sound.1, c.in_ok-commands.field-0.ok.0);
-      commands = sound.0;
-      schedule = rw c.new.ensures.items refl;
-    }
+returns-clause-sound c = IsSoundScript-read c.args.bytes.now _ (returns-clause-script c)

@@ -1,9 +1,13 @@
-use Rattle.rht_script.proofs.AddedPieces.{Puts-of_put, Puts-of_failed_adds}
+use Rattle.std.proofs.Common.{rules}
+use Rattle.rht_script.proofs.AddedPieces.{Puts-of_put, Puts-of_failed_adds, Puts-between}
 use Rattle.rht_script.proofs.writer.write_closed.Goals as goal
 
 pub returns-in_err-add_closed : goal.returns-in_err-add_closed
 returns-in_err-add_closed g c =
-    Puts-of_failed_adds c.in_err-add_closed.ensures c.new-text.ensures c.from_residual.ensures.0
+    Puts-between c.new-text.ensures.unchanged (search rules)
+    (Puts-of_failed_adds c.in_err-add_closed.ensures.text c.new-text.ensures.none c.from_residual.ensures.0)
 
 pub returns : goal.returns
-returns g c = Puts-of_put c.in_ok-add_closed.ensures c.put.ensures.added c.new-text.ensures c.put.ensures.put
+returns g c =
+    Puts-between c.new-text.ensures.unchanged (search rules)
+    (Puts-of_put c.in_ok-add_closed.ensures.text c.put.ensures.text c.new-text.ensures.none c.put.ensures.none)

@@ -6,14 +6,5 @@ use Rattle.rht_cli.proofs.ending.Ending.write.Goals as goal
 
 pub returns-in-Usage : goal.returns-in-Usage
 returns-in-Usage g c =
-    subst (λ (e : Ending). Puts g.E.Sink.held g.E.Sink.faults c.args.err.now c.put_all.new.out c.put_all.result (ending_line e)) (sym c.in-Usage.is) c.put_all.ensures
-
-pub returns-in-ReadFailed : goal.returns-in-ReadFailed
-returns-in-ReadFailed g c =
-    subst (λ (e : Ending). Puts g.E.Sink.held g.E.Sink.faults c.args.err.now c.put_all-in-ReadFailed.new.out c.put_all-in-ReadFailed.result (ending_line e))
-    (sym c.in-ReadFailed.is) c.put_all-in-ReadFailed.ensures
-
-pub returns-in-Memory : goal.returns-in-Memory
-returns-in-Memory g c =
-    subst (λ (e : Ending). Puts g.E.Sink.held g.E.Sink.faults c.args.err.now c.put_all-in-Memory.new.out c.put_all-in-Memory.result (ending_line e))
-    (sym c.in-Memory.is) c.put_all-in-Memory.ensures
+    subst (λ (e : Ending). Puts g.E.Sink.held g.E.Sink.faults c.args.err.now c.put_all.new.out c.put_all.result (ending_line e))
+    (sym c.in-Usage.is) c.put_all.ensures

@@ -5,7 +5,7 @@ use Rattle.rht_script.specs.declared.cause.Cause.TheVariants.{TooManyLines, Line
 use Rattle.rht_script.specs.Grammar.{fault_at}
 use Rattle.rht_script.specs.Spelling.{lines_of}
 use Rattle.rht_script.specs.Cursors.{Unread}
-use Rattle.rht_script.proofs.LineLemmas.{lines_of-none, words_in-many, words_in-long, words_in-right}
+use Rattle.rht_script.proofs.LineLemmas.{lines_of-none, words_at-many, words_at-long, words_at-right}
 use Rattle.rht_script.proofs.reader.cursors.Lines.next.Goals as goal
 
 pub returns-then-is_empty : goal.returns-then-is_empty
@@ -21,7 +21,7 @@ returns-then-number-gt-MOST_LINES c =
         line = line;
         lines = lines_of c.first_line.result.1.now;
         first = sym (ap (λ (unread : Unread). unread.lines) c.self.view_is) ∙ c.first_line.ensures;
-        wrong = rw (words_in-many before.number line (omega arith))
+        wrong = rw (words_at-many before.number line (omega arith))
             (ap (λ (fault : ScriptFault). Err fault) (sym (c.at.ensures ∙ ap (λ number. fault_at number TooManyLines) c.number-number.ensures)));
       },
       refl,
@@ -35,7 +35,7 @@ returns-then-line-gt-MOST_IN_LINE c =
         line = line;
         lines = lines_of c.first_line.result.1.now;
         first = sym (ap (λ (unread : Unread). unread.lines) c.self.view_is) ∙ c.first_line.ensures;
-        wrong = rw (words_in-long before.number line (omega arith) (omega arith))
+        wrong = rw (words_at-long before.number line (omega arith) (omega arith))
             (ap (λ (fault : ScriptFault). Err fault)
             (sym (c.at-then-line-gt-MOST_IN_LINE.ensures ∙ ap (λ number. fault_at number LineTooLong) c.number-number.ensures)));
       },
@@ -50,5 +50,5 @@ returns c =
       first = sym (ap (λ (unread : Unread). unread.lines) c.self.view_is) ∙ c.first_line.ensures;
       here = c.number-number.ensures;
       counted = omega arith;
-      words = words_in-right before.number line (omega arith) (omega arith);
+      words = words_at-right before.number line (omega arith) (omega arith);
     }

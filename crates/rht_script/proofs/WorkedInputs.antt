@@ -1,0 +1,268 @@
+-- Inputs, and what they say or their first faults, as the definitions compute them: each cause at its places, each pair of
+-- causes of which one has to come first, and scripts. What is wanted was worked out by hand from the rules of scripts.
+-- The tests of `read` have what would take too long here: too many lines, too many bytes, and what competes with these.
+-- They are examples to read beside the definitions; nothing cites them.
+use Rattle.std.proofs.Common.{◌≡◌, ℕ, ◌+◌, true, false, Ok, Err, List, [], ◌∷◌, ◌++◌, map, replicate, codes, refl}
+use Rattle.rht_words.specs.Sizes.{powers, rounded_up}
+use Rattle.rht_words.specs.declared.config.Config.{Config}
+use Rattle.rht_words.specs.declared.config.Hash.TheVariants.{Low}
+use Rattle.rht_model.specs.declared.history.Call.{Call}
+use Rattle.rht_model.specs.declared.history.Call.TheVariants.{Bind, Find, Release}
+use Rattle.rht_script.specs.declared.cause.Cause.{Cause}
+use Rattle.rht_script.specs.declared.cause.Cause.TheVariants.{NoTableLine, UnknownWord, BadNumber, OutOfRange, LineTooLong, OptionsDisagree}
+use Rattle.rht_script.specs.Spelling.{lines_of, words_of, number_of}
+use Rattle.rht_script.specs.TableLines.{setting_of, plain_config, configured, config_of, table_of}
+use Rattle.rht_script.specs.CommandLines.{bind_of, find_of, release_of, call_of, command_of}
+use Rattle.rht_script.specs.Grammar.{most_in_line, fault_at, reading_of}
+
+-- the definitions that reading a text computes
+whole_reading : Unit {0}
+unfolding reading_of lines_of words_of number_of table_of setting_of config_of configured rounded_up powers
+    command_of call_of bind_of find_of release_of
+whole_reading = tt
+
+-- each of these texts has its first fault at this line, of this cause
+abbrev HaveFault : ℕ → Cause → List (List ℕ) → Type 0
+HaveFault line cause texts = map reading_of texts ≡ map (λ text. Err (fault_at line cause)) texts
+
+-- the text says this config and these commands
+abbrev Says : List ℕ → Config → List (ℕ × Call) → Type 0
+Says text config commands =
+    reading_of text ≡ Ok (record { config = config; auto = true; commands = commands; schedule = [] })
+
+-- the lines below a plain table line
+abbrev below_table : List (List ℕ) → List (List ℕ)
+below_table lines = map (λ line. codes "table single\n" ++ line) lines
+
+-- the texts, each with as many spaces before it as make its first line too long
+abbrev too_long : List (List ℕ) → List (List ℕ)
+too_long lines = map (λ line. replicate (most_in_line + 1) 32 ++ line) lines
+
+-- ---- each cause at its places
+
+-- the first line that isn't skipped begins with another word
+no_table_line : HaveFault 1 NoTableLine (
+    codes "1 find 80\n" ∷ codes "tables single\n" ∷ codes "Table single\n" ∷ codes "table# single\n"
+    ∷ [])
+unfolding whole_reading
+no_table_line = refl
+
+-- every line is skipped: the line is the one behind the last
+ends_without_table_line : HaveFault 3 NoTableLine (
+    codes "# a\n \t\r\n" ∷ codes "\n# table single" ∷ [])
+unfolding whole_reading
+ends_without_table_line = refl
+
+-- a word of the table line can't stand there, or is missing
+unknown_words_of_tables : HaveFault 1 UnknownWord (
+    codes "table\n" ∷ codes "table listed\n" ∷ codes "table single single\n"
+    ∷ codes "table single max 4\n" ∷ codes "table single work auto\n" ∷ codes "table single hint\n"
+    ∷ codes "table single hint 96 97\n" ∷ codes "table single hash 1\n" ∷ [])
+unfolding whole_reading
+unknown_words_of_tables = refl
+
+-- a word of a command line can't stand there, is missing, or is one too many
+unknown_words_of_commands : HaveFault 2 UnknownWord (below_table (
+    codes "1\n" ∷ codes "1 lookup\n" ∷ codes "1 Find 80\n" ∷ codes "1 bind\n" ∷ codes "1 bind 80\n"
+    ∷ codes "1 find\n" ∷ codes "1 release 80\n" ∷ codes "1 bind 80 100 7\n"
+    ∷ codes "1 find 80 100\n" ∷ codes "1 find 80 # who?\n" ∷ codes "1 release 80 100 7\n"
+    ∷ codes "step 1 5\n" ∷ codes "skip x\n" ∷ codes "finish\n" ∷ []))
+unfolding whole_reading
+unknown_words_of_commands = refl
+
+-- a word of the table line is no number where one has to stand
+bad_numbers_of_tables : HaveFault 1 BadNumber (
+    codes "table single hint x\n" ∷ codes "table single min +4\n"
+    ∷ codes "table single pages 0x10\n" ∷ codes "table single seed -1\n"
+    ∷ codes "table single rewalks 000000000000000000008\n" ∷ [])
+unfolding whole_reading
+bad_numbers_of_tables = refl
+
+-- a word of a command line is none
+bad_numbers_of_commands : HaveFault 2 BadNumber (below_table (
+    codes "x find 80\n" ∷ codes "1: find 80\n" ∷ codes "bind 80 100\n" ∷ codes "1 find http\n"
+    ∷ codes "1 bind x 100\n" ∷ codes "1 bind 80 x\n" ∷ codes "1 release x 100\n"
+    ∷ codes "1 release 80 x\n" ∷ codes "1 find 000000000000000000080\n" ∷ []))
+unfolding whole_reading
+bad_numbers_of_commands = refl
+
+-- an option's number is below the least or above the greatest
+numbers_out_of_range_of_tables : HaveFault 1 OutOfRange (
+    codes "table single hint 0\n" ∷ codes "table single hint 65537\n" ∷ codes "table single min 0\n"
+    ∷ codes "table single min 65537\n" ∷ codes "table single pages 3\n"
+    ∷ codes "table single pages 4097\n" ∷ codes "table single seed 4294967296\n"
+    ∷ codes "table single rewalks 256\n" ∷ codes "table single seed 18446744073709551616\n" ∷ [])
+unfolding whole_reading
+numbers_out_of_range_of_tables = refl
+
+-- so is a worker's, a port or an owner
+numbers_out_of_range_of_commands : HaveFault 2 OutOfRange (below_table (
+    codes "0 find 80\n" ∷ codes "2 find 80\n" ∷ codes "1 find 4294967296\n"
+    ∷ codes "1 bind 4294967296 100\n" ∷ codes "1 bind 80 4294967296\n"
+    ∷ codes "1 release 4294967296 100\n" ∷ codes "1 release 80 4294967296\n"
+    ∷ codes "1 find 18446744073709551696\n" ∷ []))
+unfolding whole_reading
+numbers_out_of_range_of_commands = refl
+
+-- a line is too long, be it the table line, a comment, a blank line or a command's
+lines_too_long : HaveFault 1 LineTooLong (too_long (codes "table single\n" ∷ codes "# a\n" ∷ codes "\n" ∷ []))
+unfolding whole_reading
+lines_too_long = refl
+
+later_line_too_long : HaveFault 2 LineTooLong (below_table (too_long (codes "1 find 80\n" ∷ codes "# a" ∷ [])))
+unfolding whole_reading
+later_line_too_long = refl
+
+-- an option stands twice
+options_twice : HaveFault 1 OptionsDisagree (
+    codes "table single hint 96 hint 96\n" ∷ codes "table single min 4 seed 1 min 4\n"
+    ∷ codes "table single pages 4 pages 4\n" ∷ codes "table single seed 1 seed 2 seed 3\n"
+    ∷ codes "table single rewalks 8 rewalks 8\n" ∷ codes "table single hash low hash low\n" ∷ [])
+unfolding whole_reading
+options_twice = refl
+
+-- the first table has more buckets than its pages: 512, 512 and 131,072
+no_room : HaveFault 1 OptionsDisagree (
+    codes "table single pages 4 hint 300\n" ∷ codes "table single min 257 pages 4\n"
+    ∷ codes "table single hint 65536 pages 2047\n" ∷ [])
+unfolding whole_reading
+no_room = refl
+
+-- ---- which of two causes comes first
+
+-- that a line is too long comes before all that is wrong with its words
+too_long_before_words : HaveFault 1 LineTooLong (too_long
+    (codes "1 find 80\n" ∷ codes "table listed\n" ∷ codes "table single hint x\n" ∷ codes "table single hint 0\n"
+    ∷ codes "table single hint 96 hint 96\n" ∷ []))
+unfolding whole_reading
+too_long_before_words = refl
+
+too_long_before_commands : HaveFault 2 LineTooLong (below_table (too_long
+    (codes "1 lookup\n" ∷ codes "1 find x\n" ∷ codes "2 find 80\n" ∷ [])))
+unfolding whole_reading
+too_long_before_commands = refl
+
+-- that a line is no table line comes before all that is wrong with its other words
+no_table_line_before_words : HaveFault 1 NoTableLine (
+    codes "1 lookup\n" ∷ codes "x find 80\n" ∷ codes "99 find 80\n" ∷ codes "tables listed hint x\n"
+    ∷ codes "tables single hint 0\n" ∷ codes "tables single hint 96 hint 96\n" ∷ [])
+unfolding whole_reading
+no_table_line_before_words = refl
+
+-- of two words of a table line the left one comes first: an unknown word, before a number
+unknown_word_left_of_number : HaveFault 1 UnknownWord (
+    codes "table listed hint x\n" ∷ codes "table single speed x\n" ∷ codes "table listed hint 0\n"
+    ∷ [])
+unfolding whole_reading
+unknown_word_left_of_number = refl
+
+-- a bad number, before an unknown word and a number out of range
+bad_number_left : HaveFault 1 BadNumber (
+    codes "table single hint x speed 1\n" ∷ codes "table single seed x hint 0\n" ∷ [])
+unfolding whole_reading
+bad_number_left = refl
+
+-- and a number out of range, before an unknown word and a bad number
+number_out_of_range_left : HaveFault 1 OutOfRange (
+    codes "table single hint 0 max 4\n" ∷ codes "table single hint 0 seed x\n" ∷ [])
+unfolding whole_reading
+number_out_of_range_left = refl
+
+-- so it is in a command line, also where a word is missing or one too many: an unknown word before a number
+unknown_word_left_in_command : HaveFault 2 UnknownWord (below_table (
+    codes "1 lookup x\n" ∷ codes "1 lookup 4294967296\n" ∷ codes "step x\n" ∷ []))
+unfolding whole_reading
+unknown_word_left_in_command = refl
+
+-- a bad number before an unknown, a missing and an extra word, and before a number out of range
+bad_number_left_in_command : HaveFault 2 BadNumber (below_table (
+    codes "x lookup\n" ∷ codes "1 bind x\n" ∷ codes "1 find x 100\n" ∷ codes "1 bind x 4294967296\n"
+    ∷ codes "x find 4294967296\n" ∷ []))
+unfolding whole_reading
+bad_number_left_in_command = refl
+
+-- and a number out of range before an unknown, a missing and an extra word, and before a bad number
+number_out_of_range_left_in_command : HaveFault 2 OutOfRange (below_table (
+    codes "2 lookup x\n" ∷ codes "1 bind 4294967296\n" ∷ codes "1 bind 80 4294967296 7\n"
+    ∷ codes "1 bind 4294967296 x\n" ∷ []))
+unfolding whole_reading
+number_out_of_range_left_in_command = refl
+
+-- that options disagree comes last, behind an unknown word
+unknown_word_before_options : HaveFault 1 UnknownWord (
+    codes "table single hint 96 hint\n" ∷ codes "table single hint 96 hint 96 max 4\n"
+    ∷ codes "table single pages 4 hint 300 max 4\n" ∷ [])
+unfolding whole_reading
+unknown_word_before_options = refl
+
+-- behind a bad number
+bad_number_before_options : HaveFault 1 BadNumber (
+    codes "table single hint 96 hint x\n" ∷ codes "table single pages 4 hint 300 seed x\n" ∷ [])
+unfolding whole_reading
+bad_number_before_options = refl
+
+-- and behind a number out of range
+number_out_of_range_before_options : HaveFault 1 OutOfRange (
+    codes "table single hint 96 hint 0\n" ∷ codes "table single pages 4 hint 300 rewalks 256\n" ∷ [])
+unfolding whole_reading
+number_out_of_range_before_options = refl
+
+-- of two lines the upper one comes first, whatever is wrong with the other: a table line with an unknown word
+table_line_before_commands : HaveFault 1 UnknownWord (
+    codes "table\n1 find x\n" ∷ codes "table listed\n2 find 80\n" ∷ [])
+unfolding whole_reading
+table_line_before_commands = refl
+
+-- with options that disagree
+table_line_before_commands_options : HaveFault 1 OptionsDisagree (
+    codes "table single hint 96 hint 96\n1 lookup\n" ∷ [])
+unfolding whole_reading
+table_line_before_commands_options = refl
+
+-- a command with an unknown word
+unknown_word_before_later_lines : HaveFault 2 UnknownWord (below_table (
+    codes "1 lookup\n1 find x\n" ∷ codes "1 lookup\n2 find 80\n" ∷ []))
+unfolding whole_reading
+unknown_word_before_later_lines = refl
+
+-- with a bad number
+bad_number_before_later_lines : HaveFault 2 BadNumber (below_table (
+    codes "1 find x\n1 lookup\n" ∷ codes "1 find x\n2 find 80\n" ∷ []))
+unfolding whole_reading
+bad_number_before_later_lines = refl
+
+-- and with a number out of range
+number_out_of_range_before_later_lines : HaveFault 2 OutOfRange (below_table (
+    codes "2 find 80\n1 lookup\n" ∷ codes "2 find 80\n1 find x\n" ∷ []))
+unfolding whole_reading
+number_out_of_range_before_later_lines = refl
+
+-- so it is with a line that is too long, above or below
+too_long_before_later_lines : HaveFault 2 LineTooLong (below_table (too_long (codes "1 find 80\n1 lookup\n" ∷ [])))
+unfolding whole_reading
+too_long_before_later_lines = refl
+
+unknown_word_before_too_long : HaveFault 2 UnknownWord (below_table (map (λ line. codes "1 lookup\n" ++ line)
+    (too_long (codes "1 find 80\n" ∷ []))))
+unfolding whole_reading
+unknown_word_before_too_long = refl
+
+-- ---- scripts
+
+-- a table line without options, and a command of each verb
+verbs : Says (codes "table single\n1 bind 80 100\n1 find 80\n1 release 80 100") plain_config
+    ((1, Bind 80 100 false) ∷ (1, Find 80) ∷ (1, Release 80 100) ∷ [])
+unfolding whole_reading
+verbs = refl
+
+-- each option; a hint of 192 takes 256 buckets, which have room in 4 pages, and 5 is rounded up to 8
+options : Says (codes "table single hash low rewalks 0 seed 7 pages 4 min 5 hint 192\n")
+    (record plain_config { hash = Low; rewalks = 0; seed = 7; pages = 4; min = 8; hint = 192 }) []
+unfolding whole_reading
+options = refl
+
+-- blank lines, comments and blanks, and numbers with leading zeros
+blanks : Says (codes "\n# a\n \t\r\n\ttable  single \r\n#b\n\n\t01 find\t00000000004294967295 \r\n") plain_config
+    ((1, Find 4294967295) ∷ [])
+unfolding whole_reading
+blanks = refl

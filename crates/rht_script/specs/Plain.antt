@@ -1,0 +1,95 @@
+-- What today's words can say, and how that is spelled plainly: one table line, one line a command, numbers in decimal,
+-- one space between two words, and a line feed behind each line.
+use Rattle.std.specs.Prelude.{◌≡◌, ℕ, ◌<◌, ◌==◌, true, false, if◌then◌else◌, All, List, [], ◌∷◌, ◌++◌, length, codes, decimal}
+use Rattle.std.specs.List.{flat_map, join_with_byte}
+use Rattle.rht_words.specs.declared.config.Config.{Config}
+use Rattle.rht_words.specs.declared.config.Hash.{Hash}
+use Rattle.rht_words.specs.declared.config.Hash.TheVariants.{Mix, Low}
+use Rattle.rht_words.specs.Limits.{IsWithinLimits}
+use Rattle.rht_words.specs.Settled.{IsSettled}
+use Rattle.rht_model.specs.declared.history.Call.{Call}
+use Rattle.rht_model.specs.declared.history.Call.TheVariants.{Bind, Find, All as ListAll, Release, Rebind, Walk, Work, Tidy, Count}
+use Rattle.rht_script.specs.Grammar.{most_lines, Said}
+use Rattle.rht_script.specs.TableLines.{plain_config}
+use Rattle.rht_script.specs.CommandLines.{port_limits, owner_limits, worker_limits}
+
+-- ---- what can be said
+
+-- the options can say the config: a table can be opened with it, and what no option sets is as without options
+pub record IsSayableConfig (config : Config) : Type 0 where
+  pub settled : IsSettled config
+  pub kind : config.kind ≡ plain_config.kind
+  pub nodes : config.nodes ≡ plain_config.nodes
+  pub callers : config.callers ≡ plain_config.callers
+  pub max : config.max ≡ plain_config.max
+  pub shrink : config.shrink ≡ plain_config.shrink
+
+-- there is a verb for the call: a bind that is tried until it ends, a look-up and a release, each of any port and owner
+abbrev pub IsSayableCall : Call → Type 0
+IsSayableCall (Bind port owner once) =
+    IsWithinLimits port_limits port × IsWithinLimits owner_limits owner × (once ≡ false)
+IsSayableCall (Find port) = IsWithinLimits port_limits port
+IsSayableCall (ListAll port) = ⊥
+IsSayableCall (Release port owner) = IsWithinLimits port_limits port × IsWithinLimits owner_limits owner
+IsSayableCall (Rebind port owner new) = ⊥
+IsSayableCall (Walk from limit) = ⊥
+IsSayableCall Work = ⊥
+IsSayableCall Tidy = ⊥
+IsSayableCall Count = ⊥
+
+-- a command line can say the command: it is one of a worker of the table
+abbrev pub IsSayableCommand : Config → ℕ × Call → Type 0
+IsSayableCommand config command =
+    IsWithinLimits (worker_limits config) command.0 × IsSayableCall command.1
+
+-- today's words can say this: a config and commands that they can say, one line each, and nothing else
+pub record IsSayable (said : Said) : Type 0 where
+  pub config : IsSayableConfig said.config
+  pub auto : said.auto ≡ true
+  pub commands : All (IsSayableCommand said.config) said.commands
+  pub few : length said.commands < most_lines
+  pub schedule : said.schedule ≡ []
+
+-- ---- how it is spelled
+
+-- the words for a hint; no words say that there is none
+abbrev pub hint_words : ℕ → List (List ℕ)
+hint_words hint = if hint == 0 then [] else codes "hint" ∷ decimal hint ∷ []
+
+-- the word for a hash
+abbrev pub hash_word : Hash → List ℕ
+hash_word Mix = codes "mix"
+hash_word Low = codes "low"
+
+-- the words of the table line of a config: every option
+abbrev pub table_words : Config → List (List ℕ)
+table_words config =
+    codes "table" ∷ codes "single" ∷ codes "hash" ∷ hash_word config.hash
+    ∷ codes "min" ∷ decimal config.min ∷ codes "pages" ∷ decimal config.pages
+    ∷ codes "seed" ∷ decimal config.seed ∷ codes "rewalks" ∷ decimal config.rewalks
+    ∷ hint_words config.hint
+
+-- the words of a call: its verb and its numbers; of calls for which there is no verb yet, none
+abbrev pub call_words : Call → List (List ℕ)
+call_words (Bind port owner once) = codes "bind" ∷ decimal port ∷ decimal owner ∷ []
+call_words (Find port) = codes "find" ∷ decimal port ∷ []
+call_words (ListAll port) = []
+call_words (Release port owner) = codes "release" ∷ decimal port ∷ decimal owner ∷ []
+call_words (Rebind port owner new) = []
+call_words (Walk from limit) = []
+call_words Work = []
+call_words Tidy = []
+call_words Count = []
+
+-- the words of a command: its worker, and the call's
+abbrev pub command_words : ℕ × Call → List (List ℕ)
+command_words command = decimal command.0 ∷ call_words command.1
+
+-- a line of these words
+unfoldable pub plain_line : List (List ℕ) → List ℕ
+plain_line words = join_with_byte 32 words ++ codes "\n"
+
+-- a script that says this
+unfoldable pub plain_script : Said → List ℕ
+plain_script said =
+    plain_line (table_words said.config) ++ flat_map (λ command. plain_line (command_words command)) said.commands
