@@ -35,7 +35,8 @@ fn read_more<S: Source>(
     bytes: &mut Vec<u8>,
 ) -> Result<bool, Failure>
     requires { 0 < length room.old }
-    ensures more { IfOk result (λ more. IsMore (S.left source.old) (S.left source.new) bytes.old.items bytes.new.items (length room.old) more) }
+    ensures more { IfOk result (IsMore (S.left source.old) (S.left source.new)
+        bytes.old.items bytes.new.items (length room.old)) }
     ensures fault { IfErr result (IsReadFault (S.faults source.old) (S.faults source.new)) }
     ensures kept { S.faults source.old ≤ S.faults source.new }
 {

@@ -69,8 +69,10 @@ fn answer_all(
     replies: &mut Vec<Replies>,
 ) -> Result<(), AllocError>
     requires { AllByRecursion (IsWorkersCommand (length replies.old.items)) commands.now }
-    ensures replies { OnOk result (replies.new.items ≡ gained 1 (bound_in list.old) commands.now replies.old.items) }
-    ensures bindings { OnOk result (bound_in list.new ≡ bindings_of (bound_in list.old) commands.now) }
+    ensures replies { OnOk result
+        (replies.new.items ≡ gained 1 (bound_in list.old) commands.now replies.old.items) }
+    ensures bindings { OnOk result
+        (bound_in list.new ≡ bindings_of (bound_in list.old) commands.now) }
     ensures length { length list.new ≤ length list.old + length commands.now }
 {
     for command in commands {
@@ -87,8 +89,10 @@ fn answer_one(
     replies: &mut Vec<Replies>,
 ) -> Result<(), AllocError>
     requires { IsWorkersCommand (length replies.old.items) (worker, call) }
-    ensures replies { OnOk result (replies.new.items ≡ gained 1 (bound_in list.old) ((worker, call) ∷ []) replies.old.items) }
-    ensures bindings { OnOk result (bound_in list.new ≡ bindings_of (bound_in list.old) ((worker, call) ∷ [])) }
+    ensures replies { OnOk result
+        (replies.new.items ≡ gained 1 (bound_in list.old) ((worker, call) ∷ []) replies.old.items) }
+    ensures bindings { OnOk result
+        (bound_in list.new ≡ bindings_of (bound_in list.old) ((worker, call) ∷ [])) }
     ensures length { length list.new ≤ length list.old + 1 }
 {
     list.answer(call, &mut replies[worker as usize - 1])

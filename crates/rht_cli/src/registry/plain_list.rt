@@ -70,7 +70,8 @@ impl PlainList {
 
     fn bind(&mut self, port: Port, owner: u32) -> Result<Reply, AllocError>
         ensures reply { IfOk result (λ reply. reply ≡ bind_reply Single (bound_in self.old port)) }
-        ensures bindings { OnOk result (bound_in self.new ≡ with_owners (bound_in self.old) port (owners_bound Single owner (bound_in self.old port))) }
+        ensures bindings { OnOk result (bound_in self.new ≡ with_owners (bound_in self.old) port
+            (owners_bound Single owner (bound_in self.old port))) }
         ensures length { length self.new ≤ length self.old + 1 }
         ensures err { OnErr result (self.new ≡ self.old) }
     {
@@ -95,7 +96,8 @@ impl PlainList {
 
     fn release(&mut self, port: Port, owner: u32) -> Reply
         ensures reply { result ≡ release_reply owner (bound_in self.old port) }
-        ensures bindings { bound_in self.new ≡ with_owners (bound_in self.old) port (owners_released owner (bound_in self.old port)) }
+        ensures bindings { bound_in self.new ≡ with_owners (bound_in self.old) port
+            (owners_released owner (bound_in self.old port)) }
         ensures length { length self.new ≤ length self.old }
     {
         let (place, bound) = self.search(port);
