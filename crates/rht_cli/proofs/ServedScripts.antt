@@ -1,6 +1,6 @@
 -- How the form `run` is served: what was read of a script is its input, what its workers leave is a text of its,
 -- and that text was written whole, or where the sink failed a prefix of it.
-use Rattle.std.proofs.Common.{◌≡◌, ℕ, List, Option, refl, ap, ◌∙◌, inl}
+use Rattle.std.proofs.Common.{ℕ, List, Option, refl, ap, ◌∙◌, inl}
 use Rattle.std.specs.Io.KnownBytes.{Appends}
 use Rattle.rht_io.specs.Told.{AppendsPrefix}
 use Rattle.rht_script.specs.declared.script.ReadError.{ReadError}

@@ -1,6 +1,6 @@
 //! Reading the whole input, and no more of it than a script can have.
 
-ghost use Rattle.std.specs.Prelude.{◌≡◌, ◌<◌, ◌≤◌, ◌++◌, length, vec_len, IfOk, IfErr, MatchBool};
+ghost use Rattle.std.specs.Prelude.{◌≡◌, ◌<◌, ◌≤◌, length, vec_len, IfOk, IfErr};
 ghost use Rattle.rht_cli.specs.Input.{IsRead, IsMore, IsReadFault};
 
 use crate::ending::Failure;

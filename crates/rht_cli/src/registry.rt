@@ -4,11 +4,11 @@
 //! So far there is one list of ports in place of a table, and the calls run one after another, in
 //! the order of the script.
 
-ghost use Rattle.std.specs.Prelude.{◌≡◌, ◌+◌, ◌<◌, ◌≤◌, List, [], length, IfOk, OnOk, replicate, ◌∷◌};
+ghost use Rattle.std.specs.Prelude.{◌≡◌, ◌+◌, ◌<◌, ◌≤◌, [], length, IfOk, OnOk, replicate, ◌∷◌};
 ghost use Rattle.std.specs.List.{AllByRecursion};
 ghost use Rattle.rht_script.specs.Sound.{IsSoundScript};
 ghost use Rattle.rht_script.specs.Reading.{said_by};
-ghost use Rattle.rht_cli.specs.Pairs.{bound_in, HasRisingPorts};
+ghost use Rattle.rht_cli.specs.Pairs.{bound_in};
 ghost use Rattle.rht_cli.specs.Outcomes.{bindings_of, gained, IsWorkersCommand, IsOutcome};
 
 mod plain_list;
