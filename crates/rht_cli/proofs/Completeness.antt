@@ -14,7 +14,8 @@ use Rattle.rht_cli.proofs.ToldInput.{not_both, one_fault}
 
 module _ {S O : Type 0} (left : S → Option (List ℕ)) (sfaults : S → ℕ) (held : O → Option (List ℕ))
     (ofaults : O → ℕ) (form : Form) (s s' : S) (o o' : O) (bytes : List ℕ) (rest : Option (List ℕ)) (told : left s ≡ Some bytes) where
-  pub served_whole : (served : Result (Unit {0}) Failure) → Serves left sfaults held ofaults form s s' o o' served
+  pub served_whole : (served : Result (Unit {0}) Failure)
+      → Serves left sfaults held ofaults form s s' o o' served
       → (said : Said) → IsInputOf form (Some bytes) rest said
       → (Rose (sfaults s) (sfaults s') → ⊥) → (Rose (ofaults o) (ofaults o') → ⊥)
       → (status_of (ending_of served) ≡ 0) ⊎ (status_of (ending_of served) ≡ 5)
@@ -25,7 +26,8 @@ module _ {S O : Type 0} (left : S → Option (List ℕ)) (sfaults : S → ℕ) (
   served_whole (Err Write) serves said input reads writes = absurd (writes serves.0)
   served_whole (Err Memory) serves said input reads writes = inr refl
 
-  pub refused_fault : (served : Result (Unit {0}) Failure) → Serves left sfaults held ofaults form s s' o o' served
+  pub refused_fault : (served : Result (Unit {0}) Failure)
+      → Serves left sfaults held ofaults form s s' o o' served
       → (fault : ScriptFault) → IsFaultOf form (Some bytes) rest fault
       → (Rose (sfaults s) (sfaults s') → ⊥)
       → ((status_of (ending_of served) ≡ 2) × (ending_line (ending_of served) ≡ fault_line fault)) ⊎ (status_of (ending_of served) ≡ 5)

@@ -18,7 +18,8 @@ length-gained worker bindings commands (endings ∷ workers) =
     ap suc (length-gained (worker + 1) bindings commands workers)
 
 -- no commands add nothing
-pub gained-none : (worker : ℕ) (bindings : Multimap) (workers : List (List Ending)) → gained worker bindings [] workers ≡ workers
+pub gained-none : (worker : ℕ) (bindings : Multimap) (workers : List (List Ending))
+    → gained worker bindings [] workers ≡ workers
 gained-none worker bindings [] = refl
 gained-none worker bindings (endings ∷ workers) =
     ap (λ l. l ∷ gained (worker + 1) bindings [] workers) (append-nil endings)

@@ -15,7 +15,8 @@ both_true true false holds = absurd (cc)
 both_true false second holds = absurd (cc)
 
 -- by induction over the commands
-pub workers-sound : (config : Config) (commands : List (ℕ × Call)) → IsTrue (list_all (is_sound_command config) commands)
+pub workers-sound : (config : Config) (commands : List (ℕ × Call))
+    → IsTrue (list_all (is_sound_command config) commands)
     → AllByRecursion (IsWorkersCommand config.callers) commands
 workers-sound config [] sound = tt
 workers-sound config (command ∷ commands) sound =

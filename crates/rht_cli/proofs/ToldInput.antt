@@ -1,7 +1,7 @@
 -- Reading told input: what was read to its end is all of it, and what was read of longer input shows that it
 -- is too long. So told input says one thing or has one first fault, and never both.
 -- Here alone it is looked at what reading a form's input means.
-use Rattle.std.proofs.Common.{◌≡◌, ℕ, ◌<◌, ◌≤◌, suc, ◌+◌, ◌⊎◌, List, [], ◌++◌, length, take, drop, Option, None, Some, Ok, refl, sym, ap, ◌∙◌, subst, inl, inr, arith, append-nil, take-append-drop}
+use Rattle.std.proofs.Common.{◌≡◌, ℕ, ◌+◌, List, [], ◌++◌, length, take, drop, Option, None, Some, Ok, refl, sym, ap, ◌∙◌, subst, inl, inr, arith, append-nil, take-append-drop}
 use Rattle.std.specs.Io.KnownBytes.{Consumes, IsAtEnd}
 use Rattle.std.proofs.lemmas.Bool.{cases_lt}
 use Rattle.std.proofs.lemmas.List.{length-take-le}
@@ -15,7 +15,8 @@ use Rattle.rht_cli.specs.Input.{IsRead}
 use Rattle.rht_cli.specs.Forms.{IsScriptRead, IsNoScript, IsInputOf, IsFaultOf}
 
 -- what was read of told bytes, to their end, is all of them
-all_read : (bytes piece : List ℕ) (left_after : Option (List ℕ)) → Consumes (Some bytes) left_after piece
+all_read : (bytes piece : List ℕ) (left_after : Option (List ℕ))
+    → Consumes (Some bytes) left_after piece
     → IsAtEnd left_after → piece ≡ bytes
 all_read bytes piece None taken ended = absurd taken
 all_read bytes piece (Some rest) taken ended =
@@ -28,13 +29,15 @@ begins bytes piece None taken = absurd taken
 begins bytes piece (Some rest) taken = (rest, taken)
 
 -- what a script read of told bytes says is what they say
-said_told : (bytes : List ℕ) (left_after : Option (List ℕ)) (said : Said) → IsScriptRead (Some bytes) left_after said
+said_told : (bytes : List ℕ) (left_after : Option (List ℕ)) (said : Said)
+    → IsScriptRead (Some bytes) left_after said
     → reading_of bytes ≡ Ok said
 said_told bytes left_after said read =
     subst (λ l. reading_of l ≡ Ok said) (all_read bytes read.bytes left_after read.taken read.to_end) read.script
 
 -- the first fault of what was read of told bytes is their own
-fault_told : (bytes : List ℕ) (left_after : Option (List ℕ)) (fault : ScriptFault) → IsNoScript (Some bytes) left_after fault
+fault_told : (bytes : List ℕ) (left_after : Option (List ℕ)) (fault : ScriptFault)
+    → IsNoScript (Some bytes) left_after fault
     → FirstFault bytes fault
 fault_told bytes left_after fault refused = elim refused.read.enough [
   | inl whole ↦ subst (λ l. FirstFault l fault) (all_read bytes refused.bytes left_after refused.read.taken whole.0) refused.first
@@ -53,14 +56,16 @@ not_both Run bytes rest left_after said fault input refused =
 
 -- told input has one first fault
 pub one_fault : (form : Form) (bytes : List ℕ) (rest left_after : Option (List ℕ)) (first second : ScriptFault)
-    → IsFaultOf form (Some bytes) rest first → IsFaultOf form (Some bytes) left_after second → second ≡ first
+    → IsFaultOf form (Some bytes) rest first → IsFaultOf form (Some bytes) left_after second
+    → second ≡ first
 unfolding IsFaultOf
 one_fault Run bytes rest left_after first second one other =
     let is_first = fault_told bytes rest first one in
     let is_second = fault_told bytes left_after second other in cc
 
 -- bytes that are a script are the whole input of the form `run`
-pub IsInputOf-told : (bytes : List ℕ) (said : Said) → reading_of bytes ≡ Ok said → IsInputOf Run (Some bytes) (Some []) said
+pub IsInputOf-told : (bytes : List ℕ) (said : Said) → reading_of bytes ≡ Ok said
+    → IsInputOf Run (Some bytes) (Some []) said
 unfolding IsInputOf
 IsInputOf-told bytes said script = record {
   bytes = bytes;

@@ -1,6 +1,6 @@
 //! Reading the whole input, and no more of it than a script can have.
 
-ghost use Rattle.std.specs.Prelude.{◌≡◌, ◌<◌, ◌≤◌, ◌++◌, length, vec_len, IfOk, IfErr, MatchBool};
+ghost use Rattle.std.specs.Prelude.{◌≡◌, ◌<◌, ◌≤◌, length, vec_len, IfOk, IfErr};
 ghost use Rattle.rht_cli.specs.Input.{IsRead, IsMore, IsReadFault};
 
 use crate::ending::Failure;
@@ -35,7 +35,8 @@ fn read_more<S: Source>(
     bytes: &mut Vec<u8>,
 ) -> Result<bool, Failure>
     requires { 0 < length room.old }
-    ensures more { IfOk result (λ more. IsMore (S.left source.old) (S.left source.new) bytes.old.items bytes.new.items (length room.old) more) }
+    ensures more { IfOk result (IsMore (S.left source.old) (S.left source.new)
+        bytes.old.items bytes.new.items (length room.old)) }
     ensures fault { IfErr result (IsReadFault (S.faults source.old) (S.faults source.new)) }
     ensures kept { S.faults source.old ≤ S.faults source.new }
 {

@@ -67,7 +67,8 @@ pub fn run<R: Threads + Wait + Sync, S: Source, O: Sink, E: Sink, G: Gate + Sync
     ensures statuses { result ≤ 5 }
 
     // The line of any other status, or a prefix of it where the faults of err rose.
-    ensures line { result ≢ 2 → PutsLine (E.held err.old) (E.held err.new) (E.faults err.old) (E.faults err.new) (status_line result) }
+    ensures line { result ≢ 2
+        → PutsLine (E.held err.old) (E.held err.new) (E.faults err.old) (E.faults err.new) (status_line result) }
 
     // Input that is whole is served, unless memory runs out.
     ensures served { (form : Form) (bytes : List ℕ) (rest : Option (List ℕ)) (said : Said)
@@ -81,7 +82,8 @@ pub fn run<R: Threads + Wait + Sync, S: Source, O: Sink, E: Sink, G: Gate + Sync
         → form_of (map string_bytes words.now.items) ≡ Some form
         → S.left source.old ≡ Some bytes → IsFaultOf form (Some bytes) rest fault
         → ¬ Rose (S.faults source.old) (S.faults source.new)
-        → ((result ≡ 2) × PutsLine (E.held err.old) (E.held err.new) (E.faults err.old) (E.faults err.new) (fault_line fault))
+        → ((result ≡ 2)
+        × PutsLine (E.held err.old) (E.held err.new) (E.faults err.old) (E.faults err.new) (fault_line fault))
         ⊎ (result ≡ 5) }
 {
     match Form::of(words) {

@@ -4,11 +4,11 @@
 //! So far there is one list of ports in place of a table, and the calls run one after another, in
 //! the order of the script.
 
-ghost use Rattle.std.specs.Prelude.{◌≡◌, ◌+◌, ◌<◌, ◌≤◌, List, [], length, IfOk, OnOk, replicate, ◌∷◌};
+ghost use Rattle.std.specs.Prelude.{◌≡◌, ◌+◌, ◌<◌, ◌≤◌, [], length, IfOk, OnOk, replicate, ◌∷◌};
 ghost use Rattle.std.specs.List.{AllByRecursion};
 ghost use Rattle.rht_script.specs.Sound.{IsSoundScript};
 ghost use Rattle.rht_script.specs.Reading.{said_by};
-ghost use Rattle.rht_cli.specs.Pairs.{bound_in, HasRisingPorts};
+ghost use Rattle.rht_cli.specs.Pairs.{bound_in};
 ghost use Rattle.rht_cli.specs.Outcomes.{bindings_of, gained, IsWorkersCommand, IsOutcome};
 
 mod plain_list;
@@ -69,8 +69,10 @@ fn answer_all(
     replies: &mut Vec<Replies>,
 ) -> Result<(), AllocError>
     requires { AllByRecursion (IsWorkersCommand (length replies.old.items)) commands.now }
-    ensures replies { OnOk result (replies.new.items ≡ gained 1 (bound_in list.old) commands.now replies.old.items) }
-    ensures bindings { OnOk result (bound_in list.new ≡ bindings_of (bound_in list.old) commands.now) }
+    ensures replies { OnOk result
+        (replies.new.items ≡ gained 1 (bound_in list.old) commands.now replies.old.items) }
+    ensures bindings { OnOk result
+        (bound_in list.new ≡ bindings_of (bound_in list.old) commands.now) }
     ensures length { length list.new ≤ length list.old + length commands.now }
 {
     for command in commands {
@@ -87,8 +89,10 @@ fn answer_one(
     replies: &mut Vec<Replies>,
 ) -> Result<(), AllocError>
     requires { IsWorkersCommand (length replies.old.items) (worker, call) }
-    ensures replies { OnOk result (replies.new.items ≡ gained 1 (bound_in list.old) ((worker, call) ∷ []) replies.old.items) }
-    ensures bindings { OnOk result (bound_in list.new ≡ bindings_of (bound_in list.old) ((worker, call) ∷ [])) }
+    ensures replies { OnOk result
+        (replies.new.items ≡ gained 1 (bound_in list.old) ((worker, call) ∷ []) replies.old.items) }
+    ensures bindings { OnOk result
+        (bound_in list.new ≡ bindings_of (bound_in list.old) ((worker, call) ∷ [])) }
     ensures length { length list.new ≤ length list.old + 1 }
 {
     list.answer(call, &mut replies[worker as usize - 1])

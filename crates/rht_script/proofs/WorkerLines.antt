@@ -37,7 +37,8 @@ line_at worker (ending ∷ endings) (suc i) reply owners pairs within same_reply
 
 -- workers are counted from 1
 pub worker_at : (workers : List (List Ending)) (i : ℕ) (endings : List Ending) → i < length workers
-    → endings ≡ get_or workers i endings → slice_get (enumerate_from 1 workers) i ≡ Some (i + 1, endings)
+    → endings ≡ get_or workers i endings
+    → slice_get (enumerate_from 1 workers) i ≡ Some (i + 1, endings)
 worker_at workers i endings within here =
     let counted : i < length (enumerate_from 1 workers) = omega (arith, length-enumerate_from 1 workers) in
     let number : 1 + i ≡ i + 1 = omega arith in
@@ -53,7 +54,8 @@ all_workers workers i all =
     ap (flat_map worker_text) (take_all i (enumerate_from 1 workers) (omega (arith, length-enumerate_from 1 workers)))
 
 -- the text of a run is the lines of its workers and those of what was closed
-pub run_text-parts : (workers : List (List Ending)) (closed : Closed) → closed.keys ≡ length closed.bindings.pairs
+pub run_text-parts : (workers : List (List Ending)) (closed : Closed)
+    → closed.keys ≡ length closed.bindings.pairs
     → flat_map worker_text (enumerate_from 1 workers) ++ closed_text closed ≡ run_text workers closed.bindings.pairs closed.size
 run_text-parts workers closed counted =
     ap (λ keys. flat_map worker_text (enumerate_from 1 workers) ++ (flat_map port_line closed.bindings.pairs ++ last_line closed.size keys)) counted

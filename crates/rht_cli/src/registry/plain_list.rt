@@ -52,25 +52,25 @@ impl PlainList {
             (bound_in self.new ≡ bindings_after Single (bound_in self.old) call) }
         ensures length { length self.new ≤ length self.old + 1 }
     {
-        match call {
+        let reply = match call {
             Call::Bind {
                 port,
                 owner,
                 once: _,
-            } => replies.push(self.bind(port, owner)?, &[], &[]),
-            Call::Find { port } => replies.push(self.find(port), &[], &[]),
-            Call::All { port } => self.list(port, replies),
-            Call::Release { port, owner } => replies.push(self.release(port, owner), &[], &[]),
-            Call::Rebind { port, owner, new } => {
-                replies.push(self.rebind(port, owner, new), &[], &[])
-            }
-            Call::Walk { .. } | Call::Work | Call::Tidy | Call::Count => Ok(()),
-        }
+            } => self.bind(port, owner)?,
+            Call::Find { port } => self.find(port),
+            Call::All { port } => return self.list(port, replies),
+            Call::Release { port, owner } => self.release(port, owner),
+            Call::Rebind { port, owner, new } => self.rebind(port, owner, new),
+            Call::Walk { .. } | Call::Work | Call::Tidy | Call::Count => return Ok(()),
+        };
+        replies.push(reply, &[], &[])
     }
 
     fn bind(&mut self, port: Port, owner: u32) -> Result<Reply, AllocError>
         ensures reply { IfOk result (λ reply. reply ≡ bind_reply Single (bound_in self.old port)) }
-        ensures bindings { OnOk result (bound_in self.new ≡ with_owners (bound_in self.old) port (owners_bound Single owner (bound_in self.old port))) }
+        ensures bindings { OnOk result (bound_in self.new ≡ with_owners (bound_in self.old) port
+            (owners_bound Single owner (bound_in self.old port))) }
         ensures length { length self.new ≤ length self.old + 1 }
         ensures err { OnErr result (self.new ≡ self.old) }
     {
@@ -95,7 +95,8 @@ impl PlainList {
 
     fn release(&mut self, port: Port, owner: u32) -> Reply
         ensures reply { result ≡ release_reply owner (bound_in self.old port) }
-        ensures bindings { bound_in self.new ≡ with_owners (bound_in self.old) port (owners_released owner (bound_in self.old port)) }
+        ensures bindings { bound_in self.new ≡ with_owners (bound_in self.old) port
+            (owners_released owner (bound_in self.old port)) }
         ensures length { length self.new ≤ length self.old }
     {
         let (place, bound) = self.search(port);

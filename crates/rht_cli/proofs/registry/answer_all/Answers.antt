@@ -7,7 +7,7 @@ use Rattle.rht_model.specs.declared.history.Call.{Call}
 use Rattle.rht_model.specs.declared.history.Call.TheVariants.{Bind}
 use Rattle.rht_model.specs.Answers.{bindings_after}
 use Rattle.rht_cli.specs.Pairs.{bound_in}
-use Rattle.rht_cli.specs.Outcomes.{gained, bindings_of, IsWorkersCommand}
+use Rattle.rht_cli.specs.Outcomes.{gained, IsWorkersCommand}
 use Rattle.rht_cli.proofs.GainedEndings.{gained-step, gained-none, length-gained, bindings_of-step, workers-next}
 use Rattle.rht_cli.proofs.registry.answer_all.Goals as goal
 

@@ -1,4 +1,4 @@
-use Rattle.std.proofs.Common.{◌≡◌, ℕ, [], length, sym, ap, subst, ◌∙◌, replicate}
+use Rattle.std.proofs.Common.{◌≡◌, ℕ, [], length, sym, ap, subst, ◌∙◌}
 use Rattle.std.specs.List.{AllByRecursion}
 use Rattle.std.proofs.lemmas.List.{length-replicate}
 use Rattle.rht_model.specs.Multimap.{Multimap, unbound}
