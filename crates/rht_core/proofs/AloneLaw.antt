@@ -13,7 +13,7 @@ use Rattle.rht_core.proofs.AloneRuns.{meets_alone}
 
 module _ (M : Type 0) (mix : ℕ → ℕ → ℕ → ℕ) where
   pub alone : Alone M mix
-  alone env start c call count past admitted quiet more =
+  alone env start c port call count past about admitted quiet more =
       let after = start ++ call_events M mix c call count in
       let parts =
       AllByRecursion-cut (IsAdmittedEvent env.config.kind) start (call_events M mix c call count) admitted in
@@ -24,7 +24,7 @@ module _ (M : Type 0) (mix : ℕ → ℕ → ℕ → ℕ) where
       ∙ map-append (λ (p : Past). p.done) ((traced_of {M = M} mix env start).traces c).past (past ∷ [])
       ∙ ap (λ l. l ++ past.done ∷ []) ((was.traces c).past ∙ ap (λ (w : World M). (w.books c).finished) was.world) in
       record {
-        model = meets_alone M mix env start c call count past.done quiet parts.1.0.1 finished;
+        model = meets_alone M mix env start c call port about count past.done quiet admitted finished;
         cause = AllByRecursion-last (HasCause M mix env after c) ((traced_of {M = M} mix env start).traces c).past past
             (subst (AllByRecursion (HasCause M mix env after c)) more (causes M mix env after c admitted));
       }

@@ -1,46 +1,43 @@
--- A call alone meets the model: by induction over its operations, either it hasn't ended, and the bindings are those before it,
+-- A call alone meets the model: by induction over its operations, either it hasn't ended, and what is known of its answer is so,
 -- or it has ended, and meets the model; and further steps of a caller that is idle change nothing.
-use Rattle.std.proofs.Common.{◌≡◌, ℕ, zero, suc, ◌+◌, ◌^◌, ◌<◌, List, [], ◌∷◌, ◌++◌, length, replicate, Option, Some, None, true, cond, refl, sym, ◌∙◌, ap, subst, inl, inr, ◌⊎◌, nat_lt, arith}
+use Rattle.std.proofs.Common.{◌≡◌, ℕ, zero, suc, ◌+◌, ◌<◌, List, [], ◌∷◌, ◌++◌, length, replicate, Option, Some, None, Bool, true, cond, refl, sym, ◌∙◌, ap, subst, inl, inr, ◌⊎◌, nat_lt, arith}
 use Rattle.std.proofs.lemmas.List.{append_cancel_left, append_assoc, append-nil, replicate-append-replicate}
 use Rattle.rht_words.specs.declared.env.Env.{Env}
 use Rattle.rht_words.specs.declared.op.Op.{Op}
 use Rattle.rht_words.specs.declared.config.Kind.{Kind}
-use Rattle.rht_words.specs.declared.config.Kind.TheVariants.{Single}
 use Rattle.rht_words.specs.declared.machine.Next.{Next}
 use Rattle.rht_words.specs.declared.machine.Next.TheVariants.{Go, Done}
 use Rattle.rht_words.specs.Operations.{old_of, applied}
-use Rattle.rht_words.specs.Places.{words_in}
+use Rattle.rht_words.proofs.EachElement.{AllByRecursion-cut}
 use Rattle.rht_model.specs.declared.history.Call.{Call}
-use Rattle.rht_model.specs.declared.history.Call.TheVariants as calls
 use Rattle.rht_model.specs.declared.history.Reply.{Reply}
 use Rattle.rht_model.specs.declared.finished.Finished.{Finished}
 use Rattle.rht_model.specs.Endings.{Ending, ended_with}
 use Rattle.rht_model.specs.Multimap.{Multimap, Agree}
-use Rattle.rht_find.specs.Find.{FindModel, find_new, find_plan}
-use Rattle.rht_find.specs.Find as find_at
-use Rattle.rht_find.specs.declared.find.FindAt.{FindAt}
-use Rattle.rht_bind.specs.Bind.{BindModel, bind_new, bind_plan}
-use Rattle.rht_bind.specs.Bind as bind_at
-use Rattle.rht_bind.specs.declared.bind.BindAt.{BindAt}
+use Rattle.rht_model.specs.Answers.{port_of}
 use Rattle.rht_core.specs.declared.event.Event.{Event}
 use Rattle.rht_core.specs.declared.event.Event.TheVariants.{Begin, Step as StepOf}
+use Rattle.rht_core.specs.declared.local.Local.{Local}
 use Rattle.rht_core.specs.declared.local.Doing.{Doing}
-use Rattle.rht_core.specs.declared.local.Doing.TheVariants.{Idle, Finding, Binding}
-use Rattle.rht_core.specs.Locals.{does_nothing, is_idle, machine_of, plan_of, doing_plan, doing_after, ending_of, found_next, bound_next}
-use Rattle.rht_core.specs.declared.book.Book.{Book}
-use Rattle.rht_core.specs.Runs.{World, Seen, seen, local_of, planned_in, beginning_in, world_step, run_of, IsSound, IsAdmittedCall, book_after, finished_with}
+use Rattle.rht_core.specs.Locals.{is_idle, machine_of, plan_of, local_after, ending_of}
+use Rattle.rht_core.specs.Jobs.{Job, call_of, job_of, job_plan, job_after, told, held_of, held_next}
+use Rattle.rht_core.specs.Runs.{World, Seen, IsAdmitted, IsAdmittedEvent, seen, local_of, planned_in, beginning_in, world_step, run_of, book_after, finished_with}
 use Rattle.rht_core.specs.Laws.{seen_begin, seen_step}
 use Rattle.rht_core.specs.StandsFor.{stands_for}
-use Rattle.rht_core.specs.Alone.{MeetsModel, IsQuiet, bindings_at, call_events}
-use Rattle.rht_core.proofs.CallBeginnings.{begins_so, idle_plans}
+use Rattle.rht_core.specs.Alone.{entry_done, MeetsModel, IsQuiet, bindings_at, call_events}
+use Rattle.rht_core.proofs.CallBeginnings.{idle_plans}
+use Rattle.rht_core.proofs.JobsOfCallers.{is_no_job, HasNoLists, same_call, nothing-job, job-plans, first_unknown, first_job-machine, local_after-job}
 use Rattle.rht_core.proofs.Worlds.{beginning-some, planned-enrolled, run_of-push, begin_none, begin_self, step_none, step_self, step_words}
-use Rattle.rht_core.proofs.Steps.{by_test, mem}
-use Rattle.rht_core.proofs.FirstBuckets.{home-within}
-use Rattle.rht_core.proofs.Invariants.{CallerKnows}
-use Rattle.rht_core.proofs.InvariantRuns.{HasInv, has_inv, sound_in}
-use Rattle.rht_core.proofs.AloneSteps.{bind_progress, BindAlone, bind_alone, find_progress, FindAlone, find_alone}
+use Rattle.rht_core.proofs.SoundRuns.{has_place, made_in}
+use Rattle.rht_core.proofs.Theory.Answering.{Says}
+use Rattle.rht_core.proofs.Theory.Steps.{by_test, mem, owners, ghost_after}
+use Rattle.rht_core.proofs.Events.Invariants.{step_of}
+use Rattle.rht_core.proofs.Events.InvariantRuns.{HasInv, has_inv}
+use Rattle.rht_core.proofs.Meaning.BoundPorts.{stands_for_bound}
+use Rattle.rht_core.proofs.Histories.Meeting.{Meets, Meets-agree, meets_next}
 
-module _ (L : Type 0) (mix : ℕ → ℕ → ℕ → ℕ) (env : Env) (start : List Event) (c : ℕ) (call : Call) where
+module _ (L : Type 0) (mix : ℕ → ℕ → ℕ → ℕ) (env : Env) (start : List Event) (c : ℕ) (call : Call) (port : ℕ)
+    (about : port_of call ≡ Some port) where
   -- the world after some events
   abbrev world : List Event → World L
   world events = run_of mix env events
@@ -55,17 +52,17 @@ module _ (L : Type 0) (mix : ℕ → ℕ → ℕ → ℕ) (env : Env) (start : L
   abbrev kind : Kind
   kind = env.config.kind
 
-  -- what the caller does is this call, and what its state says of the reply is so
-  abbrev IsDoing : Doing L → Type 0
-  IsDoing Idle = ⊥
-  IsDoing (Finding m) = (call ≡ calls.Find m.port) × find_progress before kind m.port m.at
-  IsDoing (Binding m) =
-      (call ≡ calls.Bind m.port m.owner m.once) × (m.owner < 2 ^ 32) × (kind ≡ Single) × bind_progress before call m.at
+  -- what is known of the call's answer is so
+  abbrev Known : Multimap → Job → Type 0
+  Known now job = Meets kind c call port about before now (held_of job).answer
 
-  -- the call goes on, and has changed nothing
+  -- the call goes on
   record Going (events : List Event) : Type 0 where
-    agree : Agree (bindings_at L mix env events) before
-    doing : IsDoing (local_of (world events).core c).doing
+    job : Job
+    does : job_of (local_of (world events).core c).doing ≡ Some job
+    asked : call_of job ≡ call
+    known : Known (bindings_at L mix env events) job
+    none : HasNoLists (local_of (world events).core c)
     enrolled : c < (world events).core.enrolled
     book : ((world events).books c).call ≡ Some call
     past : ((world events).books c).finished ≡ old
@@ -75,7 +72,7 @@ module _ (L : Type 0) (mix : ℕ → ℕ → ℕ → ℕ) (env : Env) (start : L
     done : Finished
     idle : is_idle (local_of (world events).core c) ≡ true
     past : ((world events).books c).finished ≡ old ++ done ∷ []
-    meets : MeetsModel kind before (bindings_at L mix env events) call done.reply
+    meets : MeetsModel kind before (bindings_at L mix env events) (entry_done c done)
 
   -- the call hasn't begun
   record Never (events : List Event) : Type 0 where
@@ -111,7 +108,7 @@ module _ (L : Type 0) (mix : ℕ → ℕ → ℕ → ℕ) (env : Env) (start : L
         idle = ap (λ (w : World L). is_idle (local_of w.core c)) same ∙ e.idle;
         past = ap (λ (w : World L). (w.books c).finished) same ∙ e.past;
         meets =
-            subst (λ (w : World L). MeetsModel kind before (stands_for env.geometry w.core.words) call e.done.reply) (sym same) e.meets;
+            subst (λ (w : World L). MeetsModel kind before (stands_for env.geometry w.core.words) (entry_done c e.done)) (sym same) e.meets;
       }
 
   never_stays : (events : List Event) → Never events → Never (next events)
@@ -124,7 +121,7 @@ module _ (L : Type 0) (mix : ℕ → ℕ → ℕ → ℕ) (env : Env) (start : L
 
   -- ---- a step of the call
 
-  module _ (events : List Event) (going : Going events) where
+  module _ (events : List Event) (admitted : IsAdmitted kind events) (going : Going events) where
     abbrev w : World L
     w = world events
 
@@ -132,126 +129,101 @@ module _ (L : Type 0) (mix : ℕ → ℕ → ℕ → ℕ) (env : Env) (start : L
     words = w.core.words
 
     abbrev has : HasInv env mix L w.core
-    has = has_inv env mix L events
+    has = has_inv env mix L events admitted
 
-    abbrev sound : IsSound w.core
-    sound = sound_in env mix L events
+    abbrev local : Local L
+    local = local_of w.core c
 
-    all : length words ≡ words_in env.geometry
-    all = subst (λ e. length words ≡ words_in e.geometry) has.inv.same_env sound.all_words
+    abbrev op : Op
+    op = job_plan env going.job
 
-    low : c < env.geometry.callers
-    low = subst (λ e. c < e.geometry.callers) has.inv.same_env (omega (arith, going.enrolled, sound.few_enrolled))
+    plan : plan_of local ≡ Some op
+    plan = job-plans L env local.doing going.job (has.all.stays.locals_of c) going.does
 
-    below : c < length w.core.locals
-    below = omega (arith, going.enrolled, sound.few_enrolled, sound.all_locals)
-
-    plans : (op : Op) → plan_of (local_of w.core c) ≡ Some op
-        → planned_in w.core c ≡ Some op
-    plans op is = planned-enrolled w.core.env w.core.enrolled w.core.locals c going.enrolled ∙ is
+    plans : planned_in w.core c ≡ Some op
+    plans = planned-enrolled w.core.env w.core.enrolled w.core.locals c going.enrolled ∙ plan
 
     -- the world after the operation, as its caller sees it
-    seen_after : (op : Op) → plan_of (local_of w.core c) ≡ Some op
-        → ◌≡◌ {A = Seen L} (seen (world (next events)) c) (seen_step mix (old_of words op) (seen w c))
-    seen_after op is = ap (λ (v : World L). seen v c) (pushed events) ∙ step_self L mix w c op (plans op is) below
+    seen_after : ◌≡◌ {A = Seen L} (seen (world (next events)) c) (seen_step mix (old_of words op) (seen w c))
+    seen_after = ap (λ (v : World L). seen v c) (pushed events) ∙ step_self L mix w c op plans (has_place L mix env w.core c has.all.stays going.enrolled)
 
-    words_after : (op : Op) → plan_of (local_of w.core c) ≡ Some op
-        → (world (next events)).core.words ≡ applied words op
-    words_after op is = ap (λ (v : World L). v.core.words) (pushed events) ∙ step_words L mix w c op (plans op is)
+    words_after : (world (next events)).core.words ≡ applied words op
+    words_after = ap (λ (v : World L). v.core.words) (pushed events) ∙ step_words L mix w c op plans
 
-    still_enrolled : (op : Op) → plan_of (local_of w.core c) ≡ Some op
-        → c < (world (next events)).core.enrolled
-    still_enrolled op is =
-        subst (λ (v : World L). c < v.core.enrolled) (sym (pushed events)) (rw (plans op is) going.enrolled)
+    still_enrolled : c < (world (next events)).core.enrolled
+    still_enrolled = subst (λ (v : World L). c < v.core.enrolled) (sym (pushed events)) (rw plans going.enrolled)
 
-    -- the book after this has become of what the caller does
-    abbrev book_told : Doing L × Option Reply → Book
-    book_told next = book_after (ending_of (record (local_of w.core c) { doing = next.0 }) next.1) (w.books c)
+    -- what is left of the job, and how the call has ended
+    abbrev r : Job × Next Ending
+    r = job_after mix env going.job (old_of words op)
 
-    -- the call with which it ends
-    abbrev ending : Reply → Ending
-    ending reply =
-        record {
-          answer = record { reply = reply; owners = (local_of w.core c).owners.items };
-          pairs = (local_of w.core c).pairs.items;
-        }
+    left : let after = local_after mix local (old_of words op) in
+        ◌≡◌ {A = Option Job × Option Ending} (job_of after.0.doing, ending_of after.0 after.1) (told r)
+    left = local_after-job mix env local going.job (old_of words op) going.none (has.all.stays.locals_of c) going.does
 
-    -- the call goes on
-    goes_on : (op : Op) (doing : Doing L) → plan_of (local_of w.core c) ≡ Some op
-        → doing_after mix (local_of w.core c).doing (old_of words op) ≡ (doing, None)
-        → IsDoing doing → Agree (stands_for env.geometry (applied words op)) before → Status (next events)
-    goes_on op local is after doing agree =
-        let here = seen_after op is in
-        inl (record {
-          agree = subst (λ ws. Agree (stands_for env.geometry ws) before) (sym (words_after op is)) agree;
-          doing = subst IsDoing (sym (ap (λ (s : Seen L). s.local.doing) here ∙ ap (λ p. p.0) after)) doing;
-          enrolled = still_enrolled op is;
-          book =
-              ap (λ (s : Seen L). s.book.call) here ∙ ap (λ p. (book_told p).call) after ∙ going.book;
-          past =
-              ap (λ (s : Seen L). s.book.finished) here ∙ ap (λ p. (book_told p).finished) after ∙ going.past;
-        })
-
-    -- the call ends
-    ends_now : (op : Op) (reply : Reply) → plan_of (local_of w.core c) ≡ Some op
-        → ◌≡◌ {A = Doing L × Option Reply} (doing_after mix (local_of w.core c).doing (old_of words op)) (Idle, Some reply)
-        → MeetsModel kind before (stands_for env.geometry (applied words op)) call reply
-        → Status (next events)
-    ends_now op reply is after meets =
-        let here = seen_after op is in
-        inr (inl (record {
-          done = ended_with call (ending reply);
-          idle = ap (λ (s : Seen L). is_idle s.local) here ∙ ap (λ p. does_nothing p.0) after;
-          past = ap (λ (s : Seen L). s.book.finished) here ∙ ap (λ p. (book_told p).finished) after
-              ∙ ap (λ o. (w.books c).finished ++ finished_with o (ending reply)) going.book
-              ∙ ap (λ f. f ++ ended_with call (ending reply) ∷ []) going.past;
-          meets =
-              subst (λ ws. MeetsModel kind before (stands_for env.geometry ws) call reply) (sym (words_after op is)) meets;
-        }))
-
-    found_on : (m : FindModel) → (local_of w.core c).doing ≡ Finding m → (r : FindAt × Next Reply)
-        → r ≡ find_at.after_at mix m.env m.port m.at (old_of words (find_plan m))
-        → (call ≡ calls.Find m.port) → FindAlone env before kind m.port r (applied words (find_plan m))
-        → Status (next events)
-    found_on m is (at, Go) r same alone =
-        goes_on (find_plan m) (Finding (record m { at = at })) (ap doing_plan is)
-        (ap (λ d. doing_after mix d (old_of words (find_plan m))) is ∙ ap (λ q. found_next (record m { at = q.0 }, q.1)) (sym r)) (same, alone.1) alone.0
-    found_on m is (at, Done reply) r same alone =
-        ends_now (find_plan m) reply (ap doing_plan is)
-        (ap (λ d. doing_after mix d (old_of words (find_plan m))) is ∙ ap (λ q. found_next (record m { at = q.0 }, q.1)) (sym r)) (rw same alone)
-
-    bound_on : (m : BindModel) → (local_of w.core c).doing ≡ Binding m → (r : BindAt × Next Reply)
-        → r ≡ bind_at.after_at mix m.env m.port m.at (old_of words (bind_plan m))
-        → (call ≡ calls.Bind m.port m.owner m.once) → m.owner < 2 ^ 32 → kind ≡ Single
-        → BindAlone env before (calls.Bind m.port m.owner m.once) r (applied words (bind_plan m))
-        → Status (next events)
-    bound_on m is (at, Go) r same small single alone =
-        goes_on (bind_plan m) (Binding (record m { at = at })) (ap doing_plan is)
-        (ap (λ d. doing_after mix d (old_of words (bind_plan m))) is ∙ ap (λ q. bound_next (record m { at = q.0 }, q.1)) (sym r)) (same, small, single, rw same alone.1) alone.0
-    bound_on m is (at, Done reply) r same small single alone =
-        ends_now (bind_plan m) reply (ap doing_plan is)
-        (ap (λ d. doing_after mix d (old_of words (bind_plan m))) is ∙ ap (λ q. bound_next (record m { at = q.0 }, q.1)) (sym r)) (subst (λ k. MeetsModel k before (stands_for env.geometry (applied words (bind_plan m))) call reply) (sym single) (subst (λ a. MeetsModel Single before (stands_for env.geometry (applied words (bind_plan m))) a reply) (sym same) alone))
+    -- what is known of the answer now
+    known_after : Meets kind c call port about before (stands_for env.geometry (applied words op)) (held_next r).answer
+    known_after =
+        let of = step_of env mix L w.core has.ghost c op has.all has.inv plans in
+        let same : of.job ≡ going.job = (let e = sym of.is ∙ going.does in cc) in
+        let M = mem env mix words in
+        let G = has.ghost in
+        let step = of.step in
+        let M' = mem env mix (applied words op) in
+        let G' = ghost_after env mix c step.move G in
+        let now = Meets-agree kind c call port about before (stands_for env.geometry words) (owners env mix M G) (held_of going.job).answer
+            (λ p. sym (stands_for_bound env mix words G has.inv.whole p)) going.known in
+        let asked : call_of of.job ≡ call = ap call_of same ∙ going.asked in
+        let says = subst (λ a. Says kind c a (owners env mix M G) (owners env mix M' G') (held_of of.job).answer (held_next (job_after mix env of.job (old_of words op))).answer) asked step.says in
+        let then = meets_next kind c call port about before (owners env mix M G) (owners env mix M' G') (held_of of.job).answer
+            (held_next (job_after mix env of.job (old_of words op))).answer says
+            (subst (λ (j : Job). Meets kind c call port about before (owners env mix M G) (held_of j).answer) (sym same) now) in
+        let there = Meets-agree kind c call port about before (owners env mix M' G') (stands_for env.geometry (applied words op))
+            (held_next (job_after mix env of.job (old_of words op))).answer
+            (λ p. stands_for_bound env mix (applied words op) G' step.made.whole p) then in
+        subst (λ (j : Job). Meets kind c call port about before (stands_for env.geometry (applied words op)) (held_next (job_after mix env j (old_of words op))).answer) same there
 
     going_on : Status (next events)
-    going_on = go (local_of w.core c).doing refl going.doing (has.inv.each c)
+    going_on = go r refl
       where
-        go : (doing : Doing L) → (local_of w.core c).doing ≡ doing → IsDoing doing
-            → CallerKnows env mix L c doing (mem env mix words) has.ghost → Status (next events)
-        go Idle is doing knows = absurd doing
-        go (Finding m) is doing knows =
-            found_on m is (find_at.after_at mix m.env m.port m.at (old_of words (find_plan m))) refl doing.0
-            (subst (λ e. FindAlone env before kind m.port (find_at.after_at mix e m.port m.at (old_of words (find_at.plan_at e m.at))) (applied words (find_at.plan_at e m.at))) (sym knows.0)
-            (find_alone env mix c m.port before words has.ghost all has.inv.whole low (home-within env mix m.port) going.agree kind m.at knows.1 doing.1))
-        go (Binding m) is doing knows =
-            bound_on m is (bind_at.after_at mix m.env m.port m.at (old_of words (bind_plan m))) refl doing.0 doing.1 doing.2
-            (subst (λ e. BindAlone env before (calls.Bind m.port m.owner m.once) (bind_at.after_at mix e m.port m.at (old_of words (bind_at.plan_at e m.at))) (applied words (bind_at.plan_at e m.at))) (sym knows.0)
-            (bind_alone env mix c m.port before words has.ghost all has.inv.whole low (home-within env mix m.port) going.agree m.owner m.once doing.1 m.at knows.1 (rw doing.0 at doing.3)))
+        after : Local L × Option Reply
+        after = local_after mix local (old_of words op)
+
+        go : (q : Job × Next Ending) → r ≡ q → Status (next events)
+        go (job, Go) is =
+            let here = seen_after in
+            let l = left ∙ ap told is in
+            inl (record {
+              job = job;
+              does = ap (λ (s : Seen L). job_of s.local.doing) here ∙ ap (λ p. p.0) l;
+              asked = ap (λ q. call_of q.0) (sym is) ∙ same_call mix env going.job (old_of words op) ∙ going.asked;
+              known =
+                  subst (λ ws. Known (stands_for env.geometry ws) job) (sym words_after)
+                  (subst (λ (q : Job × Next Ending). Meets kind c call port about before (stands_for env.geometry (applied words op)) (held_next q).answer) is known_after);
+              none = subst (λ (s : Seen L). HasNoLists s.local) (sym here) (record { owners = going.none.owners; pairs = going.none.pairs });
+              enrolled = still_enrolled;
+              book = ap (λ (s : Seen L). s.book.call) here ∙ ap (λ p. (book_after p.1 (w.books c)).call) l ∙ going.book;
+              past = ap (λ (s : Seen L). s.book.finished) here ∙ ap (λ p. (book_after p.1 (w.books c)).finished) l ∙ going.past;
+            })
+        go (job, Done ending) is =
+            let here = seen_after in
+            let l = left ∙ ap told is in
+            inr (inl (record {
+              done = ended_with call ending;
+              idle = ap (λ (s : Seen L). is_idle s.local) here ∙ nothing-job after.0.doing ∙ ap (λ p. is_no_job p.0) l;
+              past = ap (λ (s : Seen L). s.book.finished) here ∙ ap (λ p. (book_after p.1 (w.books c)).finished) l
+                  ∙ ap (λ o. (w.books c).finished ++ finished_with o ending) going.book
+                  ∙ ap (λ f. f ++ ended_with call ending ∷ []) going.past;
+              meets =
+                  subst (λ ws. MeetsModel kind before (stands_for env.geometry ws) (entry_done c (ended_with call ending))) (sym words_after)
+                  (subst (λ (q : Job × Next Ending). Meets kind c call port about before (stands_for env.geometry (applied words op)) (held_next q).answer) is known_after);
+            }))
 
   -- each step keeps what there is to say
-  status_next : (events : List Event) → Status events → Status (next events)
-  status_next events (inl going) = going_on events going
-  status_next events (inr (inl ended)) = inr (inl (ended_stays events ended))
-  status_next events (inr (inr never)) = inr (inr (never_stays events never))
+  status_next : (events : List Event) → IsAdmitted kind events → Status events → Status (next events)
+  status_next events admitted (inl going) = going_on events admitted going
+  status_next events admitted (inr (inl ended)) = inr (inl (ended_stays events ended))
+  status_next events admitted (inr (inr never)) = inr (inr (never_stays events never))
 
   -- ---- the call from its beginning on
 
@@ -261,15 +233,8 @@ module _ (L : Type 0) (mix : ℕ → ℕ → ℕ → ℕ) (env : Env) (start : L
   pushed_begin : ◌≡◌ {A = World L} (world began) (world_step mix (world start) (Begin c call))
   pushed_begin = run_of-push L mix env start (Begin c call)
 
-  -- a call whose numbers are in range begins with what its machine's first state says
-  first_doing : IsAdmittedCall call → (machine : Doing L) → machine_of env c call ≡ Some machine
-      → IsDoing machine
-  first_doing small machine is =
-      begins_so L env c (λ asked first. call ≡ asked → IsAdmittedCall asked → IsDoing first) (λ port e l. (e, tt)) (λ port owner once single e l. (e, l.1, single, tt))
-      call machine is refl small
-
-  first_status : IsQuiet L mix env start → IsAdmittedCall call → Status began
-  first_status quiet small = go (beginning_in w0.core c call) refl
+  first_status : IsQuiet L mix env start → IsAdmitted kind start → Status began
+  first_status quiet admitted = go (beginning_in w0.core c call) refl
     where
       w0 : World L
       w0 = world start
@@ -287,53 +252,57 @@ module _ (L : Type 0) (mix : ℕ → ℕ → ℕ → ℕ) (env : Env) (start : L
       go (Some machine) is =
           let can =
           beginning-some (world start).core.env (world start).core.enrolled (world start).core.locals c call machine is in
-          let sound = sound_in env mix L start in
-          let low : c < length (world start).core.locals =
-          omega (arith, can.below, sound.few_enrolled, sound.all_locals) in
+          let has = has_inv env mix L start admitted in
+          let low = has_place L mix env (world start).core c has.all.stays can.below in
           let here : ◌≡◌ {A = Seen L} (seen (world began) c) (seen_begin call machine (seen (world start) c))
           = ap (λ (v : World L). seen v c) pushed_begin ∙ begin_self L mix (world start) c call machine is low in
-          let inv = (has_inv env mix L start).inv in
+          let first = first_job-machine env c call machine (made_in L mix env (world start).core c call machine has.all.stays can) in
           inl (record {
-            agree = λ port. ap (λ (v : World L). stands_for env.geometry v.core.words port) pushed_begin;
-            doing =
-                subst IsDoing (sym (ap (λ (s : Seen L). s.local.doing) here)) (first_doing small machine (rw (sym inv.same_env) can.machine_is));
+            job = first.job;
+            does = ap (λ (s : Seen L). job_of s.local.doing) here ∙ first.does;
+            asked = first.asked;
+            known =
+                let unknown : (held_of first.job).answer ≡ None = first_unknown env call first.job first.first in
+                rw unknown (λ p. ap (λ (v : World L). stands_for env.geometry v.core.words p) pushed_begin);
+            none = subst (λ (s : Seen L). HasNoLists s.local) (sym here) (record { owners = refl; pairs = refl });
             enrolled = subst (λ (v : World L). c < v.core.enrolled) (sym pushed_begin) can.below;
             book = ap (λ (s : Seen L). s.book.call) here;
             past = ap (λ (s : Seen L). s.book.finished) here;
           })
 
   -- after so many steps
-  status_after : (count : ℕ) → IsQuiet L mix env start → IsAdmittedCall call
+  status_after : (count : ℕ) → IsQuiet L mix env start → IsAdmitted kind (began ++ replicate count (StepOf c))
       → Status (began ++ replicate count (StepOf c))
-  status_after zero quiet small = subst Status (sym (append-nil began)) (first_status quiet small)
-  status_after (suc count) quiet small =
-      subst Status (append_assoc began (replicate count (StepOf c)) (StepOf c ∷ []) ∙ ap (λ l. began ++ l) (one_more count))
-      (status_next (began ++ replicate count (StepOf c)) (status_after count quiet small))
+  status_after zero quiet admitted =
+      subst Status (sym (append-nil began)) (first_status quiet
+      (AllByRecursion-cut (IsAdmittedEvent kind) start (Begin c call ∷ []) (AllByRecursion-cut (IsAdmittedEvent kind) began [] admitted).0).0)
+  status_after (suc count) quiet admitted =
+      let same = append_assoc began (replicate count (StepOf c)) (StepOf c ∷ []) ∙ ap (λ l. began ++ l) (one_more count) in
+      let fewer = (AllByRecursion-cut (IsAdmittedEvent kind) (began ++ replicate count (StepOf c)) (StepOf c ∷ []) (subst (IsAdmitted kind) (sym same) admitted)).0 in
+      subst Status same (status_next (began ++ replicate count (StepOf c)) fewer (status_after count quiet fewer))
     where
       one_more : (n : ℕ) → replicate n (StepOf c) ++ StepOf c ∷ [] ≡ replicate (suc n) (StepOf c)
       one_more n =
           replicate-append-replicate n 1 (StepOf c) ∙ ap (λ k. replicate k (StepOf c)) {x = n + 1} {y = suc n} (omega arith)
 
   -- a call that has ended meets the model
-  pub meets_alone : (count : ℕ) (done : Finished) → IsQuiet L mix env start → IsAdmittedCall call
+  pub meets_alone : (count : ℕ) (done : Finished) → IsQuiet L mix env start
+      → IsAdmitted kind (start ++ call_events L mix c call count)
       → ((world (start ++ call_events L mix c call count)).books c).finished ≡ old ++ done ∷ []
-      → MeetsModel kind before (bindings_at L mix env (start ++ call_events L mix c call count)) call done.reply
-  meets_alone count done quiet small is =
+      → MeetsModel kind before (bindings_at L mix env (start ++ call_events L mix c call count)) (entry_done c done)
+  meets_alone count done quiet admitted is =
       let same : began ++ replicate count (StepOf c) ≡ start ++ call_events L mix c call count =
       append_assoc start (Begin c call ∷ []) (replicate count (StepOf c)) in
-      go (subst Status same (status_after count quiet small))
+      go (subst Status same (status_after count quiet (subst (IsAdmitted kind) (sym same) admitted)))
     where
-      after : List Event
-      after = start ++ call_events L mix c call count
-
       go : Status (start ++ call_events L mix c call count)
-          → MeetsModel kind before (bindings_at L mix env (start ++ call_events L mix c call count)) call done.reply
+          → MeetsModel kind before (bindings_at L mix env (start ++ call_events L mix c call count)) (entry_done c done)
       go (inl going) =
           let e : old ++ [] ≡ old ++ done ∷ [] = append-nil old ∙ sym going.past ∙ is in let q = append_cancel_left old [] (done ∷ []) e in absurd (cc)
       go (inr (inl ended)) =
           let e : ended.done ∷ [] ≡ done ∷ [] =
           append_cancel_left old (ended.done ∷ []) (done ∷ []) (sym ended.past ∙ is) in
           let same : ended.done ≡ done = (cc) in
-          subst (λ r. MeetsModel kind before (bindings_at L mix env (start ++ call_events L mix c call count)) call r) (ap (λ f. f.reply) same) ended.meets
+          subst (λ d. MeetsModel kind before (bindings_at L mix env (start ++ call_events L mix c call count)) (entry_done c d)) same ended.meets
       go (inr (inr never)) =
           let e : old ++ [] ≡ old ++ done ∷ [] = append-nil old ∙ sym never.past ∙ is in let q = append_cancel_left old [] (done ∷ []) e in absurd (cc)

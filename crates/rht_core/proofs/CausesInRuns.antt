@@ -18,23 +18,25 @@ use Rattle.rht_words.specs.declared.geometry.Geometry.{Geometry}
 use Rattle.rht_words.specs.declared.machine.Next.{Next}
 use Rattle.rht_words.specs.declared.machine.Next.TheVariants.{Go, Done}
 use Rattle.rht_words.specs.Operations.{old_of}
-use Rattle.rht_words.specs.Ports.{word_of}
 use Rattle.rht_words.specs.Places.{PortCount, place_of}
 use Rattle.rht_words.proofs.EachElement.{Any-append_left}
 use Rattle.rht_policy.specs.Sizes.{most_ports}
 use Rattle.rht_policy.specs.Thresholds.{is_above_max}
 use Rattle.rht_model.specs.declared.history.Reply.{Reply}
 use Rattle.rht_model.specs.declared.history.Reply.TheVariants.{NoNode, TooBig, Found, Missing, Again, Busy, NoTable}
-use Rattle.rht_arena.specs.TakeNode.{TakeNodeModel, take_node_after, IsTakeAtIn}
-use Rattle.rht_arena.specs.NewNode.{NewNodeModel, new_node_plan_at, new_node_after_at, node_taken, node_of_new}
+use Rattle.rht_arena.specs.TakeNode.{TakeNodeModel, take_node_after, IsTakeAtIn, IsTakeIn}
+use Rattle.rht_arena.specs.NewNode.{NewNodeModel, new_node_plan_at, new_node_after_at, node_taken, node_of_new, IsNewNodeAtIn}
 use Rattle.rht_arena.specs.declared.new_node.NewNodeAt.{NewNodeAt}
 use Rattle.rht_arena.specs.declared.new_node.NewNodeAt.TheVariants as news
-use Rattle.rht_nest.specs.Locate.{locate_plan, locate_after}
+use Rattle.rht_nest.specs.Locate.{LocateModel, locate_plan, locate_after}
+use Rattle.rht_nest.specs.declared.locate.Located.{Located}
 use Rattle.rht_chain.specs.Locked.{answer_behind}
 use Rattle.rht_chain.specs.Relink.{relink_after}
 use Rattle.rht_arena.proofs.NodesSeen.{first_unseen, SawAllBelow, SawAllBelow-push, SawSoFar, take_after-saw}
 use Rattle.rht_find.specs.Find.{after_at as find_after_at}
 use Rattle.rht_find.specs.declared.find.FindAt.{FindAt}
+use Rattle.rht_words.proofs.Memory.{Memory}
+use Rattle.rht_bind.specs.BindHeld.{holds_node}
 use Rattle.rht_bind.specs.Bind.{after_at, filled}
 use Rattle.rht_bind.specs.declared.bind.BindAt.{BindAt}
 use Rattle.rht_bind.specs.declared.bind.BindAt.TheVariants as at
@@ -42,15 +44,17 @@ use Rattle.rht_core.specs.declared.event.Event.{Event}
 use Rattle.rht_core.specs.Jobs.{Job, finds, binds}
 use Rattle.rht_core.specs.Replies.{IsFindReply}
 use Rattle.rht_core.specs.Traces.{Did, Past, performed_of, traced_of}
+use Rattle.rht_core.specs.Runs.{IsAdmitted}
 use Rattle.rht_core.specs.Laws.{IsRecorded, IsPastCall}
 use Rattle.rht_core.specs.Causes.{SawFull, HasCauseIn, HasCause, Causes}
 use Rattle.rht_words.specs.Machines.{GoesOrEnds}
 use Rattle.rht_words.proofs.MachineRuns.{GoesOrEnds-weaker}
 use Rattle.rht_core.proofs.HeldByBinds.{node_of_bind, reply_of_bind, no_table_reply, published_reply, bind_reply_after, HoldsSo, bind_after-so}
-use Rattle.rht_core.proofs.NodeSteps.{new_fits}
-use Rattle.rht_core.proofs.FirstBuckets.{home-within}
-use Rattle.rht_core.proofs.BindSteps.{bind_there}
 use Rattle.rht_core.proofs.MachineReplies.{HoldsFindReply, find_after-replies}
+use Rattle.rht_core.proofs.Theory.Ghosts.{Ghost}
+use Rattle.rht_core.proofs.Theory.Knowledge.{Unlocked}
+use Rattle.rht_core.proofs.Pieces.Nodes.{filled as filled_node}
+use Rattle.rht_core.proofs.Pieces.Locates.{LocateKnows, locate_step}
 use Rattle.rht_core.proofs.TracesAtEvents.{at_events}
 use Rattle.rht_core.proofs.TracedCalls.{FindDoes, BindDoes, calls_keep}
 use Rattle.rht_core.proofs.FullTables.{counted_at}
@@ -145,18 +149,26 @@ module _ (env : Env) where
       Any-push (LoadedFull count) steps did record { loaded = is; found = refl; full = omega arith })
       (λ f. tt)
 
-  module _ (mix : ℕ → ℕ → ℕ → ℕ) (port owner : ℕ) where
+  module _ (mix : ℕ → ℕ → ℕ → ℕ) (port owner : ℕ) (once : Bool) where
+    -- once a bucket was looked for it is there
+    there-none : (c node : ℕ) (locate : LocateModel) (next : LocateModel × Next Located) (memory : Memory) (ghost : Ghost)
+        → LocateKnows env mix c (holds_node (Some node) None) (Some (filled_node node port owner)) Unlocked port next memory ghost
+        → no_table_reply next.1 ≡ None
+    there-none c node locate (after, Go) memory ghost knows = refl
+    there-none c node locate (after, Done located) memory ghost knows = rw knows.there refl
+
     -- Of the replies that come of an operation, `TooBig` alone tells what was seen; a reply that the bind has had is not
     -- forgotten. The bucket is there, so that none tells of a want of tables.
-    bind_reply_after-saw : (state : BindAt) (steps : List Did) (did : Did) → BindDoes env mix port owner state did
+    bind_reply_after-saw : (state : BindAt) (steps : List Did) (did : Did) → BindDoes env mix port owner once state did
         → SawAt state steps
         → SawForReply (bind_reply_after mix env port state did.old) (steps ++ did ∷ [])
     bind_reply_after-saw (at.Filling new) steps did does saw = tt
     bind_reply_after-saw (at.CurrentTable node) steps did does saw = tt
     bind_reply_after-saw (at.Locating node locate) steps did does saw =
         let is : did.old ≡ old_of does.words (locate_plan locate) = does.found ∙ ap (old_of does.words) does.planned in
-        let none =
-        bind_there env mix does.caller port owner (home-within env mix port) does.words does.ghost does.all does.whole node locate does.knows in
+        let step = locate_step env mix does.caller (holds_node (Some node) None) (Some (filled_node node port owner)) Unlocked does.words does.ghost does.whole
+            port locate does.within.locate_in does.knows.knowing in
+        let none = there-none does.caller node locate (locate_after mix port locate (old_of does.words (locate_plan locate))) _ _ step.knows in
         let reply : no_table_reply (locate_after mix port locate did.old).1 ≡ None =
         ap (λ old. no_table_reply (locate_after mix port locate old).1) is ∙ none in
         subst (λ (r : Option Reply). SawForReply r (steps ++ did ∷ [])) (sym reply) tt
@@ -200,7 +212,7 @@ module _ (env : Env) where
     SawForReply-at (at.Unlocking node table unlock next) steps has saw = saw
     SawForReply-at (at.Giving give reply) steps has saw = saw
 
-    with_node-saw : (state : BindAt) (steps : List Did) (did : Did) → BindDoes env mix port owner state did
+    with_node-saw : (state : BindAt) (steps : List Did) (did : Did) → BindDoes env mix port owner once state did
         → IsSome (node_of_bind state)
         → SawAt state steps → SawNext (steps ++ did ∷ []) (after_at mix env port state did.old)
     with_node-saw state steps did does has saw =
@@ -213,26 +225,26 @@ module _ (env : Env) where
 
     -- while it makes a new node
     new-saw : (new : NewNodeModel) (state : NewNodeAt) (steps : List Did) (did : Did) → new.at ≡ state
-        → BindDoes env mix port owner (at.Filling new) did → SawNew state steps
+        → BindDoes env mix port owner once (at.Filling new) did → SawNew state steps
         → let after = new_node_after_at state did.old in
         SawNext (steps ++ did ∷ []) (filled (record new { at = after.0 }) after.1)
     new-saw new (news.Taking take) steps did is does saw =
         let all = steps ++ did ∷ [] in
-        let fits = subst (new_fits env mix does.caller (word_of port) owner) is does.knows.fits.at_fits in
+        let fits : IsTakeIn env.geometry take = subst (IsNewNodeAtIn env.geometry) is does.within.at_in in
         let before = map performed_of steps in
         let planned = does.planned ∙ ap (new_node_plan_at new.geometry new.key new.owner) is in
-        let range = subst (λ (h : Geometry). IsTakeAtIn h take.at) (sym fits.0) fits.1 in
-        let saw_below = subst (λ (h : Geometry). SawAllBelow h (first_unseen take.at) before) (sym fits.0) saw in
+        let range = subst (λ (h : Geometry). IsTakeAtIn h take.at) (sym fits.geometry_same) fits.at_in in
+        let saw_below = subst (λ (h : Geometry). SawAllBelow h (first_unseen take.at) before) (sym fits.geometry_same) saw in
         let after = take_after-saw take take.at before (performed_of did) planned range saw_below in
         let here =
-        subst (λ (h : Geometry). SawSoFar h (before ++ performed_of did ∷ []) (take_node_after take did.old)) fits.0 after in
+        subst (λ (h : Geometry). SawSoFar h (before ++ performed_of did ∷ []) (take_node_after take did.old)) fits.geometry_same after in
         taking-saw new (take_node_after take did.old).0 (take_node_after take did.old).1 all
         (subst (λ (list : List Performed). SawSoFar env.geometry list (take_node_after take did.old)) (sym (map-append performed_of steps (did ∷ []))) here)
     new-saw new (news.Key node) steps did is does saw = tt
     new-saw new (news.Owner node) steps did is does saw = tt
     new-saw new (news.ListLink node) steps did is does saw = tt
 
-    bind-saw : (state : BindAt) (steps : List Did) (did : Did) → BindDoes env mix port owner state did
+    bind-saw : (state : BindAt) (steps : List Did) (did : Did) → BindDoes env mix port owner once state did
         → SawAt state steps → SawNext (steps ++ did ∷ []) (after_at mix env port state did.old)
     bind-saw (at.Filling new) steps did does saw = new-saw new new.at steps did refl does saw
     bind-saw state steps did does saw = with_node-saw state steps did does refl saw
@@ -256,21 +268,21 @@ module _ (env : Env) where
 
 module _ (M : Type 0) (mix : ℕ → ℕ → ℕ → ℕ) (env : Env) where
   -- what the operations of each call that has ended have seen; below the first node there is none
-  past-saw : (events : List Event) (c : ℕ)
+  past-saw : (events : List Event) (c : ℕ) → IsAdmitted env.config.kind events
       → AllByRecursion (λ (past : Past). SawFor env past.done.reply past.steps) ((traced_of {M = M} mix env events).traces c).past
-  past-saw events c =
+  past-saw events c admitted =
       calls_keep M mix env (JobSaw env) (λ call ending. SawFor env ending.answer.reply)
       record {
         find_begins = λ port. tt;
         bind_begins = λ port owner once node l. absurd (omega arith);
         find_goes = λ port state steps did does saw. find-saw env mix port state steps did does;
-        bind_goes = λ port owner once. bind-saw env mix port owner;
+        bind_goes = bind-saw env mix;
       }
-      events c
+      events c admitted
 
   -- ---- the causes
 
-  module _ (events : List Event) (c : ℕ) where
+  module _ (events : List Event) (c : ℕ) (admitted : IsAdmitted env.config.kind events) where
     abbrev IsRecordedHere : Did → Type 0
     IsRecordedHere did = IsRecorded M mix env events c did
 
@@ -287,7 +299,7 @@ module _ (M : Type 0) (mix : ℕ → ℕ → ℕ → ℕ) (env : Env) where
             loaded = full.loaded;
             found = full.found;
             full = full.full;
-            counted = counted_at M mix env events c count did full.loaded full.found was;
+            counted = counted_at M mix env events c count did admitted full.loaded full.found was;
           },
         )
 
@@ -311,5 +323,5 @@ module _ (M : Type 0) (mix : ℕ → ℕ → ℕ → ℕ) (env : Env) where
 
 pub causes : (M : Type 0) (mix : ℕ → ℕ → ℕ → ℕ) → Causes M mix
 causes M mix env events c admitted =
-    all_caused M mix env events c ((traced_of {M = M} mix env events).traces c).past
-    (past-saw M mix env events c) (at_events M mix env events admitted c).past
+    all_caused M mix env events c admitted ((traced_of {M = M} mix env events).traces c).past
+    (past-saw M mix env events c admitted) (at_events M mix env events admitted c).past

@@ -1,12 +1,11 @@
 -- A caller that is in a call does what its job says: it plans the job's operation, what becomes of it is what becomes of
 -- the job, and a call that begins begins as its first job. Each is shown by cases on machines; what is said of callers
 -- above is said of jobs.
-use Rattle.std.proofs.Common.{◌≡◌, ℕ, Bool, true, false, [], refl, ap, ◌∙◌, subst}
+use Rattle.std.proofs.Common.{◌≡◌, ℕ, Bool, true, false, [], refl, sym, ap, ◌∙◌, subst}
 use Rattle.std.specs.Prelude.{Option, Some, None}
 use Rattle.rht_words.specs.declared.op.Op.{Op}
 use Rattle.rht_words.specs.declared.env.Env.{Env}
 use Rattle.rht_words.specs.declared.machine.Next.{Next}
-use Rattle.rht_words.proofs.Memory.{Memory}
 use Rattle.rht_words.specs.declared.machine.Next.TheVariants.{Go, Done}
 use Rattle.rht_model.specs.declared.history.Call.{Call}
 use Rattle.rht_model.specs.declared.history.Call.TheVariants.{Bind, Find}
@@ -15,24 +14,18 @@ use Rattle.rht_model.specs.Endings.{Ending}
 use Rattle.rht_find.specs.Find as find
 use Rattle.rht_find.specs.Find.{FindModel}
 use Rattle.rht_find.specs.declared.find.FindAt.{FindAt}
+use Rattle.rht_find.specs.declared.find.FindAt.TheVariants.{CurrentTable}
+use Rattle.rht_words.specs.declared.config.Kind.{Kind}
+use Rattle.rht_words.specs.declared.config.Kind.TheVariants.{Single, Listed}
 use Rattle.rht_bind.specs.Bind as bind
 use Rattle.rht_bind.specs.Bind.{BindModel}
 use Rattle.rht_bind.specs.declared.bind.BindAt.{BindAt}
 use Rattle.rht_core.specs.declared.local.Local.{Local}
 use Rattle.rht_core.specs.declared.local.Doing.{Doing}
 use Rattle.rht_core.specs.declared.local.Doing.TheVariants.{Idle, Finding, Binding}
-use Rattle.rht_core.specs.Locals.{does_nothing, machine_of, doing_plan, doing_after, local_after, ending_of, found_next, bound_next, IsDoingOf}
-use Rattle.rht_core.specs.Jobs.{Job, finds, binds, call_of, first_job, first_bind, job_plan, job_after, finds_next, binds_next, job_of, told}
+use Rattle.rht_core.specs.Locals.{does_nothing, machine_of, doing_plan, doing_after, local_after, ending_of, found_next, bound_next, IsDoingOf, IsLocalOf}
+use Rattle.rht_core.specs.Jobs.{Job, finds, binds, call_of, first_job, first_bind, job_plan, job_after, finds_next, binds_next, job_of, told, held_of}
 use Rattle.rht_core.proofs.CallBeginnings.{begins_so}
-use Rattle.rht_core.proofs.Ghosts.{Ghost}
-use Rattle.rht_core.proofs.FindSteps.{FindKnows}
-use Rattle.rht_core.proofs.BindSteps.{BindKnows}
-use Rattle.rht_core.proofs.Invariants.{CallerKnows}
-
--- what a caller with this job knows of the words
-abbrev pub JobKnows : Env → (ℕ → ℕ → ℕ → ℕ) → ℕ → Job → Memory → Ghost → Type 0
-JobKnows env mix c (finds port state) M G = FindKnows env mix c port state M G
-JobKnows env mix c (binds port owner once state) M G = BindKnows env mix c port owner state M G
 
 -- there is no job
 abbrev pub is_no_job : Option Job → Bool
@@ -69,6 +62,55 @@ same_call mix env (binds port owner once state) old =
 pub left-told : (next : Job × Next Ending) → is_no_job (told next).0 ≡ has_ended (told next).1
 left-told (job, Go) = refl
 left-told (job, Done ending) = refl
+
+-- nothing is known of the answer of a first job
+first_bind-unknown : (env : Env) (port owner : ℕ) (once : Bool) (kind : Kind) (job : Job)
+    → first_bind env port owner once kind ≡ Some job → (held_of job).answer ≡ None
+first_bind-unknown env port owner once Single job is = let here : binds port owner once (bind.first_state env port owner) ≡ job = cc in ap (λ j. (held_of j).answer) (sym here)
+first_bind-unknown env port owner once Listed job is = absurd (cc)
+
+pub first_unknown : (env : Env) (call : Call) (job : Job) → first_job env call ≡ Some job → (held_of job).answer ≡ None
+first_unknown env (Find port) job is = let here : finds port CurrentTable ≡ job = cc in ap (λ j. (held_of j).answer) (sym here)
+first_unknown env (Bind port owner once) job is = first_bind-unknown env port owner once env.config.kind job is
+first_unknown env _ job is = absurd (cc)
+
+-- the job that is left of what a caller does is the one that is left of its job
+module _ (M : Type 0) where
+  found-left : (m : FindModel) (r : FindAt × Next Reply)
+      → job_of (found_next {M = M} (record m { at = r.0 }, r.1)).0 ≡ (told (finds_next m.port r)).0
+  found-left m (state, Go) = refl
+  found-left m (state, Done reply) = refl
+
+  bound-left : (m : BindModel) (r : BindAt × Next Reply)
+      → job_of (bound_next {M = M} (record m { at = r.0 }, r.1)).0 ≡ (told (binds_next m.port m.owner m.once r)).0
+  bound-left m (state, Go) = refl
+  bound-left m (state, Done reply) = refl
+
+  pub left-job : (mix : ℕ → ℕ → ℕ → ℕ) (env : Env) (doing : Doing M) (job : Job) (old : ℕ)
+      → IsDoingOf env doing → job_of doing ≡ Some job
+      → job_of (doing_after mix doing old).0 ≡ (told (job_after mix env job old)).0
+  left-job mix env Idle job old of is = absurd (cc)
+  left-job mix env (Finding m) job old of is =
+      let here : finds m.port m.at ≡ job = cc in
+      found-left m (find.after_at mix m.env m.port m.at old)
+      ∙ ap (λ (e : Env). (told (job_after mix e (finds m.port m.at) old)).0) of
+      ∙ ap (λ (j : Job). (told (job_after mix env j old)).0) here
+  left-job mix env (Binding m) job old of is =
+      let here : binds m.port m.owner m.once m.at ≡ job = cc in
+      bound-left m (bind.after_at mix m.env m.port m.at old)
+      ∙ ap (λ (e : Env). (told (job_after mix e (binds m.port m.owner m.once m.at) old)).0) of
+      ∙ ap (λ (j : Job). (told (job_after mix env j old)).0) here
+
+  -- and the operation of its job is what it plans
+  pub job-plans : (env : Env) (doing : Doing M) (job : Job) → IsDoingOf env doing → job_of doing ≡ Some job
+      → doing_plan doing ≡ Some (job_plan env job)
+  job-plans env Idle job of is = absurd (cc)
+  job-plans env (Finding m) job of is =
+      let here : finds m.port m.at ≡ job = cc in
+      ap (λ (e : Env). Some (find.plan_at e m.at)) of ∙ ap (λ (j : Job). Some (job_plan env j)) here
+  job-plans env (Binding m) job of is =
+      let here : binds m.port m.owner m.once m.at ≡ job = cc in
+      ap (λ (e : Env). Some (bind.plan_at e m.at)) of ∙ ap (λ (j : Job). Some (job_plan env j)) here
 
 module _ {M : Type 0} where
   -- who is in no call has no job
@@ -110,7 +152,11 @@ module _ {M : Type 0} where
   plan-job env Idle op of plan = absurd (cc)
   plan-job env (Finding m) op of plan =
       let here : op ≡ find.plan_at m.env m.at = cc in
-      record { job = finds m.port m.at; does = refl; plan = subst (λ (e : Env). op ≡ find.plan_at e m.at) of here }
+      record {
+        job = finds m.port m.at;
+        does = refl;
+        plan = subst (λ (e : Env). op ≡ find.plan_at e m.at) of here;
+      }
   plan-job env (Binding m) op of plan =
       let here : op ≡ bind.plan_at m.env m.at = cc in
       record {
@@ -118,16 +164,6 @@ module _ {M : Type 0} where
         does = refl;
         plan = subst (λ (e : Env). op ≡ bind.plan_at e m.at) of here;
       }
-
-  -- what it knows is what its job says
-  pub knows-job : (env : Env) (mix : ℕ → ℕ → ℕ → ℕ) (c : ℕ) (doing : Doing M) (job : Job) (N : Memory) (G : Ghost)
-      → job_of doing ≡ Some job → CallerKnows env mix M c doing N G → JobKnows env mix c job N G
-  knows-job env mix c Idle job N G is knows = absurd (cc)
-  knows-job env mix c (Finding m) job N G is knows =
-      let here : finds m.port m.at ≡ job = cc in subst (λ (j : Job). JobKnows env mix c j N G) here knows.1
-  knows-job env mix c (Binding m) job N G is knows =
-      let here : binds m.port m.owner m.once m.at ≡ job = cc in
-      subst (λ (j : Job). JobKnows env mix c j N G) here knows.1
 
   module _ (local : Local M) (none : HasNoLists local) where
     -- the job that a caller has after this has become of what it does, and how its call has ended
@@ -161,7 +197,8 @@ module _ {M : Type 0} where
 
   -- what becomes of a caller is what becomes of its job
   pub local_after-job : (mix : ℕ → ℕ → ℕ → ℕ) (env : Env) (local : Local M) (job : Job) (old : ℕ)
-      → HasNoLists local → IsDoingOf env local.doing → job_of local.doing ≡ Some job
+      → HasNoLists local → IsLocalOf env local → job_of local.doing ≡ Some job
       → let next = local_after mix local old in
       ◌≡◌ {A = Option Job × Option Ending} (job_of next.0.doing, ending_of next.0 next.1) (told (job_after mix env job old))
-  local_after-job mix env local job old none of is = doing_after-job local none mix env local.doing job old of is
+  local_after-job mix env local job old none of is =
+      doing_after-job local none mix env local.doing job old of is

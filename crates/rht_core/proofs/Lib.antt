@@ -1,3 +1,19 @@
+-- the theory of a run: ghosts, what is true of them, what callers know, and what one operation makes of it
+pub mod Theory
+-- what an operation does to words and ghosts, a file a family of moves
+pub mod Moves
+-- the operations of the pieces of machines
+pub mod Pieces
+-- the machines, operation by operation
+pub mod Machines
+-- the invariant of every run
+pub mod Events
+-- what the words stand for is what the ghost says
+pub mod Meaning
+-- the count of ports, and a table that nobody uses
+pub mod Counting
+-- histories whose entries carry numbers
+pub mod Histories
 -- what an event does to each caller, and inductions over the events of a run
 pub mod Worlds
 -- a call begins as a look-up or a bind, and who is in no call plans no operation
@@ -34,46 +50,10 @@ pub mod StepsInTraces
 pub mod TracedCalls
 -- in every run a bind takes one node at most
 pub mod NodesTaken
--- what the words don't say: who holds what, and which nodes each bucket and each port has
-pub mod Ghosts
--- what is true of words and ghosts after each event of each run
-pub mod Wholes
--- what each caller knows, and why others leave it
-pub mod Knowledge
--- what a step leaves where it writes elsewhere
-pub mod Frames
--- a node's words are written, and nodes are taken and given back
-pub mod NodeMoves
--- locks are taken and dropped, and the count is raised
-pub mod QuietMoves
--- the store that binds a port
-pub mod Linking
--- one operation of a caller, and what it knows afterwards
-pub mod Steps
--- each port has a bucket in the one table, which has a place
-pub mod FirstBuckets
--- the operations of the pieces
-pub mod PieceSteps
--- taking a node, giving it back, and writing its words
-pub mod NodeSteps
--- a bind, operation by operation
-pub mod BindSteps
--- a look-up, operation by operation
-pub mod FindSteps
--- the invariant of every run
-pub mod Invariants
--- the invariant holds at opening, and after each event
-pub mod InvariantRuns
--- what the words stand for is what the ghost says
-pub mod BoundPorts
 -- a count of ports that is loaded is at most the ports bound and the other callers in mid-call
 pub mod FullTables
 -- in every run each call that has ended has a reply with its cause
 pub mod CausesInRuns
--- what an operation does to what the words stand for
-pub mod StepBindings
--- the operations of one call while nobody else does anything
-pub mod AloneSteps
 -- one call alone meets the model
 pub mod AloneRuns
 -- going along links finds what the whole chain holds

@@ -2,7 +2,7 @@
 -- What a bind holds is read off its state: none while it takes one, and from then on the node that the
 -- state names. A step takes a node exactly where the taking ends with one. Each other And of the taking
 -- finds its bit cleared, and no other state performs an And.
-use Rattle.std.proofs.Common.{◌≡◌, ◌≢◌, ℕ, ◌+◌, ◌*◌, ◌<◌, inl, inr, List, [], ◌∷◌, ◌++◌, refl, sym, ap, ◌∙◌, subst, arith}
+use Rattle.std.proofs.Common.{◌≡◌, ◌≢◌, ℕ, ◌+◌, ◌*◌, ◌<◌, inl, inr, Bool, List, [], ◌∷◌, ◌++◌, refl, sym, ap, ◌∙◌, subst, arith}
 use Rattle.std.specs.Prelude.{Option, Some, None, IsSome, ◌==◌, nat_lt, bit_and}
 use Rattle.std.specs.Int.{bit_at}
 use Rattle.std.proofs.lemmas.Bool.{cond_both, cases_eq, eqb-true, eqb-false}
@@ -12,7 +12,6 @@ use Rattle.rht_words.specs.declared.env.Env.{Env}
 use Rattle.rht_words.specs.declared.geometry.Geometry.{Geometry}
 use Rattle.rht_words.specs.declared.machine.Next.{Next}
 use Rattle.rht_words.specs.declared.machine.Next.TheVariants.{Go, Done}
-use Rattle.rht_words.specs.Ports.{word_of}
 use Rattle.rht_words.specs.Maps.{bits_above, lowest_free}
 use Rattle.rht_words.specs.Places.{map_words}
 use Rattle.rht_words.specs.Operations.{word_after}
@@ -20,12 +19,12 @@ use Rattle.rht_words.proofs.BitChanges.{bit_at-cleared_other}
 use Rattle.rht_words.proofs.EachElement.{AllByRecursion-push}
 use Rattle.rht_model.specs.declared.history.Reply.{Reply}
 use Rattle.rht_model.specs.declared.history.Reply.TheVariants.{NoNode}
-use Rattle.rht_arena.specs.TakeNode.{TakeNodeModel, take_node_after, plan_at as take_plan_at, after_at as take_after_at, next_word, claim_in, IsTakeAtIn}
+use Rattle.rht_arena.specs.TakeNode.{TakeNodeModel, take_node_after, plan_at as take_plan_at, after_at as take_after_at, next_word, claim_in, IsTakeAtIn, IsTakeIn}
 use Rattle.rht_arena.specs.Laws.{map_bit, IsTaking}
 use Rattle.rht_arena.proofs.TakenWereFree.{claim_of-clears, claims}
 use Rattle.rht_arena.specs.declared.take_node.TakeNodeAt.{TakeNodeAt}
 use Rattle.rht_arena.specs.declared.take_node.TakeNodeAt.TheVariants.{MapWord, Claim}
-use Rattle.rht_arena.specs.NewNode.{NewNodeModel, new_node_plan_at, new_node_after_at, node_taken, node_of_new}
+use Rattle.rht_arena.specs.NewNode.{NewNodeModel, new_node_plan_at, new_node_after_at, node_taken, node_of_new, IsNewNodeAtIn}
 use Rattle.rht_arena.specs.declared.new_node.NewNodeAt.{NewNodeAt}
 use Rattle.rht_arena.specs.declared.new_node.NewNodeAt.TheVariants as news
 use Rattle.rht_nest.specs.Locate.{locate_plan_at}
@@ -49,14 +48,13 @@ use Rattle.rht_find.specs.declared.find.FindAt.TheVariants as find_at
 use Rattle.rht_bind.specs.Bind.{plan_at as bind_plan_at, after_at, filled}
 use Rattle.rht_bind.specs.declared.bind.BindAt.{BindAt}
 use Rattle.rht_bind.specs.declared.bind.BindAt.TheVariants as at
-use Rattle.rht_core.specs.Traces.{Did}
 use Rattle.rht_core.specs.Jobs.{Job, finds, binds}
+use Rattle.rht_core.specs.Traces.{Did}
 use Rattle.rht_core.specs.Replies.{IsFindReply}
 use Rattle.rht_core.specs.Laws.{IsNoTake, TakesNone, TakesOne, IsTakenBy, IsTakenIn, TakenAlone}
 use Rattle.rht_words.specs.Machines.{GoesOrEnds}
 use Rattle.rht_words.proofs.MachineRuns.{GoesOrEnds-weaker}
 use Rattle.rht_core.proofs.HeldByBinds.{node_of_bind, HoldsSo, bind_after-so}
-use Rattle.rht_core.proofs.NodeSteps.{new_fits}
 use Rattle.rht_core.proofs.MachineReplies.{HoldsFindReply, IsReplyWithNode, IsNoneOrWithNode, find_after-replies, bind_reply_after-with_node}
 use Rattle.rht_core.proofs.TracedCalls.{FindDoes, BindDoes, calls_keep}
 
@@ -236,11 +234,11 @@ module _ (mix : ℕ → ℕ → ℕ → ℕ) (env : Env) where
   taking-goes new take (Done (Some node)) steps did took none = TakesOne-last g node steps did none took
 
   -- a bind that has its node performs no And, so the node stays the one that it took
-  with_node-goes : (port owner : ℕ) (state : BindAt) (steps : List Did) (did : Did)
-      → BindDoes env mix port owner state did
+  with_node-goes : (port owner : ℕ) (once : Bool) (state : BindAt) (steps : List Did) (did : Did)
+      → BindDoes env mix port owner once state did
       → IsSome (node_of_bind state) → BindTakes state steps
       → BindGoes (steps ++ did ∷ []) (after_at mix env port state did.old)
-  with_node-goes port owner state steps did does has taken =
+  with_node-goes port owner once state steps did does has taken =
       let all = steps ++ did ∷ [] in
       let still =
       HasTaken-push g (node_of_bind state) steps did taken (no_and_as g did does.planned (bind_no_and env state has)) in
@@ -251,33 +249,33 @@ module _ (mix : ℕ → ℕ → ℕ → ℕ) (env : Env) where
       (bind_after-so So mix env port state did.old has (still, bind_reply_after-with_node mix env port state did.old does.holds))
 
   -- a new node is taken by the operation with which its taking ends
-  filling-goes : (port owner : ℕ) (new : NewNodeModel) (state : NewNodeAt) (steps : List Did) (did : Did)
-      → new.at ≡ state → BindDoes env mix port owner (at.Filling new) did
+  filling-goes : (port owner : ℕ) (once : Bool) (new : NewNodeModel) (state : NewNodeAt) (steps : List Did) (did : Did)
+      → new.at ≡ state → BindDoes env mix port owner once (at.Filling new) did
       → HasTaken g (node_of_new state) steps
       → let after = new_node_after_at state did.old in
       BindGoes (steps ++ did ∷ []) (filled (record new { at = after.0 }) after.1)
-  filling-goes port owner new (news.Taking take) steps did is does taken =
-      let fits = subst (new_fits env mix does.caller (word_of port) owner) is does.knows.fits.at_fits in
+  filling-goes port owner once new (news.Taking take) steps did is does taken =
+      let fits : IsTakeIn env.geometry take = subst (IsNewNodeAtIn env.geometry) is does.within.at_in in
       let after = take_node_after take did.old in
       let planned : did.op ≡ take_plan_at take.geometry take.at =
       does.planned ∙ ap (new_node_plan_at new.geometry new.key new.owner) is in
-      let range = subst (λ (h : Geometry). IsTakeAtIn h take.at) (sym fits.0) fits.1 in
+      let range = subst (λ (h : Geometry). IsTakeAtIn h take.at) (sym fits.geometry_same) fits.at_in in
       let took = take_took take take.at did planned range in
-      taking-goes new after.0 after.1 steps did (subst (λ (h : Geometry). TookAs h did after.1) fits.0 took) taken
-  filling-goes port owner new (news.Key node) steps did is does taken =
+      taking-goes new after.0 after.1 steps did (subst (λ (h : Geometry). TookAs h did after.1) fits.geometry_same took) taken
+  filling-goes port owner once new (news.Key node) steps did is does taken =
       TakesOne-push g node steps did taken (no_and_as g did (does.planned ∙ ap (new_node_plan_at new.geometry new.key new.owner) is) tt)
-  filling-goes port owner new (news.Owner node) steps did is does taken =
+  filling-goes port owner once new (news.Owner node) steps did is does taken =
       TakesOne-push g node steps did taken (no_and_as g did (does.planned ∙ ap (new_node_plan_at new.geometry new.key new.owner) is) tt)
-  filling-goes port owner new (news.ListLink node) steps did is does taken =
+  filling-goes port owner once new (news.ListLink node) steps did is does taken =
       TakesOne-push g node steps did taken (no_and_as g did (does.planned ∙ ap (new_node_plan_at new.geometry new.key new.owner) is) tt)
 
-  bind-goes : (port owner : ℕ) (state : BindAt) (steps : List Did) (did : Did)
-      → BindDoes env mix port owner state did
+  bind-goes : (port owner : ℕ) (once : Bool) (state : BindAt) (steps : List Did) (did : Did)
+      → BindDoes env mix port owner once state did
       → BindTakes state steps
       → BindGoes (steps ++ did ∷ []) (after_at mix env port state did.old)
-  bind-goes port owner (at.Filling new) steps did does taken =
-      filling-goes port owner new new.at steps did refl does taken
-  bind-goes port owner state steps did does taken = with_node-goes port owner state steps did does refl taken
+  bind-goes port owner once (at.Filling new) steps did does taken =
+      filling-goes port owner once new new.at steps did refl does taken
+  bind-goes port owner once state steps did does taken = with_node-goes port owner once state steps did does refl taken
 
   -- a look-up takes none
   find-goes : (port : ℕ) (state : FindAt) (steps : List Did) (did : Did) → FindDoes env state did
@@ -298,6 +296,6 @@ taken_alone M mix env events admitted c =
       find_begins = λ port. tt;
       bind_begins = λ port owner once. tt;
       find_goes = find-goes mix env;
-      bind_goes = λ port owner once. bind-goes mix env port owner;
+      bind_goes = bind-goes mix env;
     }
-    events c
+    events c admitted

@@ -16,7 +16,8 @@ use Rattle.rht_words.specs.declared.machine.Next.{Next}
 use Rattle.rht_words.specs.declared.machine.Next.TheVariants.{Go, Done}
 use Rattle.rht_words.specs.Operations.{old_of}
 use Rattle.rht_words.specs.Maps.{map_bits}
-use Rattle.rht_words.specs.Opening.{first_size, first_slot, opening_word}
+use Rattle.rht_words.specs.Opening.{first_slot, opening_word}
+use Rattle.rht_words.specs.Sizes.{first_size}
 use Rattle.rht_words.specs.Places.{Address, EnrolledCallers, NextSerial, Slot, NodeMap, PageMap, SlotWord, ShapeWord, SeedWord, StateWord, map_words, place_of, word_at, address_at}
 use Rattle.rht_words.specs.Planned.{IsWord, IsPlannedIn}
 use Rattle.rht_words.proofs.WordChanges.{applied-other}
@@ -45,7 +46,7 @@ use Rattle.rht_core.proofs.SoundRuns.{StaysIn, opens-in, stays-in, has_place, ma
 -- ---- at opening
 
 first_slot-fits : (env : Env) (word : SlotWord) → IsWord (first_slot env word)
-first_slot-fits env ShapeWord = omega (arith, trailing_le 32 (first_size env))
+first_slot-fits env ShapeWord = omega (arith, trailing_le 32 (first_size env.config))
 first_slot-fits env SeedWord = let seed = env.settled.seed in omega arith
 first_slot-fits env StateWord = omega arith
 first_slot-fits env _ = omega arith
@@ -149,7 +150,7 @@ module _ (M : Type 0) (mix : ℕ → ℕ → ℕ → ℕ) (env : Env) where
     pub words : AllByRecursion IsWord core.words
     pub locals : (c : ℕ) → IsLocalIn env c (local_of core c)
 
-  opens-all : AllIn (opening env).core
+  pub opens-all : AllIn (opening env).core
   opens-all = record {
     stays = opens-in M mix env;
     words =
@@ -196,7 +197,7 @@ module _ (M : Type 0) (mix : ℕ → ℕ → ℕ → ℕ) (env : Env) where
             all.locals;
       }
 
-  event-all : (w : World M) (event : Event) → IsAdmittedEvent env.config.kind event → AllIn w.core
+  pub event-all : (w : World M) (event : Event) → IsAdmittedEvent env.config.kind event → AllIn w.core
       → AllIn (world_step mix w event).core
   event-all w Enroll admitted all = record {
     stays = stays-in M mix env w Enroll all.stays;
@@ -212,7 +213,7 @@ module _ (M : Type 0) (mix : ℕ → ℕ → ℕ → ℕ) (env : Env) where
       let after = step-all w.core c (planned_in w.core c) refl all in
       record { stays = stays-in M mix env w (Step c) all.stays; words = after.words; locals = after.locals }
 
-  runs-all : (events : List Event) → IsAdmitted env.config.kind events → AllIn (run_of mix env events).core
+  pub runs-all : (events : List Event) → IsAdmitted env.config.kind events → AllIn (run_of mix env events).core
   runs-all events admitted =
       run_keeps_admitted M mix env.config.kind (λ (w : World M). AllIn w.core) event-all (opening env) events admitted opens-all
 

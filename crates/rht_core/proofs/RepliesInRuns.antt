@@ -4,6 +4,7 @@
 use Rattle.std.proofs.Common.{ℕ, Bool, List, [], ◌∷◌, map, refl, sym, subst}
 use Rattle.std.specs.List.{AllByRecursion}
 use Rattle.rht_words.specs.declared.env.Env.{Env}
+use Rattle.rht_words.proofs.MachineRuns.{GoesOrEnds-weaker}
 use Rattle.rht_model.specs.declared.history.Call.{Call}
 use Rattle.rht_model.specs.declared.history.Call.TheVariants.{Bind, Find}
 use Rattle.rht_model.specs.declared.history.Reply.{Reply}
@@ -14,13 +15,12 @@ use Rattle.rht_core.specs.declared.book.Book.{Book}
 use Rattle.rht_core.specs.declared.local.Doing.{Doing}
 use Rattle.rht_core.specs.declared.local.Doing.TheVariants.{Idle, Finding, Binding}
 use Rattle.rht_core.specs.Jobs.{Job, finds, binds, job_of}
-use Rattle.rht_core.specs.Runs.{World, seen, local_of}
+use Rattle.rht_core.specs.Runs.{World, IsAdmitted, seen, local_of}
 use Rattle.rht_core.specs.Traces.{Did, Past, Traced, traced_of}
 use Rattle.rht_core.specs.Replies.{IsFindReply, IsBindReply, IsReplyTo, AreOwnersWith, ArePairsWith, IsAnswered, IsBookOf, AnswersIn}
 use Rattle.rht_core.specs.Laws.{IsDoingIn, IsLocalIn, Replies}
-use Rattle.rht_words.proofs.MachineRuns.{GoesOrEnds-weaker}
 use Rattle.rht_core.proofs.MachineReplies.{HoldsFindReply, HoldsBindReply, find_after-replies, bind_after-replies}
-use Rattle.rht_core.proofs.RangesInRuns.{in_range}
+use Rattle.rht_core.proofs.RangesInRuns.{runs-all}
 use Rattle.rht_core.proofs.TracedJobs.{IsEndedSo, IsAtJob, IsKeeping, jobs_keep, by_machines}
 use Rattle.rht_core.proofs.TracesInRuns.{remembers}
 
@@ -68,7 +68,7 @@ module _ (M : Type 0) (mix : ℕ → ℕ → ℕ → ℕ) (env : Env) where
   abbrev pub Answered : Call → Ending → List Did → Type 0
   Answered call ending steps = EndsRight call ending
 
-  pub runs-right : (events : List Event) (c : ℕ)
+  pub runs-right : (events : List Event) (c : ℕ) → IsAdmitted env.config.kind events
       → let r : Traced M = traced_of mix env events in
       IsKeeping M mix env Holds Answered (seen r.world c) (r.traces c)
   runs-right =
@@ -108,9 +108,9 @@ pub replies : (M : Type 0) (mix : ℕ → ℕ → ℕ → ℕ) → Replies M mix
 replies M mix env events admitted c =
     let r : Traced M = traced_of mix env events in
     let is = remembers M mix env events admitted in
-    let kept = runs-right M mix env events c in
+    let kept = runs-right M mix env events c admitted in
     let within : IsLocalIn env c (local_of r.world.core c) =
-    subst (λ (w : World M). IsLocalIn env c (local_of w.core c)) (sym is.world) ((in_range M mix env events admitted).locals c) in
+    subst (λ (w : World M). IsLocalIn env c (local_of w.core c)) (sym is.world) ((runs-all M mix env events admitted).locals c) in
     subst (λ (w : World M). AnswersIn env c (local_of w.core c) (w.books c)) is.world
     record {
       finished = subst (AllByRecursion IsAnswered) (is.traces c).past (all-answered M mix env (r.traces c).past kept.past);

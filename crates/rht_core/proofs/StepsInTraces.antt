@@ -12,7 +12,7 @@ use Rattle.std.proofs.lemmas.Option.{slice_get_within}
 use Rattle.rht_words.specs.declared.op.Op.{Op}
 use Rattle.rht_words.specs.declared.env.Env.{Env}
 use Rattle.rht_words.specs.Operations.{old_of}
-use Rattle.rht_words.proofs.EachElement.{AllByRecursion-weaker, slice_get-push, slice_get-push_last}
+use Rattle.rht_words.proofs.EachElement.{AllByRecursion-cut, AllByRecursion-weaker, slice_get-push, slice_get-push_last}
 use Rattle.rht_model.specs.declared.history.Call.{Call}
 use Rattle.rht_model.specs.Endings.{Ending, ended_with}
 use Rattle.rht_core.specs.declared.book.Book.{Book}
@@ -22,7 +22,7 @@ use Rattle.rht_core.specs.declared.local.Local.{Local}
 use Rattle.rht_core.specs.declared.local.Doing.{Doing}
 use Rattle.rht_core.specs.Locals.{is_idle, plan_of, local_after, ending_of}
 use Rattle.rht_core.specs.Jobs.{Job, call_of, job_of}
-use Rattle.rht_core.specs.Runs.{World, local_of, beginning_in, planned_in, run_of, IsAdmitted}
+use Rattle.rht_core.specs.Runs.{World, local_of, beginning_in, planned_in, run_of, IsAdmitted, IsAdmittedEvent}
 use Rattle.rht_core.specs.Traces.{Did, Past, Trace, Traced, trace_begun, trace_did, traces_after, traced_of, steps_by_call, IsStepOf, IsRising, behind_steps, behind_call, behind_calls, AreInOrder}
 use Rattle.rht_core.specs.Laws.{IsInProgress, IsRecorded, calls_ended, AllStepsTraced}
 use Rattle.rht_core.proofs.Worlds.{induct_by_last, take-push, take-push_all, beginning-some, planned-some}
@@ -142,13 +142,13 @@ module _ (M : Type 0) (mix : ℕ → ℕ → ℕ → ℕ) (env : Env) where
   at_rest-none None book steps none at = at.steps
   at_rest-none (Some job) book steps none at = absurd (cc)
 
-  idle-none : (events : List Event) (c : ℕ) → is_idle (local_of (R events).world.core c) ≡ true
+  idle-none : (events : List Event) (c : ℕ) → IsAdmitted env.config.kind events → is_idle (local_of (R events).world.core c) ≡ true
       → ((R events).traces c).steps ≡ []
-  idle-none events c idle =
+  idle-none events c admitted idle =
       let local = local_of (R events).world.core c in
       let book = (R events).world.books c in
-      let none = at_rest-none (job_of local.doing) book _ (sym (nothing-job local.doing) ∙ idle) (runs-right M mix env events c).now in
-      nil_from_length ((R events).traces c).steps ((traces_of_books M mix env events c).steps ∙ none)
+      let none = at_rest-none (job_of local.doing) book _ (sym (nothing-job local.doing) ∙ idle) (runs-right M mix env events c admitted).now in
+      nil_from_length ((R events).traces c).steps ((traces_of_books M mix env events c admitted).steps ∙ none)
 
   -- and one that plans an operation has a call in its book
   at_work-call : (local : Local M) (op : Op) (job : Option Job) (book : Book) (steps : List Did)
@@ -160,15 +160,16 @@ module _ (M : Type 0) (mix : ℕ → ℕ → ℕ → ℕ) (env : Env) where
       absurd (cc)
   at_work-call local op (Some job) book steps plan is at = (call_of job, at.call)
 
-  busy-call : (events : List Event) (c : ℕ) (op : Op)
+  busy-call : (events : List Event) (c : ℕ) (op : Op) → IsAdmitted env.config.kind events
       → planned_in (R events).world.core c ≡ Some op
       → (call : Call) × (((R events).world.books c).call ≡ Some call)
-  busy-call events c op is =
+  busy-call events c op admitted is =
       let core = (R events).world.core in
       let can = planned-some core.env core.enrolled core.locals c op is in
-      at_work-call (local_of core c) op (job_of (local_of core c).doing) _ _ can.plan refl (runs-right M mix env events c).now
+      at_work-call (local_of core c) op (job_of (local_of core c).doing) _ _ can.plan refl (runs-right M mix env events c admitted).now
 
-  module _ (events : List Event) (c : ℕ) (number : ℕ) (did : Did) (stood : IsStepOf ((R events).traces c) number did) where
+  module _ (events : List Event) (admitted : IsAdmitted env.config.kind events) (c : ℕ) (number : ℕ) (did : Did)
+      (stood : IsStepOf ((R events).traces c) number did) where
     abbrev r : Traced M
     r = R events
 
@@ -188,7 +189,7 @@ module _ (M : Type 0) (mix : ℕ → ℕ → ℕ → ℕ) (env : Env) where
           subst (λ k. traces_after mix r (Begin d call) k ≡ trace_begun r.count (r.traces k)) (sym same)
           (trace_begin_self M mix r d call machine is) in
           subst (λ (t : Trace). IsStepOf t number did) (sym begun)
-          (begun-in r.count (r.traces c) number did (idle-none events c idle) stood)
+          (begun-in r.count (r.traces c) number did (idle-none events c admitted idle) stood)
       | inr other ↦ unchanged _ (trace_begin_other M mix r d call c other)
     ]
 
@@ -199,7 +200,7 @@ module _ (M : Type 0) (mix : ℕ → ℕ → ℕ → ℕ) (env : Env) where
     step-later d (Some op) is = elim (cases_eq c d) [
       | inl same ↦
           let plan = subst (λ k. planned_in r.world.core k ≡ Some op) (sym same) is in
-          let busy = busy-call events c op plan in
+          let busy = busy-call events c op admitted plan in
           let made : Did = record { index = r.count; op = op; old = old_of r.world.core.words op } in
           let next = local_after mix (local_of r.world.core c) made.old in
           let stepped : traces_after mix r (Step d) c ≡ trace_with M mix r c op =
@@ -225,7 +226,7 @@ module _ (M : Type 0) (mix : ℕ → ℕ → ℕ → ℕ) (env : Env) where
       (c : ℕ) (did : Did) → IsRecorded M mix env events c did
       → IsStepOf ((R events).traces c) (calls_ended M mix env (take did.index events) c) did
 
-  module _ (events : List Event) (event : Event) (c : ℕ) (did : Did)
+  module _ (events : List Event) (admitted : IsAdmitted env.config.kind events) (event : Event) (c : ℕ) (did : Did)
       (recorded : IsRecorded M mix env (events ++ event ∷ []) c did) where
     abbrev more : List Event
     more = events ++ event ∷ []
@@ -243,7 +244,7 @@ module _ (M : Type 0) (mix : ℕ → ℕ → ℕ → ℕ) (env : Env) where
           found =
               subst (λ (before : List Event). old_of (run_of {M = M} mix env before).core.words did.op ≡ did.old) same recorded.found;
         } in
-        later events c (calls_ended M mix env (take did.index more) c) did
+        later events admitted c (calls_ended M mix env (take did.index more) c) did
         (subst (λ (before : List Event). IsStepOf ((R events).traces c) (calls_ended M mix env before c) did) (sym same) (each c did was))
         event
 
@@ -262,7 +263,7 @@ module _ (M : Type 0) (mix : ℕ → ℕ → ℕ → ℕ) (env : Env) where
         let is_step : event ≡ Step c =
         let here : Some event ≡ Some (Step c) =
         sym (slice_get-push_last events event) ∙ ap (slice_get more) (sym last) ∙ recorded.event in cc in
-        let busy = busy-call events c did.op plan in
+        let busy = busy-call events c did.op admitted plan in
         let index : r.count ≡ did.index = count-traced_of M mix env events ∙ sym last in
         let made : ◌≡◌ {A = Did} (record { index = r.count; op = did.op; old = old_of r.world.core.words did.op }) did =
         (λ i. record { index = index i; op = did.op; old = found i }) in
@@ -272,22 +273,24 @@ module _ (M : Type 0) (mix : ℕ → ℕ → ℕ → ℕ) (env : Env) where
         ∙ ap (λ (o : Option Call). trace_did o (record { index = r.count; op = did.op; old = old_of r.world.core.words did.op }) (ending_of next.0 next.1) (r.traces c)) busy.1
         ∙ ap (λ (d : Did). trace_did (Some busy.0) d (ending_of next.0 next.1) (r.traces c)) made in
         let number : length (r.traces c).past ≡ calls_ended M mix env (take did.index more) c =
-        sym (length-map (r.traces c).past (λ (past : Past). past.done)) ∙ ap length (traces_of_books M mix env events c).past
+        sym (length-map (r.traces c).past (λ (past : Past). past.done)) ∙ ap length (traces_of_books M mix env events c admitted).past
         ∙ ap (λ (w : World M). length (w.books c).finished) (sym world) in
         subst (λ (t : Trace). IsStepOf t (calls_ended M mix env (take did.index more) c) did) (sym stepped)
         (subst (λ n. IsStepOf (trace_did (Some busy.0) did (ending_of next.0 next.1) (r.traces c)) n did) number
         (newest-in (r.traces c) did busy.0 (ending_of next.0 next.1)))
 
-  all_stand : (events : List Event) → AllStand events
+  all_stand : (events : List Event) → IsAdmitted env.config.kind events → AllStand events
   all_stand =
-      induct_by_last AllStand (λ c did recorded. let none = recorded.event in absurd (cc))
-      (λ events event each c did recorded.
+      induct_by_last (λ events. IsAdmitted env.config.kind events → AllStand events)
+      (λ none c did recorded. let nothing = recorded.event in absurd (cc))
+      (λ events event each all c did recorded.
+      let admitted = (AllByRecursion-cut (IsAdmittedEvent env.config.kind) events (event ∷ []) all).0 in
       let within = slice_get_within (events ++ event ∷ []) did.index (Step c) recorded.event in
       let longer = length_push events event in
       let stands : IsStepOf (traces_after mix (R events) event c) (calls_ended M mix env (take did.index (events ++ event ∷ [])) c) did =
       elim (cases_eq did.index (length events)) [
-        | inl last ↦ newest events event c did recorded last
-        | inr less ↦ older events event c did recorded each (omega (arith, within, longer, less))
+        | inl last ↦ newest events admitted event c did recorded last
+        | inr less ↦ older events admitted event c did recorded (each admitted) (omega (arith, within, longer, less))
       ] in
       subst (λ (r : Traced M). IsStepOf (r.traces c) (calls_ended M mix env (take did.index (events ++ event ∷ [])) c) did)
       (sym (traced_of-push M mix env events event)) stands)
@@ -398,7 +401,7 @@ module _ (M : Type 0) (mix : ℕ → ℕ → ℕ → ℕ) (env : Env) (events : 
   last-rising : (job : Option Job) → IsAtJob M mix env (Holds M mix env) (Answered M mix env) job book trace.steps
       → IsRising (behind_calls 0 trace.past) trace.steps
   last-rising None at =
-      let none = nil_from_length trace.steps ((traces_of_books M mix env events c).steps ∙ at.steps) in
+      let none = nil_from_length trace.steps ((traces_of_books M mix env events c admitted).steps ∙ at.steps) in
       subst (IsRising (behind_calls 0 trace.past)) (sym none) tt
   last-rising (Some job) at =
       let progress = subst (λ (o : Option Call). IfSome o (IsInProgress events c trace)) at.call (at_events M mix env events admitted c).progress in
@@ -407,11 +410,11 @@ module _ (M : Type 0) (mix : ℕ → ℕ → ℕ → ℕ) (env : Env) (events : 
   all-rising : AreRisingLists 0 (steps_by_call trace)
   all-rising =
       calls-rising 0 trace.past trace.steps (at_events M mix env events admitted c).in_order
-      (last-rising _ (runs-right M mix env events c).now)
+      (last-rising _ (runs-right M mix env events c admitted).now)
 
 pub all_steps_traced : (M : Type 0) (mix : ℕ → ℕ → ℕ → ℕ) → AllStepsTraced M mix
 all_steps_traced M mix env events c did admitted recorded =
-    let there = all_stand M mix env events c did recorded in
+    let there = all_stand M mix env events admitted c did recorded in
     record {
       there = there;
       only = λ other is.

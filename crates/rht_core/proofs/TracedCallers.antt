@@ -9,25 +9,22 @@ use Rattle.std.proofs.lemmas.Bool.{cases_eq}
 use Rattle.rht_words.specs.declared.op.Op.{Op}
 use Rattle.rht_words.specs.declared.env.Env.{Env}
 use Rattle.rht_words.specs.Operations.{old_of}
-use Rattle.rht_words.specs.Places.{words_in}
-use Rattle.rht_words.proofs.EachElement.{each_replicate, slice_get-push_last}
+use Rattle.rht_words.proofs.EachElement.{AllByRecursion-cut, each_replicate, slice_get-push_last}
 use Rattle.rht_model.specs.declared.history.Call.{Call}
 use Rattle.rht_model.specs.declared.history.Reply.{Reply}
 use Rattle.rht_core.specs.declared.event.Event.{Event}
 use Rattle.rht_core.specs.declared.event.Event.TheVariants.{Enroll, Begin, Step}
 use Rattle.rht_core.specs.declared.local.Local.{Local}
 use Rattle.rht_core.specs.declared.local.Doing.{Doing}
-use Rattle.rht_core.specs.Locals.{IsLocalOf, fresh, is_idle, machine_of, plan_of, local_after, ending_of}
-use Rattle.rht_core.specs.Runs.{World, Seen, seen, local_of, new_book, beginning_in, planned_in, with_step, core_step, world_step, run_of}
+use Rattle.rht_core.specs.Locals.{fresh, is_idle, machine_of, plan_of, local_after, ending_of, IsLocalOf}
+use Rattle.rht_core.specs.Runs.{Core, World, Seen, IsAdmitted, IsAdmittedEvent, seen, local_of, new_book, beginning_in, planned_in, with_step, core_step, world_step, run_of}
 use Rattle.rht_core.specs.Traces.{Did, Trace, Traced, trace_begun, trace_did, traces_after, traced_step, traced_of}
 use Rattle.rht_core.specs.Laws.{IsRecorded, seen_begin, seen_step}
 use Rattle.rht_core.proofs.Worlds.{induct_by_last, take-push_all, beginning-some, planned-some, begin_none, begin_self, begin_other, step_none, step_self, step_other}
 use Rattle.rht_core.proofs.SoundRuns.{StaysIn, runs-in, made_in, has_place}
-use Rattle.rht_core.proofs.Ghosts.{Ghost}
-use Rattle.rht_core.proofs.Wholes.{Whole}
-use Rattle.rht_core.proofs.Steps.{mem}
-use Rattle.rht_core.proofs.Invariants.{CallerKnows}
-use Rattle.rht_core.proofs.InvariantRuns.{HasInv, has_inv}
+use Rattle.rht_core.proofs.Theory.Ghosts.{Ghost}
+use Rattle.rht_core.proofs.Events.Invariants.{Inv, StepOf, step_of}
+use Rattle.rht_core.proofs.Events.InvariantRuns.{HasInv, has_inv}
 use Rattle.rht_core.proofs.TracedRuns.{no_trace, traced_of-push, world-traced_of, count-traced_of, trace_with, trace_begin_none, trace_begin_self, trace_begin_other, trace_step_none, trace_step_self, trace_step_other}
 
 module _ (M : Type 0) (mix : ℕ → ℕ → ℕ → ℕ) (env : Env) where
@@ -44,19 +41,19 @@ module _ (M : Type 0) (mix : ℕ → ℕ → ℕ → ℕ) (env : Env) where
 
   -- ---- the operation at the last event
 
-  -- in these words a caller that does this knows what its state says, and the operation finds what it found
+  -- in this core of a run the caller does this and makes a step with this operation, which found what it found
   pub record IsKnown (c : ℕ) (local : Local M) (did : Did) : Type 0 where
-    pub words : List ℕ
+    pub core : Core M
+    pub here : local_of core c ≡ local
     pub ghost : Ghost
-    pub all : length words ≡ words_in env.geometry
-    pub whole : Whole env mix (mem env mix words) ghost
-    pub knows : CallerKnows env mix M c local.doing (mem env mix words) ghost
-    pub found : did.old ≡ old_of words did.op
+    pub inv : Inv env mix M core ghost
+    pub step : StepOf env mix M core ghost c did.op
+    pub found : did.old ≡ old_of core.words did.op
 
   -- behind these events a caller that does this makes this operation, and the run remembers it
   pub record IsMade (events : List Event) (c : ℕ) (local : Local M) (did : Did) : Type 0 where
     pub plan : plan_of local ≡ Some did.op
-    pub of : IsLocalOf env local
+    pub table : IsLocalOf env local
     pub known : IsKnown c local did
     pub index : did.index ≡ length events
     pub recorded : IsRecorded M mix env (events ++ Step c ∷ []) c did
@@ -74,28 +71,29 @@ module _ (M : Type 0) (mix : ℕ → ℕ → ℕ → ℕ) (env : Env) where
   stays_in events =
       subst (λ (w : World M). StaysIn M mix env w.core) (sym (world-traced_of M mix env events)) (runs-in M mix env events)
 
-  inv_now : (events : List Event) → HasInv env mix M (R events).world.core
-  inv_now events =
-      subst (λ (w : World M). HasInv env mix M w.core) (sym (world-traced_of M mix env events)) (has_inv env mix M events)
+  inv_now : (events : List Event) → IsAdmitted env.config.kind events → HasInv env mix M (R events).world.core
+  inv_now events admitted =
+      subst (λ (w : World M). HasInv env mix M w.core) (sym (world-traced_of M mix env events)) (has_inv env mix M events admitted)
 
   -- the operation that is made next
   abbrev did_next : List Event → Op → Did
   did_next events op = record { index = (R events).count; op = op; old = old_of (R events).world.core.words op }
 
-  did_next-made : (events : List Event) (c : ℕ) (op : Op) → planned_by c (R events).world ≡ Some op
+  did_next-made : (events : List Event) (c : ℕ) (op : Op) → IsAdmitted env.config.kind events
+      → planned_by c (R events).world ≡ Some op
       → IsMade events c (local_of (R events).world.core c) (did_next events op)
-  did_next-made events c op is =
+  did_next-made events c op admitted is =
       let core = (R events).world.core in
-      let has = inv_now events in
+      let has = inv_now events admitted in
       record {
         plan = (planned-some core.env core.enrolled core.locals c op is).plan;
-        of = (stays_in events).locals_of c;
+        table = (stays_in events).locals_of c;
         known = record {
-          words = core.words;
+          core = core;
+          here = refl;
           ghost = has.ghost;
-          all = (stays_in events).all_words;
-          whole = has.inv.whole;
-          knows = has.inv.each c;
+          inv = has.inv;
+          step = step_of env mix M core has.ghost c op has.all has.inv is;
           found = refl;
         };
         index = count-traced_of M mix env events;
@@ -132,7 +130,8 @@ module _ (M : Type 0) (mix : ℕ → ℕ → ℕ → ℕ) (env : Env) where
     abbrev AllKeep : List Event → Traced M → Type 0
     AllKeep events r = (k : ℕ) → P events k (seen r.world k) (r.traces k)
 
-    module _ (kept : IsKeptTraced) (events : List Event) (each : AllKeep events (R events)) where
+    module _ (kept : IsKeptTraced) (events : List Event) (admitted : IsAdmitted env.config.kind events)
+        (each : AllKeep events (R events)) where
       abbrev r : Traced M
       r = R events
 
@@ -190,7 +189,7 @@ module _ (M : Type 0) (mix : ℕ → ℕ → ℕ → ℕ) (env : Env) where
                 (sym same)
                 (put more c (seen_step mix did.old (seen r.world c)) _ _ (trace_with M mix r c op)
                 (step_self M mix r.world c op is place) (trace_step_self M mix r c op is)
-                (kept.steps events c did (seen r.world c) (r.traces c) (did_next-made events c op is) (each c)))
+                (kept.steps events c did (seen r.world c) (r.traces c) (did_next-made events c op admitted is) (each c)))
             | inr other ↦
                 stay (Step c) k _ _ (step_other M mix r.world c k other) (trace_step_other M mix r c k other)
           ]
@@ -203,36 +202,14 @@ module _ (M : Type 0) (mix : ℕ → ℕ → ℕ → ℕ) (env : Env) where
       event_keeps (Step c) k = steps c (planned_by c r.world) refl k
 
     -- so it holds of every caller in every run
-    pub traced_callers_keep : IsKeptTraced → (events : List Event) (c : ℕ)
+    pub traced_callers_keep : IsKeptTraced → (events : List Event) (c : ℕ) → IsAdmitted env.config.kind events
         → P events c (seen (R events).world c) ((R events).traces c)
-    traced_callers_keep kept =
-        induct_by_last (λ events. AllKeep events (R events))
-        (λ k.
+    traced_callers_keep kept events c admitted =
+        induct_by_last (λ es. IsAdmitted env.config.kind es → AllKeep es (R es))
+        (λ none k.
         each_replicate (λ (local : Local M). P [] k (record { local = local; book = new_book }) no_trace) env.geometry.callers k (fresh env)
         (kept.opens k))
-        (λ events event each.
-        subst (AllKeep (events ++ event ∷ [])) (sym (traced_of-push M mix env events event)) (event_keeps kept events each event))
-
-  -- ---- what callers keep of themselves alone
-
-  module _ (P : ℕ → Seen M → Type 0) where
-    -- it is kept by a caller that begins a call, which is idle, and by one that is told a word, which plans an operation
-    pub record IsKept : Type 0 where
-      pub opens : (c : ℕ) → P c (record { local = fresh env; book = new_book })
-      pub begins : (c : ℕ) (call : Call) (machine : Doing M) (seen : Seen M) → is_idle seen.local ≡ true
-          → machine_of env c call ≡ Some machine
-          → P c seen → P c (seen_begin call machine seen)
-      pub steps : (c : ℕ) (op : Op) (old : ℕ) (seen : Seen M) → plan_of seen.local ≡ Some op → P c seen
-          → P c (seen_step mix old seen)
-
-    pub callers_keep : IsKept → (events : List Event) (c : ℕ) → P c (seen (run_of mix env events) c)
-    callers_keep kept events c =
-        subst (λ (w : World M). P c (seen w c)) (world-traced_of M mix env events)
-        (traced_callers_keep (λ past k here trace. P k here)
-        record {
-          opens = kept.opens;
-          stays = λ past event k here trace p. p;
-          begins = λ past k call machine index here trace now idle made p. kept.begins k call machine here idle made p;
-          steps = λ past k did here trace made p. kept.steps k did.op did.old here made.plan p;
-        }
-        events c)
+        (λ es event each all.
+        let before = (AllByRecursion-cut (IsAdmittedEvent env.config.kind) es (event ∷ []) all).0 in
+        subst (AllKeep (es ++ event ∷ [])) (sym (traced_of-push M mix env es event)) (event_keeps kept es before (each before) event))
+        events admitted c

@@ -6,6 +6,7 @@ use Rattle.std.specs.List.{AllByRecursion}
 use Rattle.rht_words.specs.declared.env.Env.{Env}
 use Rattle.rht_words.specs.declared.machine.Next.{Next}
 use Rattle.rht_words.specs.declared.machine.Next.TheVariants.{Go, Done}
+use Rattle.rht_words.specs.Machines.{GoesOrEnds}
 use Rattle.rht_words.specs.Operations.{old_of}
 use Rattle.rht_words.specs.Places.{words_in}
 use Rattle.rht_model.specs.declared.history.Call.{Call}
@@ -15,16 +16,17 @@ use Rattle.rht_find.specs.Find as find
 use Rattle.rht_find.specs.declared.find.FindAt.{FindAt}
 use Rattle.rht_find.specs.declared.find.FindAt.TheVariants.{CurrentTable}
 use Rattle.rht_bind.specs.Bind as bind
+use Rattle.rht_bind.specs.Bind.{IsBindAtIn}
 use Rattle.rht_bind.specs.declared.bind.BindAt.{BindAt}
 use Rattle.rht_core.specs.declared.event.Event.{Event}
 use Rattle.rht_core.specs.Jobs.{Job, finds, binds}
 use Rattle.rht_core.specs.Replies.{IsFindReply, IsBindReply}
+use Rattle.rht_core.specs.Runs.{IsAdmitted}
 use Rattle.rht_core.specs.Traces.{Did, Traced, traced_of}
-use Rattle.rht_core.proofs.Ghosts.{Ghost}
-use Rattle.rht_core.proofs.Wholes.{Whole}
-use Rattle.rht_core.proofs.Steps.{mem}
-use Rattle.rht_core.proofs.BindSteps.{BindKnows}
-use Rattle.rht_words.specs.Machines.{GoesOrEnds}
+use Rattle.rht_core.proofs.Theory.Ghosts.{Ghost}
+use Rattle.rht_core.proofs.Theory.Wholes.{Whole}
+use Rattle.rht_core.proofs.Theory.Steps.{mem}
+use Rattle.rht_core.proofs.Machines.JobSteps.{JobKnows}
 use Rattle.rht_core.proofs.MachineReplies.{HoldsFindReply, HoldsBindReply, find_after-replies, bind_after-replies}
 use Rattle.rht_core.proofs.RepliesInRuns.{JobHolds}
 use Rattle.rht_core.proofs.TracedJobs.{IsEndedSo, jobs_keep, by_machines}
@@ -34,9 +36,9 @@ pub record FindDoes (env : Env) (state : FindAt) (did : Did) : Type 0 where
   pub planned : did.op ≡ find.plan_at env state
   pub holds : HoldsFindReply state
 
--- a bind in this state performs this operation, in words of which it knows what its state says; and the reply that it holds is
+-- a bind in this state performs this operation, in words in which it knows what its state says; and the reply that it holds is
 -- one of a bind with a node
-pub record BindDoes (env : Env) (mix : ℕ → ℕ → ℕ → ℕ) (port owner : ℕ) (state : BindAt) (did : Did) : Type 0 where
+pub record BindDoes (env : Env) (mix : ℕ → ℕ → ℕ → ℕ) (port owner : ℕ) (once : Bool) (state : BindAt) (did : Did) : Type 0 where
   pub planned : did.op ≡ bind.plan_at env state
   pub holds : HoldsBindReply state
   pub caller : ℕ
@@ -44,7 +46,8 @@ pub record BindDoes (env : Env) (mix : ℕ → ℕ → ℕ → ℕ) (port owner 
   pub ghost : Ghost
   pub all : length words ≡ words_in env.geometry
   pub whole : Whole env mix (mem env mix words) ghost
-  pub knows : BindKnows env mix caller port owner state (mem env mix words) ghost
+  pub within : IsBindAtIn env state
+  pub knows : JobKnows env mix caller (binds port owner once state) (mem env mix words) ghost
   pub found : did.old ≡ old_of words did.op
 
 -- what holds of a state or an answer, and what else does
@@ -68,7 +71,7 @@ module _ (M : Type 0) (mix : ℕ → ℕ → ℕ → ℕ) (env : Env) (Now : Job
           → let all = steps ++ did ∷ [] in
           GoesOrEnds (λ next. Now (finds port next) all) (λ reply. Ended (Find port) (plain_ending reply) all) (find.after_at mix env port state did.old)
       pub bind_goes : (port owner : ℕ) (once : Bool) (state : BindAt) (steps : List Did) (did : Did)
-          → BindDoes env mix port owner state did
+          → BindDoes env mix port owner once state did
           → Now (binds port owner once state) steps
           → let all = steps ++ did ∷ [] in
           GoesOrEnds (λ next. Now (binds port owner once next) all) (λ reply. Ended (Bind port owner once) (plain_ending reply) all) (bind.after_at mix env port state did.old)
@@ -78,10 +81,10 @@ module _ (M : Type 0) (mix : ℕ → ℕ → ℕ → ℕ) (env : Env) (Now : Job
     HoldsNow job steps = JobHolds job × Now job steps
 
     -- so what machines keep holds of the past calls of every caller in every run
-    pub calls_keep : CallsKeep → (events : List Event) (c : ℕ)
+    pub calls_keep : CallsKeep → (events : List Event) (c : ℕ) → IsAdmitted env.config.kind events
         → let r : Traced M = traced_of mix env events in
         AllByRecursion (IsEndedSo M mix env HoldsNow Ended) (r.traces c).past
-    calls_keep keep events c =
+    calls_keep keep events c admitted =
         (jobs_keep M mix env HoldsNow Ended
         (by_machines M mix env HoldsNow Ended
         record {
@@ -107,9 +110,10 @@ module _ (M : Type 0) (mix : ℕ → ℕ → ℕ → ℕ) (env : Env) (Now : Job
                 ghost = performs.ghost;
                 all = performs.all;
                 whole = performs.whole;
+                within = performs.within.at_in;
                 knows = performs.knows;
                 found = performs.found;
               }
               now.1);
         })
-        events c).past
+        events c admitted).past

@@ -12,8 +12,10 @@ use Rattle.rht_words.specs.declared.config.Kind.{Kind}
 use Rattle.rht_words.specs.declared.config.Kind.TheVariants.{Single, Listed}
 use Rattle.rht_words.specs.declared.machine.Next.{Next}
 use Rattle.rht_words.specs.declared.machine.Next.TheVariants.{Go, Done}
+use Rattle.rht_words.specs.Machines.{GoesOrEnds}
 use Rattle.rht_words.specs.Operations.{old_of}
 use Rattle.rht_words.specs.Places.{words_in}
+use Rattle.rht_words.proofs.Memory.{Memory}
 use Rattle.rht_words.proofs.EachElement.{AllByRecursion-push, last_or-push}
 use Rattle.rht_model.specs.declared.history.Call.{Call}
 use Rattle.rht_model.specs.declared.history.Call.TheVariants.{Bind, Find}
@@ -28,17 +30,18 @@ use Rattle.rht_core.specs.declared.event.Event.{Event}
 use Rattle.rht_core.specs.declared.book.Book.{Book}
 use Rattle.rht_core.specs.declared.local.Local.{Local}
 use Rattle.rht_core.specs.declared.local.Doing.{Doing}
+use Rattle.rht_core.specs.declared.local.Doing.TheVariants.{Idle, Finding, Binding}
 use Rattle.rht_core.specs.Locals.{is_idle, machine_of, local_after, ending_of}
-use Rattle.rht_core.specs.Jobs.{Job, finds, binds, call_of, first_bind, first_job, job_plan, finds_next, binds_next, job_after, job_of, told}
-use Rattle.rht_core.specs.Runs.{Seen, seen, book_begun, book_after, finished_with}
+use Rattle.rht_core.specs.Jobs.{Job, finds, binds, call_of, first_bind, first_job, job_plan, finds_next, binds_next, job_after, job_of, told, held_of, held_next}
+use Rattle.rht_core.specs.Runs.{Seen, IsAdmitted, seen, book_begun, book_after, finished_with}
 use Rattle.rht_core.specs.Traces.{Did, Past, Trace, Traced, trace_begun, trace_did, traced_of}
 use Rattle.rht_core.specs.Replies.{IsBookOfIdle, owners_with, pairs_with, HasLists}
 use Rattle.rht_core.specs.Laws.{seen_begin, seen_step}
-use Rattle.rht_words.specs.Machines.{GoesOrEnds}
-use Rattle.rht_core.proofs.Ghosts.{Ghost}
-use Rattle.rht_core.proofs.Wholes.{Whole}
-use Rattle.rht_core.proofs.Steps.{mem}
-use Rattle.rht_core.proofs.JobsOfCallers.{JobKnows, is_no_job, has_ended, HasNoLists, same_call, left-told, nothing-job, first_job-machine, plan-job, knows-job, local_after-job}
+use Rattle.rht_core.proofs.JobsOfCallers.{is_no_job, has_ended, HasNoLists, same_call, left-told, nothing-job, first_job-machine, local_after-job}
+use Rattle.rht_core.proofs.Theory.Ghosts.{Ghost}
+use Rattle.rht_core.proofs.Theory.Wholes.{Whole}
+use Rattle.rht_core.proofs.Theory.Steps.{mem, Step}
+use Rattle.rht_core.proofs.Machines.JobSteps.{JobIn, JobKnows, JobNext}
 use Rattle.rht_core.proofs.TracedCallers.{IsMade, IsKeptTraced, traced_callers_keep}
 
 -- ---- the calls of a book
@@ -93,6 +96,55 @@ module _ {M : Type 0} where
         pairs = ap pairs_with last ∙ ap (λ b. cond b (pairs_with (last_or None after)) []) (sym idle);
       }
 
+-- ---- an operation of a job
+
+module _ (mix : ℕ → ℕ → ℕ → ℕ) (env : Env) where
+  -- a job performs this operation in these words, in which it knows what its state says; the operation found what it found,
+  -- and is a step of the job
+  pub record Performs (job : Job) (did : Did) : Type 0 where
+    pub planned : did.op ≡ job_plan env job
+    pub caller : ℕ
+    pub words : List ℕ
+    pub ghost : Ghost
+    pub all : length words ≡ words_in env.geometry
+    pub whole : Whole env mix (mem env mix words) ghost
+    pub within : JobIn env mix caller job
+    pub knows : JobKnows env mix caller job (mem env mix words) ghost
+    pub found : did.old ≡ old_of words did.op
+    pub step :
+        let r = job_after mix env job did.old in
+        Step env mix caller (call_of job) words ghost did.op (held_of job) (held_next r) (JobNext env mix caller r)
+
+  -- the step of a caller is its job's
+  pub record PerformsAs (doing : Option Job) (did : Did) : Type 0 where
+    pub job : Job
+    pub does : doing ≡ Some job
+    pub performs : Performs job did
+
+  pub performs-made : (M : Type 0) (events : List Event) (c : ℕ) (local : Local M) (did : Did)
+      → IsMade M mix env events c local did → PerformsAs (job_of local.doing) did
+  performs-made M events c local did made =
+      let known = made.known in
+      let of = known.step in
+      record {
+        job = of.job;
+        does = ap (λ (l : Local M). job_of l.doing) (sym known.here) ∙ of.is;
+        performs = record {
+          planned = of.plan;
+          caller = c;
+          words = known.core.words;
+          ghost = known.ghost;
+          all = of.all;
+          whole = known.inv.whole;
+          within = of.within;
+          knows = of.knows;
+          found = known.found;
+          step = subst (λ old. let r = job_after mix env of.job old in
+              Step env mix c (call_of of.job) known.core.words known.ghost did.op (held_of of.job) (held_next r) (JobNext env mix c r))
+              (sym known.found) of.step;
+        };
+      }
+
 -- ---- what is kept of calls
 
 -- `Now` says what is kept of the operations of a call in progress, by its job, and `Ended` what is kept of those of a call
@@ -100,17 +152,6 @@ module _ {M : Type 0} where
 module _ (M : Type 0) (mix : ℕ → ℕ → ℕ → ℕ) (env : Env) (Now : Job → List Did → Type 0)
     (Ended : Call → Ending → List Did → Type 0)
   where
-    -- a job performs this operation, in words of which its caller knows what its state says
-    pub record Performs (job : Job) (did : Did) : Type 0 where
-      pub planned : did.op ≡ job_plan env job
-      pub caller : ℕ
-      pub words : List ℕ
-      pub ghost : Ghost
-      pub all : length words ≡ words_in env.geometry
-      pub whole : Whole env mix (mem env mix words) ghost
-      pub knows : JobKnows env mix caller job (mem env mix words) ghost
-      pub found : did.old ≡ old_of words did.op
-
     -- what a job's operation leads to, which is the last of these
     abbrev pub LeadsOn : Job → List Did → Job × Next Ending → Type 0
     LeadsOn job all next = GoesOrEnds (λ after. Now after all) (λ ending. Ended (call_of job) ending all) next
@@ -118,7 +159,7 @@ module _ (M : Type 0) (mix : ℕ → ℕ → ℕ → ℕ) (env : Env) (Now : Job
     -- what has to be shown of jobs; no job turns into one of another call
     pub record JobsKeep : Type 0 where
       pub begins : (call : Call) (job : Job) → first_job env call ≡ Some job → Now job []
-      pub goes : (job : Job) (steps : List Did) (did : Did) → Performs job did → Now job steps
+      pub goes : (job : Job) (steps : List Did) (did : Did) → Performs mix env job did → Now job steps
           → LeadsOn job (steps ++ did ∷ []) (job_after mix env job did.old)
 
     -- what holds of a call that has ended
@@ -191,26 +232,16 @@ module _ (M : Type 0) (mix : ℕ → ℕ → ℕ → ℕ) (env : Env) (Now : Job
           IsKeeping (seen_step mix did.old here) (trace_did here.book.call did (ending_of next.0 next.1) trace)
       steps-keeping events c did here trace made keeping =
           let next = local_after mix here.local did.old in
-          let planning = plan-job env here.local.doing did.op made.of made.plan in
+          let planning = performs-made mix env M events c here.local did made in
           let job = planning.job in
           let busy = nothing-job here.local.doing ∙ ap is_no_job planning.does in
           let none = busy-none here.local here.book busy keeping.lists in
           let work : IsAtWork job here.book trace.steps =
           subst (λ (j : Option Job). IsAtJob j here.book trace.steps) planning.does keeping.now in
-          let leads = keep.goes job trace.steps did
-          record {
-            planned = planning.plan;
-            caller = c;
-            words = made.known.words;
-            ghost = made.known.ghost;
-            all = made.known.all;
-            whole = made.known.whole;
-            knows = knows-job env mix c here.local.doing job _ _ planning.does made.known.knows;
-            found = made.known.found;
-          }
-          work.now in
+          let performs = planning.performs in
+          let leads = keep.goes job trace.steps did performs work.now in
           let after = job_after mix env job did.old in
-          let left = local_after-job mix env here.local job did.old none made.of planning.does in
+          let left = local_after-job mix env here.local job did.old none made.table planning.does in
           let kept =
           subst (IsKeptBy here.book trace did) (sym left)
           (told-kept here.book trace did job after (same_call mix env job did.old) work.call keeping.past leads) in
@@ -240,7 +271,7 @@ module _ (M : Type 0) (mix : ℕ → ℕ → ℕ → ℕ) (env : Env) (Now : Job
       }
 
       -- so what jobs keep holds of the calls of every caller in every run
-      pub jobs_keep : (events : List Event) (c : ℕ)
+      pub jobs_keep : (events : List Event) (c : ℕ) → IsAdmitted env.config.kind events
           → let r : Traced M = traced_of mix env events in IsKeeping (seen r.world c) (r.traces c)
       jobs_keep = traced_callers_keep M mix env (λ events c. IsKeeping) keeps
 
@@ -251,12 +282,13 @@ module _ (M : Type 0) (mix : ℕ → ℕ → ℕ → ℕ) (env : Env) (Now : Job
       pub find_begins : (port : ℕ) → Now (finds port CurrentTable) []
       pub bind_begins : (port owner : ℕ) (once : Bool)
           → Now (binds port owner once (bind.first_state env port owner)) []
-      pub find_goes : (port : ℕ) (state : FindAt) (steps : List Did) (did : Did) → Performs (finds port state) did
+      pub find_goes : (port : ℕ) (state : FindAt) (steps : List Did) (did : Did)
+          → Performs mix env (finds port state) did
           → Now (finds port state) steps
           → let all = steps ++ did ∷ [] in
           GoesOrEnds (λ next. Now (finds port next) all) (λ reply. Ended (Find port) (plain_ending reply) all) (find.after_at mix env port state did.old)
       pub bind_goes : (port owner : ℕ) (once : Bool) (state : BindAt) (steps : List Did) (did : Did)
-          → Performs (binds port owner once state) did
+          → Performs mix env (binds port owner once state) did
           → Now (binds port owner once state) steps
           → let all = steps ++ did ∷ [] in
           GoesOrEnds (λ next. Now (binds port owner once next) all) (λ reply. Ended (Bind port owner once) (plain_ending reply) all) (bind.after_at mix env port state did.old)
@@ -288,7 +320,7 @@ module _ (M : Type 0) (mix : ℕ → ℕ → ℕ → ℕ) (env : Env) (Now : Job
       first_job-so (Bind port owner once) = first_bind-so port owner once env.config.kind
       first_job-so _ = tt
 
-      job-goes : (job : Job) (steps : List Did) (did : Did) → Performs job did → Now job steps
+      job-goes : (job : Job) (steps : List Did) (did : Did) → Performs mix env job did → Now job steps
           → LeadsOn job (steps ++ did ∷ []) (job_after mix env job did.old)
       job-goes (finds port state) steps did performs now =
           finds-leads port (steps ++ did ∷ []) (find.after_at mix env port state did.old)

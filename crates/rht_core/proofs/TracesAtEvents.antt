@@ -17,7 +17,7 @@ use Rattle.rht_core.specs.declared.event.Event.TheVariants.{Begin, Step}
 use Rattle.rht_core.specs.declared.book.Book.{Book}
 use Rattle.rht_core.specs.declared.local.Local.{Local}
 use Rattle.rht_core.specs.Locals.{local_after, ending_of}
-use Rattle.rht_core.specs.Runs.{World, planned_in, book_after, run_of}
+use Rattle.rht_core.specs.Runs.{World, IsAdmitted, planned_in, book_after, run_of}
 use Rattle.rht_core.specs.Traces.{Did, Past, Trace, Traced, trace_begun, trace_did, traced_of, IsRising, behind_steps, behind_call, behind_calls, AreInOrder}
 use Rattle.rht_core.specs.Laws.{IsInProgress, IsRecorded, IsAnsweredAt, IsPastCall, AtEvents}
 use Rattle.rht_core.proofs.Worlds.{take-push}
@@ -224,7 +224,7 @@ module _ (M : Type 0) (mix : ℕ → ℕ → ℕ → ℕ) (env : Env) where
         progress = tt;
       }
 
-  all-hold : (events : List Event) (c : ℕ)
+  all-hold : (events : List Event) (c : ℕ) → IsAdmitted env.config.kind events
       → let r : Traced M = traced_of mix env events in Holds events c (r.world.books c).call (r.traces c)
   all-hold =
       traced_callers_keep M mix env (λ events c here trace. Holds events c here.book.call trace)
@@ -240,7 +240,7 @@ module _ (M : Type 0) (mix : ℕ → ℕ → ℕ → ℕ) (env : Env) where
 
 pub at_events : (M : Type 0) (mix : ℕ → ℕ → ℕ → ℕ) → AtEvents M mix
 at_events M mix env events admitted c =
-    let holds = all-hold M mix env events c in
+    let holds = all-hold M mix env events c admitted in
     record {
       past = holds.past;
       in_order = holds.in_order;

@@ -9,7 +9,7 @@ use Rattle.rht_model.specs.Endings.{Ending}
 use Rattle.rht_core.specs.declared.event.Event.{Event}
 use Rattle.rht_core.specs.declared.book.Book.{Book}
 use Rattle.rht_core.specs.Locals.{local_after, ending_of}
-use Rattle.rht_core.specs.Runs.{book_begun, book_after, finished_with}
+use Rattle.rht_core.specs.Runs.{IsAdmitted, book_begun, book_after, finished_with}
 use Rattle.rht_core.specs.Traces.{Did, Past, Trace, Traced, trace_begun, trace_did, traced_of}
 use Rattle.rht_core.specs.Laws.{IsTraceOf, Remembers}
 use Rattle.rht_core.proofs.TracedRuns.{world-traced_of, count-traced_of}
@@ -43,7 +43,7 @@ did-of did (Some ending) book trace of =
     }
 
 pub traces_of_books : (M : Type 0) (mix : ℕ → ℕ → ℕ → ℕ) (env : Env) (events : List Event) (c : ℕ)
-    → let r : Traced M = traced_of mix env events in IsTraceOf (r.world.books c) (r.traces c)
+    → IsAdmitted env.config.kind events → let r : Traced M = traced_of mix env events in IsTraceOf (r.world.books c) (r.traces c)
 traces_of_books M mix env =
     traced_callers_keep M mix env (λ past c here trace. IsTraceOf here.book trace)
     record {
@@ -59,5 +59,5 @@ pub remembers : (M : Type 0) (mix : ℕ → ℕ → ℕ → ℕ) → Remembers M
 remembers M mix env events admitted = record {
   world = world-traced_of M mix env events;
   count = count-traced_of M mix env events;
-  traces = traces_of_books M mix env events;
+  traces = λ c. traces_of_books M mix env events c admitted;
 }

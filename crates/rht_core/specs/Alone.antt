@@ -1,12 +1,13 @@
 -- One call alone: its events stand together in a run whose other events are arbitrary, and no other caller is in the middle of a call.
-use Rattle.std.specs.Prelude.{◌≡◌, ℕ, ◌⊎◌, true, Some, List, [], ◌∷◌, ◌++◌, replicate}
+use Rattle.std.specs.Prelude.{◌≡◌, ℕ, true, Some, List, [], ◌∷◌, ◌++◌, replicate}
 use Rattle.rht_words.specs.declared.env.Env.{Env}
 use Rattle.rht_words.specs.declared.config.Kind.{Kind}
 use Rattle.rht_model.specs.declared.history.Call.{Call}
-use Rattle.rht_model.specs.declared.history.Reply.{Reply}
+use Rattle.rht_model.specs.declared.history.Entry.{Entry}
+use Rattle.rht_model.specs.declared.finished.Finished.{Finished}
 use Rattle.rht_model.specs.Multimap.{Multimap, Agree}
-use Rattle.rht_model.specs.Answers.{plain, answer_of, bindings_after, MayRefuse}
-use Rattle.rht_model.specs.Histories.{without_kick}
+use Rattle.rht_model.specs.Answers.{port_of}
+use Rattle.rht_model.specs.Histories.{IsLegalAt, left_by}
 use Rattle.rht_core.specs.declared.event.Event.{Event}
 use Rattle.rht_core.specs.declared.event.Event.TheVariants.{Begin, Step}
 use Rattle.rht_core.specs.Locals.{is_idle}
@@ -15,20 +16,14 @@ use Rattle.rht_core.specs.Traces.{Past, traced_of}
 use Rattle.rht_core.specs.StandsFor.{stands_for}
 use Rattle.rht_core.specs.Causes.{HasCause}
 
--- the reply is the answer of the call on these bindings, and the others are those that it leaves
-pub record IsAnsweredBy (kind : Kind) (before after : Multimap) (call : Call) (reply : Reply) : Type 0 where
-  pub answer : answer_of kind before call ≡ Some (plain (without_kick reply))
-  pub bindings : Agree after (bindings_after kind before call)
+-- the entry of a caller's call that has ended
+abbrev pub entry_done : ℕ → Finished → Entry
+entry_done c done = record { caller = c; call = done.call; reply = done.reply; owners = done.owners }
 
--- the reply is a refusal that the call may give, and the bindings are as before
-pub record IsRefusedWith (before after : Multimap) (call : Call) (reply : Reply) : Type 0 where
-  pub may : MayRefuse call reply
-  pub bindings : Agree after before
-
--- the call meets the model: it is answered as bindings say, or refused without a change
-abbrev pub MeetsModel : Kind → Multimap → Multimap → Call → Reply → Type 0
-MeetsModel kind before after call reply =
-    IsAnsweredBy kind before after call reply ⊎ IsRefusedWith before after call reply
+-- an entry meets the model between these bindings: it is legal on the ones, and the others are those that it leaves
+pub record MeetsModel (kind : Kind) (before after : Multimap) (entry : Entry) : Type 0 where
+  pub legal : IsLegalAt kind before entry
+  pub bindings : Agree after (left_by kind before entry)
 
 module _ (M : Type 0) (mix : ℕ → ℕ → ℕ → ℕ) where
   -- after these events nobody is in a call
@@ -43,13 +38,15 @@ module _ (M : Type 0) (mix : ℕ → ℕ → ℕ → ℕ) where
   abbrev pub call_events : ℕ → Call → ℕ → List Event
   call_events c call count = Begin c call ∷ replicate count (Step c)
 
-  -- a call whose events stand together while nobody else is in a call, and which has ended, meets the model; and its reply has its cause
+  -- a call about bindings whose events stand together while nobody else is in a call, and which has ended, meets the model with its
+  -- reply and its list; and its reply has its cause
   pub record MeetsAlone (env : Env) (before : List Event) (c : ℕ) (call : Call) (count : ℕ) (past : Past) : Type 0 where
-    pub model : MeetsModel env.config.kind (bindings_at env before) (bindings_at env (before ++ call_events c call count)) call past.done.reply
+    pub model : MeetsModel env.config.kind (bindings_at env before) (bindings_at env (before ++ call_events c call count)) (entry_done c past.done)
     pub cause : HasCause M mix env (before ++ call_events c call count) c past
 
   abbrev pub Alone : Type 0
-  Alone = (env : Env) (before : List Event) (c : ℕ) (call : Call) (count : ℕ) (past : Past)
+  Alone = (env : Env) (before : List Event) (c port : ℕ) (call : Call) (count : ℕ) (past : Past)
+      → port_of call ≡ Some port
       → IsAdmitted env.config.kind (before ++ call_events c call count)
       → IsQuiet env before
       → ((traced_of {M = M} mix env (before ++ call_events c call count)).traces c).past ≡ ((traced_of {M = M} mix env before).traces c).past ++ past ∷ []

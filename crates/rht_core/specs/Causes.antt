@@ -16,14 +16,7 @@ use Rattle.rht_core.specs.declared.event.Event.{Event}
 use Rattle.rht_core.specs.Locals.{is_idle}
 use Rattle.rht_core.specs.Runs.{Core, local_of, run_of, IsAdmitted}
 use Rattle.rht_core.specs.Traces.{Did, Past, performed_of, traced_of}
-use Rattle.rht_core.specs.StandsFor.{stands_for}
-
--- so many different ports are bound
-pub record AreBound (bindings : Multimap) (count : ℕ) : Type 0 where
-  pub ports : List ℕ
-  pub distinct : IsDistinct ports
-  pub bound : AllByRecursion (λ port. bindings port ≢ []) ports
-  pub many : length ports ≡ count
+use Rattle.rht_core.specs.StandsFor.{stands_for, AreBound}
 
 -- how many callers but this one are in the middle of a call
 abbrev pub others_in_call : {M : Type 0} → Core M → ℕ → ℕ

@@ -1,31 +1,26 @@
 -- What the count of ports counts, and what a table is like while nobody is in a call.
-use Rattle.std.specs.Prelude.{◌≡◌, ℕ, ◌+◌, ◌*◌, ◌/◌, ◌%◌, ◌<◌, ◌≤◌, ◌⊎◌, Bool, false, Some, List, count_by}
+use Rattle.std.specs.Prelude.{◌≡◌, ℕ, ◌+◌, ◌*◌, ◌/◌, ◌%◌, ◌<◌, ◌≤◌, ◌⊎◌, Bool, false, Option, Some, None, List, count_by}
 use Rattle.std.specs.List.{range_with_len}
 use Rattle.std.specs.Int.{bit_at}
 use Rattle.rht_words.specs.declared.env.Env.{Env}
 use Rattle.rht_words.specs.declared.geometry.Geometry.{Geometry}
 use Rattle.rht_words.specs.Places.{PortCount, NodeMap, PageWord, word_at}
 use Rattle.rht_model.specs.Multimap.{Multimap}
-use Rattle.rht_find.specs.FindHeld.{held_of_find}
-use Rattle.rht_bind.specs.BindHeld.{held_of_bind}
 use Rattle.rht_core.specs.declared.event.Event.{Event}
 use Rattle.rht_core.specs.declared.local.Doing.{Doing}
-use Rattle.rht_core.specs.declared.local.Doing.TheVariants.{Idle, Finding, Binding}
+use Rattle.rht_core.specs.Jobs.{Job, job_of, held_of}
 use Rattle.rht_core.specs.Runs.{Core, local_of, run_of, IsAdmitted}
-use Rattle.rht_core.specs.StandsFor.{first_node, stands_for}
-use Rattle.rht_core.specs.Causes.{AreBound}
+use Rattle.rht_core.specs.StandsFor.{first_node, stands_for, AreAllBound}
 use Rattle.rht_core.specs.Alone.{IsQuiet}
 
--- so many ports are bound, and no more
-pub record AreAllBound (bindings : Multimap) (count : ℕ) : Type 0 where
-  pub are : AreBound bindings count
-  pub most : (more : ℕ) → AreBound bindings more → more ≤ count
+-- the job has raised the count for a node that it hasn't linked yet
+abbrev pub raised_by : Option Job → Bool
+raised_by None = false
+raised_by (Some job) = (held_of job).raised
 
--- the caller has raised the count for a node that it hasn't linked yet
+-- the caller has
 abbrev pub is_raising : {M : Type 0} → Doing M → Bool
-is_raising Idle = false
-is_raising (Finding m) = (held_of_find m.at).raised
-is_raising (Binding m) = (held_of_bind m.at).raised
+is_raising doing = raised_by (job_of doing)
 
 -- how many callers have
 abbrev pub raising : {M : Type 0} → Core M → ℕ

@@ -10,7 +10,12 @@ use Rattle.rht_words.specs.declared.machine.Next.TheVariants.{Go, Done}
 use Rattle.rht_model.specs.declared.history.Call.{Call}
 use Rattle.rht_model.specs.declared.history.Call.TheVariants.{Bind, Find, All, Release, Rebind, Walk, Work, Tidy, Count}
 use Rattle.rht_model.specs.declared.history.Reply.{Reply}
+use Rattle.rht_words.specs.Held.{Held}
+use Rattle.rht_words.specs.Held as held
+use Rattle.rht_model.specs.Answers.{Answer}
 use Rattle.rht_model.specs.Endings.{Ending, plain_ending}
+use Rattle.rht_find.specs.FindHeld.{held_of_find}
+use Rattle.rht_bind.specs.BindHeld.{held_of_bind}
 use Rattle.rht_find.specs.Find as find
 use Rattle.rht_find.specs.declared.find.FindAt.{FindAt}
 use Rattle.rht_find.specs.declared.find.FindAt.TheVariants.{CurrentTable}
@@ -75,3 +80,15 @@ job_of (Binding m) = Some (binds m.port m.owner m.once m.at)
 abbrev pub told : Job × Next Ending → Option Job × Option Ending
 told (job, Go) = (Some job, None)
 told (job, Done ending) = (None, Some ending)
+
+-- ---- what a call holds, by its job
+
+-- what it holds in its state: its node, its lock, whether it has raised the count, and its answer once it is known
+abbrev pub held_of : Job → Held Answer
+held_of (finds port state) = held_of_find state
+held_of (binds port owner once state) = held_of_bind state
+
+-- and after an operation; once the call has ended it holds nothing, and its answer is known
+abbrev pub held_next : Job × Next Ending → Held Answer
+held_next (job, Go) = held_of job
+held_next (job, Done ending) = held.ended_with ending.answer

@@ -18,3 +18,5 @@ pub mod Causes
 pub mod Alone
 -- what the count of ports counts, and a table that nobody uses
 pub mod Counts
+-- histories whose entries carry the numbers of events
+pub mod Numbered

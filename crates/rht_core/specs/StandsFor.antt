@@ -1,8 +1,9 @@
 -- What the words of a table stand for: which owners each port has, first owner first.
 -- It is said of any words. At most eight tables are in force, and no chain and no list has more nodes than there are.
-use Rattle.std.specs.Prelude.{ℕ, zero, suc, ◌==◌, Bool, Option, None, Some, List, [], ◌∷◌, slice_index}
-use Rattle.std.specs.List.{find, flat_map, range_with_len}
+use Rattle.std.specs.Prelude.{◌≡◌, ◌≢◌, ℕ, zero, suc, ◌≤◌, ◌==◌, Bool, Option, None, Some, List, [], ◌∷◌, length, slice_index}
+use Rattle.std.specs.List.{AllByRecursion, find, flat_map, range_with_len}
 use Rattle.rht_words.specs.declared.geometry.Geometry.{Geometry}
+use Rattle.rht_words.specs.Members.{IsDistinct}
 use Rattle.rht_words.specs.Links.{node_of, table_of, slot_of, head_of}
 use Rattle.rht_words.specs.Ports.{word_of, owner_of}
 use Rattle.rht_words.specs.Shapes.{size_of, unpacked}
@@ -56,3 +57,15 @@ module _ (g : Geometry) (words : List ℕ) where
   -- the owners of each port
   abbrev pub stands_for : Multimap
   stands_for port = owners_from g.nodes (first_node port)
+
+-- so many different ports are bound
+pub record AreBound (bindings : Multimap) (count : ℕ) : Type 0 where
+  pub ports : List ℕ
+  pub distinct : IsDistinct ports
+  pub bound : AllByRecursion (λ port. bindings port ≢ []) ports
+  pub many : length ports ≡ count
+
+-- so many ports are bound, and no more
+pub record AreAllBound (bindings : Multimap) (count : ℕ) : Type 0 where
+  pub are : AreBound bindings count
+  pub most : (more : ℕ) → AreBound bindings more → more ≤ count

@@ -5,10 +5,10 @@ use Rattle.rht_words.specs.declared.env.Env.{Env}
 use Rattle.rht_words.specs.Places.{Address, PortCount, NodeMap, Node, NodeWord, KeyWord, OwnerWord, PageWord}
 use Rattle.rht_words.proofs.Memory.{Memory, IsWrite}
 use Rattle.rht_words.proofs.Members.{count_below-more, count_below-most}
-use Rattle.rht_core.proofs.Ghosts.{put, put-same, put-other, put-all, Ghost, lock_bit, is_first, with_holder, with_raised}
-use Rattle.rht_core.proofs.Wholes.{LockedRight, Whole, firsts, raisers}
-use Rattle.rht_core.proofs.Knowledge.{Rely}
-use Rattle.rht_core.proofs.Frames.{Others, Made, IsNoTableWord, firsts_stay, Rely-same, SameChains, same_chains, Whole-frame, locks_stay, arena_stays}
+use Rattle.rht_core.proofs.Theory.Ghosts.{put, put-same, put-other, put-all, Ghost, lock_bit, is_first, with_holder, with_raised}
+use Rattle.rht_core.proofs.Theory.Wholes.{LockedRight, Whole, firsts, raisers}
+use Rattle.rht_core.proofs.Theory.Knowledge.{Rely}
+use Rattle.rht_core.proofs.Theory.Frames.{Others, Made, IsNoTableWord, firsts_stay, tables_stay, same_tables, Rely-same, SameChains, same_chains, Whole-frame, locks_stay, arena_stays}
 
 module _ (env : Env) (mix : ℕ → ℕ → ℕ → ℕ) where
   -- ---- the lock of a bucket
@@ -17,8 +17,7 @@ module _ (env : Env) (mix : ℕ → ℕ → ℕ → ℕ) where
   held_chains G j holder =
       let held = record (G.bucket j) { holder = holder } in
       record {
-        attached = refl;
-        current = refl;
+        tables = same_tables env mix G (put G.bucket j held) G.node G.bound G.raised;
         nodes = put-all (λ i b. b.nodes ≡ (G.bucket i).nodes) G.bucket j held refl (λ i ne. refl);
         plain = put-all (λ i b. b.plain ≡ (G.bucket i).plain) G.bucket j held refl (λ i ne. refl);
         firsts_before = λ n i f. f;
@@ -33,7 +32,7 @@ module _ (env : Env) (mix : ℕ → ℕ → ℕ → ℕ) where
       → Whole env mix M' (with_holder G j holder)
   relocked j v holder M M' G whole l is write =
       let old = (whole.buckets j l).locked in
-      Whole-frame env mix M M' G (with_holder G j holder) (PageWord j) v whole write ((λ e. cc), (λ s e. cc)) (held_chains G j holder)
+      Whole-frame env mix M M' G (with_holder G j holder) (PageWord j) v whole write (record { current = λ e. cc; slots = λ s u h e. cc }) (held_chains G j holder)
       (firsts_stay env mix M M' G (PageWord j) v whole write (λ n w e. cc))
       (put-all (λ i b. i < 64 * env.geometry.pages → LockedRight env mix M' i b) G.bucket j (record (G.bucket j) { holder = holder })
       (λ k. record { word_is = write.same ∙ is; even = old.even; none_out = old.none_out; none_armed = old.none_armed })
@@ -51,10 +50,13 @@ module _ (env : Env) (mix : ℕ → ℕ → ℕ → ℕ) where
       → ((c : ℕ) → c ≢ d → (G.bucket j).holder ≢ Some c) → ((c : ℕ) → c ≢ d → holder ≢ Some c)
       → IsWrite env.geometry M M' (PageWord j) v → Others env mix d M G M' (with_holder G j holder)
   relocked_others d j v holder M M' G whole before after write c ne = record {
+    tables = tables_stay env mix M G (with_holder G j holder) whole
+        (same_tables env mix G (put G.bucket j (record (G.bucket j) { holder = holder })) G.node G.bound G.raised);
     locks = λ i h. put-other G.bucket j (record (G.bucket j) { holder = holder }) i (λ e. before c ne (rw (sym e) h));
-    words =
-        λ n i f. let l = (whole.owned.first_at n i f).among in (write.others (Node n KeyWord) l (λ e. cc), write.others (Node n OwnerWord) l (λ e. cc));
-    nodes = λ n has. (has.0, λ w. write.others (Node n w) has.1 (λ e. cc));
+    keys = λ n i f. write.others (Node n KeyWord) (whole.owned.first_at n i f).among (λ e. cc);
+    owners = λ n i f. write.others (Node n OwnerWord) (whole.owned.first_at n i f).among (λ e. cc);
+    nodes = λ n has. has.mine;
+    words = λ n has w. write.others (Node n w) has.among (λ e. cc);
     raised = refl;
     no_node = λ n h. h;
     no_lock = λ i. put-all (λ i b. b.holder ≡ Some c → (G.bucket i).holder ≡ Some c) G.bucket j (record (G.bucket j) { holder = holder })
@@ -112,23 +114,23 @@ module _ (env : Env) (mix : ℕ → ℕ → ℕ → ℕ) where
       = omega (arith, whole.counted, few, fewer, within.nodes_within.1, within.callers_within.1) in
       let stay = firsts_stay env mix M M' G PortCount v whole write (λ n w e. cc) in
       record {
-        whole = Whole-frame env mix M M' G (with_raised G d true) PortCount v whole write ((λ e. cc), (λ s e. cc)) (same_chains env mix G (put G.raised d true)) stay
+        whole = Whole-frame env mix M M' G (with_raised G d true) PortCount v whole write (record { current = λ e. cc; slots = λ s u h e. cc }) (same_chains env mix G (put G.raised d true)) stay
             (locks_stay env mix M M' G PortCount v whole write (λ j e. cc)) (arena_stays env mix M M' G PortCount v whole write (with_raised G d true) refl (λ i e. cc))
             (write.same ∙ next ∙ ap (λ x. firsts env mix G + x) (sym more));
-        others = λ c ne. Rely-same env mix c M M' G (with_raised G d true) refl refl (put-other G.raised d true c ne) stay
-            (λ n w has. write.others (Node n w) has.1 (λ e. cc));
+        others = λ c ne. Rely-same env mix c M M' G (with_raised G d true) whole (same_tables env mix G G.bucket G.node G.bound (put G.raised d true)) refl refl (put-other G.raised d true c ne) stay
+            (λ n w has. write.others (Node n w) has.among (λ e. cc));
       }
 
   -- ---- words of which the whole says nothing
 
   pub aside : (a : Address) (v : ℕ) (M M' : Memory) (G : Ghost) → Whole env mix M G
       → IsWrite env.geometry M M' a v
-      → IsNoTableWord env mix a → ((j : ℕ) → PageWord j ≢ a) → ((n : ℕ) (w : NodeWord) → Node n w ≢ a)
+      → IsNoTableWord env mix G a → ((j : ℕ) → PageWord j ≢ a) → ((n : ℕ) (w : NodeWord) → Node n w ≢ a)
       → ((i : ℕ) → NodeMap i ≢ a) → PortCount ≢ a
       → Whole env mix M' G × ((c : ℕ) → Rely env mix c M G M' G)
   aside a v M M' G whole write table page node map count =
       let stay = firsts_stay env mix M M' G a v whole write node in (
         Whole-frame env mix M M' G G a v whole write table (same_chains env mix G G.raised) stay (locks_stay env mix M M' G a v whole write page)
             (arena_stays env mix M M' G a v whole write G refl map) (write.others PortCount tt count ∙ whole.counted),
-        λ c. Rely-same env mix c M M' G G refl refl refl stay (λ n w has. write.others (Node n w) has.1 (node n w)),
+        λ c. Rely-same env mix c M M' G G whole (same_tables env mix G G.bucket G.node G.bound G.raised) refl refl refl stay (λ n w has. write.others (Node n w) has.among (node n w)),
       )

@@ -10,30 +10,13 @@ use Rattle.rht_words.proofs.Memory.{Memory, IsWrite}
 use Rattle.rht_words.specs.Members.{In, NotIn}
 use Rattle.rht_words.proofs.Members.{not_in_from, count_below-more}
 use Rattle.rht_words.proofs.ChainLemmas.{IsSegment-members}
-use Rattle.rht_core.proofs.Ghosts.{put, put-same, put-other, put-all, Bucket, Free, Held, First, Ghost, is_first, held_not_first, held_by_one}
-use Rattle.rht_core.proofs.Wholes.{chain_of, key_of, home, place_at, BucketRight, IsFirstAt, IsBoundTo, Owned, ArenaRight, IsBuilt, Whole, firsts, raisers}
-use Rattle.rht_core.proofs.Knowledge.{HasNode, NoKey}
-use Rattle.rht_core.proofs.Frames.{Made, FirstsStay, firsts_stay, OneTable-write, BucketRight-frame}
+use Rattle.rht_core.proofs.Theory.Ghosts.{put, put-same, put-other, put-all, Bucket, Free, Held, First, Ghost, is_first, held_not_first, held_by_one, table_at}
+use Rattle.rht_core.proofs.Theory.Wholes.{chain_of, key_of, home, place_at, IsHomeOf, BucketRight, IsFirstAt, IsBoundTo, Owned, ArenaRight, IsBuilt, Whole, firsts, raisers}
+use Rattle.rht_core.proofs.Theory.Passed.{home-within}
+use Rattle.rht_core.proofs.Theory.Knowledge.{HasNode}
+use Rattle.rht_core.proofs.Theory.Frames.{Made, FirstsStay, firsts_stay, SameTables, same_tables, tables_stay, TablesRight-write, IsHomeOf-same, BucketRight-frame}
 
 module _ (env : Env) (mix : ℕ → ℕ → ℕ → ℕ) where
-  NoKey-in : (M : Memory) (key m : ℕ) (nodes : List ℕ) → NoKey M key nodes → In m nodes → key_of M m ≡ key → ⊥
-  NoKey-in M key m [] none i same = i
-  NoKey-in M key m (node ∷ nodes) none (inl e) same = none.0 (ap (key_of M) (sym e) ∙ same)
-  NoKey-in M key m (node ∷ nodes) none (inr i) same = NoKey-in M key m nodes none.1 i same
-
-  -- a port of whose key no node is in its bucket is not bound
-  pub missed_unbound : (M : Memory) (G : Ghost) (port : ℕ) → Whole env mix M G
-      → NoKey M port (G.bucket (home env mix port)).nodes → G.bound port ≡ []
-  missed_unbound M G port whole none = go (G.bound port) refl
-    where
-      go : (nodes : List ℕ) → G.bound port ≡ nodes → G.bound port ≡ []
-      go [] e = e
-      go (m ∷ behind) e =
-          let to = whole.owned.bound_to port m behind e in
-          let at = whole.owned.first_at m to.bucket to.first in
-          let here : to.bucket ≡ home env mix port = at.at_home ∙ ap (home env mix) to.key_is in
-          absurd (NoKey-in M port m (G.bucket (home env mix port)).nodes none (subst (λ j. In m (G.bucket j).nodes) here at.there) to.key_is)
-
   head_of-link : (place n : ℕ) → head_of place (link_of n) ≡ link_of n
   head_of-link place n = grind (arith, nat_tests)
 
@@ -50,31 +33,31 @@ module _ (env : Env) (mix : ℕ → ℕ → ℕ → ℕ) where
     raised = put G.raised d false;
   }
 
-  -- what a bind knows when it links its node
-  pub record IsReady (d n port : ℕ) (M : Memory) (G : Ghost) : Type 0 where
+  -- what is known when a node is linked into a bucket: the caller has the node and the lock, and the port is bound nowhere
+  pub record IsReady (d n port j : ℕ) (M : Memory) (G : Ghost) : Type 0 where
     pub low : d < env.geometry.callers
-    pub among : home env mix port < 64 * env.geometry.pages
+    pub home_of : IsHomeOf env mix G port j
+    pub unbound : G.bound port ≡ []
     pub has : HasNode env mix d G n
     pub key : key_of M n ≡ port
     pub list : M (Node n ListLink) ≡ 0
-    pub holder : (G.bucket (home env mix port)).holder ≡ Some d
-    pub none : NoKey M port (G.bucket (home env mix port)).nodes
-    pub chain : chain_of M n ≡ head_of (place_at env mix (home env mix port)) (G.bucket (home env mix port)).plain
+    pub holder : (G.bucket j).holder ≡ Some d
+    pub chain : chain_of M n ≡ head_of (place_at env mix j) (G.bucket j).plain
     pub raised : G.raised d ≡ true
 
-  module _ (d n port : ℕ) (M M' : Memory) (G : Ghost) (whole : Whole env mix M G) (ready : IsReady d n port M G)
-      (write : IsWrite env.geometry M M' (PageWord (home env mix port)) (link_of n)) where
-    abbrev here : ℕ
-    here = home env mix port
-
+  module _ (d n port here : ℕ) (M M' : Memory) (G : Ghost) (whole : Whole env mix M G) (ready : IsReady d n port here M G)
+      (write : IsWrite env.geometry M M' (PageWord here) (link_of n)) where
     abbrev G' : Ghost
     G' = linked G d here n port
 
-    unbound : G.bound port ≡ []
-    unbound = missed_unbound M G port whole ready.none
+    same : SameTables env mix G G'
+    same = same_tables env mix G (put G.bucket here (linked_bucket (G.bucket here) n)) (put G.node n (First here)) (put G.bound port (n ∷ [])) (put G.raised d false)
+
+    within : here < 64 * env.geometry.pages
+    within = home-within env mix M G whole port (table_at G here) here ready.home_of.attached ready.home_of.here
 
     first_differs : (m j : ℕ) → G.node m ≡ First j → m ≢ n
-    first_differs m j first e = held_not_first (G.node n) d j ready.has.0 (ap G.node (sym e) ∙ first)
+    first_differs m j first e = held_not_first (G.node n) d j ready.has.mine (ap G.node (sym e) ∙ first)
 
     word_same : (m : ℕ) (w : NodeWord) → m < env.geometry.nodes → M' (Node m w) ≡ M (Node m w)
     word_same m w l = write.others (Node m w) l (λ e. cc)
@@ -87,12 +70,12 @@ module _ (env : Env) (mix : ℕ → ℕ → ℕ → ℕ) where
 
     linked_right : BucketRight env mix M' here (linked_bucket (G.bucket here) n)
     linked_right =
-        let old = whole.buckets here ready.among in
+        let old = whole.buckets here within in
         let rest : IsSegment (chain_of M') (head_of (place_at env mix here) (G.bucket here).plain) (G.bucket here).nodes (marker_of (place_at env mix here))
         = IsSegment-members (chain_of M) (chain_of M') (head_of (place_at env mix here) (G.bucket here).plain) (G.bucket here).nodes (marker_of (place_at env mix here))
         (λ m i. first_word m here ChainLink (whole.owned.member here m i)) old.chained.segment in
         let behind : chain_of M' n ≡ head_of (place_at env mix here) (G.bucket here).plain =
-        word_same n ChainLink ready.has.1 ∙ ready.chain in
+        word_same n ChainLink ready.has.among ∙ ready.chain in
         record {
           locked =
               record { word_is = write.same ∙ omega arith; even = omega arith; none_out = old.locked.none_out; none_armed = old.locked.none_armed };
@@ -116,7 +99,7 @@ module _ (env : Env) (mix : ℕ → ℕ → ℕ → ℕ) where
             alone = none;
             bucket = here;
             first = rw (sym same) (put-same G.node n (First here));
-            key_is = rw (sym same) (word_same n KeyWord ready.has.1 ∙ ready.key);
+            key_is = rw (sym same) (word_same n KeyWord ready.has.among ∙ ready.key);
           })
           (λ q ne e. let to = whole.owned.bound_to q m behind e in record {
             alone = to.alone;
@@ -129,23 +112,23 @@ module _ (env : Env) (mix : ℕ → ℕ → ℕ → ℕ) where
         new_first : IsFirstAt env mix M' G' n here
         new_first = record {
           there = rw (put-same G.bucket here (linked_bucket (G.bucket here) n)) (inl refl);
-          among = ready.has.1;
-          at_home = ap (home env mix) (sym (word_same n KeyWord ready.has.1 ∙ ready.key));
+          among = ready.has.among;
+          at_home = rw (word_same n KeyWord ready.has.among ∙ ready.key) (IsHomeOf-same env mix G G' port here same ready.home_of);
           bound_to =
-              ap (put G.bound port (n ∷ [])) (word_same n KeyWord ready.has.1 ∙ ready.key) ∙ put-same G.bound port (n ∷ []);
-          no_list = word_same n ListLink ready.has.1 ∙ ready.list;
+              ap (put G.bound port (n ∷ [])) (word_same n KeyWord ready.has.among ∙ ready.key) ∙ put-same G.bound port (n ∷ []);
+          no_list = word_same n ListLink ready.has.among ∙ ready.list;
         }
 
         old_first : (k j : ℕ) → k ≢ n → G.node k ≡ First j → IsFirstAt env mix M' G' k j
         old_first k j ne f =
             let at = whole.owned.first_at k j f in
             let key = first_word k j KeyWord f in
-            let other : key_of M k ≢ port = λ e. let q : ◌≡◌ {A = List ℕ} [] (k ∷ []) = sym unbound ∙ ap G.bound (sym e) ∙ at.bound_to in cc in
+            let other : key_of M k ≢ port = λ e. let q : ◌≡◌ {A = List ℕ} [] (k ∷ []) = sym ready.unbound ∙ ap G.bound (sym e) ∙ at.bound_to in cc in
             record {
               there =
                   put-all (λ i b. In k (G.bucket i).nodes → In k b.nodes) G.bucket here (linked_bucket (G.bucket here) n) (λ was. inr was) (λ i ne was. was) j at.there;
               among = at.among;
-              at_home = at.at_home ∙ ap (home env mix) (sym key);
+              at_home = rw key (IsHomeOf-same env mix G G' (key_of M k) j same at.at_home);
               bound_to =
                   ap (put G.bound port (n ∷ [])) key ∙ put-other G.bound port (n ∷ []) (key_of M k) other ∙ at.bound_to;
               no_list = first_word k j ListLink f ∙ at.no_list;
@@ -157,13 +140,13 @@ module _ (env : Env) (mix : ℕ → ℕ → ℕ → ℕ) where
       bits = λ m l. rw (write.others (NodeMap (m / 64)) (omega arith) (λ e. cc))
           (put-all (λ k o. k < env.geometry.nodes → (bit_at (M (NodeMap (k / 64))) (k % 64) ≡ 1) ↔ (o ≡ Free)) G.node n (First here)
           (λ k. let old = whole.arena.bits n k in
-          ((λ set. let q = sym ready.has.0 ∙ old.0 set in absurd (cc)), (λ e. absurd (cc))))
+          ((λ set. let q = sym ready.has.mine ∙ old.0 set in absurd (cc)), (λ e. absurd (cc))))
           (λ k ne j. whole.arena.bits k j) m l);
     }
 
     one_more_first : firsts env mix G' ≡ firsts env mix G + 1
-    one_more_first = count_below-more (λ m. is_first (G.node m)) (λ m. is_first (put G.node n (First here) m)) n env.geometry.nodes ready.has.1
-        (ap is_first ready.has.0) (ap is_first (put-same G.node n (First here))) (λ m ne. ap is_first (put-other G.node n (First here) m ne))
+    one_more_first = count_below-more (λ m. is_first (G.node m)) (λ m. is_first (put G.node n (First here) m)) n env.geometry.nodes ready.has.among
+        (ap is_first ready.has.mine) (ap is_first (put-same G.node n (First here))) (λ m ne. ap is_first (put-other G.node n (First here) m ne))
 
     one_less_raiser : raisers env mix G ≡ raisers env mix G' + 1
     one_less_raiser = count_below-more (put G.raised d false) G.raised d env.geometry.callers ready.low (put-same G.raised d false) ready.raised
@@ -173,7 +156,7 @@ module _ (env : Env) (mix : ℕ → ℕ → ℕ → ℕ) where
     link_head = record {
       whole = record {
         tables =
-            OneTable-write env mix M M' G G' (PageWord here) (link_of n) write ((λ e. cc), (λ s e. cc)) refl refl whole.tables;
+            TablesRight-write env mix M M' G G' (PageWord here) (link_of n) write (record { current = λ e. cc; slots = λ s w h e. cc }) same whole.tables;
         buckets = put-all (λ i b. i < 64 * env.geometry.pages → BucketRight env mix M' i b) G.bucket here (linked_bucket (G.bucket here) n)
             (λ l. linked_right)
             (λ i ne l. BucketRight-frame env mix M M' i (G.bucket i) (write.others (PageWord i) l (λ e. ne (cc)))
@@ -183,11 +166,14 @@ module _ (env : Env) (mix : ℕ → ℕ → ℕ → ℕ) where
         counted = write.others PortCount tt (λ e. cc) ∙ omega (arith, whole.counted, one_more_first, one_less_raiser);
       };
       others = λ c ne. record {
+        tables = tables_stay env mix M G G' whole same;
         locks =
             λ j h. put-other G.bucket here (linked_bucket (G.bucket here) n) j (λ e. let q : ◌≡◌ {A = Option ℕ} (Some d) (Some c) = sym ready.holder ∙ ap (λ i. (G.bucket i).holder) (sym e) ∙ h in ne (cc));
-        words = λ m j f. (first_word m j KeyWord f, first_word m j OwnerWord f);
+        keys = λ m j f. first_word m j KeyWord f;
+        owners = λ m j f. first_word m j OwnerWord f;
         nodes =
-            λ m has. (put-other G.node n (First here) m (λ e. ne (held_by_one (G.node n) c d (ap G.node (sym e) ∙ has.0) ready.has.0)) ∙ has.0, λ w. word_same m w has.1);
+            λ m has. put-other G.node n (First here) m (λ e. ne (held_by_one (G.node n) c d (ap G.node (sym e) ∙ has.mine) ready.has.mine)) ∙ has.mine;
+        words = λ m has w. word_same m w has.among;
         raised = put-other G.raised d false c ne;
         no_node =
             λ m. put-all (λ k o. o ≡ Held c → G.node k ≡ Held c) G.node n (First here) (λ e. absurd (cc)) (λ k kn h. h) m;

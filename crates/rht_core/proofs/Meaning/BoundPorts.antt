@@ -1,28 +1,29 @@
 -- What the words stand for is what the ghost says: the owner of the node to which each port is bound.
 -- The table in force is the one table; the nodes met in each bucket are the bucket's nodes; and of all these at most one has
 -- the port's key, the one to which the port is bound.
-use Rattle.std.proofs.Common.{◌≡◌, ℕ, zero, suc, ◌+◌, ◌-◌, ◌*◌, ◌%◌, ◌<◌, ◌≤◌, List, [], ◌∷◌, length, map, Option, Some, None, true, refl, sym, ◌∙◌, ap, subst, inl, inr, slice_index, arith}
-use Rattle.std.proofs.lemmas.Bool.{eqb-true, eq-eqb}
+use Rattle.std.proofs.Common.{◌≡◌, ℕ, zero, suc, ◌+◌, ◌-◌, ◌*◌, ◌%◌, ◌<◌, ◌≤◌, List, [], ◌∷◌, length, map, Option, Some, None, true, cond, refl, sym, ◌∙◌, ap, subst, inl, inr, slice_index, arith}
+use Rattle.std.proofs.lemmas.Bool.{eqb-true, eq-eqb, lt-ltb, le-ltb}
 use Rattle.std.proofs.lemmas.Bool.Decides.{nat_tests}
 use Rattle.std.proofs.lemmas.List.{append-nil}
 use Rattle.std.specs.List.{find, flat_map, range_with_len}
 use Rattle.rht_words.specs.declared.env.Env.{Env}
 use Rattle.rht_words.specs.declared.geometry.Geometry.{Geometry}
 use Rattle.rht_words.proofs.Memory.{Memory}
-use Rattle.rht_words.specs.Links.{node_of, head_of, marker_of}
+use Rattle.rht_words.specs.Links.{node_of, table_of, future_of, head_of, marker_of}
+use Rattle.rht_words.specs.Shapes.{unpacked, size_of}
 use Rattle.rht_words.specs.Ports.{owner_of}
 use Rattle.rht_words.specs.Chains.{IsSegment}
-use Rattle.rht_words.specs.Places.{Node, OwnerWord, ListLink}
+use Rattle.rht_words.specs.Places.{CurrentTable, Slot, FutureWord, Node, OwnerWord, ListLink}
 use Rattle.rht_words.proofs.LinksRead.{links_tell_apart}
 use Rattle.rht_words.specs.Members.{In}
 use Rattle.rht_words.proofs.Members.{In-flat_map, flat_map-In, In-range_with_len, range_with_len-In, flat_map-same, find-Some, find-None, In-AllByRecursion, count_below-most, length-count_below}
 use Rattle.rht_policy.specs.Mix.{bucket_of}
 use Rattle.rht_nest.specs.Place.{bucket_place, bucket_index}
 use Rattle.rht_core.specs.StandsFor.{in_force, chain_from, bucket_nodes, table_nodes, has_key, first_node, owners_from, stands_for}
-use Rattle.rht_core.proofs.Ghosts.{Ghost, lock_bit}
-use Rattle.rht_core.proofs.Wholes.{chain_of, key_of, shape_word, place_at, Whole}
-use Rattle.rht_core.proofs.FirstBuckets.{size, index-within, place-index, bucket_of-below}
-use Rattle.rht_core.proofs.Steps.{mem}
+use Rattle.rht_core.proofs.Theory.Ghosts.{Ghost, lock_bit, table_at, some-same}
+use Rattle.rht_core.proofs.Theory.Wholes.{chain_of, key_of, home, hash_in, place_at, future_in, Whole}
+use Rattle.rht_core.proofs.Theory.Passed.{hash-below, home-index}
+use Rattle.rht_core.proofs.Theory.Steps.{mem, owners, owners_in}
 
 -- the first of a list
 abbrev pub head_or_none : List ℕ → Option ℕ
@@ -72,29 +73,51 @@ module _ (env : Env) (mix : ℕ → ℕ → ℕ → ℕ) (words : List ℕ) (G :
 
   -- ---- the one table
 
+  -- so far one table is attached, in the slot of the current one
+  attached : 0 < G.attached
+  attached = omega (arith, whole.tables.one)
+
+  abbrev size : ℕ
+  size = size_of (unpacked (G.table 0).shape)
+
   -- the index of a bucket's word
   abbrev index : ℕ → ℕ
-  index bucket = bucket_index (shape_word env mix) bucket
+  index bucket = bucket_index (G.table 0).shape bucket
+
+  index-within : (bucket : ℕ) → bucket < size → index bucket < 64 * g.pages
+  index-within bucket below = let fits = (whole.tables.each 0 attached).placed.fits in omega arith
+
+  place-index : (bucket : ℕ) → bucket < size → bucket_place g (G.table 0).shape bucket ≡ Some (place_at env mix (index bucket))
+  place-index bucket below =
+      ap (λ t. cond t (Some (place_at env mix (index bucket))) None) (lt-ltb (index bucket) (64 * g.pages) (index-within bucket below))
 
   abbrev all_nodes : List ℕ
-  all_nodes = flat_map (λ bucket. (G.bucket (index bucket)).nodes) (range_with_len 0 (size env mix))
+  all_nodes = flat_map (λ bucket. (G.bucket (index bucket)).nodes) (range_with_len 0 size)
 
-  table_met : table_nodes g words 0 ≡ all_nodes
-  table_met = rw whole.tables.shape_is
-      (flat_map-same (λ bucket. bucket_nodes g words (bucket_place g (shape_word env mix) bucket)) (λ bucket. (G.bucket (index bucket)).nodes) (range_with_len 0 (size env mix))
-      (λ bucket i. let below : bucket < size env mix = omega (arith, range_with_len-In 0 (size env mix) bucket i) in
-      ap (bucket_nodes g words) (place-index env mix bucket below) ∙ bucket_met (index bucket) (index-within env mix bucket below)))
+  table_met : table_nodes g words (G.table 0).slot ≡ all_nodes
+  table_met = rw (whole.tables.each 0 attached).shape_is
+      (flat_map-same (λ bucket. bucket_nodes g words (bucket_place g (G.table 0).shape bucket)) (λ bucket. (G.bucket (index bucket)).nodes) (range_with_len 0 size)
+      (λ bucket i. let below : bucket < size = omega (arith, range_with_len-In 0 size bucket i) in
+      ap (bucket_nodes g words) (place-index bucket below) ∙ bucket_met (index bucket) (index-within bucket below)))
 
-  one_in_force : in_force g words ≡ 0 ∷ []
-  one_in_force = rw whole.tables.current_word (rw whole.tables.future_is refl)
+  one_in_force : in_force g words ≡ (G.table 0).slot ∷ []
+  one_in_force =
+      let right = whole.tables.each 0 attached in
+      let current : G.current ≡ 0 = omega (arith, whole.tables.current_in, whole.tables.one) in
+      let first : table_of (M CurrentTable) ≡ (G.table 0).slot =
+      ap table_of (whole.tables.current_is ∙ ap (λ τ. (G.table τ).slot) current) ∙ (let l = right.slot_in in omega arith) in
+      let last : future_in env mix G 0 ≡ 0 =
+      ap (λ t. cond t (future_of (G.table 1).slot) 0) (le-ltb 1 G.attached (omega (arith, whole.tables.one))) in
+      let none : M (Slot (G.table 0).slot FutureWord) ≡ 0 = right.future_is ∙ last in
+      rw first (rw none refl)
 
   all_met : flat_map (table_nodes g words) (in_force g words) ≡ all_nodes
-  all_met = ap (flat_map (table_nodes g words)) one_in_force ∙ append-nil (table_nodes g words 0) ∙ table_met
+  all_met = ap (flat_map (table_nodes g words)) one_in_force ∙ append-nil (table_nodes g words (G.table 0).slot) ∙ table_met
 
   -- a node that is met is the one to which its port is bound
   met_bound : (n : ℕ) → In n all_nodes → G.bound (key_of M n) ≡ n ∷ []
   met_bound n i =
-      let from = flat_map-In (λ bucket. (G.bucket (index bucket)).nodes) n (range_with_len 0 (size env mix)) i in
+      let from = flat_map-In (λ bucket. (G.bucket (index bucket)).nodes) n (range_with_len 0 size) i in
       (whole.owned.first_at n (index from.0) (whole.owned.member (index from.0) n from.2)).bound_to
 
   -- a node to which a port is bound is met
@@ -103,10 +126,14 @@ module _ (env : Env) (mix : ℕ → ℕ → ℕ → ℕ) (words : List ℕ) (G :
   bound_met port n behind b =
       let to = whole.owned.bound_to port n behind b in
       let at = whole.owned.first_at n to.bucket to.first in
-      let bucket = bucket_of mix (key_of M n) (shape_word env mix) env.config.seed in (
-        In-flat_map (λ x. (G.bucket (index x)).nodes) n bucket (range_with_len 0 (size env mix))
-            (In-range_with_len 0 (size env mix) bucket (omega arith) (let below = bucket_of-below env mix (key_of M n) in omega (arith, below)))
-            (subst (λ j. In n (G.bucket j).nodes) at.at_home at.there),
+      let key = key_of M n in
+      let bucket = hash_in env mix G key 0 in
+      let below = hash-below env mix M G whole key 0 in
+      let table : table_at G to.bucket ≡ 0 = omega (arith, at.at_home.attached, whole.tables.one) in
+      let there : index bucket ≡ to.bucket =
+      some-same (index bucket) to.bucket (sym (home-index env mix M G whole key 0 attached) ∙ ap (home env mix G key) (sym table) ∙ at.at_home.here) in (
+        In-flat_map (λ x. (G.bucket (index x)).nodes) n bucket (range_with_len 0 size)
+            (In-range_with_len 0 size bucket (omega arith) (omega (arith, below))) (subst (λ j. In n (G.bucket j).nodes) (sym there) at.there),
         to.key_is,
       )
 
@@ -151,16 +178,14 @@ module _ (env : Env) (mix : ℕ → ℕ → ℕ → ℕ) (words : List ℕ) (G :
   no_owner zero = refl
   no_owner (suc fuel) = refl
 
-  -- the owner of each port is that of the node to which it is bound
-  pub stands_for_bound : (port : ℕ)
-      → stands_for g words port ≡ map (λ n. owner_of (M (Node n OwnerWord))) (G.bound port)
+  -- the owners of each port are those of the nodes to which it is bound
+  pub stands_for_bound : (port : ℕ) → stands_for g words port ≡ owners env mix M G port
   stands_for_bound port = go (G.bound port) refl
     where
-      go : (bound : List ℕ) → G.bound port ≡ bound
-          → stands_for g words port ≡ map (λ n. owner_of (M (Node n OwnerWord))) bound
-      go [] b = ap (owners_from g words g.nodes) (first_bound port [] b) ∙ no_owner g.nodes
+      go : (bound : List ℕ) → G.bound port ≡ bound → stands_for g words port ≡ owners_in env mix M (G.bound port)
+      go [] b = ap (owners_from g words g.nodes) (first_bound port [] b) ∙ no_owner g.nodes ∙ ap (owners_in env mix M) (sym b)
       go (n ∷ behind) b =
           let to = whole.owned.bound_to port n behind b in
           let at = whole.owned.first_at n to.bucket to.first in
           ap (owners_from g words g.nodes) (first_bound port (n ∷ behind) b) ∙ one_owner n at.no_list
-          ∙ ap (λ rest. owner_of (M (Node n OwnerWord)) ∷ map (λ m. owner_of (M (Node m OwnerWord))) rest) (sym to.alone)
+          ∙ ap (λ rest. owner_of (M (Node n OwnerWord)) ∷ owners_in env mix M rest) (sym to.alone) ∙ ap (owners_in env mix M) (sym b)

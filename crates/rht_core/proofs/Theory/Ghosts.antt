@@ -1,7 +1,7 @@
 -- What the words of a run don't say, or say only to who follows every link: who holds each lock, node,
--- page and slot, which nodes each bucket has, and which nodes each port is bound to.
+-- page and slot, which table each slot has, which nodes each bucket has, and which nodes each port is bound to.
 -- It stands in no definition of a run. The invariant says that there is such a ghost after each event.
-use Rattle.std.proofs.Common.{◌≡◌, ◌≢◌, ℕ, List, refl, sym, ◌∙◌, inl, inr, Bool, true, false, cond, Option, Some, None, ◌==◌}
+use Rattle.std.proofs.Common.{◌≡◌, ◌≢◌, ℕ, ◌/◌, List, [], ◌∷◌, refl, sym, ◌∙◌, inl, inr, Bool, true, false, cond, Option, Some, None, ◌==◌}
 use Rattle.std.proofs.lemmas.Bool.{cases_eq, eqb-true, eq-eqb}
 
 -- ---- functions changed at one place
@@ -27,27 +27,16 @@ pub put-all : {A : Type 0} → (P : ℕ → A → Type 0) (f : ℕ → A) (j : �
 put-all P f j v here other i =
     elim (cases_eq i j) as (λ t. P i (put f j v i)) [ inl e ↦ rw (e, put-same f j v) here | inr ne ↦ rw (put-other f j v i ne) (other i ne) ]
 
--- who had one thing alone has none once it is another's, and who had none has this one alone once it is its own
-module _ {A : Type 0} (f : ℕ → A) (j : ℕ) (v : A) (Mine : A → Type 0) where
-  pub put-none : (Mine v → ⊥) → ((i : ℕ) → Mine (f i) → Some j ≡ Some i) → (i : ℕ) → Mine (put f j v i)
-      → ◌≡◌ {A = Option ℕ} None (Some i)
-  put-none not_mine only = put-all (λ i a. Mine a → ◌≡◌ {A = Option ℕ} None (Some i)) f j v (λ mine. absurd (not_mine mine))
-      (λ i ne mine. let q = only i mine in absurd (ne (cc)))
-
-  pub put-only : ((i : ℕ) → Mine (f i) → ◌≡◌ {A = Option ℕ} None (Some i)) → (i : ℕ) → Mine (put f j v i)
-      → Some j ≡ Some i
-  put-only none =
-      put-all (λ i a. Mine a → Some j ≡ Some i) f j v (λ mine. refl) (λ i ne mine. let q = none i mine in absurd (cc))
-
 -- ---- ghosts
 
--- a table that has been attached, and what its slot says
+-- A table that has been attached: its slot, what its words say, and where the words of its buckets stand among those of all
+-- pages. A bucket whose page is missing has no word.
 pub record Table : Type 0 where
   pub slot : ℕ
-  pub exponent : ℕ
-  pub page : ℕ
+  pub shape : ℕ
   pub seed : ℕ
   pub serial : ℕ
+  pub place : ℕ → Option ℕ
 
 -- A bucket: its nodes in the order of its chain, its word without the lock, and who holds the lock. An entry that is on its way
 -- out of it, and the bind that has found in it that no table is behind.
@@ -59,7 +48,7 @@ pub record Bucket : Type 0 where
   pub armed : Option ℕ
 
 -- Who has a node: nobody; a caller that took it; the chain of a bucket, whole or on the way out; the list behind a port's first
--- node; the call that took it out; or nobody any more
+-- node; or the call that took it out
 pub data Owner : Type 0 where
   Free : Owner
   Held : ℕ → Owner
@@ -67,15 +56,14 @@ pub data Owner : Type 0 where
   Leaving : ℕ → Owner
   Behind : ℕ → Owner
   Taken : ℕ → Owner
-  Gone : Owner
 
--- who has a page
+-- who has a page: nobody, a caller that took it, or a table
 pub data PageOwner : Type 0 where
   PageFree : PageOwner
   PageHeld : ℕ → PageOwner
   PageOf : ℕ → PageOwner
 
--- who has a slot
+-- who has a slot: nobody, a caller that took it, or a table, which is in use or retired
 pub data SlotOwner : Type 0 where
   SlotFree : SlotOwner
   SlotHeld : ℕ → SlotOwner
@@ -102,10 +90,60 @@ abbrev pub lock_bit : Option ℕ → ℕ
 lock_bit None = 0
 lock_bit (Some c) = 1
 
--- the node is in the chain of a bucket
+-- the node is in the chain of a bucket, whole or on the way out
 abbrev pub is_first : Owner → Bool
+is_first Free = false
+is_first (Held c) = false
 is_first (First j) = true
-is_first _ = false
+is_first (Leaving j) = true
+is_first (Behind k) = false
+is_first (Taken c) = false
+
+-- the bucket in which a node is that is some port's first
+abbrev pub seat_of : Owner → Option ℕ
+seat_of Free = None
+seat_of (Held c) = None
+seat_of (First j) = Some j
+seat_of (Leaving j) = Some j
+seat_of (Behind k) = None
+seat_of (Taken c) = None
+
+-- the bucket in which the first of these nodes is
+abbrev pub seat_in : (ℕ → Owner) → List ℕ → Option ℕ
+seat_in node [] = None
+seat_in node (n ∷ behind) = seat_of (node n)
+
+-- the bucket in which the port's first node is
+abbrev pub seat : Ghost → ℕ → Option ℕ
+seat G port = seat_in G.node (G.bound port)
+
+-- the table that has a page; some table where none has
+abbrev pub table_of_page : PageOwner → ℕ
+table_of_page PageFree = 0
+table_of_page (PageHeld c) = 0
+table_of_page (PageOf τ) = τ
+
+-- the table of which the bucket is
+abbrev pub table_at : Ghost → ℕ → ℕ
+table_at G j = table_of_page (G.page (j / 64))
+
+-- a table has the slot
+abbrev pub has_table : SlotOwner → Bool
+has_table SlotFree = false
+has_table (SlotHeld c) = false
+has_table (Live τ) = true
+has_table (Retired τ) = true
+
+-- the table that has a slot; some table where none has
+abbrev pub table_of_slot : SlotOwner → ℕ
+table_of_slot SlotFree = 0
+table_of_slot (SlotHeld c) = 0
+table_of_slot (Live τ) = τ
+table_of_slot (Retired τ) = τ
+
+-- which of the tables has the slot
+abbrev pub index_at : Ghost → ℕ → ℕ
+index_at G slot = table_of_slot (G.slot slot)
 
 -- one owner is not another
 pub held_not_first : (o : Owner) (d j : ℕ) → o ≡ Held d → o ≡ First j → ⊥
@@ -113,6 +151,13 @@ held_not_first o d j held first = let e = sym held ∙ first in cc
 
 pub held_by_one : (o : Owner) (c d : ℕ) → o ≡ Held c → o ≡ Held d → c ≡ d
 held_by_one o c d first second = let e : Held c ≡ Held d = sym first ∙ second in cc
+
+-- none is not some, and a thing is not another one
+pub none-some : {A : Type 0} {x : A} {o : Option A} → o ≡ None → o ≡ Some x → ⊥
+none-some e f = let z = sym e ∙ f in cc
+
+pub some-same : {A : Type 0} (x y : A) → Some x ≡ Some y → x ≡ y
+some-same x y e = cc
 
 -- ---- ghosts after a move
 

@@ -9,10 +9,10 @@ use Rattle.rht_words.specs.Places.{PortCount, NodeMap, Node, NodeWord, KeyWord, 
 use Rattle.rht_words.proofs.BitChanges.{bit_at-cleared, bit_at-cleared_other, bit_at-set, bit_at-set_other}
 use Rattle.rht_words.proofs.Memory.{Memory, IsWrite}
 use Rattle.rht_words.proofs.Members.{count_below-same}
-use Rattle.rht_core.proofs.Ghosts.{put, put-other, put-all, Owner, Free, Held, First, Leaving, Behind, Taken, Gone, Ghost, is_first, held_not_first, held_by_one, with_owner}
-use Rattle.rht_core.proofs.Wholes.{ArenaRight, IsBuilt, Whole, firsts as count_firsts, raisers}
-use Rattle.rht_core.proofs.Knowledge.{HasNode}
-use Rattle.rht_core.proofs.Frames.{Made, FirstsStay, firsts_stay, Rely-same, SameChains, same_chains, Whole-frame, locks_stay, arena_stays}
+use Rattle.rht_core.proofs.Theory.Ghosts.{put, put-other, put-all, Owner, Free, Held, First, Leaving, Behind, Taken, Ghost, is_first, held_not_first, held_by_one, with_owner}
+use Rattle.rht_core.proofs.Theory.Wholes.{ArenaRight, IsBuilt, Whole, firsts as count_firsts, raisers}
+use Rattle.rht_core.proofs.Theory.Knowledge.{HasNode}
+use Rattle.rht_core.proofs.Theory.Frames.{Made, FirstsStay, firsts_stay, tables_stay, same_tables, Rely-same, SameChains, same_chains, Whole-frame, locks_stay, arena_stays}
 
 module _ (env : Env) (mix : ℕ → ℕ → ℕ → ℕ) where
   -- ---- a word of a node that the caller has
@@ -24,46 +24,34 @@ module _ (env : Env) (mix : ℕ → ℕ → ℕ → ℕ) where
       let others_node : (m : ℕ) (u : NodeWord) → m < env.geometry.nodes → m ≢ n → M' (Node m u) ≡ M (Node m u)
       = λ m u l ne. write.others (Node m u) l (λ e. ne (cc)) in
       let firsts : FirstsStay env mix M G M'
-      = λ m j u first. others_node m u (whole.owned.first_at m j first).among (λ e. held_not_first (G.node n) d j has.0 (ap G.node (sym e) ∙ first)) in
+      = λ m j u first. others_node m u (whole.owned.first_at m j first).among (λ e. held_not_first (G.node n) d j has.mine (ap G.node (sym e) ∙ first)) in
       record {
-        whole = Whole-frame env mix M M' G G (Node n w) v whole write ((λ e. cc), (λ s e. cc)) (same_chains env mix G G.raised) firsts
+        whole = Whole-frame env mix M M' G G (Node n w) v whole write (record { current = λ e. cc; slots = λ s u h e. cc }) (same_chains env mix G G.raised) firsts
             (locks_stay env mix M M' G (Node n w) v whole write (λ j e. cc)) (arena_stays env mix M M' G (Node n w) v whole write G refl (λ i e. cc))
             (write.others PortCount tt (λ e. cc) ∙ whole.counted);
-        others = λ c ne. Rely-same env mix c M M' G G refl refl refl firsts
-            (λ m u held. others_node m u held.1 (λ e. ne (held_by_one (G.node n) c d (ap G.node (sym e) ∙ held.0) has.0)));
+        others = λ c ne. Rely-same env mix c M M' G G whole (same_tables env mix G G.bucket G.node G.bound G.raised) refl refl refl firsts
+            (λ m u held. others_node m u held.among (λ e. ne (held_by_one (G.node n) c d (ap G.node (sym e) ∙ held.mine) has.mine)));
       }
 
   -- ---- the bit of a node
 
   -- neither the old owner of a node nor the new one is a chain
-  reowned_chains : (G : Ghost) (n : ℕ) (owner : Owner) → ((j : ℕ) → G.node n ≡ First j → ⊥)
-      → ((j : ℕ) → owner ≡ First j → ⊥) → SameChains env mix G (with_owner G n owner)
+  reowned_chains : (G : Ghost) (n : ℕ) (owner : Owner) → is_first (G.node n) ≡ false → is_first owner ≡ false → SameChains env mix G (with_owner G n owner)
   reowned_chains G n owner was now = record {
-    attached = refl;
-    current = refl;
+    tables = same_tables env mix G G.bucket (put G.node n owner) G.bound G.raised;
     nodes = λ j. refl;
     plain = λ j. refl;
     firsts_before =
-        λ m j. put-all (λ i o. o ≡ First j → G.node i ≡ First j) G.node n owner (λ f. absurd (now j f)) (λ i ne f. f) m;
-    firsts_after = λ m j f. put-other G.node n owner m (λ e. was j (ap G.node (sym e) ∙ f)) ∙ f;
+        λ m j. put-all (λ i o. o ≡ First j → G.node i ≡ First j) G.node n owner (λ f. let e = sym now ∙ ap is_first f in absurd (cc)) (λ i ne f. f) m;
+    firsts_after = λ m j f. put-other G.node n owner m (λ e. let q = sym was ∙ ap is_first (ap G.node (sym e) ∙ f) in cc) ∙ f;
     bound = λ port. refl;
   }
 
-  not_first : (o : Owner) → ((j : ℕ) → o ≡ First j → ⊥) → is_first o ≡ false
-  not_first Free never = refl
-  not_first (Held c) never = refl
-  not_first (First j) never = absurd (never j refl)
-  not_first (Leaving j) never = refl
-  not_first (Behind k) never = refl
-  not_first (Taken c) never = refl
-  not_first Gone never = refl
-
-  reowned_firsts : (G : Ghost) (n : ℕ) (owner : Owner) → ((j : ℕ) → G.node n ≡ First j → ⊥)
-      → ((j : ℕ) → owner ≡ First j → ⊥)
+  reowned_firsts : (G : Ghost) (n : ℕ) (owner : Owner) → is_first (G.node n) ≡ false → is_first owner ≡ false
       → count_firsts env mix (with_owner G n owner) ≡ count_firsts env mix G
   reowned_firsts G n owner was now =
       count_below-same (λ m. is_first (G.node m)) (λ m. is_first (put G.node n owner m)) env.geometry.nodes
-      (λ m l. put-all (λ i o. is_first o ≡ is_first (G.node i)) G.node n owner (not_first owner now ∙ sym (not_first (G.node n) was)) (λ i ne. refl) m)
+      (λ m l. put-all (λ i o. is_first o ≡ is_first (G.node i)) G.node n owner (now ∙ sym was) (λ i ne. refl) m)
 
   -- a bit of the map of nodes that has the value in the word that is written which it had
   map_bit_stays : (i value n : ℕ) (M M' : Memory) → IsWrite env.geometry M M' (NodeMap i) value
@@ -97,13 +85,13 @@ module _ (env : Env) (mix : ℕ → ℕ → ℕ → ℕ) where
   reowned : (i b value : ℕ) (owner : Owner) (M M' : Memory) (G : Ghost) → Whole env mix M G
       → IsBitIn env.geometry.nodes i b → IsBuilt env mix owner
       → IsWrite env.geometry M M' (NodeMap i) value
-      → ((j : ℕ) → G.node (64 * i + b) ≡ First j → ⊥) → ((j : ℕ) → owner ≡ First j → ⊥)
+      → is_first (G.node (64 * i + b)) ≡ false → is_first owner ≡ false
       → ((bit_at value b ≡ 1) ↔ (owner ≡ Free))
       → ((k : ℕ) → k < 64 → k ≢ b → bit_at value k ≡ bit_at (M (NodeMap i)) k)
       → Whole env mix M' (with_owner G (64 * i + b) owner)
   reowned i b value owner M M' G whole at is_built write was now here others =
       let n = 64 * i + b in
-      Whole-frame env mix M M' G (with_owner G n owner) (NodeMap i) value whole write ((λ e. cc), (λ s e. cc)) (reowned_chains G n owner was now)
+      Whole-frame env mix M M' G (with_owner G n owner) (NodeMap i) value whole write (record { current = λ e. cc; slots = λ s u h e. cc }) (reowned_chains G n owner was now)
       (firsts_stay env mix M M' G (NodeMap i) value whole write (λ m w e. cc)) (locks_stay env mix M M' G (NodeMap i) value whole write (λ j e. cc))
       (reowned_bits i b value owner M M' G whole at is_built write here others)
       (write.others PortCount tt (λ e. cc) ∙ whole.counted ∙ ap (λ x. x + raisers env mix G) (sym (reowned_firsts G n owner was now)))
@@ -115,7 +103,7 @@ module _ (env : Env) (mix : ℕ → ℕ → ℕ → ℕ) where
   retouch d i value M M' G whole l write same =
       let firsts = firsts_stay env mix M M' G (NodeMap i) value whole write (λ m w e. cc) in
       record {
-        whole = Whole-frame env mix M M' G G (NodeMap i) value whole write ((λ e. cc), (λ s e. cc)) (same_chains env mix G G.raised) firsts
+        whole = Whole-frame env mix M M' G G (NodeMap i) value whole write (record { current = λ e. cc; slots = λ s u h e. cc }) (same_chains env mix G G.raised) firsts
             (locks_stay env mix M M' G (NodeMap i) value whole write (λ j e. cc))
             (record {
               built = whole.arena.built;
@@ -124,7 +112,7 @@ module _ (env : Env) (mix : ℕ → ℕ → ℕ → ℕ) where
             })
             (write.others PortCount tt (λ e. cc) ∙ whole.counted);
         others =
-            λ c ne. Rely-same env mix c M M' G G refl refl refl firsts (λ m w has. write.others (Node m w) has.1 (λ e. cc));
+            λ c ne. Rely-same env mix c M M' G G whole (same_tables env mix G G.bucket G.node G.bound G.raised) refl refl refl firsts (λ m w has. write.others (Node m w) has.among (λ e. cc));
       }
 
   -- the and that clears a bit which was set: the node was free
@@ -137,17 +125,19 @@ module _ (env : Env) (mix : ℕ → ℕ → ℕ → ℕ) where
       let word : n / 64 ≡ i = omega (arith, at.within) in
       let bit : n % 64 ≡ b = omega (arith, at.within) in
       let free : G.node n ≡ Free = (whole.arena.bits n at.below).0 (rw word (rw bit found)) in
-      let was : (j : ℕ) → G.node n ≡ First j → ⊥ = λ j f. let e = sym free ∙ f in cc in
+      let was : is_first (G.node n) ≡ false = ap is_first free in
       let firsts = firsts_stay env mix M M' G (NodeMap i) (bit_and (M (NodeMap i)) (bit_not w64 (bit_of b))) whole write (λ m w e. cc) in (
         record {
-          whole = reowned i b (bit_and (M (NodeMap i)) (bit_not w64 (bit_of b))) (Held d) M M' G whole at tt write was (λ j f. cc)
+          whole = reowned i b (bit_and (M (NodeMap i)) (bit_not w64 (bit_of b))) (Held d) M M' G whole at tt write was refl
               ((λ set. absurd (omega (arith, bit_at-cleared (M (NodeMap i)) b at.within, set))), (λ e. absurd (cc)))
               (λ k l ne. bit_at-cleared_other (M (NodeMap i)) b k at.within l ne);
           others = λ c ne. record {
+            tables = tables_stay env mix M G (with_owner G n (Held d)) whole (same_tables env mix G G.bucket (put G.node n (Held d)) G.bound G.raised);
             locks = λ j h. refl;
-            words = λ m j f. (firsts m j KeyWord f, firsts m j OwnerWord f);
-            nodes =
-                λ m has. (put-other G.node n (Held d) m (λ e. let q = sym free ∙ ap G.node (sym e) ∙ has.0 in cc) ∙ has.0, λ w. write.others (Node m w) has.1 (λ e. cc));
+            keys = λ m j f. firsts m j KeyWord f;
+            owners = λ m j f. firsts m j OwnerWord f;
+            nodes = λ m has. put-other G.node n (Held d) m (λ e. let q = sym free ∙ ap G.node (sym e) ∙ has.mine in cc) ∙ has.mine;
+            words = λ m has w. write.others (Node m w) has.among (λ e. cc);
             raised = refl;
             no_node =
                 λ m. put-all (λ k o. o ≡ Held c → G.node k ≡ Held c) G.node n (Held d) (λ e. absurd (ne (cc))) (λ k kn h. h) m;
@@ -165,20 +155,22 @@ module _ (env : Env) (mix : ℕ → ℕ → ℕ → ℕ) where
       let i = n / 64 in
       let b = n % 64 in
       let parts : 64 * i + b ≡ n = omega arith in
-      let was : (j : ℕ) → G.node n ≡ First j → ⊥ = λ j f. held_not_first (G.node n) d j has.0 f in
+      let was : is_first (G.node n) ≡ false = ap is_first has.mine in
       let firsts =
       firsts_stay env mix M M' G (NodeMap i) (bit_or (M (NodeMap i)) (bit_of b)) whole write (λ m w e. cc) in
-      let made = reowned i b (bit_or (M (NodeMap i)) (bit_of b)) Free M M' G whole (record { within = omega arith; below = omega (arith, has.1) }) tt write
-      (λ j f. was j (ap G.node (sym parts) ∙ f)) (λ j f. cc)
+      let made = reowned i b (bit_or (M (NodeMap i)) (bit_of b)) Free M M' G whole (record { within = omega arith; below = omega (arith, has.among) }) tt write
+      (ap (λ m. is_first (G.node m)) parts ∙ was) refl
       ((λ set. refl), (λ e. bit_at-set (M (NodeMap i)) b))
       (λ k l ne. bit_at-set_other (M (NodeMap i)) b k ne) in
       record {
         whole = rw parts at made;
         others = λ c ne. record {
+          tables = tables_stay env mix M G (with_owner G n Free) whole (same_tables env mix G G.bucket (put G.node n Free) G.bound G.raised);
           locks = λ j h. refl;
-          words = λ m j f. (firsts m j KeyWord f, firsts m j OwnerWord f);
-          nodes =
-              λ m held. (put-other G.node n Free m (λ e. ne (held_by_one (G.node n) c d (ap G.node (sym e) ∙ held.0) has.0)) ∙ held.0, λ w. write.others (Node m w) held.1 (λ e. cc));
+          keys = λ m j f. firsts m j KeyWord f;
+          owners = λ m j f. firsts m j OwnerWord f;
+          nodes = λ m held. put-other G.node n Free m (λ e. ne (held_by_one (G.node n) c d (ap G.node (sym e) ∙ held.mine) has.mine)) ∙ held.mine;
+          words = λ m held w. write.others (Node m w) held.among (λ e. cc);
           raised = refl;
           no_node =
               λ m. put-all (λ k o. o ≡ Held c → G.node k ≡ Held c) G.node n Free (λ e. absurd (cc)) (λ k kn h. h) m;

@@ -1,0 +1,87 @@
+-- The nodes in chains, and the callers that have raised the count for a node that they haven't linked yet, are at most the nodes.
+-- Each such caller has a node of its own, which is in no chain.
+use Rattle.std.proofs.Common.{◌≡◌, ◌≢◌, ℕ, zero, suc, ◌+◌, ◌<◌, ◌≤◌, nat_lt, Bool, true, false, refl, sym, ◌∙◌, ap, inl, inr, arith}
+use Rattle.std.proofs.lemmas.Bool.{cases_eq}
+use Rattle.std.proofs.lemmas.Bool.Decides.{nat_tests}
+use Rattle.rht_words.proofs.Members.{count_below, one_if, count_below-same, count_below-more, count_below-le, count_below-most}
+use Rattle.rht_words.specs.declared.env.Env.{Env}
+use Rattle.rht_core.proofs.Theory.Ghosts.{Owner, Free, Held, First, Leaving, Behind, Taken, Ghost, is_first}
+use Rattle.rht_core.proofs.Theory.Wholes.{firsts, raisers}
+
+-- the node is in a chain, or a caller below this one has it
+abbrev is_used_below : ℕ → Owner → Bool
+is_used_below bound Free = false
+is_used_below bound (Held c) = nat_lt c bound
+is_used_below bound (First j) = true
+is_used_below bound (Leaving j) = true
+is_used_below bound (Behind k) = false
+is_used_below bound (Taken c) = false
+
+-- a node that this caller alone has
+pub record OwnNode (env : Env) (G : Ghost) (c : ℕ) : Type 0 where
+  pub node : ℕ
+  pub among : node < env.geometry.nodes
+  pub mine : G.node node ≡ Held c
+  pub only : (other : ℕ) → G.node other ≡ Held c → other ≡ node
+
+module _ (env : Env) (mix : ℕ → ℕ → ℕ → ℕ) (G : Ghost) (own : (c : ℕ) → G.raised c ≡ true → OwnNode env G c) where
+  abbrev N : ℕ
+  N = env.geometry.nodes
+
+  -- the nodes that callers below this one have, and those in chains
+  abbrev used : ℕ → ℕ
+  used bound = count_below (λ n. is_used_below bound (G.node n)) N
+
+  -- one caller more has a node more where it has raised the count
+  same_but : (bound : ℕ) (o : Owner) → o ≢ Held bound → is_used_below (suc bound) o ≡ is_used_below bound o
+  same_but bound Free ne = refl
+  same_but bound (Held c) ne = let other : c ≢ bound = λ e. ne (ap Held e) in grind (arith, nat_tests, other)
+  same_but bound (First j) ne = refl
+  same_but bound (Leaving j) ne = refl
+  same_but bound (Behind k) ne = refl
+  same_but bound (Taken c) ne = refl
+
+  rises : (bound : ℕ) (o : Owner) → is_used_below bound o ≡ true → is_used_below (suc bound) o ≡ true
+  rises bound Free is = absurd (cc)
+  rises bound (Held c) is = grind (arith, nat_tests)
+  rises bound (First j) is = refl
+  rises bound (Leaving j) is = refl
+  rises bound (Behind k) is = absurd (cc)
+  rises bound (Taken c) is = absurd (cc)
+
+  used-raised : (bound : ℕ) → G.raised bound ≡ true → used (suc bound) ≡ used bound + 1
+  used-raised bound raised =
+      let mine = own bound raised in
+      let was : is_used_below bound (G.node mine.node) ≡ false = ap (is_used_below bound) mine.mine ∙ grind (arith, nat_tests) in
+      let now : is_used_below (suc bound) (G.node mine.node) ≡ true = ap (is_used_below (suc bound)) mine.mine ∙ grind (arith, nat_tests) in
+      count_below-more (λ n. is_used_below bound (G.node n)) (λ n. is_used_below (suc bound) (G.node n)) mine.node N mine.among was now
+      (λ n ne. same_but bound (G.node n) (λ held. ne (mine.only n held)))
+
+  used-rises : (bound : ℕ) → used bound ≤ used (suc bound)
+  used-rises bound = count_below-le (λ n. is_used_below bound (G.node n)) (λ n. is_used_below (suc bound) (G.node n)) N (λ n. rises bound (G.node n))
+
+  -- by induction over the callers
+  raisers-used : (bound : ℕ) → firsts env mix G + count_below G.raised bound ≤ used bound
+  raisers-used zero =
+      let same : used zero ≡ firsts env mix G = count_below-same (λ n. is_first (G.node n)) (λ n. is_used_below zero (G.node n)) N (λ n l. first_or_none (G.node n)) in
+      omega (arith, same)
+    where
+      first_or_none : (o : Owner) → is_used_below zero o ≡ is_first o
+      first_or_none Free = refl
+      first_or_none (Held c) = grind (arith, nat_tests)
+      first_or_none (First j) = refl
+      first_or_none (Leaving j) = refl
+      first_or_none (Behind k) = refl
+      first_or_none (Taken c) = refl
+  raisers-used (suc bound) = go (G.raised bound) refl (raisers-used bound)
+    where
+      go : (t : Bool) → G.raised bound ≡ t → firsts env mix G + count_below G.raised bound ≤ used bound
+          → firsts env mix G + (count_below G.raised bound + one_if (G.raised bound)) ≤ used (suc bound)
+      go true is below = let more = used-raised bound is in let one : one_if (G.raised bound) ≡ 1 = ap one_if is in omega (arith, below, more, one)
+      go false is below = let more = used-rises bound in let none : one_if (G.raised bound) ≡ 0 = ap one_if is in omega (arith, below, more, none)
+
+  pub few_used : firsts env mix G + raisers env mix G ≤ N
+  few_used =
+      let counted = raisers-used env.geometry.callers in
+      let most = count_below-most (λ n. is_used_below env.geometry.callers (G.node n)) N in
+      omega (arith, counted, most)

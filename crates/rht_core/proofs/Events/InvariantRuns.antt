@@ -1,0 +1,145 @@
+-- The invariant holds at opening, and so after each event of each run whose events are admitted.
+use Rattle.std.proofs.Common.{◌≡◌, ℕ, ◌+◌, ◌*◌, ◌/◌, ◌<◌, ◌≤◌, ◌==◌, cond, List, [], length, replicate, true, false, refl, sym, ap, ◌∙◌, subst, inl, inr, arith}
+use Rattle.std.specs.Prelude.{Option, Some, None}
+use Rattle.std.proofs.lemmas.Bool.{cases_eq}
+use Rattle.rht_words.specs.declared.env.Env.{Env}
+use Rattle.rht_words.specs.Places.{Address, CurrentTable, PortCount, Slot, ShapeWord, SeedWord, FutureWord, NodeMap, PageWord, IsAddress}
+use Rattle.rht_words.specs.declared.shape.Shape.{Shape}
+use Rattle.rht_words.specs.Shapes.{unpacked, size_of}
+use Rattle.rht_words.specs.Opening.{opening_word, opening_words, first_pages, first_shape}
+use Rattle.rht_words.proofs.OpeningLaws.{stand_in_place, opens_flat, opens_free}
+use Rattle.rht_words.proofs.Members.{count_below-none}
+use Rattle.rht_words.proofs.EachElement.{each_replicate}
+use Rattle.rht_core.specs.declared.event.Event.{Event}
+use Rattle.rht_core.specs.declared.local.Local.{Local}
+use Rattle.rht_core.specs.Locals.{fresh}
+use Rattle.rht_core.specs.Jobs.{job_of}
+use Rattle.rht_core.specs.Runs.{Core, World, local_in, opening, opening_core, run_of, IsAdmitted}
+use Rattle.rht_core.proofs.Worlds.{run_keeps_admitted}
+use Rattle.rht_core.proofs.RangesInRuns.{AllIn, opens-all, event-all, runs-all}
+use Rattle.rht_core.proofs.Theory.Ghosts.{Bucket, Free, Ghost, Table, PageOf, SlotFree, Live, is_first, has_table, put, put-same, put-other}
+use Rattle.rht_core.proofs.Theory.Wholes.{Whole, TableRight, SlotIsOf}
+use Rattle.rht_core.proofs.Theory.Steps.{mem}
+use Rattle.rht_core.proofs.Events.Invariants.{Inv, kept}
+
+-- a bucket without nodes that nobody has locked
+abbrev empty_bucket : Bucket
+empty_bucket = record { nodes = []; plain = 0; holder = None; out = None; armed = None }
+
+-- the first table, which stands in slot 0 and has its buckets in a row from the first page on
+abbrev first_table : Env → Table
+first_table env = record {
+  slot = 0;
+  shape = opening_word env (Slot 0 ShapeWord);
+  seed = env.config.seed;
+  serial = 0;
+  place = λ b. Some b;
+}
+
+-- the ghost at opening: the first table is there, and nothing else is anybody's
+abbrev opening_ghost : Env → Ghost
+opening_ghost env = record {
+  table = λ τ. first_table env;
+  attached = 1;
+  current = 0;
+  bucket = λ j. empty_bucket;
+  node = λ n. Free;
+  bound = λ port. [];
+  page = λ p. PageOf 0;
+  slot = put (λ s. SlotFree) 0 (Live 0);
+  worker = None;
+  raised = λ c. false;
+}
+
+module _ (env : Env) (mix : ℕ → ℕ → ℕ → ℕ) where
+  opened : (a : Address) → IsAddress env.geometry a → mem env mix (opening_words env) a ≡ opening_word env a
+  opened a l = (stand_in_place env).each a l
+
+  -- slot 0 has the first table, and no other slot has any
+  slots_at_opening : (s : ℕ) → has_table ((opening_ghost env).slot s) ≡ true → s ≡ 0
+  slots_at_opening s has = elim (cases_eq s 0) [
+    | inl zero ↦ zero
+    | inr other ↦ absurd (let free : false ≡ true = subst (λ o. has_table o ≡ true) (put-other (λ s. SlotFree) 0 (Live 0) s other) has in cc)
+  ]
+
+  opening_table : (τ : ℕ) → τ < 1 → TableRight env mix (mem env mix (opening_words env)) (opening_ghost env) τ
+  opening_table τ first =
+      let zero : τ ≡ 0 = omega arith in
+      let opens = opens_flat env in
+      let live = put-same (λ s. SlotFree) 0 (Live 0) in
+      rw zero (record {
+        slot_in = omega arith;
+        has_slot = rw live refl;
+        index = rw live refl;
+        live = λ l. live;
+        shape_is = opened (Slot 0 ShapeWord) (omega arith, tt);
+        seed_is = opened (Slot 0 SeedWord) (omega arith, tt);
+        future_is = opened (Slot 0 FutureWord) (omega arith, tt);
+        placed = record {
+          flat = subst (λ (s : Shape). s.nest ≡ 0) (sym opens.shape) opens.flat;
+          fits =
+              subst (λ (s : Shape). 64 * s.page + size_of s ≤ 64 * env.geometry.pages) (sym opens.shape)
+              (subst (λ size. 0 + size ≤ 64 * env.geometry.pages) (sym opens.size) (omega (arith, opens.holds, opens.fits)));
+          places = λ b l. subst (λ (s : Shape). Some b ≡ Some (64 * s.page + b)) (sym opens.shape) (ap Some (omega arith));
+          pages = λ b l. refl;
+        };
+      })
+
+  opening_whole : Whole env mix (mem env mix (opening_words env)) (opening_ghost env)
+  opening_whole = record {
+    tables = record {
+      one = refl;
+      current_in = omega arith;
+      current_is = opened CurrentTable tt;
+      each = opening_table;
+      slots = λ s has. rw (slots_at_opening s has) (record { attached = rw (put-same (λ s. SlotFree) 0 (Live 0)) (omega arith); slot = refl });
+    };
+    buckets = λ j l. record {
+      locked = record { word_is = opened (PageWord j) l; even = refl; none_out = refl; none_armed = refl };
+      chained = record { segment = refl; distinct = tt };
+    };
+    owned = record {
+      member = λ j n i. absurd i;
+      first_at = λ n j f. absurd (cc);
+      bound_to = λ port n behind b. absurd (cc);
+    };
+    arena = record {
+      built = λ n. tt;
+      bits = λ n l. let free = (opens_free env).nodes n in
+          rw (opened (NodeMap (n / 64)) (omega arith)) ((λ set. refl), (λ e. free.1 l));
+    };
+    counted = opened PortCount tt ∙ sym (omega (
+      arith,
+      count_below-none (λ n. is_first Free) env.geometry.nodes (λ n l. refl),
+      count_below-none (λ c. false) env.geometry.callers (λ c l. refl),
+    ));
+  }
+
+  module _ (L : Type 0) where
+    idle_at_opening : (c : ℕ) → ◌≡◌ {A = Local L} (local_in env (replicate env.geometry.callers (fresh env)) c) (fresh env)
+    idle_at_opening c = each_replicate (λ (local : Local L). local ≡ fresh env) env.geometry.callers c (fresh env) refl
+
+    opening_inv : Inv env mix L (opening_core env) (opening_ghost env)
+    opening_inv = record {
+      same_env = refl;
+      whole = opening_whole;
+      each = λ c. rw (idle_at_opening c) (record {
+        only = record { nodes = λ n held. absurd (cc); locks = λ j holds. absurd (cc); raising = refl };
+        means = record { node = tt; table = tt; bucket = tt };
+      });
+    }
+
+    -- the invariant, with some ghost, and all that is in range
+    pub record HasInv (core : Core L) : Type 0 where
+      pub ghost : Ghost
+      pub inv : Inv env mix L core ghost
+      pub all : AllIn L mix env core
+
+    pub has_inv : (events : List Event) → IsAdmitted env.config.kind events → HasInv (run_of {M = L} mix env events).core
+    has_inv events admitted =
+        run_keeps_admitted L mix env.config.kind (λ (w : World L). HasInv w.core)
+        (λ w event may has.
+          let k = kept env mix L w.core has.ghost event has.all has.inv in
+          record { ghost = k.ghost; inv = k.inv; all = event-all L mix env w event may has.all })
+        (opening env) events admitted
+        (record { ghost = opening_ghost env; inv = opening_inv; all = opens-all L mix env })

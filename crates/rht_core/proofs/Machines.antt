@@ -1,0 +1,6 @@
+-- a look-up, operation by operation
+pub mod FindSteps
+-- a bind, operation by operation
+pub mod BindSteps
+-- a job, operation by operation
+pub mod JobSteps

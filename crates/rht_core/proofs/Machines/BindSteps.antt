@@ -1,0 +1,482 @@
+-- What a bind knows in each state, and that each of its operations leads from what it knows to what it knows next.
+use Rattle.std.proofs.Common.{◌≡◌, ◌≢◌, ◌⊎◌, ℕ, ◌+◌, ◌*◌, ◌%◌, ◌^◌, ◌<◌, ◌≤◌, ◌==◌, List, [], ◌∷◌, length, min, slice_index, Option, Some, None, Bool, true, false, cond, refl, sym, ◌∙◌, ap, subst, inl, inr, arith}
+use Rattle.std.proofs.lemmas.Bool.{cases_eq, eq-eqb, ne_eqb}
+use Rattle.std.proofs.lemmas.Bool.Decides.{nat_tests}
+use Rattle.std.proofs.Math.Nat.{mod-eq_of_lt}
+use Rattle.rht_words.specs.declared.env.Env.{Env}
+use Rattle.rht_words.specs.declared.op.Op.TheVariants.{Store}
+use Rattle.rht_words.specs.declared.config.Kind.{Kind}
+use Rattle.rht_words.specs.declared.config.Kind.TheVariants.{Single}
+use Rattle.rht_words.specs.declared.machine.Next.{Next}
+use Rattle.rht_words.specs.declared.machine.Next.TheVariants.{Go, Done}
+use Rattle.rht_words.specs.Held as held
+use Rattle.rht_words.specs.Links.{table_of, slot_of, link_of, head_of, plain_of}
+use Rattle.rht_words.specs.Ports.{owner_of}
+use Rattle.rht_words.specs.Operations.{old_of, word_after, applied}
+use Rattle.rht_words.specs.Places.{CurrentTable, PortCount, Slot, FutureWord, Node, ChainLink, KeyWord, OwnerWord, ListLink, PageWord, place_of, words_in}
+use Rattle.rht_words.proofs.Memory.{Memory, IsWrite, is_write}
+use Rattle.rht_words.proofs.Members.{in-middle}
+use Rattle.rht_policy.specs.Thresholds.{is_above_max}
+use Rattle.rht_arena.specs.GiveNode.{give_node_plan}
+use Rattle.rht_arena.specs.NewNode.{NewNodeModel, new_node_plan, new_node_after, node_of_new}
+use Rattle.rht_nest.specs.Locate.{LocateModel, locate_new, locate_plan, locate_after}
+use Rattle.rht_nest.specs.declared.locate.Located.{Located}
+use Rattle.rht_chain.specs.Probe.{ProbeModel, probe_new, probe_plan, probe_after, lock_of_probe}
+use Rattle.rht_chain.specs.declared.probe.Probed.{Probed}
+use Rattle.rht_chain.specs.Relink.{RelinkModel, relink_new, relink_plan, relink_after}
+use Rattle.rht_chain.specs.declared.locked.Locked.{Locked}
+use Rattle.rht_chain.specs.declared.locked.Then.{Then}
+use Rattle.rht_chain.specs.declared.locked.Then.TheVariants.{Table, Answer}
+use Rattle.rht_model.specs.declared.history.Call.{Call}
+use Rattle.rht_model.specs.declared.history.Call.TheVariants as calls
+use Rattle.rht_model.specs.declared.history.Reply.{Reply}
+use Rattle.rht_model.specs.declared.history.Reply.TheVariants.{Bound, Exists, TooBig, NoNode}
+use Rattle.rht_model.specs.Multimap.{Multimap, Agree, with_owners}
+use Rattle.rht_model.specs.Answers.{plain, bind_reply, owners_bound}
+use Rattle.rht_model.specs.Answers as answers
+use Rattle.rht_bind.specs.Bind.{plan_at, after_at, filled, located, owner_or_future, probed, unlocking, future_or_count, checked_count, publishing, published, kicks, unlocked, giving, IsBindAtIn}
+use Rattle.rht_bind.specs.BindHeld.{held_of_bind, holds_node, holds_claimed}
+use Rattle.rht_bind.specs.declared.bind.Claimed.{Claimed}
+use Rattle.rht_bind.specs.declared.bind.BindAt.{BindAt}
+use Rattle.rht_bind.specs.declared.bind.BindAt.TheVariants as at
+use Rattle.rht_core.proofs.Theory.Ghosts.{put, put-same, put-other, put-all, Held, First, Ghost, index_at, table_at}
+use Rattle.rht_core.proofs.Theory.Wholes.{key_of, home, place_at, word_index, place_at-index, index-within, Whole}
+use Rattle.rht_core.proofs.Theory.Passed.{NoKey, home-table, unbound_at_last}
+use Rattle.rht_core.proofs.Theory.Knowledge.{HasOnly, KnownNode, KnownTable, Nowhere, Passes, AtHome, KnownBucket, Unlocked, Locks, Missed, Member, Known, HoldsLock, IsMember, IsMissed, Knowing}
+use Rattle.rht_core.proofs.Theory.Frames.{Made}
+use Rattle.rht_core.proofs.Theory.Answering.{KeepsAnswer, SaysStill, IsLegalOn, keeps, learns}
+use Rattle.rht_core.proofs.Theory.Steps.{Links, Holding, HoldsSame, by_test, mem, owners, owners_in, owners-stay, ghost_after, Moved, moved-map, with_knowledge, Step, answered, reads}
+use Rattle.rht_core.proofs.Moves.Linking.{IsReady, link_head, linked_bucket}
+use Rattle.rht_core.proofs.Pieces.Nodes as nodes
+use Rattle.rht_core.proofs.Pieces.Locates.{known_locate, first_passed, locate_step, LocateKnows, FutureIs, future_is}
+use Rattle.rht_core.proofs.Pieces.Locks.{unlock_step}
+use Rattle.rht_core.proofs.Pieces.Probes.{known_probe, known_found, place_of_probe, IsProbeFor, probed_by, ProbeKnows, probe_step}
+use Rattle.rht_core.proofs.Pieces.Counts.{raise_step}
+use Rattle.rht_core.proofs.Machines.FindSteps.{known_nothing, known_behind}
+
+-- what a call holds that links its node next
+abbrev holds_publishing : ℕ → ℕ → Holding
+holds_publishing n place = record held.holds_nothing { node = Some n; lock = Some place; raised = true }
+
+module _ (port owner : ℕ) where
+  -- the node with all its words, but for its link in a chain, and with that link
+  abbrev own : ℕ → KnownNode
+  own n = nodes.filled n port owner
+
+  abbrev chained : ℕ → ℕ → ℕ → KnownNode
+  chained n place word = nodes.with_word (own n) ChainLink (head_of place word)
+
+  -- what it knows of its node, of the way to a bucket, and of the bucket that it has locked
+  abbrev knows_of : KnownNode → KnownTable → KnownBucket → Known
+  knows_of node table bucket = record { node = Some node; table = table; bucket = bucket }
+
+  abbrev at_home : Claimed → KnownTable
+  at_home claimed = AtHome port claimed.table (Some claimed.shape) claimed.bucket.place
+
+  abbrev missed : Claimed → KnownBucket
+  missed claimed = Missed claimed.bucket.place claimed.bucket.word port
+
+  -- what a bind knows in a state
+  abbrev pub known_of_bind : BindAt → Known
+  known_of_bind (at.Filling new) = record { node = nodes.known_at port owner new.at; table = Nowhere; bucket = Unlocked }
+  known_of_bind (at.CurrentTable n) = knows_of (own n) Nowhere Unlocked
+  known_of_bind (at.Locating n locate) = knows_of (own n) (known_locate port locate.table locate.at) Unlocked
+  known_of_bind (at.Probing n table shape probe) = knows_of (own n) (AtHome port table (Some shape) (place_of_probe probe.at)) (known_probe port probe.at)
+  known_of_bind (at.FoundOwner claimed found) = knows_of (own claimed.node) (at_home claimed) (Member claimed.bucket.place claimed.bucket.word port found)
+  known_of_bind (at.Future claimed length) = knows_of (own claimed.node) (at_home claimed) (missed claimed)
+  known_of_bind (at.Count claimed) = knows_of (own claimed.node) (at_home claimed) (missed claimed)
+  known_of_bind (at.Link claimed) = knows_of (own claimed.node) (at_home claimed) (missed claimed)
+  known_of_bind (at.Raise claimed) = knows_of (chained claimed.node claimed.bucket.place claimed.bucket.word) (at_home claimed) (missed claimed)
+  known_of_bind (at.Publish n table relink kick) =
+      knows_of (chained n relink.place relink.word) (AtHome port table None relink.place) (Missed relink.place relink.word port)
+  known_of_bind (at.Unlocking n table unlock next) = knows_of (own n) (known_behind port next) (Locks unlock.place unlock.word)
+  known_of_bind (at.Giving give reply) = knows_of (own give.node) Nowhere Unlocked
+
+module _ (env : Env) (mix : ℕ → ℕ → ℕ → ℕ) (c : ℕ) (port owner : ℕ) (once : Bool) where
+  abbrev call : Call
+  call = calls.Bind port owner once
+
+  -- how its pieces are for the port and the owner
+  abbrev pub fits_bind : BindAt → Type 0
+  fits_bind (at.Filling new) = (new.key ≡ port) × (new.owner ≡ owner)
+  fits_bind (at.CurrentTable n) = Unit {0}
+  fits_bind (at.Locating n locate) = Unit {0}
+  fits_bind (at.Probing n table shape probe) = (probe.key ≡ port) × IsProbeFor port probe.at
+  fits_bind (at.FoundOwner claimed found) = Unit {0}
+  fits_bind (at.Future claimed length) = Unit {0}
+  fits_bind (at.Count claimed) = Unit {0}
+  fits_bind (at.Link claimed) = Unit {0}
+  fits_bind (at.Raise claimed) = Unit {0}
+  fits_bind (at.Publish n table relink kick) = relink ≡ relink_new env.geometry relink.place relink.word None (link_of n)
+  fits_bind (at.Unlocking n table unlock next) = Unit {0}
+  fits_bind (at.Giving give reply) = Unit {0}
+
+  pub record BindKnows (at : BindAt) (M : Memory) (G : Ghost) : Type 0 where
+    pub knowing : Knowing env mix c (held_of_bind at) (known_of_bind port owner at) M G
+    pub fits : fits_bind at
+
+  -- what it holds and knows after an operation
+  abbrev pub bind_holds : BindAt × Next Reply → Holding
+  bind_holds (at, Go) = held_of_bind at
+  bind_holds (at, Done reply) = held.ended_with (plain reply)
+
+  abbrev pub BindNext : BindAt × Next Reply → Memory → Ghost → Type 0
+  BindNext (at, Go) M G = BindKnows at M G
+  BindNext (at, Done reply) M G = Knowing env mix c (held.ended_with (plain reply)) known_nothing M G
+
+  module _ (single : env.config.kind ≡ Single) (small : owner < 2 ^ 32) (low : c < env.geometry.callers)
+      (words : List ℕ) (G : Ghost) (all : length words ≡ words_in env.geometry)
+      (whole : Whole env mix (mem env mix words) G) where
+    abbrev M : Memory
+    M = mem env mix words
+
+    -- the owners of each port now
+    abbrev now : Multimap
+    now = owners env mix M G
+
+    -- what an operation leads to from a state
+    abbrev BindMoved : BindAt → BindAt × Next Reply → Type 0
+    BindMoved at r = Step env mix c call words G (plan_at env at) (held_of_bind at) (bind_holds r) (BindNext r)
+
+    abbrev pub BindStep : BindAt → Type 0
+    BindStep at = BindMoved at (after_at mix env port at (old_of words (plan_at env at)))
+
+    -- a load of which the answer isn't known
+    goes_on : (at next : BindAt) → word_after (old_of words (plan_at env at)) (plan_at env at) ≡ old_of words (plan_at env at)
+        → HoldsSame (held_of_bind at) (held_of_bind next) → KeepsAnswer (held_of_bind at).answer (held_of_bind next).answer
+        → BindKnows next M G → BindMoved at (next, Go)
+    goes_on at next same holds says knows =
+        reads env mix c call words G (plan_at env at) (held_of_bind at) (held_of_bind next) (BindNext (next, Go)) whole same holds (inl says) knows
+
+    -- a refusal is legal on all bindings, and leaves them
+    refusal : (reply : Reply) → answers.IsBindRefusal reply → answers.is_refusal reply ≡ true
+        → IsLegalOn env.config.kind c call now (plain reply)
+    refusal reply may refuses = record { legal = inr (may, refl); leaves = λ p. rw refuses refl }
+
+    -- ---- what the pieces lead to
+
+    -- a node was taken, and its words stored; or there was none
+    node_made : (new : NewNodeModel) (r : NewNodeModel × Next (Option ℕ)) → r.0.key ≡ port → r.0.owner ≡ owner
+        → Moved env mix c words G (new_node_plan new) (holds_node (node_of_new new.at) None) (holds_node (nodes.made_by (r.0.at, r.1)) None)
+        (nodes.knowing env mix c held.holds_nothing Nowhere Unlocked (nodes.made_by (r.0.at, r.1)) (nodes.known_made port owner (r.0.at, r.1)))
+        → BindMoved (at.Filling new) (filled r.0 r.1)
+    node_made new (next, Go) key own step =
+        answered env mix c call words G (new_node_plan new) (holds_node (node_of_new new.at) None) (holds_node (node_of_new next.at) None) None (BindNext (at.Filling next, Go)) (inl refl)
+        (moved-map env mix c words G (new_node_plan new) (holds_node (node_of_new new.at) None) (holds_node (node_of_new next.at) None) _ (BindNext (at.Filling next, Go))
+        (λ M' G' w k. record { knowing = k; fits = (key, own) }) step)
+    node_made new (next, Done None) key own step =
+        answered env mix c call words G (new_node_plan new) (holds_node (node_of_new new.at) None) (holds_node None None) (Some (plain NoNode)) (BindNext (at.Filling next, Done NoNode))
+        (learns env.config.kind c call now (plain NoNode) (refusal NoNode tt refl))
+        (moved-map env mix c words G (new_node_plan new) (holds_node (node_of_new new.at) None) (holds_node None None) _ (BindNext (at.Filling next, Done NoNode))
+        (λ M' G' w k. record { only = k.only; means = k.means }) step)
+    node_made new (next, Done (Some n)) key own step =
+        answered env mix c call words G (new_node_plan new) (holds_node (node_of_new new.at) None) (holds_node (Some n) None) None (BindNext (at.CurrentTable n, Go)) (inl refl)
+        (moved-map env mix c words G (new_node_plan new) (holds_node (node_of_new new.at) None) (holds_node (Some n) None) _ (BindNext (at.CurrentTable n, Go))
+        (λ M' G' w k. record { knowing = k; fits = tt }) step)
+
+    -- the way to the bucket
+    found_place : (n : ℕ) (locate : LocateModel) (r : LocateModel × Next Located)
+        → Moved env mix c words G (locate_plan locate) (holds_node (Some n) None) (holds_node (Some n) None) (LocateKnows env mix c (holds_node (Some n) None) (Some (own port owner n)) Unlocked port r)
+        → BindMoved (at.Locating n locate) (located env port n r.0 r.1, Go)
+    found_place n locate (next, Go) step =
+        answered env mix c call words G (locate_plan locate) (holds_node (Some n) None) (holds_node (Some n) None) None (BindNext (at.Locating n next, Go)) (inl refl)
+        (moved-map env mix c words G (locate_plan locate) (holds_node (Some n) None) (holds_node (Some n) None) _ (BindNext (at.Locating n next, Go))
+        (λ M' G' w k. record { knowing = k; fits = tt }) step)
+    found_place n locate (next, Done there) step =
+        let is = step.knows in
+        let probing = at.Probing n next.table there.shape (probe_new env.geometry is.place port) in
+        rw is.there (answered env mix c call words G (locate_plan locate) (holds_node (Some n) None) (holds_node (Some n) None) None (BindNext (probing, Go)) (inl refl)
+        (with_knowledge env mix c words G (locate_plan locate) (holds_node (Some n) None) (holds_node (Some n) None) _ (BindNext (probing, Go)) step
+        (record { knowing = record { only = is.knows.only; means = is.knows.means }; fits = (refl, tt) })))
+
+    -- the end of a walk
+    seen_knows : (claimed : Claimed) (count : ℕ) (before found : Option ℕ) (M' : Memory) (G' : Ghost)
+        → Knowing env mix c (holds_claimed claimed) (knows_of port owner (own port owner claimed.node) (at_home port owner claimed) (known_found claimed.bucket.place claimed.bucket.word port before found)) M' G'
+        → BindKnows (owner_or_future claimed found count) M' G'
+    seen_knows claimed count before None M' G' k = record { knowing = k; fits = tt }
+    seen_knows claimed count before (Some found) M' G' k =
+        let is = k.means.bucket in
+        record {
+          knowing = record {
+            only = k.only;
+            means = record {
+              node = k.means.node;
+              table = k.means.table;
+              bucket = record {
+                lock = is.standing.lock;
+                there = rw is.standing.stands.split (in-middle found is.standing.stands.front is.standing.stands.rear);
+                key_is = is.key_is;
+              };
+            };
+          };
+          fits = tt;
+        }
+
+    seen_holds : (claimed : Claimed) (count : ℕ) (found : Option ℕ)
+        → held_of_bind (owner_or_future claimed found count) ≡ holds_claimed claimed
+    seen_holds claimed count None = refl
+    seen_holds claimed count (Some found) = refl
+
+    walked : (n table shape : ℕ) (probe : ProbeModel) (r : ProbeModel × Next Probed) → r.0.key ≡ port
+        → Moved env mix c words G (probe_plan probe) (holds_node (Some n) (lock_of_probe probe.at)) (holds_node (Some n) (probed_by (r.0.at, r.1)))
+        (ProbeKnows env mix c (holds_node (Some n) None) (Some (own port owner n)) port table (Some shape) words G all whole (r.0.at, r.1))
+        → BindMoved (at.Probing n table shape probe) (probed n table shape r.0 r.1, Go)
+    walked n table shape probe (next, Go) key step =
+        answered env mix c call words G (probe_plan probe) (holds_node (Some n) (lock_of_probe probe.at)) (holds_node (Some n) (lock_of_probe next.at)) None (BindNext (at.Probing n table shape next, Go)) (inl refl)
+        (moved-map env mix c words G (probe_plan probe) (holds_node (Some n) (lock_of_probe probe.at)) (holds_node (Some n) (lock_of_probe next.at)) _ (BindNext (at.Probing n table shape next, Go))
+        (λ M' G' w k. record { knowing = k.0; fits = (key, k.1) }) step)
+    walked n table shape probe (next, Done end) key step =
+        let claimed : Claimed = record { node = n; table = table; shape = shape; bucket = end.bucket } in
+        let there = owner_or_future claimed end.seen.found end.seen.length in
+        rw (seen_holds claimed end.seen.length end.seen.found)
+        (answered env mix c call words G (probe_plan probe) (holds_node (Some n) (lock_of_probe probe.at)) (holds_claimed claimed) None (BindNext (there, Go)) (inl refl)
+        (moved-map env mix c words G (probe_plan probe) (holds_node (Some n) (lock_of_probe probe.at)) (holds_claimed claimed) _ (BindNext (there, Go))
+        (λ M' G' w k. seen_knows claimed end.seen.length end.seen.before end.seen.found M' G' k) step))
+
+    -- the future of a table in which the port was looked for in vain
+    future_next : (claimed : Claimed) (count : ℕ) (future : Option ℕ)
+        → FutureIs env mix c (holds_claimed claimed) (Some (own port owner claimed.node)) (missed port owner claimed) words G whole port future
+        → BindKnows (at.Future claimed count) M G → BindMoved (at.Future claimed count) (future_or_count claimed future, Go)
+    future_next claimed count None unbound known =
+        goes_on (at.Future claimed count) (at.Count claimed) refl refl refl (record { knowing = known.knowing; fits = tt })
+    future_next claimed count (Some next) passing known =
+        goes_on (at.Future claimed count) (unlocking claimed (Table next)) refl refl refl (record {
+          knowing = record {
+            only = known.knowing.only;
+            means = record { node = known.knowing.means.node; table = passing; bucket = known.knowing.means.bucket.lock };
+          };
+          fits = tt;
+        })
+
+    -- the bucket is unlocked, and the answer told behind it
+    unlocking_knows : (claimed : Claimed) (reply : Reply) → Knowing env mix c (holds_claimed claimed) (known_of_bind port owner (at.Count claimed)) M G
+        → BindKnows (unlocking claimed (Answer reply)) M G
+    unlocking_knows claimed reply k = record {
+      knowing = record { only = k.only; means = record { node = k.means.node; table = tt; bucket = k.means.bucket.lock } };
+      fits = tt;
+    }
+
+    -- a count that is too great refuses the bind
+    count_next : (claimed : Claimed) → BindKnows (at.Count claimed) M G
+        → BindMoved (at.Count claimed) (checked_count env claimed (M PortCount), Go)
+    count_next claimed known =
+        let count = M PortCount in
+        by_test (λ t. BindMoved (at.Count claimed) (cond t (unlocking claimed (Answer (TooBig count))) (at.Link claimed), Go)) (is_above_max (min count 65536) env.config.max)
+        (λ t. reads env mix c call words G (plan_at env (at.Count claimed)) (holds_claimed claimed) (held_of_bind (unlocking claimed (Answer (TooBig count)))) (BindNext (unlocking claimed (Answer (TooBig count)), Go)) whole refl refl
+        (learns env.config.kind c call now (plain (TooBig count)) (refusal (TooBig count) tt refl)) (unlocking_knows claimed (TooBig count) known.knowing))
+        (λ t. goes_on (at.Count claimed) (at.Link claimed) refl refl refl (record { knowing = known.knowing; fits = tt }))
+
+    -- the port is bound to the owner of a node of its bucket that has its key, and to no other
+    bound_here : (place word node : ℕ) → IsMember env mix c M G place word port node → now port ≡ owner_of (M (Node node OwnerWord)) ∷ []
+    bound_here place word node is =
+        let j = word_index env mix place in
+        let at = whole.owned.first_at node j (whole.owned.member j node is.there) in
+        ap (owners_in env mix M) (ap G.bound (sym is.key_is) ∙ at.bound_to)
+
+    -- a port that is bound exists, and a bind leaves it
+    exists : (first : ℕ) → now port ≡ first ∷ [] → IsLegalOn env.config.kind c call now (plain (Exists first))
+    exists first bound = record {
+      legal = inl (ap (λ kind. Some (plain (bind_reply kind (now port)))) single ∙ ap (λ list. Some (plain (bind_reply Single list))) bound);
+      leaves = λ other. elim (cases_eq other port) [
+        | inl e ↦
+            ap (λ t. cond t (owners_bound env.config.kind owner (now port)) (now other)) (eq-eqb other port e)
+            ∙ ap (λ kind. owners_bound kind owner (now port)) single ∙ ap (owners_bound Single owner) bound ∙ sym bound ∙ ap now (sym e)
+        | inr ne ↦ ap (λ t. cond t (owners_bound env.config.kind owner (now port)) (now other)) (ne_eqb other port ne)
+      ];
+    }
+
+    found_next : (claimed : Claimed) (found : ℕ) → BindKnows (at.FoundOwner claimed found) M G → BindStep (at.FoundOwner claimed found)
+    found_next claimed found known =
+        let first = owner_of (M (Node found OwnerWord)) in
+        let is = known.knowing.means.bucket in
+        let answer = unlocking claimed (Answer (Exists first)) in
+        reads env mix c call words G (plan_at env (at.FoundOwner claimed found)) (holds_claimed claimed) (held_of_bind answer) (BindNext (answer, Go)) whole refl refl
+        (learns env.config.kind c call now (plain (Exists first)) (exists first (bound_here claimed.bucket.place claimed.bucket.word found is)))
+        (record {
+          knowing = record { only = known.knowing.only; means = record { node = known.knowing.means.node; table = tt; bucket = is.lock } };
+          fits = tt;
+        })
+
+    -- ---- the store that binds the port
+
+    -- what the store needs: so far one table is attached, so none is behind it, and the port is bound nowhere
+    publish_ready : (n table place word : ℕ) → Knowing env mix c (holds_publishing n place) (knows_of port owner (chained port owner n place word) (AtHome port table None place) (Missed place word port)) M G
+        → IsReady env mix c n port (word_index env mix place) M G
+    publish_ready n table place word k =
+        let at = k.means.table in
+        let τ = index_at G table in
+        let j = word_index env mix place in
+        let attached = at.passing.passed.attached in
+        let is = k.means.bucket in
+        let node = k.means.node in
+        let here : table_at G j ≡ τ = home-table env mix M G whole port τ j attached at.here in
+        record {
+          low = low;
+          home_of = record {
+            here = ap (home env mix G port) here ∙ at.here;
+            current = omega (arith, whole.tables.current_in, whole.tables.one);
+            attached = omega (arith, here, attached);
+          };
+          unbound = unbound_at_last env mix M G whole port τ j at.passing.passed at.here is.none (omega (arith, attached, whole.tables.one));
+          has = node.has;
+          key = node.key;
+          list = node.list;
+          holder = is.lock.holder;
+          chain = node.chain ∙ ap (λ p. head_of p word) (sym (place_at-index env mix place is.lock.bucket)) ∙ ap (head_of (place_at env mix j)) (sym is.lock.plain);
+          raised = k.only.raising;
+        }
+
+    -- the port is bound to the owner from then on, and all others to what they were
+    published_bindings : (n j : ℕ) (M' : Memory) → IsReady env mix c n port j M G
+        → (made : Made env mix c M G M' (ghost_after env mix c (Links n port j) G)) → owner_of (M' (Node n OwnerWord)) ≡ owner
+        → Agree (owners env mix M' (ghost_after env mix c (Links n port j) G)) (answers.bindings_after env.config.kind now call)
+    published_bindings n j M' ready made word other = elim (cases_eq other port) [
+      | inl e ↦
+          ap (owners_in env mix M') (ap (put G.bound port (n ∷ [])) e ∙ put-same G.bound port (n ∷ [])) ∙ ap (λ o. o ∷ []) word
+          ∙ sym (ap (λ t. cond t (owners_bound env.config.kind owner (now port)) (now other)) (eq-eqb other port e)
+          ∙ ap (λ kind. owners_bound kind owner (now port)) single ∙ ap (λ list. owners_bound Single owner (owners_in env mix M list)) ready.unbound)
+      | inr ne ↦
+          owners-stay env mix c M M' G (ghost_after env mix c (Links n port j) G) whole made other (put-other G.bound port (n ∷ []) other ne)
+          ∙ sym (ap (λ t. cond t (owners_bound env.config.kind owner (now port)) (now other)) (ne_eqb other port ne))
+    ]
+
+    -- nothing is held any more
+    nothing_left : (n j place : ℕ) → place_at env mix j ≡ place → HasOnly env mix c G (Some n) (Some place) None true
+        → HasOnly env mix c (ghost_after env mix c (Links n port j) G) None None None false
+    nothing_left n j place is only = record {
+      nodes = put-all (λ m o. o ≡ Held c → ◌≡◌ {A = Option ℕ} None (Some m)) G.node n (First j) (λ e. absurd (cc))
+          (λ m ne holds. let q = only.nodes m holds in absurd (ne (cc)));
+      locks = put-all (λ i b. b.holder ≡ Some c → (◌≡◌ {A = Option ℕ} None (Some (place_at env mix i))) ⊎ (◌≡◌ {A = Option ℕ} None (Some (place_at env mix i)))) G.bucket j (linked_bucket env mix (G.bucket j) n)
+          (λ e. absurd (cc))
+          (λ i ne holds. elim (only.locks i holds) [
+            | inl first ↦ absurd (ne (let q : place ≡ place_at env mix i = cc in let r = is in omega (arith, q, r)))
+            | inr second ↦ absurd (cc)
+          ]);
+      raising = put-same G.raised c false;
+    }
+
+    plain_of-link : (place n : ℕ) → plain_of place (link_of n) ≡ link_of n
+    plain_of-link place n = grind (arith, nat_tests)
+
+    publish_at : (n table place word : ℕ) (kick : Bool)
+        → BindKnows (at.Publish n table (relink_new env.geometry place word None (link_of n)) kick) M G
+        → BindStep (at.Publish n table (relink_new env.geometry place word None (link_of n)) kick)
+    publish_at n table place word kick known =
+        let op = Store place (plain_of place (link_of n)) in
+        let j = word_index env mix place in
+        let M' = mem env mix (applied words op) in
+        let ready = publish_ready n table place word known.knowing in
+        let bucket = known.knowing.means.table.bucket in
+        let is : place_at env mix j ≡ place = place_at-index env mix place bucket in
+        let write : IsWrite env.geometry M M' (PageWord j) (link_of n) =
+        subst (λ v. IsWrite env.geometry M M' (PageWord j) v) (plain_of-link place n)
+        (is_write env.geometry words (PageWord j) op all (index-within env mix place bucket) (sym is)) in
+        let made = link_head env mix c n port j M M' G whole ready write in
+        let node = known.knowing.means.node in
+        let owner_word : owner_of (M' (Node n OwnerWord)) ≡ owner =
+        ap owner_of (write.others (Node n OwnerWord) node.has.among (λ e. cc) ∙ node.owner) ∙ mod-eq_of_lt {n = owner} {m = 2 ^ 32} small in
+        let bindings = published_bindings n j M' ready made owner_word in
+        let none : now port ≡ [] = ap (owners_in env mix M) ready.unbound in
+        record {
+          move = Links n port j;
+          ready = ready;
+          made = made;
+          does = record { on = sym is; has = refl; lock = ap Some (sym is); raised = refl; holds = refl };
+          says = inr (record {
+            unknown = refl;
+            answer = plain (Bound kick);
+            known = refl;
+            answered = ap (λ kind. Some (plain (bind_reply kind (now port)))) single ∙ ap (λ list. Some (plain (bind_reply Single list))) none;
+            bindings = bindings;
+            port = port;
+            differs = λ e. let q : ◌≡◌ {A = List ℕ} (owner_of (M' (Node n OwnerWord)) ∷ []) [] = sym (ap (owners_in env mix M') (put-same G.bound port (n ∷ []))) ∙ e ∙ none in cc;
+          });
+          knows = record {
+            only = nothing_left n j place is known.knowing.only;
+            means = record { node = tt; table = tt; bucket = tt };
+          };
+        }
+
+    publish_step : (n table : ℕ) (relink : RelinkModel) (kick : Bool) → BindKnows (at.Publish n table relink kick) M G
+        → BindStep (at.Publish n table relink kick)
+    publish_step n table relink kick known =
+        subst (λ r. BindStep (at.Publish n table r kick)) (sym known.fits)
+        (publish_at n table relink.place relink.word kick (record { knowing = record { only = known.knowing.only; means = known.knowing.means }; fits = refl }))
+
+    -- ---- each operation leads from what the bind knows to what it knows next
+    pub bind_step : (at : BindAt) → IsBindAtIn env at → BindKnows at M G → BindStep at
+    bind_step (at.Filling new) is known =
+        let r = new_node_after new (old_of words (new_node_plan new)) in
+        let Made : ℕ → ℕ → Type 0 = λ key o. Moved env mix c words G (new_node_plan new) (holds_node (node_of_new new.at) None) (holds_node (nodes.made_by (r.0.at, r.1)) None)
+        (nodes.knowing env mix c held.holds_nothing Nowhere Unlocked (nodes.made_by (r.0.at, r.1)) (nodes.known_made key o (r.0.at, r.1))) in
+        let Knows : ℕ → ℕ → Type 0 = λ key o. nodes.knowing env mix c held.holds_nothing Nowhere Unlocked (node_of_new new.at) (nodes.known_at key o new.at) M G in
+        let knows : Knows new.key new.owner = subst (λ key. Knows key new.owner) (sym known.fits.0) (subst (λ o. Knows port o) (sym known.fits.1) known.knowing) in
+        let step : Made new.key new.owner = nodes.new_node_step env mix c held.holds_nothing Nowhere Unlocked words G all whole new is knows in
+        node_made new r known.fits.0 known.fits.1 (subst (λ key. Made key owner) known.fits.0 (subst (λ o. Made new.key o) known.fits.1 step))
+    bind_step (at.CurrentTable n) is known =
+        goes_on (at.CurrentTable n) (at.Locating n (locate_new env.geometry (table_of (M CurrentTable)))) refl refl refl (record {
+          knowing = record {
+            only = known.knowing.only;
+            means = record {
+              node = known.knowing.means.node;
+              table = first_passed env mix c (holds_node (Some n) None) (Some (own port owner n)) Unlocked words G whole port;
+              bucket = tt;
+            };
+          };
+          fits = tt;
+        })
+    bind_step (at.Locating n locate) is known =
+        found_place n locate (locate_after mix port locate (old_of words (locate_plan locate)))
+        (locate_step env mix c (holds_node (Some n) None) (Some (own port owner n)) Unlocked words G whole port locate is.locate_in known.knowing)
+    bind_step (at.Probing n table shape probe) is known =
+        walked n table shape probe (probe_after probe (old_of words (probe_plan probe))) known.fits.0
+        (probe_step env mix c (holds_node (Some n) None) (Some (own port owner n)) port table (Some shape) words G all whole probe is.probe_in known.fits.0 known.fits.1 known.knowing)
+    bind_step (at.FoundOwner claimed found) is known = found_next claimed found known
+    bind_step (at.Future claimed count) is known =
+        future_next claimed count (slot_of (M (Slot claimed.table FutureWord)))
+        (future_is env mix c (holds_claimed claimed) (Some (own port owner claimed.node)) (missed port owner claimed) words G whole port claimed.table claimed.bucket.place (Some claimed.shape)
+        known.knowing known.knowing.means.bucket.none) known
+    bind_step (at.Count claimed) is known = count_next claimed known
+    bind_step (at.Link claimed) is known =
+        answered env mix c call words G (plan_at env (at.Link claimed)) (holds_claimed claimed) (holds_claimed claimed) None (BindNext (at.Raise claimed, Go)) (inl refl)
+        (moved-map env mix c words G (plan_at env (at.Link claimed)) (holds_claimed claimed) (holds_claimed claimed) _ (BindNext (at.Raise claimed, Go))
+        (λ M' G' w k. record { knowing = k; fits = tt })
+        (nodes.fill_step env mix c (holds_node None (Some claimed.bucket.place)) (at_home port owner claimed) (missed port owner claimed) words G all whole (own port owner claimed.node) ChainLink (head_of claimed.bucket.place claimed.bucket.word) known.knowing))
+    bind_step (at.Raise claimed) is known =
+        let kick = kicks env claimed.shape (M PortCount) in
+        let p = claimed.bucket.place in
+        answered env mix c call words G (plan_at env (at.Raise claimed)) (holds_claimed claimed) (holds_publishing claimed.node p) None (BindNext (publishing env claimed kick, Go)) (inl refl)
+        (moved-map env mix c words G (plan_at env (at.Raise claimed)) (holds_claimed claimed) (holds_publishing claimed.node p) _ (BindNext (publishing env claimed kick, Go))
+        (λ M' G' w k. let table = k.means.table in record {
+          knowing = record {
+            only = k.only;
+            means = record {
+              node = k.means.node;
+              table = record { passing = table.passing; shape_is = tt; bucket = table.bucket; here = table.here };
+              bucket = k.means.bucket;
+            };
+          };
+          fits = refl;
+        })
+        (raise_step env mix c (holds_claimed claimed) (known_of_bind port owner (at.Raise claimed)) words G all whole low known.knowing))
+    bind_step (at.Publish n table relink kick) is known = publish_step n table relink kick known
+    bind_step (at.Unlocking n table unlock (Table next)) is known =
+        answered env mix c call words G (plan_at env (at.Unlocking n table unlock (Table next))) (held_of_bind (at.Unlocking n table unlock (Table next))) (holds_node (Some n) None) None
+        (BindNext (at.Locating n (locate_new env.geometry next), Go)) (inl refl)
+        (moved-map env mix c words G (plan_at env (at.Unlocking n table unlock (Table next))) (holds_node (Some n) (Some unlock.place)) (holds_node (Some n) None) _ (BindNext (at.Locating n (locate_new env.geometry next), Go))
+        (λ M' G' w k. record { knowing = k; fits = tt })
+        (unlock_step env mix c (holds_node (Some n) None) (Some (own port owner n)) (Passes port next) words G all whole unlock.place unlock.word known.knowing))
+    bind_step (at.Unlocking n table unlock (Answer reply)) is known =
+        let told : Holding = record held.holds_nothing { node = Some n; answer = Some (plain reply) } in
+        answered env mix c call words G (plan_at env (at.Unlocking n table unlock (Answer reply))) (held_of_bind (at.Unlocking n table unlock (Answer reply))) told (Some (plain reply))
+        (BindNext (giving env n reply, Go)) (keeps env.config.kind c call now (Some (plain reply)))
+        (moved-map env mix c words G (plan_at env (at.Unlocking n table unlock (Answer reply))) (record told { lock = Some unlock.place }) told _ (BindNext (giving env n reply, Go))
+        (λ M' G' w k. record { knowing = k; fits = tt })
+        (unlock_step env mix c told (Some (own port owner n)) Nowhere words G all whole unlock.place unlock.word known.knowing))
+    bind_step (at.Giving give reply) is known =
+        let told : Holding = record held.holds_nothing { answer = Some (plain reply) } in
+        subst (λ g. Step env mix c call words G (give_node_plan (record { geometry = g; node = give.node })) (record told { node = Some give.node }) told (Knowing env mix c told known_nothing))
+        (sym is.geometry_same)
+        (answered env mix c call words G (give_node_plan (record { geometry = env.geometry; node = give.node })) (record told { node = Some give.node }) told (Some (plain reply)) (Knowing env mix c told known_nothing)
+        (keeps env.config.kind c call now (Some (plain reply)))
+        (nodes.give_step env mix c told Nowhere Unlocked words G all whole (own port owner give.node) known.knowing))

@@ -1,0 +1,276 @@
+-- What a look-up knows in each state, and that each of its operations leads from what it knows to what it knows next.
+use Rattle.std.proofs.Common.{◌≡◌, ℕ, ◌<◌, List, [], ◌∷◌, length, Option, Some, None, refl, sym, ◌∙◌, ap, subst, inl, inr}
+use Rattle.rht_words.specs.declared.env.Env.{Env}
+use Rattle.rht_words.specs.declared.config.Kind.{Kind}
+use Rattle.rht_words.specs.declared.machine.Next.{Next}
+use Rattle.rht_words.specs.declared.machine.Next.TheVariants.{Go, Done}
+use Rattle.rht_words.specs.Held as held
+use Rattle.rht_words.specs.Links.{table_of, slot_of, node_of}
+use Rattle.rht_words.specs.Ports.{owner_of}
+use Rattle.rht_words.specs.Operations.{old_of, word_after}
+use Rattle.rht_words.specs.Places.{CurrentTable, Slot, FutureWord, Node, OwnerWord, ListLink, words_in}
+use Rattle.rht_words.proofs.Memory.{Memory}
+use Rattle.rht_words.proofs.Members.{in-middle}
+use Rattle.rht_nest.specs.Locate.{LocateModel, locate_new, locate_plan, locate_after}
+use Rattle.rht_nest.specs.declared.locate.Located.{Located}
+use Rattle.rht_chain.specs.Probe.{ProbeModel, probe_new, probe_plan, probe_after, lock_of_probe}
+use Rattle.rht_chain.specs.declared.probe.Probed.{Probed}
+use Rattle.rht_chain.specs.declared.locked.Locked.{Locked}
+use Rattle.rht_chain.specs.declared.locked.Then.{Then}
+use Rattle.rht_chain.specs.declared.locked.Then.TheVariants.{Table, Answer}
+use Rattle.rht_model.specs.declared.history.Call.{Call}
+use Rattle.rht_model.specs.declared.history.Call.TheVariants as calls
+use Rattle.rht_model.specs.declared.history.Reply.{Reply}
+use Rattle.rht_model.specs.declared.history.Reply.TheVariants.{Found, Missing}
+use Rattle.rht_model.specs.Multimap.{Multimap, Agree}
+use Rattle.rht_model.specs.Answers.{plain}
+use Rattle.rht_model.specs.Answers as answers
+use Rattle.rht_find.specs.Find.{plan_at, after_at, located, bucket_or_missing, found_or_not, probed, unlocking, next_table, list_followed, unlocked, IsFindAtIn}
+use Rattle.rht_find.specs.FindHeld.{held_of_find}
+use Rattle.rht_find.specs.declared.find.FindAt.{FindAt}
+use Rattle.rht_find.specs.declared.find.FindAt.TheVariants as at
+use Rattle.rht_core.proofs.Theory.Ghosts.{Ghost}
+use Rattle.rht_core.proofs.Theory.Wholes.{key_of, word_index, Whole}
+use Rattle.rht_core.proofs.Theory.Knowledge.{KnownTable, Nowhere, Passes, AtHome, KnownBucket, Unlocked, Locks, Missed, Member, OwnerIs, Known, HoldsLock, IsMember, Knowing}
+use Rattle.rht_core.proofs.Theory.Answering.{KeepsAnswer, SaysStill, keeps, learns}
+use Rattle.rht_core.proofs.Theory.Steps.{Holding, mem, owners, owners_in, Moved, moved-map, with_knowledge, Step, answered, reads, HoldsSame}
+use Rattle.rht_core.proofs.Pieces.Locates.{known_locate, first_passed, locate_step, LocateKnows, FutureIs, future_is}
+use Rattle.rht_core.proofs.Pieces.Locks.{unlock_step}
+use Rattle.rht_core.proofs.Pieces.Probes.{known_probe, known_found, known_seen, place_of_probe, IsProbeFor, probed_by, ProbeKnows, probe_step}
+
+-- what a caller knows in no call
+abbrev pub known_nothing : Known
+known_nothing = record { node = None; table = Nowhere; bucket = Unlocked }
+
+-- what a call holds that has nothing but this lock
+abbrev at_lock : Option ℕ → Holding
+at_lock lock = record held.holds_nothing { lock = lock }
+
+-- what it knows of the way to a bucket, and of the bucket that it has locked
+abbrev knows_of : KnownTable → KnownBucket → Known
+knows_of table bucket = record { node = None; table = table; bucket = bucket }
+
+-- where the call goes on behind an unlocking, the port has been passed there
+abbrev pub known_behind : ℕ → Then Reply → KnownTable
+known_behind port (Table table) = Passes port table
+known_behind port (Answer reply) = Nowhere
+
+module _ (port : ℕ) where
+  abbrev at_home : ℕ → Locked → KnownTable
+  at_home table bucket = AtHome port table None bucket.place
+
+  -- what a look-up knows in a state
+  abbrev pub known_of_find : FindAt → Known
+  known_of_find at.CurrentTable = known_nothing
+  known_of_find (at.Locating locate) = knows_of (known_locate port locate.table locate.at) Unlocked
+  known_of_find (at.Probing table probe) = knows_of (AtHome port table None (place_of_probe probe.at)) (known_probe port probe.at)
+  known_of_find (at.Future table bucket) = knows_of (at_home table bucket) (Missed bucket.place bucket.word port)
+  known_of_find (at.FirstOwner table bucket node) = knows_of (at_home table bucket) (Member bucket.place bucket.word port node)
+  known_of_find (at.ListLink table bucket node owner) = knows_of (at_home table bucket) (OwnerIs bucket.place bucket.word port node owner)
+  known_of_find (at.LaterOwner table bucket node owner) = knows_of (at_home table bucket) (Locks bucket.place bucket.word)
+  known_of_find (at.Unlocking table unlock next) = knows_of (known_behind port next) (Locks unlock.place unlock.word)
+
+  -- how its pieces are for the port; so far no node has another one behind it in a list
+  abbrev pub fits_find : FindAt → Type 0
+  fits_find at.CurrentTable = Unit {0}
+  fits_find (at.Locating locate) = Unit {0}
+  fits_find (at.Probing table probe) = (probe.key ≡ port) × IsProbeFor port probe.at
+  fits_find (at.Future table bucket) = Unit {0}
+  fits_find (at.FirstOwner table bucket node) = Unit {0}
+  fits_find (at.ListLink table bucket node owner) = Unit {0}
+  fits_find (at.LaterOwner table bucket node owner) = ⊥
+  fits_find (at.Unlocking table unlock next) = Unit {0}
+
+module _ (env : Env) (mix : ℕ → ℕ → ℕ → ℕ) (c : ℕ) (port : ℕ) where
+  abbrev call : Call
+  call = calls.Find port
+
+  pub record FindKnows (at : FindAt) (M : Memory) (G : Ghost) : Type 0 where
+    pub knowing : Knowing env mix c (held_of_find at) (known_of_find port at) M G
+    pub fits : fits_find port at
+
+  -- what it holds and knows after an operation
+  abbrev pub find_holds : FindAt × Next Reply → Holding
+  find_holds (at, Go) = held_of_find at
+  find_holds (at, Done reply) = held.ended_with (plain reply)
+
+  abbrev pub FindNext : FindAt × Next Reply → Memory → Ghost → Type 0
+  FindNext (at, Go) M G = FindKnows at M G
+  FindNext (at, Done reply) M G = Knowing env mix c (held.ended_with (plain reply)) known_nothing M G
+
+  module _ (words : List ℕ) (G : Ghost) (all : length words ≡ words_in env.geometry)
+      (whole : Whole env mix (mem env mix words) G) where
+    abbrev M : Memory
+    M = mem env mix words
+
+    -- the owners of each port now
+    abbrev now : Multimap
+    now = owners env mix M G
+
+    -- what an operation leads to from a state
+    abbrev FindMoved : FindAt → FindAt × Next Reply → Type 0
+    FindMoved at r = Step env mix c call words G (plan_at env at) (held_of_find at) (find_holds r) (FindNext r)
+
+    abbrev pub FindStep : FindAt → Type 0
+    FindStep at = FindMoved at (after_at mix env port at (old_of words (plan_at env at)))
+
+    -- a load of which the answer isn't known
+    goes_on : (at next : FindAt) → word_after (old_of words (plan_at env at)) (plan_at env at) ≡ old_of words (plan_at env at)
+        → HoldsSame (held_of_find at) (held_of_find next) → KeepsAnswer (held_of_find at).answer (held_of_find next).answer
+        → FindKnows next M G → FindMoved at (next, Go)
+    goes_on at next same holds says knows =
+        reads env mix c call words G (plan_at env at) (held_of_find at) (held_of_find next) (FindNext (next, Go)) whole same holds (inl says) knows
+
+    -- the port is bound to the owner of a node of its bucket that has its key, and to no other
+    bound_here : (place word node : ℕ) → IsMember env mix c M G place word port node
+        → (now port ≡ owner_of (M (Node node OwnerWord)) ∷ []) × (M (Node node ListLink) ≡ 0)
+    bound_here place word node is =
+        let j = word_index env mix place in
+        let at = whole.owned.first_at node j (whole.owned.member j node is.there) in
+        (ap (owners_in env mix M) (ap G.bound (sym is.key_is) ∙ at.bound_to), at.no_list)
+
+    -- ---- what the pieces lead to
+
+    -- the way to the bucket
+    found_place : (locate : LocateModel) (r : LocateModel × Next Located)
+        → Moved env mix c words G (locate_plan locate) held.holds_nothing held.holds_nothing (LocateKnows env mix c held.holds_nothing None Unlocked port r)
+        → FindMoved (at.Locating locate) (located env port r.0 r.1)
+    found_place locate (next, Go) step =
+        answered env mix c call words G (locate_plan locate) held.holds_nothing held.holds_nothing None (FindNext (at.Locating next, Go)) (inl refl)
+        (moved-map env mix c words G (locate_plan locate) held.holds_nothing held.holds_nothing (LocateKnows env mix c held.holds_nothing None Unlocked port (next, Go)) (FindNext (at.Locating next, Go))
+        (λ M' G' w k. record { knowing = k; fits = tt }) step)
+    found_place locate (next, Done there) step =
+        let is = step.knows in
+        let table = is.knows.means.table in
+        let probing = at.Probing next.table (probe_new env.geometry is.place port) in
+        rw is.there (answered env mix c call words G (locate_plan locate) held.holds_nothing held.holds_nothing None (FindNext (probing, Go)) (inl refl)
+        (with_knowledge env mix c words G (locate_plan locate) held.holds_nothing held.holds_nothing (LocateKnows env mix c held.holds_nothing None Unlocked port (next, Done there)) (FindNext (probing, Go)) step
+        (record {
+          knowing = record {
+            only = is.knows.only;
+            means = record {
+              node = tt;
+              table = record { passing = table.passing; shape_is = tt; bucket = table.bucket; here = table.here };
+              bucket = tt;
+            };
+          };
+          fits = (refl, tt);
+        })))
+
+    -- the end of a walk
+    seen_knows : (table : ℕ) (bucket : Locked) (before found : Option ℕ) (M' : Memory) (G' : Ghost)
+        → Knowing env mix c (at_lock (Some bucket.place)) (knows_of (AtHome port table None bucket.place) (known_found bucket.place bucket.word port before found)) M' G'
+        → FindKnows (found_or_not table bucket found) M' G'
+    seen_knows table bucket before None M' G' k = record { knowing = k; fits = tt }
+    seen_knows table bucket before (Some node) M' G' k =
+        let is = k.means.bucket in
+        record {
+          knowing = record {
+            only = k.only;
+            means = record {
+              node = tt;
+              table = k.means.table;
+              bucket = record {
+                lock = is.standing.lock;
+                there = rw is.standing.stands.split (in-middle node is.standing.stands.front is.standing.stands.rear);
+                key_is = is.key_is;
+              };
+            };
+          };
+          fits = tt;
+        }
+
+    seen_holds : (table : ℕ) (bucket : Locked) (found : Option ℕ)
+        → held_of_find (found_or_not table bucket found) ≡ at_lock (Some bucket.place)
+    seen_holds table bucket None = refl
+    seen_holds table bucket (Some node) = refl
+
+    walked : (table : ℕ) (probe : ProbeModel) (r : ProbeModel × Next Probed) → r.0.key ≡ port
+        → Moved env mix c words G (probe_plan probe) (at_lock (lock_of_probe probe.at)) (at_lock (probed_by (r.0.at, r.1))) (ProbeKnows env mix c held.holds_nothing None port table None words G all whole (r.0.at, r.1))
+        → FindMoved (at.Probing table probe) (probed table r.0 r.1, Go)
+    walked table probe (next, Go) key step =
+        answered env mix c call words G (probe_plan probe) (at_lock (lock_of_probe probe.at)) (at_lock (lock_of_probe next.at)) None (FindNext (at.Probing table next, Go)) (inl refl)
+        (moved-map env mix c words G (probe_plan probe) (at_lock (lock_of_probe probe.at)) (at_lock (lock_of_probe next.at))
+        (ProbeKnows env mix c held.holds_nothing None port table None words G all whole (next.at, Go)) (FindNext (at.Probing table next, Go))
+        (λ M' G' w k. record { knowing = k.0; fits = (key, k.1) }) step)
+    walked table probe (next, Done end) key step =
+        let there = found_or_not table end.bucket end.seen.found in
+        rw (seen_holds table end.bucket end.seen.found)
+        (answered env mix c call words G (probe_plan probe) (at_lock (lock_of_probe probe.at)) (at_lock (Some end.bucket.place)) None (FindNext (there, Go)) (inl refl)
+        (moved-map env mix c words G (probe_plan probe) (at_lock (lock_of_probe probe.at)) (at_lock (Some end.bucket.place))
+        (ProbeKnows env mix c held.holds_nothing None port table None words G all whole (next.at, Done end)) (FindNext (there, Go))
+        (λ M' G' w k. seen_knows table end.bucket end.seen.before end.seen.found M' G' k) step))
+
+    -- the future of a table in which the port was looked for in vain
+    future_next : (table : ℕ) (bucket : Locked) (future : Option ℕ) → FutureIs env mix c (at_lock (Some bucket.place)) None (Missed bucket.place bucket.word port) words G whole port future
+        → FindKnows (at.Future table bucket) M G → FindMoved (at.Future table bucket) (unlocking table bucket (next_table future), Go)
+    future_next table bucket None unbound known =
+        let none : now port ≡ [] = ap (owners_in env mix M) unbound in
+        reads env mix c call words G (plan_at env (at.Future table bucket)) (held_of_find (at.Future table bucket)) (held_of_find (unlocking table bucket (Answer Missing))) (FindNext (unlocking table bucket (Answer Missing), Go)) whole refl refl
+        (learns env.config.kind c call now (plain Missing) (record { legal = inl (ap (λ owners. Some (plain (answers.find_reply owners))) none); leaves = λ p. refl }))
+        (record {
+          knowing = record { only = known.knowing.only; means = record { node = tt; table = tt; bucket = known.knowing.means.bucket.lock } };
+          fits = tt;
+        })
+    future_next table bucket (Some next) passing known =
+        goes_on (at.Future table bucket) (unlocking table bucket (Table next)) refl refl refl (record {
+          knowing = record { only = known.knowing.only; means = record { node = tt; table = passing; bucket = known.knowing.means.bucket.lock } };
+          fits = tt;
+        })
+
+    -- each operation of a look-up leads from what it knows to what it knows next
+    pub find_step : (at : FindAt) → IsFindAtIn env at → FindKnows at M G → FindStep at
+    find_step at.CurrentTable is known =
+        goes_on at.CurrentTable (at.Locating (locate_new env.geometry (table_of (M CurrentTable)))) refl refl refl (record {
+          knowing = record {
+            only = known.knowing.only;
+            means = record { node = tt; table = first_passed env mix c held.holds_nothing None Unlocked words G whole port; bucket = tt };
+          };
+          fits = tt;
+        })
+    find_step (at.Locating locate) is known =
+        found_place locate (locate_after mix port locate (old_of words (locate_plan locate)))
+        (locate_step env mix c held.holds_nothing None Unlocked words G whole port locate is known.knowing)
+    find_step (at.Probing table probe) is known =
+        let r = probe_after probe (old_of words (probe_plan probe)) in
+        walked table probe r known.fits.0
+        (probe_step env mix c held.holds_nothing None port table None words G all whole probe is.probe_in known.fits.0 known.fits.1 known.knowing)
+    find_step (at.Future table bucket) is known =
+        future_next table bucket (slot_of (M (Slot table FutureWord)))
+        (future_is env mix c (at_lock (Some bucket.place)) None (Missed bucket.place bucket.word port) words G whole port table bucket.place None
+        known.knowing known.knowing.means.bucket.none) known
+    find_step (at.FirstOwner table bucket node) is known =
+        goes_on (at.FirstOwner table bucket node) (at.ListLink table bucket node (owner_of (M (Node node OwnerWord)))) refl refl refl (record {
+          knowing = record {
+            only = known.knowing.only;
+            means = record { node = tt; table = known.knowing.means.table; bucket = record { member = known.knowing.means.bucket; owner_is = refl } };
+          };
+          fits = tt;
+        })
+    find_step (at.ListLink table bucket node owner) is known =
+        let own = known.knowing.means.bucket in
+        let bound = bound_here bucket.place bucket.word node own.member in
+        let answer = unlocking table bucket (Answer (Found owner)) in
+        let ends : list_followed table bucket owner (node_of env.geometry.nodes (M (Node node ListLink))) ≡ answer =
+        ap (λ link. list_followed table bucket owner (node_of env.geometry.nodes link)) bound.1 in
+        rw ends (reads env mix c call words G (plan_at env (at.ListLink table bucket node owner)) (held_of_find (at.ListLink table bucket node owner)) (held_of_find answer) (FindNext (answer, Go)) whole refl refl
+        (learns env.config.kind c call now (plain (Found owner)) (record {
+          legal = inl (ap (λ owners. Some (plain (answers.find_reply owners))) bound.0 ∙ ap (λ o. Some (plain (Found o))) own.owner_is);
+          leaves = λ p. refl;
+        }))
+        (record {
+          knowing = record { only = known.knowing.only; means = record { node = tt; table = tt; bucket = own.member.lock } };
+          fits = tt;
+        }))
+    find_step (at.LaterOwner table bucket node owner) is known = absurd known.fits
+    find_step (at.Unlocking table unlock (Table next)) is known =
+        answered env mix c call words G (plan_at env (at.Unlocking table unlock (Table next))) (held_of_find (at.Unlocking table unlock (Table next))) held.holds_nothing None
+        (FindNext (at.Locating (locate_new env.geometry next), Go)) (inl refl)
+        (moved-map env mix c words G (plan_at env (at.Unlocking table unlock (Table next))) (at_lock (Some unlock.place)) held.holds_nothing _ (FindNext (at.Locating (locate_new env.geometry next), Go)) (λ M' G' w k. record { knowing = k; fits = tt })
+        (unlock_step env mix c held.holds_nothing None (Passes port next) words G all whole unlock.place unlock.word known.knowing))
+    find_step (at.Unlocking table unlock (Answer reply)) is known =
+        let told : Holding = record held.holds_nothing { answer = Some (plain reply) } in
+        answered env mix c call words G (plan_at env (at.Unlocking table unlock (Answer reply))) (held_of_find (at.Unlocking table unlock (Answer reply))) told (Some (plain reply))
+        (FindNext (at.Unlocking table unlock (Answer reply), Done reply)) (keeps env.config.kind c call now (Some (plain reply)))
+        (moved-map env mix c words G (plan_at env (at.Unlocking table unlock (Answer reply))) (record told { lock = Some unlock.place }) told _ (FindNext (at.Unlocking table unlock (Answer reply), Done reply)) (λ M' G' w k. k)
+        (unlock_step env mix c told None Nowhere words G all whole unlock.place unlock.word known.knowing))

@@ -1,0 +1,111 @@
+-- What a caller in a call knows by its job, and that each of its operations leads from what it knows to what it knows next.
+-- The inductions over runs go through this one step, with no case of a machine.
+use Rattle.std.proofs.Common.{◌≡◌, ℕ, ◌^◌, ◌<◌, List, length, Option, Some, None, Bool, refl, subst}
+use Rattle.rht_words.specs.declared.env.Env.{Env}
+use Rattle.rht_words.specs.declared.config.Kind.TheVariants.{Single}
+use Rattle.rht_words.specs.declared.machine.Next.{Next}
+use Rattle.rht_words.specs.declared.machine.Next.TheVariants.{Go, Done}
+use Rattle.rht_words.specs.Held as held
+use Rattle.rht_words.specs.Operations.{old_of}
+use Rattle.rht_words.specs.Places.{words_in}
+use Rattle.rht_words.proofs.Memory.{Memory}
+use Rattle.rht_model.specs.declared.history.Reply.{Reply}
+use Rattle.rht_model.specs.Answers.{plain}
+use Rattle.rht_model.specs.Endings.{Ending}
+use Rattle.rht_find.specs.Find.{IsFindAtIn}
+use Rattle.rht_find.specs.Find as find_at
+use Rattle.rht_find.specs.declared.find.FindAt.{FindAt}
+use Rattle.rht_bind.specs.Bind.{IsBindAtIn}
+use Rattle.rht_bind.specs.Bind as bind_at
+use Rattle.rht_bind.specs.declared.bind.BindAt.{BindAt}
+use Rattle.rht_core.specs.Jobs.{Job, finds, binds, call_of, job_plan, finds_next, binds_next, job_after, held_of, held_next}
+use Rattle.rht_core.proofs.Theory.Ghosts.{Ghost}
+use Rattle.rht_core.proofs.Theory.Wholes.{Whole}
+use Rattle.rht_core.proofs.Theory.Knowledge.{Known, MembersFirst, Rely, Knowing, Knowing-rely}
+use Rattle.rht_core.proofs.Theory.Steps.{mem, Holding, Step, step-map}
+use Rattle.rht_core.proofs.Machines.FindSteps.{known_nothing, known_of_find, fits_find, FindKnows, find_holds, FindNext, find_step}
+use Rattle.rht_core.proofs.Machines.BindSteps.{known_of_bind, fits_bind, BindKnows, bind_holds, BindNext, bind_step}
+
+-- what a caller knows by its job
+abbrev pub known_of : Job → Known
+known_of (finds port state) = known_of_find port state
+known_of (binds port owner once state) = known_of_bind port owner state
+
+-- nothing is held
+abbrev pub holds_no : Holding
+holds_no = held.holds_nothing
+
+-- all that a bind names is the table's, and its owner has 32 bits
+pub record IsBindingIn (env : Env) (owner : ℕ) (state : BindAt) : Type 0 where
+  pub owner_in : owner < 2 ^ 32
+  pub at_in : IsBindAtIn env state
+
+-- a bind is built for tables of one owner for each port alone
+abbrev pub IsJobBuilt : Env → Job → Type 0
+IsJobBuilt env (finds port state) = Unit {0}
+IsJobBuilt env (binds port owner once state) = env.config.kind ≡ Single
+
+module _ (env : Env) (mix : ℕ → ℕ → ℕ → ℕ) (c : ℕ) where
+  -- all that the job names is the table's
+  abbrev pub JobIn : Job → Type 0
+  JobIn (finds port state) = IsFindAtIn env state
+  JobIn (binds port owner once state) = IsBindingIn env owner state
+
+  abbrev pub fits_job : Job → Type 0
+  fits_job (finds port state) = fits_find port state
+  fits_job (binds port owner once state) = fits_bind env mix c port owner once state
+
+  pub record JobKnows (job : Job) (M : Memory) (G : Ghost) : Type 0 where
+    pub built : IsJobBuilt env job
+    pub knowing : Knowing env mix c (held_of job) (known_of job) M G
+    pub fits : fits_job job
+
+  -- a caller in no call has nothing
+  abbrev pub KnowsNothing : Memory → Ghost → Type 0
+  KnowsNothing M G = Knowing env mix c holds_no known_nothing M G
+
+  -- what the caller knows after an operation
+  abbrev pub JobNext : Job × Next Ending → Memory → Ghost → Type 0
+  JobNext (job, Go) M G = JobKnows job M G
+  JobNext (job, Done ending) M G = Knowing env mix c (held.ended_with ending.answer) known_nothing M G
+
+  -- what it knows outlives a step of anybody else
+  pub JobKnows-rely : (job : Job) (M M' : Memory) (G G' : Ghost) → MembersFirst env mix G → Rely env mix c M G M' G'
+      → JobKnows job M G → JobKnows job M' G'
+  JobKnows-rely job M M' G G' members rely knows = record {
+    built = knows.built;
+    knowing = Knowing-rely env mix c M M' G G' (held_of job) (known_of job) members rely knows.knowing;
+    fits = knows.fits;
+  }
+
+  module _ (low : c < env.geometry.callers) (words : List ℕ) (G : Ghost) (all : length words ≡ words_in env.geometry)
+      (whole : Whole env mix (mem env mix words) G) where
+    abbrev pub JobStep : Job → Type 0
+    JobStep job =
+        let r = job_after mix env job (old_of words (job_plan env job)) in
+        Step env mix c (call_of job) words G (job_plan env job) (held_of job) (held_next r) (JobNext r)
+
+    finds_so : (port : ℕ) (state : FindAt) (r : FindAt × Next Reply)
+        → Step env mix c (call_of (finds port state)) words G (find_at.plan_at env state) (held_of (finds port state)) (find_holds env mix c port r) (FindNext env mix c port r)
+        → Step env mix c (call_of (finds port state)) words G (find_at.plan_at env state) (held_of (finds port state)) (held_next (finds_next port r)) (JobNext (finds_next port r))
+    finds_so port state (next, Go) step =
+        step-map env mix c (call_of (finds port state)) words G (find_at.plan_at env state) (held_of (finds port state)) (held_of (finds port next)) _ (JobNext (finds port next, Go))
+        (λ M G' w k. record { built = tt; knowing = k.knowing; fits = k.fits }) step
+    finds_so port state (next, Done reply) step = step
+
+    binds_so : env.config.kind ≡ Single → (port owner : ℕ) (once : Bool) (state : BindAt) (r : BindAt × Next Reply)
+        → Step env mix c (call_of (binds port owner once state)) words G (bind_at.plan_at env state) (held_of (binds port owner once state)) (bind_holds env mix c port owner once r) (BindNext env mix c port owner once r)
+        → Step env mix c (call_of (binds port owner once state)) words G (bind_at.plan_at env state) (held_of (binds port owner once state)) (held_next (binds_next port owner once r)) (JobNext (binds_next port owner once r))
+    binds_so single port owner once state (next, Go) step =
+        step-map env mix c (call_of (binds port owner once state)) words G (bind_at.plan_at env state) (held_of (binds port owner once state)) (held_of (binds port owner once next)) _ (JobNext (binds port owner once next, Go))
+        (λ M G' w k. record { built = single; knowing = k.knowing; fits = k.fits }) step
+    binds_so single port owner once state (next, Done reply) step = step
+
+    -- each operation of a job leads from what the caller knows to what it knows next
+    pub job_step : (job : Job) → JobIn job → JobKnows job (mem env mix words) G → JobStep job
+    job_step (finds port state) within knows =
+        finds_so port state (find_at.after_at mix env port state (old_of words (find_at.plan_at env state)))
+        (find_step env mix c port words G all whole state within (record { knowing = knows.knowing; fits = knows.fits }))
+    job_step (binds port owner once state) within knows =
+        binds_so knows.built port owner once state (bind_at.after_at mix env port state (old_of words (bind_at.plan_at env state)))
+        (bind_step env mix c port owner once knows.built within.owner_in low words G all whole state within.at_in (record { knowing = knows.knowing; fits = knows.fits }))

@@ -1,0 +1,10 @@
+-- taking a node, giving it back, and writing its words
+pub mod Nodes
+-- the way to a port's bucket
+pub mod Locates
+-- the lock of a bucket is dropped
+pub mod Locks
+-- the operations in a bucket: it is locked and walked
+pub mod Probes
+-- the count of ports is raised
+pub mod Counts

@@ -1,0 +1,44 @@
+-- The count of ports is raised for a node that the caller has not linked yet.
+use Rattle.std.proofs.Common.{◌≡◌, ℕ, ◌+◌, ◌%◌, ◌^◌, ◌<◌, List, [], length, Option, Bool, true, false, refl}
+use Rattle.rht_words.specs.declared.env.Env.{Env}
+use Rattle.rht_words.specs.declared.op.Op.TheVariants.{Add}
+use Rattle.rht_words.specs.Operations.{applied}
+use Rattle.rht_words.specs.Places.{PortCount, Node, KeyWord, OwnerWord, place_of, words_in}
+use Rattle.rht_words.proofs.Memory.{Memory, IsWrite, is_write}
+use Rattle.rht_core.proofs.Theory.Ghosts.{put, put-same, Ghost, with_raised}
+use Rattle.rht_core.proofs.Theory.Wholes.{Whole}
+use Rattle.rht_core.proofs.Theory.Knowledge.{KnownNode, KnownTable, KnownBucket, Known, Knowing, NodeMeans-stay, TableMeans-stay, BucketMeans-stay}
+use Rattle.rht_core.proofs.Theory.Frames.{same_tables, tables_stay}
+use Rattle.rht_core.proofs.Theory.Steps.{Raises, Holding, mem, Moved, moved}
+use Rattle.rht_core.proofs.Moves.Quiet.{count_up}
+
+module _ (env : Env) (mix : ℕ → ℕ → ℕ → ℕ) (c : ℕ) (h : Holding) (known : Known) where
+  abbrev pub holding : Bool → Holding
+  holding raised = record h { raised = raised }
+
+  abbrev pub knowing : Bool → Memory → Ghost → Type 0
+  knowing raised M G = Knowing env mix c (holding raised) known M G
+
+  pub raise_step : (words : List ℕ) (G : Ghost) → length words ≡ words_in env.geometry → Whole env mix (mem env mix words) G
+      → c < env.geometry.callers → knowing false (mem env mix words) G
+      → Moved env mix c words G (Add (place_of env.geometry PortCount) 1) (holding false) (holding true) (knowing true)
+  raise_step words G all whole low knows =
+      let op = Add (place_of env.geometry PortCount) 1 in
+      let M = mem env mix words in
+      let M' = mem env mix (applied words op) in
+      let G' = with_raised G c true in
+      let write : IsWrite env.geometry M M' PortCount ((M PortCount + 1) % 2 ^ 64) =
+      is_write env.geometry words PortCount op all tt refl in
+      moved env mix c words G op (holding false) (holding true) (knowing true) Raises whole tt tt
+      (count_up env mix c M M' G whole low knows.only.raising write)
+      (record { adds = refl; low = refl; holds = refl })
+      (record {
+        only = record { nodes = knows.only.nodes; locks = knows.only.locks; raising = put-same G.raised c true };
+        means = record {
+          node = NodeMeans-stay env mix c M M' G G' (λ n has. has.mine) (λ n has w. write.others (Node n w) has.among (λ e. cc)) known.node knows.means.node;
+          table = TableMeans-stay env mix c M M' G G' (tables_stay env mix M G G' whole (same_tables env mix G G.bucket G.node G.bound G'.raised)) known.table knows.means.table;
+          bucket = BucketMeans-stay env mix c M M' G G' whole.owned.member (λ j holds. refl)
+              (λ n j first. write.others (Node n KeyWord) (whole.owned.first_at n j first).among (λ e. cc))
+              (λ n j first. write.others (Node n OwnerWord) (whole.owned.first_at n j first).among (λ e. cc)) known.bucket knows.means.bucket;
+        };
+      })

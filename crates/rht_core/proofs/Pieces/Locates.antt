@@ -1,0 +1,161 @@
+-- The operations on the way to a port's bucket: the current table, a table's shape and seed, and its future.
+use Rattle.std.proofs.Common.{◌≡◌, ◌≢◌, ◌⊎◌, ℕ, ◌+◌, ◌*◌, ◌<◌, ◌≤◌, List, [], Option, Some, None, Bool, true, false, cond, nat_lt, min, length, refl, sym, ◌∙◌, ap, subst, inl, inr, arith}
+use Rattle.std.specs.Prelude.{IfSome}
+use Rattle.std.proofs.lemmas.Bool.{lt-ltb, cases_lt, le-ltb}
+use Rattle.std.proofs.lemmas.Bool.Decides.{nat_tests}
+use Rattle.rht_words.specs.declared.env.Env.{Env}
+use Rattle.rht_words.specs.declared.op.Op.TheVariants.{Load}
+use Rattle.rht_words.specs.declared.machine.Next.{Next}
+use Rattle.rht_words.specs.declared.machine.Next.TheVariants.{Go, Done}
+use Rattle.rht_words.specs.Links.{table_of, slot_of, future_of}
+use Rattle.rht_words.specs.Shapes.{unpacked, size_of}
+use Rattle.rht_words.specs.Operations.{old_of}
+use Rattle.rht_words.specs.Places.{CurrentTable, Slot, SlotWord, ShapeWord, SeedWord, FutureWord, IsBucketPlace, place_of}
+use Rattle.rht_words.proofs.Memory.{Memory}
+use Rattle.rht_policy.specs.Mix.{bucket_of}
+use Rattle.rht_nest.specs.Place.{bucket_index, bucket_place}
+use Rattle.rht_nest.specs.Locate.{LocateModel, locate_plan, locate_after, IsLocateIn}
+use Rattle.rht_nest.specs.declared.locate.LocateAt.{LocateAt}
+use Rattle.rht_nest.specs.declared.locate.LocateAt.TheVariants as locates
+use Rattle.rht_nest.specs.declared.locate.Located.{Located}
+use Rattle.rht_core.proofs.Theory.Ghosts.{Ghost, Table, Live, has_table, index_at, some-same}
+use Rattle.rht_core.proofs.Theory.Wholes.{TableRight, Whole, home, hash_in, place_at, word_index, future_in, index-place_at}
+use Rattle.rht_core.proofs.Theory.Passed.{NoKey, Passed, passed_first, hash-below, home-index, unbound_at_last, go_on}
+use Rattle.rht_core.proofs.Theory.Knowledge.{KnownNode, KnownTable, Nowhere, Passes, Shaped, AtHome, KnownBucket, Known, IsPassing, Knowing}
+use Rattle.rht_core.proofs.Theory.Steps.{by_test, Holding, mem, Moved, loads}
+
+-- what is known on the way to the bucket of a port
+abbrev pub known_locate : ℕ → ℕ → LocateAt → KnownTable
+known_locate port slot locates.Shape = Passes port slot
+known_locate port slot (locates.Seed shape) = Shaped port slot shape
+
+module _ (env : Env) (mix : ℕ → ℕ → ℕ → ℕ) (c : ℕ) (h : Holding) (node : Option KnownNode) (bucket : KnownBucket) where
+  abbrev pub knowing : KnownTable → Memory → Ghost → Type 0
+  knowing table M G = Knowing env mix c h (record { node = node; table = table; bucket = bucket }) M G
+
+  -- once the bucket was looked for it is known; none is missing
+  pub record IsLocated (port slot : ℕ) (located : Located) (M : Memory) (G : Ghost) : Type 0 where
+    pub place : ℕ
+    pub there : located.place ≡ Some place
+    pub knows : knowing (AtHome port slot (Some located.shape) place) M G
+
+  abbrev pub LocateKnows : ℕ → LocateModel × Next Located → Memory → Ghost → Type 0
+  LocateKnows port (m, Go) M G = knowing (known_locate port m.table m.at) M G
+  LocateKnows port (m, Done located) M G = IsLocated port m.table located M G
+
+  module _ (words : List ℕ) (G : Ghost) (whole : Whole env mix (mem env mix words) G) where
+    abbrev M : Memory
+    M = mem env mix words
+
+    -- the table in a slot, and what its words say
+    table-right : (slot : ℕ) → has_table (G.slot slot) ≡ true → TableRight env mix M G (index_at G slot)
+    table-right slot has = whole.tables.each (index_at G slot) (whole.tables.slots slot has).attached
+
+    slot-word : (slot : ℕ) (w : SlotWord) → has_table (G.slot slot) ≡ true
+        → M (Slot slot w) ≡ M (Slot (G.table (index_at G slot)).slot w)
+    slot-word slot w has = ap (λ s. M (Slot s w)) (sym (whole.tables.slots slot has).slot)
+
+    -- the slot of the current table has a table, and nothing was passed there
+    pub first_passed : (port : ℕ) → IsPassing env mix G port (table_of (M CurrentTable))
+    first_passed port =
+        let right = whole.tables.each G.current whole.tables.current_in in
+        let slot = (G.table G.current).slot in
+        let is : table_of (M CurrentTable) ≡ slot = (let word = whole.tables.current_is in omega (arith, right.slot_in, word)) in
+        rw is (record { table = right.has_slot; passed = rw right.index (passed_first env mix M G whole port) })
+
+    -- the word in which the bucket of the port stands has a place in the table
+    home-place : (port τ : ℕ) → τ < G.attached
+        → bucket_place env.geometry (G.table τ).shape (bucket_of mix port (G.table τ).shape (G.table τ).seed)
+        ≡ Some (place_at env mix (bucket_index (G.table τ).shape (hash_in env mix G port τ)))
+    home-place port τ l =
+        let index = bucket_index (G.table τ).shape (hash_in env mix G port τ) in
+        let placed = (whole.tables.each τ l).placed in
+        let below : index < 64 * env.geometry.pages = omega (arith, hash-below env mix M G whole port τ, placed.fits) in
+        ap (λ t. cond t (Some (place_at env mix index)) None) (lt-ltb index (64 * env.geometry.pages) below)
+
+    locate_step_at : (port slot : ℕ) (at : LocateAt) → knowing (known_locate port slot at) M G
+        → let m : LocateModel = record { geometry = env.geometry; table = slot; at = at } in
+        Moved env mix c words G (locate_plan m) h h (LocateKnows port (locate_after mix port m (old_of words (locate_plan m))))
+    locate_step_at port slot locates.Shape knows =
+        let m : LocateModel = record { geometry = env.geometry; table = slot; at = locates.Shape } in
+        let has = knows.means.table.table in
+        loads env mix c words G (locate_plan m) h h (LocateKnows port (locate_after mix port m (old_of words (locate_plan m)))) whole refl refl
+        (record {
+          only = knows.only;
+          means = record {
+            node = knows.means.node;
+            table = record { passing = knows.means.table; shape_is = sym (slot-word slot ShapeWord has ∙ (table-right slot has).shape_is) };
+            bucket = knows.means.bucket;
+          };
+        })
+    locate_step_at port slot (locates.Seed shape) knows =
+        let m : LocateModel = record { geometry = env.geometry; table = slot; at = locates.Seed shape } in
+        let passing = knows.means.table.passing in
+        let has = passing.table in
+        let τ = index_at G slot in
+        let seed : M (Slot slot SeedWord) ≡ (G.table τ).seed = slot-word slot SeedWord has ∙ (table-right slot has).seed_is in
+        let index = bucket_index (G.table τ).shape (hash_in env mix G port τ) in
+        let there : bucket_place env.geometry shape (bucket_of mix port shape (M (Slot slot SeedWord))) ≡ Some (place_at env mix index)
+        = ap (λ s. bucket_place env.geometry s (bucket_of mix port s (M (Slot slot SeedWord)))) (sym knows.means.table.shape_is)
+        ∙ ap (λ d. bucket_place env.geometry (G.table τ).shape (bucket_of mix port (G.table τ).shape d)) seed
+        ∙ home-place port τ passing.passed.attached in
+        let placed = (table-right slot has).placed in
+        loads env mix c words G (locate_plan m) h h (LocateKnows port (locate_after mix port m (old_of words (locate_plan m)))) whole refl refl
+        (record {
+          place = place_at env mix index;
+          there = there;
+          knows = record {
+            only = knows.only;
+            means = record {
+              node = knows.means.node;
+              table = record {
+                passing = passing;
+                shape_is = knows.means.table.shape_is;
+                bucket = (omega arith, omega (arith, hash-below env mix M G whole port τ, placed.fits));
+                here = home-index env mix M G whole port τ passing.passed.attached ∙ ap Some (sym (index-place_at env mix index));
+              };
+              bucket = knows.means.bucket;
+            };
+          };
+        })
+
+    pub locate_step : (port : ℕ) (m : LocateModel) → IsLocateIn env.geometry m → knowing (known_locate port m.table m.at) M G
+        → Moved env mix c words G (locate_plan m) h h (LocateKnows port (locate_after mix port m (old_of words (locate_plan m))))
+    locate_step port m is knows =
+        subst (λ g. let here : LocateModel = record { geometry = g; table = m.table; at = m.at } in
+        Moved env mix c words G (locate_plan here) h h (LocateKnows port (locate_after mix port here (old_of words (locate_plan here)))))
+        (sym is.geometry_same) (locate_step_at port m.table m.at knows)
+
+    -- ---- the future of a table
+
+    -- What the future of a table is read as, in which the port was looked for in vain: no table, and the port is bound nowhere; or the
+    -- table behind it, and the port has been passed there too.
+    abbrev pub FutureIs : ℕ → Option ℕ → Type 0
+    FutureIs port None = G.bound port ≡ []
+    FutureIs port (Some next) = IsPassing env mix G port next
+
+    pub future_is : (port slot place : ℕ) (shape : Option ℕ) → Knowing env mix c h (record { node = node; table = AtHome port slot shape place; bucket = bucket }) M G
+        → NoKey M port (G.bucket (word_index env mix place)).nodes → FutureIs port (slot_of (M (Slot slot FutureWord)))
+    future_is port slot place shape knows none =
+        let at = knows.means.table in
+        let τ = index_at G slot in
+        let word : M (Slot slot FutureWord) ≡ future_in env mix G τ =
+        slot-word slot FutureWord at.passing.table ∙ (table-right slot at.passing.table).future_is in
+        rw word (elim (cases_lt (τ + 1) G.attached) [
+          | inl more ↦
+              let right = whole.tables.each (τ + 1) more in
+              let next = (G.table (τ + 1)).slot in
+              let is : future_in env mix G τ ≡ future_of next = ap (λ t. cond t (future_of next) 0) (lt-ltb (τ + 1) G.attached more) in
+              let named : slot_of (future_of next) ≡ Some next = slot-named next right.slot_in in
+              rw is (rw named (record {
+                table = right.has_slot;
+                passed = rw right.index (go_on env mix M G whole port τ (word_index env mix place) at.passing.passed at.here none more);
+              }))
+          | inr last ↦
+              let is : future_in env mix G τ ≡ 0 = ap (λ t. cond t (future_of (G.table (τ + 1)).slot) 0) (le-ltb (τ + 1) G.attached last) in
+              let attached = at.passing.passed.attached in
+              rw is (unbound_at_last env mix M G whole port τ (word_index env mix place) at.passing.passed at.here none (omega (arith, attached, last)))
+        ])
+      where
+        slot-named : (next : ℕ) → next < 8 → slot_of (future_of next) ≡ Some next
+        slot-named next l = grind (arith, nat_tests)

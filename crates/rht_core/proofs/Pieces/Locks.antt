@@ -1,0 +1,106 @@
+-- A bucket that the caller has locked: what it knows beside it stays where the bucket's holder changes, and the lock is dropped.
+use Rattle.std.proofs.Common.{◌≡◌, ◌≢◌, ◌⊎◌, ℕ, ◌+◌, ◌*◌, ◌%◌, ◌<◌, ◌==◌, List, [], ◌∷◌, ◌++◌, length, slice_index, Option, Some, None, false, cond, refl, sym, ap, ◌∙◌, subst, inl, inr, arith}
+use Rattle.std.proofs.Math.Seq.{append_snoc}
+use Rattle.std.proofs.lemmas.Bool.{eqb-true, eqb-false, eq-eqb}
+use Rattle.rht_words.specs.declared.env.Env.{Env}
+use Rattle.rht_words.specs.declared.op.Op.{Op}
+use Rattle.rht_words.specs.declared.op.Op.TheVariants.{Load, Store, Exchange}
+use Rattle.rht_words.specs.declared.machine.Next.{Next}
+use Rattle.rht_words.specs.declared.machine.Next.TheVariants.{Go, Done}
+use Rattle.rht_words.specs.declared.machine.Start.{Start}
+use Rattle.rht_words.specs.declared.machine.Start.TheVariants as starts
+use Rattle.rht_words.specs.Links.{link_of, node_of, head_of, marker_of}
+use Rattle.rht_words.specs.Chains.{IsSegment}
+use Rattle.rht_words.specs.Operations.{old_of, word_after, applied}
+use Rattle.rht_words.specs.Places.{Node, NodeWord, ChainLink, KeyWord, OwnerWord, PageWord, place_of, words_in, word_at}
+use Rattle.rht_words.proofs.LinksRead.{links_tell_apart}
+use Rattle.rht_words.proofs.Memory.{Memory, IsWrite, is_write}
+use Rattle.rht_words.specs.Members.{In}
+use Rattle.rht_words.proofs.Members.{in-middle}
+use Rattle.rht_words.proofs.ChainLemmas.{IsSegment-cut}
+use Rattle.rht_chain.specs.Lock.{LockModel, lock_plan, lock_after, IsEven}
+use Rattle.rht_chain.specs.declared.lock.LockAt.{LockAt}
+use Rattle.rht_chain.specs.declared.lock.LockAt.TheVariants as locks
+use Rattle.rht_chain.specs.LockedWalk.{LockedWalkModel, locked_walk_new, locked_walk_plan, locked_walk_after, walk_from, followed, counted, found_at, IsWalkIn}
+use Rattle.rht_chain.specs.declared.locked.Locked.{Locked}
+use Rattle.rht_chain.specs.declared.locked_walk.Seen.{Seen}
+use Rattle.rht_chain.specs.declared.locked_walk.LockedWalkAt.{LockedWalkAt}
+use Rattle.rht_chain.specs.declared.locked_walk.LockedWalkAt.TheVariants as walks
+use Rattle.rht_chain.specs.Probe.{ProbeModel, probe_plan, probe_after, lock_of_probe, lock_taken, walk_or_seen, walk_taken, IsProbeIn, IsProbeAtIn}
+use Rattle.rht_chain.specs.declared.probe.ProbeAt.{ProbeAt}
+use Rattle.rht_chain.specs.declared.probe.ProbeAt.TheVariants as probes
+use Rattle.rht_chain.specs.declared.probe.Probed.{Probed}
+use Rattle.rht_core.proofs.Theory.Ghosts.{put, put-same, put-other, put-all, Bucket, Ghost, First, lock_bit, with_holder}
+use Rattle.rht_core.proofs.Theory.Wholes.{chain_of, key_of, place_at, word_index, place_at-index, index-within, Whole}
+use Rattle.rht_core.proofs.Theory.Passed.{NoKey}
+use Rattle.rht_core.proofs.Theory.Knowledge.{KnownNode, KnownTable, AtHome, KnownBucket, Unlocked, Locks, Stands, Differs, Missed, Found, Known, StandsAt, last_of, HoldsLock, BucketMeans, TableMeans, TableMeans-stay, NodeMeans-stay, Knowing}
+use Rattle.rht_core.proofs.Theory.Frames.{same_tables, tables_stay}
+use Rattle.rht_core.proofs.Theory.Steps.{TakesLock, DropsLock, by_test, Holding, mem, Moved, moved, moved-map, loads}
+use Rattle.rht_core.proofs.Moves.Quiet.{drop_lock}
+
+module _ (env : Env) (mix : ℕ → ℕ → ℕ → ℕ) (c : ℕ) (h : Holding) (node : Option KnownNode) (table : KnownTable) where
+  -- what the call holds with this lock, and what the caller knows with this known of the bucket
+  abbrev pub holding : Option ℕ → Holding
+  holding lock = record h { lock = lock }
+
+  abbrev pub knowing : Option ℕ → KnownBucket → Memory → Ghost → Type 0
+  knowing lock bucket M G = Knowing env mix c (holding lock) (record { node = node; table = table; bucket = bucket }) M G
+
+  module _ (words : List ℕ) (G : Ghost) (all : length words ≡ words_in env.geometry)
+      (whole : Whole env mix (mem env mix words) G) where
+    abbrev M : Memory
+    M = mem env mix words
+
+    -- what is known of nodes and tables stays where a bucket has another holder
+    pub with-holder : (lock : Option ℕ) (place : ℕ) (bucket : KnownBucket) (holder : Option ℕ) (op : Op) (v : ℕ)
+        → knowing lock bucket M G
+        → IsWrite env.geometry M (mem env mix (applied words op)) (PageWord (word_index env mix place)) v
+        → (after : Option ℕ) (more : KnownBucket)
+        → ((i : ℕ) → (put G.bucket (word_index env mix place) (record (G.bucket (word_index env mix place)) { holder = holder }) i).holder ≡ Some c
+        → (after ≡ Some (place_at env mix i)) ⊎ (h.second ≡ Some (place_at env mix i)))
+        → BucketMeans env mix c (mem env mix (applied words op)) (with_holder G (word_index env mix place) holder) more
+        → knowing after more (mem env mix (applied words op)) (with_holder G (word_index env mix place) holder)
+    with-holder lock place bucket holder op v knows write after more only means =
+        let j = word_index env mix place in
+        let M' = mem env mix (applied words op) in
+        let G' = with_holder G j holder in
+        record {
+          only = record { nodes = knows.only.nodes; locks = only; raising = knows.only.raising };
+          means = record {
+            node = NodeMeans-stay env mix c M M' G G' (λ n has. has.mine) (λ n has w. write.others (Node n w) has.among (λ e. cc)) node knows.means.node;
+            table = TableMeans-stay env mix c M M' G G' (tables_stay env mix M G G' whole (same_tables env mix G G'.bucket G.node G.bound G.raised)) table knows.means.table;
+            bucket = means;
+          };
+        }
+
+    -- the holder stores the bucket's word without the lock
+    pub unlock_step : (place word : ℕ) → knowing (Some place) (Locks place word) M G
+        → Moved env mix c words G (Store place word) (holding (Some place)) (holding None) (knowing None Unlocked)
+    unlock_step place word knows =
+        let op = Store place word in
+        let lock = knows.means.bucket in
+        let j = word_index env mix place in
+        let is : place_at env mix j ≡ place = place_at-index env mix place lock.bucket in
+        let M' = mem env mix (applied words op) in
+        let within = index-within env mix place lock.bucket in
+        let write : IsWrite env.geometry M M' (PageWord j) word = is_write env.geometry words (PageWord j) op all within (sym is) in
+        let right = (whole.buckets j within).locked in
+        let b = record (G.bucket j) { holder = None } in
+        let old : old_of words op ≡ word + 1 = ap (λ p. slice_index words p) (sym is) ∙ right.word_is ∙ ap (λ p. p + lock_bit (G.bucket j).holder) lock.plain ∙ ap (λ x. word + lock_bit x) lock.holder in
+        moved env mix c words G op (holding (Some place)) (holding None) (knowing None Unlocked) (DropsLock j) whole tt tt
+        (drop_lock env mix c j word M M' G whole within lock.holder lock.plain write)
+        (record {
+          on = sym is;
+          even = rw lock.plain at right.even;
+          unlocks = old;
+          has = ap Some (sym is);
+          holds = refl;
+        })
+        (with-holder (Some place) place (Locks place word) None op word knows write None Unlocked
+        (put-all (λ i bucket. bucket.holder ≡ Some c → (◌≡◌ {A = Option ℕ} None (Some (place_at env mix i))) ⊎ (h.second ≡ Some (place_at env mix i))) G.bucket j b
+        (λ holds. absurd (cc))
+        (λ i ne holds. elim (knows.only.locks i holds) [
+          | inl first ↦ absurd (ne (let q : place ≡ place_at env mix i = cc in let r = is in omega (arith, q, r)))
+          | inr second ↦ inr second
+        ]))
+        tt)

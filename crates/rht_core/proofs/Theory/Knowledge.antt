@@ -1,0 +1,355 @@
+-- What a caller knows in each state, and why nobody else's step takes it away.
+-- What it knows speaks of words and ghosts on which the caller holds the right, or which nobody changes. It is of three kinds: of the
+-- node that it has taken, of the table in which it looks for a port, and of the bucket that it has locked.
+use Rattle.std.proofs.Common.{◌≡◌, ◌≢◌, ◌⊎◌, ℕ, ◌<◌, ◌≤◌, List, [], ◌∷◌, ◌++◌, Option, Some, None, Bool, true, refl, sym, ◌∙◌, ap, inl, inr, subst}
+use Rattle.std.specs.Prelude.{IfSome}
+use Rattle.rht_words.specs.declared.env.Env.{Env}
+use Rattle.rht_words.specs.Places.{Node, NodeWord, ChainLink, KeyWord, OwnerWord, ListLink, IsBucketPlace}
+use Rattle.rht_words.specs.Ports.{owner_of}
+use Rattle.rht_words.specs.Held as held
+use Rattle.rht_words.proofs.Memory.{Memory}
+use Rattle.rht_words.specs.Members.{In}
+use Rattle.rht_words.proofs.Members.{In-append_left, in-middle}
+use Rattle.rht_policy.specs.Mix.{bucket_of}
+use Rattle.rht_core.proofs.Theory.Ghosts.{Bucket, Held, First, Ghost, has_table, index_at}
+use Rattle.rht_core.proofs.Theory.Wholes.{key_of, place_at, word_index, home}
+use Rattle.rht_core.proofs.Theory.Passed.{NoKey, NoKey-same, Passed}
+
+-- ---- what may be known
+
+-- a node that the caller has, and those of its words that are known
+pub record KnownNode : Type 0 where
+  pub node : ℕ
+  pub chain : Option ℕ
+  pub key : Option ℕ
+  pub owner : Option ℕ
+  pub list : Option ℕ
+
+-- of the way to a port's bucket: nothing, or that none of the tables before the one in this slot binds the port; the table's
+-- shape; and at which place the port's bucket is, whether the shape is known or not
+pub data KnownTable : Type 0 where
+  Nowhere : KnownTable
+  Passes : ℕ → ℕ → KnownTable
+  Shaped : ℕ → ℕ → ℕ → KnownTable
+  AtHome : ℕ → ℕ → Option ℕ → ℕ → KnownTable
+
+-- Of a bucket that it has locked, whose word was this before: nothing more; at which node of it a walk for a key stands, before or
+-- behind the load of the node's key; that none of its nodes has the key; its first node that has it; or a node that has it, and then
+-- that node's owner. Beside the node at which a walk stands is the one before it.
+pub data KnownBucket : Type 0 where
+  Unlocked : KnownBucket
+  Locks : ℕ → ℕ → KnownBucket
+  Stands : ℕ → ℕ → ℕ → ℕ → Option ℕ → KnownBucket
+  Differs : ℕ → ℕ → ℕ → ℕ → Option ℕ → KnownBucket
+  Missed : ℕ → ℕ → ℕ → KnownBucket
+  Found : ℕ → ℕ → ℕ → ℕ → Option ℕ → KnownBucket
+  Member : ℕ → ℕ → ℕ → ℕ → KnownBucket
+  OwnerIs : ℕ → ℕ → ℕ → ℕ → ℕ → KnownBucket
+
+-- what a caller knows in a state
+pub record Known : Type 0 where
+  pub node : Option KnownNode
+  pub table : KnownTable
+  pub bucket : KnownBucket
+
+-- the last of these nodes
+abbrev pub last_of : List ℕ → Option ℕ
+last_of [] = None
+last_of (node ∷ []) = Some node
+last_of (node ∷ next ∷ nodes) = last_of (next ∷ nodes)
+
+-- a node and the other nodes of a chain round it: no node before it has the key
+pub record StandsAt (M : Memory) (nodes : List ℕ) (key node : ℕ) (before : Option ℕ) : Type 0 where
+  pub front : List ℕ
+  pub rear : List ℕ
+  pub split : nodes ≡ front ++ node ∷ rear
+  pub passed : NoKey M key front
+  pub last : before ≡ last_of front
+
+module _ (env : Env) (mix : ℕ → ℕ → ℕ → ℕ) where
+  -- ---- what it means
+
+  -- the bucket whose word has this place
+  abbrev pub bucket_at : Ghost → ℕ → Bucket
+  bucket_at G place = G.bucket (word_index env mix place)
+
+  pub record HasNode (c : ℕ) (G : Ghost) (node : ℕ) : Type 0 where
+    pub mine : G.node node ≡ Held c
+    pub among : node < env.geometry.nodes
+
+  pub record NodeMeans (c : ℕ) (M : Memory) (G : Ghost) (known : KnownNode) : Type 0 where
+    pub has : HasNode c G known.node
+    pub chain : IfSome known.chain (λ value. M (Node known.node ChainLink) ≡ value)
+    pub key : IfSome known.key (λ value. M (Node known.node KeyWord) ≡ value)
+    pub owner : IfSome known.owner (λ value. M (Node known.node OwnerWord) ≡ value)
+    pub list : IfSome known.list (λ value. M (Node known.node ListLink) ≡ value)
+
+  -- a table has this slot, and none of those before it binds the port
+  pub record IsPassing (G : Ghost) (port slot : ℕ) : Type 0 where
+    pub table : has_table (G.slot slot) ≡ true
+    pub passed : Passed env mix G port (index_at G slot)
+
+  pub record IsShaped (G : Ghost) (port slot shape : ℕ) : Type 0 where
+    pub passing : IsPassing G port slot
+    pub shape_is : (G.table (index_at G slot)).shape ≡ shape
+
+  pub record IsAtHome (G : Ghost) (port slot : ℕ) (shape : Option ℕ) (place : ℕ) : Type 0 where
+    pub passing : IsPassing G port slot
+    pub shape_is : IfSome shape (λ s. (G.table (index_at G slot)).shape ≡ s)
+    pub bucket : IsBucketPlace env.geometry place
+    pub here : home env mix G port (index_at G slot) ≡ Some (word_index env mix place)
+
+  abbrev pub TableMeans : Ghost → KnownTable → Type 0
+  TableMeans G Nowhere = Unit {0}
+  TableMeans G (Passes port slot) = IsPassing G port slot
+  TableMeans G (Shaped port slot shape) = IsShaped G port slot shape
+  TableMeans G (AtHome port slot shape place) = IsAtHome G port slot shape place
+
+  pub record HoldsLock (c : ℕ) (G : Ghost) (place word : ℕ) : Type 0 where
+    pub bucket : IsBucketPlace env.geometry place
+    pub holder : (bucket_at G place).holder ≡ Some c
+    pub plain : (bucket_at G place).plain ≡ word
+
+  pub record IsStanding (c : ℕ) (M : Memory) (G : Ghost) (place word key node : ℕ) (before : Option ℕ) : Type 0 where
+    pub lock : HoldsLock c G place word
+    pub stands : StandsAt M (bucket_at G place).nodes key node before
+
+  pub record IsDiffering (c : ℕ) (M : Memory) (G : Ghost) (place word key node : ℕ) (before : Option ℕ) : Type 0 where
+    pub standing : IsStanding c M G place word key node before
+    pub differs : key_of M node ≢ key
+
+  pub record IsMissed (c : ℕ) (M : Memory) (G : Ghost) (place word key : ℕ) : Type 0 where
+    pub lock : HoldsLock c G place word
+    pub none : NoKey M key (bucket_at G place).nodes
+
+  pub record IsFound (c : ℕ) (M : Memory) (G : Ghost) (place word key node : ℕ) (before : Option ℕ) : Type 0 where
+    pub standing : IsStanding c M G place word key node before
+    pub key_is : key_of M node ≡ key
+
+  pub record IsMember (c : ℕ) (M : Memory) (G : Ghost) (place word key node : ℕ) : Type 0 where
+    pub lock : HoldsLock c G place word
+    pub there : In node (bucket_at G place).nodes
+    pub key_is : key_of M node ≡ key
+
+  pub record IsOwnedBy (c : ℕ) (M : Memory) (G : Ghost) (place word key node owner : ℕ) : Type 0 where
+    pub member : IsMember c M G place word key node
+    pub owner_is : owner_of (M (Node node OwnerWord)) ≡ owner
+
+  abbrev pub BucketMeans : ℕ → Memory → Ghost → KnownBucket → Type 0
+  BucketMeans c M G Unlocked = Unit {0}
+  BucketMeans c M G (Locks place word) = HoldsLock c G place word
+  BucketMeans c M G (Stands place word key node before) = IsStanding c M G place word key node before
+  BucketMeans c M G (Differs place word key node before) = IsDiffering c M G place word key node before
+  BucketMeans c M G (Missed place word key) = IsMissed c M G place word key
+  BucketMeans c M G (Found place word key node before) = IsFound c M G place word key node before
+  BucketMeans c M G (Member place word key node) = IsMember c M G place word key node
+  BucketMeans c M G (OwnerIs place word key node owner) = IsOwnedBy c M G place word key node owner
+
+  pub record Means (c : ℕ) (M : Memory) (G : Ghost) (known : Known) : Type 0 where
+    pub node : IfSome known.node (NodeMeans c M G)
+    pub table : TableMeans G known.table
+    pub bucket : BucketMeans c M G known.bucket
+
+  -- ---- what it has, and nothing more
+
+  -- the caller has no other node than this, has locked no other bucket than these, and has raised the count where this says so
+  pub record HasOnly (c : ℕ) (G : Ghost) (node lock second : Option ℕ) (raised : Bool) : Type 0 where
+    pub nodes : (n : ℕ) → G.node n ≡ Held c → node ≡ Some n
+    pub locks : (j : ℕ) → (G.bucket j).holder ≡ Some c
+        → (lock ≡ Some (place_at env mix j)) ⊎ (second ≡ Some (place_at env mix j))
+    pub raising : G.raised c ≡ raised
+
+  abbrev pub Only : {A : Type 0} → ℕ → Ghost → held.Held A → Type 0
+  Only c G h = HasOnly c G h.node h.lock h.second h.raised
+
+  -- ---- what a caller can count on at a step of anybody else
+
+  -- the tables that there are stay what they are, others may come, and what was passed stays passed
+  pub record TablesStay (G G' : Ghost) : Type 0 where
+    pub tables : (τ : ℕ) → τ < G.attached → G'.table τ ≡ G.table τ
+    pub attached : G.attached ≤ G'.attached
+    pub slots : (s : ℕ) → has_table (G.slot s) ≡ true → has_table (G'.slot s) ≡ true
+    pub indices : (s : ℕ) → has_table (G.slot s) ≡ true → index_at G' s ≡ index_at G s
+    pub passed : (port τ : ℕ) → Passed env mix G port τ → Passed env mix G' port τ
+
+  pub record Rely (c : ℕ) (M : Memory) (G : Ghost) (M' : Memory) (G' : Ghost) : Type 0 where
+    pub tables : TablesStay G G'
+    -- the buckets that it has locked, and the links of their nodes
+    pub locks : (j : ℕ) → (G.bucket j).holder ≡ Some c → G'.bucket j ≡ G.bucket j
+    -- the words of nodes in chains, but for their links
+    pub keys : (node j : ℕ) → G.node node ≡ First j → M' (Node node KeyWord) ≡ M (Node node KeyWord)
+    pub owners : (node j : ℕ) → G.node node ≡ First j → M' (Node node OwnerWord) ≡ M (Node node OwnerWord)
+    -- the nodes that it has, with all their words
+    pub nodes : (node : ℕ) → HasNode c G node → G'.node node ≡ Held c
+    pub words : (node : ℕ) → HasNode c G node → (word : NodeWord) → M' (Node node word) ≡ M (Node node word)
+    -- whether it has raised the count
+    pub raised : G'.raised c ≡ G.raised c
+    -- nobody gives it a node or a lock
+    pub no_node : (node : ℕ) → G'.node node ≡ Held c → G.node node ≡ Held c
+    pub no_lock : (j : ℕ) → (G'.bucket j).holder ≡ Some c → (G.bucket j).holder ≡ Some c
+
+  -- each member of a bucket is in its chain, as the whole has it
+  abbrev pub MembersFirst : Ghost → Type 0
+  MembersFirst G = (j node : ℕ) → In node (G.bucket j).nodes → G.node node ≡ First j
+
+  -- ---- what is known outlives a step that leaves what it speaks of
+
+  module _ (c : ℕ) (M M' : Memory) (G G' : Ghost) where
+    -- of nodes: where the caller's stay its own, with their words
+    module _ (mine : (node : ℕ) → HasNode c G node → G'.node node ≡ Held c)
+        (words : (node : ℕ) → HasNode c G node → (word : NodeWord) → M' (Node node word) ≡ M (Node node word)) where
+      known-stays : (node : ℕ) (word : NodeWord) (known : Option ℕ) → HasNode c G node
+          → IfSome known (λ value. M (Node node word) ≡ value) → IfSome known (λ value. M' (Node node word) ≡ value)
+      known-stays node word None has is = tt
+      known-stays node word (Some value) has is = words node has word ∙ is
+
+      pub NodeMeans-stay : (known : Option KnownNode) → IfSome known (NodeMeans c M G) → IfSome known (NodeMeans c M' G')
+      NodeMeans-stay None means = tt
+      NodeMeans-stay (Some known) means = record {
+        has = record { mine = mine known.node means.has; among = means.has.among };
+        chain = known-stays known.node ChainLink known.chain means.has means.chain;
+        key = known-stays known.node KeyWord known.key means.has means.key;
+        owner = known-stays known.node OwnerWord known.owner means.has means.owner;
+        list = known-stays known.node ListLink known.list means.has means.list;
+      }
+
+    -- of tables: where these stay
+    module _ (stay : TablesStay G G') where
+      IsPassing-stay : (port slot : ℕ) → IsPassing G port slot → IsPassing G' port slot
+      IsPassing-stay port slot means = record {
+        table = stay.slots slot means.table;
+        passed = rw (stay.indices slot means.table) (stay.passed port (index_at G slot) means.passed);
+      }
+
+      shape-stays : (slot : ℕ) (shape : Option ℕ) → has_table (G.slot slot) ≡ true → index_at G slot < G.attached
+          → IfSome shape (λ s. (G.table (index_at G slot)).shape ≡ s) → IfSome shape (λ s. (G'.table (index_at G' slot)).shape ≡ s)
+      shape-stays slot None has attached is = tt
+      shape-stays slot (Some s) has attached is =
+          ap (λ τ. (G'.table τ).shape) (stay.indices slot has) ∙ ap (λ t. t.shape) (stay.tables (index_at G slot) attached) ∙ is
+
+      IsShaped-stay : (port slot shape : ℕ) → IsShaped G port slot shape → IsShaped G' port slot shape
+      IsShaped-stay port slot shape means =
+          let same = stay.tables (index_at G slot) means.passing.passed.attached in
+          record {
+            passing = IsPassing-stay port slot means.passing;
+            shape_is = shape-stays slot (Some shape) means.passing.table means.passing.passed.attached means.shape_is;
+          }
+
+      pub TableMeans-stay : (known : KnownTable) → TableMeans G known → TableMeans G' known
+      TableMeans-stay Nowhere means = tt
+      TableMeans-stay (Passes port slot) means = IsPassing-stay port slot means
+      TableMeans-stay (Shaped port slot shape) means = IsShaped-stay port slot shape means
+      TableMeans-stay (AtHome port slot shape place) means =
+          let passing = means.passing in
+          let same = stay.tables (index_at G slot) passing.passed.attached in
+          record {
+            passing = IsPassing-stay port slot passing;
+            shape_is = shape-stays slot shape passing.table passing.passed.attached means.shape_is;
+            bucket = means.bucket;
+            here =
+                ap (home env mix G' port) (stay.indices slot passing.table)
+                ∙ ap (λ t. t.place (bucket_of mix port t.shape t.seed)) same ∙ means.here;
+          }
+
+    -- of buckets: where those that it has locked stay, and the keys of nodes in chains
+    module _ (members : MembersFirst G) (locks : (j : ℕ) → (G.bucket j).holder ≡ Some c → G'.bucket j ≡ G.bucket j)
+        (keys : (node j : ℕ) → G.node node ≡ First j → key_of M' node ≡ key_of M node)
+        (owners : (node j : ℕ) → G.node node ≡ First j → M' (Node node OwnerWord) ≡ M (Node node OwnerWord)) where
+      HoldsLock-stay : (place word : ℕ) → HoldsLock c G place word → HoldsLock c G' place word
+      HoldsLock-stay place word holds =
+          let same = locks (word_index env mix place) holds.holder in
+          record { bucket = holds.bucket; holder = ap (λ b. b.holder) same ∙ holds.holder; plain = ap (λ b. b.plain) same ∙ holds.plain }
+
+      nodes-stay : (place word : ℕ) → HoldsLock c G place word → (bucket_at G' place).nodes ≡ (bucket_at G place).nodes
+      nodes-stay place word holds = ap (λ b. b.nodes) (locks (word_index env mix place) holds.holder)
+
+      NoKey-stay : (key j : ℕ) (nodes : List ℕ) → ((node : ℕ) → In node nodes → G.node node ≡ First j)
+          → NoKey M key nodes → NoKey M' key nodes
+      NoKey-stay key j nodes firsts none = NoKey-same M M' key nodes (λ node i. keys node j (firsts node i)) none
+
+      IsStanding-stay : (place word key node : ℕ) (before : Option ℕ) → IsStanding c M G place word key node before
+          → IsStanding c M' G' place word key node before
+      IsStanding-stay place word key node before means =
+          let s = means.stands in
+          let j = word_index env mix place in
+          record {
+            lock = HoldsLock-stay place word means.lock;
+            stands = record {
+              front = s.front;
+              rear = s.rear;
+              split = nodes-stay place word means.lock ∙ s.split;
+              passed = NoKey-stay key j s.front
+                  (λ other i. members j other (rw s.split (In-append_left other s.front (node ∷ s.rear) i))) s.passed;
+              last = s.last;
+            };
+          }
+
+      -- the key of the node at which it stands stays
+      key-stays : (place word key node : ℕ) (before : Option ℕ) → IsStanding c M G place word key node before
+          → key_of M' node ≡ key_of M node
+      key-stays place word key node before means =
+          let j = word_index env mix place in
+          keys node j (members j node (rw means.stands.split (in-middle node means.stands.front means.stands.rear)))
+
+      IsMember-stay : (place word key node : ℕ) → IsMember c M G place word key node → IsMember c M' G' place word key node
+      IsMember-stay place word key node means =
+          let j = word_index env mix place in
+          record {
+            lock = HoldsLock-stay place word means.lock;
+            there = rw (nodes-stay place word means.lock) means.there;
+            key_is = keys node j (members j node means.there) ∙ means.key_is;
+          }
+
+      pub BucketMeans-stay : (known : KnownBucket) → BucketMeans c M G known → BucketMeans c M' G' known
+      BucketMeans-stay Unlocked means = tt
+      BucketMeans-stay (Locks place word) means = HoldsLock-stay place word means
+      BucketMeans-stay (Stands place word key node before) means = IsStanding-stay place word key node before means
+      BucketMeans-stay (Differs place word key node before) means = record {
+        standing = IsStanding-stay place word key node before means.standing;
+        differs = λ same. means.differs (sym (key-stays place word key node before means.standing) ∙ same);
+      }
+      BucketMeans-stay (Missed place word key) means = record {
+        lock = HoldsLock-stay place word means.lock;
+        none = rw (nodes-stay place word means.lock)
+            (NoKey-stay key (word_index env mix place) (bucket_at G place).nodes (members (word_index env mix place)) means.none);
+      }
+      BucketMeans-stay (Found place word key node before) means = record {
+        standing = IsStanding-stay place word key node before means.standing;
+        key_is = key-stays place word key node before means.standing ∙ means.key_is;
+      }
+      BucketMeans-stay (Member place word key node) means = IsMember-stay place word key node means
+      BucketMeans-stay (OwnerIs place word key node owner) means = record {
+        member = IsMember-stay place word key node means.member;
+        owner_is =
+            ap owner_of (owners node (word_index env mix place) (members (word_index env mix place) node means.member.there)) ∙ means.owner_is;
+      }
+
+  -- what is known outlives a step of anybody else, and so does that there is nothing more
+  module _ (c : ℕ) (M M' : Memory) (G G' : Ghost) (members : MembersFirst G) (rely : Rely c M G M' G') where
+    pub Means-rely : (known : Known) → Means c M G known → Means c M' G' known
+    Means-rely known means = record {
+      node = NodeMeans-stay c M M' G G' rely.nodes rely.words known.node means.node;
+      table = TableMeans-stay c M M' G G' rely.tables known.table means.table;
+      bucket = BucketMeans-stay c M M' G G' members rely.locks rely.keys rely.owners known.bucket means.bucket;
+    }
+
+    pub Only-rely : (has lock second : Option ℕ) (raised : Bool) → HasOnly c G has lock second raised
+        → HasOnly c G' has lock second raised
+    Only-rely has lock second raised only = record {
+      nodes = λ n held. only.nodes n (rely.no_node n held);
+      locks = λ j holds. only.locks j (rely.no_lock j holds);
+      raising = rely.raised ∙ only.raising;
+    }
+
+  -- ---- a caller that has this and no more, and knows that
+
+  pub record Knowing {A : Type 0} (c : ℕ) (h : held.Held A) (known : Known) (M : Memory) (G : Ghost) : Type 0 where
+    pub only : Only c G h
+    pub means : Means c M G known
+
+  pub Knowing-rely : {A : Type 0} → (c : ℕ) (M M' : Memory) (G G' : Ghost) (h : held.Held A) (known : Known) → MembersFirst G
+      → Rely c M G M' G' → Knowing c h known M G → Knowing c h known M' G'
+  Knowing-rely c M M' G G' h known members rely knows = record {
+    only = Only-rely c M M' G G' members rely h.node h.lock h.second h.raised knows.only;
+    means = Means-rely c M M' G G' members rely known knows.means;
+  }
