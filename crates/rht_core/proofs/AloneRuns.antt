@@ -1,6 +1,6 @@
 -- A call alone meets the model: by induction over its operations, either it hasn't ended, and what is known of its answer is so,
 -- or it has ended, and meets the model; and further steps of a caller that is idle change nothing.
-use Rattle.std.proofs.Common.{◌≡◌, ℕ, zero, suc, ◌+◌, ◌<◌, List, [], ◌∷◌, ◌++◌, length, replicate, Option, Some, None, Bool, true, cond, refl, sym, ◌∙◌, ap, subst, inl, inr, ◌⊎◌, nat_lt, arith}
+use Rattle.std.proofs.Common.{◌≡◌, ℕ, zero, suc, ◌+◌, ◌<◌, List, [], ◌∷◌, ◌++◌, replicate, Option, Some, None, true, cond, refl, sym, ◌∙◌, ap, subst, inl, inr, ◌⊎◌, nat_lt, arith}
 use Rattle.std.proofs.lemmas.List.{append_cancel_left, append_assoc, append-nil, replicate-append-replicate}
 use Rattle.rht_words.specs.declared.env.Env.{Env}
 use Rattle.rht_words.specs.declared.op.Op.{Op}
@@ -13,13 +13,13 @@ use Rattle.rht_model.specs.declared.history.Call.{Call}
 use Rattle.rht_model.specs.declared.history.Reply.{Reply}
 use Rattle.rht_model.specs.declared.finished.Finished.{Finished}
 use Rattle.rht_model.specs.Endings.{Ending, ended_with}
-use Rattle.rht_model.specs.Multimap.{Multimap, Agree}
+use Rattle.rht_model.specs.Multimap.{Multimap}
 use Rattle.rht_model.specs.Answers.{port_of}
 use Rattle.rht_core.specs.declared.event.Event.{Event}
 use Rattle.rht_core.specs.declared.event.Event.TheVariants.{Begin, Step as StepOf}
 use Rattle.rht_core.specs.declared.local.Local.{Local}
 use Rattle.rht_core.specs.declared.local.Doing.{Doing}
-use Rattle.rht_core.specs.Locals.{is_idle, machine_of, plan_of, local_after, ending_of}
+use Rattle.rht_core.specs.Locals.{is_idle, plan_of, local_after, ending_of}
 use Rattle.rht_core.specs.Jobs.{Job, call_of, job_of, job_plan, job_after, told, held_of, held_next}
 use Rattle.rht_core.specs.Runs.{World, Seen, IsAdmitted, IsAdmittedEvent, seen, local_of, planned_in, beginning_in, world_step, run_of, book_after, finished_with}
 use Rattle.rht_core.specs.Laws.{seen_begin, seen_step}
@@ -172,15 +172,15 @@ module _ (L : Type 0) (mix : ℕ → ℕ → ℕ → ℕ) (env : Env) (start : L
         let M' = mem env mix (applied words op) in
         let G' = ghost_after env mix c step.move G in
         let now = Meets-agree kind c call port about before (stands_for env.geometry words) (owners env mix M G) (held_of going.job).answer
-            (λ p. sym (stands_for_bound env mix words G has.inv.whole p)) going.known in
+        (λ p. sym (stands_for_bound env mix words G has.inv.whole p)) going.known in
         let asked : call_of of.job ≡ call = ap call_of same ∙ going.asked in
         let says = subst (λ a. Says kind c a (owners env mix M G) (owners env mix M' G') (held_of of.job).answer (held_next (job_after mix env of.job (old_of words op))).answer) asked step.says in
         let then = meets_next kind c call port about before (owners env mix M G) (owners env mix M' G') (held_of of.job).answer
-            (held_next (job_after mix env of.job (old_of words op))).answer says
-            (subst (λ (j : Job). Meets kind c call port about before (owners env mix M G) (held_of j).answer) (sym same) now) in
+        (held_next (job_after mix env of.job (old_of words op))).answer says
+        (subst (λ (j : Job). Meets kind c call port about before (owners env mix M G) (held_of j).answer) (sym same) now) in
         let there = Meets-agree kind c call port about before (owners env mix M' G') (stands_for env.geometry (applied words op))
-            (held_next (job_after mix env of.job (old_of words op))).answer
-            (λ p. stands_for_bound env mix (applied words op) G' step.made.whole p) then in
+        (held_next (job_after mix env of.job (old_of words op))).answer
+        (λ p. stands_for_bound env mix (applied words op) G' step.made.whole p) then in
         subst (λ (j : Job). Meets kind c call port about before (stands_for env.geometry (applied words op)) (held_next (job_after mix env j (old_of words op))).answer) same there
 
     going_on : Status (next events)

@@ -167,7 +167,7 @@ module _ (env : Env) where
     bind_reply_after-saw (at.Locating node locate) steps did does saw =
         let is : did.old ≡ old_of does.words (locate_plan locate) = does.found ∙ ap (old_of does.words) does.planned in
         let step = locate_step env mix does.caller (holds_node (Some node) None) (Some (filled_node node port owner)) Unlocked does.words does.ghost does.whole
-            port locate does.within.locate_in does.knows.knowing in
+        port locate does.within.locate_in does.knows.knowing in
         let none = there-none does.caller node locate (locate_after mix port locate (old_of does.words (locate_plan locate))) _ _ step.knows in
         let reply : no_table_reply (locate_after mix port locate did.old).1 ≡ None =
         ap (λ old. no_table_reply (locate_after mix port locate old).1) is ∙ none in

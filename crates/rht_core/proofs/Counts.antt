@@ -1,7 +1,7 @@
 -- The count of ports, and a table that nobody uses.
 -- As many different ports are bound as there are nodes in chains, and no more. A caller has raised the count exactly where its
 -- job has. While nobody is in a call nobody has a lock or a node.
-use Rattle.std.proofs.Common.{◌≡◌, ◌≢◌, ℕ, ◌+◌, ◌%◌, ◌<◌, List, [], ◌∷◌, Option, Some, None, true, refl, sym, ◌∙◌, ap, inl, inr, arith}
+use Rattle.std.proofs.Common.{◌≡◌, ◌≢◌, ℕ, ◌+◌, ◌%◌, ◌<◌, List, [], ◌∷◌, Option, Some, None, refl, sym, ◌∙◌, ap, inl, inr, arith}
 use Rattle.std.specs.Prelude.{count_by}
 use Rattle.std.specs.List.{range_with_len}
 use Rattle.rht_words.specs.declared.env.Env.{Env}
@@ -86,7 +86,7 @@ module _ (M : Type 0) (mix : ℕ → ℕ → ℕ → ℕ) where
         unlocked = λ j l.
             let right = (has.inv.whole.buckets j l).locked in
             even_word (G.bucket j).holder (G.bucket j).plain (word_at env.geometry core.words (PageWord j)) right.word_is right.even
-            (λ c h. elim ((knows c).only.locks j h) [ | inl e ↦ absurd (cc) | inr e ↦ absurd (cc) ]);
+            (λ c h. elim ((knows c).only.locks j h) [ inl e ↦ absurd (cc) | inr e ↦ absurd (cc) ]);
         nodes =
             λ n l. free_or_bound env mix core.words G has.inv.whole n l (λ c held. let none = (knows c).only.nodes n held in absurd (cc));
         counted = rw all (firsts-AreAllBound env mix core.words G has.inv.whole);

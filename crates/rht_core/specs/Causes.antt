@@ -1,16 +1,14 @@
 -- Why a call was refused, as rows of one definition over the call's own operations.
 -- A reply of which nothing is said here has its cause. Rows are added with the calls that they speak of; a refusal that no
 -- call gives yet can have none.
-use Rattle.std.specs.Prelude.{◌≡◌, ◌≢◌, ℕ, ◌+◌, ◌<◌, ◌≤◌, ◌==◌, ◌&&◌, not, List, [], length, map, take, count_by}
+use Rattle.std.specs.Prelude.{◌≡◌, ℕ, ◌+◌, ◌<◌, ◌≤◌, ◌==◌, ◌&&◌, not, List, map, take, count_by}
 use Rattle.std.specs.List.{AllByRecursion, Any, range_with_len}
 use Rattle.rht_words.specs.declared.op.Op.TheVariants.{Load}
 use Rattle.rht_words.specs.declared.env.Env.{Env}
-use Rattle.rht_words.specs.Members.{IsDistinct}
 use Rattle.rht_words.specs.Places.{PortCount, place_of}
 use Rattle.rht_policy.specs.Sizes.{most_ports}
 use Rattle.rht_model.specs.declared.history.Reply.{Reply}
 use Rattle.rht_model.specs.declared.history.Reply.TheVariants.{Again, Busy, NoTable, NoNode, TooBig}
-use Rattle.rht_model.specs.Multimap.{Multimap}
 use Rattle.rht_arena.specs.Laws.{SeesTaken}
 use Rattle.rht_core.specs.declared.event.Event.{Event}
 use Rattle.rht_core.specs.Locals.{is_idle}

@@ -1,11 +1,10 @@
 -- What the count of ports counts, and what a table is like while nobody is in a call.
-use Rattle.std.specs.Prelude.{◌≡◌, ℕ, ◌+◌, ◌*◌, ◌/◌, ◌%◌, ◌<◌, ◌≤◌, ◌⊎◌, Bool, false, Option, Some, None, List, count_by}
+use Rattle.std.specs.Prelude.{◌≡◌, ℕ, ◌+◌, ◌*◌, ◌/◌, ◌%◌, ◌<◌, ◌⊎◌, Bool, false, Option, Some, None, List, count_by}
 use Rattle.std.specs.List.{range_with_len}
 use Rattle.std.specs.Int.{bit_at}
 use Rattle.rht_words.specs.declared.env.Env.{Env}
 use Rattle.rht_words.specs.declared.geometry.Geometry.{Geometry}
 use Rattle.rht_words.specs.Places.{PortCount, NodeMap, PageWord, word_at}
-use Rattle.rht_model.specs.Multimap.{Multimap}
 use Rattle.rht_core.specs.declared.event.Event.{Event}
 use Rattle.rht_core.specs.declared.local.Doing.{Doing}
 use Rattle.rht_core.specs.Jobs.{Job, job_of, held_of}

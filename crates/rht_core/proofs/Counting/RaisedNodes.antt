@@ -1,7 +1,6 @@
 -- The nodes in chains, and the callers that have raised the count for a node that they haven't linked yet, are at most the nodes.
 -- Each such caller has a node of its own, which is in no chain.
-use Rattle.std.proofs.Common.{◌≡◌, ◌≢◌, ℕ, zero, suc, ◌+◌, ◌<◌, ◌≤◌, nat_lt, Bool, true, false, refl, sym, ◌∙◌, ap, inl, inr, arith}
-use Rattle.std.proofs.lemmas.Bool.{cases_eq}
+use Rattle.std.proofs.Common.{◌≡◌, ◌≢◌, ℕ, zero, suc, ◌+◌, ◌<◌, ◌≤◌, nat_lt, Bool, true, false, refl, ◌∙◌, ap, arith}
 use Rattle.std.proofs.lemmas.Bool.Decides.{nat_tests}
 use Rattle.rht_words.proofs.Members.{count_below, one_if, count_below-same, count_below-more, count_below-le, count_below-most}
 use Rattle.rht_words.specs.declared.env.Env.{Env}

@@ -1,24 +1,23 @@
 -- The invariant holds at opening, and so after each event of each run whose events are admitted.
-use Rattle.std.proofs.Common.{◌≡◌, ℕ, ◌+◌, ◌*◌, ◌/◌, ◌<◌, ◌≤◌, ◌==◌, cond, List, [], length, replicate, true, false, refl, sym, ap, ◌∙◌, subst, inl, inr, arith}
-use Rattle.std.specs.Prelude.{Option, Some, None}
+use Rattle.std.proofs.Common.{◌≡◌, ℕ, ◌+◌, ◌*◌, ◌/◌, ◌<◌, ◌≤◌, List, [], replicate, true, false, refl, sym, ap, ◌∙◌, subst, inl, inr, arith}
+use Rattle.std.specs.Prelude.{Some, None}
 use Rattle.std.proofs.lemmas.Bool.{cases_eq}
 use Rattle.rht_words.specs.declared.env.Env.{Env}
 use Rattle.rht_words.specs.Places.{Address, CurrentTable, PortCount, Slot, ShapeWord, SeedWord, FutureWord, NodeMap, PageWord, IsAddress}
 use Rattle.rht_words.specs.declared.shape.Shape.{Shape}
-use Rattle.rht_words.specs.Shapes.{unpacked, size_of}
-use Rattle.rht_words.specs.Opening.{opening_word, opening_words, first_pages, first_shape}
+use Rattle.rht_words.specs.Shapes.{size_of}
+use Rattle.rht_words.specs.Opening.{opening_word, opening_words}
 use Rattle.rht_words.proofs.OpeningLaws.{stand_in_place, opens_flat, opens_free}
 use Rattle.rht_words.proofs.Members.{count_below-none}
 use Rattle.rht_words.proofs.EachElement.{each_replicate}
 use Rattle.rht_core.specs.declared.event.Event.{Event}
 use Rattle.rht_core.specs.declared.local.Local.{Local}
 use Rattle.rht_core.specs.Locals.{fresh}
-use Rattle.rht_core.specs.Jobs.{job_of}
 use Rattle.rht_core.specs.Runs.{Core, World, local_in, opening, opening_core, run_of, IsAdmitted}
 use Rattle.rht_core.proofs.Worlds.{run_keeps_admitted}
-use Rattle.rht_core.proofs.RangesInRuns.{AllIn, opens-all, event-all, runs-all}
+use Rattle.rht_core.proofs.RangesInRuns.{AllIn, opens-all, event-all}
 use Rattle.rht_core.proofs.Theory.Ghosts.{Bucket, Free, Ghost, Table, PageOf, SlotFree, Live, is_first, has_table, put, put-same, put-other}
-use Rattle.rht_core.proofs.Theory.Wholes.{Whole, TableRight, SlotIsOf}
+use Rattle.rht_core.proofs.Theory.Wholes.{Whole, TableRight}
 use Rattle.rht_core.proofs.Theory.Steps.{mem}
 use Rattle.rht_core.proofs.Events.Invariants.{Inv, kept}
 
@@ -139,7 +138,7 @@ module _ (env : Env) (mix : ℕ → ℕ → ℕ → ℕ) where
     has_inv events admitted =
         run_keeps_admitted L mix env.config.kind (λ (w : World L). HasInv w.core)
         (λ w event may has.
-          let k = kept env mix L w.core has.ghost event has.all has.inv in
-          record { ghost = k.ghost; inv = k.inv; all = event-all L mix env w event may has.all })
+        let k = kept env mix L w.core has.ghost event has.all has.inv in
+        record { ghost = k.ghost; inv = k.inv; all = event-all L mix env w event may has.all })
         (opening env) events admitted
         (record { ghost = opening_ghost env; inv = opening_inv; all = opens-all L mix env })

@@ -1,6 +1,6 @@
 -- The invariant of every run: the whole is true of the words and some ghost, and each caller knows what its job says.
 -- An operation of a caller keeps the whole and leads to what its next state says, and everybody else still knows what it knew.
-use Rattle.std.proofs.Common.{◌≡◌, ℕ, ◌<◌, true, List, length, refl, sym, ap, ◌∙◌, subst, inl, inr, arith}
+use Rattle.std.proofs.Common.{◌≡◌, ℕ, ◌<◌, true, length, refl, sym, ◌∙◌, subst, inl, inr, arith}
 use Rattle.std.specs.Prelude.{Option, Some, None}
 use Rattle.std.proofs.lemmas.Bool.{cases_eq}
 use Rattle.std.proofs.lemmas.List.{get_or-set_same, get_or-set_other}
@@ -19,18 +19,18 @@ use Rattle.rht_core.specs.declared.event.Event.TheVariants.{Enroll, Begin}
 use Rattle.rht_core.specs.declared.event.Event.TheVariants as events
 use Rattle.rht_core.specs.declared.local.Doing.{Doing}
 use Rattle.rht_core.specs.declared.local.Doing.TheVariants.{Idle, Finding, Binding}
-use Rattle.rht_core.specs.Locals.{fresh, does_nothing, machine_of, begin_with, doing_plan, doing_after, local_after}
+use Rattle.rht_core.specs.Locals.{fresh, does_nothing, machine_of, begin_with, local_after}
 use Rattle.rht_core.specs.Runs.{Core, local_of, beginning_in, planned_in, enrolling, core_step}
 use Rattle.rht_core.specs.Jobs.{Job, finds, binds, call_of, job_plan, job_after, job_of, told, held_of, held_next}
 use Rattle.rht_core.specs.Laws.{IsDoingIn}
 use Rattle.rht_core.proofs.CallBeginnings.{begins_so}
 use Rattle.rht_core.proofs.Worlds.{beginning-some, planned-some}
-use Rattle.rht_core.proofs.SoundRuns.{StaysIn, has_place, made_in}
+use Rattle.rht_core.proofs.SoundRuns.{has_place, made_in}
 use Rattle.rht_core.proofs.RangesInRuns.{AllIn}
 use Rattle.rht_core.proofs.JobsOfCallers.{plan-job, left-job, nothing-job, is_no_job}
 use Rattle.rht_core.proofs.Theory.Ghosts.{Ghost}
 use Rattle.rht_core.proofs.Theory.Wholes.{Whole}
-use Rattle.rht_core.proofs.Theory.Knowledge.{Rely, Knowing, Knowing-rely}
+use Rattle.rht_core.proofs.Theory.Knowledge.{Rely, Knowing-rely}
 use Rattle.rht_core.proofs.Theory.Steps.{mem, Step, ghost_after}
 use Rattle.rht_core.proofs.Moves.Quiet.{aside}
 use Rattle.rht_core.proofs.Machines.FindSteps.{known_nothing}

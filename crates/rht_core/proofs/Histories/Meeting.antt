@@ -5,8 +5,7 @@ use Rattle.rht_words.specs.declared.config.Kind.{Kind}
 use Rattle.rht_model.specs.declared.history.Call.{Call}
 use Rattle.rht_model.specs.Multimap.{Multimap, Agree}
 use Rattle.rht_model.specs.Answers.{Answer, port_of}
-use Rattle.rht_model.specs.Histories.{left_by}
-use Rattle.rht_model.proofs.Agreements.{Agree-sym, answer_of-Agree, left_by-Agree, IsLegalAt-answer_of}
+use Rattle.rht_model.proofs.Agreements.{answer_of-Agree, left_by-Agree, IsLegalAt-answer_of}
 use Rattle.rht_core.specs.Alone.{MeetsModel}
 use Rattle.rht_core.specs.Numbered.{Numbered}
 use Rattle.rht_core.proofs.Theory.Answering.{entry_of, IsSameAnswer, LearnsAnswer, SaysStill, Says}
@@ -39,9 +38,9 @@ module _ (kind : Kind) (c : ℕ) (call : Call) (port : ℕ) (about : port_of cal
       let entry = entry_of c call learns.answer in
       subst (Meets now) (sym learns.known) (elim learns.said [
         | inl said ↦ record {
-            legal = IsLegalAt-answer_of kind now start entry (answer_of-Agree kind now start call agree) said.legal;
-            bindings = λ p. sym (said.leaves p) ∙ left_by-Agree kind now start entry agree p;
-          }
+          legal = IsLegalAt-answer_of kind now start entry (answer_of-Agree kind now start call agree) said.legal;
+          bindings = λ p. sym (said.leaves p) ∙ left_by-Agree kind now start entry agree p;
+        }
         | inr not_about ↦ absurd (let none = sym about ∙ not_about in cc)
       ])
 

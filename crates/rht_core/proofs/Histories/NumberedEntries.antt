@@ -1,10 +1,9 @@
 -- A history whose entries carry numbers: an entry that changes nothing is put in at an earlier number, an entry is added behind all
 -- others, and the last entry of a caller gets the reply that it was answered with.
-use Rattle.std.proofs.Common.{◌≡◌, ◌≢◌, ◌⊎◌, ℕ, ◌+◌, ◌<◌, ◌≤◌, ◌==◌, nat_le, List, [], ◌∷◌, ◌++◌, map, Some, Bool, true, false, cond, refl, sym, ◌∙◌, ap, subst, inl, inr, arith}
-use Rattle.std.proofs.lemmas.Bool.{cases_eq, cases_lt, eqb-true, eq-eqb, ne_eqb, le-leb}
+use Rattle.std.proofs.Common.{◌≡◌, ◌≢◌, ◌⊎◌, ℕ, ◌+◌, ◌<◌, ◌≤◌, ◌==◌, nat_le, List, [], ◌∷◌, ◌++◌, Some, Bool, true, false, cond, refl, sym, ◌∙◌, ap, inl, inr, arith}
+use Rattle.std.proofs.lemmas.Bool.{cases_eq, cases_lt, eq-eqb, ne_eqb}
 use Rattle.std.proofs.lemmas.Bool.Decides.{nat_tests}
 use Rattle.rht_words.specs.declared.config.Kind.{Kind}
-use Rattle.rht_model.specs.declared.history.Entry.{Entry}
 use Rattle.rht_model.specs.Multimap.{Multimap, Agree}
 use Rattle.rht_model.specs.declared.history.Call.{Call}
 use Rattle.rht_model.specs.declared.history.Call.TheVariants as calls
@@ -12,9 +11,8 @@ use Rattle.rht_model.specs.declared.history.Reply.{Reply}
 use Rattle.rht_model.specs.declared.history.Reply.TheVariants as replies
 use Rattle.rht_model.specs.Answers.{answer_of, bindings_after, is_refusal, MayRefuse}
 use Rattle.rht_model.specs.Histories.{without_kick, IsLegalAt, IsLegalFrom, left_by, bindings_left}
-use Rattle.rht_model.proofs.Agreements.{Agree-sym, left_by-Agree, bindings_left-Agree, IsLegalFrom-Agree}
+use Rattle.rht_model.proofs.Agreements.{Agree-sym, bindings_left-Agree, IsLegalFrom-Agree}
 use Rattle.rht_core.specs.Numbered.{Numbered, history_of, numbered_to, NeverFalls, entries_of}
-use Rattle.rht_core.proofs.Theory.Answering.{Agree-trans}
 
 -- ---- numbers
 

@@ -1,11 +1,10 @@
 -- What a bind knows in each state, and that each of its operations leads from what it knows to what it knows next.
-use Rattle.std.proofs.Common.{◌≡◌, ◌≢◌, ◌⊎◌, ℕ, ◌+◌, ◌*◌, ◌%◌, ◌^◌, ◌<◌, ◌≤◌, ◌==◌, List, [], ◌∷◌, length, min, slice_index, Option, Some, None, Bool, true, false, cond, refl, sym, ◌∙◌, ap, subst, inl, inr, arith}
+use Rattle.std.proofs.Common.{◌≡◌, ◌⊎◌, ℕ, ◌^◌, ◌<◌, List, [], ◌∷◌, length, min, Option, Some, None, Bool, true, false, cond, refl, sym, ◌∙◌, ap, subst, inl, inr, arith}
 use Rattle.std.proofs.lemmas.Bool.{cases_eq, eq-eqb, ne_eqb}
 use Rattle.std.proofs.lemmas.Bool.Decides.{nat_tests}
 use Rattle.std.proofs.Math.Nat.{mod-eq_of_lt}
 use Rattle.rht_words.specs.declared.env.Env.{Env}
 use Rattle.rht_words.specs.declared.op.Op.TheVariants.{Store}
-use Rattle.rht_words.specs.declared.config.Kind.{Kind}
 use Rattle.rht_words.specs.declared.config.Kind.TheVariants.{Single}
 use Rattle.rht_words.specs.declared.machine.Next.{Next}
 use Rattle.rht_words.specs.declared.machine.Next.TheVariants.{Go, Done}
@@ -13,7 +12,7 @@ use Rattle.rht_words.specs.Held as held
 use Rattle.rht_words.specs.Links.{table_of, slot_of, link_of, head_of, plain_of}
 use Rattle.rht_words.specs.Ports.{owner_of}
 use Rattle.rht_words.specs.Operations.{old_of, word_after, applied}
-use Rattle.rht_words.specs.Places.{CurrentTable, PortCount, Slot, FutureWord, Node, ChainLink, KeyWord, OwnerWord, ListLink, PageWord, place_of, words_in}
+use Rattle.rht_words.specs.Places.{CurrentTable, PortCount, Slot, FutureWord, Node, ChainLink, OwnerWord, PageWord, words_in}
 use Rattle.rht_words.proofs.Memory.{Memory, IsWrite, is_write}
 use Rattle.rht_words.proofs.Members.{in-middle}
 use Rattle.rht_policy.specs.Thresholds.{is_above_max}
@@ -23,28 +22,26 @@ use Rattle.rht_nest.specs.Locate.{LocateModel, locate_new, locate_plan, locate_a
 use Rattle.rht_nest.specs.declared.locate.Located.{Located}
 use Rattle.rht_chain.specs.Probe.{ProbeModel, probe_new, probe_plan, probe_after, lock_of_probe}
 use Rattle.rht_chain.specs.declared.probe.Probed.{Probed}
-use Rattle.rht_chain.specs.Relink.{RelinkModel, relink_new, relink_plan, relink_after}
-use Rattle.rht_chain.specs.declared.locked.Locked.{Locked}
-use Rattle.rht_chain.specs.declared.locked.Then.{Then}
+use Rattle.rht_chain.specs.Relink.{RelinkModel, relink_new}
 use Rattle.rht_chain.specs.declared.locked.Then.TheVariants.{Table, Answer}
 use Rattle.rht_model.specs.declared.history.Call.{Call}
 use Rattle.rht_model.specs.declared.history.Call.TheVariants as calls
 use Rattle.rht_model.specs.declared.history.Reply.{Reply}
 use Rattle.rht_model.specs.declared.history.Reply.TheVariants.{Bound, Exists, TooBig, NoNode}
-use Rattle.rht_model.specs.Multimap.{Multimap, Agree, with_owners}
+use Rattle.rht_model.specs.Multimap.{Multimap, Agree}
 use Rattle.rht_model.specs.Answers.{plain, bind_reply, owners_bound}
 use Rattle.rht_model.specs.Answers as answers
-use Rattle.rht_bind.specs.Bind.{plan_at, after_at, filled, located, owner_or_future, probed, unlocking, future_or_count, checked_count, publishing, published, kicks, unlocked, giving, IsBindAtIn}
+use Rattle.rht_bind.specs.Bind.{plan_at, after_at, filled, located, owner_or_future, probed, unlocking, future_or_count, checked_count, publishing, kicks, giving, IsBindAtIn}
 use Rattle.rht_bind.specs.BindHeld.{held_of_bind, holds_node, holds_claimed}
 use Rattle.rht_bind.specs.declared.bind.Claimed.{Claimed}
 use Rattle.rht_bind.specs.declared.bind.BindAt.{BindAt}
 use Rattle.rht_bind.specs.declared.bind.BindAt.TheVariants as at
 use Rattle.rht_core.proofs.Theory.Ghosts.{put, put-same, put-other, put-all, Held, First, Ghost, index_at, table_at}
-use Rattle.rht_core.proofs.Theory.Wholes.{key_of, home, place_at, word_index, place_at-index, index-within, Whole}
-use Rattle.rht_core.proofs.Theory.Passed.{NoKey, home-table, unbound_at_last}
-use Rattle.rht_core.proofs.Theory.Knowledge.{HasOnly, KnownNode, KnownTable, Nowhere, Passes, AtHome, KnownBucket, Unlocked, Locks, Missed, Member, Known, HoldsLock, IsMember, IsMissed, Knowing}
+use Rattle.rht_core.proofs.Theory.Wholes.{home, place_at, word_index, place_at-index, index-within, Whole}
+use Rattle.rht_core.proofs.Theory.Passed.{home-table, unbound_at_last}
+use Rattle.rht_core.proofs.Theory.Knowledge.{HasOnly, KnownNode, KnownTable, Nowhere, Passes, AtHome, KnownBucket, Unlocked, Locks, Missed, Member, Known, IsMember, Knowing}
 use Rattle.rht_core.proofs.Theory.Frames.{Made}
-use Rattle.rht_core.proofs.Theory.Answering.{KeepsAnswer, SaysStill, IsLegalOn, keeps, learns}
+use Rattle.rht_core.proofs.Theory.Answering.{KeepsAnswer, IsLegalOn, keeps, learns}
 use Rattle.rht_core.proofs.Theory.Steps.{Links, Holding, HoldsSame, by_test, mem, owners, owners_in, owners-stay, ghost_after, Moved, moved-map, with_knowledge, Step, answered, reads}
 use Rattle.rht_core.proofs.Moves.Linking.{IsReady, link_head, linked_bucket}
 use Rattle.rht_core.proofs.Pieces.Nodes as nodes

@@ -1,7 +1,6 @@
 -- What a look-up knows in each state, and that each of its operations leads from what it knows to what it knows next.
-use Rattle.std.proofs.Common.{◌≡◌, ℕ, ◌<◌, List, [], ◌∷◌, length, Option, Some, None, refl, sym, ◌∙◌, ap, subst, inl, inr}
+use Rattle.std.proofs.Common.{◌≡◌, ℕ, List, [], ◌∷◌, length, Option, Some, None, refl, sym, ◌∙◌, ap, inl}
 use Rattle.rht_words.specs.declared.env.Env.{Env}
-use Rattle.rht_words.specs.declared.config.Kind.{Kind}
 use Rattle.rht_words.specs.declared.machine.Next.{Next}
 use Rattle.rht_words.specs.declared.machine.Next.TheVariants.{Go, Done}
 use Rattle.rht_words.specs.Held as held
@@ -22,21 +21,21 @@ use Rattle.rht_model.specs.declared.history.Call.{Call}
 use Rattle.rht_model.specs.declared.history.Call.TheVariants as calls
 use Rattle.rht_model.specs.declared.history.Reply.{Reply}
 use Rattle.rht_model.specs.declared.history.Reply.TheVariants.{Found, Missing}
-use Rattle.rht_model.specs.Multimap.{Multimap, Agree}
+use Rattle.rht_model.specs.Multimap.{Multimap}
 use Rattle.rht_model.specs.Answers.{plain}
 use Rattle.rht_model.specs.Answers as answers
-use Rattle.rht_find.specs.Find.{plan_at, after_at, located, bucket_or_missing, found_or_not, probed, unlocking, next_table, list_followed, unlocked, IsFindAtIn}
+use Rattle.rht_find.specs.Find.{plan_at, after_at, located, found_or_not, probed, unlocking, next_table, list_followed, IsFindAtIn}
 use Rattle.rht_find.specs.FindHeld.{held_of_find}
 use Rattle.rht_find.specs.declared.find.FindAt.{FindAt}
 use Rattle.rht_find.specs.declared.find.FindAt.TheVariants as at
 use Rattle.rht_core.proofs.Theory.Ghosts.{Ghost}
-use Rattle.rht_core.proofs.Theory.Wholes.{key_of, word_index, Whole}
-use Rattle.rht_core.proofs.Theory.Knowledge.{KnownTable, Nowhere, Passes, AtHome, KnownBucket, Unlocked, Locks, Missed, Member, OwnerIs, Known, HoldsLock, IsMember, Knowing}
-use Rattle.rht_core.proofs.Theory.Answering.{KeepsAnswer, SaysStill, keeps, learns}
+use Rattle.rht_core.proofs.Theory.Wholes.{word_index, Whole}
+use Rattle.rht_core.proofs.Theory.Knowledge.{KnownTable, Nowhere, Passes, AtHome, KnownBucket, Unlocked, Locks, Missed, Member, OwnerIs, Known, IsMember, Knowing}
+use Rattle.rht_core.proofs.Theory.Answering.{KeepsAnswer, keeps, learns}
 use Rattle.rht_core.proofs.Theory.Steps.{Holding, mem, owners, owners_in, Moved, moved-map, with_knowledge, Step, answered, reads, HoldsSame}
 use Rattle.rht_core.proofs.Pieces.Locates.{known_locate, first_passed, locate_step, LocateKnows, FutureIs, future_is}
 use Rattle.rht_core.proofs.Pieces.Locks.{unlock_step}
-use Rattle.rht_core.proofs.Pieces.Probes.{known_probe, known_found, known_seen, place_of_probe, IsProbeFor, probed_by, ProbeKnows, probe_step}
+use Rattle.rht_core.proofs.Pieces.Probes.{known_probe, known_found, place_of_probe, IsProbeFor, probed_by, ProbeKnows, probe_step}
 
 -- what a caller knows in no call
 abbrev pub known_nothing : Known

@@ -1,6 +1,6 @@
 -- What a caller in a call knows by its job, and that each of its operations leads from what it knows to what it knows next.
 -- The inductions over runs go through this one step, with no case of a machine.
-use Rattle.std.proofs.Common.{◌≡◌, ℕ, ◌^◌, ◌<◌, List, length, Option, Some, None, Bool, refl, subst}
+use Rattle.std.proofs.Common.{◌≡◌, ℕ, ◌^◌, ◌<◌, List, length, Bool}
 use Rattle.rht_words.specs.declared.env.Env.{Env}
 use Rattle.rht_words.specs.declared.config.Kind.TheVariants.{Single}
 use Rattle.rht_words.specs.declared.machine.Next.{Next}
@@ -10,7 +10,6 @@ use Rattle.rht_words.specs.Operations.{old_of}
 use Rattle.rht_words.specs.Places.{words_in}
 use Rattle.rht_words.proofs.Memory.{Memory}
 use Rattle.rht_model.specs.declared.history.Reply.{Reply}
-use Rattle.rht_model.specs.Answers.{plain}
 use Rattle.rht_model.specs.Endings.{Ending}
 use Rattle.rht_find.specs.Find.{IsFindAtIn}
 use Rattle.rht_find.specs.Find as find_at
@@ -23,8 +22,8 @@ use Rattle.rht_core.proofs.Theory.Ghosts.{Ghost}
 use Rattle.rht_core.proofs.Theory.Wholes.{Whole}
 use Rattle.rht_core.proofs.Theory.Knowledge.{Known, MembersFirst, Rely, Knowing, Knowing-rely}
 use Rattle.rht_core.proofs.Theory.Steps.{mem, Holding, Step, step-map}
-use Rattle.rht_core.proofs.Machines.FindSteps.{known_nothing, known_of_find, fits_find, FindKnows, find_holds, FindNext, find_step}
-use Rattle.rht_core.proofs.Machines.BindSteps.{known_of_bind, fits_bind, BindKnows, bind_holds, BindNext, bind_step}
+use Rattle.rht_core.proofs.Machines.FindSteps.{known_nothing, known_of_find, fits_find, find_holds, FindNext, find_step}
+use Rattle.rht_core.proofs.Machines.BindSteps.{known_of_bind, fits_bind, bind_holds, BindNext, bind_step}
 
 -- what a caller knows by its job
 abbrev pub known_of : Job → Known

@@ -9,7 +9,7 @@ use Rattle.rht_words.specs.Places.{PortCount, NodeMap, Node, NodeWord, KeyWord, 
 use Rattle.rht_words.proofs.BitChanges.{bit_at-cleared, bit_at-cleared_other, bit_at-set, bit_at-set_other}
 use Rattle.rht_words.proofs.Memory.{Memory, IsWrite}
 use Rattle.rht_words.proofs.Members.{count_below-same}
-use Rattle.rht_core.proofs.Theory.Ghosts.{put, put-other, put-all, Owner, Free, Held, First, Leaving, Behind, Taken, Ghost, is_first, held_not_first, held_by_one, with_owner}
+use Rattle.rht_core.proofs.Theory.Ghosts.{put, put-other, put-all, Owner, Free, Held, First, Ghost, is_first, held_not_first, held_by_one, with_owner}
 use Rattle.rht_core.proofs.Theory.Wholes.{ArenaRight, IsBuilt, Whole, firsts as count_firsts, raisers}
 use Rattle.rht_core.proofs.Theory.Knowledge.{HasNode}
 use Rattle.rht_core.proofs.Theory.Frames.{Made, FirstsStay, firsts_stay, tables_stay, same_tables, Rely-same, SameChains, same_chains, Whole-frame, locks_stay, arena_stays}

@@ -1,13 +1,13 @@
 -- The count of ports is raised for a node that the caller has not linked yet.
-use Rattle.std.proofs.Common.{◌≡◌, ℕ, ◌+◌, ◌%◌, ◌^◌, ◌<◌, List, [], length, Option, Bool, true, false, refl}
+use Rattle.std.proofs.Common.{◌≡◌, ℕ, ◌+◌, ◌%◌, ◌^◌, ◌<◌, List, length, Bool, true, false, refl}
 use Rattle.rht_words.specs.declared.env.Env.{Env}
 use Rattle.rht_words.specs.declared.op.Op.TheVariants.{Add}
 use Rattle.rht_words.specs.Operations.{applied}
 use Rattle.rht_words.specs.Places.{PortCount, Node, KeyWord, OwnerWord, place_of, words_in}
 use Rattle.rht_words.proofs.Memory.{Memory, IsWrite, is_write}
-use Rattle.rht_core.proofs.Theory.Ghosts.{put, put-same, Ghost, with_raised}
+use Rattle.rht_core.proofs.Theory.Ghosts.{put-same, Ghost, with_raised}
 use Rattle.rht_core.proofs.Theory.Wholes.{Whole}
-use Rattle.rht_core.proofs.Theory.Knowledge.{KnownNode, KnownTable, KnownBucket, Known, Knowing, NodeMeans-stay, TableMeans-stay, BucketMeans-stay}
+use Rattle.rht_core.proofs.Theory.Knowledge.{Known, Knowing, NodeMeans-stay, TableMeans-stay, BucketMeans-stay}
 use Rattle.rht_core.proofs.Theory.Frames.{same_tables, tables_stay}
 use Rattle.rht_core.proofs.Theory.Steps.{Raises, Holding, mem, Moved, moved}
 use Rattle.rht_core.proofs.Moves.Quiet.{count_up}

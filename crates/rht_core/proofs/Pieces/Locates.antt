@@ -1,16 +1,13 @@
 -- The operations on the way to a port's bucket: the current table, a table's shape and seed, and its future.
-use Rattle.std.proofs.Common.{◌≡◌, ◌≢◌, ◌⊎◌, ℕ, ◌+◌, ◌*◌, ◌<◌, ◌≤◌, List, [], Option, Some, None, Bool, true, false, cond, nat_lt, min, length, refl, sym, ◌∙◌, ap, subst, inl, inr, arith}
-use Rattle.std.specs.Prelude.{IfSome}
+use Rattle.std.proofs.Common.{◌≡◌, ℕ, ◌+◌, ◌*◌, ◌<◌, List, [], Option, Some, None, true, cond, refl, sym, ◌∙◌, ap, subst, inl, inr, arith}
 use Rattle.std.proofs.lemmas.Bool.{lt-ltb, cases_lt, le-ltb}
 use Rattle.std.proofs.lemmas.Bool.Decides.{nat_tests}
 use Rattle.rht_words.specs.declared.env.Env.{Env}
-use Rattle.rht_words.specs.declared.op.Op.TheVariants.{Load}
 use Rattle.rht_words.specs.declared.machine.Next.{Next}
 use Rattle.rht_words.specs.declared.machine.Next.TheVariants.{Go, Done}
 use Rattle.rht_words.specs.Links.{table_of, slot_of, future_of}
-use Rattle.rht_words.specs.Shapes.{unpacked, size_of}
 use Rattle.rht_words.specs.Operations.{old_of}
-use Rattle.rht_words.specs.Places.{CurrentTable, Slot, SlotWord, ShapeWord, SeedWord, FutureWord, IsBucketPlace, place_of}
+use Rattle.rht_words.specs.Places.{CurrentTable, Slot, SlotWord, ShapeWord, SeedWord, FutureWord}
 use Rattle.rht_words.proofs.Memory.{Memory}
 use Rattle.rht_policy.specs.Mix.{bucket_of}
 use Rattle.rht_nest.specs.Place.{bucket_index, bucket_place}
@@ -18,11 +15,11 @@ use Rattle.rht_nest.specs.Locate.{LocateModel, locate_plan, locate_after, IsLoca
 use Rattle.rht_nest.specs.declared.locate.LocateAt.{LocateAt}
 use Rattle.rht_nest.specs.declared.locate.LocateAt.TheVariants as locates
 use Rattle.rht_nest.specs.declared.locate.Located.{Located}
-use Rattle.rht_core.proofs.Theory.Ghosts.{Ghost, Table, Live, has_table, index_at, some-same}
-use Rattle.rht_core.proofs.Theory.Wholes.{TableRight, Whole, home, hash_in, place_at, word_index, future_in, index-place_at}
-use Rattle.rht_core.proofs.Theory.Passed.{NoKey, Passed, passed_first, hash-below, home-index, unbound_at_last, go_on}
-use Rattle.rht_core.proofs.Theory.Knowledge.{KnownNode, KnownTable, Nowhere, Passes, Shaped, AtHome, KnownBucket, Known, IsPassing, Knowing}
-use Rattle.rht_core.proofs.Theory.Steps.{by_test, Holding, mem, Moved, loads}
+use Rattle.rht_core.proofs.Theory.Ghosts.{Ghost, has_table, index_at}
+use Rattle.rht_core.proofs.Theory.Wholes.{TableRight, Whole, hash_in, place_at, word_index, future_in, index-place_at}
+use Rattle.rht_core.proofs.Theory.Passed.{NoKey, passed_first, hash-below, home-index, unbound_at_last, go_on}
+use Rattle.rht_core.proofs.Theory.Knowledge.{KnownNode, KnownTable, Passes, Shaped, AtHome, KnownBucket, IsPassing, Knowing}
+use Rattle.rht_core.proofs.Theory.Steps.{Holding, mem, Moved, loads}
 
 -- what is known on the way to the bucket of a port
 abbrev pub known_locate : ℕ → ℕ → LocateAt → KnownTable

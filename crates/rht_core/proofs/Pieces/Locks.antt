@@ -1,41 +1,16 @@
 -- A bucket that the caller has locked: what it knows beside it stays where the bucket's holder changes, and the lock is dropped.
-use Rattle.std.proofs.Common.{◌≡◌, ◌≢◌, ◌⊎◌, ℕ, ◌+◌, ◌*◌, ◌%◌, ◌<◌, ◌==◌, List, [], ◌∷◌, ◌++◌, length, slice_index, Option, Some, None, false, cond, refl, sym, ap, ◌∙◌, subst, inl, inr, arith}
-use Rattle.std.proofs.Math.Seq.{append_snoc}
-use Rattle.std.proofs.lemmas.Bool.{eqb-true, eqb-false, eq-eqb}
+use Rattle.std.proofs.Common.{◌≡◌, ◌⊎◌, ℕ, ◌+◌, List, length, slice_index, Option, Some, None, refl, sym, ap, ◌∙◌, inl, inr, arith}
 use Rattle.rht_words.specs.declared.env.Env.{Env}
 use Rattle.rht_words.specs.declared.op.Op.{Op}
-use Rattle.rht_words.specs.declared.op.Op.TheVariants.{Load, Store, Exchange}
-use Rattle.rht_words.specs.declared.machine.Next.{Next}
-use Rattle.rht_words.specs.declared.machine.Next.TheVariants.{Go, Done}
-use Rattle.rht_words.specs.declared.machine.Start.{Start}
-use Rattle.rht_words.specs.declared.machine.Start.TheVariants as starts
-use Rattle.rht_words.specs.Links.{link_of, node_of, head_of, marker_of}
-use Rattle.rht_words.specs.Chains.{IsSegment}
-use Rattle.rht_words.specs.Operations.{old_of, word_after, applied}
-use Rattle.rht_words.specs.Places.{Node, NodeWord, ChainLink, KeyWord, OwnerWord, PageWord, place_of, words_in, word_at}
-use Rattle.rht_words.proofs.LinksRead.{links_tell_apart}
+use Rattle.rht_words.specs.declared.op.Op.TheVariants.{Store}
+use Rattle.rht_words.specs.Operations.{old_of, applied}
+use Rattle.rht_words.specs.Places.{Node, PageWord, words_in}
 use Rattle.rht_words.proofs.Memory.{Memory, IsWrite, is_write}
-use Rattle.rht_words.specs.Members.{In}
-use Rattle.rht_words.proofs.Members.{in-middle}
-use Rattle.rht_words.proofs.ChainLemmas.{IsSegment-cut}
-use Rattle.rht_chain.specs.Lock.{LockModel, lock_plan, lock_after, IsEven}
-use Rattle.rht_chain.specs.declared.lock.LockAt.{LockAt}
-use Rattle.rht_chain.specs.declared.lock.LockAt.TheVariants as locks
-use Rattle.rht_chain.specs.LockedWalk.{LockedWalkModel, locked_walk_new, locked_walk_plan, locked_walk_after, walk_from, followed, counted, found_at, IsWalkIn}
-use Rattle.rht_chain.specs.declared.locked.Locked.{Locked}
-use Rattle.rht_chain.specs.declared.locked_walk.Seen.{Seen}
-use Rattle.rht_chain.specs.declared.locked_walk.LockedWalkAt.{LockedWalkAt}
-use Rattle.rht_chain.specs.declared.locked_walk.LockedWalkAt.TheVariants as walks
-use Rattle.rht_chain.specs.Probe.{ProbeModel, probe_plan, probe_after, lock_of_probe, lock_taken, walk_or_seen, walk_taken, IsProbeIn, IsProbeAtIn}
-use Rattle.rht_chain.specs.declared.probe.ProbeAt.{ProbeAt}
-use Rattle.rht_chain.specs.declared.probe.ProbeAt.TheVariants as probes
-use Rattle.rht_chain.specs.declared.probe.Probed.{Probed}
-use Rattle.rht_core.proofs.Theory.Ghosts.{put, put-same, put-other, put-all, Bucket, Ghost, First, lock_bit, with_holder}
-use Rattle.rht_core.proofs.Theory.Wholes.{chain_of, key_of, place_at, word_index, place_at-index, index-within, Whole}
-use Rattle.rht_core.proofs.Theory.Passed.{NoKey}
-use Rattle.rht_core.proofs.Theory.Knowledge.{KnownNode, KnownTable, AtHome, KnownBucket, Unlocked, Locks, Stands, Differs, Missed, Found, Known, StandsAt, last_of, HoldsLock, BucketMeans, TableMeans, TableMeans-stay, NodeMeans-stay, Knowing}
+use Rattle.rht_core.proofs.Theory.Ghosts.{put, put-all, Ghost, lock_bit, with_holder}
+use Rattle.rht_core.proofs.Theory.Wholes.{place_at, word_index, place_at-index, index-within, Whole}
+use Rattle.rht_core.proofs.Theory.Knowledge.{KnownNode, KnownTable, KnownBucket, Unlocked, Locks, BucketMeans, TableMeans-stay, NodeMeans-stay, Knowing}
 use Rattle.rht_core.proofs.Theory.Frames.{same_tables, tables_stay}
-use Rattle.rht_core.proofs.Theory.Steps.{TakesLock, DropsLock, by_test, Holding, mem, Moved, moved, moved-map, loads}
+use Rattle.rht_core.proofs.Theory.Steps.{DropsLock, Holding, mem, Moved, moved}
 use Rattle.rht_core.proofs.Moves.Quiet.{drop_lock}
 
 module _ (env : Env) (mix : ℕ → ℕ → ℕ → ℕ) (c : ℕ) (h : Holding) (node : Option KnownNode) (table : KnownTable) where

@@ -1,12 +1,12 @@
 -- The operations that take a node and give it back, and those that write a word of a node which the caller has.
-use Rattle.std.proofs.Common.{◌≡◌, ◌≢◌, ℕ, ◌+◌, ◌*◌, ◌/◌, ◌%◌, ◌<◌, ◌==◌, List, [], ◌∷◌, length, Option, Some, None, false, cond, refl, sym, ◌∙◌, ap, subst, inl, inr, bit_and, nat_lt, arith}
+use Rattle.std.proofs.Common.{◌≡◌, ◌≢◌, ℕ, ◌+◌, ◌*◌, ◌/◌, ◌%◌, ◌<◌, ◌==◌, List, length, Option, Some, None, cond, refl, sym, ◌∙◌, ap, subst, inl, inr, bit_and, nat_lt, arith}
 use Rattle.std.specs.Prelude.{IfSome}
 use Rattle.std.proofs.lemmas.Bool.{cases_eq, eqb-true, eqb-false}
 use Rattle.std.proofs.lemmas.Nat.Bits.{bit_at-lt}
 use Rattle.std.specs.Int.{bit_at, bit_not, trailing_zeros, w64}
 use Rattle.rht_words.specs.declared.env.Env.{Env}
 use Rattle.rht_words.specs.declared.op.Op.{Op}
-use Rattle.rht_words.specs.declared.op.Op.TheVariants.{Load, Store, And, Or}
+use Rattle.rht_words.specs.declared.op.Op.TheVariants.{Store, And, Or}
 use Rattle.rht_words.specs.declared.machine.Next.{Next}
 use Rattle.rht_words.specs.declared.machine.Next.TheVariants.{Go, Done}
 use Rattle.rht_words.specs.Maps.{bit_of, bits_above, map_bits, IsBitIn}
@@ -21,11 +21,11 @@ use Rattle.rht_arena.specs.NewNode.{NewNodeModel, new_node_plan, new_node_after,
 use Rattle.rht_arena.specs.declared.new_node.NewNodeAt.{NewNodeAt}
 use Rattle.rht_arena.specs.declared.new_node.NewNodeAt.TheVariants as news
 use Rattle.rht_arena.proofs.TakenWereFree.{claims}
-use Rattle.rht_core.proofs.Theory.Ghosts.{put, put-same, put-other, put-all, Owner, Free, Held, First, Ghost, held_not_first, with_owner}
-use Rattle.rht_core.proofs.Theory.Wholes.{key_of, Whole}
-use Rattle.rht_core.proofs.Theory.Knowledge.{KnownNode, KnownTable, KnownBucket, Known, HasNode, NodeMeans, TableMeans, BucketMeans, HasOnly, Knowing, TableMeans-stay, BucketMeans-stay}
+use Rattle.rht_core.proofs.Theory.Ghosts.{put, put-same, put-all, Owner, Free, Held, First, Ghost, held_not_first, with_owner}
+use Rattle.rht_core.proofs.Theory.Wholes.{Whole}
+use Rattle.rht_core.proofs.Theory.Knowledge.{KnownNode, KnownTable, KnownBucket, NodeMeans, TableMeans, Knowing, TableMeans-stay, BucketMeans-stay}
 use Rattle.rht_core.proofs.Theory.Frames.{same_tables, tables_stay}
-use Rattle.rht_core.proofs.Theory.Steps.{Quiet, TakesNode, GivesNode, by_test, Holding, mem, Moved, moved, moved-map, loads}
+use Rattle.rht_core.proofs.Theory.Steps.{Quiet, TakesNode, GivesNode, by_test, Holding, mem, Moved, moved, loads}
 use Rattle.rht_core.proofs.Moves.Nodes.{fill, take_node, give_node, retouch}
 
 -- a node of which no word is known

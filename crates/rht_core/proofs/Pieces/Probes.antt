@@ -1,10 +1,10 @@
 -- The operations in a bucket: its lock is taken, its chain walked to the first node with a key, and the lock dropped.
-use Rattle.std.proofs.Common.{◌≡◌, ◌≢◌, ◌⊎◌, ℕ, ◌+◌, ◌*◌, ◌%◌, ◌<◌, ◌==◌, List, [], ◌∷◌, ◌++◌, length, slice_index, Option, Some, None, false, cond, refl, sym, ap, ◌∙◌, subst, inl, inr, arith}
+use Rattle.std.proofs.Common.{◌≡◌, ◌≢◌, ◌⊎◌, ℕ, ◌+◌, ◌%◌, ◌==◌, List, [], ◌∷◌, ◌++◌, length, slice_index, Option, Some, None, cond, refl, sym, ap, ◌∙◌, subst, inl, inr}
 use Rattle.std.proofs.Math.Seq.{append_snoc}
 use Rattle.std.proofs.lemmas.Bool.{eqb-true, eqb-false, eq-eqb}
 use Rattle.rht_words.specs.declared.env.Env.{Env}
 use Rattle.rht_words.specs.declared.op.Op.{Op}
-use Rattle.rht_words.specs.declared.op.Op.TheVariants.{Load, Store, Exchange}
+use Rattle.rht_words.specs.declared.op.Op.TheVariants.{Load, Exchange}
 use Rattle.rht_words.specs.declared.machine.Next.{Next}
 use Rattle.rht_words.specs.declared.machine.Next.TheVariants.{Go, Done}
 use Rattle.rht_words.specs.declared.machine.Start.{Start}
@@ -12,7 +12,7 @@ use Rattle.rht_words.specs.declared.machine.Start.TheVariants as starts
 use Rattle.rht_words.specs.Links.{link_of, node_of, head_of, marker_of}
 use Rattle.rht_words.specs.Chains.{IsSegment}
 use Rattle.rht_words.specs.Operations.{old_of, word_after, applied}
-use Rattle.rht_words.specs.Places.{Node, NodeWord, ChainLink, KeyWord, OwnerWord, PageWord, place_of, words_in, word_at}
+use Rattle.rht_words.specs.Places.{PageWord, words_in, word_at}
 use Rattle.rht_words.proofs.LinksRead.{links_tell_apart}
 use Rattle.rht_words.proofs.Memory.{Memory, IsWrite, is_write}
 use Rattle.rht_words.specs.Members.{In}
@@ -21,7 +21,7 @@ use Rattle.rht_words.proofs.ChainLemmas.{IsSegment-cut}
 use Rattle.rht_chain.specs.Lock.{LockModel, lock_plan, lock_after, IsEven}
 use Rattle.rht_chain.specs.declared.lock.LockAt.{LockAt}
 use Rattle.rht_chain.specs.declared.lock.LockAt.TheVariants as locks
-use Rattle.rht_chain.specs.LockedWalk.{LockedWalkModel, locked_walk_new, locked_walk_plan, locked_walk_after, walk_from, followed, counted, found_at, IsWalkIn}
+use Rattle.rht_chain.specs.LockedWalk.{LockedWalkModel, locked_walk_new, locked_walk_plan, locked_walk_after, walk_from, followed, counted, found_at}
 use Rattle.rht_chain.specs.declared.locked.Locked.{Locked}
 use Rattle.rht_chain.specs.declared.locked_walk.Seen.{Seen}
 use Rattle.rht_chain.specs.declared.locked_walk.LockedWalkAt.{LockedWalkAt}
@@ -30,12 +30,11 @@ use Rattle.rht_chain.specs.Probe.{ProbeModel, probe_plan, probe_after, lock_of_p
 use Rattle.rht_chain.specs.declared.probe.ProbeAt.{ProbeAt}
 use Rattle.rht_chain.specs.declared.probe.ProbeAt.TheVariants as probes
 use Rattle.rht_chain.specs.declared.probe.Probed.{Probed}
-use Rattle.rht_core.proofs.Theory.Ghosts.{put, put-same, put-other, put-all, Bucket, Ghost, First, lock_bit, with_holder}
+use Rattle.rht_core.proofs.Theory.Ghosts.{put-same, put-all, Ghost}
 use Rattle.rht_core.proofs.Theory.Wholes.{chain_of, key_of, place_at, word_index, place_at-index, index-within, Whole}
 use Rattle.rht_core.proofs.Theory.Passed.{NoKey}
-use Rattle.rht_core.proofs.Theory.Knowledge.{KnownNode, KnownTable, AtHome, KnownBucket, Unlocked, Locks, Stands, Differs, Missed, Found, Known, StandsAt, last_of, HoldsLock, BucketMeans, TableMeans, TableMeans-stay, NodeMeans-stay, Knowing}
-use Rattle.rht_core.proofs.Theory.Frames.{same_tables, tables_stay}
-use Rattle.rht_core.proofs.Theory.Steps.{TakesLock, DropsLock, by_test, Holding, mem, Moved, moved, moved-map, loads}
+use Rattle.rht_core.proofs.Theory.Knowledge.{KnownNode, AtHome, KnownBucket, Unlocked, Locks, Stands, Differs, Missed, Found, StandsAt, last_of, HoldsLock, BucketMeans, Knowing}
+use Rattle.rht_core.proofs.Theory.Steps.{TakesLock, by_test, Holding, mem, Moved, moved, moved-map, loads}
 use Rattle.rht_core.proofs.Moves.Quiet.{take_lock}
 use Rattle.rht_core.proofs.Pieces.Locks.{with-holder}
 
@@ -228,9 +227,11 @@ module _ (env : Env) (mix : ℕ → ℕ → ℕ → ℕ) (c : ℕ) (h : Holding)
         (λ t e. loads env mix c words G op (holding (Some place)) (holding (Some place)) (WalkKnows place word (counted walk, Done (found_at (counted walk) n))) whole refl refl
         (known_more (Some place) place (Stands place word port n before) (Found place word port n before) M G knows
         (record { standing = standing; key_is = eqb-true key port t })))
-        (λ t e. loads env mix c words G op (holding (Some place)) (holding (Some place)) (WalkKnows place word (record (counted walk) { at = walks.ChainLink n }, Go)) whole refl refl
-        (known_more (Some place) place (Stands place word port n before) (Differs place word port n before) M G knows
-        (record { standing = standing; differs = eqb-false key port t }), refl)) refl
+        (λ t e. loads env mix c words G op (holding (Some place)) (holding (Some place)) (WalkKnows place word (record (counted walk) { at = walks.ChainLink n }, Go)) whole refl refl (
+          known_more (Some place) place (Stands place word port n before) (Differs place word port n before) M G knows
+              (record { standing = standing; differs = eqb-false key port t }),
+          refl,
+        )) refl
     walk_step_at place word before count (walks.ChainLink n) knows =
         let walk : LockedWalkModel =
         record { geometry = env.geometry; key = port; before = before; length = count; at = walks.ChainLink n } in

@@ -1,6 +1,6 @@
 -- What an operation of a call says about bindings: nothing, or the call's answer, which it is on what the words stand for then; or it
 -- changes the bindings as the call is to change them, and the answer is what the call says of the bindings before.
-use Rattle.std.proofs.Common.{◌≡◌, ◌≢◌, ◌⊎◌, ℕ, List, [], ◌∷◌, Option, Some, None, refl, sym, ◌∙◌, ap, inl, inr}
+use Rattle.std.proofs.Common.{◌≡◌, ◌≢◌, ◌⊎◌, ℕ, Option, Some, None, refl, sym, ◌∙◌, inl, inr}
 use Rattle.rht_words.specs.declared.config.Kind.{Kind}
 use Rattle.rht_model.specs.declared.history.Call.{Call}
 use Rattle.rht_model.specs.declared.history.Entry.{Entry}

@@ -1,5 +1,5 @@
 -- What a step leaves of the whole, and of what others know, where it writes elsewhere.
-use Rattle.std.proofs.Common.{◌≡◌, ◌≢◌, ℕ, ◌+◌, ◌*◌, ◌/◌, ◌<◌, ◌≤◌, List, Bool, true, refl, sym, ◌∙◌, ap, subst, arith}
+use Rattle.std.proofs.Common.{◌≡◌, ◌≢◌, ℕ, ◌+◌, ◌*◌, ◌/◌, ◌<◌, List, Bool, true, refl, sym, ◌∙◌, ap, subst, arith}
 use Rattle.rht_words.specs.declared.env.Env.{Env}
 use Rattle.rht_words.specs.Places.{Address, CurrentTable, PortCount, Slot, SlotWord, ShapeWord, SeedWord, FutureWord, NodeMap, Node, NodeWord, ChainLink, KeyWord, OwnerWord, ListLink, PageWord}
 use Rattle.rht_words.proofs.Memory.{Memory, IsWrite}
@@ -7,7 +7,7 @@ use Rattle.rht_words.specs.Members.{In}
 use Rattle.rht_words.proofs.ChainLemmas.{IsSegment-members}
 use Rattle.rht_words.specs.Links.{head_of, marker_of}
 use Rattle.rht_core.proofs.Theory.Ghosts.{Table, Bucket, Owner, First, Ghost, PageOwner, SlotOwner, has_table, index_at, table_at}
-use Rattle.rht_core.proofs.Theory.Wholes.{chain_of, key_of, place_at, home, future_in, TableRight, TablesRight, LockedRight, BucketRight, ChainedRight, IsHomeOf, Owned, ArenaRight, Whole, firsts, raisers}
+use Rattle.rht_core.proofs.Theory.Wholes.{chain_of, key_of, place_at, home, TableRight, TablesRight, LockedRight, BucketRight, ChainedRight, IsHomeOf, Owned, ArenaRight, Whole, firsts, raisers}
 use Rattle.rht_core.proofs.Theory.Passed.{Passed}
 use Rattle.rht_core.proofs.Theory.Knowledge.{HasNode, TablesStay, Rely}
 

@@ -1,7 +1,7 @@
 -- What a caller knows in each state, and why nobody else's step takes it away.
 -- What it knows speaks of words and ghosts on which the caller holds the right, or which nobody changes. It is of three kinds: of the
 -- node that it has taken, of the table in which it looks for a port, and of the bucket that it has locked.
-use Rattle.std.proofs.Common.{◌≡◌, ◌≢◌, ◌⊎◌, ℕ, ◌<◌, ◌≤◌, List, [], ◌∷◌, ◌++◌, Option, Some, None, Bool, true, refl, sym, ◌∙◌, ap, inl, inr, subst}
+use Rattle.std.proofs.Common.{◌≡◌, ◌≢◌, ◌⊎◌, ℕ, ◌<◌, ◌≤◌, List, [], ◌∷◌, ◌++◌, Option, Some, None, Bool, true, sym, ◌∙◌, ap}
 use Rattle.std.specs.Prelude.{IfSome}
 use Rattle.rht_words.specs.declared.env.Env.{Env}
 use Rattle.rht_words.specs.Places.{Node, NodeWord, ChainLink, KeyWord, OwnerWord, ListLink, IsBucketPlace}
