@@ -10,3 +10,5 @@ pub mod NodesPlanned
 pub mod NodesSeen
 -- none is answered exactly where the nodes were seen taken in their turn
 pub mod NodesInTurn
+-- which operations see two nodes taken in their turn, worked out
+pub mod WorkedTurns

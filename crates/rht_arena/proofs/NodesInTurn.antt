@@ -51,8 +51,13 @@ module _ (m : TakeNodeModel) (old : ℕ) (rest : Ran (Option ℕ)) (range : IsTa
   in_turn Go is later none =
       let sees = saw Go is in
       let rises = sees.no_more (first_unseen m.at) (λ node l low. absurd (omega (arith, l, low))) in
-      (first_unseen left.at, rises, sees.seen, later none)
-  in_turn (Done None) is later none = (g.nodes, omega (arith, first_unseen-in g m.at range), saw (Done None) is, omega arith)
+      record { end = first_unseen left.at; rises = rises; sees = sees.seen; behind = later none }
+  in_turn (Done None) is later none = record {
+    end = g.nodes;
+    rises = omega (arith, first_unseen-in g m.at range);
+    sees = saw (Done None) is;
+    behind = omega arith;
+  }
   in_turn (Done (Some node)) is later none = absurd (cc)
 
   -- where the nodes from one on are seen in turn, at which it stands or which is below, it finds none
@@ -60,12 +65,12 @@ module _ (m : TakeNodeModel) (old : ℕ) (rest : Ran (Option ℕ)) (range : IsTa
       → ((first : ℕ) → first ≤ first_unseen left.at → AreSeenInTurn g first rest.steps → rest.next ≡ Done None)
       → (first : ℕ) → first ≤ first_unseen m.at → AreSeenInTurn g first (went_on step next rest).steps
       → (went_on step next rest).next ≡ Done None
-  finds_none Go is later first low (end, rises, sees, behind) =
-      later end ((saw Go is).no_more end (λ node l. sees node (omega (arith, low, l)))) behind
+  finds_none Go is later first low turn =
+      later turn.end ((saw Go is).no_more turn.end (λ node l. turn.sees node (omega (arith, low, l)))) turn.behind
   finds_none (Done None) is later first low turn = refl
-  finds_none (Done (Some node)) is later first low (end, rises, sees, behind) =
-      let short = saw (Done (Some node)) is end (λ other l. sees other (omega (arith, low, l))) in
-      absurd (omega (arith, short, behind))
+  finds_none (Done (Some node)) is later first low turn =
+      let short = saw (Done (Some node)) is turn.end (λ other l. turn.sees other (omega (arith, low, l))) in
+      absurd (omega (arith, short, turn.behind))
 
 none-in_turn : (m : TakeNodeModel) (olds : List ℕ) → IsTakeAtIn m.geometry m.at → (taken m olds).next ≡ Done None
     → AreSeenInTurn m.geometry (first_unseen m.at) (taken m olds).steps
@@ -75,7 +80,9 @@ none-in_turn m (old ∷ olds) range none =
     let left = (take_node_after m old).0 in
     let rest = taken left olds in
     in_turn m old rest range (take_node_after m old).1 refl
-    (λ later. subst (λ (h : Geometry). AreSeenInTurn h (first_unseen left.at) rest.steps) stays.geometry_same (none-in_turn left olds stays.range later))
+    (λ later.
+    subst (λ (h : Geometry). AreSeenInTurn h (first_unseen left.at) rest.steps) stays.geometry_same
+    (none-in_turn left olds stays.range later))
     none
 
 in_turn-none : (m : TakeNodeModel) (olds : List ℕ) → IsTakeAtIn m.geometry m.at
@@ -87,7 +94,9 @@ in_turn-none m (old ∷ olds) range first low turn =
     let left = (take_node_after m old).0 in
     let rest = taken left olds in
     finds_none m old rest range (take_node_after m old).1 refl
-    (λ end l behind. in_turn-none left olds stays.range end l (subst (λ (h : Geometry). AreSeenInTurn h end rest.steps) (sym stays.geometry_same) behind))
+    (λ end l behind.
+    in_turn-none left olds stays.range end l
+    (subst (λ (h : Geometry). AreSeenInTurn h end rest.steps) (sym stays.geometry_same) behind))
     first low turn
 
 -- ---- the laws
@@ -110,9 +119,9 @@ Any-behind P x xs (k, y, within, is, holds) = (suc k, y, omega (arith, within), 
 in_turn-seen : (g : Geometry) (first : ℕ) (steps : List Performed) → AreSeenInTurn g first steps
     → (node : ℕ) → first ≤ node → node < g.nodes → Any (SeesTaken g node) steps
 in_turn-seen g first [] turn node low high = absurd (omega (arith, turn, low, high))
-in_turn-seen g first (step ∷ steps) (end, rises, sees, behind) node low high = elim (cases_lt node end) [
-  | inl here ↦ (0, step, omega arith, refl, sees node low here)
-  | inr later ↦ Any-behind (SeesTaken g node) step steps (in_turn-seen g end steps behind node later high)
+in_turn-seen g first (step ∷ steps) turn node low high = elim (cases_lt node turn.end) [
+  | inl here ↦ (0, step, omega arith, refl, turn.sees node low here)
+  | inr later ↦ Any-behind (SeesTaken g node) step steps (in_turn-seen g turn.end steps turn.behind node later high)
 ]
 
 pub none_only_where_taken : NoneOnlyWhereTaken

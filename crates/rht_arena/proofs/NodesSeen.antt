@@ -68,7 +68,7 @@ sees_next_word g step index is sees =
     absurd (omega (arith, is, place))
 
 -- who sees all up to an end, and not this node, has its end at this node or below
-ends_before : (g : Geometry) (first node end : ℕ) (step : Performed) → first ≤ node → (SeesTaken g node step → ⊥)
+pub ends_before : (g : Geometry) (first node end : ℕ) (step : Performed) → first ≤ node → (SeesTaken g node step → ⊥)
     → SeesAllTaken g first end step → end ≤ node
 ends_before g first node end step within free sees = elim (cases_lt node end) [
   | inl below ↦ absurd (free (sees node within below))
@@ -80,14 +80,14 @@ pub record SeesUpTo (g : Geometry) (first end : ℕ) (step : Performed) : Type 0
   pub seen : SeesAllTaken g first end step
   pub no_more : (further : ℕ) → SeesAllTaken g first further step → further ≤ end
 
--- where the machine goes on, the operation saw the nodes taken up to its own; where it finds none, all of them; and where it
--- answers one, not all
+-- where the machine goes on, the operation saw the nodes taken up to its own; where it finds none, all of them; and
+-- where it answers one, not all
 abbrev pub SawFrom : Geometry → ℕ → Performed → TakeNodeModel × Next (Option ℕ) → Type 0
 SawFrom g first step (take, Go) = SeesUpTo g first (first_unseen take.at) step
 SawFrom g first step (take, Done None) = SeesAllTaken g first g.nodes step
 SawFrom g first step (take, Done (Some node)) = (end : ℕ) → SeesAllTaken g first end step → end < g.nodes
 
--- The operation is on this word of the map. Of the bits from the machine's node on, those that it found set are those of `word`.
+-- The operation is on this word of the map. From the machine's node on, the bits that it found set are those of `word`.
 record LeftOf (take : TakeNodeModel) (step : Performed) (first index word : ℕ) : Type 0 where
   place : op_place step.op ≡ place_of take.geometry (NodeMap index)
   low : 64 * index ≤ first
@@ -118,7 +118,8 @@ module _ (take : TakeNodeModel) (step : Performed) (first index word : ℕ) (lef
       let set = left.set bit low lowest.set in
       record {
         seen = sees_word bit (omega (arith, low)) lowest.below;
-        no_more = λ further. ends_before g first (64 * index + bit) further step set.0 (sees_free g step index bit low set.1);
+        no_more = λ further.
+            ends_before g first (64 * index + bit) further step set.0 (sees_free g step index bit low set.1);
       }
   claim_in-saw range None is =
       let none = lowest_free-None g.nodes index word is in
@@ -126,8 +127,9 @@ module _ (take : TakeNodeModel) (step : Performed) (first index word : ℕ) (lef
       (λ more.
       let here : index + 1 < map_words g.nodes = ltb-true (index + 1) (map_words g.nodes) more in
       let end : 64 * index + 64 ≡ 64 * (index + 1) = omega arith in
+      let seen = sees_word 64 (omega arith) (λ bit low. none.clear bit low (omega (arith, low, here))) in
       record {
-        seen = subst (λ n. SeesAllTaken g first n step) end (sees_word 64 (omega arith) (λ bit low. none.clear bit low (omega (arith, low, here))));
+        seen = subst (λ n. SeesAllTaken g first n step) end seen;
         no_more = λ further.
             ends_before g first (64 * (index + 1)) further step left.high (sees_next_word g step index left.place);
       })
@@ -158,7 +160,8 @@ take_after-from take (Claim index bit) step is range =
     cond_both (eqb (bit_at step.old bit) 1) _ _ (SawFrom g (64 * index + bit) step)
     (λ set end sees.
     let free = sees_free g step index bit range.within (eqb-true (bit_at step.old bit) 1 set) in
-    let before : end ≤ 64 * index + bit = ends_before g (64 * index + bit) (64 * index + bit) end step (omega arith) free sees in
+    let stands = 64 * index + bit in
+    let before : end ≤ stands = ends_before g stands stands end step (omega arith) free sees in
     omega (arith, before, range.below))
     (λ other.
     let clear : bit_at step.old bit ≡ 0 =
@@ -175,7 +178,9 @@ take_after-from take (Claim index bit) step is range =
       ];
       set = λ place low set. elim (cases_lt bit place) [
         | inl later ↦ (omega (arith, later), sym (bit_at-above step.old bit place later low) ∙ set)
-        | inr earlier ↦ absurd (omega (arith, bit_at_and step.old (bits_above bit) place, bit_at_mask_below (bit + 1) 64 place (omega (arith, earlier)), set))
+        | inr earlier ↦
+            let masked = bit_at_mask_below (bit + 1) 64 place (omega (arith, earlier)) in
+            absurd (omega (arith, bit_at_and step.old (bits_above bit) place, masked, set))
       ];
     }
     (omega (arith, range.below)) (lowest_free g.nodes index above) refl)
@@ -206,9 +211,11 @@ SawSoFar g steps (take, Go) = SawAllBelow g (first_unseen take.at) steps
 SawSoFar g steps (take, Done None) = SawAllBelow g g.nodes steps
 SawSoFar g steps (take, Done (Some node)) = Unit {0}
 
-SawFrom-so_far : (g : Geometry) (first : ℕ) (steps : List Performed) (step : Performed) (next : TakeNodeModel × Next (Option ℕ))
+SawFrom-so_far : (g : Geometry) (first : ℕ) (steps : List Performed) (step : Performed)
+    (next : TakeNodeModel × Next (Option ℕ))
     → SawAllBelow g first steps → SawFrom g first step next → SawSoFar g (steps ++ step ∷ []) next
-SawFrom-so_far g first steps step (take, Go) saw from = SawAllBelow-further g first (first_unseen take.at) steps step saw from.seen
+SawFrom-so_far g first steps step (take, Go) saw from =
+    SawAllBelow-further g first (first_unseen take.at) steps step saw from.seen
 SawFrom-so_far g first steps step (take, Done None) saw from = SawAllBelow-further g first g.nodes steps step saw from
 SawFrom-so_far g first steps step (take, Done (Some node)) saw from = tt
 
@@ -218,7 +225,8 @@ pub take_after-saw : (take : TakeNodeModel) (state : TakeNodeAt) (steps : List P
     → IsTakeAtIn take.geometry state → SawAllBelow take.geometry (first_unseen state) steps
     → SawSoFar take.geometry (steps ++ step ∷ []) (after_at take state step.old)
 take_after-saw take state steps step is range saw =
-    SawFrom-so_far take.geometry (first_unseen state) steps step (after_at take state step.old) saw (take_after-from take state step is range)
+    SawFrom-so_far take.geometry (first_unseen state) steps step (after_at take state step.old) saw
+    (take_after-from take state step is range)
 
 -- ---- what an operation does
 

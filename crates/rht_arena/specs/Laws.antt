@@ -93,11 +93,17 @@ NoneOnlyWhereTaken =
 abbrev pub SeesAllTaken : Geometry → ℕ → ℕ → Performed → Type 0
 SeesAllTaken g first end step = (node : ℕ) → first ≤ node → node < end → SeesTaken g node step
 
--- From this node on each is seen taken in its turn: each operation sees the next ones taken, or none, and then all are seen.
+-- the operation sees the next nodes taken, from this one on, or none of them; and what is said of the nodes behind is so
+pub record SeesNext (g : Geometry) (next : ℕ) (step : Performed) (Behind : ℕ → Type 0) : Type 0 where
+  pub end : ℕ
+  pub rises : next ≤ end
+  pub sees : SeesAllTaken g next end step
+  pub behind : Behind end
+
+-- from this node on each is seen taken in its turn: each operation sees the next ones taken, or none, and together all
 abbrev pub AreSeenInTurn : Geometry → ℕ → List Performed → Type 0
 AreSeenInTurn g next [] = g.nodes ≤ next
-AreSeenInTurn g next (step ∷ steps) =
-    (end : ℕ) × (next ≤ end) × SeesAllTaken g next end step × AreSeenInTurn g end steps
+AreSeenInTurn g next (step ∷ steps) = SeesNext g next step (λ end. AreSeenInTurn g end steps)
 
 -- none is answered exactly where each node was seen taken in its turn
 abbrev pub NoneWhereTakenInTurn : Type 0
