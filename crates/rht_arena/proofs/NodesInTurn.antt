@@ -126,4 +126,5 @@ in_turn-seen g first (step ∷ steps) turn node low high = elim (cases_lt node t
 
 pub none_only_where_taken : NoneOnlyWhereTaken
 none_only_where_taken g olds none node high =
-    in_turn-seen g 0 (taking_ran g olds).steps (none-in_turn (take_node_new g) olds (begins-in g) none) node (omega arith) high
+    let turn = none-in_turn (take_node_new g) olds (begins-in g) none in
+    in_turn-seen g 0 (taking_ran g olds).steps turn node (omega arith) high

@@ -68,7 +68,8 @@ sees_next_word g step index is sees =
     absurd (omega (arith, is, place))
 
 -- who sees all up to an end, and not this node, has its end at this node or below
-pub ends_before : (g : Geometry) (first node end : ℕ) (step : Performed) → first ≤ node → (SeesTaken g node step → ⊥)
+pub ends_before : (g : Geometry) (first node end : ℕ) (step : Performed) → first ≤ node
+    → (SeesTaken g node step → ⊥)
     → SeesAllTaken g first end step → end ≤ node
 ends_before g first node end step within free sees = elim (cases_lt node end) [
   | inl below ↦ absurd (free (sees node within below))

@@ -174,7 +174,8 @@ module _ (mix : ℕ → ℕ → ℕ → ℕ) (env : Env) (job : Job) (did : Did)
       (subst (λ old. Does env mix step.move did.op old (held_of job) after) (sym performs.found) step.does)
 
   -- a job that holds no node has taken, after its operation, what it holds then
-  took_first : (held_of job).node ≡ None → (steps : List Did) → TakesNone env.geometry steps → HasTaken env.geometry after.node (steps ++ did ∷ [])
+  took_first : (held_of job).node ≡ None → (steps : List Did) → TakesNone env.geometry steps
+      → HasTaken env.geometry after.node (steps ++ did ∷ [])
   took_first holds_none steps none = elim took_by [
     | inl none_now ↦
         subst (λ node. HasTaken env.geometry node (steps ++ did ∷ [])) (sym (none_now.still holds_none))
@@ -231,7 +232,8 @@ filling_ends new (news.Owner node) word none = absurd (cc)
 filling_ends new (news.ListLink node) word none = absurd (cc)
 
 module _ (mix : ℕ → ℕ → ℕ → ℕ) (env : Env) (port : ℕ) where
-  bind_ends : (state : BindAt) (word : ℕ) → node_of_bind state ≡ None → EndsWithNone (after_at mix env port state word)
+  bind_ends : (state : BindAt) (word : ℕ) → node_of_bind state ≡ None
+      → EndsWithNone (after_at mix env port state word)
   bind_ends (at.Filling new) word none = filling_ends new new.at word none
   bind_ends (at.CurrentTable node) word none = absurd (cc)
   bind_ends (at.Locating node locate) word none = absurd (cc)

@@ -76,18 +76,18 @@ pub record IsInProgress (events : List Event) (c : ℕ) (trace : Trace) (call : 
 
 -- ---- nodes
 
--- the operation, whichever it is, clears the bit of one of the nodes: it finds it set
+-- the operation, whichever it is, is on the word with the node's bit, finds that bit set, and leaves it clear
 pub record ClearsBitOf (g : Geometry) (node : ℕ) (did : Did) : Type 0 where
   pub within : node < g.nodes
   pub place : op_place did.op ≡ map_place g node
   pub free : bit_at did.old (map_bit node) ≡ 1
   pub taken : bit_at (word_after did.old did.op) (map_bit node) ≡ 0
 
--- the step takes no node
+-- the step takes no node: it clears the set bit of none
 abbrev pub IsNoTake : Geometry → Did → Type 0
 IsNoTake g did = (node : ℕ) → ClearsBitOf g node did → ⊥
 
--- the step takes this node: it clears the node's bit, which was set, and leaves all other bits as they were
+-- the step takes this node: it clears the node's bit, which was set, and leaves the other bits of the word as they were
 pub record IsTakeOf (g : Geometry) (node : ℕ) (did : Did) : Type 0 where
   pub within : node < g.nodes
   pub free : bit_at did.old (map_bit node) ≡ 1
