@@ -6,5 +6,9 @@ pub mod TakingStays
 pub mod NewNodesStay
 -- on which words the taking, filling and giving back of nodes work
 pub mod NodesPlanned
--- the nodes below the one at which the machine stands were seen taken
+-- what an operation of the taking sees, and what it does
 pub mod NodesSeen
+-- none is answered exactly where the nodes were seen taken in their turn
+pub mod NodesInTurn
+-- which operations see two nodes taken in their turn, worked out
+pub mod WorkedTurns

@@ -1,14 +1,16 @@
--- The nodes below the one at which the machine stands were seen taken. So where no node is left, all were.
+-- What an operation of the taking of a node sees, and what it does. The nodes below the one at which the machine stands were
+-- seen taken. So where no node is left, all were.
 --
 -- The machine goes through the nodes in rising order. A node's bit is seen clear by a load of its word, or by an And
 -- that was to clear another bit of it or the node's own. The last of these finds it clear where another caller took the
 -- node after the load.
 --
--- What an operation sees (`take_after-saw`) and what it does (`take_after-did`) are shown of any operation of the
--- machine, by cases on its state. What its answer says of all its operations follows from the two.
+-- What an operation sees (`take_after-from`) and what it does (`take_after-did`) are shown of any operation of the
+-- machine, by cases on its state. What its answer says of all its operations follows from the two (here, and in
+-- `NodesInTurn`).
 use Rattle.std.proofs.Common.{◌≡◌, ℕ, ◌+◌, ◌-◌, ◌*◌, ◌/◌, ◌%◌, ◌<◌, ◌≤◌, ◌^◌, List, [], ◌∷◌, ◌++◌, Some, None, inl, inr, refl, sym, ap, ◌∙◌, subst, eqb, ltb, arith}
 use Rattle.std.proofs.lemmas.Bool.{cases_lt, cases_order, cond_both, eqb-true, eqb-false, ltb-true, ltb-false}
-use Rattle.std.proofs.lemmas.Nat.Bits.{bit_at-lt}
+use Rattle.std.proofs.lemmas.Nat.Bits.{bit_at-lt, bit_at_and, bit_at_mask_below}
 use Rattle.std.proofs.lemmas.List.Elements.{All-nil, All-push}
 use Rattle.std.proofs.lemmas.List.Quantifiers.{Any-push}
 use Rattle.std.specs.Prelude.{bit_and, Option}
@@ -28,7 +30,7 @@ use Rattle.rht_words.proofs.MachineRuns.{performed, kept_to_end}
 use Rattle.rht_arena.specs.declared.take_node.TakeNodeAt.{TakeNodeAt}
 use Rattle.rht_arena.specs.declared.take_node.TakeNodeAt.TheVariants.{MapWord, Claim}
 use Rattle.rht_arena.specs.TakeNode.{TakeNodeModel, IsTakeAtIn, take_node_new, take_node_plan, take_node_after, plan_at, after_at, claim_in}
-use Rattle.rht_arena.specs.Laws.{SeesTaken, LeavesWord, IsTaking, IsAnsweredBy, AnswersSayWhatWasDone}
+use Rattle.rht_arena.specs.Laws.{SeesTaken, SeesAllTaken, LeavesWord, IsTaking, IsAnsweredBy, AnswersSayWhatWasDone}
 use Rattle.rht_arena.proofs.TakenWereFree.{claims}
 use Rattle.rht_arena.proofs.TakingStays.{take_after-in}
 
@@ -38,6 +40,153 @@ use Rattle.rht_arena.proofs.TakingStays.{take_after-in}
 abbrev pub first_unseen : TakeNodeAt → ℕ
 first_unseen (MapWord index) = 64 * index
 first_unseen (Claim index bit) = 64 * index + bit
+
+-- an operation on a word of the map that finds a bit clear sees the bit's node taken
+sees_taken : (g : Geometry) (step : Performed) (index bit : ℕ) → bit < 64
+    → op_place step.op ≡ place_of g (NodeMap index)
+    → bit_at step.old bit ≡ 0 → SeesTaken g (64 * index + bit) step
+sees_taken g step index bit low is clear =
+    let word : (64 * index + bit) / 64 ≡ index = omega (arith, low) in
+    let place : (64 * index + bit) % 64 ≡ bit = omega (arith, low) in
+    record { place = rw word is; taken = rw place clear }
+
+-- and one that finds it set doesn't
+sees_free : (g : Geometry) (step : Performed) (index bit : ℕ) → bit < 64 → bit_at step.old bit ≡ 1
+    → SeesTaken g (64 * index + bit) step → ⊥
+sees_free g step index bit low free sees =
+    let place : (64 * index + bit) % 64 ≡ bit = omega (arith, low) in
+    let clear : bit_at step.old bit ≡ 0 = subst (λ b. bit_at step.old b ≡ 0) place sees.taken in
+    absurd (omega (arith, free, clear))
+
+-- an operation on one word doesn't see the first node of the next one
+sees_next_word : (g : Geometry) (step : Performed) (index : ℕ) → op_place step.op ≡ place_of g (NodeMap index)
+    → SeesTaken g (64 * (index + 1)) step → ⊥
+sees_next_word g step index is sees =
+    let word : (64 * (index + 1)) / 64 ≡ index + 1 = omega arith in
+    let place : op_place step.op ≡ place_of g (NodeMap (index + 1)) =
+    subst (λ w. op_place step.op ≡ place_of g (NodeMap w)) word sees.place in
+    absurd (omega (arith, is, place))
+
+-- who sees all up to an end, and not this node, has its end at this node or below
+pub ends_before : (g : Geometry) (first node end : ℕ) (step : Performed) → first ≤ node
+    → (SeesTaken g node step → ⊥)
+    → SeesAllTaken g first end step → end ≤ node
+ends_before g first node end step within free sees = elim (cases_lt node end) [
+  | inl below ↦ absurd (free (sees node within below))
+  | inr past ↦ past
+]
+
+-- from this node on the operation sees the nodes taken up to that one, and no further
+pub record SeesUpTo (g : Geometry) (first end : ℕ) (step : Performed) : Type 0 where
+  pub seen : SeesAllTaken g first end step
+  pub no_more : (further : ℕ) → SeesAllTaken g first further step → further ≤ end
+
+-- where the machine goes on, the operation saw the nodes taken up to its own; where it finds none, all of them; and
+-- where it answers one, not all
+abbrev pub SawFrom : Geometry → ℕ → Performed → TakeNodeModel × Next (Option ℕ) → Type 0
+SawFrom g first step (take, Go) = SeesUpTo g first (first_unseen take.at) step
+SawFrom g first step (take, Done None) = SeesAllTaken g first g.nodes step
+SawFrom g first step (take, Done (Some node)) = (end : ℕ) → SeesAllTaken g first end step → end < g.nodes
+
+-- The operation is on this word of the map. From the machine's node on, the bits that it found set are those of `word`.
+record LeftOf (take : TakeNodeModel) (step : Performed) (first index word : ℕ) : Type 0 where
+  place : op_place step.op ≡ place_of take.geometry (NodeMap index)
+  low : 64 * index ≤ first
+  high : first ≤ 64 * (index + 1)
+  clear : (bit : ℕ) → bit < 64 → first ≤ 64 * index + bit → bit_at word bit ≡ 0 → bit_at step.old bit ≡ 0
+  set : (bit : ℕ) → bit < 64 → bit_at word bit ≡ 1 → (first ≤ 64 * index + bit) × (bit_at step.old bit ≡ 1)
+
+module _ (take : TakeNodeModel) (step : Performed) (first index word : ℕ) (left : LeftOf take step first index word) where
+  abbrev g : Geometry
+  g = take.geometry
+
+  -- where all bits of `word` up to one are clear, the operation sees their nodes taken
+  sees_word : (until : ℕ) → until ≤ 64 → ((bit : ℕ) → bit < until → bit_at word bit ≡ 0)
+      → SeesAllTaken g first (64 * index + until) step
+  sees_word until within clear node l high =
+      let bit = node - 64 * index in
+      let is : 64 * index + bit ≡ node = omega (arith, l, left.low) in
+      let low : bit < until = omega (arith, is, high) in
+      let found = left.clear bit (omega (arith, low, within)) (omega (arith, is, l)) (clear bit low) in
+      subst (λ n. SeesTaken g n step) is (sees_taken g step index bit (omega (arith, low, within)) left.place found)
+
+  -- so the machine goes on from the lowest bit that is set
+  claim_in-saw : index < map_words g.nodes → (lowest : Option ℕ) → lowest_free g.nodes index word ≡ lowest
+      → SawFrom g first step (claim_in take index lowest)
+  claim_in-saw range (Some bit) is =
+      let lowest = lowest_free-Some g.nodes index word bit is in
+      let low = lowest.within.within in
+      let set = left.set bit low lowest.set in
+      record {
+        seen = sees_word bit (omega (arith, low)) lowest.below;
+        no_more = λ further.
+            ends_before g first (64 * index + bit) further step set.0 (sees_free g step index bit low set.1);
+      }
+  claim_in-saw range None is =
+      let none = lowest_free-None g.nodes index word is in
+      cond_both (ltb (index + 1) (map_words g.nodes)) _ _ (SawFrom g first step)
+      (λ more.
+      let here : index + 1 < map_words g.nodes = ltb-true (index + 1) (map_words g.nodes) more in
+      let end : 64 * index + 64 ≡ 64 * (index + 1) = omega arith in
+      let seen = sees_word 64 (omega arith) (λ bit low. none.clear bit low (omega (arith, low, here))) in
+      record {
+        seen = subst (λ n. SeesAllTaken g first n step) end seen;
+        no_more = λ further.
+            ends_before g first (64 * (index + 1)) further step left.high (sees_next_word g step index left.place);
+      })
+      (λ last.
+      let past : map_words g.nodes ≤ index + 1 = ltb-false (index + 1) (map_words g.nodes) last in
+      let until = g.nodes - 64 * index in
+      let end : 64 * index + until ≡ g.nodes = omega (arith, range) in
+      subst (λ n. SeesAllTaken g first n step) end
+      (sees_word until (omega (arith, past)) (λ bit low. none.clear bit (omega (arith, low, past)) (omega (arith, low)))))
+
+-- each operation sees the nodes from the one at which the machine stands up to the next, and no further
+pub take_after-from : (take : TakeNodeModel) (state : TakeNodeAt) (step : Performed)
+    → step.op ≡ plan_at take.geometry state → IsTakeAtIn take.geometry state
+    → SawFrom take.geometry (first_unseen state) step (after_at take state step.old)
+take_after-from take (MapWord index) step is range =
+    claim_in-saw take step (64 * index) index step.old
+    record {
+      place = ap op_place is;
+      low = omega arith;
+      high = omega arith;
+      clear = λ bit low l clear. clear;
+      set = λ bit low set. (omega arith, set);
+    }
+    range (lowest_free take.geometry.nodes index step.old) refl
+take_after-from take (Claim index bit) step is range =
+    let g = take.geometry in
+    let above = bit_and step.old (bits_above bit) in
+    cond_both (eqb (bit_at step.old bit) 1) _ _ (SawFrom g (64 * index + bit) step)
+    (λ set end sees.
+    let free = sees_free g step index bit range.within (eqb-true (bit_at step.old bit) 1 set) in
+    let stands = 64 * index + bit in
+    let before : end ≤ stands = ends_before g stands stands end step (omega arith) free sees in
+    omega (arith, before, range.below))
+    (λ other.
+    let clear : bit_at step.old bit ≡ 0 =
+    omega (arith, eqb-false (bit_at step.old bit) 1 other, bit_at-lt step.old bit) in
+    claim_in-saw take step (64 * index + bit) index above
+    record {
+      place = ap op_place is;
+      low = omega arith;
+      high = omega (arith, range.within);
+      clear = λ place low l is_clear. elim (cases_order place bit) [
+        | inl at ↦ rw at clear
+        | inr (inl earlier) ↦ absurd (omega (arith, earlier, l))
+        | inr (inr later) ↦ sym (bit_at-above step.old bit place later low) ∙ is_clear
+      ];
+      set = λ place low set. elim (cases_lt bit place) [
+        | inl later ↦ (omega (arith, later), sym (bit_at-above step.old bit place later low) ∙ set)
+        | inr earlier ↦
+            let masked = bit_at_mask_below (bit + 1) 64 place (omega (arith, earlier)) in
+            absurd (omega (arith, bit_at_and step.old (bits_above bit) place, masked, set))
+      ];
+    }
+    (omega (arith, range.below)) (lowest_free g.nodes index above) refl)
+
+-- ---- what the operations so far have seen
 
 -- each node below this one was seen taken by one of these operations
 abbrev pub SawAllBelow : Geometry → ℕ → List Performed → Type 0
@@ -49,89 +198,36 @@ pub SawAllBelow-push : (g : Geometry) (bound : ℕ) (steps : List Performed) (st
     → SawAllBelow g bound (steps ++ step ∷ [])
 SawAllBelow-push g bound steps step saw node l = Any-append_left (SeesTaken g node) steps (step ∷ []) (saw node l)
 
+-- and one more operation sees further
+SawAllBelow-further : (g : Geometry) (bound end : ℕ) (steps : List Performed) (step : Performed)
+    → SawAllBelow g bound steps → SeesAllTaken g bound end step → SawAllBelow g end (steps ++ step ∷ [])
+SawAllBelow-further g bound end steps step saw sees node l = elim (cases_lt node bound) [
+  | inl earlier ↦ SawAllBelow-push g bound steps step saw node earlier
+  | inr later ↦ Any-push (SeesTaken g node) steps step (sees node later l)
+]
+
 -- where the machine goes on the nodes below its own were seen, and where it finds none all were
 abbrev pub SawSoFar : Geometry → List Performed → TakeNodeModel × Next (Option ℕ) → Type 0
 SawSoFar g steps (take, Go) = SawAllBelow g (first_unseen take.at) steps
 SawSoFar g steps (take, Done None) = SawAllBelow g g.nodes steps
 SawSoFar g steps (take, Done (Some node)) = Unit {0}
 
--- an operation on a word of the map that finds a bit clear sees the bit's node taken
-sees_taken : (g : Geometry) (step : Performed) (index bit : ℕ) → bit < 64
-    → op_place step.op ≡ place_of g (NodeMap index)
-    → bit_at step.old bit ≡ 0 → SeesTaken g (64 * index + bit) step
-sees_taken g step index bit low is clear =
-    let word : (64 * index + bit) / 64 ≡ index = omega (arith, low) in
-    let place : (64 * index + bit) % 64 ≡ bit = omega (arith, low) in
-    record { place = rw word is; taken = rw place clear }
-
--- the nodes of a word are seen one by one
-saw_word : (g : Geometry) (steps : List Performed) (index until : ℕ) → SawAllBelow g (64 * index) steps
-    → ((bit : ℕ) → bit < until → Any (SeesTaken g (64 * index + bit)) steps)
-    → SawAllBelow g (64 * index + until) steps
-saw_word g steps index until before here node l = elim (cases_lt node (64 * index)) [
-  | inl earlier ↦ before node earlier
-  | inr later ↦
-      let is : 64 * index + (node - 64 * index) ≡ node = omega (arith, later) in
-      subst (λ n. Any (SeesTaken g n) steps) is (here (node - 64 * index) (omega (arith, l, later)))
-]
-
-module _ (take : TakeNodeModel) (steps : List Performed) (index word : ℕ) where
-  abbrev g : Geometry
-  g = take.geometry
-
-  -- where each clear bit of the word was seen, the machine may go on from its lowest free one
-  claim_in-saw : index < map_words g.nodes → SawAllBelow g (64 * index) steps
-      → ((bit : ℕ) → bit < 64 → bit_at word bit ≡ 0 → Any (SeesTaken g (64 * index + bit)) steps)
-      → (lowest : Option ℕ) → lowest_free g.nodes index word ≡ lowest
-      → SawSoFar g steps (claim_in take index lowest)
-  claim_in-saw range before here (Some bit) is =
-      let lowest = lowest_free-Some g.nodes index word bit is in
-      saw_word g steps index bit before
-      (λ other l. here other (omega (arith, l, lowest.within.within)) (lowest.below other l))
-  claim_in-saw range before here None is =
-      let none = lowest_free-None g.nodes index word is in
-      cond_both (ltb (index + 1) (map_words g.nodes)) _ _ (SawSoFar g steps)
-      (λ more.
-      let left : index + 1 < map_words g.nodes = ltb-true (index + 1) (map_words g.nodes) more in
-      λ node l.
-      saw_word g steps index 64 before (λ bit low. here bit low (none.clear bit low (omega (arith, low, left)))) node (omega (arith, l)))
-      (λ last.
-      let end : map_words g.nodes ≤ index + 1 = ltb-false (index + 1) (map_words g.nodes) last in
-      λ node l.
-      saw_word g steps index (g.nodes - 64 * index) before
-      (λ bit low. here bit (omega (arith, low, end)) (none.clear bit (omega (arith, low, end)) (omega (arith, low)))) node (omega (arith, l)))
+SawFrom-so_far : (g : Geometry) (first : ℕ) (steps : List Performed) (step : Performed)
+    (next : TakeNodeModel × Next (Option ℕ))
+    → SawAllBelow g first steps → SawFrom g first step next → SawSoFar g (steps ++ step ∷ []) next
+SawFrom-so_far g first steps step (take, Go) saw from =
+    SawAllBelow-further g first (first_unseen take.at) steps step saw from.seen
+SawFrom-so_far g first steps step (take, Done None) saw from = SawAllBelow-further g first g.nodes steps step saw from
+SawFrom-so_far g first steps step (take, Done (Some node)) saw from = tt
 
 -- each operation sees what is between the node at which the machine stands and the next
 pub take_after-saw : (take : TakeNodeModel) (state : TakeNodeAt) (steps : List Performed) (step : Performed)
     → step.op ≡ plan_at take.geometry state
     → IsTakeAtIn take.geometry state → SawAllBelow take.geometry (first_unseen state) steps
     → SawSoFar take.geometry (steps ++ step ∷ []) (after_at take state step.old)
-take_after-saw take (MapWord index) steps step is range saw =
-    let g = take.geometry in
-    let all = steps ++ step ∷ [] in
-    claim_in-saw take all index step.old range (SawAllBelow-push g (64 * index) steps step saw)
-    (λ bit low clear.
-    Any-push (SeesTaken g (64 * index + bit)) steps step (sees_taken g step index bit low (ap op_place is) clear))
-    (lowest_free g.nodes index step.old) refl
-take_after-saw take (Claim index bit) steps step is range saw =
-    let g = take.geometry in
-    let all = steps ++ step ∷ [] in
-    let above = bit_and step.old (bits_above bit) in
-    let before : SawAllBelow g (64 * index + bit) all = SawAllBelow-push g (64 * index + bit) steps step saw in
-    let here : (place : ℕ) → place < 64 → bit_at step.old place ≡ 0 → Any (SeesTaken g (64 * index + place)) all =
-    λ place low clear.
-    Any-push (SeesTaken g (64 * index + place)) steps step (sees_taken g step index place low (ap op_place is) clear) in
-    cond_both (eqb (bit_at step.old bit) 1) _ _ (SawSoFar g all) (λ set. tt)
-    (λ other.
-    let clear : bit_at step.old bit ≡ 0 =
-    omega (arith, eqb-false (bit_at step.old bit) 1 other, bit_at-lt step.old bit) in
-    claim_in-saw take all index above (omega (arith, range.below)) (λ node l. before node (omega (arith, l)))
-    (λ place low is_clear. elim (cases_order place bit) [
-      | inl at ↦ here place low (rw at clear)
-      | inr (inl earlier) ↦ before (64 * index + place) (omega (arith, earlier))
-      | inr (inr later) ↦ here place low (sym (bit_at-above step.old bit place later low) ∙ is_clear)
-    ])
-    (lowest_free g.nodes index above) refl)
+take_after-saw take state steps step is range saw =
+    SawFrom-so_far take.geometry (first_unseen state) steps step (after_at take state step.old) saw
+    (take_after-from take state step is range)
 
 -- ---- what an operation does
 
@@ -166,59 +262,47 @@ take_after-did take (Claim index bit) old small range =
 
 -- ---- what the answer says
 
--- The invariant: after these operations the machine stands in range, it has seen all nodes below its own taken, and has
--- changed no word.
-record SeenSoFar (g : Geometry) (steps : List Performed) (m : TakeNodeModel) : Type 0 where
+-- The invariant: after these operations the machine stands in range, and has changed no word.
+record NoneSoFar (g : Geometry) (steps : List Performed) (m : TakeNodeModel) : Type 0 where
   geometry : m.geometry ≡ g
   in_range : IsTakeAtIn m.geometry m.at
-  seen : SawAllBelow m.geometry (first_unseen m.at) steps
   unchanged : All LeavesWord steps
 
 module _ (g : Geometry) (steps : List Performed) (m : TakeNodeModel) (old : ℕ) (small : old < 2 ^ 64)
-    (kept : SeenSoFar g steps m) where
+    (kept : NoneSoFar g steps m) where
   abbrev step : Performed
   step = performed take_node_plan take_node_after m old
 
   abbrev left : TakeNodeModel
   left = (take_node_after m old).0
 
-  -- what one more operation has seen and done, by what the machine says after it
-  saw : (next : Next (Option ℕ)) → (take_node_after m old).1 ≡ next
-      → SawSoFar m.geometry (steps ++ step ∷ []) (left, next)
-  saw next is =
-      subst (λ n. SawSoFar m.geometry (steps ++ step ∷ []) (left, n)) is
-      (take_after-saw m m.at steps step refl kept.in_range kept.seen)
-
+  -- what one more operation has done, by what the machine says after it
   did : (next : Next (Option ℕ)) → (take_node_after m old).1 ≡ next → DidBy m.geometry step next
   did next is = subst (DidBy m.geometry step) is (take_after-did m m.at old small kept.in_range)
 
   -- the invariant is kept
-  goes_on : (take_node_after m old).1 ≡ Go → SeenSoFar g (steps ++ step ∷ []) left
+  goes_on : (take_node_after m old).1 ≡ Go → NoneSoFar g (steps ++ step ∷ []) left
   goes_on is =
       let stays = take_after-in m old kept.in_range in
       record {
         geometry = stays.geometry_same ∙ kept.geometry;
         in_range = stays.range;
-        seen =
-            subst (λ (h : Geometry). SawAllBelow h (first_unseen left.at) (steps ++ step ∷ [])) (sym stays.geometry_same) (saw Go is);
         unchanged = All-push LeavesWord steps step kept.unchanged (did Go is);
       }
 
   -- at the end it gives what the answer says
   answers : (answer : Option ℕ) → (take_node_after m old).1 ≡ Done answer
       → IsAnsweredBy g (steps ++ step ∷ []) answer
-  answers None is =
-      subst (λ (h : Geometry). IsAnsweredBy h (steps ++ step ∷ []) None) kept.geometry
-      (record { seen = saw (Done None) is; unchanged = All-push LeavesWord steps step kept.unchanged (did (Done None) is) })
+  answers None is = All-push LeavesWord steps step kept.unchanged (did (Done None) is)
   answers (Some node) is =
       subst (λ (h : Geometry). IsAnsweredBy h (steps ++ step ∷ []) (Some node)) kept.geometry
       (record { before = steps; last = step; are = refl; taking = did (Done (Some node)) is; unchanged = kept.unchanged })
 
 pub answers_say_what_was_done : AnswersSayWhatWasDone
 answers_say_what_was_done g olds answer known done =
-    kept_to_end take_node_plan take_node_after (λ old. old < 2 ^ 64) (SeenSoFar g) (IsAnsweredBy g)
+    kept_to_end take_node_plan take_node_after (λ old. old < 2 ^ 64) (NoneSoFar g) (IsAnsweredBy g)
     (λ steps m old small kept is. goes_on g steps m old small kept is)
     (λ steps m old result small kept is. answers g steps m old small kept result is)
     [] (take_node_new g) olds answer known
-    (record { geometry = refl; in_range = omega (arith, g.within.nodes_within); seen = λ node l. absurd (omega (arith, l)); unchanged = All-nil LeavesWord })
+    (record { geometry = refl; in_range = omega (arith, g.within.nodes_within); unchanged = All-nil LeavesWord })
     done

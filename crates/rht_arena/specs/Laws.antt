@@ -1,5 +1,5 @@
 -- What the machines that take and give back nodes rely on.
-use Rattle.std.specs.Prelude.{◌≡◌, ◌≢◌, ℕ, ◌/◌, ◌%◌, ◌<◌, ◌^◌, Option, None, Some, List, [], ◌∷◌, ◌++◌}
+use Rattle.std.specs.Prelude.{◌≡◌, ◌≢◌, ◌↔◌, ℕ, ◌/◌, ◌%◌, ◌<◌, ◌≤◌, ◌^◌, Option, None, Some, List, [], ◌∷◌, ◌++◌}
 use Rattle.std.specs.List.{All, Any}
 use Rattle.std.specs.Int.{bit_at, bit_not, w64}
 use Rattle.rht_words.specs.declared.op.Op.{Op}
@@ -9,7 +9,7 @@ use Rattle.rht_words.specs.declared.geometry.Geometry.{Geometry}
 use Rattle.rht_words.specs.Maps.{bit_of}
 use Rattle.rht_words.specs.Places.{NodeMap, place_of}
 use Rattle.rht_words.specs.Operations.{op_place, word_after}
-use Rattle.rht_words.specs.Machines.{Performed, ran}
+use Rattle.rht_words.specs.Machines.{Performed, Ran, ran}
 use Rattle.rht_arena.specs.TakeNode.{TakeNodeModel, take_node_new, take_node_plan, take_node_after, IsTakeAtIn}
 use Rattle.rht_arena.specs.GiveNode.{GiveNodeModel, give_node_plan}
 
@@ -45,19 +45,15 @@ TakenWasFree =
     → IsTakeAtIn m.geometry m.at → (take_node_after m old).1 ≡ Done (Some node)
     → IsTaking m.geometry node old (take_node_plan m)
 
--- the operation was on the word with the node's bit, and found the node taken
-pub record SeesTaken (g : Geometry) (node : ℕ) (step : Performed) : Type 0 where
-  pub place : op_place step.op ≡ map_place g node
-  pub taken : bit_at step.old (map_bit node) ≡ 0
+-- the taking of a node, whose operations find these words
+abbrev pub taking_ran : Geometry → List ℕ → Ran (Option ℕ)
+taking_ran g olds = ran take_node_plan take_node_after (take_node_new g) olds
+
+-- ---- what was done, by the answer
 
 -- the operation left the word as it was
 abbrev pub LeavesWord : Performed → Type 0
 LeavesWord step = word_after step.old step.op ≡ step.old
-
--- each node was seen taken, and no word was changed
-pub record NoneWasTaken (g : Geometry) (steps : List Performed) : Type 0 where
-  pub seen : (node : ℕ) → node < g.nodes → Any (SeesTaken g node) steps
-  pub unchanged : All LeavesWord steps
 
 -- the last operation took this node, and those before it changed no word
 pub record OneWasTaken (g : Geometry) (steps : List Performed) (node : ℕ) : Type 0 where
@@ -67,9 +63,9 @@ pub record OneWasTaken (g : Geometry) (steps : List Performed) (node : ℕ) : Ty
   pub taking : IsTaking g node last.old last.op
   pub unchanged : All LeavesWord before
 
--- what the operations did, by the answer that came of them
+-- what the operations did, by the answer that came of them: none changed a word, or the last one took the node
 abbrev pub IsAnsweredBy : Geometry → List Performed → Option ℕ → Type 0
-IsAnsweredBy g steps None = NoneWasTaken g steps
+IsAnsweredBy g steps None = All LeavesWord steps
 IsAnsweredBy g steps (Some node) = OneWasTaken g steps node
 
 -- whatever words its operations find, the answer says what they did
@@ -77,8 +73,43 @@ abbrev pub AnswersSayWhatWasDone : Type 0
 AnswersSayWhatWasDone =
     (g : Geometry) (olds : List ℕ) (answer : Option ℕ)
     → All (λ old. old < 2 ^ 64) olds
-    → (ran take_node_plan take_node_after (take_node_new g) olds).next ≡ Done answer
-    → IsAnsweredBy g (ran take_node_plan take_node_after (take_node_new g) olds).steps answer
+    → (taking_ran g olds).next ≡ Done answer
+    → IsAnsweredBy g (taking_ran g olds).steps answer
+
+-- ---- where there is none
+
+-- the operation was on the word with the node's bit, and found the node taken
+pub record SeesTaken (g : Geometry) (node : ℕ) (step : Performed) : Type 0 where
+  pub place : op_place step.op ≡ map_place g node
+  pub taken : bit_at step.old (map_bit node) ≡ 0
+
+-- none is answered only where each node was seen taken, by some operation
+abbrev pub NoneOnlyWhereTaken : Type 0
+NoneOnlyWhereTaken =
+    (g : Geometry) (olds : List ℕ) → (taking_ran g olds).next ≡ Done None
+    → (node : ℕ) → node < g.nodes → Any (SeesTaken g node) (taking_ran g olds).steps
+
+-- the operation sees all nodes taken from this one on, up to that one
+abbrev pub SeesAllTaken : Geometry → ℕ → ℕ → Performed → Type 0
+SeesAllTaken g first end step = (node : ℕ) → first ≤ node → node < end → SeesTaken g node step
+
+-- the operation sees the next nodes taken, from this one on, or none of them; and what is said of the nodes behind is so
+pub record SeesNext (g : Geometry) (next : ℕ) (step : Performed) (Behind : ℕ → Type 0) : Type 0 where
+  pub end : ℕ
+  pub rises : next ≤ end
+  pub sees : SeesAllTaken g next end step
+  pub behind : Behind end
+
+-- from this node on each is seen taken in its turn: each operation sees the next ones taken, or none, and together all
+abbrev pub AreSeenInTurn : Geometry → ℕ → List Performed → Type 0
+AreSeenInTurn g next [] = g.nodes ≤ next
+AreSeenInTurn g next (step ∷ steps) = SeesNext g next step (λ end. AreSeenInTurn g end steps)
+
+-- none is answered exactly where each node was seen taken in its turn
+abbrev pub NoneWhereTakenInTurn : Type 0
+NoneWhereTakenInTurn =
+    (g : Geometry) (olds : List ℕ)
+    → ((taking_ran g olds).next ≡ Done None) ↔ AreSeenInTurn g 0 (taking_ran g olds).steps
 
 -- giving a node back sets its bit and no other
 abbrev pub GivingSetsOneBit : Type 0

@@ -27,24 +27,14 @@ use Rattle.rht_chain.specs.Relink.{RelinkModel, relink_after}
 use Rattle.rht_chain.specs.declared.locked.Then.{Then}
 use Rattle.rht_chain.specs.declared.locked.Then.TheVariants.{Table, Answer}
 use Rattle.rht_bind.specs.Bind.{after_at, filled, bucket_or_no_table, located, owner_or_future, probed, unlocking, future_or_count, published, unlocked}
+use Rattle.rht_bind.specs.BindHeld.{held_of_bind}
 use Rattle.rht_bind.specs.declared.bind.Claimed.{Claimed}
 use Rattle.rht_bind.specs.declared.bind.BindAt.{BindAt}
 use Rattle.rht_bind.specs.declared.bind.BindAt.TheVariants as at
 
 -- the node that a bind has taken
 abbrev pub node_of_bind : BindAt → Option ℕ
-node_of_bind (at.Filling new) = node_of_new new.at
-node_of_bind (at.CurrentTable node) = Some node
-node_of_bind (at.Locating node locate) = Some node
-node_of_bind (at.Probing node table shape probe) = Some node
-node_of_bind (at.FoundOwner claimed found) = Some claimed.node
-node_of_bind (at.Future claimed length) = Some claimed.node
-node_of_bind (at.Count claimed) = Some claimed.node
-node_of_bind (at.Link claimed) = Some claimed.node
-node_of_bind (at.Raise claimed) = Some claimed.node
-node_of_bind (at.Publish node table relink kick) = Some node
-node_of_bind (at.Unlocking node table unlock next) = Some node
-node_of_bind (at.Giving give reply) = Some give.node
+node_of_bind state = (held_of_bind state).node
 
 -- the reply that a bind is going to answer
 abbrev pub reply_of_bind : BindAt → Option Reply

@@ -1,62 +1,51 @@
 -- In every run a bind takes one node at most, and a look-up none.
--- What a bind holds is read off its state: none while it takes one, and from then on the node that the
--- state names. A step takes a node exactly where the taking ends with one. Each other And of the taking
--- finds its bit cleared, and no other state performs an And.
-use Rattle.std.proofs.Common.{◌≡◌, ◌≢◌, ℕ, ◌+◌, ◌*◌, ◌<◌, inl, inr, Bool, List, [], ◌∷◌, ◌++◌, refl, sym, ap, ◌∙◌, subst, arith}
-use Rattle.std.specs.Prelude.{Option, Some, None, IsSome, ◌==◌, nat_lt, bit_and}
+--
+-- What an operation does to the bits of nodes is told by its move (`took`): the move that takes a node clears that
+-- one's bit, and any other is on another word, or sets a bit, or leaves each bit. So a call has taken what it holds: none
+-- while it holds none, and from the taking on the node that it holds. A bind that holds a node goes on with it to its end;
+-- one that ends without a node is answered that there was none.
+use Rattle.std.proofs.Common.{◌≡◌, ℕ, ◌+◌, ◌/◌, ◌<◌, ◌≤◌, ◌⊎◌, inl, inr, Bool, List, [], ◌∷◌, ◌++◌, refl, sym, ap, ◌∙◌, subst, arith}
+use Rattle.std.specs.Prelude.{Option, Some, None, IsSome}
 use Rattle.std.specs.Int.{bit_at}
-use Rattle.std.proofs.lemmas.Bool.{cond_both, cases_eq, eqb-true, eqb-false}
+use Rattle.std.proofs.lemmas.Bool.{cases_eq}
 use Rattle.rht_words.specs.declared.op.Op.{Op}
-use Rattle.rht_words.specs.declared.op.Op.TheVariants.{And}
+use Rattle.rht_words.specs.declared.op.Op.TheVariants.{Or}
 use Rattle.rht_words.specs.declared.env.Env.{Env}
 use Rattle.rht_words.specs.declared.geometry.Geometry.{Geometry}
 use Rattle.rht_words.specs.declared.machine.Next.{Next}
 use Rattle.rht_words.specs.declared.machine.Next.TheVariants.{Go, Done}
-use Rattle.rht_words.specs.Maps.{bits_above, lowest_free}
-use Rattle.rht_words.specs.Places.{map_words}
-use Rattle.rht_words.specs.Operations.{word_after}
-use Rattle.rht_words.proofs.BitChanges.{bit_at-cleared_other}
+use Rattle.rht_words.specs.Maps.{bit_of}
+use Rattle.rht_words.specs.Machines.{GoesOrEnds}
+use Rattle.rht_words.specs.Operations.{op_place, word_after}
+use Rattle.rht_words.specs.Places.{nodes_at}
+use Rattle.rht_words.proofs.BitChanges.{bit_at-set, bit_at-set_other}
 use Rattle.rht_words.proofs.EachElement.{AllByRecursion-push}
+use Rattle.rht_words.proofs.MachineRuns.{GoesOrEnds-weaker}
+use Rattle.rht_words.proofs.PlacesApart.{parts_in_order}
+use Rattle.rht_model.specs.declared.history.Call.{Call}
 use Rattle.rht_model.specs.declared.history.Reply.{Reply}
 use Rattle.rht_model.specs.declared.history.Reply.TheVariants.{NoNode}
-use Rattle.rht_arena.specs.TakeNode.{TakeNodeModel, take_node_after, plan_at as take_plan_at, after_at as take_after_at, next_word, claim_in, IsTakeAtIn, IsTakeIn}
-use Rattle.rht_arena.specs.Laws.{map_bit, IsTaking}
-use Rattle.rht_arena.proofs.TakenWereFree.{claim_of-clears, claims}
-use Rattle.rht_arena.specs.declared.take_node.TakeNodeAt.{TakeNodeAt}
-use Rattle.rht_arena.specs.declared.take_node.TakeNodeAt.TheVariants.{MapWord, Claim}
-use Rattle.rht_arena.specs.NewNode.{NewNodeModel, new_node_plan_at, new_node_after_at, node_taken, node_of_new, IsNewNodeAtIn}
+use Rattle.rht_model.specs.Endings.{Ending}
+use Rattle.rht_arena.specs.NewNode.{NewNodeModel, new_node_after_at, node_taken, node_of_new}
+use Rattle.rht_arena.specs.TakeNode.{TakeNodeModel, take_node_after}
 use Rattle.rht_arena.specs.declared.new_node.NewNodeAt.{NewNodeAt}
 use Rattle.rht_arena.specs.declared.new_node.NewNodeAt.TheVariants as news
-use Rattle.rht_nest.specs.Locate.{locate_plan_at}
-use Rattle.rht_nest.specs.declared.locate.LocateAt.{LocateAt}
-use Rattle.rht_nest.specs.declared.locate.LocateAt.TheVariants as locate_at
-use Rattle.rht_chain.specs.Probe.{probe_plan_at}
-use Rattle.rht_chain.specs.declared.probe.ProbeAt.{ProbeAt}
-use Rattle.rht_chain.specs.declared.probe.ProbeAt.TheVariants as probe_at
-use Rattle.rht_chain.specs.Relink.{RelinkModel, relink_plan_at}
-use Rattle.rht_chain.specs.declared.relink.RelinkAt.{RelinkAt}
-use Rattle.rht_chain.specs.declared.relink.RelinkAt.TheVariants as relink_at
-use Rattle.rht_chain.specs.Lock.{lock_plan_at}
-use Rattle.rht_chain.specs.declared.lock.LockAt.{LockAt}
-use Rattle.rht_chain.specs.declared.lock.LockAt.TheVariants as lock_at
-use Rattle.rht_chain.specs.LockedWalk.{walk_plan_at}
-use Rattle.rht_chain.specs.declared.locked_walk.LockedWalkAt.{LockedWalkAt}
-use Rattle.rht_chain.specs.declared.locked_walk.LockedWalkAt.TheVariants as walk_at
-use Rattle.rht_find.specs.Find.{plan_at as find_plan_at, after_at as find_after_at}
+use Rattle.rht_arena.specs.Laws.{map_bit}
+use Rattle.rht_find.specs.Find.{after_at as find_after_at}
+use Rattle.rht_find.specs.FindHeld.{held_of_find}
 use Rattle.rht_find.specs.declared.find.FindAt.{FindAt}
 use Rattle.rht_find.specs.declared.find.FindAt.TheVariants as find_at
-use Rattle.rht_bind.specs.Bind.{plan_at as bind_plan_at, after_at, filled}
+use Rattle.rht_bind.specs.Bind.{after_at, filled}
 use Rattle.rht_bind.specs.declared.bind.BindAt.{BindAt}
 use Rattle.rht_bind.specs.declared.bind.BindAt.TheVariants as at
-use Rattle.rht_core.specs.Jobs.{Job, finds, binds}
+use Rattle.rht_core.specs.Jobs.{Job, finds, binds, finds_next, binds_next, job_after, held_of, held_next}
 use Rattle.rht_core.specs.Traces.{Did}
-use Rattle.rht_core.specs.Replies.{IsFindReply}
-use Rattle.rht_core.specs.Laws.{IsNoTake, TakesNone, TakesOne, IsTakenBy, IsTakenIn, TakenAlone}
-use Rattle.rht_words.specs.Machines.{GoesOrEnds}
-use Rattle.rht_words.proofs.MachineRuns.{GoesOrEnds-weaker}
+use Rattle.rht_core.specs.Laws.{IsNoTake, IsTakeOf, TakesNone, TakesOne, IsTakenBy, IsTakenIn, TakenAlone}
+use Rattle.rht_core.proofs.Theory.Wholes.{place_at}
+use Rattle.rht_core.proofs.Theory.Steps.{Holding, Move, Quiet, TakesNode, GivesNode, TakesLock, DropsLock, Raises, Links, Does}
 use Rattle.rht_core.proofs.HeldByBinds.{node_of_bind, HoldsSo, bind_after-so}
-use Rattle.rht_core.proofs.MachineReplies.{HoldsFindReply, IsReplyWithNode, IsNoneOrWithNode, find_after-replies, bind_reply_after-with_node}
-use Rattle.rht_core.proofs.TracedCalls.{FindDoes, BindDoes, calls_keep}
+use Rattle.rht_core.proofs.MachineReplies.{IsReplyWithNode, IsNoneOrWithNode, HoldsBindReply, bind_reply_after-with_node, bind_after-replies}
+use Rattle.rht_core.proofs.TracedJobs.{Performs, jobs_keep, by_machines}
 
 -- ---- one more step
 
@@ -69,126 +58,102 @@ TakesOne-push g node (first ∷ steps) did (inr later) takes_none =
     inr (later.0, TakesOne-push g node steps did later.1 takes_none)
 
 TakesOne-last : (g : Geometry) (node : ℕ) (steps : List Did) (did : Did) → TakesNone g steps
-    → IsTaking g node did.old did.op → TakesOne g node (steps ++ did ∷ [])
+    → IsTakeOf g node did → TakesOne g node (steps ++ did ∷ [])
 TakesOne-last g node [] did none takes = inl (takes, tt)
 TakesOne-last g node (first ∷ steps) did none takes = inr (none.0, TakesOne-last g node steps did none.1 takes)
 
--- ---- steps that take none
+-- ---- what an operation does to the bits of nodes
 
--- the operation is no And
-abbrev IsNoAnd : Op → Type 0
-IsNoAnd (And place mask) = ⊥
-IsNoAnd _ = Unit {0}
+module _ (g : Geometry) (did : Did) where
+  -- an operation before the map of nodes, or behind it, takes none
+  off_map : ((op_place did.op < 280) ⊎ (nodes_at g ≤ op_place did.op)) → IsNoTake g did
+  off_map where_it_is node clears =
+      let parts = parts_in_order g in
+      let on : op_place did.op ≡ 280 + node / 64 = clears.place in
+      elim where_it_is [
+        | inl before ↦ absurd (omega (arith, before, on))
+        | inr behind ↦ absurd (omega (arith, behind, on, clears.within, parts.page_map, parts.nodes))
+      ]
 
-no_and : (g : Geometry) (did : Did) → IsNoAnd did.op → IsNoTake g did
-no_and g did takes_none node claim set = subst IsNoAnd claim takes_none
+  -- and so does one that leaves each bit that it finds set
+  keeps_bits : ((bit : ℕ) → bit < 64 → bit_at did.old bit ≡ 1 → bit_at (word_after did.old did.op) bit ≡ 1)
+      → IsNoTake g did
+  keeps_bits keeps node clears =
+      let kept = keeps (map_bit node) (omega arith) clears.free in
+      absurd (omega (arith, kept, clears.taken))
 
-no_and_as : (g : Geometry) (did : Did) {op : Op} → did.op ≡ op → IsNoAnd op → IsNoTake g did
-no_and_as g did is other = no_and g did (subst IsNoAnd (sym is) other)
+-- and so does one on the word of a bucket
+on_bucket : (env : Env) (mix : ℕ → ℕ → ℕ → ℕ) (did : Did) (j : ℕ) → op_place did.op ≡ place_at env mix j
+    → IsNoTake env.geometry did
+on_bucket env mix did j on =
+    let parts = parts_in_order env.geometry in
+    off_map env.geometry did (inr (omega (arith, on, parts.pages)))
 
-lock_no_and : (place : ℕ) (state : LockAt) → IsNoAnd (lock_plan_at place state)
-lock_no_and place lock_at.Word = tt
-lock_no_and place (lock_at.Exchange word) = tt
-
-walk_no_and : (g : Geometry) (state : LockedWalkAt) → IsNoAnd (walk_plan_at g state)
-walk_no_and g (walk_at.Key node) = tt
-walk_no_and g (walk_at.ChainLink node) = tt
-
-probe_no_and : (state : ProbeAt) → IsNoAnd (probe_plan_at state)
-probe_no_and (probe_at.Locking lock) = lock_no_and lock.place lock.at
-probe_no_and (probe_at.Walking bucket walk) = walk_no_and walk.geometry walk.at
-
-locate_no_and : (g : Geometry) (table : ℕ) (state : LocateAt) → IsNoAnd (locate_plan_at g table state)
-locate_no_and g table locate_at.Shape = tt
-locate_no_and g table (locate_at.Seed shape) = tt
-
-relink_no_and : (relink : RelinkModel) (state : RelinkAt) → IsNoAnd (relink_plan_at relink state)
-relink_no_and relink (relink_at.ChainLink before) = tt
-relink_no_and relink (relink_at.Word word) = tt
-
-find_no_and : (env : Env) (state : FindAt) → IsNoAnd (find_plan_at env state)
-find_no_and env find_at.CurrentTable = tt
-find_no_and env (find_at.Locating locate) = locate_no_and locate.geometry locate.table locate.at
-find_no_and env (find_at.Probing table probe) = probe_no_and probe.at
-find_no_and env (find_at.Future table bucket) = tt
-find_no_and env (find_at.FirstOwner table bucket node) = tt
-find_no_and env (find_at.ListLink table bucket node owner) = tt
-find_no_and env (find_at.LaterOwner table bucket node owner) = tt
-find_no_and env (find_at.Unlocking table unlock next) = tt
-
--- ---- the taking of a node
-
--- The And on this bit takes a node only where the bit was set: it leaves the bits of other nodes.
-claim_lost : (g : Geometry) (index bit : ℕ) (did : Did) → did.op ≡ take_plan_at g (Claim index bit) → bit < 64
-    → bit_at did.old bit ≢ 1
-    → IsNoTake g did
-claim_lost g index bit did is low lost node claim set = elim (cases_eq (map_bit node) bit) [
-  | inl same ↦ lost (ap (bit_at did.old) (sym same) ∙ set)
-  | inr other ↦
-      let stays = bit_at-cleared_other did.old bit (map_bit node) low (omega arith) other in
-      let cleared =
-      subst (λ (op : Op). bit_at (word_after did.old op) (map_bit node) ≡ 0) (sym claim ∙ is) (claim_of-clears g node did.old).bit in
-      absurd (omega (arith, stays, cleared, set))
+-- setting a bit clears none
+set_keeps : (old bit other : ℕ) → bit_at old other ≡ 1 → bit_at (word_after old (Or 0 (bit_of bit))) other ≡ 1
+set_keeps old bit other set = elim (cases_eq other bit) [
+  | inl same ↦ rw same (bit_at-set old bit)
+  | inr differ ↦ bit_at-set_other old bit other differ ∙ set
 ]
 
--- where the taking goes on or finds none free the operation took none, and else the node that it answers
-abbrev TookAs : Geometry → Did → Next (Option ℕ) → Type 0
-TookAs g did Go = IsNoTake g did
-TookAs g did (Done None) = IsNoTake g did
-TookAs g did (Done (Some node)) = IsTaking g node did.old did.op
+-- the operation took no node, and a call that held none holds none
+record TookNone (g : Geometry) (h h' : Holding) (did : Did) : Type 0 where
+  none : IsNoTake g did
+  still : h.node ≡ None → h'.node ≡ None
 
-module _ (take : TakeNodeModel) (did : Did) (none : IsNoTake take.geometry did) where
-  next_word-took : (index : ℕ) → TookAs take.geometry did (next_word take index).1
-  next_word-took index =
-      cond_both (nat_lt (index + 1) (map_words take.geometry.nodes)) _ _
-      (λ (next : TakeNodeModel × Next (Option ℕ)). TookAs take.geometry did next.1)
-      (λ t. none) (λ f. none)
+-- the operation took the node that the call holds now, and it held none before
+record TookOne (g : Geometry) (h h' : Holding) (did : Did) : Type 0 where
+  node : ℕ
+  before : h.node ≡ None
+  now : h'.node ≡ Some node
+  takes : IsTakeOf g node did
 
-  claim_in-took : (index : ℕ) (lowest : Option ℕ) → TookAs take.geometry did (claim_in take index lowest).1
-  claim_in-took index None = next_word-took index
-  claim_in-took index (Some bit) = none
+-- By the move.
+took : (env : Env) (mix : ℕ → ℕ → ℕ → ℕ) (move : Move) (did : Did) (h h' : Holding)
+    → Does env mix move did.op did.old h h'
+    → TookNone env.geometry h h' did ⊎ TookOne env.geometry h h' did
+took env mix Quiet did h h' does =
+    let g = env.geometry in
+    let parts = parts_in_order g in
+    inl record {
+      none = elim does.leaves [
+        | inl leaves ↦ keeps_bits g did (λ bit l set. leaves bit l ∙ set)
+        | inr own ↦ off_map g did (inr (omega (arith, own.place)))
+      ];
+      still = λ none. ap (λ (h : Holding). h.node) does.holds ∙ none;
+    }
+took env mix (TakesNode n) did h h' does = inr record {
+  node = n;
+  before = does.none;
+  now = ap (λ (h : Holding). h.node) does.holds;
+  takes = record { within = does.taking.within; free = does.taking.free; clears = does.taking.clears };
+}
+took env mix (GivesNode n) did h h' does = inl record {
+  none = keeps_bits env.geometry did (λ bit l set.
+      subst (λ (op : Op). bit_at (word_after did.old op) bit ≡ 1) (sym does.giving)
+      (set_keeps did.old (map_bit n) bit set));
+  still = λ none. ap (λ (h : Holding). h.node) does.holds;
+}
+took env mix (TakesLock j) did h h' does = inl record {
+  none = on_bucket env mix did j does.on;
+  still = λ none. ap (λ (h : Holding). h.node) does.holds ∙ none;
+}
+took env mix (DropsLock j) did h h' does = inl record {
+  none = on_bucket env mix did j does.on;
+  still = λ none. ap (λ (h : Holding). h.node) does.holds ∙ none;
+}
+took env mix Raises did h h' does = inl record {
+  none = off_map env.geometry did (inl (let on : op_place did.op ≡ 2 = ap op_place does.adds in omega (arith, on)));
+  still = λ none. ap (λ (h : Holding). h.node) does.holds ∙ none;
+}
+took env mix (Links n port j) did h h' does = inl record {
+  none = on_bucket env mix did j does.on;
+  still = λ none. ap (λ (h : Holding). h.node) does.holds;
+}
 
-take_took : (take : TakeNodeModel) (state : TakeNodeAt) (did : Did)
-    → did.op ≡ take_plan_at take.geometry state
-    → IsTakeAtIn take.geometry state
-    → TookAs take.geometry did (take_after_at take state did.old).1
-take_took take (MapWord index) did is range =
-    claim_in-took take did (no_and_as take.geometry did is tt) index (lowest_free take.geometry.nodes index did.old)
-take_took take (Claim index bit) did is range =
-    let g = take.geometry in
-    cond_both (bit_at did.old bit == 1) _ _ (λ (next : TakeNodeModel × Next (Option ℕ)). TookAs g did next.1)
-    (λ t.
-    subst (λ (op : Op). IsTaking g (64 * index + bit) did.old op) (sym is)
-    (claims g index bit did.old range (eqb-true (bit_at did.old bit) 1 t)))
-    (λ f.
-    let lost = claim_lost g index bit did is range.within (eqb-false (bit_at did.old bit) 1 f) in
-    claim_in-took take did lost index (lowest_free g.nodes index (bit_and did.old (bits_above bit))))
+-- ---- what a call has taken
 
--- ---- a bind
-
--- once a new node is taken, it is written by stores alone
-new_no_and : (g : Geometry) (key owner : ℕ) (state : NewNodeAt) → IsSome (node_of_new state)
-    → IsNoAnd (new_node_plan_at g key owner state)
-new_no_and g key owner (news.Taking take) has = absurd (cc)
-new_no_and g key owner (news.Key node) has = tt
-new_no_and g key owner (news.Owner node) has = tt
-new_no_and g key owner (news.ListLink node) has = tt
-
-bind_no_and : (env : Env) (state : BindAt) → IsSome (node_of_bind state) → IsNoAnd (bind_plan_at env state)
-bind_no_and env (at.Filling new) has = new_no_and new.geometry new.key new.owner new.at has
-bind_no_and env (at.CurrentTable node) has = tt
-bind_no_and env (at.Locating node locate) has = locate_no_and locate.geometry locate.table locate.at
-bind_no_and env (at.Probing node table shape probe) has = probe_no_and probe.at
-bind_no_and env (at.FoundOwner claimed found) has = tt
-bind_no_and env (at.Future claimed length) has = tt
-bind_no_and env (at.Count claimed) has = tt
-bind_no_and env (at.Link claimed) has = tt
-bind_no_and env (at.Raise claimed) has = tt
-bind_no_and env (at.Publish node table relink kick) has = relink_no_and relink relink.at
-bind_no_and env (at.Unlocking node table unlock next) has = tt
-bind_no_and env (at.Giving give reply) has = tt
-
--- the steps took the node that the bind has, and none where it has none
+-- the steps took the node that the call holds, and none where it holds none
 abbrev HasTaken : Geometry → Option ℕ → List Did → Type 0
 HasTaken g None steps = TakesNone g steps
 HasTaken g (Some node) steps = TakesOne g node steps
@@ -197,6 +162,90 @@ HasTaken-push : (g : Geometry) (node : Option ℕ) (steps : List Did) (did : Did
     → IsNoTake g did → HasTaken g node (steps ++ did ∷ [])
 HasTaken-push g None steps did taken takes_none = AllByRecursion-push (IsNoTake g) steps did taken takes_none
 HasTaken-push g (Some node) steps did taken takes_none = TakesOne-push g node steps did taken takes_none
+
+module _ (mix : ℕ → ℕ → ℕ → ℕ) (env : Env) (job : Job) (did : Did) (performs : Performs mix env job did) where
+  abbrev after : Holding
+  after = held_next (job_after mix env job did.old)
+
+  took_by : TookNone env.geometry (held_of job) after did ⊎ TookOne env.geometry (held_of job) after did
+  took_by =
+      let step = performs.step in
+      took env mix step.move did (held_of job) after
+      (subst (λ old. Does env mix step.move did.op old (held_of job) after) (sym performs.found) step.does)
+
+  -- a job that holds no node has taken, after its operation, what it holds then
+  took_first : (held_of job).node ≡ None → (steps : List Did) → TakesNone env.geometry steps
+      → HasTaken env.geometry after.node (steps ++ did ∷ [])
+  took_first holds_none steps none = elim took_by [
+    | inl none_now ↦
+        subst (λ node. HasTaken env.geometry node (steps ++ did ∷ [])) (sym (none_now.still holds_none))
+        (AllByRecursion-push (IsNoTake env.geometry) steps did none none_now.none)
+    | inr one_now ↦
+        subst (λ node. HasTaken env.geometry node (steps ++ did ∷ [])) (sym one_now.now)
+        (TakesOne-last env.geometry one_now.node steps did none one_now.takes)
+  ]
+
+  -- and one that holds a node takes none
+  takes_no_more : IsSome (held_of job).node → IsNoTake env.geometry did
+  takes_no_more holds = elim took_by [
+    | inl none_now ↦ none_now.none
+    | inr one_now ↦ absurd (let none = subst IsSome one_now.before holds in cc)
+  ]
+
+-- ---- a look-up
+
+-- it holds no node
+find_holds_none : (state : FindAt) → (held_of_find state).node ≡ None
+find_holds_none find_at.CurrentTable = refl
+find_holds_none (find_at.Locating locate) = refl
+find_holds_none (find_at.Probing table probe) = refl
+find_holds_none (find_at.Future table bucket) = refl
+find_holds_none (find_at.FirstOwner table bucket node) = refl
+find_holds_none (find_at.ListLink table bucket node owner) = refl
+find_holds_none (find_at.LaterOwner table bucket node owner) = refl
+find_holds_none (find_at.Unlocking table unlock next) = refl
+
+-- so it has taken none
+find_took : (g : Geometry) (port : ℕ) (all : List Did) (next : FindAt × Next Reply)
+    → HasTaken g (held_next (finds_next port next)).node all
+    → GoesOrEnds (λ state. TakesNone g all) (λ reply. TakesNone g all) next
+find_took g port all (state, Go) taken = subst (λ node. HasTaken g node all) (find_holds_none state) taken
+find_took g port all (state, Done reply) taken = taken
+
+-- ---- a bind
+
+-- a bind that ends without a node is answered that there was none
+abbrev EndsWithNone : BindAt × Next Reply → Type 0
+EndsWithNone next = GoesOrEnds (λ state. Unit {0}) (λ reply. reply ≡ NoNode) next
+
+taking_ends : (new : NewNodeModel) (take : TakeNodeModel) (next : Next (Option ℕ))
+    → let after = node_taken take next in EndsWithNone (filled (record new { at = after.0 }) after.1)
+taking_ends new take Go = tt
+taking_ends new take (Done None) = refl
+taking_ends new take (Done (Some node)) = tt
+
+filling_ends : (new : NewNodeModel) (state : NewNodeAt) (word : ℕ) → node_of_new state ≡ None
+    → let after = new_node_after_at state word in EndsWithNone (filled (record new { at = after.0 }) after.1)
+filling_ends new (news.Taking take) word none = taking_ends new (take_node_after take word).0 (take_node_after take word).1
+filling_ends new (news.Key node) word none = absurd (cc)
+filling_ends new (news.Owner node) word none = absurd (cc)
+filling_ends new (news.ListLink node) word none = absurd (cc)
+
+module _ (mix : ℕ → ℕ → ℕ → ℕ) (env : Env) (port : ℕ) where
+  bind_ends : (state : BindAt) (word : ℕ) → node_of_bind state ≡ None
+      → EndsWithNone (after_at mix env port state word)
+  bind_ends (at.Filling new) word none = filling_ends new new.at word none
+  bind_ends (at.CurrentTable node) word none = absurd (cc)
+  bind_ends (at.Locating node locate) word none = absurd (cc)
+  bind_ends (at.Probing node table shape probe) word none = absurd (cc)
+  bind_ends (at.FoundOwner claimed found) word none = absurd (cc)
+  bind_ends (at.Future claimed length) word none = absurd (cc)
+  bind_ends (at.Count claimed) word none = absurd (cc)
+  bind_ends (at.Link claimed) word none = absurd (cc)
+  bind_ends (at.Raise claimed) word none = absurd (cc)
+  bind_ends (at.Publish node table relink kick) word none = absurd (cc)
+  bind_ends (at.Unlocking node table unlock next) word none = absurd (cc)
+  bind_ends (at.Giving give reply) word none = absurd (cc)
 
 with_node : (g : Geometry) (node : Option ℕ) (steps : List Did) (reply : Reply) → IsSome node
     → IsReplyWithNode reply
@@ -209,93 +258,74 @@ module _ (mix : ℕ → ℕ → ℕ → ℕ) (env : Env) where
   abbrev g : Geometry
   g = env.geometry
 
-  -- what the steps of a look-up and of a bind have taken so far
-  abbrev FindTakes : FindAt → List Did → Type 0
-  FindTakes state steps = TakesNone g steps
-
-  abbrev BindTakes : BindAt → List Did → Type 0
-  BindTakes state steps = HasTaken g (node_of_bind state) steps
+  -- what is kept of a bind: the reply that it holds is one of a bind with a node, and it has taken the node that it holds
+  record BindTakes (state : BindAt) (steps : List Did) : Type 0 where
+    reply : HoldsBindReply state
+    taken : HasTaken g (node_of_bind state) steps
 
   abbrev JobTakes : Job → List Did → Type 0
-  JobTakes (finds port state) = FindTakes state
-  JobTakes (binds port owner once state) = BindTakes state
+  JobTakes (finds port state) steps = TakesNone g steps
+  JobTakes (binds port owner once state) steps = BindTakes state steps
 
-  -- what a bind has taken once it goes on, and once it has answered
   abbrev BindGoes : List Did → BindAt × Next Reply → Type 0
   BindGoes steps next = GoesOrEnds (λ state. BindTakes state steps) (λ reply. IsTakenBy g reply steps) next
 
-  taking-goes : (new : NewNodeModel) (take : TakeNodeModel) (next : Next (Option ℕ)) (steps : List Did) (did : Did)
-      → TookAs g did next
-      → TakesNone g steps
-      → let after = node_taken take next in
-      BindGoes (steps ++ did ∷ []) (filled (record new { at = after.0 }) after.1)
-  taking-goes new take Go steps did took none = AllByRecursion-push (IsNoTake g) steps did none took
-  taking-goes new take (Done None) steps did took none = AllByRecursion-push (IsNoTake g) steps did none took
-  taking-goes new take (Done (Some node)) steps did took none = TakesOne-last g node steps did none took
+  -- a bind without a node goes on with what it has taken, or ends without
+  bind_took : (port owner : ℕ) (once : Bool) (all : List Did) (next : BindAt × Next Reply)
+      → HasTaken g (held_next (binds_next port owner once next)).node all
+      → GoesOrEnds HoldsBindReply (λ reply. Unit {0}) next → EndsWithNone next → BindGoes all next
+  bind_took port owner once all (state, Go) taken reply ends = record { reply = reply; taken = taken }
+  bind_took port owner once all (state, Done reply) taken holds ends =
+      subst (λ (r : Reply). IsTakenBy g r all) (sym ends) taken
 
-  -- a bind that has its node performs no And, so the node stays the one that it took
-  with_node-goes : (port owner : ℕ) (once : Bool) (state : BindAt) (steps : List Did) (did : Did)
-      → BindDoes env mix port owner once state did
-      → IsSome (node_of_bind state) → BindTakes state steps
-      → BindGoes (steps ++ did ∷ []) (after_at mix env port state did.old)
-  with_node-goes port owner once state steps did does has taken =
-      let all = steps ++ did ∷ [] in
-      let still =
-      HasTaken-push g (node_of_bind state) steps did taken (no_and_as g did does.planned (bind_no_and env state has)) in
-      let So = λ (node : Option ℕ) (reply : Option Reply). HasTaken g node all × IsNoneOrWithNode reply in
-      GoesOrEnds-weaker (HoldsSo So) _ (λ (reply : Reply). So (node_of_bind state) (Some reply)) _ (λ next so. so.0)
-      (λ reply so. with_node g (node_of_bind state) all reply has so.1 so.0)
-      (after_at mix env port state did.old)
-      (bind_after-so So mix env port state did.old has (still, bind_reply_after-with_node mix env port state did.old does.holds))
+  module _ (port owner : ℕ) (once : Bool) (state : BindAt) (steps : List Did) (did : Did)
+      (performs : Performs mix env (binds port owner once state) did) (kept : BindTakes state steps) where
+    abbrev all : List Did
+    all = steps ++ did ∷ []
 
-  -- a new node is taken by the operation with which its taking ends
-  filling-goes : (port owner : ℕ) (once : Bool) (new : NewNodeModel) (state : NewNodeAt) (steps : List Did) (did : Did)
-      → new.at ≡ state → BindDoes env mix port owner once (at.Filling new) did
-      → HasTaken g (node_of_new state) steps
-      → let after = new_node_after_at state did.old in
-      BindGoes (steps ++ did ∷ []) (filled (record new { at = after.0 }) after.1)
-  filling-goes port owner once new (news.Taking take) steps did is does taken =
-      let fits : IsTakeIn env.geometry take = subst (IsNewNodeAtIn env.geometry) is does.within.at_in in
-      let after = take_node_after take did.old in
-      let planned : did.op ≡ take_plan_at take.geometry take.at =
-      does.planned ∙ ap (new_node_plan_at new.geometry new.key new.owner) is in
-      let range = subst (λ (h : Geometry). IsTakeAtIn h take.at) (sym fits.geometry_same) fits.at_in in
-      let took = take_took take take.at did planned range in
-      taking-goes new after.0 after.1 steps did (subst (λ (h : Geometry). TookAs h did after.1) fits.geometry_same took) taken
-  filling-goes port owner once new (news.Key node) steps did is does taken =
-      TakesOne-push g node steps did taken (no_and_as g did (does.planned ∙ ap (new_node_plan_at new.geometry new.key new.owner) is) tt)
-  filling-goes port owner once new (news.Owner node) steps did is does taken =
-      TakesOne-push g node steps did taken (no_and_as g did (does.planned ∙ ap (new_node_plan_at new.geometry new.key new.owner) is) tt)
-  filling-goes port owner once new (news.ListLink node) steps did is does taken =
-      TakesOne-push g node steps did taken (no_and_as g did (does.planned ∙ ap (new_node_plan_at new.geometry new.key new.owner) is) tt)
+    without_node-goes : node_of_bind state ≡ None → BindGoes all (after_at mix env port state did.old)
+    without_node-goes none =
+        let before : TakesNone g steps = subst (λ node. HasTaken g node steps) none kept.taken in
+        let next = after_at mix env port state did.old in
+        bind_took port owner once all next
+        (took_first mix env (binds port owner once state) did performs none steps before)
+        (GoesOrEnds-weaker HoldsBindReply HoldsBindReply _ _ (λ state is. is) (λ reply is. tt) next
+        (bind_after-replies mix env port once state did.old kept.reply))
+        (bind_ends mix env port state did.old none)
 
-  bind-goes : (port owner : ℕ) (once : Bool) (state : BindAt) (steps : List Did) (did : Did)
-      → BindDoes env mix port owner once state did
-      → BindTakes state steps
-      → BindGoes (steps ++ did ∷ []) (after_at mix env port state did.old)
-  bind-goes port owner once (at.Filling new) steps did does taken =
-      filling-goes port owner once new new.at steps did refl does taken
-  bind-goes port owner once state steps did does taken = with_node-goes port owner once state steps did does refl taken
+    -- one that has its node goes on with it
+    with_node-goes : IsSome (node_of_bind state) → BindGoes all (after_at mix env port state did.old)
+    with_node-goes has =
+        let no_more = takes_no_more mix env (binds port owner once state) did performs has in
+        let still = HasTaken-push g (node_of_bind state) steps did kept.taken no_more in
+        let So = λ (node : Option ℕ) (reply : Option Reply). HasTaken g node all × IsNoneOrWithNode reply in
+        GoesOrEnds-weaker (HoldsSo So) (λ next. BindTakes next all) (λ reply. So (node_of_bind state) (Some reply)) _
+        (λ next so. record { reply = so.1; taken = so.0 })
+        (λ reply so. with_node g (node_of_bind state) all reply has so.1 so.0)
+        (after_at mix env port state did.old)
+        (bind_after-so So mix env port state did.old has
+        (still, bind_reply_after-with_node mix env port state did.old kept.reply))
 
-  -- a look-up takes none
-  find-goes : (port : ℕ) (state : FindAt) (steps : List Did) (did : Did) → FindDoes env state did
-      → TakesNone g steps
-      → GoesOrEnds (λ next. TakesNone g (steps ++ did ∷ [])) (λ reply. TakesNone g (steps ++ did ∷ [])) (find_after_at mix env port state did.old)
-  find-goes port state steps did does none =
-      let still =
-      AllByRecursion-push (IsNoTake g) steps did none (no_and_as g did does.planned (find_no_and env state)) in
-      GoesOrEnds-weaker HoldsFindReply _ IsFindReply _ (λ next holds. still) (λ reply is. still) (find_after_at mix env port state did.old)
-      (find_after-replies mix env port state did.old does.holds)
+    bind-goes : BindGoes all (after_at mix env port state did.old)
+    bind-goes = by_node (node_of_bind state) refl
+      where
+        by_node : (node : Option ℕ) → node_of_bind state ≡ node → BindGoes all (after_at mix env port state did.old)
+        by_node None is = without_node-goes is
+        by_node (Some node) is = with_node-goes (rw is refl)
 
 -- ---- runs
 
 pub taken_alone : (M : Type 0) (mix : ℕ → ℕ → ℕ → ℕ) → TakenAlone M mix
 taken_alone M mix env events admitted c =
-    calls_keep M mix env (JobTakes mix env) (λ call ending. IsTakenIn env.geometry call ending.answer.reply)
+    let Ended = λ (call : Call) (ending : Ending). IsTakenIn env.geometry call ending.answer.reply in
+    (jobs_keep M mix env (JobTakes mix env) Ended
+    (by_machines M mix env (JobTakes mix env) Ended
     record {
       find_begins = λ port. tt;
-      bind_begins = λ port owner once. tt;
-      find_goes = find-goes mix env;
+      bind_begins = λ port owner once. record { reply = tt; taken = tt };
+      find_goes = λ port state steps did performs none.
+          find_took env.geometry port (steps ++ did ∷ []) (find_after_at mix env port state did.old)
+          (took_first mix env (finds port state) did performs (find_holds_none state) steps none);
       bind_goes = bind-goes mix env;
-    }
-    events c admitted
+    })
+    events c admitted).past

@@ -1,18 +1,18 @@
 -- What holds of every run.
-use Rattle.std.specs.Prelude.{◌≡◌, ◌≢◌, ℕ, ◌+◌, ◌≤◌, ◌⊎◌, List, [], ◌∷◌, ◌++◌, length, map, take, Option, Some, IfSome}
+use Rattle.std.specs.Prelude.{◌≡◌, ℕ, ◌+◌, ◌<◌, ◌≤◌, ◌⊎◌, List, [], ◌∷◌, ◌++◌, length, map, take, Option, Some, IfSome}
 use Rattle.std.specs.List.{AllByRecursion, slice_get}
 use Rattle.std.specs.Int.{bit_at}
 use Rattle.rht_words.specs.declared.op.Op.{Op}
 use Rattle.rht_words.specs.declared.env.Env.{Env}
 use Rattle.rht_words.specs.declared.geometry.Geometry.{Geometry}
-use Rattle.rht_words.specs.Operations.{old_of}
+use Rattle.rht_words.specs.Operations.{op_place, old_of, word_after}
 use Rattle.rht_words.specs.Places.{EnrolledCallers, word_at}
 use Rattle.rht_words.specs.Planned.{IsWord, IsPlannedIn}
-use Rattle.rht_arena.specs.Laws.{map_bit, claim_of, IsTaking}
+use Rattle.rht_arena.specs.Laws.{map_place, map_bit, ChangesBit}
 use Rattle.rht_find.specs.Find.{IsFindIn}
 use Rattle.rht_bind.specs.Bind.{IsBindIn}
 use Rattle.rht_model.specs.declared.history.Call.{Call}
-use Rattle.rht_model.specs.declared.history.Call.TheVariants.{Bind}
+use Rattle.rht_model.specs.declared.history.Call.TheVariants.{Bind, Find, All, Release, Rebind, Walk, Work, Tidy, Count}
 use Rattle.rht_model.specs.declared.history.Reply.{Reply}
 use Rattle.rht_model.specs.declared.history.Reply.TheVariants.{NoNode}
 use Rattle.rht_core.specs.declared.book.Book.{Book}
@@ -76,9 +76,22 @@ pub record IsInProgress (events : List Event) (c : ℕ) (trace : Trace) (call : 
 
 -- ---- nodes
 
--- the step takes no node: it clears no node's bit that was set
+-- the operation, whichever it is, is on the word with the node's bit, finds that bit set, and leaves it clear
+pub record ClearsBitOf (g : Geometry) (node : ℕ) (did : Did) : Type 0 where
+  pub within : node < g.nodes
+  pub place : op_place did.op ≡ map_place g node
+  pub free : bit_at did.old (map_bit node) ≡ 1
+  pub taken : bit_at (word_after did.old did.op) (map_bit node) ≡ 0
+
+-- the step takes no node: it clears the set bit of none
 abbrev pub IsNoTake : Geometry → Did → Type 0
-IsNoTake g did = (node : ℕ) → did.op ≡ claim_of g node → bit_at did.old (map_bit node) ≢ 1
+IsNoTake g did = (node : ℕ) → ClearsBitOf g node did → ⊥
+
+-- the step takes this node: it clears the node's bit, which was set, and leaves the other bits of the word as they were
+pub record IsTakeOf (g : Geometry) (node : ℕ) (did : Did) : Type 0 where
+  pub within : node < g.nodes
+  pub free : bit_at did.old (map_bit node) ≡ 1
+  pub clears : ChangesBit g node 0 did.old did.op
 
 -- none of the steps takes a node
 abbrev pub TakesNone : Geometry → List Did → Type 0
@@ -88,21 +101,28 @@ TakesNone g steps = AllByRecursion (IsNoTake g) steps
 abbrev pub TakesOne : Geometry → ℕ → List Did → Type 0
 TakesOne g node [] = ⊥
 TakesOne g node (did ∷ steps) =
-    (IsTaking g node did.old did.op × TakesNone g steps) ⊎ (IsNoTake g did × TakesOne g node steps)
+    (IsTakeOf g node did × TakesNone g steps) ⊎ (IsNoTake g did × TakesOne g node steps)
 
 -- one of the steps takes one of the nodes, and no other one takes any
 abbrev pub TakesOneOf : Geometry → List Did → Type 0
 TakesOneOf g steps = (node : ℕ) × TakesOne g node steps
 
--- a bind with this reply has taken one node; `NoNode` says that it has taken none
+-- a call that needs a node, with this reply, has taken one; `NoNode` says that it has taken none
 abbrev pub IsTakenBy : Geometry → Reply → List Did → Type 0
 IsTakenBy g NoNode steps = TakesNone g steps
 IsTakenBy g _ steps = TakesOneOf g steps
 
--- and no other call takes one
+-- a bind and a rebind need a node, and no other call takes one
 abbrev pub IsTakenIn : Geometry → Call → Reply → List Did → Type 0
 IsTakenIn g (Bind port owner once) reply steps = IsTakenBy g reply steps
-IsTakenIn g _ reply steps = TakesNone g steps
+IsTakenIn g (Find port) reply steps = TakesNone g steps
+IsTakenIn g (All port) reply steps = TakesNone g steps
+IsTakenIn g (Release port owner) reply steps = TakesNone g steps
+IsTakenIn g (Rebind port owner new) reply steps = IsTakenBy g reply steps
+IsTakenIn g (Walk from limit) reply steps = TakesNone g steps
+IsTakenIn g Work reply steps = TakesNone g steps
+IsTakenIn g Tidy reply steps = TakesNone g steps
+IsTakenIn g Count reply steps = TakesNone g steps
 
 -- ---- the laws
 
@@ -225,7 +245,8 @@ module _ (M : Type 0) (mix : ℕ → ℕ → ℕ → ℕ) where
       → IsRecorded env events c did
       → IsStepOfOne ((traced_of {M = M} mix env events).traces c) (calls_ended env (take did.index events) c) did
 
-  -- in every run a bind that has ended took one node, but for one that was answered that there was none
+  -- in every run a bind or a rebind that has ended took one node, but for one that was answered that there was none, and
+  -- no other call took one
   abbrev pub TakenAlone : Type 0
   TakenAlone =
       (env : Env) (events : List Event) → IsAdmitted env.config.kind events

@@ -73,9 +73,11 @@ pub fn all_steps_traced<M: Mix>()
     ensures { AllStepsTraced M M.mix_of }
 {}
 
-/// In every run a bind that has ended took exactly one of the nodes, which was free when it took it,
-/// and none where it was answered `NoNode`; a look-up took none. It doesn't say that nobody else has
-/// that node, nor that it was given back.
+/// In every run a bind or a rebind that has ended took exactly one of the nodes, and none where it was
+/// answered `NoNode`; any other call took none. To take a node is to clear its bit, which was set: no
+/// other operation of the call, whichever it is, clears a bit of any node that it finds set, and the one
+/// that does leaves all other bits of its word. It doesn't say that nobody else has that node, nor that
+/// it was given back.
 pub fn taken_alone<M: Mix>()
     ensures { TakenAlone M M.mix_of }
 {}
