@@ -22,8 +22,10 @@ use Rattle.rht_words.specs.Places.{PortCount, place_of}
 use Rattle.rht_words.proofs.EachElement.{Any-append_left}
 use Rattle.rht_policy.specs.Sizes.{most_ports}
 use Rattle.rht_policy.specs.Thresholds.{is_above_max}
+use Rattle.rht_model.specs.declared.history.Call.{Call}
+use Rattle.rht_model.specs.declared.history.Call.TheVariants.{Bind, Find, All, Release, Rebind, Walk, Work, Tidy, Count}
 use Rattle.rht_model.specs.declared.history.Reply.{Reply}
-use Rattle.rht_model.specs.declared.history.Reply.TheVariants.{NoNode, TooBig, Found, Missing, Again, Busy, NoTable}
+use Rattle.rht_model.specs.declared.history.Reply.TheVariants.{Bound, Exists, Found, Missing, Listed, Released, Absent, Rebound, TooBig, Again, Busy, NoTable, NoNode, Pending, Elsewhere, Walked, Moved, Idle, Clear, Counted}
 use Rattle.rht_arena.specs.TakeNode.{TakeNodeModel, take_node_after, IsTakeAtIn, IsTakeIn}
 use Rattle.rht_arena.specs.NewNode.{NewNodeModel, new_node_plan_at, new_node_after_at, node_taken, node_of_new, IsNewNodeAtIn}
 use Rattle.rht_arena.specs.declared.new_node.NewNodeAt.{NewNodeAt}
@@ -46,7 +48,7 @@ use Rattle.rht_core.specs.Replies.{IsFindReply}
 use Rattle.rht_core.specs.Traces.{Did, Past, performed_of, traced_of}
 use Rattle.rht_core.specs.Runs.{IsAdmitted}
 use Rattle.rht_core.specs.Laws.{IsRecorded, IsPastCall}
-use Rattle.rht_core.specs.Causes.{SawFull, HasCauseIn, HasCause, Causes}
+use Rattle.rht_core.specs.Causes.{FindCause, SawFull, BindCause, CauseOf, HasCause, Causes}
 use Rattle.rht_words.specs.Machines.{GoesOrEnds}
 use Rattle.rht_words.proofs.MachineRuns.{GoesOrEnds-weaker}
 use Rattle.rht_core.proofs.HeldByBinds.{node_of_bind, reply_of_bind, no_table_reply, published_reply, bind_reply_after, HoldsSo, bind_after-so}
@@ -68,14 +70,40 @@ module _ (env : Env) where
     pub found : did.old ≡ count
     pub full : most_ports env.config.max ≤ count
 
-  -- what the operations of a call saw for it to have this reply
+  -- what the operations of a bind saw for it to have this reply
   abbrev pub SawFor : Reply → List Did → Type 0
   SawFor NoNode steps = SawAllBelow env.geometry env.geometry.nodes (map performed_of steps)
   SawFor (TooBig count) steps = Any (LoadedFull count) steps
+  SawFor (Bound kick) steps = Unit {0}
+  SawFor (Exists owner) steps = Unit {0}
   SawFor (Again table) steps = ⊥
   SawFor (Busy root last) steps = ⊥
   SawFor (NoTable size) steps = ⊥
-  SawFor _ steps = Unit {0}
+  SawFor (Found owner) steps = ⊥
+  SawFor Missing steps = ⊥
+  SawFor (Listed len) steps = ⊥
+  SawFor (Released kick) steps = ⊥
+  SawFor Absent steps = ⊥
+  SawFor Rebound steps = ⊥
+  SawFor (Pending caller section) steps = ⊥
+  SawFor Elsewhere steps = ⊥
+  SawFor (Walked len next) steps = ⊥
+  SawFor (Moved again) steps = ⊥
+  SawFor Idle steps = ⊥
+  SawFor (Clear returned) steps = ⊥
+  SawFor (Counted count) steps = ⊥
+
+  -- and for any call to have it
+  abbrev pub SawOf : Call → Reply → List Did → Type 0
+  SawOf (Bind port owner once) reply steps = SawFor reply steps
+  SawOf (Find port) reply steps = FindCause reply
+  SawOf (All port) reply steps = ⊥
+  SawOf (Release port owner) reply steps = ⊥
+  SawOf (Rebind port owner new) reply steps = ⊥
+  SawOf (Walk from limit) reply steps = ⊥
+  SawOf Work reply steps = ⊥
+  SawOf Tidy reply steps = ⊥
+  SawOf Count reply steps = ⊥
 
   abbrev SawForReply : Option Reply → List Did → Type 0
   SawForReply reply steps = IfSome reply (λ r. SawFor r steps)
@@ -117,10 +145,24 @@ module _ (env : Env) where
       subst (SawAllBelow env.geometry env.geometry.nodes) (sym (map-append performed_of steps (did ∷ [])))
       (SawAllBelow-push env.geometry env.geometry.nodes before (performed_of did) saw)
   SawFor-push (TooBig count) steps did saw = Any-append_left (LoadedFull count) steps (did ∷ []) saw
+  SawFor-push (Bound kick) steps did saw = saw
+  SawFor-push (Exists owner) steps did saw = saw
   SawFor-push (Again table) steps did saw = saw
   SawFor-push (Busy root last) steps did saw = saw
   SawFor-push (NoTable size) steps did saw = saw
-  SawFor-push _ steps did saw = tt
+  SawFor-push (Found owner) steps did saw = saw
+  SawFor-push Missing steps did saw = saw
+  SawFor-push (Listed len) steps did saw = saw
+  SawFor-push (Released kick) steps did saw = saw
+  SawFor-push Absent steps did saw = saw
+  SawFor-push Rebound steps did saw = saw
+  SawFor-push (Pending caller section) steps did saw = saw
+  SawFor-push Elsewhere steps did saw = saw
+  SawFor-push (Walked len next) steps did saw = saw
+  SawFor-push (Moved again) steps did saw = saw
+  SawFor-push Idle steps did saw = saw
+  SawFor-push (Clear returned) steps did saw = saw
+  SawFor-push (Counted count) steps did saw = saw
 
   -- ---- an operation of a bind
 
@@ -249,18 +291,16 @@ module _ (env : Env) where
     bind-saw (at.Filling new) steps did does saw = new-saw new new.at steps did refl does saw
     bind-saw state steps did does saw = with_node-saw state steps did does refl saw
 
-  -- of a look-up's replies nothing is said
-  find_reply-saw : (reply : Reply) (steps : List Did) → IsFindReply reply → SawFor reply steps
-  find_reply-saw (Found owner) steps is = tt
-  find_reply-saw Missing steps is = tt
-  find_reply-saw _ steps is = absurd is
+  -- a look-up has nothing to show for its answers
+  find_reply-saw : (reply : Reply) → IsFindReply reply → FindCause reply
+  find_reply-saw (Found owner) is = tt
+  find_reply-saw Missing is = tt
+  find_reply-saw _ is = absurd is
 
-  find-saw : (mix : ℕ → ℕ → ℕ → ℕ) (port : ℕ) (state : FindAt) (steps : List Did) (did : Did)
-      → FindDoes env state did
-      → GoesOrEnds (λ next. Unit {0}) (λ reply. SawFor reply (steps ++ did ∷ [])) (find_after_at mix env port state did.old)
-  find-saw mix port state steps did does =
-      GoesOrEnds-weaker HoldsFindReply _ IsFindReply _ (λ next holds. tt)
-      (λ reply is. find_reply-saw reply (steps ++ did ∷ []) is)
+  find-saw : (mix : ℕ → ℕ → ℕ → ℕ) (port : ℕ) (state : FindAt) (did : Did) → FindDoes env state did
+      → GoesOrEnds (λ next. Unit {0}) FindCause (find_after_at mix env port state did.old)
+  find-saw mix port state did does =
+      GoesOrEnds-weaker HoldsFindReply _ IsFindReply FindCause (λ next holds. tt) find_reply-saw
       (find_after_at mix env port state did.old)
       (find_after-replies mix env port state did.old does.holds)
 
@@ -269,13 +309,13 @@ module _ (env : Env) where
 module _ (M : Type 0) (mix : ℕ → ℕ → ℕ → ℕ) (env : Env) where
   -- what the operations of each call that has ended have seen; below the first node there is none
   past-saw : (events : List Event) (c : ℕ) → IsAdmitted env.config.kind events
-      → AllByRecursion (λ (past : Past). SawFor env past.done.reply past.steps) ((traced_of {M = M} mix env events).traces c).past
+      → AllByRecursion (λ (past : Past). SawOf env past.done.call past.done.reply past.steps) ((traced_of {M = M} mix env events).traces c).past
   past-saw events c admitted =
-      calls_keep M mix env (JobSaw env) (λ call ending. SawFor env ending.answer.reply)
+      calls_keep M mix env (JobSaw env) (λ call ending. SawOf env call ending.answer.reply)
       record {
         find_begins = λ port. tt;
         bind_begins = λ port owner once node l. absurd (omega arith);
-        find_goes = λ port state steps did does saw. find-saw env mix port state steps did does;
+        find_goes = λ port state steps did does saw. find-saw env mix port state did does;
         bind_goes = bind-saw env mix;
       }
       events c admitted
@@ -303,23 +343,48 @@ module _ (M : Type 0) (mix : ℕ → ℕ → ℕ → ℕ) (env : Env) where
           },
         )
 
-    cause_of : (reply : Reply) (steps : List Did) → SawFor env reply steps
-        → AllByRecursion IsRecordedHere steps
-        → HasCauseIn M mix env events c reply steps
-    cause_of NoNode steps saw recorded = saw
-    cause_of (TooBig count) steps saw recorded = full-saw count steps recorded saw
-    cause_of (Again table) steps saw recorded = saw
-    cause_of (Busy root last) steps saw recorded = saw
-    cause_of (NoTable size) steps saw recorded = saw
-    cause_of _ steps saw recorded = tt
+    bind-cause : (past : Past) (reply : Reply) → SawFor env reply past.steps → AllByRecursion IsRecordedHere past.steps
+        → BindCause M mix env events c past reply
+    bind-cause past (Bound kick) saw recorded = saw
+    bind-cause past (Exists owner) saw recorded = saw
+    bind-cause past NoNode saw recorded = saw
+    bind-cause past (TooBig count) saw recorded = full-saw count past.steps recorded saw
+    bind-cause past (Again table) saw recorded = saw
+    bind-cause past (Busy root last) saw recorded = saw
+    bind-cause past (NoTable size) saw recorded = saw
+    bind-cause past (Found owner) saw recorded = saw
+    bind-cause past Missing saw recorded = saw
+    bind-cause past (Listed len) saw recorded = saw
+    bind-cause past (Released kick) saw recorded = saw
+    bind-cause past Absent saw recorded = saw
+    bind-cause past Rebound saw recorded = saw
+    bind-cause past (Pending caller section) saw recorded = saw
+    bind-cause past Elsewhere saw recorded = saw
+    bind-cause past (Walked len next) saw recorded = saw
+    bind-cause past (Moved again) saw recorded = saw
+    bind-cause past Idle saw recorded = saw
+    bind-cause past (Clear returned) saw recorded = saw
+    bind-cause past (Counted count) saw recorded = saw
+
+    cause_of : (past : Past) (call : Call) (reply : Reply) → SawOf env call reply past.steps
+        → AllByRecursion IsRecordedHere past.steps → CauseOf M mix env events c past call reply
+    cause_of past (Bind port owner once) reply saw recorded = bind-cause past reply saw recorded
+    cause_of past (Find port) reply saw recorded = saw
+    cause_of past (All port) reply saw recorded = saw
+    cause_of past (Release port owner) reply saw recorded = saw
+    cause_of past (Rebind port owner new) reply saw recorded = saw
+    cause_of past (Walk from limit) reply saw recorded = saw
+    cause_of past Work reply saw recorded = saw
+    cause_of past Tidy reply saw recorded = saw
+    cause_of past Count reply saw recorded = saw
 
     all_caused : (calls : List Past)
-        → AllByRecursion (λ (past : Past). SawFor env past.done.reply past.steps) calls
+        → AllByRecursion (λ (past : Past). SawOf env past.done.call past.done.reply past.steps) calls
         → AllByRecursion (IsPastCall M mix env events c) calls
         → AllByRecursion (HasCause M mix env events c) calls
     all_caused [] saw were = tt
     all_caused (past ∷ calls) saw were =
-        (cause_of past.done.reply past.steps saw.0 were.0.steps, all_caused calls saw.1 were.1)
+        (cause_of past past.done.call past.done.reply saw.0 were.0.steps, all_caused calls saw.1 were.1)
 
 pub causes : (M : Type 0) (mix : ℕ → ℕ → ℕ → ℕ) → Causes M mix
 causes M mix env events c admitted =

@@ -80,12 +80,13 @@ pub fn taken_alone<M: Mix>()
     ensures { TakenAlone M M.mix_of }
 {}
 
-/// In every run a call that was refused for want of nodes or of room has its cause in its own
-/// operations. One that was answered `NoNode` found the bit of each node clear, each at some event of
-/// its own. One that was answered `TooBig` loaded that count, which is as many ports as the table may
-/// hold or more, and there the ports bound and the other callers in mid-call were at least so many.
-/// It doesn't say that all nodes were taken at one event, or that so many ports were bound, and it
-/// says nothing of the other replies.
+/// In every run each call that has ended has the cause of its reply, by a table of calls and replies
+/// over the call's own operations. A bind that was answered `NoNode` found the bit of each node clear,
+/// each at some event of its own. One that was answered `TooBig` loaded that count, which is as many
+/// ports as the table may hold or more, and there the ports bound and the other callers in mid-call
+/// were at least so many. `Bound` and `Exists` of a bind, `Found` and `Missing` of a look-up have
+/// nothing to show here; no other reply of these calls comes, and no other call ends yet. It doesn't
+/// say that all nodes were taken at one event, or that so many ports were bound.
 pub fn causes<M: Mix>()
     ensures { Causes M M.mix_of }
 {}
