@@ -19,6 +19,7 @@ use Rattle.rht_core.proofs.Events.Invariants.{Inv, idle_knows}
 use Rattle.rht_core.proofs.Events.InvariantRuns.{has_inv}
 use Rattle.rht_core.proofs.Meaning.BoundPorts.{first_bound}
 use Rattle.rht_core.proofs.Counting.CountedPorts.{firsts-AreAllBound}
+use Rattle.rht_core.proofs.Counting.CountedNodes.{count_few}
 use Rattle.rht_core.proofs.FullTables.{raises}
 
 module _ (env : Env) (mix : ℕ → ℕ → ℕ → ℕ) (words : List ℕ) (G : Ghost)
@@ -71,6 +72,7 @@ module _ (M : Type 0) (mix : ℕ → ℕ → ℕ → ℕ) where
         all_bound = firsts-AreAllBound env mix core.words has.ghost has.inv.whole;
         counted =
             has.inv.whole.counted ∙ ap (λ r. firsts env mix has.ghost + r) (sym (raising-raisers env core has.ghost has.inv));
+        few = count_few env mix M core has.ghost has.inv;
       }
 
   pub at_rest : AtRest M mix

@@ -63,7 +63,7 @@ module _ (mix : ℕ → ℕ → ℕ → ℕ) (env : Env) where
 -- ---- who loads has raised none
 
 -- a look-up raises none
-find_raises : (state : FindAt) → (held_of_find state).raised ≡ false
+pub find_raises : (state : FindAt) → (held_of_find state).raised ≡ false
 find_raises find_at.CurrentTable = refl
 find_raises (find_at.Locating locate) = refl
 find_raises (find_at.Probing table probe) = refl

@@ -1,5 +1,5 @@
 -- What the count of ports counts, and what a table is like while nobody is in a call.
-use Rattle.std.specs.Prelude.{◌≡◌, ℕ, ◌+◌, ◌*◌, ◌/◌, ◌%◌, ◌<◌, ◌⊎◌, Bool, false, Option, Some, None, List, count_by}
+use Rattle.std.specs.Prelude.{◌≡◌, ℕ, ◌+◌, ◌*◌, ◌/◌, ◌%◌, ◌<◌, ◌≤◌, ◌⊎◌, Bool, false, Option, Some, None, List, count_by}
 use Rattle.std.specs.List.{range_with_len}
 use Rattle.std.specs.Int.{bit_at}
 use Rattle.rht_words.specs.declared.env.Env.{Env}
@@ -25,11 +25,13 @@ is_raising doing = raised_by (job_of doing)
 abbrev pub raising : {M : Type 0} → Core M → ℕ
 raising core = count_by (λ c. is_raising (local_of core c).doing) (range_with_len 0 core.env.geometry.callers)
 
--- the count of ports is the number of ports bound, and of the callers that have raised it for a node that they haven't linked yet
+-- the count of ports is the number of ports bound, and of the callers that have raised it for a node that they haven't linked
+-- yet; and it is at most the nodes
 pub record IsCounted {M : Type 0} (env : Env) (core : Core M) : Type 0 where
   pub bound : ℕ
   pub all_bound : AreAllBound (stands_for env.geometry core.words) bound
   pub counted : word_at env.geometry core.words PortCount ≡ bound + raising core
+  pub few : word_at env.geometry core.words PortCount ≤ env.geometry.nodes
 
 -- the node's bit is set
 abbrev pub IsFree : Geometry → List ℕ → ℕ → Type 0

@@ -101,8 +101,8 @@ pub fn alone<M: Mix>()
 {}
 
 /// In every run the count of ports is the number of ports that are bound, and of the callers that have
-/// raised it for a node which they link next. So it is never too low. It doesn't say which ports they
-/// are.
+/// raised it for a node which they link next. So it is never too low. And it is at most the number of
+/// nodes, since each such caller has a node of its own. It doesn't say which ports they are.
 pub fn counted<M: Mix>()
     ensures { Counted M M.mix_of }
 {}
