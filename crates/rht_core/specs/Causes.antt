@@ -1,11 +1,14 @@
 -- Why calls were answered as they were: a table of causes, by call and by reply, over the call's own operations.
 -- Each row says what the operations of a call that ended with this reply have to show. A row with nothing to show says so; a
 -- row that no call meets yet, and each reply that isn't one of the call's, can have no cause.
-use Rattle.std.specs.Prelude.{◌≡◌, ℕ, ◌+◌, ◌<◌, ◌≤◌, ◌==◌, ◌&&◌, not, List, map, take, count_by}
+use Rattle.std.specs.Prelude.{◌≡◌, ◌≢◌, ℕ, ◌+◌, ◌<◌, ◌≤◌, ◌==◌, ◌&&◌, not, Bool, List, ◌∷◌, ◌++◌, map, take, count_by}
 use Rattle.std.specs.List.{AllByRecursion, Any, range_with_len}
-use Rattle.rht_words.specs.declared.op.Op.TheVariants.{Load}
+use Rattle.rht_words.specs.declared.op.Op.TheVariants.{Load, Add}
 use Rattle.rht_words.specs.declared.env.Env.{Env}
-use Rattle.rht_words.specs.Places.{PortCount, place_of}
+use Rattle.rht_words.specs.declared.geometry.Geometry.{Geometry}
+use Rattle.rht_words.specs.Places.{PortCount, Slot, ShapeWord, place_of}
+use Rattle.rht_words.specs.Shapes.{unpacked, size_of}
+use Rattle.rht_policy.specs.Thresholds.{is_above_75}
 use Rattle.rht_policy.specs.Sizes.{most_ports}
 use Rattle.rht_model.specs.declared.history.Call.{Call}
 use Rattle.rht_model.specs.declared.history.Call.TheVariants.{Bind, Find, All, Release, Rebind, Walk, Work, Tidy, Count}
@@ -46,6 +49,33 @@ FindCause Idle = ⊥
 FindCause (Clear returned) = ⊥
 FindCause (Counted count) = ⊥
 
+-- the operation doesn't load the shape of a table
+abbrev pub IsNoShapeLoad : Geometry → Did → Type 0
+IsNoShapeLoad g did = (table : ℕ) → table < 8 → did.op ≢ Load (place_of g (Slot table ShapeWord))
+
+-- the last table of which these operations loaded the shape is that of this slot, and this shape was found
+pub record LastWalked (g : Geometry) (table shape : ℕ) (steps : List Did) : Type 0 where
+  pub before : List Did
+  pub at : Did
+  pub behind : List Did
+  pub split : steps ≡ before ++ at ∷ behind
+  pub table_in : table < 8
+  pub loaded : at.op ≡ Load (place_of g (Slot table ShapeWord))
+  pub found : at.old ≡ shape
+  pub last : AllByRecursion (IsNoShapeLoad g) behind
+
+-- the operation raised the count of ports, and a table of this shape is due to grow by the raised count exactly where this says so
+pub record IsDueBy (env : Env) (shape : ℕ) (due : Bool) (did : Did) : Type 0 where
+  pub raised : did.op ≡ Add (place_of env.geometry PortCount) 1
+  pub by_count : due ≡ is_above_75 (did.old + 1) (size_of (unpacked shape)) env.config.max
+
+-- behind the last table that it walked a bind raised the count, and says whether that table is due to grow
+pub record KicksRightly (env : Env) (kick : Bool) (steps : List Did) : Type 0 where
+  pub table : ℕ
+  pub shape : ℕ
+  pub walked : LastWalked env.geometry table shape steps
+  pub counted : Any (IsDueBy env shape kick) walked.behind
+
 module _ (M : Type 0) (mix : ℕ → ℕ → ℕ → ℕ) where
   -- at the event of this operation, the ports bound and the other callers in mid-call were at least so many
   pub record CountedAt (env : Env) (events : List Event) (c count : ℕ) (did : Did) : Type 0 where
@@ -62,7 +92,7 @@ module _ (M : Type 0) (mix : ℕ → ℕ → ℕ → ℕ) where
 
   -- why a bind ended with this reply; the refusals of a table that grows have no cause yet
   abbrev pub BindCause : Env → List Event → ℕ → Past → Reply → Type 0
-  BindCause env events c past (Bound kick) = Unit {0}
+  BindCause env events c past (Bound kick) = KicksRightly env kick past.steps
   BindCause env events c past (Exists owner) = Unit {0}
   BindCause env events c past NoNode =
       (node : ℕ) → node < env.geometry.nodes → Any (SeesTaken env.geometry node) (map performed_of past.steps)

@@ -84,9 +84,12 @@ pub fn taken_alone<M: Mix>()
 /// over the call's own operations. A bind that was answered `NoNode` found the bit of each node clear,
 /// each at some event of its own. One that was answered `TooBig` loaded that count, which is as many
 /// ports as the table may hold or more, and there the ports bound and the other callers in mid-call
-/// were at least so many. `Bound` and `Exists` of a bind, `Found` and `Missing` of a look-up have
-/// nothing to show here; no other reply of these calls comes, and no other call ends yet. It doesn't
-/// say that all nodes were taken at one event, or that so many ports were bound.
+/// were at least so many. One that was answered `Bound` raised the count behind the last table that it
+/// walked, and `kick` says whether the raised count is above three quarters of that table's size, and
+/// the table may grow: no limit on the count comes in between. `Exists` of a bind, `Found` and
+/// `Missing` of a look-up have nothing to show here; no other reply of these calls comes, and no other
+/// call ends yet. It doesn't say that all nodes were taken at one event, or that so many ports were
+/// bound, or in which table a bind's node was linked.
 pub fn causes<M: Mix>()
     ensures { Causes M M.mix_of }
 {}
