@@ -4,3 +4,5 @@ pub mod CountedPorts
 pub mod RaisedNodes
 -- so the count of ports is at most the nodes
 pub mod CountedNodes
+-- so far no call takes a node out of a port's list
+pub mod NodesOut

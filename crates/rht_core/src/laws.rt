@@ -110,9 +110,12 @@ pub fn counted<M: Mix>()
     ensures { Counted M M.mix_of }
 {}
 
-/// In every run, while nobody is in a call, no bucket is locked, each node is free or the first one of
-/// a port and never both, and the count is the number of ports that are bound. It doesn't say that
-/// such a moment comes.
+/// In every run, while nobody is in a call, no bucket of a table in force is locked; each node is free,
+/// in the list of a port, or out, and never two of these; those that are out are as many as the calls
+/// that were answered `Released` or `Rebound`, each of which took one out; in a table of one owner for
+/// each port no list has a second node; and the count is the number of ports that are bound. So a bind
+/// that is refused, or finds its port bound, has given its node back. It doesn't say that such a moment
+/// comes, and nothing of words that are no bucket's.
 pub fn at_rest<M: Mix>()
     ensures { AtRest M M.mix_of }
 {}
