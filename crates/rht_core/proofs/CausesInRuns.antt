@@ -28,9 +28,9 @@ use Rattle.rht_policy.specs.Thresholds.{is_above_75, is_above_max}
 use Rattle.rht_words.specs.Shapes.{unpacked, size_of}
 use Rattle.rht_words.specs.Links.{slot_of}
 use Rattle.rht_model.specs.declared.history.Call.{Call}
-use Rattle.rht_model.specs.declared.history.Call.TheVariants.{Bind, Find, All, Release, Rebind, Walk, Work, Tidy, Count}
+use Rattle.rht_model.specs.declared.history.Call.TheVariants.{Bind, Find}
 use Rattle.rht_model.specs.declared.history.Reply.{Reply}
-use Rattle.rht_model.specs.declared.history.Reply.TheVariants.{Bound, Exists, Found, Missing, Listed, Released, Absent, Rebound, TooBig, Again, Busy, NoTable, NoNode, Pending, Elsewhere, Walked, Moved, Idle, Clear, Counted}
+use Rattle.rht_model.specs.declared.history.Reply.TheVariants.{Bound, Exists, Found, Missing, TooBig, NoNode}
 use Rattle.rht_arena.specs.TakeNode.{TakeNodeModel, take_node_after, IsTakeAtIn, IsTakeIn}
 use Rattle.rht_arena.specs.NewNode.{NewNodeModel, new_node_plan_at, new_node_after_at, node_taken, IsNewNodeAtIn}
 use Rattle.rht_arena.specs.declared.new_node.NewNodeAt.{NewNodeAt}
@@ -94,40 +94,19 @@ module _ (env : Env) where
     pub walked : LastWalked env.geometry table shape steps
     pub counted : Any (RaisedBy shape kick) walked.behind
 
-  -- what the operations of a bind saw for it to have this reply
+  -- what the operations of a bind saw for it to have this reply; nothing can be seen for a reply that it never has
   abbrev pub SawFor : Reply → List Did → Type 0
   SawFor NoNode steps = SawAllBelow env.geometry env.geometry.nodes (map performed_of steps)
   SawFor (TooBig count) steps = Any (LoadedFull count) steps
   SawFor (Bound kick) steps = Raised kick steps
   SawFor (Exists owner) steps = Unit {0}
-  SawFor (Again table) steps = ⊥
-  SawFor (Busy root last) steps = ⊥
-  SawFor (NoTable size) steps = ⊥
-  SawFor (Found owner) steps = ⊥
-  SawFor Missing steps = ⊥
-  SawFor (Listed len) steps = ⊥
-  SawFor (Released kick) steps = ⊥
-  SawFor Absent steps = ⊥
-  SawFor Rebound steps = ⊥
-  SawFor (Pending caller section) steps = ⊥
-  SawFor Elsewhere steps = ⊥
-  SawFor (Walked len next) steps = ⊥
-  SawFor (Moved again) steps = ⊥
-  SawFor Idle steps = ⊥
-  SawFor (Clear returned) steps = ⊥
-  SawFor (Counted count) steps = ⊥
+  SawFor _ steps = ⊥
 
   -- and for any call to have it
   abbrev pub SawOf : Call → Reply → List Did → Type 0
   SawOf (Bind port owner once) reply steps = SawFor reply steps
   SawOf (Find port) reply steps = FindCause reply
-  SawOf (All port) reply steps = ⊥
-  SawOf (Release port owner) reply steps = ⊥
-  SawOf (Rebind port owner new) reply steps = ⊥
-  SawOf (Walk from limit) reply steps = ⊥
-  SawOf Work reply steps = ⊥
-  SawOf Tidy reply steps = ⊥
-  SawOf Count reply steps = ⊥
+  SawOf _ reply steps = ⊥
 
   abbrev SawForReply : Option Reply → List Did → Type 0
   SawForReply reply steps = IfSome reply (λ r. SawFor r steps)
@@ -181,22 +160,7 @@ module _ (env : Env) where
   SawFor-push (TooBig count) steps did none saw = Any-append_left (LoadedFull count) steps (did ∷ []) saw
   SawFor-push (Bound kick) steps did none saw = Raised-push kick steps did none saw
   SawFor-push (Exists owner) steps did none saw = saw
-  SawFor-push (Again table) steps did none saw = saw
-  SawFor-push (Busy root last) steps did none saw = saw
-  SawFor-push (NoTable size) steps did none saw = saw
-  SawFor-push (Found owner) steps did none saw = saw
-  SawFor-push Missing steps did none saw = saw
-  SawFor-push (Listed len) steps did none saw = saw
-  SawFor-push (Released kick) steps did none saw = saw
-  SawFor-push Absent steps did none saw = saw
-  SawFor-push Rebound steps did none saw = saw
-  SawFor-push (Pending caller section) steps did none saw = saw
-  SawFor-push Elsewhere steps did none saw = saw
-  SawFor-push (Walked len next) steps did none saw = saw
-  SawFor-push (Moved again) steps did none saw = saw
-  SawFor-push Idle steps did none saw = saw
-  SawFor-push (Clear returned) steps did none saw = saw
-  SawFor-push (Counted count) steps did none saw = saw
+  SawFor-push _ steps did none saw = absurd saw
 
   -- ---- an operation of a bind
 
@@ -431,34 +395,13 @@ module _ (M : Type 0) (mix : ℕ → ℕ → ℕ → ℕ) (env : Env) where
     bind-cause past (Exists owner) saw recorded = saw
     bind-cause past NoNode saw recorded = saw
     bind-cause past (TooBig count) saw recorded = full-saw count past.steps recorded saw
-    bind-cause past (Again table) saw recorded = saw
-    bind-cause past (Busy root last) saw recorded = saw
-    bind-cause past (NoTable size) saw recorded = saw
-    bind-cause past (Found owner) saw recorded = saw
-    bind-cause past Missing saw recorded = saw
-    bind-cause past (Listed len) saw recorded = saw
-    bind-cause past (Released kick) saw recorded = saw
-    bind-cause past Absent saw recorded = saw
-    bind-cause past Rebound saw recorded = saw
-    bind-cause past (Pending caller section) saw recorded = saw
-    bind-cause past Elsewhere saw recorded = saw
-    bind-cause past (Walked len next) saw recorded = saw
-    bind-cause past (Moved again) saw recorded = saw
-    bind-cause past Idle saw recorded = saw
-    bind-cause past (Clear returned) saw recorded = saw
-    bind-cause past (Counted count) saw recorded = saw
+    bind-cause past _ saw recorded = absurd saw
 
     cause_of : (past : Past) (call : Call) (reply : Reply) → SawOf env call reply past.steps
         → AllByRecursion IsRecordedHere past.steps → CauseOf M mix env events c past call reply
     cause_of past (Bind port owner once) reply saw recorded = bind-cause past reply saw recorded
     cause_of past (Find port) reply saw recorded = saw
-    cause_of past (All port) reply saw recorded = saw
-    cause_of past (Release port owner) reply saw recorded = saw
-    cause_of past (Rebind port owner new) reply saw recorded = saw
-    cause_of past (Walk from limit) reply saw recorded = saw
-    cause_of past Work reply saw recorded = saw
-    cause_of past Tidy reply saw recorded = saw
-    cause_of past Count reply saw recorded = saw
+    cause_of past _ reply saw recorded = absurd saw
 
     all_caused : (calls : List Past)
         → AllByRecursion (λ (past : Past). SawOf env past.done.call past.done.reply past.steps) calls
