@@ -72,6 +72,7 @@ each_event P events i event is all =
     (All-from_recursion P events all i event (slice_get_within events i event is))
 
 module _ (env : Env) (mix : ℕ → ℕ → ℕ → ℕ) (M : Type 0) where
+  -- what the word says is at most the nodes
   pub count_few : (core : Core M) (G : Ghost) → Inv env mix M core G
       → word_at env.geometry core.words PortCount ≤ env.geometry.nodes
   count_few core G inv =
