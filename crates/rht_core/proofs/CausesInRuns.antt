@@ -1,43 +1,55 @@
 -- In every run each call that has ended has a reply with its cause in the call's own operations.
 --
 -- A bind keeps of itself what its operations so far saw: while it takes a node, that each node below
--- the one at which it stands was taken; and while its state holds a refusal, what the refusal says.
--- So when it answers all of that was seen. How the run stood at the event of the operation that loaded
--- the count of ports follows from the law that each recorded operation stands in the run at its event.
-use Rattle.std.proofs.Common.{◌≡◌, ℕ, ◌≤◌, Bool, List, [], ◌∷◌, ◌++◌, map, min, refl, sym, ap, ◌∙◌, subst, arith}
-use Rattle.std.specs.Prelude.{Option, Some, None, IfSome, IsSome, if◌then◌else◌}
+-- the one at which it stands was taken; from the load of a table's shape on, that this is the last
+-- table that it walked; behind the raise of the count, that too; and while its state holds a refusal,
+-- what the refusal says. So when it answers all of that was seen. How the run stood at the event of
+-- the operation that loaded or raised the count of ports follows from the law that each recorded
+-- operation stands in the run at its event; and since the count is at most the nodes there, the clamp
+-- under which a bind looks at it has changed nothing.
+use Rattle.std.proofs.Common.{◌≡◌, ℕ, ◌≤◌, ◌+◌, Bool, cond, List, [], ◌∷◌, ◌++◌, map, min, refl, sym, ap, ◌∙◌, subst, arith}
+use Rattle.std.specs.Prelude.{Option, Some, None, IfSome}
 use Rattle.std.specs.List.{AllByRecursion, Any}
-use Rattle.std.proofs.lemmas.Bool.{cond_both, leb-true}
+use Rattle.std.proofs.lemmas.Bool.{leb-true}
 use Rattle.std.proofs.lemmas.List.{map-append}
 use Rattle.std.proofs.lemmas.List.Elements.{All-from_recursion}
 use Rattle.std.proofs.lemmas.List.Quantifiers.{Any-push}
 use Rattle.rht_words.specs.Machines.{Performed}
-use Rattle.rht_words.specs.declared.op.Op.TheVariants.{Load}
+use Rattle.rht_words.specs.declared.op.Op.TheVariants.{Load, Add}
 use Rattle.rht_words.specs.declared.env.Env.{Env}
 use Rattle.rht_words.specs.declared.geometry.Geometry.{Geometry}
 use Rattle.rht_words.specs.declared.machine.Next.{Next}
 use Rattle.rht_words.specs.declared.machine.Next.TheVariants.{Go, Done}
 use Rattle.rht_words.specs.Operations.{old_of}
 use Rattle.rht_words.specs.Places.{PortCount, place_of}
-use Rattle.rht_words.proofs.EachElement.{Any-append_left}
+use Rattle.rht_words.proofs.EachElement.{Any-append_left, AllByRecursion-cut}
 use Rattle.rht_policy.specs.Sizes.{most_ports}
-use Rattle.rht_policy.specs.Thresholds.{is_above_max}
+use Rattle.rht_policy.specs.Thresholds.{is_above_75, is_above_max}
+use Rattle.rht_words.specs.Shapes.{unpacked, size_of}
+use Rattle.rht_words.specs.Links.{slot_of}
+use Rattle.rht_model.specs.declared.history.Call.{Call}
+use Rattle.rht_model.specs.declared.history.Call.TheVariants.{Bind, Find}
 use Rattle.rht_model.specs.declared.history.Reply.{Reply}
-use Rattle.rht_model.specs.declared.history.Reply.TheVariants.{NoNode, TooBig, Found, Missing, Again, Busy, NoTable}
+use Rattle.rht_model.specs.declared.history.Reply.TheVariants.{Bound, Exists, Found, Missing, TooBig, NoNode}
 use Rattle.rht_arena.specs.TakeNode.{TakeNodeModel, take_node_after, IsTakeAtIn, IsTakeIn}
-use Rattle.rht_arena.specs.NewNode.{NewNodeModel, new_node_plan_at, new_node_after_at, node_taken, node_of_new, IsNewNodeAtIn}
+use Rattle.rht_arena.specs.NewNode.{NewNodeModel, new_node_plan_at, new_node_after_at, node_taken, IsNewNodeAtIn}
 use Rattle.rht_arena.specs.declared.new_node.NewNodeAt.{NewNodeAt}
 use Rattle.rht_arena.specs.declared.new_node.NewNodeAt.TheVariants as news
 use Rattle.rht_nest.specs.Locate.{LocateModel, locate_plan, locate_after}
 use Rattle.rht_nest.specs.declared.locate.Located.{Located}
 use Rattle.rht_chain.specs.Locked.{answer_behind}
-use Rattle.rht_chain.specs.Relink.{relink_after}
+use Rattle.rht_chain.specs.Probe.{ProbeModel, probe_after}
+use Rattle.rht_chain.specs.declared.probe.Probed.{Probed}
+use Rattle.rht_chain.specs.declared.locked.Then.{Then}
+use Rattle.rht_chain.specs.declared.locked.Then.TheVariants.{Table, Answer}
+use Rattle.rht_chain.specs.Relink.{RelinkModel, relink_after}
 use Rattle.rht_arena.proofs.NodesSeen.{first_unseen, SawAllBelow, SawAllBelow-push, SawSoFar, take_after-saw}
 use Rattle.rht_find.specs.Find.{after_at as find_after_at}
 use Rattle.rht_find.specs.declared.find.FindAt.{FindAt}
 use Rattle.rht_words.proofs.Memory.{Memory}
 use Rattle.rht_bind.specs.BindHeld.{holds_node}
-use Rattle.rht_bind.specs.Bind.{after_at, filled}
+use Rattle.rht_bind.specs.Bind.{after_at, filled, located, owner_or_future, probed, unlocking, future_or_count, checked_count, kicks, published, unlocked}
+use Rattle.rht_bind.specs.declared.bind.Claimed.{Claimed}
 use Rattle.rht_bind.specs.declared.bind.BindAt.{BindAt}
 use Rattle.rht_bind.specs.declared.bind.BindAt.TheVariants as at
 use Rattle.rht_core.specs.declared.event.Event.{Event}
@@ -46,10 +58,9 @@ use Rattle.rht_core.specs.Replies.{IsFindReply}
 use Rattle.rht_core.specs.Traces.{Did, Past, performed_of, traced_of}
 use Rattle.rht_core.specs.Runs.{IsAdmitted}
 use Rattle.rht_core.specs.Laws.{IsRecorded, IsPastCall}
-use Rattle.rht_core.specs.Causes.{SawFull, HasCauseIn, HasCause, Causes}
+use Rattle.rht_core.specs.Causes.{FindCause, IsNoShapeLoad, LastWalked, IsDueBy, KicksRightly, SawFull, BindCause, CauseOf, HasCause, Causes}
 use Rattle.rht_words.specs.Machines.{GoesOrEnds}
 use Rattle.rht_words.proofs.MachineRuns.{GoesOrEnds-weaker}
-use Rattle.rht_core.proofs.HeldByBinds.{node_of_bind, reply_of_bind, no_table_reply, published_reply, bind_reply_after, HoldsSo, bind_after-so}
 use Rattle.rht_core.proofs.MachineReplies.{HoldsFindReply, find_after-replies}
 use Rattle.rht_core.proofs.Theory.Ghosts.{Ghost}
 use Rattle.rht_core.proofs.Theory.Knowledge.{Unlocked}
@@ -57,7 +68,10 @@ use Rattle.rht_core.proofs.Pieces.Nodes.{filled as filled_node}
 use Rattle.rht_core.proofs.Pieces.Locates.{LocateKnows, locate_step}
 use Rattle.rht_core.proofs.TracesAtEvents.{at_events}
 use Rattle.rht_core.proofs.TracedCalls.{FindDoes, BindDoes, calls_keep}
-use Rattle.rht_core.proofs.FullTables.{counted_at}
+use Rattle.rht_core.proofs.FullTables.{relink_stores, counted_at}
+use Rattle.rht_core.proofs.TablesWalked.{no_load, elsewhere, probe_loads, LastWalked-push, WalkedAt, WalkedNext, same_table, locate-walked}
+use Rattle.rht_core.proofs.Counting.CountedNodes.{raise_few}
+use Rattle.rht_core.proofs.Theory.Steps.{by_test}
 
 -- ---- what a bind has seen
 
@@ -68,14 +82,31 @@ module _ (env : Env) where
     pub found : did.old ≡ count
     pub full : most_ports env.config.max ≤ count
 
-  -- what the operations of a call saw for it to have this reply
+  -- the operation raised the count, and a table of this shape is due to grow by what the bind made of that
+  pub record RaisedBy (shape : ℕ) (kick : Bool) (did : Did) : Type 0 where
+    pub raised : did.op ≡ Add (place_of env.geometry PortCount) 1
+    pub by_count : kick ≡ kicks env shape did.old
+
+  -- behind the last table that it walked a bind raised the count
+  pub record Raised (kick : Bool) (steps : List Did) : Type 0 where
+    pub table : ℕ
+    pub shape : ℕ
+    pub walked : LastWalked env.geometry table shape steps
+    pub counted : Any (RaisedBy shape kick) walked.behind
+
+  -- what the operations of a bind saw for it to have this reply; nothing can be seen for a reply that it never has
   abbrev pub SawFor : Reply → List Did → Type 0
   SawFor NoNode steps = SawAllBelow env.geometry env.geometry.nodes (map performed_of steps)
   SawFor (TooBig count) steps = Any (LoadedFull count) steps
-  SawFor (Again table) steps = ⊥
-  SawFor (Busy root last) steps = ⊥
-  SawFor (NoTable size) steps = ⊥
-  SawFor _ steps = Unit {0}
+  SawFor (Bound kick) steps = Raised kick steps
+  SawFor (Exists owner) steps = Unit {0}
+  SawFor _ steps = ⊥
+
+  -- and for any call to have it
+  abbrev pub SawOf : Call → Reply → List Did → Type 0
+  SawOf (Bind port owner once) reply steps = SawFor reply steps
+  SawOf (Find port) reply steps = FindCause reply
+  SawOf _ reply steps = ⊥
 
   abbrev SawForReply : Option Reply → List Did → Type 0
   SawForReply reply steps = IfSome reply (λ r. SawFor r steps)
@@ -90,14 +121,14 @@ module _ (env : Env) where
   abbrev SawAt : BindAt → List Did → Type 0
   SawAt (at.Filling new) steps = SawNew new.at steps
   SawAt (at.CurrentTable node) steps = Unit {0}
-  SawAt (at.Locating node locate) steps = Unit {0}
-  SawAt (at.Probing node table shape probe) steps = Unit {0}
+  SawAt (at.Locating node locate) steps = WalkedAt env.geometry locate.table locate.at steps
+  SawAt (at.Probing node table shape probe) steps = LastWalked env.geometry table shape steps
   SawAt (at.FoundOwner claimed found) steps = Unit {0}
-  SawAt (at.Future claimed length) steps = Unit {0}
-  SawAt (at.Count claimed) steps = Unit {0}
-  SawAt (at.Link claimed) steps = Unit {0}
-  SawAt (at.Raise claimed) steps = Unit {0}
-  SawAt (at.Publish node table relink kick) steps = Unit {0}
+  SawAt (at.Future claimed length) steps = LastWalked env.geometry claimed.table claimed.shape steps
+  SawAt (at.Count claimed) steps = LastWalked env.geometry claimed.table claimed.shape steps
+  SawAt (at.Link claimed) steps = LastWalked env.geometry claimed.table claimed.shape steps
+  SawAt (at.Raise claimed) steps = LastWalked env.geometry claimed.table claimed.shape steps
+  SawAt (at.Publish node table relink kick) steps = Raised kick steps
   SawAt (at.Unlocking node table unlock next) steps = SawForReply (answer_behind next) steps
   SawAt (at.Giving give reply) steps = SawFor reply steps
 
@@ -110,17 +141,26 @@ module _ (env : Env) where
   abbrev SawNext : List Did → BindAt × Next Reply → Type 0
   SawNext steps next = GoesOrEnds (λ state. SawAt state steps) (λ reply. SawFor reply steps) next
 
-  SawFor-push : (reply : Reply) (steps : List Did) (did : Did) → SawFor reply steps
+  Raised-push : (kick : Bool) (steps : List Did) (did : Did) → IsNoShapeLoad env.geometry did → Raised kick steps
+      → Raised kick (steps ++ did ∷ [])
+  unfolding LastWalked-push
+  Raised-push kick steps did none raised = record {
+    table = raised.table;
+    shape = raised.shape;
+    walked = LastWalked-push env.geometry raised.table raised.shape steps did none raised.walked;
+    counted = Any-append_left (RaisedBy raised.shape kick) raised.walked.behind (did ∷ []) raised.counted;
+  }
+
+  SawFor-push : (reply : Reply) (steps : List Did) (did : Did) → IsNoShapeLoad env.geometry did → SawFor reply steps
       → SawFor reply (steps ++ did ∷ [])
-  SawFor-push NoNode steps did saw =
+  SawFor-push NoNode steps did none saw =
       let before = map performed_of steps in
       subst (SawAllBelow env.geometry env.geometry.nodes) (sym (map-append performed_of steps (did ∷ [])))
       (SawAllBelow-push env.geometry env.geometry.nodes before (performed_of did) saw)
-  SawFor-push (TooBig count) steps did saw = Any-append_left (LoadedFull count) steps (did ∷ []) saw
-  SawFor-push (Again table) steps did saw = saw
-  SawFor-push (Busy root last) steps did saw = saw
-  SawFor-push (NoTable size) steps did saw = saw
-  SawFor-push _ steps did saw = tt
+  SawFor-push (TooBig count) steps did none saw = Any-append_left (LoadedFull count) steps (did ∷ []) saw
+  SawFor-push (Bound kick) steps did none saw = Raised-push kick steps did none saw
+  SawFor-push (Exists owner) steps did none saw = saw
+  SawFor-push _ steps did none saw = absurd saw
 
   -- ---- an operation of a bind
 
@@ -131,97 +171,91 @@ module _ (env : Env) where
   taking-saw new take (Done None) steps saw = saw
   taking-saw new take (Done (Some node)) steps saw = tt
 
-  SawForReply-push : (reply : Option Reply) (steps : List Did) (did : Did) → SawForReply reply steps
-      → SawForReply reply (steps ++ did ∷ [])
-  SawForReply-push None steps did saw = tt
-  SawForReply-push (Some reply) steps did saw = SawFor-push reply steps did saw
+  SawForReply-push : (reply : Option Reply) (steps : List Did) (did : Did) → IsNoShapeLoad env.geometry did
+      → SawForReply reply steps → SawForReply reply (steps ++ did ∷ [])
+  SawForReply-push None steps did none saw = tt
+  SawForReply-push (Some reply) steps did none saw = SawFor-push reply steps did none saw
+
+  -- a walk that has ended in a bucket
+  seen-saw : (claimed : Claimed) (found : Option ℕ) (length : ℕ) (steps : List Did)
+      → LastWalked env.geometry claimed.table claimed.shape steps → SawAt (owner_or_future claimed found length) steps
+  seen-saw claimed None length steps walked = walked
+  seen-saw claimed (Some found) length steps walked = tt
+
+  probed-saw : (node table shape : ℕ) (probe : ProbeModel) (next : Next Probed) (steps : List Did)
+      → LastWalked env.geometry table shape steps → SawAt (probed node table shape probe next) steps
+  probed-saw node table shape probe Go steps walked = walked
+  probed-saw node table shape probe (Done end) steps walked =
+      seen-saw (record { node = node; table = table; shape = shape; bucket = end.bucket }) end.seen.found end.seen.length steps walked
+
+  future-saw : (claimed : Claimed) (future : Option ℕ) (steps : List Did)
+      → LastWalked env.geometry claimed.table claimed.shape steps → SawAt (future_or_count claimed future) steps
+  future-saw claimed None steps walked = walked
+  future-saw claimed (Some table) steps walked = tt
 
   -- a count that refuses the bind was loaded by this operation
-  count-saw : (steps : List Did) (did : Did) → did.op ≡ Load (place_of env.geometry PortCount)
-      → let full = is_above_max (min did.old 65536) env.config.max in
-      SawForReply (if full then Some (TooBig did.old) else None) (steps ++ did ∷ [])
-  count-saw steps did is =
+  count-saw : (claimed : Claimed) (steps : List Did) (did : Did) → did.op ≡ Load (place_of env.geometry PortCount)
+      → LastWalked env.geometry claimed.table claimed.shape (steps ++ did ∷ [])
+      → SawAt (checked_count env claimed did.old) (steps ++ did ∷ [])
+  count-saw claimed steps did is walked =
       let count = did.old in
-      cond_both (is_above_max (min count 65536) env.config.max) (Some (TooBig count)) None (λ reply. SawForReply reply (steps ++ did ∷ []))
+      by_test (λ t. SawAt (cond t (unlocking claimed (Answer (TooBig count))) (at.Link claimed)) (steps ++ did ∷ []))
+      (is_above_max (min count 65536) env.config.max)
       (λ t.
       let full : most_ports env.config.max ≤ min count 65536 =
       leb-true (most_ports env.config.max) (min count 65536) t in
       Any-push (LoadedFull count) steps did record { loaded = is; found = refl; full = omega arith })
-      (λ f. tt)
+      (λ f. walked)
+
+  -- the count is raised behind the walk
+  raise-saw : (claimed : Claimed) (steps : List Did) (did : Did) → did.op ≡ Add (place_of env.geometry PortCount) 1
+      → LastWalked env.geometry claimed.table claimed.shape steps
+      → Raised (kicks env claimed.shape did.old) (steps ++ did ∷ [])
+  unfolding LastWalked-push
+  raise-saw claimed steps did is walked = record {
+    table = claimed.table;
+    shape = claimed.shape;
+    walked =
+        LastWalked-push env.geometry claimed.table claimed.shape steps did (no_load env.geometry did _ is (λ place load. cc)) walked;
+    counted = Any-push (RaisedBy claimed.shape (kicks env claimed.shape did.old)) walked.behind did record { raised = is; by_count = refl };
+  }
+
+  published-saw : (node table : ℕ) (kick : Bool) (relink : RelinkModel) (next : Next (Unit {0})) (steps : List Did)
+      → Raised kick steps → SawNext steps (published node table kick relink next)
+  published-saw node table kick relink Go steps raised = raised
+  published-saw node table kick relink (Done done) steps raised = raised
+
+  unlocked-saw : (node : ℕ) (next : Then Reply) (steps : List Did) → SawForReply (answer_behind next) steps
+      → SawAt (unlocked env node next) steps
+  unlocked-saw node (Table table) steps saw = tt
+  unlocked-saw node (Answer reply) steps saw = saw
 
   module _ (mix : ℕ → ℕ → ℕ → ℕ) (port owner : ℕ) (once : Bool) where
     -- once a bucket was looked for it is there
-    there-none : (c node : ℕ) (locate : LocateModel) (next : LocateModel × Next Located) (memory : Memory) (ghost : Ghost)
+    found-saw : (c node : ℕ) (locate : LocateModel) (next : LocateModel × Next Located) (memory : Memory) (ghost : Ghost) (steps : List Did)
         → LocateKnows env mix c (holds_node (Some node) None) (Some (filled_node node port owner)) Unlocked port next memory ghost
-        → no_table_reply next.1 ≡ None
-    there-none c node locate (after, Go) memory ghost knows = refl
-    there-none c node locate (after, Done located) memory ghost knows = rw knows.there refl
+        → next.0.table ≡ locate.table → WalkedNext env.geometry locate.table next steps
+        → SawAt (located env port node next.0 next.1) steps
+    found-saw c node locate (after, Go) memory ghost steps knows same walked =
+        subst (λ table. WalkedAt env.geometry table after.at steps) (sym same) walked
+    found-saw c node locate (after, Done there) memory ghost steps knows same walked =
+        rw knows.there (subst (λ table. LastWalked env.geometry table there.shape steps) (sym same) walked)
 
-    -- Of the replies that come of an operation, `TooBig` alone tells what was seen; a reply that the bind has had is not
-    -- forgotten. The bucket is there, so that none tells of a want of tables.
-    bind_reply_after-saw : (state : BindAt) (steps : List Did) (did : Did) → BindDoes env mix port owner once state did
-        → SawAt state steps
-        → SawForReply (bind_reply_after mix env port state did.old) (steps ++ did ∷ [])
-    bind_reply_after-saw (at.Filling new) steps did does saw = tt
-    bind_reply_after-saw (at.CurrentTable node) steps did does saw = tt
-    bind_reply_after-saw (at.Locating node locate) steps did does saw =
+    locating-saw : (node : ℕ) (locate : LocateModel) (steps : List Did) (did : Did)
+        → BindDoes env mix port owner once (at.Locating node locate) did
+        → SawAt (at.Locating node locate) steps
+        → let next = locate_after mix port locate did.old in
+        SawAt (located env port node next.0 next.1) (steps ++ did ∷ [])
+    locating-saw node locate steps did does saw =
+        let all = steps ++ did ∷ [] in
         let is : did.old ≡ old_of does.words (locate_plan locate) = does.found ∙ ap (old_of does.words) does.planned in
         let step = locate_step env mix does.caller (holds_node (Some node) None) (Some (filled_node node port owner)) Unlocked does.words does.ghost does.whole
         port locate does.within.locate_in does.knows.knowing in
-        let none = there-none does.caller node locate (locate_after mix port locate (old_of does.words (locate_plan locate))) _ _ step.knows in
-        let reply : no_table_reply (locate_after mix port locate did.old).1 ≡ None =
-        ap (λ old. no_table_reply (locate_after mix port locate old).1) is ∙ none in
-        subst (λ (r : Option Reply). SawForReply r (steps ++ did ∷ [])) (sym reply) tt
-    bind_reply_after-saw (at.Probing node table shape probe) steps did does saw = tt
-    bind_reply_after-saw (at.FoundOwner claimed found) steps did does saw = tt
-    bind_reply_after-saw (at.Future claimed length) steps did does saw = tt
-    bind_reply_after-saw (at.Count claimed) steps did does saw = count-saw steps did does.planned
-    bind_reply_after-saw (at.Link claimed) steps did does saw = tt
-    bind_reply_after-saw (at.Raise claimed) steps did does saw = tt
-    bind_reply_after-saw (at.Publish node table relink kick) steps did does saw =
-        published-saw kick (relink_after relink).1 (steps ++ did ∷ [])
-      where
-        published-saw : (kick : Bool) (next : Next (Unit {0})) (all : List Did)
-            → SawForReply (published_reply kick next) all
-        published-saw kick Go all = tt
-        published-saw kick (Done done) all = tt
-    bind_reply_after-saw (at.Unlocking node table unlock next) steps did does saw =
-        SawForReply-push (answer_behind next) steps did saw
-    bind_reply_after-saw (at.Giving give reply) steps did does saw = SawFor-push reply steps did saw
-
-    -- what is seen for its reply is what there is to see in a state
-    SawForReply-new : (state : NewNodeAt) (steps : List Did) → IsSome (node_of_new state) → SawNew state steps
-    SawForReply-new (news.Taking take) steps has = absurd (cc)
-    SawForReply-new (news.Key node) steps has = tt
-    SawForReply-new (news.Owner node) steps has = tt
-    SawForReply-new (news.ListLink node) steps has = tt
-
-    SawForReply-at : (state : BindAt) (steps : List Did) → IsSome (node_of_bind state)
-        → SawForReply (reply_of_bind state) steps
-        → SawAt state steps
-    SawForReply-at (at.Filling new) steps has saw = SawForReply-new new.at steps has
-    SawForReply-at (at.CurrentTable node) steps has saw = tt
-    SawForReply-at (at.Locating node locate) steps has saw = tt
-    SawForReply-at (at.Probing node table shape probe) steps has saw = tt
-    SawForReply-at (at.FoundOwner claimed found) steps has saw = tt
-    SawForReply-at (at.Future claimed length) steps has saw = tt
-    SawForReply-at (at.Count claimed) steps has saw = tt
-    SawForReply-at (at.Link claimed) steps has saw = tt
-    SawForReply-at (at.Raise claimed) steps has saw = tt
-    SawForReply-at (at.Publish node table relink kick) steps has saw = tt
-    SawForReply-at (at.Unlocking node table unlock next) steps has saw = saw
-    SawForReply-at (at.Giving give reply) steps has saw = saw
-
-    with_node-saw : (state : BindAt) (steps : List Did) (did : Did) → BindDoes env mix port owner once state did
-        → IsSome (node_of_bind state)
-        → SawAt state steps → SawNext (steps ++ did ∷ []) (after_at mix env port state did.old)
-    with_node-saw state steps did does has saw =
-        let all = steps ++ did ∷ [] in
-        let So = λ (node : Option ℕ) (reply : Option Reply). IsSome node × SawForReply reply all in
-        GoesOrEnds-weaker (HoldsSo So) _ (λ (reply : Reply). So (node_of_bind state) (Some reply)) _ (λ next so. SawForReply-at next all so.0 so.1)
-        (λ reply so. so.1)
-        (after_at mix env port state did.old)
-        (bind_after-so So mix env port state did.old has (has, bind_reply_after-saw state steps did does saw))
+        let walked = locate-walked env.geometry mix port locate locate.at steps did does.within.locate_in.table_in does.planned saw in
+        subst (λ old. let next = locate_after mix port locate old in SawAt (located env port node next.0 next.1) all) (sym is)
+        (found-saw does.caller node locate (locate_after mix port locate (old_of does.words (locate_plan locate))) _ _ all step.knows
+        (same_table env.geometry mix port locate locate.at (old_of does.words (locate_plan locate)))
+        (subst (λ old. WalkedNext env.geometry locate.table (locate_after mix port locate old) all) is walked))
 
     -- while it makes a new node
     new-saw : (new : NewNodeModel) (state : NewNodeAt) (steps : List Did) (did : Did) → new.at ≡ state
@@ -247,20 +281,42 @@ module _ (env : Env) where
     bind-saw : (state : BindAt) (steps : List Did) (did : Did) → BindDoes env mix port owner once state did
         → SawAt state steps → SawNext (steps ++ did ∷ []) (after_at mix env port state did.old)
     bind-saw (at.Filling new) steps did does saw = new-saw new new.at steps did refl does saw
-    bind-saw state steps did does saw = with_node-saw state steps did does refl saw
+    bind-saw (at.CurrentTable node) steps did does saw = tt
+    bind-saw (at.Locating node locate) steps did does saw = locating-saw node locate steps did does saw
+    bind-saw (at.Probing node table shape probe) steps did does saw =
+        probed-saw node table shape (probe_after probe did.old).0 (probe_after probe did.old).1 (steps ++ did ∷ [])
+        (LastWalked-push env.geometry table shape steps did (probe_loads env.geometry did probe.at does.within.probe_in.at_in does.planned) saw)
+    bind-saw (at.FoundOwner claimed found) steps did does saw = tt
+    bind-saw (at.Future claimed length) steps did does saw =
+        future-saw claimed (slot_of did.old) (steps ++ did ∷ [])
+        (LastWalked-push env.geometry claimed.table claimed.shape steps did
+        (elsewhere env.geometry did _ does.planned (λ table below same. absurd (omega arith))) saw)
+    bind-saw (at.Count claimed) steps did does saw =
+        count-saw claimed steps did does.planned
+        (LastWalked-push env.geometry claimed.table claimed.shape steps did
+        (elsewhere env.geometry did _ does.planned (λ table below same. absurd (omega arith))) saw)
+    bind-saw (at.Link claimed) steps did does saw =
+        LastWalked-push env.geometry claimed.table claimed.shape steps did (no_load env.geometry did _ does.planned (λ place load. cc)) saw
+    bind-saw (at.Raise claimed) steps did does saw = raise-saw claimed steps did does.planned saw
+    bind-saw (at.Publish node table relink kick) steps did does saw =
+        published-saw node table kick (relink_after relink).0 (relink_after relink).1 (steps ++ did ∷ [])
+        (Raised-push kick steps did (no_load env.geometry did _ does.planned (relink_stores relink relink.at)) saw)
+    bind-saw (at.Unlocking node table unlock next) steps did does saw =
+        unlocked-saw node next (steps ++ did ∷ [])
+        (SawForReply-push (answer_behind next) steps did (no_load env.geometry did _ does.planned (λ place load. cc)) saw)
+    bind-saw (at.Giving give reply) steps did does saw =
+        SawFor-push reply steps did (no_load env.geometry did _ does.planned (λ place load. cc)) saw
 
-  -- of a look-up's replies nothing is said
-  find_reply-saw : (reply : Reply) (steps : List Did) → IsFindReply reply → SawFor reply steps
-  find_reply-saw (Found owner) steps is = tt
-  find_reply-saw Missing steps is = tt
-  find_reply-saw _ steps is = absurd is
+  -- a look-up has nothing to show for its answers
+  find_reply-saw : (reply : Reply) → IsFindReply reply → FindCause reply
+  find_reply-saw (Found owner) is = tt
+  find_reply-saw Missing is = tt
+  find_reply-saw _ is = absurd is
 
-  find-saw : (mix : ℕ → ℕ → ℕ → ℕ) (port : ℕ) (state : FindAt) (steps : List Did) (did : Did)
-      → FindDoes env state did
-      → GoesOrEnds (λ next. Unit {0}) (λ reply. SawFor reply (steps ++ did ∷ [])) (find_after_at mix env port state did.old)
-  find-saw mix port state steps did does =
-      GoesOrEnds-weaker HoldsFindReply _ IsFindReply _ (λ next holds. tt)
-      (λ reply is. find_reply-saw reply (steps ++ did ∷ []) is)
+  find-saw : (mix : ℕ → ℕ → ℕ → ℕ) (port : ℕ) (state : FindAt) (did : Did) → FindDoes env state did
+      → GoesOrEnds (λ next. Unit {0}) FindCause (find_after_at mix env port state did.old)
+  find-saw mix port state did does =
+      GoesOrEnds-weaker HoldsFindReply _ IsFindReply FindCause (λ next holds. tt) find_reply-saw
       (find_after_at mix env port state did.old)
       (find_after-replies mix env port state did.old does.holds)
 
@@ -269,13 +325,13 @@ module _ (env : Env) where
 module _ (M : Type 0) (mix : ℕ → ℕ → ℕ → ℕ) (env : Env) where
   -- what the operations of each call that has ended have seen; below the first node there is none
   past-saw : (events : List Event) (c : ℕ) → IsAdmitted env.config.kind events
-      → AllByRecursion (λ (past : Past). SawFor env past.done.reply past.steps) ((traced_of {M = M} mix env events).traces c).past
+      → AllByRecursion (λ (past : Past). SawOf env past.done.call past.done.reply past.steps) ((traced_of {M = M} mix env events).traces c).past
   past-saw events c admitted =
-      calls_keep M mix env (JobSaw env) (λ call ending. SawFor env ending.answer.reply)
+      calls_keep M mix env (JobSaw env) (λ call ending. SawOf env call ending.answer.reply)
       record {
         find_begins = λ port. tt;
         bind_begins = λ port owner once node l. absurd (omega arith);
-        find_goes = λ port state steps did does saw. find-saw env mix port state steps did does;
+        find_goes = λ port state steps did does saw. find-saw env mix port state did does;
         bind_goes = bind-saw env mix;
       }
       events c admitted
@@ -303,23 +359,57 @@ module _ (M : Type 0) (mix : ℕ → ℕ → ℕ → ℕ) (env : Env) where
           },
         )
 
-    cause_of : (reply : Reply) (steps : List Did) → SawFor env reply steps
-        → AllByRecursion IsRecordedHere steps
-        → HasCauseIn M mix env events c reply steps
-    cause_of NoNode steps saw recorded = saw
-    cause_of (TooBig count) steps saw recorded = full-saw count steps recorded saw
-    cause_of (Again table) steps saw recorded = saw
-    cause_of (Busy root last) steps saw recorded = saw
-    cause_of (NoTable size) steps saw recorded = saw
-    cause_of _ steps saw recorded = tt
+    -- no clamp of the count has changed whether the table is due
+    kicked : (kick : Bool) (steps : List Did) → AllByRecursion IsRecordedHere steps → Raised env kick steps
+        → KicksRightly env kick steps
+    kicked kick steps recorded raised =
+        let walked = raised.walked in
+        let behind = AllByRecursion-cut IsRecordedHere walked.before (walked.at ∷ walked.behind) (subst (AllByRecursion IsRecordedHere) walked.split recorded) in
+        record {
+          table = raised.table;
+          shape = raised.shape;
+          walked = walked;
+          counted = due raised.shape kick walked.behind behind.1.1 raised.counted;
+        }
+      where
+        due : (shape : ℕ) (kick : Bool) (steps : List Did) → AllByRecursion IsRecordedHere steps
+            → Any (RaisedBy env shape kick) steps → Any (IsDueBy env shape kick) steps
+        due shape kick steps recorded (k, did, within, is, by) =
+            let was = subst IsRecordedHere is (All-from_recursion IsRecordedHere steps recorded k did within) in
+            let few = raise_few env mix M events c did admitted by.raised was in
+            let most = env.geometry.within.nodes_within.1 in
+            let same : min did.old 65535 ≡ did.old = omega (arith, few, most) in (
+              k,
+              did,
+              within,
+              is,
+              record {
+                raised = by.raised;
+                by_count = by.by_count ∙ ap (λ count. is_above_75 (count + 1) (size_of (unpacked shape)) env.config.max) same;
+              },
+            )
+
+    bind-cause : (past : Past) (reply : Reply) → SawFor env reply past.steps → AllByRecursion IsRecordedHere past.steps
+        → BindCause M mix env events c past reply
+    bind-cause past (Bound kick) saw recorded = kicked kick past.steps recorded saw
+    bind-cause past (Exists owner) saw recorded = saw
+    bind-cause past NoNode saw recorded = saw
+    bind-cause past (TooBig count) saw recorded = full-saw count past.steps recorded saw
+    bind-cause past _ saw recorded = absurd saw
+
+    cause_of : (past : Past) (call : Call) (reply : Reply) → SawOf env call reply past.steps
+        → AllByRecursion IsRecordedHere past.steps → CauseOf M mix env events c past call reply
+    cause_of past (Bind port owner once) reply saw recorded = bind-cause past reply saw recorded
+    cause_of past (Find port) reply saw recorded = saw
+    cause_of past _ reply saw recorded = absurd saw
 
     all_caused : (calls : List Past)
-        → AllByRecursion (λ (past : Past). SawFor env past.done.reply past.steps) calls
+        → AllByRecursion (λ (past : Past). SawOf env past.done.call past.done.reply past.steps) calls
         → AllByRecursion (IsPastCall M mix env events c) calls
         → AllByRecursion (HasCause M mix env events c) calls
     all_caused [] saw were = tt
     all_caused (past ∷ calls) saw were =
-        (cause_of past.done.reply past.steps saw.0 were.0.steps, all_caused calls saw.1 were.1)
+        (cause_of past past.done.call past.done.reply saw.0 were.0.steps, all_caused calls saw.1 were.1)
 
 pub causes : (M : Type 0) (mix : ℕ → ℕ → ℕ → ℕ) → Causes M mix
 causes M mix env events c admitted =

@@ -1,4 +1,8 @@
 -- as many ports are bound as there are nodes in chains
 pub mod CountedPorts
--- the count of ports is at most the nodes
+-- each caller that has raised the count has a node more
 pub mod RaisedNodes
+-- so the count of ports is at most the nodes
+pub mod CountedNodes
+-- so far no call takes a node out of a port's list
+pub mod NodesOut

@@ -1,56 +1,93 @@
 -- The count of ports, and a table that nobody uses.
 -- As many different ports are bound as there are nodes in chains, and no more. A caller has raised the count exactly where its
 -- job has. While nobody is in a call nobody has a lock or a node.
-use Rattle.std.proofs.Common.{◌≡◌, ◌≢◌, ℕ, ◌+◌, ◌%◌, ◌<◌, List, [], ◌∷◌, Option, Some, None, refl, sym, ◌∙◌, ap, inl, inr, arith}
+use Rattle.std.proofs.Common.{◌≡◌, ◌≢◌, ℕ, ◌+◌, ◌*◌, ◌%◌, ◌<◌, ◌≤◌, length, slice_index, subst, List, [], ◌∷◌, Option, Some, None, refl, sym, ◌∙◌, ap, inl, inr, arith}
 use Rattle.std.specs.Prelude.{count_by}
 use Rattle.std.specs.List.{range_with_len}
 use Rattle.rht_words.specs.declared.env.Env.{Env}
 use Rattle.rht_words.specs.Places.{PortCount, PageWord, word_at}
+use Rattle.rht_words.specs.Members.{In}
+use Rattle.rht_words.specs.Shapes.{unpacked, size_of}
+use Rattle.rht_nest.specs.Place.{bucket_place}
 use Rattle.rht_words.proofs.Members.{count_by-range, count_below-same, count_below-none}
 use Rattle.rht_core.specs.Jobs.{job_of}
 use Rattle.rht_core.specs.Runs.{Core, local_of, run_of}
-use Rattle.rht_core.specs.StandsFor.{first_node}
-use Rattle.rht_core.specs.Counts.{is_raising, raising, IsFreeOrBound, Counted, AtRest}
-use Rattle.rht_core.proofs.Theory.Ghosts.{Owner, Free, Held, First, Leaving, Behind, Taken, Ghost, lock_bit}
-use Rattle.rht_core.proofs.Theory.Wholes.{key_of, firsts, raisers, IsBuilt, Whole}
+use Rattle.rht_core.specs.StandsFor.{shape_of, nodes_of}
+use Rattle.rht_core.specs.Counts.{is_raising, raising, IsListed, IsPlaced, IsBucketInForce, Counted, AtRest}
+use Rattle.rht_core.proofs.Theory.Ghosts.{Owner, Free, Held, First, Leaving, Behind, Taken, Ghost, lock_bit, some-same}
+use Rattle.rht_core.proofs.Theory.Wholes.{key_of, place_at, firsts, raisers, IsBuilt, Whole}
 use Rattle.rht_core.proofs.Theory.Steps.{mem}
 use Rattle.rht_core.proofs.Machines.JobSteps.{KnowsNothing}
 use Rattle.rht_core.proofs.Events.Invariants.{Inv, idle_knows}
 use Rattle.rht_core.proofs.Events.InvariantRuns.{has_inv}
-use Rattle.rht_core.proofs.Meaning.BoundPorts.{first_bound}
+use Rattle.rht_core.proofs.Meaning.BoundPorts.{attached, index, index-within, place-index, one_in_force, listed_bound}
 use Rattle.rht_core.proofs.Counting.CountedPorts.{firsts-AreAllBound}
+use Rattle.rht_core.proofs.Counting.CountedNodes.{count_few}
+use Rattle.rht_core.proofs.Counting.NodesOut.{none_out}
 use Rattle.rht_core.proofs.FullTables.{raises}
 
 module _ (env : Env) (mix : ℕ → ℕ → ℕ → ℕ) (words : List ℕ) (G : Ghost)
     (whole : Whole env mix (mem env mix words) G) where
-  -- a port's first node is in a chain
-  first_in_chain : (port n : ℕ) → first_node env.geometry words port ≡ Some n → (j : ℕ) × (G.node n ≡ First j)
-  first_in_chain port n is = go (G.bound port) refl
+  -- a port's list has one node at most
+  few_listed : (port : ℕ) → length (nodes_of env.geometry words port) ≤ 1
+  few_listed port = rw (listed_bound env mix words G whole port) (go (G.bound port) refl)
     where
-      go : (bound : List ℕ) → G.bound port ≡ bound → (j : ℕ) × (G.node n ≡ First j)
-      go [] b = let none = sym (first_bound env mix words G whole port [] b) ∙ is in absurd (cc)
-      go (first ∷ behind) b =
-          let to = whole.owned.bound_to port first behind b in
-          let some = sym (first_bound env mix words G whole port (first ∷ behind) b) ∙ is in
-          let same : first ≡ n = cc in
-          (to.bucket, ap G.node (sym same) ∙ to.first)
+      go : (bound : List ℕ) → G.bound port ≡ bound → length bound ≤ 1
+      go [] b = omega arith
+      go (n ∷ behind) b = rw (whole.owned.bound_to port n behind b).alone (omega arith)
 
-  -- a node that no caller has is free or bound
-  free_or_bound : (n : ℕ) → n < env.geometry.nodes → ((c : ℕ) → G.node n ≢ Held c)
-      → IsFreeOrBound env.geometry words n
-  free_or_bound n l unheld = go (G.node n) refl (whole.arena.built n)
+  -- such a node is in a chain
+  listed_in_chain : (n : ℕ) → IsListed env.geometry words n → (j : ℕ) × (G.node n ≡ First j)
+  listed_in_chain n (port, there) = go (G.bound port) refl (subst (In n) (listed_bound env mix words G whole port) there)
     where
-      go : (o : Owner) → G.node n ≡ o → IsBuilt env mix o → IsFreeOrBound env.geometry words n
-      go Free e b =
-          inl ((whole.arena.bits n l).1 e, λ first. let chained = first_in_chain first.0 n first.1 in let q = sym e ∙ chained.1 in cc)
+      go : (bound : List ℕ) → G.bound port ≡ bound → In n bound → (j : ℕ) × (G.node n ≡ First j)
+      go [] b i = absurd i
+      go (first ∷ behind) b (inl same) =
+          let to = whole.owned.bound_to port first behind b in
+          (to.bucket, ap G.node same ∙ to.first)
+      go (first ∷ behind) b (inr i) =
+          absurd (subst (In n) (whole.owned.bound_to port first behind b).alone i)
+
+  -- a node that no caller has is free or in a port's list
+  placed : (n : ℕ) → n < env.geometry.nodes → ((c : ℕ) → G.node n ≢ Held c) → IsPlaced env.geometry words [] n
+  placed n l unheld = go (G.node n) refl (whole.arena.built n)
+    where
+      go : (o : Owner) → G.node n ≡ o → IsBuilt env mix o → IsPlaced env.geometry words [] n
+      go Free e b = inl (
+        (whole.arena.bits n l).1 e,
+        (λ is. let chained = listed_in_chain n is in let q = sym e ∙ chained.1 in cc),
+        (λ i. i),
+      )
       go (Held c) e b = absurd (unheld c e)
       go (First j) e b =
           let at = whole.owned.first_at n j e in
           let port = key_of (mem env mix words) n in
-          inr ((port, first_bound env mix words G whole port (n ∷ []) at.bound_to), λ free. let q = sym e ∙ (whole.arena.bits n l).0 free in cc)
+          inr (inl (
+            (port, subst (In n) (sym (listed_bound env mix words G whole port ∙ at.bound_to)) (inl refl)),
+            (λ free. let q = sym e ∙ (whole.arena.bits n l).0 free in cc),
+            (λ i. i),
+          ))
       go (Leaving j) e b = absurd b
       go (Behind k) e b = absurd b
       go (Taken c) e b = absurd b
+
+  -- a bucket in force is one of the one table's
+  in_one_table : (place : ℕ) → IsBucketInForce env.geometry words place
+      → (j : ℕ) × (j < 64 * env.geometry.pages) × (place ≡ place_at env mix j)
+  in_one_table place is =
+      let shape = (whole.tables.each 0 (attached env mix words G whole)).shape_is in
+      let one : is.table ≡ (G.table 0).slot =
+      only_one (subst (In is.table) (one_in_force env mix words G whole) is.of_table) in
+      let same : shape_of env.geometry words is.table ≡ (G.table 0).shape = ap (shape_of env.geometry words) one ∙ shape in
+      let within = subst (λ s. is.bucket < size_of (unpacked s)) same is.within in
+      let j = index env mix words G whole is.bucket in
+      let there : Some place ≡ Some (place_at env mix j) =
+      sym (subst (λ s. bucket_place env.geometry s is.bucket ≡ Some place) same is.there) ∙ place-index env mix words G whole is.bucket within in
+      (j, index-within env mix words G whole is.bucket within, some-same place (place_at env mix j) there)
+    where
+      only_one : {x y : ℕ} → In x (y ∷ []) → x ≡ y
+      only_one (inl same) = same
+      only_one (inr none) = absurd none
 
 module _ (M : Type 0) (mix : ℕ → ℕ → ℕ → ℕ) where
   raising-raisers : (env : Env) (core : Core M) (G : Ghost) → Inv env mix M core G
@@ -71,6 +108,7 @@ module _ (M : Type 0) (mix : ℕ → ℕ → ℕ → ℕ) where
         all_bound = firsts-AreAllBound env mix core.words has.ghost has.inv.whole;
         counted =
             has.inv.whole.counted ∙ ap (λ r. firsts env mix has.ghost + r) (sym (raising-raisers env core has.ghost has.inv));
+        few = count_few env mix M core has.ghost has.inv;
       }
 
   pub at_rest : AtRest M mix
@@ -82,13 +120,23 @@ module _ (M : Type 0) (mix : ℕ → ℕ → ℕ → ℕ) where
       λ c. idle_knows env mix M c (local_of core c).doing (mem env mix core.words) G (quiet c) (has.inv.each c) in
       let none_raised = count_below-none G.raised env.geometry.callers (λ c l. (knows c).only.raising) in
       let all : word_at env.geometry core.words PortCount ≡ firsts env mix G = (let is = has.inv.whole.counted in omega (arith, is, none_raised)) in
+      let none = none_out M mix env events admitted in
       record {
-        unlocked = λ j l.
-            let right = (has.inv.whole.buckets j l).locked in
-            even_word (G.bucket j).holder (G.bucket j).plain (word_at env.geometry core.words (PageWord j)) right.word_is right.even
-            (λ c h. elim ((knows c).only.locks j h) [ inl e ↦ absurd (cc) | inr e ↦ absurd (cc) ]);
-        nodes =
-            λ n l. free_or_bound env mix core.words G has.inv.whole n l (λ c held. let none = (knows c).only.nodes n held in absurd (cc));
+        unlocked = λ place is.
+            let at = in_one_table env mix core.words G has.inv.whole place is in
+            let j = at.0 in
+            let right = (has.inv.whole.buckets j at.1).locked in
+            subst (λ p. slice_index core.words p % 2 ≡ 0) (sym at.2)
+            (even_word (G.bucket j).holder (G.bucket j).plain (word_at env.geometry core.words (PageWord j)) right.word_is right.even
+            (λ c h. elim ((knows c).only.locks j h) [ inl e ↦ absurd (cc) | inr e ↦ absurd (cc) ]));
+        nodes = record {
+          out = [];
+          distinct = tt;
+          among = tt;
+          many = sym none;
+          placed = λ n l. placed env mix core.words G has.inv.whole n l (λ c held. let none = (knows c).only.nodes n held in absurd (cc));
+        };
+        single = λ one port. few_listed env mix core.words G has.inv.whole port;
         counted = rw all (firsts-AreAllBound env mix core.words G has.inv.whole);
       }
     where

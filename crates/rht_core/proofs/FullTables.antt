@@ -41,7 +41,7 @@ use Rattle.rht_core.proofs.Events.InvariantRuns.{has_inv}
 use Rattle.rht_core.proofs.Counting.CountedPorts.{firsts-AreBound}
 
 -- what holds of each of a list holds of the first ones
-taken : {X : Type 0} (P : X → Type 0) (n : ℕ) (xs : List X) → AllByRecursion P xs → AllByRecursion P (take n xs)
+pub taken : {X : Type 0} (P : X → Type 0) (n : ℕ) (xs : List X) → AllByRecursion P xs → AllByRecursion P (take n xs)
 taken P zero xs all = tt
 taken P (suc n) [] all = tt
 taken P (suc n) (x ∷ xs) all = (all.0, taken P n xs all.1)
@@ -63,7 +63,7 @@ module _ (mix : ℕ → ℕ → ℕ → ℕ) (env : Env) where
 -- ---- who loads has raised none
 
 -- a look-up raises none
-find_raises : (state : FindAt) → (held_of_find state).raised ≡ false
+pub find_raises : (state : FindAt) → (held_of_find state).raised ≡ false
 find_raises find_at.CurrentTable = refl
 find_raises (find_at.Locating locate) = refl
 find_raises (find_at.Probing table probe) = refl
@@ -74,7 +74,7 @@ find_raises (find_at.LaterOwner table bucket node owner) = refl
 find_raises (find_at.Unlocking table unlock next) = refl
 
 -- what stores the link into a bucket loads nothing
-relink_stores : (relink : RelinkModel) (state : RelinkAt) (place : ℕ) → relink_plan_at relink state ≢ Load place
+pub relink_stores : (relink : RelinkModel) (state : RelinkAt) (place : ℕ) → relink_plan_at relink state ≢ Load place
 relink_stores relink (relinks.ChainLink before) place is = cc
 relink_stores relink (relinks.Word word) place is = cc
 

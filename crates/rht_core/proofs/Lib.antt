@@ -50,6 +50,8 @@ pub mod StepsInTraces
 pub mod TracedCalls
 -- in every run a bind takes one node at most
 pub mod NodesTaken
+-- the last table that a call walked is the one whose shape it loaded last
+pub mod TablesWalked
 -- a count of ports that is loaded is at most the ports bound and the other callers in mid-call
 pub mod FullTables
 -- in every run each call that has ended has a reply with its cause

@@ -1,14 +1,19 @@
--- Why a call was refused, as rows of one definition over the call's own operations.
--- A reply of which nothing is said here has its cause. Rows are added with the calls that they speak of; a refusal that no
--- call gives yet can have none.
-use Rattle.std.specs.Prelude.{◌≡◌, ℕ, ◌+◌, ◌<◌, ◌≤◌, ◌==◌, ◌&&◌, not, List, map, take, count_by}
+-- Why calls were answered as they were: a table of causes, by call and by reply, over the call's own operations.
+-- Each row says what the operations of a call that ended with this reply have to show. A row with nothing to show says so; a
+-- row that no call meets yet, and each reply that isn't one of the call's, can have no cause.
+use Rattle.std.specs.Prelude.{◌≡◌, ◌≢◌, ℕ, ◌+◌, ◌<◌, ◌≤◌, ◌==◌, ◌&&◌, not, Bool, List, ◌∷◌, ◌++◌, map, take, count_by}
 use Rattle.std.specs.List.{AllByRecursion, Any, range_with_len}
-use Rattle.rht_words.specs.declared.op.Op.TheVariants.{Load}
+use Rattle.rht_words.specs.declared.op.Op.TheVariants.{Load, Add}
 use Rattle.rht_words.specs.declared.env.Env.{Env}
-use Rattle.rht_words.specs.Places.{PortCount, place_of}
+use Rattle.rht_words.specs.declared.geometry.Geometry.{Geometry}
+use Rattle.rht_words.specs.Places.{PortCount, Slot, ShapeWord, place_of}
+use Rattle.rht_words.specs.Shapes.{unpacked, size_of}
+use Rattle.rht_policy.specs.Thresholds.{is_above_75}
 use Rattle.rht_policy.specs.Sizes.{most_ports}
+use Rattle.rht_model.specs.declared.history.Call.{Call}
+use Rattle.rht_model.specs.declared.history.Call.TheVariants.{Bind, Find, All, Release, Rebind, Walk, Work, Tidy, Count}
 use Rattle.rht_model.specs.declared.history.Reply.{Reply}
-use Rattle.rht_model.specs.declared.history.Reply.TheVariants.{Again, Busy, NoTable, NoNode, TooBig}
+use Rattle.rht_model.specs.declared.history.Reply.TheVariants.{Bound, Exists, Found, Missing, Listed, Released, Absent, Rebound, TooBig, Again, Busy, NoTable, NoNode, Pending, Elsewhere, Walked, Moved, Idle, Clear, Counted}
 use Rattle.rht_arena.specs.Laws.{SeesTaken}
 use Rattle.rht_core.specs.declared.event.Event.{Event}
 use Rattle.rht_core.specs.Locals.{is_idle}
@@ -20,6 +25,56 @@ use Rattle.rht_core.specs.StandsFor.{stands_for, AreBound}
 abbrev pub others_in_call : {M : Type 0} → Core M → ℕ → ℕ
 others_in_call core c =
     count_by (λ other. not (other == c) && not (is_idle (local_of core other))) (range_with_len 0 core.env.geometry.callers)
+
+-- why a look-up ended with this reply: it has nothing to show for its answers
+abbrev pub FindCause : Reply → Type 0
+FindCause (Found owner) = Unit {0}
+FindCause Missing = Unit {0}
+FindCause (Bound kick) = ⊥
+FindCause (Exists owner) = ⊥
+FindCause (Listed len) = ⊥
+FindCause (Released kick) = ⊥
+FindCause Absent = ⊥
+FindCause Rebound = ⊥
+FindCause (TooBig count) = ⊥
+FindCause (Again table) = ⊥
+FindCause (Busy root last) = ⊥
+FindCause (NoTable size) = ⊥
+FindCause NoNode = ⊥
+FindCause (Pending caller section) = ⊥
+FindCause Elsewhere = ⊥
+FindCause (Walked len next) = ⊥
+FindCause (Moved again) = ⊥
+FindCause Idle = ⊥
+FindCause (Clear returned) = ⊥
+FindCause (Counted count) = ⊥
+
+-- the operation doesn't load the shape of a table
+abbrev pub IsNoShapeLoad : Geometry → Did → Type 0
+IsNoShapeLoad g did = (table : ℕ) → table < 8 → did.op ≢ Load (place_of g (Slot table ShapeWord))
+
+-- the last table of which these operations loaded the shape is that of this slot, and this shape was found
+pub record LastWalked (g : Geometry) (table shape : ℕ) (steps : List Did) : Type 0 where
+  pub before : List Did
+  pub at : Did
+  pub behind : List Did
+  pub split : steps ≡ before ++ at ∷ behind
+  pub table_in : table < 8
+  pub loaded : at.op ≡ Load (place_of g (Slot table ShapeWord))
+  pub found : at.old ≡ shape
+  pub last : AllByRecursion (IsNoShapeLoad g) behind
+
+-- the operation raised the count of ports, and a table of this shape is due to grow by the raised count exactly where this says so
+pub record IsDueBy (env : Env) (shape : ℕ) (due : Bool) (did : Did) : Type 0 where
+  pub raised : did.op ≡ Add (place_of env.geometry PortCount) 1
+  pub by_count : due ≡ is_above_75 (did.old + 1) (size_of (unpacked shape)) env.config.max
+
+-- behind the last table that it walked a bind raised the count, and says whether that table is due to grow
+pub record KicksRightly (env : Env) (kick : Bool) (steps : List Did) : Type 0 where
+  pub table : ℕ
+  pub shape : ℕ
+  pub walked : LastWalked env.geometry table shape steps
+  pub counted : Any (IsDueBy env shape kick) walked.behind
 
 module _ (M : Type 0) (mix : ℕ → ℕ → ℕ → ℕ) where
   -- at the event of this operation, the ports bound and the other callers in mid-call were at least so many
@@ -35,19 +90,45 @@ module _ (M : Type 0) (mix : ℕ → ℕ → ℕ → ℕ) where
     pub full : most_ports env.config.max ≤ count
     pub counted : CountedAt env events c count did
 
-  -- the reply to a call that made these operations has its cause in them; the refusals of a table that grows have none yet
-  abbrev pub HasCauseIn : Env → List Event → ℕ → Reply → List Did → Type 0
-  HasCauseIn env events c NoNode steps =
-      (node : ℕ) → node < env.geometry.nodes → Any (SeesTaken env.geometry node) (map performed_of steps)
-  HasCauseIn env events c (TooBig count) steps = Any (SawFull env events c count) steps
-  HasCauseIn env events c (Again table) steps = ⊥
-  HasCauseIn env events c (Busy root last) steps = ⊥
-  HasCauseIn env events c (NoTable size) steps = ⊥
-  HasCauseIn env events c _ steps = Unit {0}
+  -- why a bind ended with this reply; the refusals of a table that grows have no cause yet
+  abbrev pub BindCause : Env → List Event → ℕ → Past → Reply → Type 0
+  BindCause env events c past (Bound kick) = KicksRightly env kick past.steps
+  BindCause env events c past (Exists owner) = Unit {0}
+  BindCause env events c past NoNode =
+      (node : ℕ) → node < env.geometry.nodes → Any (SeesTaken env.geometry node) (map performed_of past.steps)
+  BindCause env events c past (TooBig count) = Any (SawFull env events c count) past.steps
+  BindCause env events c past (Again table) = ⊥
+  BindCause env events c past (Busy root last) = ⊥
+  BindCause env events c past (NoTable size) = ⊥
+  BindCause env events c past (Found owner) = ⊥
+  BindCause env events c past Missing = ⊥
+  BindCause env events c past (Listed len) = ⊥
+  BindCause env events c past (Released kick) = ⊥
+  BindCause env events c past Absent = ⊥
+  BindCause env events c past Rebound = ⊥
+  BindCause env events c past (Pending caller section) = ⊥
+  BindCause env events c past Elsewhere = ⊥
+  BindCause env events c past (Walked len next) = ⊥
+  BindCause env events c past (Moved again) = ⊥
+  BindCause env events c past Idle = ⊥
+  BindCause env events c past (Clear returned) = ⊥
+  BindCause env events c past (Counted count) = ⊥
 
-  -- a call that has ended has a reply that has its cause in the call's own operations
+  -- why a call ended with this reply; a call of which there is no machine yet never ends
+  abbrev pub CauseOf : Env → List Event → ℕ → Past → Call → Reply → Type 0
+  CauseOf env events c past (Bind port owner once) reply = BindCause env events c past reply
+  CauseOf env events c past (Find port) reply = FindCause reply
+  CauseOf env events c past (All port) reply = ⊥
+  CauseOf env events c past (Release port owner) reply = ⊥
+  CauseOf env events c past (Rebind port owner new) reply = ⊥
+  CauseOf env events c past (Walk from limit) reply = ⊥
+  CauseOf env events c past Work reply = ⊥
+  CauseOf env events c past Tidy reply = ⊥
+  CauseOf env events c past Count reply = ⊥
+
+  -- a call that has ended has the cause of its reply
   abbrev pub HasCause : Env → List Event → ℕ → Past → Type 0
-  HasCause env events c past = HasCauseIn env events c past.done.reply past.steps
+  HasCause env events c past = CauseOf env events c past past.done.call past.done.reply
 
   -- in every run each call that has ended has a reply with its cause
   abbrev pub Causes : Type 0

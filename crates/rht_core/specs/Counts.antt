@@ -1,15 +1,22 @@
 -- What the count of ports counts, and what a table is like while nobody is in a call.
-use Rattle.std.specs.Prelude.{◌≡◌, ℕ, ◌+◌, ◌*◌, ◌/◌, ◌%◌, ◌<◌, ◌⊎◌, Bool, false, Option, Some, None, List, count_by}
-use Rattle.std.specs.List.{range_with_len}
+use Rattle.std.specs.Prelude.{◌≡◌, ℕ, ◌+◌, ◌/◌, ◌%◌, ◌<◌, ◌≤◌, ◌⊎◌, Bool, true, false, Option, Some, None, List, length, slice_index, sum_by, count_by}
+use Rattle.std.specs.List.{AllByRecursion, range_with_len}
 use Rattle.std.specs.Int.{bit_at}
 use Rattle.rht_words.specs.declared.env.Env.{Env}
 use Rattle.rht_words.specs.declared.geometry.Geometry.{Geometry}
-use Rattle.rht_words.specs.Places.{PortCount, NodeMap, PageWord, word_at}
+use Rattle.rht_words.specs.declared.config.Kind.TheVariants.{Single}
+use Rattle.rht_words.specs.Members.{In, IsDistinct}
+use Rattle.rht_words.specs.Places.{PortCount, NodeMap, word_at}
+use Rattle.rht_words.specs.Shapes.{unpacked, size_of}
+use Rattle.rht_nest.specs.Place.{bucket_place}
+use Rattle.rht_model.specs.declared.history.Reply.{Reply}
+use Rattle.rht_model.specs.declared.history.Reply.TheVariants.{Bound, Exists, Found, Missing, Listed, Released, Absent, Rebound, TooBig, Again, Busy, NoTable, NoNode, Pending, Elsewhere, Walked, Moved, Idle, Clear}
+use Rattle.rht_model.specs.declared.history.Reply.TheVariants as replies
 use Rattle.rht_core.specs.declared.event.Event.{Event}
 use Rattle.rht_core.specs.declared.local.Doing.{Doing}
 use Rattle.rht_core.specs.Jobs.{Job, job_of, held_of}
-use Rattle.rht_core.specs.Runs.{Core, local_of, run_of, IsAdmitted}
-use Rattle.rht_core.specs.StandsFor.{first_node, stands_for, AreAllBound}
+use Rattle.rht_core.specs.Runs.{Core, World, local_of, run_of, IsAdmitted}
+use Rattle.rht_core.specs.StandsFor.{in_force, shape_of, nodes_of, stands_for, AreAllBound}
 use Rattle.rht_core.specs.Alone.{IsQuiet}
 
 -- the job has raised the count for a node that it hasn't linked yet
@@ -25,29 +32,82 @@ is_raising doing = raised_by (job_of doing)
 abbrev pub raising : {M : Type 0} → Core M → ℕ
 raising core = count_by (λ c. is_raising (local_of core c).doing) (range_with_len 0 core.env.geometry.callers)
 
--- the count of ports is the number of ports bound, and of the callers that have raised it for a node that they haven't linked yet
+-- the count of ports is the number of ports bound, and of the callers that have raised it for a node that they haven't linked
+-- yet; and it is at most the nodes
 pub record IsCounted {M : Type 0} (env : Env) (core : Core M) : Type 0 where
   pub bound : ℕ
   pub all_bound : AreAllBound (stands_for env.geometry core.words) bound
   pub counted : word_at env.geometry core.words PortCount ≡ bound + raising core
+  pub few : word_at env.geometry core.words PortCount ≤ env.geometry.nodes
 
 -- the node's bit is set
 abbrev pub IsFree : Geometry → List ℕ → ℕ → Type 0
 IsFree g words node = bit_at (word_at g words (NodeMap (node / 64))) (node % 64) ≡ 1
 
--- the node is the first node of a port
-abbrev pub IsFirst : Geometry → List ℕ → ℕ → Type 0
-IsFirst g words node = (port : ℕ) × (first_node g words port ≡ Some node)
+-- one of the three is so, and neither of the others
+abbrev pub ExactlyOne : Type 0 → Type 0 → Type 0 → Type 0
+ExactlyOne A B C = (A × ¬ B × ¬ C) ⊎ (B × ¬ A × ¬ C) ⊎ (C × ¬ A × ¬ B)
 
--- the node is free and no port's first one, or it is a port's first one and not free
-abbrev pub IsFreeOrBound : Geometry → List ℕ → ℕ → Type 0
-IsFreeOrBound g words node = (IsFree g words node × ¬ IsFirst g words node) ⊎ (IsFirst g words node × ¬ IsFree g words node)
+module _ (g : Geometry) (words : List ℕ) where
+  -- the node is in a port's list
+  abbrev pub IsListed : ℕ → Type 0
+  IsListed node = (port : ℕ) × In node (nodes_of g words port)
 
--- no bucket is locked, no node is out, and the count of ports is the number of those bound
-pub record IsAtRest (g : Geometry) (words : List ℕ) : Type 0 where
-  pub unlocked : (index : ℕ) → index < 64 * g.pages → word_at g words (PageWord index) % 2 ≡ 0
-  pub nodes : (node : ℕ) → node < g.nodes → IsFreeOrBound g words node
-  pub counted : AreAllBound (stands_for g words) (word_at g words PortCount)
+  -- the node is free, in a port's list, or one of those that are out, and never two of these
+  abbrev pub IsPlaced : List ℕ → ℕ → Type 0
+  IsPlaced out node = ExactlyOne (IsFree g words node) (IsListed node) (In node out)
+
+  -- so many different nodes are out, and each other one is free or in a port's list
+  pub record AreOut (count : ℕ) : Type 0 where
+    pub out : List ℕ
+    pub distinct : IsDistinct out
+    pub among : AllByRecursion (λ node. node < g.nodes) out
+    pub many : length out ≡ count
+    pub placed : (node : ℕ) → node < g.nodes → IsPlaced out node
+
+  -- at this place stands the word of a bucket of a table in force
+  pub record IsBucketInForce (place : ℕ) : Type 0 where
+    pub table : ℕ
+    pub bucket : ℕ
+    pub of_table : In table (in_force g words)
+    pub within : bucket < size_of (unpacked (shape_of g words table))
+    pub there : bucket_place g (shape_of g words table) bucket ≡ Some place
+
+-- a call with this reply has taken a node out of a port's list
+abbrev pub takes_out : Reply → Bool
+takes_out (Released kick) = true
+takes_out Rebound = true
+takes_out (Bound kick) = false
+takes_out (Exists owner) = false
+takes_out (Found owner) = false
+takes_out Missing = false
+takes_out (Listed len) = false
+takes_out Absent = false
+takes_out (TooBig count) = false
+takes_out (Again table) = false
+takes_out (Busy root last) = false
+takes_out (NoTable size) = false
+takes_out NoNode = false
+takes_out (Pending caller section) = false
+takes_out Elsewhere = false
+takes_out (Walked len next) = false
+takes_out (Moved again) = false
+takes_out Idle = false
+takes_out (Clear returned) = false
+takes_out (replies.Counted count) = false
+
+-- how many of the calls that have ended did so
+abbrev pub taken_out : {M : Type 0} → World M → ℕ
+taken_out w =
+    sum_by (λ c. count_by (λ done. takes_out done.reply) (w.books c).finished) (range_with_len 0 w.core.env.geometry.callers)
+
+-- No bucket in force is locked; as many nodes are out as were taken out, and no others; in a table of one owner each no port's
+-- list has a second node; and the count of ports is the number of those bound
+pub record IsAtRest (env : Env) (words : List ℕ) (out : ℕ) : Type 0 where
+  pub unlocked : (place : ℕ) → IsBucketInForce env.geometry words place → slice_index words place % 2 ≡ 0
+  pub nodes : AreOut env.geometry words out
+  pub single : env.config.kind ≡ Single → (port : ℕ) → length (nodes_of env.geometry words port) ≤ 1
+  pub counted : AreAllBound (stands_for env.geometry words) (word_at env.geometry words PortCount)
 
 module _ (M : Type 0) (mix : ℕ → ℕ → ℕ → ℕ) where
   -- in every run the count of ports counts
@@ -59,4 +119,4 @@ module _ (M : Type 0) (mix : ℕ → ℕ → ℕ → ℕ) where
   abbrev pub AtRest : Type 0
   AtRest =
       (env : Env) (events : List Event) → IsAdmitted env.config.kind events → IsQuiet M mix env events
-      → IsAtRest env.geometry (run_of {M = M} mix env events).core.words
+      → let w : World M = run_of mix env events in IsAtRest env w.core.words (taken_out w)

@@ -1,6 +1,6 @@
 -- What the words of a table stand for: which owners each port has, first owner first.
 -- It is said of any words. At most eight tables are in force, and no chain and no list has more nodes than there are.
-use Rattle.std.specs.Prelude.{◌≡◌, ◌≢◌, ℕ, zero, suc, ◌≤◌, ◌==◌, Bool, Option, None, Some, List, [], ◌∷◌, length, slice_index}
+use Rattle.std.specs.Prelude.{◌≡◌, ◌≢◌, ℕ, zero, suc, ◌≤◌, ◌==◌, Bool, Option, None, Some, List, [], ◌∷◌, map, length, slice_index}
 use Rattle.std.specs.List.{AllByRecursion, find, flat_map, range_with_len}
 use Rattle.rht_words.specs.declared.geometry.Geometry.{Geometry}
 use Rattle.rht_words.specs.Members.{IsDistinct}
@@ -47,16 +47,26 @@ module _ (g : Geometry) (words : List ℕ) where
   abbrev pub first_node : ℕ → Option ℕ
   first_node port = find (has_key (word_of port)) (flat_map table_nodes in_force)
 
-  -- the owners along list links, up to the first link that leads to none
+  -- the nodes along list links, up to the first link that leads to none
+  abbrev pub list_from : ℕ → Option ℕ → List ℕ
+  list_from zero _ = []
+  list_from (suc left) None = []
+  list_from (suc left) (Some node) = node ∷ list_from left (node_of g.nodes (word_at g words (Node node ListLink)))
+
+  -- the owners of these nodes
+  abbrev pub owners_at : List ℕ → List ℕ
+  owners_at nodes = map (λ node. owner_of (word_at g words (Node node OwnerWord))) nodes
+
   abbrev pub owners_from : ℕ → Option ℕ → List ℕ
-  owners_from zero _ = []
-  owners_from (suc left) None = []
-  owners_from (suc left) (Some node) =
-      owner_of (word_at g words (Node node OwnerWord)) ∷ owners_from left (node_of g.nodes (word_at g words (Node node ListLink)))
+  owners_from left first = owners_at (list_from left first)
+
+  -- the nodes of a port's list
+  abbrev pub nodes_of : ℕ → List ℕ
+  nodes_of port = list_from g.nodes (first_node port)
 
   -- the owners of each port
   abbrev pub stands_for : Multimap
-  stands_for port = owners_from g.nodes (first_node port)
+  stands_for port = owners_at (nodes_of port)
 
 -- so many different ports are bound
 pub record AreBound (bindings : Multimap) (count : ℕ) : Type 0 where

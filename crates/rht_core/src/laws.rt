@@ -82,12 +82,16 @@ pub fn taken_alone<M: Mix>()
     ensures { TakenAlone M M.mix_of }
 {}
 
-/// In every run a call that was refused for want of nodes or of room has its cause in its own
-/// operations. One that was answered `NoNode` found the bit of each node clear, each at some event of
-/// its own. One that was answered `TooBig` loaded that count, which is as many ports as the table may
-/// hold or more, and there the ports bound and the other callers in mid-call were at least so many.
-/// It doesn't say that all nodes were taken at one event, or that so many ports were bound, and it
-/// says nothing of the other replies.
+/// In every run each call that has ended has the cause of its reply, by a table of calls and replies
+/// over the call's own operations. A bind that was answered `NoNode` found the bit of each node clear,
+/// each at some event of its own. One that was answered `TooBig` loaded that count, which is as many
+/// ports as the table may hold or more, and there the ports bound and the other callers in mid-call
+/// were at least so many. One that was answered `Bound` raised the count behind the last table that it
+/// walked, and `kick` says whether the raised count is above three quarters of that table's size, and
+/// the table may grow: no limit on the count comes in between. `Exists` of a bind, `Found` and
+/// `Missing` of a look-up have nothing to show here; no other reply of these calls comes, and no other
+/// call ends yet. It doesn't say that all nodes were taken at one event, or that so many ports were
+/// bound, or in which table a bind's node was linked.
 pub fn causes<M: Mix>()
     ensures { Causes M M.mix_of }
 {}
@@ -102,15 +106,18 @@ pub fn alone<M: Mix>()
 {}
 
 /// In every run the count of ports is the number of ports that are bound, and of the callers that have
-/// raised it for a node which they link next. So it is never too low. It doesn't say which ports they
-/// are.
+/// raised it for a node which they link next. So it is never too low. And it is at most the number of
+/// nodes, since each such caller has a node of its own. It doesn't say which ports they are.
 pub fn counted<M: Mix>()
     ensures { Counted M M.mix_of }
 {}
 
-/// In every run, while nobody is in a call, no bucket is locked, each node is free or the first one of
-/// a port and never both, and the count is the number of ports that are bound. It doesn't say that
-/// such a moment comes.
+/// In every run, while nobody is in a call, no bucket of a table in force is locked; each node is free,
+/// in the list of a port, or out, and never two of these; those that are out are as many as the calls
+/// that were answered `Released` or `Rebound`, each of which took one out; in a table of one owner for
+/// each port no list has a second node; and the count is the number of ports that are bound. So a bind
+/// that is refused, or finds its port bound, has given its node back. It doesn't say that such a moment
+/// comes, and nothing of words that are no bucket's.
 pub fn at_rest<M: Mix>()
     ensures { AtRest M M.mix_of }
 {}

@@ -11,14 +11,13 @@ use Rattle.rht_words.specs.declared.geometry.Geometry.{Geometry}
 use Rattle.rht_words.proofs.Memory.{Memory}
 use Rattle.rht_words.specs.Links.{node_of, table_of, future_of, head_of, marker_of}
 use Rattle.rht_words.specs.Shapes.{unpacked, size_of}
-use Rattle.rht_words.specs.Ports.{owner_of}
 use Rattle.rht_words.specs.Chains.{IsSegment}
-use Rattle.rht_words.specs.Places.{CurrentTable, Slot, FutureWord, Node, OwnerWord, ListLink}
+use Rattle.rht_words.specs.Places.{CurrentTable, Slot, FutureWord, Node, ListLink}
 use Rattle.rht_words.proofs.LinksRead.{links_tell_apart}
 use Rattle.rht_words.specs.Members.{In}
 use Rattle.rht_words.proofs.Members.{In-flat_map, flat_map-In, In-range_with_len, range_with_len-In, flat_map-same, find-Some, find-None, In-AllByRecursion, count_below-most, length-count_below}
 use Rattle.rht_nest.specs.Place.{bucket_place, bucket_index}
-use Rattle.rht_core.specs.StandsFor.{in_force, chain_from, bucket_nodes, table_nodes, has_key, first_node, owners_from, stands_for}
+use Rattle.rht_core.specs.StandsFor.{in_force, chain_from, bucket_nodes, table_nodes, has_key, first_node, list_from, nodes_of, stands_for}
 use Rattle.rht_core.proofs.Theory.Ghosts.{Ghost, lock_bit, table_at, some-same}
 use Rattle.rht_core.proofs.Theory.Wholes.{chain_of, key_of, home, hash_in, place_at, future_in, Whole}
 use Rattle.rht_core.proofs.Theory.Passed.{hash-below, home-index}
@@ -73,20 +72,20 @@ module _ (env : Env) (mix : ℕ → ℕ → ℕ → ℕ) (words : List ℕ) (G :
   -- ---- the one table
 
   -- so far one table is attached, in the slot of the current one
-  attached : 0 < G.attached
+  pub attached : 0 < G.attached
   attached = omega (arith, whole.tables.one)
 
-  abbrev size : ℕ
+  abbrev pub size : ℕ
   size = size_of (unpacked (G.table 0).shape)
 
   -- the index of a bucket's word
-  abbrev index : ℕ → ℕ
+  abbrev pub index : ℕ → ℕ
   index bucket = bucket_index (G.table 0).shape bucket
 
-  index-within : (bucket : ℕ) → bucket < size → index bucket < 64 * g.pages
+  pub index-within : (bucket : ℕ) → bucket < size → index bucket < 64 * g.pages
   index-within bucket below = let fits = (whole.tables.each 0 attached).placed.fits in omega arith
 
-  place-index : (bucket : ℕ) → bucket < size → bucket_place g (G.table 0).shape bucket ≡ Some (place_at env mix (index bucket))
+  pub place-index : (bucket : ℕ) → bucket < size → bucket_place g (G.table 0).shape bucket ≡ Some (place_at env mix (index bucket))
   place-index bucket below =
       ap (λ t. cond t (Some (place_at env mix (index bucket))) None) (lt-ltb (index bucket) (64 * g.pages) (index-within bucket below))
 
@@ -99,7 +98,7 @@ module _ (env : Env) (mix : ℕ → ℕ → ℕ → ℕ) (words : List ℕ) (G :
       (λ bucket i. let below : bucket < size = omega (arith, range_with_len-In 0 size bucket i) in
       ap (bucket_nodes g words) (place-index bucket below) ∙ bucket_met (index bucket) (index-within bucket below)))
 
-  one_in_force : in_force g words ≡ (G.table 0).slot ∷ []
+  pub one_in_force : in_force g words ≡ (G.table 0).slot ∷ []
   one_in_force =
       let right = whole.tables.each 0 attached in
       let current : G.current ≡ 0 = omega (arith, whole.tables.current_in, whole.tables.one) in
@@ -161,30 +160,33 @@ module _ (env : Env) (mix : ℕ → ℕ → ℕ → ℕ) (words : List ℕ) (G :
           let q : ◌≡◌ {A = List ℕ} (n ∷ behind) (m ∷ []) = sym b ∙ ap G.bound (sym key) ∙ met_bound m member.0 in
           let same : n ≡ m = (cc) in ap Some (sym same)
 
-  one_owner : (n : ℕ) → M (Node n ListLink) ≡ 0
-      → owners_from g words g.nodes (Some n) ≡ owner_of (M (Node n OwnerWord)) ∷ []
-  one_owner n none =
+  one_listed : (n : ℕ) → M (Node n ListLink) ≡ 0 → list_from g words g.nodes (Some n) ≡ n ∷ []
+  one_listed n none =
       let within = g.within in
       let some : g.nodes ≡ suc (g.nodes - 1) = omega (arith, within.nodes_within.0) in
-      subst (λ fuel. owners_from g words fuel (Some n) ≡ owner_of (M (Node n OwnerWord)) ∷ []) (sym some)
-      (ap (λ rest. owner_of (M (Node n OwnerWord)) ∷ rest) (rw none (no_more (g.nodes - 1))))
+      subst (λ fuel. list_from g words fuel (Some n) ≡ n ∷ []) (sym some)
+      (ap (λ rest. n ∷ rest) (rw none (no_more (g.nodes - 1))))
     where
-      no_more : (fuel : ℕ) → owners_from g words fuel (node_of g.nodes 0) ≡ []
+      no_more : (fuel : ℕ) → list_from g words fuel (node_of g.nodes 0) ≡ []
       no_more zero = refl
       no_more (suc fuel) = refl
 
-  no_owner : (fuel : ℕ) → owners_from g words fuel None ≡ []
-  no_owner zero = refl
-  no_owner (suc fuel) = refl
+  none_listed : (fuel : ℕ) → list_from g words fuel None ≡ []
+  none_listed zero = refl
+  none_listed (suc fuel) = refl
 
-  -- the owners of each port are those of the nodes to which it is bound
-  pub stands_for_bound : (port : ℕ) → stands_for g words port ≡ owners env mix M G port
-  stands_for_bound port = go (G.bound port) refl
+  -- the nodes of a port's list are those to which it is bound
+  pub listed_bound : (port : ℕ) → nodes_of g words port ≡ G.bound port
+  listed_bound port = go (G.bound port) refl
     where
-      go : (bound : List ℕ) → G.bound port ≡ bound → stands_for g words port ≡ owners_in env mix M (G.bound port)
-      go [] b = ap (owners_from g words g.nodes) (first_bound port [] b) ∙ no_owner g.nodes ∙ ap (owners_in env mix M) (sym b)
+      go : (bound : List ℕ) → G.bound port ≡ bound → nodes_of g words port ≡ G.bound port
+      go [] b = ap (list_from g words g.nodes) (first_bound port [] b) ∙ none_listed g.nodes ∙ sym b
       go (n ∷ behind) b =
           let to = whole.owned.bound_to port n behind b in
           let at = whole.owned.first_at n to.bucket to.first in
-          ap (owners_from g words g.nodes) (first_bound port (n ∷ behind) b) ∙ one_owner n at.no_list
-          ∙ ap (λ rest. owner_of (M (Node n OwnerWord)) ∷ owners_in env mix M rest) (sym to.alone) ∙ ap (owners_in env mix M) (sym b)
+          ap (list_from g words g.nodes) (first_bound port (n ∷ behind) b) ∙ one_listed n at.no_list
+          ∙ ap (λ rest. n ∷ rest) (sym to.alone) ∙ sym b
+
+  -- so the owners of each port are those of the nodes to which it is bound
+  pub stands_for_bound : (port : ℕ) → stands_for g words port ≡ owners env mix M G port
+  stands_for_bound port = ap (owners_in env mix M) (listed_bound port)

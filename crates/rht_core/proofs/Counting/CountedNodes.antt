@@ -1,0 +1,110 @@
+-- The count of ports is at most the nodes.
+-- It is the nodes in chains and the callers that have raised it, and each such caller has a node of its own: what its job holds
+-- and knows says so. So no clamp at the greatest number of nodes ever changes what a call makes of the count.
+use Rattle.std.proofs.Common.{◌≡◌, ℕ, ◌+◌, ◌%◌, ◌^◌, ◌≤◌, Bool, true, List, [], ◌∷◌, ◌++◌, take, refl, sym, ap, ◌∙◌, subst, arith}
+use Rattle.std.specs.Prelude.{Option, Some, None}
+use Rattle.std.specs.List.{AllByRecursion, slice_get}
+use Rattle.std.proofs.lemmas.Option.{slice_get_within, get_or_from_slice_get}
+use Rattle.std.proofs.lemmas.List.Elements.{All-from_recursion}
+use Rattle.rht_words.specs.declared.op.Op.{Op}
+use Rattle.rht_words.specs.declared.op.Op.TheVariants.{Add}
+use Rattle.rht_words.specs.Operations.{old_of, applied}
+use Rattle.rht_words.proofs.EachElement.{AllByRecursion-push}
+use Rattle.rht_words.specs.declared.env.Env.{Env}
+use Rattle.rht_words.specs.Places.{PortCount, place_of, word_at}
+use Rattle.rht_words.proofs.Memory.{Memory, is_write}
+use Rattle.rht_bind.specs.BindHeld.{held_of_bind}
+use Rattle.rht_bind.specs.declared.bind.BindAt.{BindAt}
+use Rattle.rht_bind.specs.declared.bind.BindAt.TheVariants as at
+use Rattle.rht_core.specs.Jobs.{Job, finds, binds, job_of, held_of}
+use Rattle.rht_core.specs.declared.event.Event.{Event}
+use Rattle.rht_core.specs.declared.event.Event.TheVariants.{Step}
+use Rattle.rht_core.specs.Runs.{Core, World, local_of, planned_in, core_step, run_of, IsAdmitted, IsAdmittedEvent}
+use Rattle.rht_core.specs.Traces.{Did}
+use Rattle.rht_core.specs.Laws.{IsRecorded}
+use Rattle.rht_core.proofs.FullTables.{find_raises, taken}
+use Rattle.rht_core.proofs.Worlds.{run_of-push}
+use Rattle.rht_core.proofs.Theory.Ghosts.{Ghost}
+use Rattle.rht_core.proofs.Theory.Steps.{mem}
+use Rattle.rht_core.proofs.Machines.JobSteps.{JobKnows}
+use Rattle.rht_core.proofs.Events.Invariants.{Knows, Inv}
+use Rattle.rht_core.proofs.Events.InvariantRuns.{has_inv}
+use Rattle.rht_core.proofs.Counting.RaisedNodes.{OwnNode, few_used}
+
+module _ (env : Env) (mix : ℕ → ℕ → ℕ → ℕ) (c : ℕ) (M : Memory) (G : Ghost) where
+  -- a bind that has raised the count has the node that it links next
+  bind-own : (port owner : ℕ) (once : Bool) (state : BindAt) → JobKnows env mix c (binds port owner once state) M G
+      → (held_of_bind state).raised ≡ true → OwnNode env G c
+  bind-own port owner once (at.Filling new) knows is = absurd (cc)
+  bind-own port owner once (at.CurrentTable node) knows is = absurd (cc)
+  bind-own port owner once (at.Locating node locate) knows is = absurd (cc)
+  bind-own port owner once (at.Probing node table shape probe) knows is = absurd (cc)
+  bind-own port owner once (at.FoundOwner claimed found) knows is = absurd (cc)
+  bind-own port owner once (at.Future claimed length) knows is = absurd (cc)
+  bind-own port owner once (at.Count claimed) knows is = absurd (cc)
+  bind-own port owner once (at.Link claimed) knows is = absurd (cc)
+  bind-own port owner once (at.Raise claimed) knows is = absurd (cc)
+  bind-own port owner once (at.Publish node table relink kick) knows is =
+      let has = knows.knowing.means.node.has in
+      record {
+        node = node;
+        among = has.among;
+        mine = has.mine;
+        only = λ other held. let same = knows.knowing.only.nodes other held in (cc);
+      }
+  bind-own port owner once (at.Unlocking node table unlock next) knows is = absurd (cc)
+  bind-own port owner once (at.Giving give reply) knows is = absurd (cc)
+
+  job-own : (job : Job) → JobKnows env mix c job M G → (held_of job).raised ≡ true → OwnNode env G c
+  job-own (finds port state) knows is = let none = find_raises state in absurd (cc)
+  job-own (binds port owner once state) knows is = bind-own port owner once state knows is
+
+  -- who has raised the count has a node of its own
+  raised-own : (job : Option Job) → Knows env mix c job M G → G.raised c ≡ true → OwnNode env G c
+  raised-own None knows is = let none = knows.only.raising in absurd (cc)
+  raised-own (Some job) knows is = job-own job knows (let raised = knows.knowing.only.raising in cc)
+
+-- what holds of each event holds of the one at a number
+each_event : (P : Event → Type 0) (events : List Event) (i : ℕ) (event : Event) → slice_get events i ≡ Some event
+    → AllByRecursion P events → P event
+each_event P events i event is all =
+    subst P (get_or_from_slice_get events i event event is)
+    (All-from_recursion P events all i event (slice_get_within events i event is))
+
+module _ (env : Env) (mix : ℕ → ℕ → ℕ → ℕ) (M : Type 0) where
+  -- what the word says is at most the nodes
+  pub count_few : (core : Core M) (G : Ghost) → Inv env mix M core G
+      → word_at env.geometry core.words PortCount ≤ env.geometry.nodes
+  count_few core G inv =
+      let few = few_used env mix G (λ c is. raised-own env mix c (mem env mix core.words) G (job_of (local_of core c).doing) (inv.each c) is) in
+      let counted = inv.whole.counted in
+      omega (arith, few, counted)
+
+  -- the words after an operation that a caller plans
+  stepped_words : (core : Core M) (c : ℕ) (op : Op) (plan : Option Op) → planned_in core c ≡ plan → plan ≡ Some op
+      → (core_step mix core (Step c)).0.words ≡ applied core.words op
+  stepped_words core c op plan is some = rw (is ∙ some) refl
+
+  -- Whoever raises the count found it below the nodes, since it is at most the nodes behind that too.
+  pub raise_few : (events : List Event) (c : ℕ) (did : Did) → IsAdmitted env.config.kind events
+      → did.op ≡ Add (place_of env.geometry PortCount) 1 → IsRecorded M mix env events c did
+      → did.old + 1 ≤ env.geometry.nodes
+  raise_few events c did admitted adds is =
+      let before = take did.index events in
+      let more = before ++ Step c ∷ [] in
+      let core : Core M = (run_of mix env before).core in
+      let admitted_event : IsAdmittedEvent env.config.kind (Step c) = each_event (IsAdmittedEvent env.config.kind) events did.index (Step c) is.event admitted in
+      let admitted_before = taken (IsAdmittedEvent env.config.kind) did.index events admitted in
+      let has = has_inv env mix M before admitted_before in
+      let later = has_inv env mix M more (AllByRecursion-push (IsAdmittedEvent env.config.kind) before (Step c) admitted_before admitted_event) in
+      let words : (run_of {M = M} mix env more).core.words ≡ applied core.words did.op =
+      ap (λ (w : World M). w.core.words) (run_of-push M mix env before (Step c)) ∙ stepped_words core c did.op (planned_in core c) refl is.plan in
+      let op = Add (place_of env.geometry PortCount) 1 in
+      let write = is_write env.geometry core.words PortCount op has.all.stays.all_words tt refl in
+      let found : word_at env.geometry core.words PortCount ≡ did.old = sym (ap (old_of core.words) adds) ∙ is.found in
+      let raised : word_at env.geometry (run_of {M = M} mix env more).core.words PortCount ≡ (did.old + 1) % 2 ^ 64 =
+      ap (λ w. word_at env.geometry w PortCount) (words ∙ ap (applied core.words) adds) ∙ write.same ∙ ap (λ old. (old + 1) % 2 ^ 64) found in
+      let few = count_few core has.ghost has.inv in
+      let few_later = count_few (run_of {M = M} mix env more).core later.ghost later.inv in
+      let most = env.geometry.within.nodes_within.1 in
+      omega (arith, few, few_later, raised, found, most)
