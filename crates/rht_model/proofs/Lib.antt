@@ -22,3 +22,5 @@ pub mod PortsApart
 pub mod Refusals
 -- which entries change nothing, and that they may be put in or taken out
 pub mod UnchangedBindings
+-- an ending that is kept stays as it was when others are
+pub mod KeptEndings

@@ -1,8 +1,8 @@
 //! The replies to a worker's commands. They are kept until they are printed.
 
-ghost use Rattle.std.specs.Prelude.{◌≡◌, ◌<◌, [], ◌∷◌, ◌++◌, length, IsTrue, ◌↔◌, IfSome, IfOk, OnOk, OnErr, slice_get};
+ghost use Rattle.std.specs.Prelude.{List, ◌≡◌, ◌<◌, [], ◌∷◌, ◌++◌, length, IsTrue, ◌↔◌, IfSome, IfOk, OnOk, OnErr, slice_get};
 ghost use Rattle.rht_model.specs.Endings.{replied};
-ghost use Rattle.rht_model.specs.KeptReplies.{ending_of};
+ghost use Rattle.rht_model.specs.KeptReplies.{ending_of, IsKept};
 
 use crate::history::Reply;
 use rht_words::Port;
@@ -18,7 +18,7 @@ struct Whole {
 }
 
 /// A reply as it is kept. Those that scripts have most, without lists, take the least room.
-#[derive(Debug, Drop)]
+#[derive(Clone, Copy, Debug)]
 enum Kept {
     Bound { kick: bool },
     Exists { owner: u32 },
@@ -26,7 +26,8 @@ enum Kept {
     Missing,
     Released { kick: bool },
     Absent,
-    Apart(Box<Whole>),
+    /// The one at this place among those that are kept apart.
+    Apart { place: u32 },
 }
 
 /// Replies, each with the lists that came beside it, in the order of the commands. Contracts see
@@ -34,16 +35,20 @@ enum Kept {
 #[derive(Debug, Drop)]
 pub struct Replies {
     kept: Vec<Kept>,
+    apart: Vec<Whole>,
 }
 
 impl Model for Replies {
     ghost use Rattle.std.specs.Prelude.{List, map};
+    ghost use Rattle.std.specs.List.{AllByRecursion};
     ghost use Rattle.rht_model.specs.Endings.{Ending};
-    ghost use Rattle.rht_model.specs.KeptReplies.{ending_of};
+    ghost use Rattle.rht_model.specs.KeptReplies.{ending_of, IsKept};
 
     ghost Value = { List Ending };
 
-    ghost view = { λ r. map ending_of r.kept.items };
+    ghost view = { λ r. map (ending_of r.apart.items) r.kept.items };
+
+    ghost invariant = { λ r. AllByRecursion (IsKept r.apart.items) r.kept.items };
 }
 
 impl Replies {
@@ -53,6 +58,7 @@ impl Replies {
     {
         Replies {
             kept: Vec::new(alloc),
+            apart: Vec::new(alloc),
         }
     }
 
@@ -68,8 +74,37 @@ impl Replies {
         ensures ok { OnOk result (self.new ≡ self.old ++ replied reply owners.now pairs.now ∷ []) }
         ensures err { OnErr result (self.new ≡ self.old) }
     {
-        let kept = kept_of(*self.kept.allocator(), reply, owners, pairs)?;
-        self.kept.push(kept)?;
+        match without_lists(reply) {
+            Some(kept) if owners.is_empty() && pairs.is_empty() => {
+                self.kept.push(kept)?;
+                Ok(())
+            }
+            _ => self.push_apart(reply, owners, pairs),
+        }
+    }
+
+    /// Appends a reply that is kept apart, with its lists. More of them than a place can name are
+    /// want of memory too.
+    #[inline(never)]
+    fn push_apart(
+        &mut self,
+        reply: Reply,
+        owners: &[u32],
+        pairs: &[(Port, u32)],
+    ) -> Result<(), AllocError>
+        ensures ok { OnOk result (self.new ≡ self.old ++ replied reply owners.now pairs.now ∷ []) }
+        ensures err { OnErr result (self.new ≡ self.old) }
+    {
+        let Ok(place) = u32::try_from(self.apart.len()) else {
+            return Err(AllocError);
+        };
+        let alloc = *self.apart.allocator();
+        self.apart.push(Whole {
+            reply,
+            owners: owners.to_vec(alloc)?,
+            pairs: pairs.to_vec(alloc)?,
+        })?;
+        self.kept.push(Kept::Apart { place })?;
         Ok(())
     }
 
@@ -94,14 +129,14 @@ impl Replies {
         requires { i < length self.now }
         ensures { IfSome (slice_get self.now i) (λ ending. result ≡ ending.answer.reply) }
     {
-        match &self.kept[i] {
-            Kept::Bound { kick } => Reply::Bound { kick: *kick },
-            Kept::Exists { owner } => Reply::Exists { owner: *owner },
-            Kept::Found { owner } => Reply::Found { owner: *owner },
+        match self.kept[i] {
+            Kept::Bound { kick } => Reply::Bound { kick },
+            Kept::Exists { owner } => Reply::Exists { owner },
+            Kept::Found { owner } => Reply::Found { owner },
             Kept::Missing => Reply::Missing,
-            Kept::Released { kick } => Reply::Released { kick: *kick },
+            Kept::Released { kick } => Reply::Released { kick },
             Kept::Absent => Reply::Absent,
-            Kept::Apart(whole) => whole.reply,
+            Kept::Apart { place } => self.apart[place as usize].reply,
         }
     }
 
@@ -111,8 +146,8 @@ impl Replies {
         requires { i < length self.now }
         ensures { IfSome (slice_get self.now i) (λ ending. result.now ≡ ending.answer.owners) }
     {
-        match &self.kept[i] {
-            Kept::Apart(whole) => &whole.owners,
+        match self.kept[i] {
+            Kept::Apart { place } => &self.apart[place as usize].owners,
             _ => &[],
         }
     }
@@ -123,42 +158,19 @@ impl Replies {
         requires { i < length self.now }
         ensures { IfSome (slice_get self.now i) (λ ending. result.now ≡ ending.pairs) }
     {
-        match &self.kept[i] {
-            Kept::Apart(whole) => &whole.pairs,
+        match self.kept[i] {
+            Kept::Apart { place } => &self.apart[place as usize].pairs,
             _ => &[],
         }
     }
 }
 
-/// How the reply is kept with its lists.
-#[inline]
-fn kept_of(
-    alloc: Global,
-    reply: Reply,
-    owners: &[u32],
-    pairs: &[(Port, u32)],
-) -> Result<Kept, AllocError>
-    ensures { IfOk result (λ kept. ending_of kept ≡ replied reply owners.now pairs.now) }
-{
-    if owners.is_empty() && pairs.is_empty() {
-        if let Some(kept) = without_lists(reply) {
-            return Ok(kept);
-        }
-    }
-    let owners = owners.to_vec(alloc)?;
-    let pairs = pairs.to_vec(alloc)?;
-    let whole = Whole {
-        reply,
-        owners,
-        pairs,
-    };
-    Ok(Kept::Apart(Box::new(alloc, whole)?))
-}
-
 /// How the reply is kept where no list came with it, if it isn't kept apart.
 #[inline]
 fn without_lists(reply: Reply) -> Option<Kept>
-    ensures { IfSome result (λ kept. ending_of kept ≡ replied reply [] []) }
+    ensures kept { IfSome result (λ kept. (apart : List Whole) → IsKept apart kept) }
+    ensures ending { IfSome result
+        (λ kept. (apart : List Whole) → ending_of apart kept ≡ replied reply [] []) }
 {
     match reply {
         Reply::Bound { kick } => Some(Kept::Bound { kick }),

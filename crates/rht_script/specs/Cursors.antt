@@ -26,10 +26,10 @@ pub record IsAtFault (before : Unread) (fault : ScriptFault) : Type 0 where
   pub wrong : at_line before.number (words_at before.number line) ≡ Err fault
 
 -- what taking the next line comes to; none is taken where none is left, or where it is at fault
-abbrev pub TakesNext : Unread → Unread → Result (Option (ℕ × Bor (List ℕ))) ScriptFault → Type 0
-TakesNext before after (Ok None) = (before.lines ≡ []) × (after ≡ before)
-TakesNext before after (Ok (Some taken)) = Takes before after taken.0 taken.1.now
-TakesNext before after (Err fault) = IsAtFault before fault × (after ≡ before)
+abbrev pub TakesNext : Unread → Unread → Option (Result (ℕ × Bor (List ℕ)) ScriptFault) → Type 0
+TakesNext before after None = (before.lines ≡ []) × (after ≡ before)
+TakesNext before after (Some (Ok taken)) = Takes before after taken.0 taken.1.now
+TakesNext before after (Some (Err fault)) = IsAtFault before fault × (after ≡ before)
 
 -- what was read of the front of these words, and the words left
 abbrev pub Reads : {X : Type 0} → Result X Cause → List (List ℕ) → Result (X × List (List ℕ)) Cause → Type 0

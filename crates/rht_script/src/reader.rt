@@ -79,7 +79,8 @@ fn table_line(lines: &mut Lines) -> Result<TableLine, ScriptFault>
         (λ table. said_from lines.old.number lines.old.lines ≡ said_with table lines.new.number lines.new.lines)
         (λ fault. said_from lines.old.number lines.old.lines ≡ Err fault) }
 {
-    while let Some((number, line)) = lines.next()? {
+    while let Some(next) = lines.next() {
+        let (number, line) = next?;
         let words = Words::new(line);
         if !words.is_skipped() {
             return at_line(number, table(words));
@@ -100,7 +101,8 @@ fn commands(
         (IsReasonFor (commands_from lines.entry.number table.now lines.entry.lines)) }
 {
     let mut commands = Vec::new(alloc);
-    while let Some((number, line)) = lines.next()? {
+    while let Some(next) = lines.next() {
+        let (number, line) = next?;
         let words = Words::new(line);
         if !words.is_skipped() {
             commands.push(at_line(number, command(table, words))?)?;

@@ -55,23 +55,23 @@ impl<'a> Lines<'a> {
 
     /// The next line without its line feed, with its number. `None` where no line is left. A line
     /// that is one too many, or too long, is a fault, and isn't taken.
-    pub fn next(&mut self) -> Result<Option<(u32, &'a [u8])>, ScriptFault>
+    pub fn next(&mut self) -> Option<Result<(u32, &'a [u8]), ScriptFault>>
         ensures { TakesNext self.old self.new result }
     {
         if self.rest.is_empty() {
-            return Ok(None);
+            return None;
         }
         let number = self.number();
         let (line, rest) = first_line(self.rest);
         if number as usize > MOST_LINES {
-            return Err(Cause::TooManyLines.at(number));
+            return Some(Err(Cause::TooManyLines.at(number)));
         }
         if line.len() > MOST_IN_LINE {
-            return Err(Cause::LineTooLong.at(number));
+            return Some(Err(Cause::LineTooLong.at(number)));
         }
         self.rest = rest;
         self.taken = number;
-        Ok(Some((number, line)))
+        Some(Ok((number, line)))
     }
 }
 

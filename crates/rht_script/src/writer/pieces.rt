@@ -47,12 +47,17 @@ impl<'a, O: Sink> Writer<'a, O> {
         Ok(())
     }
 
-    /// Adds a number.
+    /// Adds a number. A single digit, as most workers are, is a byte by itself.
+    #[inline]
+    #[tactic(auto, using(std::proofs::lemmas::Fmt::decimal_digit))]
     pub fn add_number(&mut self, number: u64) -> Result<(), Failed>
         ensures text { Adds O.held O.faults self.old.out.now self.new.out.now result
             self.old.waiting self.new.waiting (decimal number) }
         ensures same_sink { self.new.out.ghost_name ≡ self.old.out.ghost_name }
     {
+        if number < 10 {
+            return self.add(&[b'0' + number as u8]);
+        }
         let mut buffer = Buffer::new();
         self.add(buffer.format(number).as_bytes())
     }
