@@ -2,3 +2,13 @@
 pub mod NumberedEntries
 -- what is known of the answer of a call that alone changes bindings
 pub mod Meeting
+-- what the words stand for after so many events
+pub mod Behind
+-- histories beside runs
+pub mod GoodHistories
+-- the entries of one caller in a history beside a run
+pub mod CallerEntries
+-- the entry of a call that ends
+pub mod CallEnds
+-- in every run there is a history that fits it
+pub mod FittingRuns

@@ -67,11 +67,11 @@ module _ (M : Type 0) (mix : ℕ → ℕ → ℕ → ℕ) (env : Env) where
       ap (λ n. run_of {M = M} mix env (take n (events ++ event ∷ []))) (count-traced_of M mix env events)
       ∙ ap (run_of {M = M} mix env) (take-push_all events event) ∙ sym (world-traced_of M mix env events)
 
-  stays_in : (events : List Event) → StaysIn M mix env (R events).world.core
+  pub stays_in : (events : List Event) → StaysIn M mix env (R events).world.core
   stays_in events =
       subst (λ (w : World M). StaysIn M mix env w.core) (sym (world-traced_of M mix env events)) (runs-in M mix env events)
 
-  inv_now : (events : List Event) → IsAdmitted env.config.kind events → HasInv env mix M (R events).world.core
+  pub inv_now : (events : List Event) → IsAdmitted env.config.kind events → HasInv env mix M (R events).world.core
   inv_now events admitted =
       subst (λ (w : World M). HasInv env mix M w.core) (sym (world-traced_of M mix env events)) (has_inv env mix M events admitted)
 

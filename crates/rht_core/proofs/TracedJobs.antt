@@ -65,7 +65,7 @@ module _ {M : Type 0} where
   ended-replied local (Some reply) = refl
 
   -- a caller in a call has empty rooms
-  busy-none : (local : Local M) (book : Book) → is_idle local ≡ false → HasLists local book → HasNoLists local
+  pub busy-none : (local : Local M) (book : Book) → is_idle local ≡ false → HasLists local book → HasNoLists local
   busy-none local book busy lists = record {
     owners = lists.owners ∙ ap (λ b. cond b (owners_with (last_or None book.finished)) []) busy;
     pairs = lists.pairs ∙ ap (λ b. cond b (pairs_with (last_or None book.finished)) []) busy;

@@ -24,7 +24,7 @@ use Rattle.rht_core.proofs.Worlds.{take-push}
 use Rattle.rht_core.proofs.TracedCallers.{reply_of, traced_callers_keep}
 
 -- one more step behind the others
-behind_steps-push : (from : ℕ) (steps : List Did) (did : Did)
+pub behind_steps-push : (from : ℕ) (steps : List Did) (did : Did)
     → behind_steps from (steps ++ did ∷ []) ≡ did.index + 1
 behind_steps-push from [] did = refl
 behind_steps-push from (first ∷ steps) did = behind_steps-push (first.index + 1) steps did

@@ -20,3 +20,5 @@ pub mod Alone
 pub mod Counts
 -- histories whose entries carry the numbers of events
 pub mod Numbered
+-- when a history fits a run
+pub mod RunHistories

@@ -22,11 +22,11 @@ use Rattle.rht_core.proofs.Theory.Steps.{mem}
 use Rattle.rht_core.proofs.Events.Invariants.{Inv, kept}
 
 -- a bucket without nodes that nobody has locked
-abbrev empty_bucket : Bucket
+abbrev pub empty_bucket : Bucket
 empty_bucket = record { nodes = []; plain = 0; holder = None; out = None; armed = None }
 
 -- the first table, which stands in slot 0 and has its buckets in a row from the first page on
-abbrev first_table : Env → Table
+abbrev pub first_table : Env → Table
 first_table env = record {
   slot = 0;
   shape = opening_word env (Slot 0 ShapeWord);
@@ -36,7 +36,7 @@ first_table env = record {
 }
 
 -- the ghost at opening: the first table is there, and nothing else is anybody's
-abbrev opening_ghost : Env → Ghost
+abbrev pub opening_ghost : Env → Ghost
 opening_ghost env = record {
   table = λ τ. first_table env;
   attached = 1;
@@ -84,7 +84,7 @@ module _ (env : Env) (mix : ℕ → ℕ → ℕ → ℕ) where
         };
       })
 
-  opening_whole : Whole env mix (mem env mix (opening_words env)) (opening_ghost env)
+  pub opening_whole : Whole env mix (mem env mix (opening_words env)) (opening_ghost env)
   opening_whole = record {
     tables = record {
       one = refl;
