@@ -183,9 +183,14 @@ fn a_link_is_stored_and_the_bucket_unlocked(rt: HostRuntime) -> Result<(), Fail>
     Ok(())
 }
 
+// a look for key 5 in the first bucket, which stands at place 314
+fn probe_of_a_bucket() -> Option<Probe> {
+    let geometry = Geometry::new(8, 4, 1)?;
+    Some(Probe::new(geometry, geometry.page_word(0, 0), 5))
+}
+
 #[test]
 fn a_probe_locks_and_walks(rt: HostRuntime) -> Result<(), Fail> {
-    let geometry = Geometry::new(8, 4, 1).ok_or("within limits")?;
     // the operations with what each finds, and what is seen of key 5
     let cases: [(&[(Op, u64)], Probed); 2] = [
         // an empty bucket is seen with the exchange
@@ -229,7 +234,7 @@ fn a_probe_locks_and_walks(rt: HostRuntime) -> Result<(), Fail> {
         ),
     ];
     for (steps, want) in cases {
-        let mut machine = Probe::new(geometry, 314, 5);
+        let mut machine = probe_of_a_bucket().ok_or("within limits")?;
         let mut next = Next::Go;
         for (op, old) in steps {
             assert_eq!(rt; next, Next::Go, "before {op:?}");
