@@ -3,6 +3,7 @@
 ghost use Rattle.rht_core.specs.Alone.{Alone};
 ghost use Rattle.rht_core.specs.Causes.{Causes};
 ghost use Rattle.rht_core.specs.Counts.{Counted, AtRest};
+ghost use Rattle.rht_core.specs.RunHistories.{HasFittingHistory};
 ghost use Rattle.rht_core.specs.Laws.{Extends, InRange, Enrolled, NotEnrolled, Replies, Remembers, AtEvents, AllStepsTraced, TakenAlone, WordsFit};
 
 use rht_policy::Mix;
@@ -103,6 +104,17 @@ pub fn causes<M: Mix>()
 /// doesn't say that the call ends, and nothing of calls whose events mix.
 pub fn alone<M: Mix>()
     ensures { Alone M M.mix_of }
+{}
+
+/// Every run has a history that fits it, whatever the order of its events. The history is legal. Its
+/// entries carry the numbers of events, which never fall. Each call about bindings that has ended has one
+/// entry, with its reply and its list, at an event from its beginning to its last operation, both
+/// included; and a caller's calls come in the order in which it made them. A call in progress has an entry
+/// exactly where an operation of its own has changed what some port is bound to. After each event the
+/// entries up to it leave the bindings that the words stand for. So a run can't be told from one in which
+/// calls come one after another. It doesn't say that a call ends.
+pub fn fits<M: Mix>()
+    ensures { HasFittingHistory M M.mix_of }
 {}
 
 /// In every run the count of ports is the number of ports that are bound, and of the callers that have

@@ -1,6 +1,6 @@
 -- A call ends: its entry, where it is about bindings, is the last of its caller's. One that has changed the bindings stands there
 -- already, and gets its reply; one that hasn't is put in at the event at which its answer was right.
-use Rattle.std.proofs.Common.{◌≡◌, ◌≢◌, ◌⊎◌, ℕ, ◌+◌, ◌<◌, ◌≤◌, List, [], ◌∷◌, ◌++◌, length, Option, Some, None, Bool, true, false, cond, refl, sym, ap, ◌∙◌, subst, inl, inr, arith}
+use Rattle.std.proofs.Common.{◌≡◌, ◌≢◌, ℕ, ◌+◌, ◌<◌, ◌≤◌, List, [], ◌∷◌, ◌++◌, length, Some, Bool, true, false, cond, refl, sym, ap, ◌∙◌, subst, inl, inr, arith}
 use Rattle.std.specs.Prelude.{is_some}
 use Rattle.std.proofs.lemmas.Bool.{cases_Bool}
 use Rattle.std.proofs.lemmas.List.{append-nil}
@@ -9,9 +9,9 @@ use Rattle.rht_words.specs.declared.config.Kind.{Kind}
 use Rattle.rht_model.specs.declared.history.Call.{Call}
 use Rattle.rht_model.specs.declared.history.Reply.{Reply}
 use Rattle.rht_model.specs.Endings.{Ending, ended_with}
-use Rattle.rht_model.specs.Multimap.{Multimap, Agree, unbound}
+use Rattle.rht_model.specs.Multimap.{Agree, unbound}
 use Rattle.rht_model.specs.Answers.{Answer, port_of}
-use Rattle.rht_model.specs.Histories.{without_kick, left_by, bindings_left, IsLegalAt}
+use Rattle.rht_model.specs.Histories.{without_kick, bindings_left}
 use Rattle.rht_model.proofs.Agreements.{Agree-sym, answer_of-Agree, left_by-Agree, IsLegalAt-answer_of}
 use Rattle.rht_core.specs.declared.event.Event.{Event}
 use Rattle.rht_core.specs.Traces.{Did, Past, behind_call}
@@ -21,7 +21,7 @@ use Rattle.rht_core.proofs.TracesAtEvents.{behind_steps-push}
 use Rattle.rht_core.proofs.Theory.Answering.{entry_of, IsLegalOn}
 use Rattle.rht_core.proofs.Histories.NumberedEntries.{AllBelow, put_in, put_in-other, put_in-own, CanPutIn, with_reply, replied, replied-other, replied-own, LastHas}
 use Rattle.rht_core.proofs.Histories.GoodHistories.{IsGood, good-put, good-replied}
-use Rattle.rht_core.proofs.Histories.CallerEntries.{behind, IsSaid, Unchanged, HasChanged, IsTail}
+use Rattle.rht_core.proofs.Histories.CallerEntries.{behind, IsSaid, IsTail}
 
 -- these entries are those of the calls, one for each, in order
 abbrev pub AreEnded : List Past → List Numbered → Type 0

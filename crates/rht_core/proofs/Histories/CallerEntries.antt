@@ -13,13 +13,13 @@ use Rattle.rht_model.specs.declared.history.Call.{Call}
 use Rattle.rht_model.specs.declared.history.Call.TheVariants.{Bind, Find, All, Release, Rebind, Walk, Work, Tidy, Count}
 use Rattle.rht_model.specs.Multimap.{Multimap, Agree}
 use Rattle.rht_model.specs.Answers.{Answer, port_of, answer_of}
-use Rattle.rht_model.specs.Histories.{without_kick, left_by}
+use Rattle.rht_model.specs.Histories.{without_kick}
 use Rattle.rht_core.specs.declared.event.Event.{Event}
 use Rattle.rht_core.specs.Traces.{Did}
 use Rattle.rht_core.specs.Numbered.{Numbered, entries_of}
 use Rattle.rht_core.specs.Alone.{bindings_at}
 use Rattle.rht_core.specs.RunHistories.{bindings_behind, ChangesBindings}
-use Rattle.rht_core.proofs.Theory.Answering.{entry_of, IsSameAnswer, IsLegalOn, IsSaidOn, LearnsAnswer, SaysStill, Stills, ChangesBindings as DoesChange, Says}
+use Rattle.rht_core.proofs.Theory.Answering.{entry_of, IsSameAnswer, IsLegalOn, IsSaidOn, SaysStill, Says}
 use Rattle.rht_core.proofs.Histories.NumberedEntries.{IsAlike, alike-legal_at, alike-left_by, push-other, push-own}
 use Rattle.rht_core.proofs.Histories.Behind.{Any-push_cases, behind-all, behind-more, behind-last, Changed, Changed-more, Changed-fewer}
 use Rattle.rht_core.proofs.Histories.GoodHistories.{IsGood, good-quiet, good-push}

@@ -22,23 +22,21 @@ use Rattle.rht_core.specs.declared.event.Event.TheVariants.{Enroll, Begin, Step}
 use Rattle.rht_core.specs.declared.book.Book.{Book}
 use Rattle.rht_core.specs.declared.local.Local.{Local}
 use Rattle.rht_core.specs.declared.local.Doing.{Doing}
-use Rattle.rht_core.specs.Locals.{fresh, local_after, ending_of, machine_of}
+use Rattle.rht_core.specs.Locals.{fresh, local_after, ending_of}
 use Rattle.rht_core.specs.Jobs.{Job, call_of, job_of, job_after, told, held_of, held_next}
-use Rattle.rht_core.specs.Runs.{World, Seen, IsAdmitted, IsAdmittedEvent, seen, local_of, planned_in, beginning_in, enrolling, world_step, run_of}
+use Rattle.rht_core.specs.Runs.{World, Seen, IsAdmitted, IsAdmittedEvent, local_of, planned_in, beginning_in, enrolling, world_step}
 use Rattle.rht_core.specs.Traces.{Did, Past, Trace, Traced, trace_begun, trace_did, traces_after, traced_step, traced_of}
-use Rattle.rht_core.specs.Laws.{seen_begin, seen_step}
 use Rattle.rht_core.specs.StandsFor.{stands_for}
 use Rattle.rht_core.specs.Numbered.{Numbered, entries_of}
 use Rattle.rht_core.specs.Alone.{bindings_at}
-use Rattle.rht_core.specs.RunHistories.{ChangesBindings, AreInProgress, AreOfCalls, about_bindings, Fits, HasFittingHistory}
+use Rattle.rht_core.specs.RunHistories.{ChangesBindings, AreInProgress, AreOfCalls, about_bindings, HasFittingHistory}
 use Rattle.rht_core.proofs.Worlds.{induct_by_last, run_of-push, beginning-some, planned-some, begin_none, begin_self, begin_other, step_none, step_self, step_other, step_words}
 use Rattle.rht_core.proofs.JobsOfCallers.{is_no_job, same_call, nothing-job, first_unknown, first_job-machine, local_after-job}
-use Rattle.rht_core.proofs.SoundRuns.{StaysIn, runs-in, has_place, made_in}
-use Rattle.rht_core.proofs.TracedRuns.{world-traced_of, count-traced_of, traced_of-push, trace_with, trace_begin_none, trace_begin_self, trace_begin_other, trace_step_none, trace_step_self, trace_step_other}
+use Rattle.rht_core.proofs.SoundRuns.{has_place, made_in}
+use Rattle.rht_core.proofs.TracedRuns.{world-traced_of, count-traced_of, traced_of-push, trace_begin_none, trace_begin_self, trace_begin_other, trace_step_none, trace_step_self, trace_step_other}
 use Rattle.rht_core.proofs.TracedCallers.{inv_now, stays_in}
 use Rattle.rht_core.proofs.TracedJobs.{busy-none, IsAtJob}
 use Rattle.rht_core.proofs.RepliesInRuns.{Holds, Answered, runs-right}
-use Rattle.rht_core.proofs.Theory.Ghosts.{Ghost}
 use Rattle.rht_core.proofs.Theory.Answering.{Says}
 use Rattle.rht_core.proofs.Theory.Frames.{Made}
 use Rattle.rht_core.proofs.Theory.Steps.{mem, owners, owners-stay, ghost_after}
@@ -464,8 +462,7 @@ module _ (M : Type 0) (mix : ℕ → ℕ → ℕ → ℕ) (env : Env) where
 pub fits : (M : Type 0) (mix : ℕ → ℕ → ℕ → ℕ) → HasFittingHistory M mix
 fits M mix env events admitted =
     let fitting = runs-fit M mix env events admitted in
-    let r : Traced M = traced_of mix env events in
-    (
+    let r : Traced M = traced_of mix env events in (
       fitting.history,
       record {
         legal = fitting.good.legal;

@@ -2,7 +2,7 @@
 -- after each event its entries so far leave what the words stand for. Each event of a run keeps this: one that leaves the
 -- bindings, and one that changes them as an entry does that is put behind all others. And so it is kept where an entry that
 -- changes nothing is put in, and where the last entry of a caller gets its reply.
-use Rattle.std.proofs.Common.{◌≡◌, ℕ, ◌+◌, ◌<◌, ◌≤◌, List, [], ◌∷◌, ◌++◌, length, refl, sym, ap, ◌∙◌, subst, inl, inr, arith}
+use Rattle.std.proofs.Common.{◌≡◌, ℕ, ◌+◌, ◌<◌, List, [], ◌∷◌, ◌++◌, length, refl, sym, ap, ◌∙◌, subst, inl, inr, arith}
 use Rattle.std.proofs.lemmas.Bool.{cases_lt}
 use Rattle.std.proofs.lemmas.List.{length_push}
 use Rattle.rht_words.specs.declared.env.Env.{Env}
@@ -18,7 +18,7 @@ use Rattle.rht_core.specs.Numbered.{Numbered, history_of, numbered_to, NeverFall
 use Rattle.rht_core.specs.Alone.{bindings_at}
 use Rattle.rht_core.specs.RunHistories.{bindings_behind}
 use Rattle.rht_core.proofs.Histories.NumberedEntries.{AllBelow, AllBelow-more, numbered_to-all, put_in, put_in-rising, put_in-below, CanPutIn, put_in-legal, put_in-left, history_of-push, push-rising, push-below, push-before, replied, LastHas, replied-alike, alike-rising, alike-below, alike-legal, alike-left}
-use Rattle.rht_core.proofs.Histories.Behind.{behind-all, behind-more, behind-last}
+use Rattle.rht_core.proofs.Histories.Behind.{behind-more, behind-last}
 
 module _ (M : Type 0) (mix : ℕ → ℕ → ℕ → ℕ) (env : Env) where
   abbrev kind : Kind
@@ -80,14 +80,14 @@ module _ (M : Type 0) (mix : ℕ → ℕ → ℕ → ℕ) (env : Env) where
       let longer = length_push events event in
       let back = Agree-sym (left (history_of history)) (at_end events) good.now in
       let here = IsLegalAt-answer_of kind (at_end events) (left (history_of history)) entry
-          (answer_of-Agree kind (at_end events) (left (history_of history)) entry.call back) legal in
+      (answer_of-Agree kind (at_end events) (left (history_of history)) entry.call back) legal in
       let pushed = history_of-push history x in
       let is : left (history_of more) ≡ left_by kind (left (history_of history)) entry =
       ap left pushed ∙ bindings_left-append kind unbound (history_of history) (entry ∷ []) in
       let low = AllBelow-more (length events) (length events + 1) history (omega arith) good.below in
       let below = push-below x (length events + 1) history (omega arith) low in
       let now : Agree (left (history_of more)) (at_end (events ++ event ∷ [])) = λ p.
-          ap (λ (b : Multimap). b p) is ∙ left_by-Agree kind (left (history_of history)) (at_end events) entry good.now p ∙ sym (leaves p) in
+      ap (λ (b : Multimap). b p) is ∙ left_by-Agree kind (left (history_of history)) (at_end events) entry good.now p ∙ sym (leaves p) in
       record {
         legal = subst (IsLegal kind) (sym pushed) ((IsLegalFrom-push kind unbound (history_of history) entry).1 (good.legal, here));
         rising = push-rising x 0 history (omega arith) low good.rising;
