@@ -12,3 +12,7 @@ pub mod CallerEntries
 pub mod CallEnds
 -- in every run there is a history that fits it
 pub mod FittingRuns
+-- one call alone meets the model
+pub mod AloneRuns
+-- one call alone meets the model, and has its cause
+pub mod AloneLaw

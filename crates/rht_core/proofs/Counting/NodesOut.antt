@@ -16,10 +16,10 @@ use Rattle.rht_core.specs.Runs.{run_of, IsAdmitted}
 use Rattle.rht_core.specs.Traces.{Did, Past, Traced, traced_of}
 use Rattle.rht_core.specs.Replies.{IsFindReply, IsBindReply}
 use Rattle.rht_core.specs.Counts.{takes_out, taken_out}
-use Rattle.rht_core.proofs.MachineReplies.{HoldsFindReply, HoldsBindReply, find_after-replies, bind_after-replies}
-use Rattle.rht_core.proofs.RepliesInRuns.{JobHolds}
-use Rattle.rht_core.proofs.TracedJobs.{IsEndedSo, jobs_keep, by_machines}
-use Rattle.rht_core.proofs.TracesInRuns.{remembers}
+use Rattle.rht_core.proofs.Reasons.MachineReplies.{HoldsFindReply, HoldsBindReply, find_after-replies, bind_after-replies}
+use Rattle.rht_core.proofs.Reasons.RepliesInRuns.{JobHolds}
+use Rattle.rht_core.proofs.Tracing.TracedJobs.{IsEndedSo, jobs_keep, by_machines}
+use Rattle.rht_core.proofs.Tracing.TracesInRuns.{remembers}
 
 find-takes_none : (reply : Reply) → IsFindReply reply → takes_out reply ≡ false
 find-takes_none (Found owner) is = refl

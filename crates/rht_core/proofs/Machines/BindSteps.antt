@@ -43,12 +43,13 @@ use Rattle.rht_core.proofs.Theory.Knowledge.{HasOnly, KnownNode, KnownTable, Now
 use Rattle.rht_core.proofs.Theory.Frames.{Made}
 use Rattle.rht_core.proofs.Theory.Answering.{KeepsAnswer, IsLegalOn, keeps, learns}
 use Rattle.rht_core.proofs.Theory.Steps.{Links, Holding, HoldsSame, by_test, mem, owners, owners_in, owners-stay, ghost_after, Moved, moved-map, with_knowledge, Step, answered, reads}
-use Rattle.rht_core.proofs.Moves.Linking.{IsReady, link_head, linked_bucket}
-use Rattle.rht_core.proofs.Pieces.Nodes as nodes
+use Rattle.rht_core.proofs.Theory.Readiness.{linked_bucket, IsReady}
+use Rattle.rht_core.proofs.Moves.Linking.{link_head}
+use Rattle.rht_core.proofs.Pieces.NewNodes as nodes
 use Rattle.rht_core.proofs.Pieces.Locates.{known_locate, first_passed, locate_step, LocateKnows, FutureIs, future_is}
 use Rattle.rht_core.proofs.Pieces.Locks.{unlock_step}
 use Rattle.rht_core.proofs.Pieces.Probes.{known_probe, known_found, place_of_probe, IsProbeFor, probed_by, ProbeKnows, probe_step}
-use Rattle.rht_core.proofs.Pieces.Counts.{raise_step}
+use Rattle.rht_core.proofs.Pieces.PortCounts.{raise_step}
 use Rattle.rht_core.proofs.Machines.FindSteps.{known_nothing, known_behind}
 
 -- what a call holds that links its node next
@@ -343,7 +344,7 @@ module _ (env : Env) (mix : ℕ → ℕ → ℕ → ℕ) (c : ℕ) (port owner :
     nothing_left n j place is only = record {
       nodes = put-all (λ m o. o ≡ Held c → ◌≡◌ {A = Option ℕ} None (Some m)) G.node n (First j) (λ e. absurd (cc))
           (λ m ne holds. let q = only.nodes m holds in absurd (ne (cc)));
-      locks = put-all (λ i b. b.holder ≡ Some c → (◌≡◌ {A = Option ℕ} None (Some (place_at env mix i))) ⊎ (◌≡◌ {A = Option ℕ} None (Some (place_at env mix i)))) G.bucket j (linked_bucket env mix (G.bucket j) n)
+      locks = put-all (λ i b. b.holder ≡ Some c → (◌≡◌ {A = Option ℕ} None (Some (place_at env mix i))) ⊎ (◌≡◌ {A = Option ℕ} None (Some (place_at env mix i)))) G.bucket j (linked_bucket (G.bucket j) n)
           (λ e. absurd (cc))
           (λ i ne holds. elim (only.locks i holds) [
             | inl first ↦ absurd (ne (let q : place ≡ place_at env mix i = cc in let r = is in omega (arith, q, r)))

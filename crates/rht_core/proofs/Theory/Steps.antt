@@ -20,7 +20,7 @@ use Rattle.rht_core.proofs.Theory.Ghosts.{Free, Held, Ghost, with_holder, with_o
 use Rattle.rht_core.proofs.Theory.Wholes.{place_at, Whole}
 use Rattle.rht_core.proofs.Theory.Frames.{Made, still}
 use Rattle.rht_core.proofs.Theory.Answering.{SaysStill, SaysStill-agree, Says}
-use Rattle.rht_core.proofs.Moves.Linking.{linked, IsReady}
+use Rattle.rht_core.proofs.Theory.Readiness.{linked, IsReady}
 
 -- What an operation does beside what it finds: nothing that others see, a node taken or given back, a lock taken or dropped,
 -- the count raised, or a node linked for a port into a bucket
@@ -113,7 +113,7 @@ module _ (env : Env) (mix : ℕ → ℕ → ℕ → ℕ) where
   ghost_after c (TakesLock j) G = with_holder G j (Some c)
   ghost_after c (DropsLock j) G = with_holder G j None
   ghost_after c Raises G = with_raised G c true
-  ghost_after c (Links n port j) G = linked env mix G c j n port
+  ghost_after c (Links n port j) G = linked G c j n port
 
   -- the words as a memory
   abbrev pub mem : List ℕ → Memory

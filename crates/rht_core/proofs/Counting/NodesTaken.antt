@@ -43,9 +43,9 @@ use Rattle.rht_core.specs.Traces.{Did}
 use Rattle.rht_core.specs.Laws.{IsNoTake, IsTakeOf, TakesNone, TakesOne, IsTakenBy, IsTakenIn, TakenAlone}
 use Rattle.rht_core.proofs.Theory.Wholes.{place_at}
 use Rattle.rht_core.proofs.Theory.Steps.{Holding, Move, Quiet, TakesNode, GivesNode, TakesLock, DropsLock, Raises, Links, Does}
-use Rattle.rht_core.proofs.HeldByBinds.{node_of_bind, HoldsSo, bind_after-so}
-use Rattle.rht_core.proofs.MachineReplies.{IsReplyWithNode, IsNoneOrWithNode, HoldsBindReply, bind_reply_after-with_node, bind_after-replies}
-use Rattle.rht_core.proofs.TracedJobs.{Performs, jobs_keep, by_machines}
+use Rattle.rht_core.proofs.Reasons.HeldByBinds.{node_of_bind, HoldsSo, bind_after-so}
+use Rattle.rht_core.proofs.Reasons.MachineReplies.{IsReplyWithNode, IsNoneOrWithNode, HoldsBindReply, bind_reply_after-with_node, bind_after-replies}
+use Rattle.rht_core.proofs.Tracing.TracedJobs.{Performs, jobs_keep, by_machines}
 
 -- ---- one more step
 

@@ -26,7 +26,7 @@ use Rattle.rht_core.proofs.Theory.Wholes.{Whole}
 use Rattle.rht_core.proofs.Theory.Knowledge.{KnownNode, KnownTable, KnownBucket, NodeMeans, TableMeans, Knowing, TableMeans-stay, BucketMeans-stay}
 use Rattle.rht_core.proofs.Theory.Frames.{same_tables, tables_stay}
 use Rattle.rht_core.proofs.Theory.Steps.{Quiet, TakesNode, GivesNode, by_test, Holding, mem, Moved, moved, loads}
-use Rattle.rht_core.proofs.Moves.Nodes.{fill, take_node, give_node, retouch}
+use Rattle.rht_core.proofs.Moves.TakenNodes.{fill, take_node, give_node, retouch}
 
 -- a node of which no word is known
 abbrev pub bare : ℕ → KnownNode

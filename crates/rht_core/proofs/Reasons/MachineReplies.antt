@@ -24,8 +24,8 @@ use Rattle.rht_bind.specs.Bind as bind
 use Rattle.rht_bind.specs.declared.bind.BindAt.{BindAt}
 use Rattle.rht_bind.specs.declared.bind.BindAt.TheVariants as bind_at
 use Rattle.rht_core.specs.Replies.{IsFindReply, IsBindReply}
-use Rattle.rht_core.proofs.HeldByFinds.{reply_of_find, place_reply as find_place_reply, missing_reply, future_reply, owner_reply, find_reply_after, find_after-so}
-use Rattle.rht_core.proofs.HeldByBinds.{node_of_bind, reply_of_bind, place_reply, no_table_reply, published_reply, bind_reply_after, bind_after-so}
+use Rattle.rht_core.proofs.Reasons.HeldByFinds.{reply_of_find, place_reply as find_place_reply, missing_reply, future_reply, owner_reply, find_reply_after, find_after-so}
+use Rattle.rht_core.proofs.Reasons.HeldByBinds.{node_of_bind, reply_of_bind, place_reply, no_table_reply, published_reply, bind_reply_after, bind_after-so}
 
 -- ---- a look-up
 

@@ -7,9 +7,9 @@ use Rattle.rht_core.specs.Runs.{IsAdmittedEvent, World, run_of}
 use Rattle.rht_core.specs.Traces.{Past, traced_of}
 use Rattle.rht_core.specs.Causes.{HasCause}
 use Rattle.rht_core.specs.Alone.{Alone, call_events}
-use Rattle.rht_core.proofs.TracesInRuns.{remembers}
-use Rattle.rht_core.proofs.CausesInRuns.{causes}
-use Rattle.rht_core.proofs.AloneRuns.{meets_alone}
+use Rattle.rht_core.proofs.Tracing.TracesInRuns.{remembers}
+use Rattle.rht_core.proofs.Reasons.CausesInRuns.{causes}
+use Rattle.rht_core.proofs.Histories.AloneRuns.{meets_alone}
 
 module _ (M : Type 0) (mix : ℕ → ℕ → ℕ → ℕ) where
   pub alone : Alone M mix

@@ -21,14 +21,14 @@ use Rattle.rht_core.specs.declared.local.Local.{Local}
 use Rattle.rht_core.specs.declared.local.Doing.{Doing}
 use Rattle.rht_core.specs.Locals.{is_idle, plan_of, local_after, ending_of}
 use Rattle.rht_core.specs.Jobs.{Job, call_of, job_of, job_plan, job_after, told, held_of, held_next}
-use Rattle.rht_core.specs.Runs.{World, Seen, IsAdmitted, IsAdmittedEvent, seen, local_of, planned_in, beginning_in, world_step, run_of, book_after, finished_with}
-use Rattle.rht_core.specs.Laws.{seen_begin, seen_step}
+use Rattle.rht_core.specs.Runs.{World, View, IsAdmitted, IsAdmittedEvent, view_of, local_of, planned_in, beginning_in, world_step, run_of, book_after, finished_with}
+use Rattle.rht_core.specs.Laws.{view_begun, view_stepped}
 use Rattle.rht_core.specs.StandsFor.{stands_for}
 use Rattle.rht_core.specs.Alone.{entry_done, MeetsModel, IsQuiet, bindings_at, call_events}
-use Rattle.rht_core.proofs.CallBeginnings.{idle_plans}
-use Rattle.rht_core.proofs.JobsOfCallers.{is_no_job, HasNoLists, same_call, nothing-job, job-plans, first_unknown, first_job-machine, local_after-job}
-use Rattle.rht_core.proofs.Worlds.{beginning-some, planned-enrolled, run_of-push, begin_none, begin_self, step_none, step_self, step_words}
-use Rattle.rht_core.proofs.SoundRuns.{has_place, made_in}
+use Rattle.rht_core.proofs.Events.CallBeginnings.{idle_plans}
+use Rattle.rht_core.proofs.Events.JobsOfCallers.{is_no_job, HasNoLists, same_call, nothing-job, job-plans, first_unknown, first_job-machine, local_after-job}
+use Rattle.rht_core.proofs.Events.Worlds.{beginning-some, planned-enrolled, run_of-push, begin_none, begin_self, step_none, step_self, step_words}
+use Rattle.rht_core.proofs.Events.SoundRuns.{has_place, made_in}
 use Rattle.rht_core.proofs.Theory.Answering.{Says}
 use Rattle.rht_core.proofs.Theory.Steps.{by_test, mem, owners, ghost_after}
 use Rattle.rht_core.proofs.Events.Invariants.{step_of}
@@ -144,8 +144,8 @@ module _ (L : Type 0) (mix : ℕ → ℕ → ℕ → ℕ) (env : Env) (start : L
     plans = planned-enrolled w.core.env w.core.enrolled w.core.locals c going.enrolled ∙ plan
 
     -- the world after the operation, as its caller sees it
-    seen_after : ◌≡◌ {A = Seen L} (seen (world (next events)) c) (seen_step mix (old_of words op) (seen w c))
-    seen_after = ap (λ (v : World L). seen v c) (pushed events) ∙ step_self L mix w c op plans (has_place L mix env w.core c has.all.stays going.enrolled)
+    view_after : ◌≡◌ {A = View L} (view_of (world (next events)) c) (view_stepped mix (old_of words op) (view_of w c))
+    view_after = ap (λ (v : World L). view_of v c) (pushed events) ∙ step_self L mix w c op plans (has_place L mix env w.core c has.all.stays going.enrolled)
 
     words_after : (world (next events)).core.words ≡ applied words op
     words_after = ap (λ (v : World L). v.core.words) (pushed events) ∙ step_words L mix w c op plans
@@ -191,27 +191,27 @@ module _ (L : Type 0) (mix : ℕ → ℕ → ℕ → ℕ) (env : Env) (start : L
 
         go : (q : Job × Next Ending) → r ≡ q → Status (next events)
         go (job, Go) is =
-            let here = seen_after in
+            let here = view_after in
             let l = left ∙ ap told is in
             inl (record {
               job = job;
-              does = ap (λ (s : Seen L). job_of s.local.doing) here ∙ ap (λ p. p.0) l;
+              does = ap (λ (s : View L). job_of s.local.doing) here ∙ ap (λ p. p.0) l;
               asked = ap (λ q. call_of q.0) (sym is) ∙ same_call mix env going.job (old_of words op) ∙ going.asked;
               known =
                   subst (λ ws. Known (stands_for env.geometry ws) job) (sym words_after)
                   (subst (λ (q : Job × Next Ending). Meets kind c call port about before (stands_for env.geometry (applied words op)) (held_next q).answer) is known_after);
-              none = subst (λ (s : Seen L). HasNoLists s.local) (sym here) (record { owners = going.none.owners; pairs = going.none.pairs });
+              none = subst (λ (s : View L). HasNoLists s.local) (sym here) (record { owners = going.none.owners; pairs = going.none.pairs });
               enrolled = still_enrolled;
-              book = ap (λ (s : Seen L). s.book.call) here ∙ ap (λ p. (book_after p.1 (w.books c)).call) l ∙ going.book;
-              past = ap (λ (s : Seen L). s.book.finished) here ∙ ap (λ p. (book_after p.1 (w.books c)).finished) l ∙ going.past;
+              book = ap (λ (s : View L). s.book.call) here ∙ ap (λ p. (book_after p.1 (w.books c)).call) l ∙ going.book;
+              past = ap (λ (s : View L). s.book.finished) here ∙ ap (λ p. (book_after p.1 (w.books c)).finished) l ∙ going.past;
             })
         go (job, Done ending) is =
-            let here = seen_after in
+            let here = view_after in
             let l = left ∙ ap told is in
             inr (inl (record {
               done = ended_with call ending;
-              idle = ap (λ (s : Seen L). is_idle s.local) here ∙ nothing-job after.0.doing ∙ ap (λ p. is_no_job p.0) l;
-              past = ap (λ (s : Seen L). s.book.finished) here ∙ ap (λ p. (book_after p.1 (w.books c)).finished) l
+              idle = ap (λ (s : View L). is_idle s.local) here ∙ nothing-job after.0.doing ∙ ap (λ p. is_no_job p.0) l;
+              past = ap (λ (s : View L). s.book.finished) here ∙ ap (λ p. (book_after p.1 (w.books c)).finished) l
                   ∙ ap (λ o. (w.books c).finished ++ finished_with o ending) going.book
                   ∙ ap (λ f. f ++ ended_with call ending ∷ []) going.past;
               meets =
@@ -254,20 +254,20 @@ module _ (L : Type 0) (mix : ℕ → ℕ → ℕ → ℕ) (env : Env) (start : L
           beginning-some (world start).core.env (world start).core.enrolled (world start).core.locals c call machine is in
           let has = has_inv env mix L start admitted in
           let low = has_place L mix env (world start).core c has.all.stays can.below in
-          let here : ◌≡◌ {A = Seen L} (seen (world began) c) (seen_begin call machine (seen (world start) c))
-          = ap (λ (v : World L). seen v c) pushed_begin ∙ begin_self L mix (world start) c call machine is low in
+          let here : ◌≡◌ {A = View L} (view_of (world began) c) (view_begun call machine (view_of (world start) c))
+          = ap (λ (v : World L). view_of v c) pushed_begin ∙ begin_self L mix (world start) c call machine is low in
           let first = first_job-machine env c call machine (made_in L mix env (world start).core c call machine has.all.stays can) in
           inl (record {
             job = first.job;
-            does = ap (λ (s : Seen L). job_of s.local.doing) here ∙ first.does;
+            does = ap (λ (s : View L). job_of s.local.doing) here ∙ first.does;
             asked = first.asked;
             known =
                 let unknown : (held_of first.job).answer ≡ None = first_unknown env call first.job first.first in
                 rw unknown (λ p. ap (λ (v : World L). stands_for env.geometry v.core.words p) pushed_begin);
-            none = subst (λ (s : Seen L). HasNoLists s.local) (sym here) (record { owners = refl; pairs = refl });
+            none = subst (λ (s : View L). HasNoLists s.local) (sym here) (record { owners = refl; pairs = refl });
             enrolled = subst (λ (v : World L). c < v.core.enrolled) (sym pushed_begin) can.below;
-            book = ap (λ (s : Seen L). s.book.call) here;
-            past = ap (λ (s : Seen L). s.book.finished) here;
+            book = ap (λ (s : View L). s.book.call) here;
+            past = ap (λ (s : View L). s.book.finished) here;
           })
 
   -- after so many steps

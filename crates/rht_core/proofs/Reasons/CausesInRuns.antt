@@ -61,15 +61,15 @@ use Rattle.rht_core.specs.Laws.{IsRecorded, IsPastCall}
 use Rattle.rht_core.specs.Causes.{FindCause, IsNoShapeLoad, LastWalked, IsDueBy, KicksRightly, SawFull, BindCause, CauseOf, HasCause, Causes}
 use Rattle.rht_words.specs.Machines.{GoesOrEnds}
 use Rattle.rht_words.proofs.MachineRuns.{GoesOrEnds-weaker}
-use Rattle.rht_core.proofs.MachineReplies.{HoldsFindReply, find_after-replies}
+use Rattle.rht_core.proofs.Reasons.MachineReplies.{HoldsFindReply, find_after-replies}
 use Rattle.rht_core.proofs.Theory.Ghosts.{Ghost}
 use Rattle.rht_core.proofs.Theory.Knowledge.{Unlocked}
-use Rattle.rht_core.proofs.Pieces.Nodes.{filled as filled_node}
+use Rattle.rht_core.proofs.Pieces.NewNodes.{filled as filled_node}
 use Rattle.rht_core.proofs.Pieces.Locates.{LocateKnows, locate_step}
-use Rattle.rht_core.proofs.TracesAtEvents.{at_events}
-use Rattle.rht_core.proofs.TracedCalls.{FindDoes, BindDoes, calls_keep}
-use Rattle.rht_core.proofs.FullTables.{relink_stores, counted_at}
-use Rattle.rht_core.proofs.TablesWalked.{no_load, elsewhere, probe_loads, LastWalked-push, WalkedAt, WalkedNext, same_table, locate-walked}
+use Rattle.rht_core.proofs.Tracing.TracesAtEvents.{at_events}
+use Rattle.rht_core.proofs.Tracing.TracedCalls.{FindDoes, BindDoes, calls_keep}
+use Rattle.rht_core.proofs.Counting.FullTables.{relink_stores, counted_at}
+use Rattle.rht_core.proofs.Reasons.TablesWalked.{no_load, elsewhere, probe_loads, LastWalked-push, WalkedAt, WalkedNext, same_table, locate-walked}
 use Rattle.rht_core.proofs.Counting.CountedNodes.{raise_few}
 use Rattle.rht_core.proofs.Theory.Steps.{by_test}
 

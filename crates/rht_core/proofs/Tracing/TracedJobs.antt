@@ -31,16 +31,16 @@ use Rattle.rht_core.specs.declared.local.Local.{Local}
 use Rattle.rht_core.specs.declared.local.Doing.{Doing}
 use Rattle.rht_core.specs.Locals.{is_idle, machine_of, local_after, ending_of}
 use Rattle.rht_core.specs.Jobs.{Job, finds, binds, call_of, first_bind, first_job, job_plan, finds_next, binds_next, job_after, job_of, told, held_of, held_next}
-use Rattle.rht_core.specs.Runs.{Seen, IsAdmitted, seen, book_begun, book_after, finished_with}
+use Rattle.rht_core.specs.Runs.{View, IsAdmitted, view_of, book_begun, book_after, finished_with}
 use Rattle.rht_core.specs.Traces.{Did, Past, Trace, Traced, trace_begun, trace_did, traced_of}
 use Rattle.rht_core.specs.Replies.{IsBookOfIdle, owners_with, pairs_with, HasLists}
-use Rattle.rht_core.specs.Laws.{seen_begin, seen_step}
-use Rattle.rht_core.proofs.JobsOfCallers.{is_no_job, has_ended, HasNoLists, same_call, left-told, nothing-job, first_job-machine, local_after-job}
+use Rattle.rht_core.specs.Laws.{view_begun, view_stepped}
+use Rattle.rht_core.proofs.Events.JobsOfCallers.{is_no_job, has_ended, HasNoLists, same_call, left-told, nothing-job, first_job-machine, local_after-job}
 use Rattle.rht_core.proofs.Theory.Ghosts.{Ghost}
 use Rattle.rht_core.proofs.Theory.Wholes.{Whole}
 use Rattle.rht_core.proofs.Theory.Steps.{mem, Step}
 use Rattle.rht_core.proofs.Machines.JobSteps.{JobIn, JobKnows, JobNext}
-use Rattle.rht_core.proofs.TracedCallers.{IsMade, IsKeptTraced, traced_callers_keep}
+use Rattle.rht_core.proofs.Tracing.TracedCallers.{IsMade, IsKeptTraced, traced_callers_keep}
 
 -- ---- the calls of a book
 
@@ -175,7 +175,7 @@ module _ (M : Type 0) (mix : ℕ → ℕ → ℕ → ℕ) (env : Env) (Now : Job
     IsAtJob (Some job) book steps = IsAtWork job book steps
 
     -- what a caller keeps
-    pub record IsKeeping (here : Seen M) (trace : Trace) : Type 0 where
+    pub record IsKeeping (here : View M) (trace : Trace) : Type 0 where
       pub past : AllByRecursion IsEndedSo trace.past
       pub now : IsAtJob (job_of here.local.doing) here.book trace.steps
       pub lists : HasLists here.local here.book
@@ -183,9 +183,9 @@ module _ (M : Type 0) (mix : ℕ → ℕ → ℕ → ℕ) (env : Env) (Now : Job
     -- ---- the beginning of a call
 
     module _ (keep : JobsKeep) where
-      begins-keeping : (c : ℕ) (call : Call) (machine : Doing M) (index : ℕ) (here : Seen M) (trace : Trace)
+      begins-keeping : (c : ℕ) (call : Call) (machine : Doing M) (index : ℕ) (here : View M) (trace : Trace)
           → machine_of env c call ≡ Some machine → IsKeeping here trace
-          → IsKeeping (seen_begin call machine here) (trace_begun index trace)
+          → IsKeeping (view_begun call machine here) (trace_begun index trace)
       begins-keeping c call machine index here trace is keeping =
           let first = first_job-machine env c call machine is in
           let busy = nothing-job machine ∙ ap is_no_job first.does in
@@ -224,10 +224,10 @@ module _ (M : Type 0) (mix : ℕ → ℕ → ℕ → ℕ) (env : Env) (Now : Job
             now = record { call = refl; steps = refl };
           }
 
-      steps-keeping : (events : List Event) (c : ℕ) (did : Did) (here : Seen M) (trace : Trace)
+      steps-keeping : (events : List Event) (c : ℕ) (did : Did) (here : View M) (trace : Trace)
           → IsMade M mix env events c here.local did → IsKeeping here trace
           → let next = local_after mix here.local did.old in
-          IsKeeping (seen_step mix did.old here) (trace_did here.book.call did (ending_of next.0 next.1) trace)
+          IsKeeping (view_stepped mix did.old here) (trace_did here.book.call did (ending_of next.0 next.1) trace)
       steps-keeping events c did here trace made keeping =
           let next = local_after mix here.local did.old in
           let planning = performs-made mix env M events c here.local did made in
@@ -270,7 +270,7 @@ module _ (M : Type 0) (mix : ℕ → ℕ → ℕ → ℕ) (env : Env) (Now : Job
 
       -- so what jobs keep holds of the calls of every caller in every run
       pub jobs_keep : (events : List Event) (c : ℕ) → IsAdmitted env.config.kind events
-          → let r : Traced M = traced_of mix env events in IsKeeping (seen r.world c) (r.traces c)
+          → let r : Traced M = traced_of mix env events in IsKeeping (view_of r.world c) (r.traces c)
       jobs_keep = traced_callers_keep M mix env (λ events c. IsKeeping) keeps
 
     -- ---- machine by machine

@@ -15,14 +15,14 @@ use Rattle.rht_core.specs.declared.book.Book.{Book}
 use Rattle.rht_core.specs.declared.local.Doing.{Doing}
 use Rattle.rht_core.specs.declared.local.Doing.TheVariants.{Idle, Finding, Binding}
 use Rattle.rht_core.specs.Jobs.{Job, finds, binds, job_of}
-use Rattle.rht_core.specs.Runs.{World, IsAdmitted, seen, local_of}
+use Rattle.rht_core.specs.Runs.{World, IsAdmitted, view_of, local_of}
 use Rattle.rht_core.specs.Traces.{Did, Past, Traced, traced_of}
-use Rattle.rht_core.specs.Replies.{IsFindReply, IsBindReply, IsReplyTo, AreOwnersWith, ArePairsWith, IsAnswered, IsBookOf, AnswersIn}
+use Rattle.rht_core.specs.Replies.{IsFindReply, IsBindReply, IsReplyTo, AreOwnersWith, ArePairsWith, IsRightlyAnswered, IsBookOf, AnswersIn}
 use Rattle.rht_core.specs.Laws.{IsDoingIn, IsLocalIn, Replies}
-use Rattle.rht_core.proofs.MachineReplies.{HoldsFindReply, HoldsBindReply, find_after-replies, bind_after-replies}
-use Rattle.rht_core.proofs.RangesInRuns.{runs-all}
-use Rattle.rht_core.proofs.TracedJobs.{IsEndedSo, IsAtJob, IsKeeping, jobs_keep, by_machines}
-use Rattle.rht_core.proofs.TracesInRuns.{remembers}
+use Rattle.rht_core.proofs.Reasons.MachineReplies.{HoldsFindReply, HoldsBindReply, find_after-replies, bind_after-replies}
+use Rattle.rht_core.proofs.Events.RangesInRuns.{runs-all}
+use Rattle.rht_core.proofs.Tracing.TracedJobs.{IsEndedSo, IsAtJob, IsKeeping, jobs_keep, by_machines}
+use Rattle.rht_core.proofs.Tracing.TracesInRuns.{remembers}
 
 -- ---- what each reply brings
 
@@ -55,7 +55,7 @@ JobHolds (binds port owner once state) = HoldsBindReply state
 
 -- a call that ends so is answered
 abbrev pub EndsRight : Call → Ending → Type 0
-EndsRight call ending = IsAnswered (ended_with call ending)
+EndsRight call ending = IsRightlyAnswered (ended_with call ending)
 
 ends-plainly : (call : Call) (reply : Reply) → IsReplyTo call reply → BringsNone reply
     → EndsRight call (plain_ending reply)
@@ -70,7 +70,7 @@ module _ (M : Type 0) (mix : ℕ → ℕ → ℕ → ℕ) (env : Env) where
 
   pub runs-right : (events : List Event) (c : ℕ) → IsAdmitted env.config.kind events
       → let r : Traced M = traced_of mix env events in
-      IsKeeping M mix env Holds Answered (seen r.world c) (r.traces c)
+      IsKeeping M mix env Holds Answered (view_of r.world c) (r.traces c)
   runs-right =
       jobs_keep M mix env Holds Answered
       (by_machines M mix env Holds Answered
@@ -99,7 +99,7 @@ module _ (M : Type 0) (mix : ℕ → ℕ → ℕ → ℕ) (env : Env) where
 
   -- the calls of a trace are those of its book
   all-answered : (calls : List Past) → AllByRecursion (IsEndedSo M mix env Holds Answered) calls
-      → AllByRecursion IsAnswered (map (λ past. past.done) calls)
+      → AllByRecursion IsRightlyAnswered (map (λ past. past.done) calls)
   all-answered [] all = tt
   all-answered (past ∷ calls) all =
       (record { reply = all.0.reply; owners = all.0.owners; pairs = all.0.pairs }, all-answered calls all.1)
@@ -113,7 +113,7 @@ replies M mix env events admitted c =
     subst (λ (w : World M). IsLocalIn env c (local_of w.core c)) (sym is.world) ((runs-all M mix env events admitted).locals c) in
     subst (λ (w : World M). AnswersIn env c (local_of w.core c) (w.books c)) is.world
     record {
-      finished = subst (AllByRecursion IsAnswered) (is.traces c).past (all-answered M mix env (r.traces c).past kept.past);
+      finished = subst (AllByRecursion IsRightlyAnswered) (is.traces c).past (all-answered M mix env (r.traces c).past kept.past);
       progress =
           book-of M mix env c (local_of r.world.core c).doing (r.world.books c) (r.traces c).steps within.doing kept.now;
       lists = kept.lists;

@@ -25,7 +25,7 @@ use Rattle.rht_core.specs.declared.local.Doing.{Doing}
 use Rattle.rht_core.specs.declared.local.Doing.TheVariants.{Idle, Finding, Binding}
 use Rattle.rht_core.specs.Locals.{does_nothing, machine_of, doing_plan, doing_after, local_after, ending_of, found_next, bound_next, IsDoingOf, IsLocalOf}
 use Rattle.rht_core.specs.Jobs.{Job, finds, binds, call_of, first_job, first_bind, job_plan, job_after, finds_next, binds_next, job_of, told, held_of}
-use Rattle.rht_core.proofs.CallBeginnings.{begins_so}
+use Rattle.rht_core.proofs.Events.CallBeginnings.{begins_so}
 
 -- there is no job
 abbrev pub is_no_job : Option Job → Bool

@@ -27,9 +27,9 @@ use Rattle.rht_core.proofs.Theory.Ghosts.{Ghost}
 use Rattle.rht_core.proofs.Theory.Wholes.{Whole}
 use Rattle.rht_core.proofs.Theory.Steps.{mem}
 use Rattle.rht_core.proofs.Machines.JobSteps.{JobKnows}
-use Rattle.rht_core.proofs.MachineReplies.{HoldsFindReply, HoldsBindReply, find_after-replies, bind_after-replies}
-use Rattle.rht_core.proofs.RepliesInRuns.{JobHolds}
-use Rattle.rht_core.proofs.TracedJobs.{IsEndedSo, jobs_keep, by_machines}
+use Rattle.rht_core.proofs.Reasons.MachineReplies.{HoldsFindReply, HoldsBindReply, find_after-replies, bind_after-replies}
+use Rattle.rht_core.proofs.Reasons.RepliesInRuns.{JobHolds}
+use Rattle.rht_core.proofs.Tracing.TracedJobs.{IsEndedSo, jobs_keep, by_machines}
 
 -- a look-up in this state performs this operation, and the reply that it holds is one of a look-up's
 pub record FindDoes (env : Env) (state : FindAt) (did : Did) : Type 0 where
