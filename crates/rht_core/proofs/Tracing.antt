@@ -4,11 +4,11 @@ pub mod TracedRuns
 pub mod TracedCallers
 -- what jobs keep of their calls' operations holds of each call in every run
 pub mod TracedJobs
--- what machines keep of their calls' operations holds of each call in every run
-pub mod TracedCalls
 -- in every run the traces remember each call
 pub mod TracesInRuns
 -- in every run the traces say what happened at which event
 pub mod TracesAtEvents
 -- in every run each operation stands in the trace of its call
 pub mod StepsInTraces
+-- in every run each call that has ended has a reply of its kind
+pub mod RepliesInRuns

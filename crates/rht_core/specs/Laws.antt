@@ -1,5 +1,5 @@
 -- What holds of every run.
-use Rattle.std.specs.Prelude.{◌≡◌, ℕ, ◌+◌, ◌<◌, ◌≤◌, ◌⊎◌, List, [], ◌∷◌, ◌++◌, length, map, take, Option, Some, IfSome}
+use Rattle.std.specs.Prelude.{◌≡◌, ◌≢◌, ℕ, ◌+◌, ◌<◌, ◌≤◌, ◌⊎◌, List, [], ◌∷◌, ◌++◌, length, map, take, Option, Some, IfSome}
 use Rattle.std.specs.List.{AllByRecursion, slice_get}
 use Rattle.std.specs.Int.{bit_at}
 use Rattle.rht_words.specs.declared.op.Op.{Op}
@@ -107,10 +107,9 @@ TakesOne g node (did ∷ steps) =
 abbrev pub TakesOneOf : Geometry → List Did → Type 0
 TakesOneOf g steps = (node : ℕ) × TakesOne g node steps
 
--- a call that needs a node, with this reply, has taken one; `NoNode` says that it has taken none
+-- a call that needs a node, with this reply, has taken one, or it was answered that there was none and has taken none
 abbrev pub IsTakenBy : Geometry → Reply → List Did → Type 0
-IsTakenBy g NoNode steps = TakesNone g steps
-IsTakenBy g _ steps = TakesOneOf g steps
+IsTakenBy g reply steps = ((reply ≡ NoNode) × TakesNone g steps) ⊎ ((reply ≢ NoNode) × TakesOneOf g steps)
 
 -- a bind and a rebind need a node, and no other call takes one
 abbrev pub IsTakenIn : Geometry → Call → Reply → List Did → Type 0

@@ -36,7 +36,7 @@ use Rattle.rht_core.proofs.Events.SoundRuns.{has_place, made_in}
 use Rattle.rht_core.proofs.Tracing.TracedRuns.{world-traced_of, count-traced_of, traced_of-push, trace_begin_none, trace_begin_self, trace_begin_other, trace_step_none, trace_step_self, trace_step_other}
 use Rattle.rht_core.proofs.Tracing.TracedCallers.{inv_now, stays_in}
 use Rattle.rht_core.proofs.Tracing.TracedJobs.{busy-none, IsAtJob}
-use Rattle.rht_core.proofs.Reasons.RepliesInRuns.{Holds, Answered, runs-right}
+use Rattle.rht_core.proofs.Tracing.RepliesInRuns.{Holds, Answered, runs-right}
 use Rattle.rht_core.proofs.Theory.Answering.{Says}
 use Rattle.rht_core.proofs.Theory.Frames.{Made}
 use Rattle.rht_core.proofs.Theory.Steps.{mem, owners, owners-stay, ghost_after}

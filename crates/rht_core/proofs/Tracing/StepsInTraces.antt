@@ -29,7 +29,7 @@ use Rattle.rht_core.proofs.Events.Worlds.{induct_by_last, take-push, take-push_a
 use Rattle.rht_core.proofs.Events.CallBeginnings.{idle_plans}
 use Rattle.rht_core.proofs.Events.JobsOfCallers.{is_no_job, nothing-job}
 use Rattle.rht_core.proofs.Tracing.TracedJobs.{IsAtJob}
-use Rattle.rht_core.proofs.Reasons.RepliesInRuns.{Holds, Answered, runs-right}
+use Rattle.rht_core.proofs.Tracing.RepliesInRuns.{Holds, Answered, runs-right}
 use Rattle.rht_core.proofs.Tracing.TracesInRuns.{traces_of_books}
 use Rattle.rht_core.proofs.Tracing.TracesAtEvents.{at_events}
 use Rattle.rht_core.proofs.Tracing.TracedRuns.{traced_of-push, world-traced_of, count-traced_of, trace_with, trace_begin_none, trace_begin_self, trace_begin_other, trace_step_none, trace_step_self, trace_step_other}
