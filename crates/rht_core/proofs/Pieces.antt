@@ -8,3 +8,5 @@ pub mod Locks
 pub mod Probes
 -- the count of ports is raised
 pub mod PortCounts
+-- along the list of a port's nodes
+pub mod Lists

@@ -29,7 +29,7 @@ first_in env mix Free built is = absurd (cc)
 first_in env mix (Held c) built is = absurd (cc)
 first_in env mix (First j) built is = (j, refl)
 first_in env mix (Leaving j) built is = absurd built
-first_in env mix (Behind k) built is = absurd built
+first_in env mix (Behind k) built is = absurd (cc)
 first_in env mix (Taken c) built is = absurd built
 
 module _ (env : Env) (mix : ℕ → ℕ → ℕ → ℕ) (words : List ℕ) (G : Ghost)
@@ -37,9 +37,12 @@ module _ (env : Env) (mix : ℕ → ℕ → ℕ → ℕ) (words : List ℕ) (G :
   abbrev in_chain : ℕ → Bool
   in_chain node = is_first (G.node node)
 
-  -- the port is bound to a node below this one, and to no other
-  abbrev IsBoundBelow : ℕ → ℕ → Type 0
-  IsBoundBelow bound port = (node : ℕ) × (node < bound) × (G.bound port ≡ node ∷ [])
+  -- the first node to which the port is bound is below this one
+  record IsBoundBelow (bound port : ℕ) : Type 0 where
+    node : ℕ
+    below : node < bound
+    behind : List ℕ
+    bound_to : G.bound port ≡ node ∷ behind
 
   -- as many different ports as there are nodes in chains below a bound, each bound to such a node
   record PortsBelow (bound : ℕ) : Type 0 where
@@ -53,7 +56,7 @@ module _ (env : Env) (mix : ℕ → ℕ → ℕ → ℕ) (words : List ℕ) (G :
       → AllByRecursion (IsBoundBelow (suc n)) ports
   further n ports all =
       AllByRecursion-weaker (IsBoundBelow n) (IsBoundBelow (suc n))
-      (λ port bound. let below = bound.1 in (bound.0, omega arith, bound.2)) ports all
+      (λ port is. let below = is.below in record { node = is.node; below = omega arith; behind = is.behind; bound_to = is.bound_to }) ports all
 
   -- the port of one more node in a chain is another one, since it is bound to that node
   one_more : (n : ℕ) → PortsBelow n → (in_it : Bool) → in_chain n ≡ in_it → PortsBelow (suc n)
@@ -65,13 +68,13 @@ module _ (env : Env) (mix : ℕ → ℕ → ℕ → ℕ) (words : List ℕ) (G :
         ports = port ∷ before.ports;
         distinct = (
           none_of (IsBoundBelow n) port (λ other below same.
-              let q : ◌≡◌ {A = List ℕ} (n ∷ []) (below.0 ∷ []) = sym here.bound_to ∙ ap G.bound same ∙ below.2 in
-              let node : n ≡ below.0 = (cc) in
-              let less = below.1 in
+              let q : ◌≡◌ {A = List ℕ} (n ∷ here.behind) (below.node ∷ below.behind) = sym here.bound_to ∙ ap G.bound same ∙ below.bound_to in
+              let node : n ≡ below.node = (cc) in
+              let less = below.below in
               absurd (omega arith)) before.ports before.each,
           before.distinct,
         );
-        each = ((n, omega arith, here.bound_to), further n before.ports before.each);
+        each = (record { node = n; below = omega arith; behind = here.behind; bound_to = here.bound_to }, further n before.ports before.each);
         many = let many = before.many in let one : one_if (in_chain n) ≡ 1 = ap one_if is in omega arith;
       }
   one_more n before false is = record {
@@ -87,9 +90,10 @@ module _ (env : Env) (mix : ℕ → ℕ → ℕ → ℕ) (words : List ℕ) (G :
 
   -- a port that is bound to a node has that node's owner
   is_bound : (bound port : ℕ) → IsBoundBelow bound port → stands_for env.geometry words port ≢ []
-  is_bound bound port (node, below, is) empty =
-      let owners : stands_for env.geometry words port ≡ owner_of (mem env mix words (Node node OwnerWord)) ∷ [] =
-      stands_for_bound env mix words G whole port ∙ ap (owners_in env mix (mem env mix words)) is in
+  is_bound bound port is empty =
+      let M = mem env mix words in
+      let owners : stands_for env.geometry words port ≡ owner_of (M (Node is.node OwnerWord)) ∷ owners_in env mix M is.behind =
+      stands_for_bound env mix words G whole port ∙ ap (owners_in env mix M) is.bound_to in
       absurd (cc)
 
   -- so many different ports are bound as there are nodes in chains

@@ -5,6 +5,7 @@ use Rattle.std.proofs.Common.{◌≡◌, ◌≢◌, ℕ, ◌+◌, ◌*◌, ◌%�
 use Rattle.std.specs.Prelude.{count_by}
 use Rattle.std.specs.List.{range_with_len}
 use Rattle.rht_words.specs.declared.env.Env.{Env}
+use Rattle.rht_words.specs.declared.config.Kind.TheVariants.{Single}
 use Rattle.rht_words.specs.Places.{PortCount, PageWord, word_at}
 use Rattle.rht_words.specs.Members.{In}
 use Rattle.rht_words.specs.Shapes.{unpacked, size_of}
@@ -14,7 +15,7 @@ use Rattle.rht_core.specs.Jobs.{job_of}
 use Rattle.rht_core.specs.Runs.{Core, local_of, run_of}
 use Rattle.rht_core.specs.StandsFor.{shape_of, nodes_of}
 use Rattle.rht_core.specs.Counts.{is_raising, raising, IsListed, IsPlaced, IsBucketInForce, Counted, AtRest}
-use Rattle.rht_core.proofs.Theory.Ghosts.{Owner, Free, Held, First, Leaving, Behind, Taken, Ghost, lock_bit, some-same}
+use Rattle.rht_core.proofs.Theory.Ghosts.{Owner, Free, Held, First, Leaving, Behind, Taken, Ghost, is_used, IsUsed, lock_bit, some-same}
 use Rattle.rht_core.proofs.Theory.Wholes.{key_of, place_at, firsts, raisers, IsBuilt, Whole}
 use Rattle.rht_core.proofs.Theory.Steps.{mem}
 use Rattle.rht_core.proofs.Machines.JobSteps.{KnowsNothing}
@@ -28,25 +29,32 @@ use Rattle.rht_core.proofs.Counting.FullTables.{raises}
 
 module _ (env : Env) (mix : ℕ → ℕ → ℕ → ℕ) (words : List ℕ) (G : Ghost)
     (whole : Whole env mix (mem env mix words) G) where
-  -- a port's list has one node at most
-  few_listed : (port : ℕ) → length (nodes_of env.geometry words port) ≤ 1
-  few_listed port = rw (listed_bound env mix words G whole port) (go (G.bound port) refl)
+  -- in a table of one owner each a port's list has one node at most
+  few_listed : env.config.kind ≡ Single → (port : ℕ) → length (nodes_of env.geometry words port) ≤ 1
+  few_listed single port = rw (listed_bound env mix words G whole port) (go (G.bound port) refl)
     where
       go : (bound : List ℕ) → G.bound port ≡ bound → length bound ≤ 1
       go [] b = omega arith
-      go (n ∷ behind) b = rw (whole.owned.bound_to port n behind b).alone (omega arith)
+      go (n ∷ behind) b = rw (whole.owned.single single port n behind b) (omega arith)
 
-  -- such a node is in a chain
-  listed_in_chain : (n : ℕ) → IsListed env.geometry words n → (j : ℕ) × (G.node n ≡ First j)
-  listed_in_chain n (port, there) = go (G.bound port) refl (subst (In n) (listed_bound env mix words G whole port) there)
+  -- a node in a port's list is the first of its nodes or behind it
+  listed_used : (n : ℕ) → IsListed env.geometry words n → IsUsed (G.node n)
+  listed_used n (port, there) = go (G.bound port) refl (subst (In n) (listed_bound env mix words G whole port) there)
     where
-      go : (bound : List ℕ) → G.bound port ≡ bound → In n bound → (j : ℕ) × (G.node n ≡ First j)
+      go : (bound : List ℕ) → G.bound port ≡ bound → In n bound → IsUsed (G.node n)
       go [] b i = absurd i
       go (first ∷ behind) b (inl same) =
           let to = whole.owned.bound_to port first behind b in
-          (to.bucket, ap G.node same ∙ to.first)
-      go (first ∷ behind) b (inr i) =
-          absurd (subst (In n) (whole.owned.bound_to port first behind b).alone i)
+          ap is_used (ap G.node same ∙ to.first)
+      go (first ∷ behind) b (inr i) = ap is_used ((whole.owned.bound_to port first behind b).each n i)
+
+  -- one that a port is bound to is listed, and not free
+  is_listed : (n port : ℕ) → n < env.geometry.nodes → IsUsed (G.node n) → In n (G.bound port) → IsPlaced env.geometry words [] n
+  is_listed n port l used there = inr (inl (
+    (port, subst (In n) (sym (listed_bound env mix words G whole port)) there),
+    (λ free. let q = sym used ∙ ap is_used ((whole.arena.bits n l).0 free) in cc),
+    (λ i. i),
+  ))
 
   -- a node that no caller has is free or in a port's list
   placed : (n : ℕ) → n < env.geometry.nodes → ((c : ℕ) → G.node n ≢ Held c) → IsPlaced env.geometry words [] n
@@ -55,20 +63,17 @@ module _ (env : Env) (mix : ℕ → ℕ → ℕ → ℕ) (words : List ℕ) (G :
       go : (o : Owner) → G.node n ≡ o → IsBuilt env mix o → IsPlaced env.geometry words [] n
       go Free e b = inl (
         (whole.arena.bits n l).1 e,
-        (λ is. let chained = listed_in_chain n is in let q = sym e ∙ chained.1 in cc),
+        (λ is. let q = sym (listed_used n is) ∙ ap is_used e in cc),
         (λ i. i),
       )
       go (Held c) e b = absurd (unheld c e)
       go (First j) e b =
           let at = whole.owned.first_at n j e in
-          let port = key_of (mem env mix words) n in
-          inr (inl (
-            (port, subst (In n) (sym (listed_bound env mix words G whole port ∙ at.bound_to)) (inl refl)),
-            (λ free. let q = sym e ∙ (whole.arena.bits n l).0 free in cc),
-            (λ i. i),
-          ))
+          is_listed n (key_of (mem env mix words) n) l (ap is_used e) (subst (In n) (sym at.bound_to) (inl refl))
       go (Leaving j) e b = absurd b
-      go (Behind k) e b = absurd b
+      go (Behind k) e b =
+          let is = whole.owned.behind_in n k e in
+          is_listed n k l (ap is_used e) (subst (In n) (sym is.bound_to) (inr is.there))
       go (Taken c) e b = absurd b
 
   -- a bucket in force is one of the one table's
@@ -136,7 +141,7 @@ module _ (M : Type 0) (mix : ℕ → ℕ → ℕ → ℕ) where
           many = sym none;
           placed = λ n l. placed env mix core.words G has.inv.whole n l (λ c held. let none = (knows c).only.nodes n held in absurd (cc));
         };
-        single = λ one port. few_listed env mix core.words G has.inv.whole port;
+        single = few_listed env mix core.words G has.inv.whole;
         counted = rw all (firsts-AreAllBound env mix core.words G has.inv.whole);
       }
     where

@@ -100,7 +100,9 @@ module _ (env : Env) (mix : ℕ → ℕ → ℕ → ℕ) where
     owned = record {
       member = λ j n i. absurd i;
       first_at = λ n j f. absurd (cc);
+      behind_in = λ n port f. absurd (cc);
       bound_to = λ port n behind b. absurd (cc);
+      single = λ one port n behind b. absurd (cc);
     };
     arena = record {
       built = λ n. tt;

@@ -30,7 +30,7 @@ use Rattle.rht_core.proofs.Events.RangesInRuns.{AllIn}
 use Rattle.rht_core.proofs.Events.JobsOfCallers.{plan-job, left-job, nothing-job, is_no_job}
 use Rattle.rht_core.proofs.Theory.Ghosts.{Ghost}
 use Rattle.rht_core.proofs.Theory.Wholes.{Whole}
-use Rattle.rht_core.proofs.Theory.Knowledge.{Rely, Knowing-rely}
+use Rattle.rht_core.proofs.Theory.Knowledge.{members_used, Rely, Knowing-rely}
 use Rattle.rht_core.proofs.Theory.Steps.{mem, Step, ghost_after}
 use Rattle.rht_core.proofs.Moves.Quiet.{aside}
 use Rattle.rht_core.proofs.Machines.FindSteps.{known_nothing}
@@ -45,8 +45,8 @@ module _ (env : Env) (mix : ℕ → ℕ → ℕ → ℕ) where
   Knows-rely : (c : ℕ) (job : Option Job) (M M' : Memory) (G G' : Ghost) → Whole env mix M G → Rely env mix c M G M' G'
       → Knows c job M G → Knows c job M' G'
   Knows-rely c None M M' G G' whole rely knows =
-      Knowing-rely env mix c M M' G G' holds_no known_nothing whole.owned.member rely knows
-  Knows-rely c (Some job) M M' G G' whole rely knows = JobKnows-rely env mix c job M M' G G' whole.owned.member rely knows
+      Knowing-rely env mix c M M' G G' holds_no known_nothing (members_used env mix M G whole) rely knows
+  Knows-rely c (Some job) M M' G G' whole rely knows = JobKnows-rely env mix c job M M' G G' (members_used env mix M G whole) rely knows
 
   -- what a caller knows after an operation is what the job that is left says
   knows-told : (c : ℕ) (r : Job × Next Ending) (M : Memory) (G : Ghost) → JobNext env mix c r M G → Knows c (told r).0 M G

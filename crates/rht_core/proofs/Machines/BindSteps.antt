@@ -37,7 +37,7 @@ use Rattle.rht_bind.specs.declared.bind.Claimed.{Claimed}
 use Rattle.rht_bind.specs.declared.bind.BindAt.{BindAt}
 use Rattle.rht_bind.specs.declared.bind.BindAt.TheVariants as at
 use Rattle.rht_core.proofs.Theory.Ghosts.{put, put-same, put-other, put-all, Held, First, Ghost, index_at, table_at}
-use Rattle.rht_core.proofs.Theory.Wholes.{home, place_at, word_index, place_at-index, index-within, Whole}
+use Rattle.rht_core.proofs.Theory.Wholes.{key_of, home, place_at, word_index, place_at-index, index-within, Whole}
 use Rattle.rht_core.proofs.Theory.Passed.{home-table, unbound_at_last}
 use Rattle.rht_core.proofs.Theory.Knowledge.{HasOnly, KnownNode, KnownTable, Nowhere, Passes, AtHome, KnownBucket, Unlocked, Locks, Missed, Member, Known, IsMember, Knowing}
 use Rattle.rht_core.proofs.Theory.Frames.{Made}
@@ -284,7 +284,8 @@ module _ (env : Env) (mix : ℕ → ℕ → ℕ → ℕ) (c : ℕ) (port owner :
     bound_here place word node is =
         let j = word_index env mix place in
         let at = whole.owned.first_at node j (whole.owned.member j node is.there) in
-        ap (owners_in env mix M) (ap G.bound (sym is.key_is) ∙ at.bound_to)
+        let alone = whole.owned.single single (key_of M node) node at.behind at.bound_to in
+        ap (owners_in env mix M) (ap G.bound (sym is.key_is) ∙ at.bound_to ∙ ap (λ behind. node ∷ behind) alone)
 
     -- a port that is bound exists, and a bind leaves it
     exists : (first : ℕ) → now port ≡ first ∷ [] → IsLegalOn env.config.kind c call now (plain (Exists first))

@@ -1,5 +1,5 @@
 -- What a look-up knows in each state, and that each of its operations leads from what it knows to what it knows next.
-use Rattle.std.proofs.Common.{◌≡◌, ℕ, List, [], ◌∷◌, length, Option, Some, None, refl, sym, ◌∙◌, ap, inl}
+use Rattle.std.proofs.Common.{◌≡◌, ℕ, List, [], ◌∷◌, length, Option, Some, None, refl, sym, ◌∙◌, ap, inl, inr}
 use Rattle.rht_words.specs.declared.env.Env.{Env}
 use Rattle.rht_words.specs.declared.machine.Next.{Next}
 use Rattle.rht_words.specs.declared.machine.Next.TheVariants.{Go, Done}
@@ -9,6 +9,7 @@ use Rattle.rht_words.specs.Ports.{owner_of}
 use Rattle.rht_words.specs.Operations.{old_of, word_after}
 use Rattle.rht_words.specs.Places.{CurrentTable, Slot, FutureWord, Node, OwnerWord, ListLink, words_in}
 use Rattle.rht_words.proofs.Memory.{Memory}
+use Rattle.rht_words.proofs.LinksRead.{links_tell_apart}
 use Rattle.rht_words.proofs.Members.{in-middle}
 use Rattle.rht_nest.specs.Locate.{LocateModel, locate_new, locate_plan, locate_after}
 use Rattle.rht_nest.specs.declared.locate.Located.{Located}
@@ -30,11 +31,12 @@ use Rattle.rht_find.specs.declared.find.FindAt.{FindAt}
 use Rattle.rht_find.specs.declared.find.FindAt.TheVariants as at
 use Rattle.rht_core.proofs.Theory.Ghosts.{Ghost}
 use Rattle.rht_core.proofs.Theory.Wholes.{word_index, Whole}
-use Rattle.rht_core.proofs.Theory.Knowledge.{KnownTable, Nowhere, Passes, AtHome, KnownBucket, Unlocked, Locks, Missed, Member, OwnerIs, Known, IsMember, Knowing}
+use Rattle.rht_core.proofs.Theory.Knowledge.{KnownTable, Nowhere, Passes, AtHome, KnownBucket, Unlocked, Locks, Missed, Member, Listing, Known, Knowing}
 use Rattle.rht_core.proofs.Theory.Answering.{KeepsAnswer, keeps, learns}
 use Rattle.rht_core.proofs.Theory.Steps.{Holding, mem, owners, owners_in, Moved, moved-map, with_knowledge, Step, answered, reads, HoldsSame, still_has}
 use Rattle.rht_core.proofs.Pieces.Locates.{known_locate, first_passed, locate_step, LocateKnows, FutureIs, future_is}
 use Rattle.rht_core.proofs.Pieces.Locks.{unlock_step}
+use Rattle.rht_core.proofs.Pieces.Lists.{IsNextOf, list_next, list_among}
 use Rattle.rht_core.proofs.Pieces.Probes.{known_probe, known_found, place_of_probe, IsProbeFor, probed_by, ProbeKnows, probe_step}
 
 -- what a caller knows in no call
@@ -65,11 +67,11 @@ module _ (port : ℕ) where
   known_of_find (at.Probing table probe) = knows_of (AtHome port table None (place_of_probe probe.at)) (known_probe port probe.at)
   known_of_find (at.Future table bucket) = knows_of (at_home table bucket) (Missed bucket.place bucket.word port)
   known_of_find (at.FirstOwner table bucket node) = knows_of (at_home table bucket) (Member bucket.place bucket.word port node)
-  known_of_find (at.ListLink table bucket node owner) = knows_of (at_home table bucket) (OwnerIs bucket.place bucket.word port node owner)
-  known_of_find (at.LaterOwner table bucket node owner) = knows_of (at_home table bucket) (Locks bucket.place bucket.word)
+  known_of_find (at.ListLink table bucket node owner) = knows_of (at_home table bucket) (Listing bucket.place bucket.word port node owner)
+  known_of_find (at.LaterOwner table bucket node owner) = knows_of (at_home table bucket) (Listing bucket.place bucket.word port node owner)
   known_of_find (at.Unlocking table unlock next) = knows_of (known_behind port next) (Locks unlock.place unlock.word)
 
-  -- how its pieces are for the port; so far no node has another one behind it in a list
+  -- how its pieces are for the port
   abbrev pub fits_find : FindAt → Type 0
   fits_find at.CurrentTable = Unit {0}
   fits_find (at.Locating locate) = Unit {0}
@@ -77,7 +79,7 @@ module _ (port : ℕ) where
   fits_find (at.Future table bucket) = Unit {0}
   fits_find (at.FirstOwner table bucket node) = Unit {0}
   fits_find (at.ListLink table bucket node owner) = Unit {0}
-  fits_find (at.LaterOwner table bucket node owner) = ⊥
+  fits_find (at.LaterOwner table bucket node owner) = Unit {0}
   fits_find (at.Unlocking table unlock next) = Unit {0}
 
 module _ (env : Env) (mix : ℕ → ℕ → ℕ → ℕ) (c : ℕ) (port : ℕ) where
@@ -119,14 +121,6 @@ module _ (env : Env) (mix : ℕ → ℕ → ℕ → ℕ) (c : ℕ) (port : ℕ) 
         → FindKnows next M G → FindMoved at (next, Go)
     goes_on at next same holds says knows =
         reads env mix c call words G (plan_at env at) (held_of_find at) (held_of_find next) (FindNext (next, Go)) whole same holds (inl says) knows
-
-    -- the port is bound to the owner of a node of its bucket that has its key, and to no other
-    bound_here : (place word node : ℕ) → IsMember env mix c M G place word port node
-        → (now port ≡ owner_of (M (Node node OwnerWord)) ∷ []) × (M (Node node ListLink) ≡ 0)
-    bound_here place word node is =
-        let j = word_index env mix place in
-        let at = whole.owned.first_at node j (whole.owned.member j node is.there) in
-        (ap (owners_in env mix M) (ap G.bound (sym is.key_is) ∙ at.bound_to), at.no_list)
 
     -- ---- what the pieces lead to
 
@@ -217,6 +211,55 @@ module _ (env : Env) (mix : ℕ → ℕ → ℕ → ℕ) (c : ℕ) (port : ℕ) 
           fits = tt;
         })
 
+    -- behind the last owner of a list the look-up has its answer, the first one
+    list_ends : (table : ℕ) (bucket : Locked) (node owner : ℕ) → FindKnows (at.ListLink table bucket node owner) M G
+        → M (Node node ListLink) ≡ 0 → FindStep (at.ListLink table bucket node owner)
+    list_ends table bucket node owner known end =
+        let here = known.knowing.means.bucket in
+        let answer = unlocking table bucket (Answer (Found owner)) in
+        let ends : list_followed table bucket owner (node_of env.geometry.nodes (M (Node node ListLink))) ≡ answer =
+        ap (λ link. list_followed table bucket owner (node_of env.geometry.nodes link)) end in
+        let bound : now port ≡ owner_of (M (Node here.first OwnerWord)) ∷ owners_in env mix M here.behind =
+        ap (owners_in env mix M) here.bound_to in
+        rw ends (reads env mix c call words G (plan_at env (at.ListLink table bucket node owner)) (held_of_find (at.ListLink table bucket node owner)) (held_of_find answer) (FindNext (answer, Go)) whole refl refl
+        (learns env.config.kind c call None now (plain (Found owner)) (record { replied = record { reply = tt; owners = refl; pairs = refl }; tells = refl }) (record {
+          legal = inl (ap (λ owners. Some (plain (answers.find_reply owners))) bound ∙ ap (λ o. Some (plain (Found o))) here.owner_is);
+          leaves = λ p. refl;
+        }))
+        (record {
+          knowing = record { only = known.knowing.only; means = record { node = tt; table = tt; bucket = here.member.lock } };
+          fits = tt;
+        }))
+
+    -- and before it goes on to the next node
+    list_goes_on : (table : ℕ) (bucket : Locked) (node owner : ℕ) → (known : FindKnows (at.ListLink table bucket node owner) M G)
+        → IsNextOf known.knowing.means.bucket.behind (M (Node node ListLink)) → FindStep (at.ListLink table bucket node owner)
+    list_goes_on table bucket node owner known next =
+        let here = known.knowing.means.bucket in
+        let later = at.LaterOwner table bucket next.node owner in
+        let among = list_among env mix M G whole port here.first here.behind here.bound_to next.node (inr next.there) in
+        let goes : list_followed table bucket owner (node_of env.geometry.nodes (M (Node node ListLink))) ≡ later =
+        ap (λ link. list_followed table bucket owner (node_of env.geometry.nodes link)) next.link_is
+        ∙ ap (list_followed table bucket owner) (links_tell_apart.link_names env.geometry.nodes next.node among) in
+        rw goes (goes_on (at.ListLink table bucket node owner) later refl refl refl (record {
+          knowing = record {
+            only = known.knowing.only;
+            means = record {
+              node = tt;
+              table = known.knowing.means.table;
+              bucket = record {
+                first = here.first;
+                behind = here.behind;
+                member = here.member;
+                bound_to = here.bound_to;
+                listed = inr next.there;
+                owner_is = here.owner_is;
+              };
+            };
+          };
+          fits = tt;
+        }))
+
     -- each operation of a look-up leads from what it knows to what it knows next
     pub find_step : (at : FindAt) → IsFindAtIn env at → FindKnows at M G → FindStep at
     find_step at.CurrentTable is known =
@@ -239,29 +282,36 @@ module _ (env : Env) (mix : ℕ → ℕ → ℕ → ℕ) (c : ℕ) (port : ℕ) 
         (future_is env mix c (at_lock (Some bucket.place)) None (Missed bucket.place bucket.word port) words G whole port table bucket.place None
         known.knowing known.knowing.means.bucket.none) known
     find_step (at.FirstOwner table bucket node) is known =
+        let member = known.knowing.means.bucket in
+        let j = word_index env mix bucket.place in
+        let first = whole.owned.first_at node j (whole.owned.member j node member.there) in
         goes_on (at.FirstOwner table bucket node) (at.ListLink table bucket node (owner_of (M (Node node OwnerWord)))) refl refl refl (record {
           knowing = record {
             only = known.knowing.only;
-            means = record { node = tt; table = known.knowing.means.table; bucket = record { member = known.knowing.means.bucket; owner_is = refl } };
+            means = record {
+              node = tt;
+              table = known.knowing.means.table;
+              bucket = record {
+                first = node;
+                behind = first.behind;
+                member = member;
+                bound_to = ap G.bound (sym member.key_is) ∙ first.bound_to;
+                listed = inl refl;
+                owner_is = refl;
+              };
+            };
           };
           fits = tt;
         })
     find_step (at.ListLink table bucket node owner) is known =
-        let own = known.knowing.means.bucket in
-        let bound = bound_here bucket.place bucket.word node own.member in
-        let answer = unlocking table bucket (Answer (Found owner)) in
-        let ends : list_followed table bucket owner (node_of env.geometry.nodes (M (Node node ListLink))) ≡ answer =
-        ap (λ link. list_followed table bucket owner (node_of env.geometry.nodes link)) bound.1 in
-        rw ends (reads env mix c call words G (plan_at env (at.ListLink table bucket node owner)) (held_of_find (at.ListLink table bucket node owner)) (held_of_find answer) (FindNext (answer, Go)) whole refl refl
-        (learns env.config.kind c call None now (plain (Found owner)) (record { replied = record { reply = tt; owners = refl; pairs = refl }; tells = refl }) (record {
-          legal = inl (ap (λ owners. Some (plain (answers.find_reply owners))) bound.0 ∙ ap (λ o. Some (plain (Found o))) own.owner_is);
-          leaves = λ p. refl;
-        }))
-        (record {
-          knowing = record { only = known.knowing.only; means = record { node = tt; table = tt; bucket = own.member.lock } };
-          fits = tt;
-        }))
-    find_step (at.LaterOwner table bucket node owner) is known = absurd known.fits
+        let here = known.knowing.means.bucket in
+        elim (list_next env mix M G whole port here.first here.behind here.bound_to node here.listed) [
+          | inl end ↦ list_ends table bucket node owner known end
+          | inr next ↦ list_goes_on table bucket node owner known next
+        ]
+    find_step (at.LaterOwner table bucket node owner) is known =
+        goes_on (at.LaterOwner table bucket node owner) (at.ListLink table bucket node owner) refl refl refl
+        (record { knowing = known.knowing; fits = tt })
     find_step (at.Unlocking table unlock (Table next)) is known =
         answered env mix c call words G (plan_at env (at.Unlocking table unlock (Table next))) (held_of_find (at.Unlocking table unlock (Table next))) held.holds_nothing None
         (FindNext (at.Locating (locate_new env.geometry next), Go)) (inl refl) (still_has refl)

@@ -20,7 +20,7 @@ use Rattle.rht_bind.specs.declared.bind.BindAt.{BindAt}
 use Rattle.rht_core.specs.Jobs.{Job, finds, binds, call_of, job_plan, finds_next, binds_next, job_after, held_of, held_next}
 use Rattle.rht_core.proofs.Theory.Ghosts.{Ghost}
 use Rattle.rht_core.proofs.Theory.Wholes.{Whole}
-use Rattle.rht_core.proofs.Theory.Knowledge.{Known, MembersFirst, Rely, Knowing, Knowing-rely}
+use Rattle.rht_core.proofs.Theory.Knowledge.{Known, MembersUsed, Rely, Knowing, Knowing-rely}
 use Rattle.rht_core.proofs.Theory.Steps.{mem, Holding, Step, step-map}
 use Rattle.rht_core.proofs.Machines.FindSteps.{known_nothing, known_of_find, fits_find, find_holds, FindNext, find_step}
 use Rattle.rht_core.proofs.Machines.BindSteps.{known_of_bind, fits_bind, bind_holds, BindNext, bind_step}
@@ -69,7 +69,7 @@ module _ (env : Env) (mix : ℕ → ℕ → ℕ → ℕ) (c : ℕ) where
   JobNext (job, Done ending) M G = Knowing env mix c (held.ended_with ending.answer) known_nothing M G
 
   -- what it knows outlives a step of anybody else
-  pub JobKnows-rely : (job : Job) (M M' : Memory) (G G' : Ghost) → MembersFirst env mix G → Rely env mix c M G M' G'
+  pub JobKnows-rely : (job : Job) (M M' : Memory) (G G' : Ghost) → MembersUsed env mix G → Rely env mix c M G M' G'
       → JobKnows job M G → JobKnows job M' G'
   JobKnows-rely job M M' G G' members rely knows = record {
     built = knows.built;

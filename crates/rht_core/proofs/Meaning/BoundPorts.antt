@@ -1,6 +1,6 @@
--- What the words stand for is what the ghost says: the owner of the node to which each port is bound.
+-- What the words stand for is what the ghost says: the owners of the nodes to which each port is bound.
 -- The table in force is the one table; the nodes met in each bucket are the bucket's nodes; and of all these at most one has
--- the port's key, the one to which the port is bound.
+-- the port's key, the first of those to which the port is bound; the others are met along its list.
 use Rattle.std.proofs.Common.{◌≡◌, ℕ, zero, suc, ◌+◌, ◌-◌, ◌*◌, ◌%◌, ◌<◌, ◌≤◌, List, [], ◌∷◌, length, Option, Some, None, true, cond, refl, sym, ◌∙◌, ap, subst, inl, inr, slice_index, arith}
 use Rattle.std.proofs.lemmas.Bool.{eqb-true, eq-eqb, lt-ltb, le-ltb}
 use Rattle.std.proofs.lemmas.Bool.Decides.{nat_tests}
@@ -12,15 +12,16 @@ use Rattle.rht_words.proofs.Memory.{Memory}
 use Rattle.rht_words.specs.Links.{node_of, table_of, future_of, head_of, marker_of}
 use Rattle.rht_words.specs.Shapes.{unpacked, size_of}
 use Rattle.rht_words.specs.Chains.{IsSegment}
-use Rattle.rht_words.specs.Places.{CurrentTable, Slot, FutureWord, Node, ListLink}
+use Rattle.rht_words.specs.Places.{CurrentTable, Slot, FutureWord}
 use Rattle.rht_words.proofs.LinksRead.{links_tell_apart}
 use Rattle.rht_words.specs.Members.{In}
 use Rattle.rht_words.proofs.Members.{In-flat_map, flat_map-In, In-range_with_len, range_with_len-In, flat_map-same, find-Some, find-None, In-AllByRecursion, count_below-most, length-count_below}
 use Rattle.rht_nest.specs.Place.{bucket_place, bucket_index}
 use Rattle.rht_core.specs.StandsFor.{in_force, chain_from, bucket_nodes, table_nodes, has_key, first_node, list_from, nodes_of, stands_for}
 use Rattle.rht_core.proofs.Theory.Ghosts.{Ghost, lock_bit, table_at, some-same}
-use Rattle.rht_core.proofs.Theory.Wholes.{chain_of, key_of, home, hash_in, place_at, future_in, Whole}
+use Rattle.rht_core.proofs.Theory.Wholes.{chain_of, list_of, key_of, home, hash_in, place_at, future_in, Whole}
 use Rattle.rht_core.proofs.Theory.Passed.{hash-below, home-index}
+use Rattle.rht_core.proofs.Pieces.Lists.{list_among}
 use Rattle.rht_core.proofs.Theory.Steps.{mem, owners, owners_in}
 
 -- the first of a list
@@ -112,11 +113,12 @@ module _ (env : Env) (mix : ℕ → ℕ → ℕ → ℕ) (words : List ℕ) (G :
   all_met : flat_map (table_nodes g words) (in_force g words) ≡ all_nodes
   all_met = ap (flat_map (table_nodes g words)) one_in_force ∙ append-nil (table_nodes g words (G.table 0).slot) ∙ table_met
 
-  -- a node that is met is the one to which its port is bound
-  met_bound : (n : ℕ) → In n all_nodes → G.bound (key_of M n) ≡ n ∷ []
+  -- a node that is met is the first of those to which its port is bound
+  met_bound : (n : ℕ) → In n all_nodes → (behind : List ℕ) × (G.bound (key_of M n) ≡ n ∷ behind)
   met_bound n i =
       let from = flat_map-In (λ bucket. (G.bucket (index bucket)).nodes) n (range_with_len 0 size) i in
-      (whole.owned.first_at n (index from.0) (whole.owned.member (index from.0) n from.2)).bound_to
+      let first = whole.owned.first_at n (index from.0) (whole.owned.member (index from.0) n from.2) in
+      (first.behind, first.bound_to)
 
   -- a node to which a port is bound is met
   bound_met : (port n : ℕ) (behind : List ℕ) → G.bound port ≡ n ∷ behind
@@ -149,7 +151,7 @@ module _ (env : Env) (mix : ℕ → ℕ → ℕ → ℕ) (words : List ℕ) (G :
           let member = find-Some (has_key g words port) all_nodes m f in
           let key = eqb-true (key_of M m) port member.1 in
           let bound_m = met_bound m member.0 in
-          let q : ◌≡◌ {A = List ℕ} [] (m ∷ []) = sym b ∙ ap G.bound (sym key) ∙ bound_m in absurd (cc)
+          let q : ◌≡◌ {A = List ℕ} [] (m ∷ bound_m.0) = sym b ∙ ap G.bound (sym key) ∙ bound_m.1 in absurd (cc)
       go None (n ∷ behind) f b =
           let met = bound_met port n behind b in
           let never = find-None (has_key g words port) all_nodes n f met.0 in
@@ -157,19 +159,19 @@ module _ (env : Env) (mix : ℕ → ℕ → ℕ → ℕ) (words : List ℕ) (G :
       go (Some m) (n ∷ behind) f b =
           let member = find-Some (has_key g words port) all_nodes m f in
           let key = eqb-true (key_of M m) port member.1 in
-          let q : ◌≡◌ {A = List ℕ} (n ∷ behind) (m ∷ []) = sym b ∙ ap G.bound (sym key) ∙ met_bound m member.0 in
+          let bound_m = met_bound m member.0 in
+          let q : ◌≡◌ {A = List ℕ} (n ∷ behind) (m ∷ bound_m.0) = sym b ∙ ap G.bound (sym key) ∙ bound_m.1 in
           let same : n ≡ m = (cc) in ap Some (sym same)
 
-  one_listed : (n : ℕ) → M (Node n ListLink) ≡ 0 → list_from g words g.nodes (Some n) ≡ n ∷ []
-  one_listed n none =
-      let within = g.within in
-      let some : g.nodes ≡ suc (g.nodes - 1) = omega (arith, within.nodes_within.0) in
-      subst (λ fuel. list_from g words fuel (Some n) ≡ n ∷ []) (sym some)
-      (ap (λ rest. n ∷ rest) (rw none (no_more (g.nodes - 1))))
-    where
-      no_more : (fuel : ℕ) → list_from g words fuel (node_of g.nodes 0) ≡ []
-      no_more zero = refl
-      no_more (suc fuel) = refl
+  -- the nodes along list links are those of the segment, where there is fuel for all of them
+  list_met : (left link : ℕ) (nodes : List ℕ) → length nodes ≤ left → ((n : ℕ) → In n nodes → n < g.nodes)
+      → IsSegment (list_of M) link nodes 0 → list_from g words left (node_of g.nodes link) ≡ nodes
+  list_met zero link [] fuel among s = refl
+  list_met (suc left) link [] fuel among s = rw s refl
+  list_met zero link (n ∷ nodes) fuel among s = absurd (omega arith)
+  list_met (suc left) link (n ∷ nodes) fuel among s =
+      rw (ap (node_of g.nodes) s.0 ∙ links_tell_apart.link_names g.nodes n (among n (inl refl)))
+      (ap (λ rest. n ∷ rest) (list_met left (list_of M n) nodes (omega arith) (λ m i. among m (inr i)) s.1))
 
   none_listed : (fuel : ℕ) → list_from g words fuel None ≡ []
   none_listed zero = refl
@@ -183,9 +185,15 @@ module _ (env : Env) (mix : ℕ → ℕ → ℕ → ℕ) (words : List ℕ) (G :
       go [] b = ap (list_from g words g.nodes) (first_bound port [] b) ∙ none_listed g.nodes ∙ sym b
       go (n ∷ behind) b =
           let to = whole.owned.bound_to port n behind b in
-          let at = whole.owned.first_at n to.bucket to.first in
-          ap (list_from g words g.nodes) (first_bound port (n ∷ behind) b) ∙ one_listed n at.no_list
-          ∙ ap (λ rest. n ∷ rest) (sym to.alone) ∙ sym b
+          let among = list_among env mix M G whole port n behind b in
+          let few =
+          length-count_below (λ n. true) g.nodes (n ∷ behind) to.distinct (In-AllByRecursion (λ m. m < g.nodes) (n ∷ behind) among) (λ m i. refl) in
+          let most = count_below-most (λ n. true) g.nodes in
+          let some : g.nodes ≡ suc (g.nodes - 1) = omega (arith, g.within.nodes_within.0) in
+          ap (list_from g words g.nodes) (first_bound port (n ∷ behind) b)
+          ∙ ap (λ fuel. list_from g words fuel (Some n)) some
+          ∙ ap (λ rest. n ∷ rest) (list_met (g.nodes - 1) (list_of M n) behind (omega (arith, few, most, some)) (λ m i. among m (inr i)) to.list)
+          ∙ sym b
 
   -- so the owners of each port are those of the nodes to which it is bound
   pub stands_for_bound : (port : ℕ) → stands_for g words port ≡ owners env mix M G port

@@ -1,5 +1,5 @@
 -- The store that makes a node the first of its bucket's chain, and unlocks the bucket. From it on the port is bound.
-use Rattle.std.proofs.Common.{◌≡◌, ◌≢◌, ◌↔◌, ℕ, ◌+◌, ◌*◌, ◌/◌, ◌%◌, ◌<◌, List, [], ◌∷◌, Option, Some, false, refl, sym, ◌∙◌, ap, inl, inr, arith}
+use Rattle.std.proofs.Common.{◌≡◌, ◌≢◌, ◌↔◌, ℕ, ◌+◌, ◌*◌, ◌/◌, ◌%◌, ◌<◌, List, [], ◌∷◌, Option, Some, false, refl, sym, ◌∙◌, ap, subst, inl, inr, arith}
 use Rattle.std.specs.Int.{bit_at}
 use Rattle.std.proofs.lemmas.Bool.Decides.{nat_tests}
 use Rattle.rht_words.specs.declared.env.Env.{Env}
@@ -10,11 +10,11 @@ use Rattle.rht_words.proofs.Memory.{Memory, IsWrite}
 use Rattle.rht_words.specs.Members.{In, NotIn}
 use Rattle.rht_words.proofs.Members.{not_in_from, count_below-more}
 use Rattle.rht_words.proofs.ChainLemmas.{IsSegment-members}
-use Rattle.rht_core.proofs.Theory.Ghosts.{put, put-same, put-other, put-all, Free, Held, First, Ghost, is_first, held_not_first, held_by_one, table_at}
-use Rattle.rht_core.proofs.Theory.Wholes.{chain_of, key_of, place_at, BucketRight, IsFirstAt, IsBoundTo, Owned, ArenaRight, IsBuilt, Whole, firsts, raisers}
+use Rattle.rht_core.proofs.Theory.Ghosts.{put, put-same, put-other, put-all, Free, Held, First, Behind, Ghost, is_first, is_used, IsUsed, held_not_used, held_by_one, table_at}
+use Rattle.rht_core.proofs.Theory.Wholes.{chain_of, list_of, key_of, place_at, BucketRight, IsFirstAt, IsBehindIn, IsBoundTo, Owned, ArenaRight, IsBuilt, Whole, firsts, raisers}
 use Rattle.rht_core.proofs.Theory.Passed.{home-within}
 use Rattle.rht_core.proofs.Theory.Readiness.{linked_bucket, linked, IsReady}
-use Rattle.rht_core.proofs.Theory.Frames.{Made, FirstsStay, firsts_stay, SameTables, same_tables, tables_stay, TablesRight-write, IsHomeOf-same, BucketRight-frame}
+use Rattle.rht_core.proofs.Theory.Frames.{Made, UsedStay, used_stay, first_stays, SameTables, same_tables, tables_stay, TablesRight-write, IsHomeOf-same, BucketRight-frame}
 
 module _ (env : Env) (mix : ℕ → ℕ → ℕ → ℕ) where
   head_of-link : (place n : ℕ) → head_of place (link_of n) ≡ link_of n
@@ -31,14 +31,20 @@ module _ (env : Env) (mix : ℕ → ℕ → ℕ → ℕ) where
     within : here < 64 * env.geometry.pages
     within = home-within env mix M G whole port (table_at G here) here ready.home_of.attached ready.home_of.here
 
+    used_differs : (m : ℕ) → IsUsed (G.node m) → m ≢ n
+    used_differs m used e = held_not_used (G.node n) d ready.has.mine (rw (sym e) used)
+
     first_differs : (m j : ℕ) → G.node m ≡ First j → m ≢ n
-    first_differs m j first e = held_not_first (G.node n) d j ready.has.mine (ap G.node (sym e) ∙ first)
+    first_differs m j first = used_differs m (ap is_used first)
 
     word_same : (m : ℕ) (w : NodeWord) → m < env.geometry.nodes → M' (Node m w) ≡ M (Node m w)
     word_same m w l = write.others (Node m w) l (λ e. cc)
 
-    first_word : FirstsStay env mix M G M'
-    first_word = firsts_stay env mix M M' G (PageWord here) (link_of n) whole write (λ m w e. cc)
+    words_stay : UsedStay env mix M G M'
+    words_stay = used_stay env mix M M' G (PageWord here) (link_of n) write (λ m w e. cc)
+
+    first_word : (m j : ℕ) (w : NodeWord) → G.node m ≡ First j → M' (Node m w) ≡ M (Node m w)
+    first_word = first_stays env mix M M' G whole words_stay
 
     not_in : (j : ℕ) → NotIn n (G.bucket j).nodes
     not_in j = not_in_from n (G.bucket j).nodes (λ i. first_differs n j (whole.owned.member j n i) refl)
@@ -69,19 +75,31 @@ module _ (env : Env) (mix : ℕ → ℕ → ℕ → ℕ) where
       first_at = λ m j. put-all (λ k o. o ≡ First j → IsFirstAt env mix M' G' k j) G.node n (First here)
           (λ f. let e : here ≡ j = (cc) in rw (sym e) new_first)
           (λ k ne f. old_first k j ne f) m;
+      behind_in = λ m p. put-all (λ k o. o ≡ Behind p → IsBehindIn env mix M' G' k p) G.node n (First here) (λ f. absurd (cc))
+          (λ k ne f. old_behind k p f) m;
       bound_to = λ p m behind. put-all (λ q nodes. nodes ≡ m ∷ behind → IsBoundTo env mix M' G' q m behind) G.bound port (n ∷ [])
-          (λ e. let same : n ≡ m = (cc) in let none : behind ≡ [] = (cc) in record {
-            alone = none;
+          (λ e. let same : n ≡ m = (cc) in let none : [] ≡ behind = (cc) in subst (λ b. IsBoundTo env mix M' G' port m b) none record {
             bucket = here;
             first = rw (sym same) (put-same G.node n (First here));
             key_is = rw (sym same) (word_same n KeyWord ready.has.among ∙ ready.key);
+            list = rw (sym same) (word_same n ListLink ready.has.among ∙ ready.list);
+            distinct = (tt, tt);
+            each = λ k i. absurd i;
           })
-          (λ q ne e. let to = whole.owned.bound_to q m behind e in record {
-            alone = to.alone;
+          (λ q ne e. let to = whole.owned.bound_to q m behind e in
+          let link = first_word m to.bucket ListLink to.first in
+          record {
             bucket = to.bucket;
             first = put-other G.node n (First here) m (first_differs m to.bucket to.first) ∙ to.first;
             key_is = first_word m to.bucket KeyWord to.first ∙ to.key_is;
+            list = rw link (IsSegment-members (list_of M) (list_of M') (list_of M m) behind 0
+                (λ k i. words_stay ListLink k (whole.owned.behind_in k q (to.each k i)).among (ap is_used (to.each k i))) to.list);
+            distinct = to.distinct;
+            each = λ k i.
+                put-other G.node n (First here) k (used_differs k (ap is_used (to.each k i))) ∙ to.each k i;
           }) p;
+      single = λ one p m behind. put-all (λ q nodes. nodes ≡ m ∷ behind → behind ≡ []) G.bound port (n ∷ [])
+          (λ e. let none : [] ≡ behind = (cc) in sym none) (λ q ne e. whole.owned.single one q m behind e) p;
     }
       where
         new_first : IsFirstAt env mix M' G' n here
@@ -89,24 +107,37 @@ module _ (env : Env) (mix : ℕ → ℕ → ℕ → ℕ) where
           there = rw (put-same G.bucket here (linked_bucket (G.bucket here) n)) (inl refl);
           among = ready.has.among;
           at_home = rw (word_same n KeyWord ready.has.among ∙ ready.key) (IsHomeOf-same env mix G G' port here same ready.home_of);
+          behind = [];
           bound_to =
               ap (put G.bound port (n ∷ [])) (word_same n KeyWord ready.has.among ∙ ready.key) ∙ put-same G.bound port (n ∷ []);
-          no_list = word_same n ListLink ready.has.among ∙ ready.list;
         }
 
         old_first : (k j : ℕ) → k ≢ n → G.node k ≡ First j → IsFirstAt env mix M' G' k j
         old_first k j ne f =
             let at = whole.owned.first_at k j f in
             let key = first_word k j KeyWord f in
-            let other : key_of M k ≢ port = λ e. let q : ◌≡◌ {A = List ℕ} [] (k ∷ []) = sym ready.unbound ∙ ap G.bound (sym e) ∙ at.bound_to in cc in
+            let other : key_of M k ≢ port = λ e. let q : ◌≡◌ {A = List ℕ} [] (k ∷ at.behind) = sym ready.unbound ∙ ap G.bound (sym e) ∙ at.bound_to in cc in
             record {
               there =
                   put-all (λ i b. In k (G.bucket i).nodes → In k b.nodes) G.bucket here (linked_bucket (G.bucket here) n) (λ was. inr was) (λ i ne was. was) j at.there;
               among = at.among;
               at_home = rw key (IsHomeOf-same env mix G G' (key_of M k) j same at.at_home);
+              behind = at.behind;
               bound_to =
                   ap (put G.bound port (n ∷ [])) key ∙ put-other G.bound port (n ∷ []) (key_of M k) other ∙ at.bound_to;
-              no_list = first_word k j ListLink f ∙ at.no_list;
+            }
+
+        old_behind : (k p : ℕ) → G.node k ≡ Behind p → IsBehindIn env mix M' G' k p
+        old_behind k p f =
+            let is = whole.owned.behind_in k p f in
+            let other : p ≢ port = λ e. let q : ◌≡◌ {A = List ℕ} [] (is.first ∷ is.behind) = sym ready.unbound ∙ ap G.bound (sym e) ∙ is.bound_to in cc in
+            record {
+              among = is.among;
+              key_is = words_stay KeyWord k is.among (ap is_used f) ∙ is.key_is;
+              first = is.first;
+              behind = is.behind;
+              bound_to = put-other G.bound port (n ∷ []) p other ∙ is.bound_to;
+              there = is.there;
             }
 
     linked_arena : ArenaRight env mix M' G'
@@ -144,8 +175,12 @@ module _ (env : Env) (mix : ℕ → ℕ → ℕ → ℕ) where
         tables = tables_stay env mix M G G' whole same;
         locks =
             λ j h. put-other G.bucket here (linked_bucket (G.bucket here) n) j (λ e. let q : ◌≡◌ {A = Option ℕ} (Some d) (Some c) = sym ready.holder ∙ ap (λ i. (G.bucket i).holder) (sym e) ∙ h in ne (cc));
-        keys = λ m j f. first_word m j KeyWord f;
-        owners = λ m j f. first_word m j OwnerWord f;
+        lists = λ j m h i.
+            let at = whole.owned.first_at m j (whole.owned.member j m i) in
+            put-other G.bound port (n ∷ []) (key_of M m)
+            (λ e. let q : ◌≡◌ {A = List ℕ} [] (m ∷ at.behind) = sym ready.unbound ∙ ap G.bound (sym e) ∙ at.bound_to in cc);
+        keys = words_stay KeyWord;
+        owners = words_stay OwnerWord;
         nodes =
             λ m has. put-other G.node n (First here) m (λ e. ne (held_by_one (G.node n) c d (ap G.node (sym e) ∙ has.mine) ready.has.mine)) ∙ has.mine;
         words = λ m has w. word_same m w has.among;

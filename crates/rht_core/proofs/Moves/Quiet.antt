@@ -8,7 +8,7 @@ use Rattle.rht_words.proofs.Members.{count_below-more, count_below-most}
 use Rattle.rht_core.proofs.Theory.Ghosts.{put, put-same, put-other, put-all, Ghost, lock_bit, is_first, with_holder, with_raised}
 use Rattle.rht_core.proofs.Theory.Wholes.{LockedRight, Whole, firsts, raisers}
 use Rattle.rht_core.proofs.Theory.Knowledge.{Rely}
-use Rattle.rht_core.proofs.Theory.Frames.{Others, Made, IsNoTableWord, firsts_stay, tables_stay, same_tables, Rely-same, SameChains, same_chains, Whole-frame, locks_stay, arena_stays}
+use Rattle.rht_core.proofs.Theory.Frames.{Others, Made, IsNoTableWord, used_stay, tables_stay, same_tables, Rely-same, SameChains, same_chains, Whole-frame, locks_stay, arena_stays}
 
 module _ (env : Env) (mix : ℕ → ℕ → ℕ → ℕ) where
   -- ---- the lock of a bucket
@@ -22,6 +22,8 @@ module _ (env : Env) (mix : ℕ → ℕ → ℕ → ℕ) where
         plain = put-all (λ i b. b.plain ≡ (G.bucket i).plain) G.bucket j held refl (λ i ne. refl);
         firsts_before = λ n i f. f;
         firsts_after = λ n i f. f;
+        behind_before = λ n port b. b;
+        behind_after = λ n port b. b;
         bound = λ port. refl;
       }
 
@@ -33,7 +35,7 @@ module _ (env : Env) (mix : ℕ → ℕ → ℕ → ℕ) where
   relocked j v holder M M' G whole l is write =
       let old = (whole.buckets j l).locked in
       Whole-frame env mix M M' G (with_holder G j holder) (PageWord j) v whole write (record { current = λ e. cc; slots = λ s u h e. cc }) (held_chains G j holder)
-      (firsts_stay env mix M M' G (PageWord j) v whole write (λ n w e. cc))
+      (used_stay env mix M M' G (PageWord j) v write (λ n w e. cc))
       (put-all (λ i b. i < 64 * env.geometry.pages → LockedRight env mix M' i b) G.bucket j (record (G.bucket j) { holder = holder })
       (λ k. record { word_is = write.same ∙ is; even = old.even; none_out = old.none_out; none_armed = old.none_armed })
       (λ i ne k. let right = (whole.buckets i k).locked in record {
@@ -53,8 +55,9 @@ module _ (env : Env) (mix : ℕ → ℕ → ℕ → ℕ) where
     tables = tables_stay env mix M G (with_holder G j holder) whole
         (same_tables env mix G (put G.bucket j (record (G.bucket j) { holder = holder })) G.node G.bound G.raised);
     locks = λ i h. put-other G.bucket j (record (G.bucket j) { holder = holder }) i (λ e. before c ne (rw (sym e) h));
-    keys = λ n i f. write.others (Node n KeyWord) (whole.owned.first_at n i f).among (λ e. cc);
-    owners = λ n i f. write.others (Node n OwnerWord) (whole.owned.first_at n i f).among (λ e. cc);
+    lists = λ i n h k. refl;
+    keys = λ n l used. write.others (Node n KeyWord) l (λ e. cc);
+    owners = λ n l used. write.others (Node n OwnerWord) l (λ e. cc);
     nodes = λ n has. has.mine;
     words = λ n has w. write.others (Node n w) has.among (λ e. cc);
     raised = refl;
@@ -112,12 +115,12 @@ module _ (env : Env) (mix : ℕ → ℕ → ℕ → ℕ) where
       = count_below-more G.raised (put G.raised d true) d env.geometry.callers l low (put-same G.raised d true) (λ n ne. put-other G.raised d true n ne) in
       let next : v ≡ firsts env mix G + (raisers env mix G + 1)
       = omega (arith, whole.counted, few, fewer, within.nodes_within.1, within.callers_within.1) in
-      let stay = firsts_stay env mix M M' G PortCount v whole write (λ n w e. cc) in
+      let stay = used_stay env mix M M' G PortCount v write (λ n w e. cc) in
       record {
         whole = Whole-frame env mix M M' G (with_raised G d true) PortCount v whole write (record { current = λ e. cc; slots = λ s u h e. cc }) (same_chains env mix G (put G.raised d true)) stay
             (locks_stay env mix M M' G PortCount v whole write (λ j e. cc)) (arena_stays env mix M M' G PortCount v whole write (with_raised G d true) refl (λ i e. cc))
             (write.same ∙ next ∙ ap (λ x. firsts env mix G + x) (sym more));
-        others = λ c ne. Rely-same env mix c M M' G (with_raised G d true) whole (same_tables env mix G G.bucket G.node G.bound (put G.raised d true)) refl refl (put-other G.raised d true c ne) stay
+        others = λ c ne. Rely-same env mix c M M' G (with_raised G d true) whole (same_tables env mix G G.bucket G.node G.bound (put G.raised d true)) refl refl refl (put-other G.raised d true c ne) stay
             (λ n w has. write.others (Node n w) has.among (λ e. cc));
       }
 
@@ -129,8 +132,8 @@ module _ (env : Env) (mix : ℕ → ℕ → ℕ → ℕ) where
       → ((i : ℕ) → NodeMap i ≢ a) → PortCount ≢ a
       → Whole env mix M' G × ((c : ℕ) → Rely env mix c M G M' G)
   aside a v M M' G whole write table page node map count =
-      let stay = firsts_stay env mix M M' G a v whole write node in (
+      let stay = used_stay env mix M M' G a v write node in (
         Whole-frame env mix M M' G G a v whole write table (same_chains env mix G G.raised) stay (locks_stay env mix M M' G a v whole write page)
             (arena_stays env mix M M' G a v whole write G refl map) (write.others PortCount tt count ∙ whole.counted),
-        λ c. Rely-same env mix c M M' G G whole (same_tables env mix G G.bucket G.node G.bound G.raised) refl refl refl stay (λ n w has. write.others (Node n w) has.among (node n w)),
+        λ c. Rely-same env mix c M M' G G whole (same_tables env mix G G.bucket G.node G.bound G.raised) refl refl refl refl stay (λ n w has. write.others (Node n w) has.among (node n w)),
       )

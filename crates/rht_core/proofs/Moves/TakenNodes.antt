@@ -9,10 +9,10 @@ use Rattle.rht_words.specs.Places.{PortCount, NodeMap, Node, NodeWord, KeyWord, 
 use Rattle.rht_words.proofs.BitChanges.{bit_at-cleared, bit_at-cleared_other, bit_at-set, bit_at-set_other}
 use Rattle.rht_words.proofs.Memory.{Memory, IsWrite}
 use Rattle.rht_words.proofs.Members.{count_below-same}
-use Rattle.rht_core.proofs.Theory.Ghosts.{put, put-other, put-all, Owner, Free, Held, First, Ghost, is_first, held_not_first, held_by_one, with_owner}
+use Rattle.rht_core.proofs.Theory.Ghosts.{put, put-other, put-all, Owner, Free, Held, First, Behind, Ghost, is_first, is_used, unused-not_first, held_not_used, held_by_one, with_owner}
 use Rattle.rht_core.proofs.Theory.Wholes.{ArenaRight, IsBuilt, Whole, firsts as count_firsts, raisers}
 use Rattle.rht_core.proofs.Theory.Knowledge.{HasNode}
-use Rattle.rht_core.proofs.Theory.Frames.{Made, FirstsStay, firsts_stay, tables_stay, same_tables, Rely-same, SameChains, same_chains, Whole-frame, locks_stay, arena_stays}
+use Rattle.rht_core.proofs.Theory.Frames.{Made, UsedStay, used_stay, tables_stay, same_tables, Rely-same, SameChains, same_chains, Whole-frame, locks_stay, arena_stays}
 
 module _ (env : Env) (mix : ℕ → ℕ → ℕ → ℕ) where
   -- ---- a word of a node that the caller has
@@ -23,27 +23,30 @@ module _ (env : Env) (mix : ℕ → ℕ → ℕ → ℕ) where
   fill d n w v M M' G whole has write =
       let others_node : (m : ℕ) (u : NodeWord) → m < env.geometry.nodes → m ≢ n → M' (Node m u) ≡ M (Node m u)
       = λ m u l ne. write.others (Node m u) l (λ e. ne (cc)) in
-      let firsts : FirstsStay env mix M G M'
-      = λ m j u first. others_node m u (whole.owned.first_at m j first).among (λ e. held_not_first (G.node n) d j has.mine (ap G.node (sym e) ∙ first)) in
+      let words : UsedStay env mix M G M'
+      = λ u m l used. others_node m u l (λ e. held_not_used (G.node n) d has.mine (rw (sym e) used)) in
       record {
-        whole = Whole-frame env mix M M' G G (Node n w) v whole write (record { current = λ e. cc; slots = λ s u h e. cc }) (same_chains env mix G G.raised) firsts
+        whole = Whole-frame env mix M M' G G (Node n w) v whole write (record { current = λ e. cc; slots = λ s u h e. cc }) (same_chains env mix G G.raised) words
             (locks_stay env mix M M' G (Node n w) v whole write (λ j e. cc)) (arena_stays env mix M M' G (Node n w) v whole write G refl (λ i e. cc))
             (write.others PortCount tt (λ e. cc) ∙ whole.counted);
-        others = λ c ne. Rely-same env mix c M M' G G whole (same_tables env mix G G.bucket G.node G.bound G.raised) refl refl refl firsts
+        others = λ c ne. Rely-same env mix c M M' G G whole (same_tables env mix G G.bucket G.node G.bound G.raised) refl refl refl refl words
             (λ m u held. others_node m u held.among (λ e. ne (held_by_one (G.node n) c d (ap G.node (sym e) ∙ held.mine) has.mine)));
       }
 
   -- ---- the bit of a node
 
-  -- neither the old owner of a node nor the new one is a chain
-  reowned_chains : (G : Ghost) (n : ℕ) (owner : Owner) → is_first (G.node n) ≡ false → is_first owner ≡ false → SameChains env mix G (with_owner G n owner)
+  -- neither the old owner of a node nor the new one is a port
+  reowned_chains : (G : Ghost) (n : ℕ) (owner : Owner) → is_used (G.node n) ≡ false → is_used owner ≡ false → SameChains env mix G (with_owner G n owner)
   reowned_chains G n owner was now = record {
     tables = same_tables env mix G G.bucket (put G.node n owner) G.bound G.raised;
     nodes = λ j. refl;
     plain = λ j. refl;
     firsts_before =
-        λ m j. put-all (λ i o. o ≡ First j → G.node i ≡ First j) G.node n owner (λ f. let e = sym now ∙ ap is_first f in absurd (cc)) (λ i ne f. f) m;
-    firsts_after = λ m j f. put-other G.node n owner m (λ e. let q = sym was ∙ ap is_first (ap G.node (sym e) ∙ f) in cc) ∙ f;
+        λ m j. put-all (λ i o. o ≡ First j → G.node i ≡ First j) G.node n owner (λ f. let e = sym now ∙ ap is_used f in absurd (cc)) (λ i ne f. f) m;
+    firsts_after = λ m j f. put-other G.node n owner m (λ e. let q = sym was ∙ ap is_used (ap G.node (sym e) ∙ f) in cc) ∙ f;
+    behind_before =
+        λ m port. put-all (λ i o. o ≡ Behind port → G.node i ≡ Behind port) G.node n owner (λ f. let e = sym now ∙ ap is_used f in absurd (cc)) (λ i ne f. f) m;
+    behind_after = λ m port f. put-other G.node n owner m (λ e. let q = sym was ∙ ap is_used (ap G.node (sym e) ∙ f) in cc) ∙ f;
     bound = λ port. refl;
   }
 
@@ -85,25 +88,25 @@ module _ (env : Env) (mix : ℕ → ℕ → ℕ → ℕ) where
   reowned : (i b value : ℕ) (owner : Owner) (M M' : Memory) (G : Ghost) → Whole env mix M G
       → IsBitIn env.geometry.nodes i b → IsBuilt env mix owner
       → IsWrite env.geometry M M' (NodeMap i) value
-      → is_first (G.node (64 * i + b)) ≡ false → is_first owner ≡ false
+      → is_used (G.node (64 * i + b)) ≡ false → is_used owner ≡ false
       → ((bit_at value b ≡ 1) ↔ (owner ≡ Free))
       → ((k : ℕ) → k < 64 → k ≢ b → bit_at value k ≡ bit_at (M (NodeMap i)) k)
       → Whole env mix M' (with_owner G (64 * i + b) owner)
   reowned i b value owner M M' G whole at is_built write was now here others =
       let n = 64 * i + b in
       Whole-frame env mix M M' G (with_owner G n owner) (NodeMap i) value whole write (record { current = λ e. cc; slots = λ s u h e. cc }) (reowned_chains G n owner was now)
-      (firsts_stay env mix M M' G (NodeMap i) value whole write (λ m w e. cc)) (locks_stay env mix M M' G (NodeMap i) value whole write (λ j e. cc))
+      (used_stay env mix M M' G (NodeMap i) value write (λ m w e. cc)) (locks_stay env mix M M' G (NodeMap i) value whole write (λ j e. cc))
       (reowned_bits i b value owner M M' G whole at is_built write here others)
-      (write.others PortCount tt (λ e. cc) ∙ whole.counted ∙ ap (λ x. x + raisers env mix G) (sym (reowned_firsts G n owner was now)))
+      (write.others PortCount tt (λ e. cc) ∙ whole.counted ∙ ap (λ x. x + raisers env mix G) (sym (reowned_firsts G n owner (unused-not_first (G.node n) was) (unused-not_first owner now))))
 
   -- a write that leaves the bits of a word of the node map as they were
   pub retouch : (d i value : ℕ) (M M' : Memory) (G : Ghost) → Whole env mix M G
       → i < map_words env.geometry.nodes → IsWrite env.geometry M M' (NodeMap i) value
       → ((k : ℕ) → k < 64 → bit_at value k ≡ bit_at (M (NodeMap i)) k) → Made env mix d M G M' G
   retouch d i value M M' G whole l write same =
-      let firsts = firsts_stay env mix M M' G (NodeMap i) value whole write (λ m w e. cc) in
+      let words = used_stay env mix M M' G (NodeMap i) value write (λ m w e. cc) in
       record {
-        whole = Whole-frame env mix M M' G G (NodeMap i) value whole write (record { current = λ e. cc; slots = λ s u h e. cc }) (same_chains env mix G G.raised) firsts
+        whole = Whole-frame env mix M M' G G (NodeMap i) value whole write (record { current = λ e. cc; slots = λ s u h e. cc }) (same_chains env mix G G.raised) words
             (locks_stay env mix M M' G (NodeMap i) value whole write (λ j e. cc))
             (record {
               built = whole.arena.built;
@@ -112,7 +115,7 @@ module _ (env : Env) (mix : ℕ → ℕ → ℕ → ℕ) where
             })
             (write.others PortCount tt (λ e. cc) ∙ whole.counted);
         others =
-            λ c ne. Rely-same env mix c M M' G G whole (same_tables env mix G G.bucket G.node G.bound G.raised) refl refl refl firsts (λ m w has. write.others (Node m w) has.among (λ e. cc));
+            λ c ne. Rely-same env mix c M M' G G whole (same_tables env mix G G.bucket G.node G.bound G.raised) refl refl refl refl words (λ m w has. write.others (Node m w) has.among (λ e. cc));
       }
 
   -- the and that clears a bit which was set: the node was free
@@ -125,8 +128,8 @@ module _ (env : Env) (mix : ℕ → ℕ → ℕ → ℕ) where
       let word : n / 64 ≡ i = omega (arith, at.within) in
       let bit : n % 64 ≡ b = omega (arith, at.within) in
       let free : G.node n ≡ Free = (whole.arena.bits n at.below).0 (rw word (rw bit found)) in
-      let was : is_first (G.node n) ≡ false = ap is_first free in
-      let firsts = firsts_stay env mix M M' G (NodeMap i) (bit_and (M (NodeMap i)) (bit_not w64 (bit_of b))) whole write (λ m w e. cc) in (
+      let was : is_used (G.node n) ≡ false = ap is_used free in
+      let stay = used_stay env mix M M' G (NodeMap i) (bit_and (M (NodeMap i)) (bit_not w64 (bit_of b))) write (λ m w e. cc) in (
         record {
           whole = reowned i b (bit_and (M (NodeMap i)) (bit_not w64 (bit_of b))) (Held d) M M' G whole at tt write was refl
               ((λ set. absurd (omega (arith, bit_at-cleared (M (NodeMap i)) b at.within, set))), (λ e. absurd (cc)))
@@ -134,8 +137,9 @@ module _ (env : Env) (mix : ℕ → ℕ → ℕ → ℕ) where
           others = λ c ne. record {
             tables = tables_stay env mix M G (with_owner G n (Held d)) whole (same_tables env mix G G.bucket (put G.node n (Held d)) G.bound G.raised);
             locks = λ j h. refl;
-            keys = λ m j f. firsts m j KeyWord f;
-            owners = λ m j f. firsts m j OwnerWord f;
+            lists = λ j m h i. refl;
+            keys = stay KeyWord;
+            owners = stay OwnerWord;
             nodes = λ m has. put-other G.node n (Held d) m (λ e. let q = sym free ∙ ap G.node (sym e) ∙ has.mine in cc) ∙ has.mine;
             words = λ m has w. write.others (Node m w) has.among (λ e. cc);
             raised = refl;
@@ -155,11 +159,11 @@ module _ (env : Env) (mix : ℕ → ℕ → ℕ → ℕ) where
       let i = n / 64 in
       let b = n % 64 in
       let parts : 64 * i + b ≡ n = omega arith in
-      let was : is_first (G.node n) ≡ false = ap is_first has.mine in
-      let firsts =
-      firsts_stay env mix M M' G (NodeMap i) (bit_or (M (NodeMap i)) (bit_of b)) whole write (λ m w e. cc) in
+      let was : is_used (G.node n) ≡ false = ap is_used has.mine in
+      let stay =
+      used_stay env mix M M' G (NodeMap i) (bit_or (M (NodeMap i)) (bit_of b)) write (λ m w e. cc) in
       let made = reowned i b (bit_or (M (NodeMap i)) (bit_of b)) Free M M' G whole (record { within = omega arith; below = omega (arith, has.among) }) tt write
-      (ap (λ m. is_first (G.node m)) parts ∙ was) refl
+      (ap (λ m. is_used (G.node m)) parts ∙ was) refl
       ((λ set. refl), (λ e. bit_at-set (M (NodeMap i)) b))
       (λ k l ne. bit_at-set_other (M (NodeMap i)) b k ne) in
       record {
@@ -167,8 +171,9 @@ module _ (env : Env) (mix : ℕ → ℕ → ℕ → ℕ) where
         others = λ c ne. record {
           tables = tables_stay env mix M G (with_owner G n Free) whole (same_tables env mix G G.bucket (put G.node n Free) G.bound G.raised);
           locks = λ j h. refl;
-          keys = λ m j f. firsts m j KeyWord f;
-          owners = λ m j f. firsts m j OwnerWord f;
+          lists = λ j m h i. refl;
+          keys = stay KeyWord;
+          owners = stay OwnerWord;
           nodes = λ m held. put-other G.node n Free m (λ e. ne (held_by_one (G.node n) c d (ap G.node (sym e) ∙ held.mine) has.mine)) ∙ held.mine;
           words = λ m held w. write.others (Node m w) held.among (λ e. cc);
           raised = refl;

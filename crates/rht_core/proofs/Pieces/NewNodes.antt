@@ -1,5 +1,5 @@
 -- The operations that take a node and give it back, and those that write a word of a node which the caller has.
-use Rattle.std.proofs.Common.{◌≡◌, ◌≢◌, ℕ, ◌+◌, ◌*◌, ◌/◌, ◌%◌, ◌<◌, ◌==◌, List, length, Option, Some, None, cond, refl, sym, ◌∙◌, ap, subst, inl, inr, bit_and, nat_lt, arith}
+use Rattle.std.proofs.Common.{◌≡◌, ◌≢◌, ℕ, ◌+◌, ◌*◌, ◌/◌, ◌%◌, ◌<◌, ◌==◌, List, length, Option, Some, None, cond, refl, sym, ◌∙◌, subst, inl, inr, bit_and, nat_lt, arith}
 use Rattle.std.specs.Prelude.{IfSome}
 use Rattle.std.proofs.lemmas.Bool.{cases_eq, eqb-true, eqb-false}
 use Rattle.std.proofs.lemmas.Nat.Bits.{bit_at-lt}
@@ -21,9 +21,9 @@ use Rattle.rht_arena.specs.NewNode.{NewNodeModel, new_node_plan, new_node_after,
 use Rattle.rht_arena.specs.declared.new_node.NewNodeAt.{NewNodeAt}
 use Rattle.rht_arena.specs.declared.new_node.NewNodeAt.TheVariants as news
 use Rattle.rht_arena.proofs.TakenWereFree.{claims}
-use Rattle.rht_core.proofs.Theory.Ghosts.{put, put-same, put-all, Owner, Free, Held, First, Ghost, held_not_first, with_owner}
+use Rattle.rht_core.proofs.Theory.Ghosts.{put, put-same, put-all, Owner, Free, Held, Ghost, IsUsed, held_not_used, with_owner}
 use Rattle.rht_core.proofs.Theory.Wholes.{Whole}
-use Rattle.rht_core.proofs.Theory.Knowledge.{KnownNode, KnownTable, KnownBucket, NodeMeans, TableMeans, Knowing, TableMeans-stay, BucketMeans-stay}
+use Rattle.rht_core.proofs.Theory.Knowledge.{members_used, KnownNode, KnownTable, KnownBucket, NodeMeans, TableMeans, Knowing, TableMeans-stay, BucketMeans-stay}
 use Rattle.rht_core.proofs.Theory.Frames.{same_tables, tables_stay}
 use Rattle.rht_core.proofs.Theory.Steps.{Quiet, TakesNode, GivesNode, by_test, Holding, mem, Moved, moved, loads}
 use Rattle.rht_core.proofs.Moves.TakenNodes.{fill, take_node, give_node, retouch}
@@ -160,7 +160,7 @@ module _ (env : Env) (mix : ℕ → ℕ → ℕ → ℕ) (c : ℕ) (h : Holding)
         let M' = mem env mix (applied words op) in
         let has = knows.means.node.has in
         let write = is_write env.geometry words (Node known.node w) op all has.among refl in
-        let not_mine : (n j : ℕ) → G.node n ≡ First j → n ≢ known.node = λ n j first e. held_not_first (G.node known.node) c j has.mine (ap G.node (sym e) ∙ first) in
+        let not_mine : (n : ℕ) → IsUsed (G.node n) → n ≢ known.node = λ n used e. held_not_used (G.node known.node) c has.mine (rw (sym e) used) in
         moved env mix c words G op (holding (Some known.node)) (holding (Some known.node)) (knowing (Some known.node) (Some (with_word known w value))) Quiet whole tt tt
         (fill env mix c known.node w value M M' G whole has write)
         (record { holds = refl; leaves = inr (record { node = known.node; word = w; has = refl; place = refl }) })
@@ -169,9 +169,9 @@ module _ (env : Env) (mix : ℕ → ℕ → ℕ → ℕ) (c : ℕ) (h : Holding)
           means = record {
             node = word-known known w value M' knows.means.node write;
             table = knows.means.table;
-            bucket = BucketMeans-stay env mix c M M' G G whole.owned.member (λ j holds. refl)
-                (λ n j first. write.others (Node n KeyWord) (whole.owned.first_at n j first).among (λ e. not_mine n j first (cc)))
-                (λ n j first. write.others (Node n OwnerWord) (whole.owned.first_at n j first).among (λ e. not_mine n j first (cc))) bucket knows.means.bucket;
+            bucket = BucketMeans-stay env mix c M M' G G (members_used env mix M G whole) (λ j holds. refl) (λ j n h i. refl)
+                (λ n l used. write.others (Node n KeyWord) l (λ e. not_mine n used (cc)))
+                (λ n l used. write.others (Node n OwnerWord) l (λ e. not_mine n used (cc))) bucket knows.means.bucket;
           };
         })
 
@@ -204,9 +204,9 @@ module _ (env : Env) (mix : ℕ → ℕ → ℕ → ℕ) (c : ℕ) (h : Holding)
           means = record {
             node = record { has = record { mine = put-same G.node n (Held c); among = range.below }; chain = tt; key = tt; owner = tt; list = tt };
             table = tables-reowned (put G.node n (Held c)) knows.means.table;
-            bucket = BucketMeans-stay env mix c M M' G (with_owner G n (Held c)) whole.owned.member (λ j holds. refl)
-                (λ m j first. write.others (Node m KeyWord) (whole.owned.first_at m j first).among (λ e. cc))
-                (λ m j first. write.others (Node m OwnerWord) (whole.owned.first_at m j first).among (λ e. cc)) bucket knows.means.bucket;
+            bucket = BucketMeans-stay env mix c M M' G (with_owner G n (Held c)) (members_used env mix M G whole) (λ j holds. refl) (λ j m h i. refl)
+                (λ m l used. write.others (Node m KeyWord) l (λ e. cc))
+                (λ m l used. write.others (Node m OwnerWord) l (λ e. cc)) bucket knows.means.bucket;
           };
         })
 
@@ -235,9 +235,9 @@ module _ (env : Env) (mix : ℕ → ℕ → ℕ → ℕ) (c : ℕ) (h : Holding)
           means = record {
             node = tt;
             table = knows.means.table;
-            bucket = BucketMeans-stay env mix c M M' G G whole.owned.member (λ j holds. refl)
-                (λ m j first. write.others (Node m KeyWord) (whole.owned.first_at m j first).among (λ e. cc))
-                (λ m j first. write.others (Node m OwnerWord) (whole.owned.first_at m j first).among (λ e. cc)) bucket knows.means.bucket;
+            bucket = BucketMeans-stay env mix c M M' G G (members_used env mix M G whole) (λ j holds. refl) (λ j m h i. refl)
+                (λ m l used. write.others (Node m KeyWord) l (λ e. cc))
+                (λ m l used. write.others (Node m OwnerWord) l (λ e. cc)) bucket knows.means.bucket;
           };
         })
 
@@ -294,9 +294,9 @@ module _ (env : Env) (mix : ℕ → ℕ → ℕ → ℕ) (c : ℕ) (h : Holding)
           means = record {
             node = tt;
             table = tables-reowned (put G.node n Free) knows.means.table;
-            bucket = BucketMeans-stay env mix c M M' G (with_owner G n Free) whole.owned.member (λ j holds. refl)
-                (λ m j first. write.others (Node m KeyWord) (whole.owned.first_at m j first).among (λ e. cc))
-                (λ m j first. write.others (Node m OwnerWord) (whole.owned.first_at m j first).among (λ e. cc)) bucket knows.means.bucket;
+            bucket = BucketMeans-stay env mix c M M' G (with_owner G n Free) (members_used env mix M G whole) (λ j holds. refl) (λ j m h i. refl)
+                (λ m l used. write.others (Node m KeyWord) l (λ e. cc))
+                (λ m l used. write.others (Node m OwnerWord) l (λ e. cc)) bucket knows.means.bucket;
           };
         })
 

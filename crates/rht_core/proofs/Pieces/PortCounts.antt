@@ -7,7 +7,7 @@ use Rattle.rht_words.specs.Places.{PortCount, Node, KeyWord, OwnerWord, place_of
 use Rattle.rht_words.proofs.Memory.{Memory, IsWrite, is_write}
 use Rattle.rht_core.proofs.Theory.Ghosts.{put-same, Ghost, with_raised}
 use Rattle.rht_core.proofs.Theory.Wholes.{Whole}
-use Rattle.rht_core.proofs.Theory.Knowledge.{Known, Knowing, NodeMeans-stay, TableMeans-stay, BucketMeans-stay}
+use Rattle.rht_core.proofs.Theory.Knowledge.{members_used, Known, Knowing, NodeMeans-stay, TableMeans-stay, BucketMeans-stay}
 use Rattle.rht_core.proofs.Theory.Frames.{same_tables, tables_stay}
 use Rattle.rht_core.proofs.Theory.Steps.{Raises, Holding, mem, Moved, moved}
 use Rattle.rht_core.proofs.Moves.Quiet.{count_up}
@@ -37,8 +37,8 @@ module _ (env : Env) (mix : ℕ → ℕ → ℕ → ℕ) (c : ℕ) (h : Holding)
         means = record {
           node = NodeMeans-stay env mix c M M' G G' (λ n has. has.mine) (λ n has w. write.others (Node n w) has.among (λ e. cc)) known.node knows.means.node;
           table = TableMeans-stay env mix c M M' G G' (tables_stay env mix M G G' whole (same_tables env mix G G.bucket G.node G.bound G'.raised)) known.table knows.means.table;
-          bucket = BucketMeans-stay env mix c M M' G G' whole.owned.member (λ j holds. refl)
-              (λ n j first. write.others (Node n KeyWord) (whole.owned.first_at n j first).among (λ e. cc))
-              (λ n j first. write.others (Node n OwnerWord) (whole.owned.first_at n j first).among (λ e. cc)) known.bucket knows.means.bucket;
+          bucket = BucketMeans-stay env mix c M M' G G' (members_used env mix M G whole) (λ j holds. refl) (λ j n h i. refl)
+              (λ n l used. write.others (Node n KeyWord) l (λ e. cc))
+              (λ n l used. write.others (Node n OwnerWord) l (λ e. cc)) known.bucket knows.means.bucket;
         };
       })

@@ -60,15 +60,15 @@ same_reply P aside was now same is =
 
 -- a call that needs a node is answered that there was none exactly where it has none, and no other call has a node
 abbrev pub TellsNode : Call → Option ℕ → Reply → Type 0
-TellsNode (Bind port owner once) node reply = (node ≡ None) ↔ (reply ≡ NoNode)
-TellsNode (Find port) node reply = node ≡ None
-TellsNode (All port) node reply = node ≡ None
-TellsNode (Release port owner) node reply = node ≡ None
-TellsNode (Rebind port owner new) node reply = (node ≡ None) ↔ (reply ≡ NoNode)
-TellsNode (Walk from limit) node reply = node ≡ None
-TellsNode Work node reply = node ≡ None
-TellsNode Tidy node reply = node ≡ None
-TellsNode Count node reply = node ≡ None
+TellsNode (Bind port owner once) has reply = (has ≡ None) ↔ (reply ≡ NoNode)
+TellsNode (Find port) has reply = has ≡ None
+TellsNode (All port) has reply = has ≡ None
+TellsNode (Release port owner) has reply = has ≡ None
+TellsNode (Rebind port owner new) has reply = (has ≡ None) ↔ (reply ≡ NoNode)
+TellsNode (Walk from limit) has reply = has ≡ None
+TellsNode Work has reply = has ≡ None
+TellsNode Tidy has reply = has ≡ None
+TellsNode Count has reply = has ≡ None
 
 -- the reply is one of the call's, and the owners are those that come with it, without pairs
 pub record IsReplied (call : Call) (answer : Answer) : Type 0 where
@@ -105,25 +105,25 @@ no_node-aside A = record {
   released = λ k l is. (λ a. absurd (let none = is.0 a in cc), λ none. absurd (cc));
 }
 
-TellsNode-aside : (call : Call) (node : Option ℕ) → IsKickAside (TellsNode call node)
-TellsNode-aside (Bind port owner once) node = no_node-aside (node ≡ None)
-TellsNode-aside (Find port) node = record { bound = λ k l is. is; released = λ k l is. is }
-TellsNode-aside (All port) node = record { bound = λ k l is. is; released = λ k l is. is }
-TellsNode-aside (Release port owner) node = record { bound = λ k l is. is; released = λ k l is. is }
-TellsNode-aside (Rebind port owner new) node = no_node-aside (node ≡ None)
-TellsNode-aside (Walk from limit) node = record { bound = λ k l is. is; released = λ k l is. is }
-TellsNode-aside Work node = record { bound = λ k l is. is; released = λ k l is. is }
-TellsNode-aside Tidy node = record { bound = λ k l is. is; released = λ k l is. is }
-TellsNode-aside Count node = record { bound = λ k l is. is; released = λ k l is. is }
+TellsNode-aside : (call : Call) (has : Option ℕ) → IsKickAside (TellsNode call has)
+TellsNode-aside (Bind port owner once) has = no_node-aside (has ≡ None)
+TellsNode-aside (Find port) has = record { bound = λ k l is. is; released = λ k l is. is }
+TellsNode-aside (All port) has = record { bound = λ k l is. is; released = λ k l is. is }
+TellsNode-aside (Release port owner) has = record { bound = λ k l is. is; released = λ k l is. is }
+TellsNode-aside (Rebind port owner new) has = no_node-aside (has ≡ None)
+TellsNode-aside (Walk from limit) has = record { bound = λ k l is. is; released = λ k l is. is }
+TellsNode-aside Work has = record { bound = λ k l is. is; released = λ k l is. is }
+TellsNode-aside Tidy has = record { bound = λ k l is. is; released = λ k l is. is }
+TellsNode-aside Count has = record { bound = λ k l is. is; released = λ k l is. is }
 
-pub TellsNode-same : (call : Call) (node : Option ℕ) (was now : Answer) → IsSameAnswer was now → TellsNode call node was.reply
-    → TellsNode call node now.reply
-TellsNode-same call node was now same is = same_reply (TellsNode call node) (TellsNode-aside call node) was now same is
+pub TellsNode-same : (call : Call) (has : Option ℕ) (was now : Answer) → IsSameAnswer was now → TellsNode call has was.reply
+    → TellsNode call has now.reply
+TellsNode-same call has was now same is = same_reply (TellsNode call has) (TellsNode-aside call has) was now same is
 
 -- and it tells of the node that the call has
-pub record IsRight (call : Call) (node : Option ℕ) (answer : Answer) : Type 0 where
+pub record IsRight (call : Call) (has : Option ℕ) (answer : Answer) : Type 0 where
   pub replied : IsReplied call answer
-  pub tells : TellsNode call node answer.reply
+  pub tells : TellsNode call has answer.reply
 
 module _ (kind : Kind) (c : ℕ) (call : Call) where
   -- the answer is legal on these bindings, and leaves them; or the call isn't about bindings
@@ -211,29 +211,29 @@ module _ (kind : Kind) (c : ℕ) (call : Call) where
   })
 
   -- an operation that changes no bindings, of a call that has this node, keeps what is known of the answer, or tells it rightly
-  pub record LearnsRightly (node : Option ℕ) (bindings : Multimap) (was now : Option Answer) : Type 0 where
+  pub record LearnsRightly (has : Option ℕ) (bindings : Multimap) (was now : Option Answer) : Type 0 where
     pub learns : LearnsAnswer bindings was now
-    pub right : IsRight call node learns.answer
+    pub right : IsRight call has learns.answer
 
   abbrev pub Tells : Option ℕ → Multimap → Option Answer → Option Answer → Type 0
-  Tells node bindings was now = KeepsAnswer was now ⊎ LearnsRightly node bindings was now
+  Tells has bindings was now = KeepsAnswer was now ⊎ LearnsRightly has bindings was now
 
-  pub told-says : (node : Option ℕ) (bindings : Multimap) (was now : Option Answer) → Tells node bindings was now
+  pub told-says : (has : Option ℕ) (bindings : Multimap) (was now : Option Answer) → Tells has bindings was now
       → SaysStill bindings was now
-  told-says node bindings was now (inl keeps) = inl keeps
-  told-says node bindings was now (inr tells) = inr tells.learns
+  told-says has bindings was now (inl keeps) = inl keeps
+  told-says has bindings was now (inr tells) = inr tells.learns
 
   -- what is told is right
-  pub told-right : (node : Option ℕ) (bindings : Multimap) (was now : Option Answer) → Tells node bindings was now
-      → (answer : Answer) → was ≡ None → now ≡ Some answer → IsRight call node answer
-  told-right node bindings was now (inl keeps) answer unknown known =
+  pub told-right : (has : Option ℕ) (bindings : Multimap) (was now : Option Answer) → Tells has bindings was now
+      → (answer : Answer) → was ≡ None → now ≡ Some answer → IsRight call has answer
+  told-right has bindings was now (inl keeps) answer unknown known =
       absurd (let none = subst (λ a. KeepsAnswer a now) unknown keeps in let both = sym none ∙ known in cc)
-  told-right node bindings was now (inr tells) answer unknown known =
+  told-right has bindings was now (inr tells) answer unknown known =
       let same : tells.learns.answer ≡ answer = let both = sym tells.learns.known ∙ known in cc in
-      subst (IsRight call node) same tells.right
+      subst (IsRight call has) same tells.right
 
   -- an answer is told that is legal on the bindings and leaves them
-  pub learns : (node : Option ℕ) (bindings : Multimap) (answer : Answer) → IsRight call node answer
-      → IsLegalOn bindings answer → Tells node bindings None (Some answer)
-  learns node bindings answer right is =
+  pub learns : (has : Option ℕ) (bindings : Multimap) (answer : Answer) → IsRight call has answer
+      → IsLegalOn bindings answer → Tells has bindings None (Some answer)
+  learns has bindings answer right is =
       inr (record { learns = record { unknown = refl; answer = answer; known = refl; said = inl is }; right = right })

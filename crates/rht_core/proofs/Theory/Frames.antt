@@ -6,10 +6,10 @@ use Rattle.rht_words.proofs.Memory.{Memory, IsWrite}
 use Rattle.rht_words.specs.Members.{In}
 use Rattle.rht_words.proofs.ChainLemmas.{IsSegment-members}
 use Rattle.rht_words.specs.Links.{head_of, marker_of}
-use Rattle.rht_core.proofs.Theory.Ghosts.{Table, Bucket, Owner, First, Ghost, PageOwner, SlotOwner, has_table, index_at, table_at}
-use Rattle.rht_core.proofs.Theory.Wholes.{chain_of, key_of, place_at, home, TableRight, TablesRight, LockedRight, BucketRight, ChainedRight, IsHomeOf, Owned, ArenaRight, Whole, firsts, raisers}
+use Rattle.rht_core.proofs.Theory.Ghosts.{Table, Bucket, Owner, First, Behind, Ghost, is_used, PageOwner, SlotOwner, has_table, index_at, table_at}
+use Rattle.rht_core.proofs.Theory.Wholes.{chain_of, list_of, key_of, place_at, home, TableRight, TablesRight, LockedRight, BucketRight, ChainedRight, IsHomeOf, Owned, ArenaRight, Whole, firsts, raisers}
 use Rattle.rht_core.proofs.Theory.Passed.{Passed}
-use Rattle.rht_core.proofs.Theory.Knowledge.{HasNode, TablesStay, Rely}
+use Rattle.rht_core.proofs.Theory.Knowledge.{HasNode, TablesStay, WordStays, Rely}
 
 module _ (env : Env) (mix : ℕ → ℕ → ℕ → ℕ) where
   -- what everybody but this caller can count on
@@ -21,15 +21,18 @@ module _ (env : Env) (mix : ℕ → ℕ → ℕ → ℕ) where
     pub whole : Whole env mix M' G'
     pub others : Others d M G M' G'
 
-  -- each word of a node in a chain stays
-  abbrev pub FirstsStay : Memory → Ghost → Memory → Type 0
-  FirstsStay M G M' = (n j : ℕ) (w : NodeWord) → G.node n ≡ First j → M' (Node n w) ≡ M (Node n w)
+  -- each word of a node that is or was a port's stays
+  abbrev pub UsedStay : Memory → Ghost → Memory → Type 0
+  UsedStay M G M' = (w : NodeWord) → WordStays env mix w M G M'
 
-  pub firsts_stay : (M M' : Memory) (G : Ghost) (a : Address) (v : ℕ) → Whole env mix M G
-      → IsWrite env.geometry M M' a v
-      → ((n : ℕ) (w : NodeWord) → Node n w ≢ a) → FirstsStay M G M'
-  firsts_stay M M' G a v whole write not_node n j w first =
-      write.others (Node n w) (whole.owned.first_at n j first).among (not_node n w)
+  pub used_stay : (M M' : Memory) (G : Ghost) (a : Address) (v : ℕ) → IsWrite env.geometry M M' a v
+      → ((n : ℕ) (w : NodeWord) → Node n w ≢ a) → UsedStay M G M'
+  used_stay M M' G a v write not_node w n l used = write.others (Node n w) l (not_node n w)
+
+  -- so each word of a node in a chain does
+  pub first_stays : (M M' : Memory) (G : Ghost) → Whole env mix M G → UsedStay M G M' → (n j : ℕ) (w : NodeWord)
+      → G.node n ≡ First j → M' (Node n w) ≡ M (Node n w)
+  first_stays M M' G whole words n j w first = words w n (whole.owned.first_at n j first).among (ap is_used first)
 
   -- ---- tables
 
@@ -73,14 +76,15 @@ module _ (env : Env) (mix : ℕ → ℕ → ℕ → ℕ) where
 
   -- where buckets and nodes have whom they had, a caller knows what it knew
   pub Rely-same : (c : ℕ) (M M' : Memory) (G G' : Ghost) → Whole env mix M G → SameTables G G'
-      → G'.bucket ≡ G.bucket → G'.node ≡ G.node → G'.raised c ≡ G.raised c
-      → FirstsStay M G M' → ((n : ℕ) (w : NodeWord) → HasNode env mix c G n → M' (Node n w) ≡ M (Node n w))
+      → G'.bucket ≡ G.bucket → G'.node ≡ G.node → G'.bound ≡ G.bound → G'.raised c ≡ G.raised c
+      → UsedStay M G M' → ((n : ℕ) (w : NodeWord) → HasNode env mix c G n → M' (Node n w) ≡ M (Node n w))
       → Rely env mix c M G M' G'
-  Rely-same c M M' G G' whole same buckets nodes raised firsts own = record {
+  Rely-same c M M' G G' whole same buckets nodes bound raised words own = record {
     tables = tables_stay M G G' whole same;
     locks = λ j h. ap (λ b. b j) buckets;
-    keys = λ n j first. firsts n j KeyWord first;
-    owners = λ n j first. firsts n j OwnerWord first;
+    lists = λ j n h i. ap (λ b. b (key_of M n)) bound;
+    keys = words KeyWord;
+    owners = words OwnerWord;
     nodes = λ n has. ap (λ o. o n) nodes ∙ has.mine;
     words = λ n has w. own n w has;
     raised = raised;
@@ -92,7 +96,7 @@ module _ (env : Env) (mix : ℕ → ℕ → ℕ → ℕ) where
   pub still : (d : ℕ) (M : Memory) (G : Ghost) → Whole env mix M G → Made d M G M G
   still d M G whole = record {
     whole = whole;
-    others = λ c ne. Rely-same c M M G G whole (same_tables G G.bucket G.node G.bound G.raised) refl refl refl (λ n j w first. refl) (λ n w has. refl);
+    others = λ c ne. Rely-same c M M G G whole (same_tables G G.bucket G.node G.bound G.raised) refl refl refl refl (λ w n l used. refl) (λ n w has. refl);
   }
 
   -- ---- the parts of the whole
@@ -204,6 +208,8 @@ module _ (env : Env) (mix : ℕ → ℕ → ℕ → ℕ) where
     pub plain : (j : ℕ) → (G'.bucket j).plain ≡ (G.bucket j).plain
     pub firsts_before : (n j : ℕ) → G'.node n ≡ First j → G.node n ≡ First j
     pub firsts_after : (n j : ℕ) → G.node n ≡ First j → G'.node n ≡ First j
+    pub behind_before : (n port : ℕ) → G'.node n ≡ Behind port → G.node n ≡ Behind port
+    pub behind_after : (n port : ℕ) → G.node n ≡ Behind port → G'.node n ≡ Behind port
     pub bound : (port : ℕ) → G'.bound port ≡ G.bound port
 
   -- so it is where at most who has raised the count changes
@@ -214,28 +220,52 @@ module _ (env : Env) (mix : ℕ → ℕ → ℕ → ℕ) where
     plain = λ j. refl;
     firsts_before = λ n j first. first;
     firsts_after = λ n j first. first;
+    behind_before = λ n port is. is;
+    behind_after = λ n port is. is;
     bound = λ port. refl;
   }
 
-  Owned-frame : (M M' : Memory) (G G' : Ghost) → SameChains G G' → FirstsStay M G M' → Owned env mix M G
-      → Owned env mix M' G'
-  Owned-frame M M' G G' same words owned = record {
-    member = λ j n i. same.firsts_after n j (owned.member j n (rw (sym (same.nodes j)) i));
-    first_at = λ n j f.
-        let before = same.firsts_before n j f in
-        let at = owned.first_at n j before in
-        let key = words n j KeyWord before in
-        record {
-          there = rw (same.nodes j) at.there;
-          among = at.among;
-          at_home = rw key (IsHomeOf-same G G' (key_of M n) j same.tables at.at_home);
-          bound_to = ap G'.bound key ∙ same.bound (key_of M n) ∙ at.bound_to;
-          no_list = words n j ListLink before ∙ at.no_list;
-        };
-    bound_to = λ port n behind b.
-        let to = owned.bound_to port n behind (sym (same.bound port) ∙ b) in
-        record { alone = to.alone; bucket = to.bucket; first = same.firsts_after n to.bucket to.first; key_is = words n to.bucket KeyWord to.first ∙ to.key_is };
-  }
+  Owned-frame : (M M' : Memory) (G G' : Ghost) → Whole env mix M G → SameChains G G' → UsedStay M G M' → Owned env mix M' G'
+  Owned-frame M M' G G' whole same words =
+      let owned = whole.owned in
+      record {
+        member = λ j n i. same.firsts_after n j (owned.member j n (rw (sym (same.nodes j)) i));
+        first_at = λ n j f.
+            let before = same.firsts_before n j f in
+            let at = owned.first_at n j before in
+            let key = first_stays M M' G whole words n j KeyWord before in
+            record {
+              there = rw (same.nodes j) at.there;
+              among = at.among;
+              at_home = rw key (IsHomeOf-same G G' (key_of M n) j same.tables at.at_home);
+              behind = at.behind;
+              bound_to = ap G'.bound key ∙ same.bound (key_of M n) ∙ at.bound_to;
+            };
+        behind_in = λ n port f.
+            let before = same.behind_before n port f in
+            let is = owned.behind_in n port before in
+            record {
+              among = is.among;
+              key_is = words KeyWord n is.among (ap is_used before) ∙ is.key_is;
+              first = is.first;
+              behind = is.behind;
+              bound_to = same.bound port ∙ is.bound_to;
+              there = is.there;
+            };
+        bound_to = λ port n behind b.
+            let to = owned.bound_to port n behind (sym (same.bound port) ∙ b) in
+            let link = first_stays M M' G whole words n to.bucket ListLink to.first in
+            record {
+              bucket = to.bucket;
+              first = same.firsts_after n to.bucket to.first;
+              key_is = first_stays M M' G whole words n to.bucket KeyWord to.first ∙ to.key_is;
+              list = rw link (IsSegment-members (list_of M) (list_of M') (list_of M n) behind 0
+                  (λ m i. words ListLink m (owned.behind_in m port (to.each m i)).among (ap is_used (to.each m i))) to.list);
+              distinct = to.distinct;
+              each = λ m i. same.behind_after m port (to.each m i);
+            };
+        single = λ one port n behind b. owned.single one port n behind (sym (same.bound port) ∙ b);
+      }
 
   -- ---- the whole
 
@@ -243,7 +273,7 @@ module _ (env : Env) (mix : ℕ → ℕ → ℕ → ℕ) where
   -- of nodes and the count are right.
   pub Whole-frame : (M M' : Memory) (G G' : Ghost) (a : Address) (v : ℕ) → Whole env mix M G
       → IsWrite env.geometry M M' a v → IsNoTableWord G a
-      → SameChains G G' → FirstsStay M G M'
+      → SameChains G G' → UsedStay M G M'
       → ((j : ℕ) → j < 64 * env.geometry.pages → LockedRight env mix M' j (G'.bucket j))
       → ArenaRight env mix M' G' → M' PortCount ≡ firsts env mix G' + raisers env mix G' → Whole env mix M' G'
   Whole-frame M M' G G' a v whole write apart same words locked arena counted = record {
@@ -251,9 +281,9 @@ module _ (env : Env) (mix : ℕ → ℕ → ℕ → ℕ) where
     buckets = λ j l. record {
       locked = locked j l;
       chained = ChainedRight-frame M M' j (G.bucket j) (G'.bucket j) (same.nodes j) (same.plain j)
-          (λ n i. words n j ChainLink (whole.owned.member j n i)) (whole.buckets j l).chained;
+          (λ n i. first_stays M M' G whole words n j ChainLink (whole.owned.member j n i)) (whole.buckets j l).chained;
     };
-    owned = Owned-frame M M' G G' same words whole.owned;
+    owned = Owned-frame M M' G G' whole same words;
     arena = arena;
     counted = counted;
   }

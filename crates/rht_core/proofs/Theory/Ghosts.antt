@@ -1,7 +1,7 @@
 -- What the words of a run don't say, or say only to who follows every link: who holds each lock, node,
 -- page and slot, which table each slot has, which nodes each bucket has, and which nodes each port is bound to.
 -- It stands in no definition of a run. The invariant says that there is such a ghost after each event.
-use Rattle.std.proofs.Common.{◌≡◌, ◌≢◌, ℕ, ◌/◌, List, [], ◌∷◌, refl, sym, ◌∙◌, inl, inr, Bool, true, false, cond, Option, Some, None, ◌==◌}
+use Rattle.std.proofs.Common.{◌≡◌, ◌≢◌, ℕ, ◌/◌, List, [], ◌∷◌, refl, sym, ap, ◌∙◌, inl, inr, Bool, true, false, cond, Option, Some, None, ◌==◌}
 use Rattle.std.proofs.lemmas.Bool.{cases_eq, eqb-true, eq-eqb}
 
 -- ---- functions changed at one place
@@ -99,6 +99,18 @@ is_first (Leaving j) = true
 is_first (Behind k) = false
 is_first (Taken c) = false
 
+-- the node is a port's, its first one or one behind that, or was one and has been taken out
+abbrev pub is_used : Owner → Bool
+is_used Free = false
+is_used (Held c) = false
+is_used (First j) = true
+is_used (Leaving j) = true
+is_used (Behind k) = true
+is_used (Taken c) = true
+
+abbrev pub IsUsed : Owner → Type 0
+IsUsed owner = is_used owner ≡ true
+
 -- the bucket in which a node is that is some port's first
 abbrev pub seat_of : Owner → Option ℕ
 seat_of Free = None
@@ -145,7 +157,22 @@ table_of_slot (Retired τ) = τ
 abbrev pub index_at : Ghost → ℕ → ℕ
 index_at G slot = table_of_slot (G.slot slot)
 
+-- a node that is no port's is in no chain
+pub unused-not_first : (o : Owner) → is_used o ≡ false → is_first o ≡ false
+unused-not_first Free is = refl
+unused-not_first (Held c) is = refl
+unused-not_first (First j) is = absurd (cc)
+unused-not_first (Leaving j) is = absurd (cc)
+unused-not_first (Behind k) is = refl
+unused-not_first (Taken c) is = refl
+
 -- one owner is not another
+pub held_not_used : (o : Owner) (d : ℕ) → o ≡ Held d → IsUsed o → ⊥
+held_not_used o d held used = let e = sym used ∙ ap is_used held in cc
+
+pub behind_one : (o : Owner) (k l : ℕ) → o ≡ Behind k → o ≡ Behind l → k ≡ l
+behind_one o k l first second = let e : Behind k ≡ Behind l = sym first ∙ second in cc
+
 pub held_not_first : (o : Owner) (d j : ℕ) → o ≡ Held d → o ≡ First j → ⊥
 held_not_first o d j held first = let e = sym held ∙ first in cc
 

@@ -11,8 +11,8 @@ use Rattle.rht_words.proofs.Memory.{Memory}
 use Rattle.rht_words.specs.Members.{In}
 use Rattle.rht_words.proofs.Members.{In-append_left, in-middle}
 use Rattle.rht_policy.specs.Mix.{bucket_of}
-use Rattle.rht_core.proofs.Theory.Ghosts.{Bucket, Held, First, Ghost, has_table, index_at}
-use Rattle.rht_core.proofs.Theory.Wholes.{key_of, place_at, word_index, home}
+use Rattle.rht_core.proofs.Theory.Ghosts.{Bucket, Held, Ghost, is_used, IsUsed, has_table, index_at}
+use Rattle.rht_core.proofs.Theory.Wholes.{key_of, place_at, word_index, home, Whole}
 use Rattle.rht_core.proofs.Theory.Passed.{NoKey, NoKey-same, Passed}
 
 -- ---- what may be known
@@ -34,8 +34,8 @@ pub data KnownTable : Type 0 where
   AtHome : ℕ → ℕ → Option ℕ → ℕ → KnownTable
 
 -- Of a bucket that it has locked, whose word was this before: nothing more; at which node of it a walk for a key stands, before or
--- behind the load of the node's key; that none of its nodes has the key; its first node that has it; or a node that has it, and then
--- that node's owner. Beside the node at which a walk stands is the one before it.
+-- behind the load of the node's key; that none of its nodes has the key; its first node that has it; a node that has it; or one of
+-- the nodes to which the key's port is bound, with the owner of the first of them. Beside the node at which a walk stands is the one before it.
 pub data KnownBucket : Type 0 where
   Unlocked : KnownBucket
   Locks : ℕ → ℕ → KnownBucket
@@ -44,7 +44,7 @@ pub data KnownBucket : Type 0 where
   Missed : ℕ → ℕ → ℕ → KnownBucket
   Found : ℕ → ℕ → ℕ → ℕ → Option ℕ → KnownBucket
   Member : ℕ → ℕ → ℕ → ℕ → KnownBucket
-  OwnerIs : ℕ → ℕ → ℕ → ℕ → ℕ → KnownBucket
+  Listing : ℕ → ℕ → ℕ → ℕ → ℕ → KnownBucket
 
 -- what a caller knows in a state
 pub record Known : Type 0 where
@@ -131,9 +131,14 @@ module _ (env : Env) (mix : ℕ → ℕ → ℕ → ℕ) where
     pub there : In node (bucket_at G place).nodes
     pub key_is : key_of M node ≡ key
 
-  pub record IsOwnedBy (c : ℕ) (M : Memory) (G : Ghost) (place word key node owner : ℕ) : Type 0 where
-    pub member : IsMember c M G place word key node
-    pub owner_is : owner_of (M (Node node OwnerWord)) ≡ owner
+  -- the node is one of those to which the port is bound whose first one the bucket has, and whose owner is this
+  pub record IsListing (c : ℕ) (M : Memory) (G : Ghost) (place word key node owner : ℕ) : Type 0 where
+    pub first : ℕ
+    pub behind : List ℕ
+    pub member : IsMember c M G place word key first
+    pub bound_to : G.bound key ≡ first ∷ behind
+    pub listed : In node (first ∷ behind)
+    pub owner_is : owner_of (M (Node first OwnerWord)) ≡ owner
 
   abbrev pub BucketMeans : ℕ → Memory → Ghost → KnownBucket → Type 0
   BucketMeans c M G Unlocked = Unit {0}
@@ -143,7 +148,7 @@ module _ (env : Env) (mix : ℕ → ℕ → ℕ → ℕ) where
   BucketMeans c M G (Missed place word key) = IsMissed c M G place word key
   BucketMeans c M G (Found place word key node before) = IsFound c M G place word key node before
   BucketMeans c M G (Member place word key node) = IsMember c M G place word key node
-  BucketMeans c M G (OwnerIs place word key node owner) = IsOwnedBy c M G place word key node owner
+  BucketMeans c M G (Listing place word key node owner) = IsListing c M G place word key node owner
 
   pub record Means (c : ℕ) (M : Memory) (G : Ghost) (known : Known) : Type 0 where
     pub node : IfSome known.node (NodeMeans c M G)
@@ -172,13 +177,20 @@ module _ (env : Env) (mix : ℕ → ℕ → ℕ → ℕ) where
     pub indices : (s : ℕ) → has_table (G.slot s) ≡ true → index_at G' s ≡ index_at G s
     pub passed : (port τ : ℕ) → Passed env mix G port τ → Passed env mix G' port τ
 
+  -- this word of each node that is or was a port's
+  abbrev pub WordStays : NodeWord → Memory → Ghost → Memory → Type 0
+  WordStays word M G M' = (node : ℕ) → node < env.geometry.nodes → IsUsed (G.node node) → M' (Node node word) ≡ M (Node node word)
+
   pub record Rely (c : ℕ) (M : Memory) (G : Ghost) (M' : Memory) (G' : Ghost) : Type 0 where
     pub tables : TablesStay G G'
     -- the buckets that it has locked, and the links of their nodes
     pub locks : (j : ℕ) → (G.bucket j).holder ≡ Some c → G'.bucket j ≡ G.bucket j
-    -- the words of nodes in chains, but for their links
-    pub keys : (node j : ℕ) → G.node node ≡ First j → M' (Node node KeyWord) ≡ M (Node node KeyWord)
-    pub owners : (node j : ℕ) → G.node node ≡ First j → M' (Node node OwnerWord) ≡ M (Node node OwnerWord)
+    -- what the ports of their nodes are bound to
+    pub lists : (j node : ℕ) → (G.bucket j).holder ≡ Some c → In node (G.bucket j).nodes
+        → G'.bound (key_of M node) ≡ G.bound (key_of M node)
+    -- the words of nodes that are or were ports', but for their links
+    pub keys : WordStays KeyWord M G M'
+    pub owners : WordStays OwnerWord M G M'
     -- the nodes that it has, with all their words
     pub nodes : (node : ℕ) → HasNode c G node → G'.node node ≡ Held c
     pub words : (node : ℕ) → HasNode c G node → (word : NodeWord) → M' (Node node word) ≡ M (Node node word)
@@ -188,9 +200,14 @@ module _ (env : Env) (mix : ℕ → ℕ → ℕ → ℕ) where
     pub no_node : (node : ℕ) → G'.node node ≡ Held c → G.node node ≡ Held c
     pub no_lock : (j : ℕ) → (G'.bucket j).holder ≡ Some c → (G.bucket j).holder ≡ Some c
 
-  -- each member of a bucket is in its chain, as the whole has it
-  abbrev pub MembersFirst : Ghost → Type 0
-  MembersFirst G = (j node : ℕ) → In node (G.bucket j).nodes → G.node node ≡ First j
+  -- each member of a bucket is one of the nodes and a port's, as the whole has it
+  abbrev pub MembersUsed : Ghost → Type 0
+  MembersUsed G = (j node : ℕ) → In node (G.bucket j).nodes → (node < env.geometry.nodes) × IsUsed (G.node node)
+
+  pub members_used : (M : Memory) (G : Ghost) → Whole env mix M G → MembersUsed G
+  members_used M G whole j node i =
+      let first = whole.owned.member j node i in
+      ((whole.owned.first_at node j first).among, ap is_used first)
 
   -- ---- what is known outlives a step that leaves what it speaks of
 
@@ -252,9 +269,13 @@ module _ (env : Env) (mix : ℕ → ℕ → ℕ → ℕ) where
           }
 
     -- of buckets: where those that it has locked stay, and the keys of nodes in chains
-    module _ (members : MembersFirst G) (locks : (j : ℕ) → (G.bucket j).holder ≡ Some c → G'.bucket j ≡ G.bucket j)
-        (keys : (node j : ℕ) → G.node node ≡ First j → key_of M' node ≡ key_of M node)
-        (owners : (node j : ℕ) → G.node node ≡ First j → M' (Node node OwnerWord) ≡ M (Node node OwnerWord)) where
+    module _ (members : MembersUsed G) (locks : (j : ℕ) → (G.bucket j).holder ≡ Some c → G'.bucket j ≡ G.bucket j)
+        (lists : (j node : ℕ) → (G.bucket j).holder ≡ Some c → In node (G.bucket j).nodes
+        → G'.bound (key_of M node) ≡ G.bound (key_of M node))
+        (keys : WordStays KeyWord M G M') (owners : WordStays OwnerWord M G M') where
+      key-stays_in : (j node : ℕ) → In node (G.bucket j).nodes → key_of M' node ≡ key_of M node
+      key-stays_in j node i = let is = members j node i in keys node is.0 is.1
+
       HoldsLock-stay : (place word : ℕ) → HoldsLock c G place word → HoldsLock c G' place word
       HoldsLock-stay place word holds =
           let same = locks (word_index env mix place) holds.holder in
@@ -263,9 +284,9 @@ module _ (env : Env) (mix : ℕ → ℕ → ℕ → ℕ) where
       nodes-stay : (place word : ℕ) → HoldsLock c G place word → (bucket_at G' place).nodes ≡ (bucket_at G place).nodes
       nodes-stay place word holds = ap (λ b. b.nodes) (locks (word_index env mix place) holds.holder)
 
-      NoKey-stay : (key j : ℕ) (nodes : List ℕ) → ((node : ℕ) → In node nodes → G.node node ≡ First j)
+      NoKey-stay : (key j : ℕ) (nodes : List ℕ) → ((node : ℕ) → In node nodes → In node (G.bucket j).nodes)
           → NoKey M key nodes → NoKey M' key nodes
-      NoKey-stay key j nodes firsts none = NoKey-same M M' key nodes (λ node i. keys node j (firsts node i)) none
+      NoKey-stay key j nodes all none = NoKey-same M M' key nodes (λ node i. key-stays_in j node (all node i)) none
 
       IsStanding-stay : (place word key node : ℕ) (before : Option ℕ) → IsStanding c M G place word key node before
           → IsStanding c M' G' place word key node before
@@ -279,7 +300,7 @@ module _ (env : Env) (mix : ℕ → ℕ → ℕ → ℕ) where
               rear = s.rear;
               split = nodes-stay place word means.lock ∙ s.split;
               passed = NoKey-stay key j s.front
-                  (λ other i. members j other (rw s.split (In-append_left other s.front (node ∷ s.rear) i))) s.passed;
+                  (λ other i. rw s.split (In-append_left other s.front (node ∷ s.rear) i)) s.passed;
               last = s.last;
             };
           }
@@ -289,7 +310,7 @@ module _ (env : Env) (mix : ℕ → ℕ → ℕ → ℕ) where
           → key_of M' node ≡ key_of M node
       key-stays place word key node before means =
           let j = word_index env mix place in
-          keys node j (members j node (rw means.stands.split (in-middle node means.stands.front means.stands.rear)))
+          key-stays_in j node (rw means.stands.split (in-middle node means.stands.front means.stands.rear))
 
       IsMember-stay : (place word key node : ℕ) → IsMember c M G place word key node → IsMember c M' G' place word key node
       IsMember-stay place word key node means =
@@ -297,7 +318,7 @@ module _ (env : Env) (mix : ℕ → ℕ → ℕ → ℕ) where
           record {
             lock = HoldsLock-stay place word means.lock;
             there = rw (nodes-stay place word means.lock) means.there;
-            key_is = keys node j (members j node means.there) ∙ means.key_is;
+            key_is = key-stays_in j node means.there ∙ means.key_is;
           }
 
       pub BucketMeans-stay : (known : KnownBucket) → BucketMeans c M G known → BucketMeans c M' G' known
@@ -311,26 +332,34 @@ module _ (env : Env) (mix : ℕ → ℕ → ℕ → ℕ) where
       BucketMeans-stay (Missed place word key) means = record {
         lock = HoldsLock-stay place word means.lock;
         none = rw (nodes-stay place word means.lock)
-            (NoKey-stay key (word_index env mix place) (bucket_at G place).nodes (members (word_index env mix place)) means.none);
+            (NoKey-stay key (word_index env mix place) (bucket_at G place).nodes (λ node i. i) means.none);
       }
       BucketMeans-stay (Found place word key node before) means = record {
         standing = IsStanding-stay place word key node before means.standing;
         key_is = key-stays place word key node before means.standing ∙ means.key_is;
       }
       BucketMeans-stay (Member place word key node) means = IsMember-stay place word key node means
-      BucketMeans-stay (OwnerIs place word key node owner) means = record {
-        member = IsMember-stay place word key node means.member;
-        owner_is =
-            ap owner_of (owners node (word_index env mix place) (members (word_index env mix place) node means.member.there)) ∙ means.owner_is;
-      }
+      BucketMeans-stay (Listing place word key node owner) means =
+          let j = word_index env mix place in
+          let is = members j means.first means.member.there in
+          record {
+            first = means.first;
+            behind = means.behind;
+            member = IsMember-stay place word key means.first means.member;
+            bound_to =
+                ap G'.bound (sym means.member.key_is) ∙ lists j means.first means.member.lock.holder means.member.there
+                ∙ ap G.bound means.member.key_is ∙ means.bound_to;
+            listed = means.listed;
+            owner_is = ap owner_of (owners means.first is.0 is.1) ∙ means.owner_is;
+          }
 
   -- what is known outlives a step of anybody else, and so does that there is nothing more
-  module _ (c : ℕ) (M M' : Memory) (G G' : Ghost) (members : MembersFirst G) (rely : Rely c M G M' G') where
+  module _ (c : ℕ) (M M' : Memory) (G G' : Ghost) (members : MembersUsed G) (rely : Rely c M G M' G') where
     pub Means-rely : (known : Known) → Means c M G known → Means c M' G' known
     Means-rely known means = record {
       node = NodeMeans-stay c M M' G G' rely.nodes rely.words known.node means.node;
       table = TableMeans-stay c M M' G G' rely.tables known.table means.table;
-      bucket = BucketMeans-stay c M M' G G' members rely.locks rely.keys rely.owners known.bucket means.bucket;
+      bucket = BucketMeans-stay c M M' G G' members rely.locks rely.lists rely.keys rely.owners known.bucket means.bucket;
     }
 
     pub Only-rely : (has lock second : Option ℕ) (raised : Bool) → HasOnly c G has lock second raised
@@ -347,7 +376,7 @@ module _ (env : Env) (mix : ℕ → ℕ → ℕ → ℕ) where
     pub only : Only c G h
     pub means : Means c M G known
 
-  pub Knowing-rely : {A : Type 0} → (c : ℕ) (M M' : Memory) (G G' : Ghost) (h : held.Held A) (known : Known) → MembersFirst G
+  pub Knowing-rely : {A : Type 0} → (c : ℕ) (M M' : Memory) (G G' : Ghost) (h : held.Held A) (known : Known) → MembersUsed G
       → Rely c M G M' G' → Knowing c h known M G → Knowing c h known M' G'
   Knowing-rely c M M' G G' h known members rely knows = record {
     only = Only-rely c M M' G G' members rely h.node h.lock h.second h.raised knows.only;

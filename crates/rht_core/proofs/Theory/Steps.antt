@@ -1,5 +1,5 @@
 -- What one operation of a caller makes of the words, the ghost, what its call holds, and what it knows.
-use Rattle.std.proofs.Common.{◌≡◌, ◌≢◌, ◌⊎◌, ℕ, suc, ◌+◌, ◌%◌, ◌<◌, List, [], ◌∷◌, map, Option, Some, None, Bool, true, false, refl, ◌∙◌, ap, inl, arith}
+use Rattle.std.proofs.Common.{◌≡◌, ◌≢◌, ◌⊎◌, ℕ, suc, ◌+◌, ◌%◌, ◌<◌, List, [], ◌∷◌, map, Option, Some, None, Bool, true, false, refl, ◌∙◌, ap, inl, inr, arith}
 use Rattle.std.specs.Int.{bit_at}
 use Rattle.std.proofs.lemmas.List.{set-get_or}
 use Rattle.rht_words.specs.declared.env.Env.{Env}
@@ -11,12 +11,13 @@ use Rattle.rht_words.specs.Maps.{bit_of}
 use Rattle.rht_words.specs.Ports.{owner_of}
 use Rattle.rht_words.specs.Operations.{op_place, old_of, word_after, applied}
 use Rattle.rht_words.specs.Places.{PortCount, Node, NodeWord, OwnerWord, place_of, word_at}
+use Rattle.rht_words.specs.Members.{In}
 use Rattle.rht_words.proofs.Memory.{Memory}
 use Rattle.rht_model.specs.declared.history.Call.{Call}
 use Rattle.rht_model.specs.Multimap.{Multimap, Agree}
 use Rattle.rht_model.specs.Answers.{Answer}
 use Rattle.rht_arena.specs.Laws.{map_place, map_bit, IsTaking}
-use Rattle.rht_core.proofs.Theory.Ghosts.{Free, Held, Ghost, with_holder, with_owner, with_raised}
+use Rattle.rht_core.proofs.Theory.Ghosts.{Free, Held, Ghost, is_used, IsUsed, with_holder, with_owner, with_raised}
 use Rattle.rht_core.proofs.Theory.Wholes.{place_at, Whole}
 use Rattle.rht_core.proofs.Theory.Frames.{Made, still}
 use Rattle.rht_core.proofs.Theory.Answering.{SaysStill-agree, Says, IsRight, Tells, told-says, told-right}
@@ -187,15 +188,32 @@ module _ (env : Env) (mix : ℕ → ℕ → ℕ → ℕ) where
 
   -- ---- what the words stand for
 
+  -- nodes to which a port is bound are or were ports'
+  bound_used : (M : Memory) (G : Ghost) → Whole env mix M G → (port : ℕ) (bound : List ℕ) → G.bound port ≡ bound
+      → (n : ℕ) → In n bound → (n < env.geometry.nodes) × IsUsed (G.node n)
+  bound_used M G whole port [] b n i = absurd i
+  bound_used M G whole port (first ∷ behind) b n (inl e) =
+      let to = whole.owned.bound_to port first behind b in
+      rw e ((whole.owned.first_at first to.bucket to.first).among, ap is_used to.first)
+  bound_used M G whole port (first ∷ behind) b n (inr i) =
+      let is = (whole.owned.bound_to port first behind b).each n i in
+      ((whole.owned.behind_in n port is).among, ap is_used is)
+
+  -- the owners of nodes whose owner words stay
+  owners_in-same : (M M' : Memory) (bound : List ℕ)
+      → ((n : ℕ) → In n bound → M' (Node n OwnerWord) ≡ M (Node n OwnerWord)) → owners_in M' bound ≡ owners_in M bound
+  owners_in-same M M' [] same = refl
+  owners_in-same M M' (n ∷ bound) same =
+      ap (λ w. owner_of w ∷ owners_in M' bound) (same n (inl refl))
+      ∙ ap (λ rest. owner_of (M (Node n OwnerWord)) ∷ rest) (owners_in-same M M' bound (λ m i. same m (inr i)))
+
   -- the owner of a node to which a port is bound outlives anybody's operation
-  owners_in-stay : (d : ℕ) (M M' : Memory) (G G' : Ghost) → Whole env mix M G → Made env mix d M G M' G'
+  pub owners_in-stay : (d : ℕ) (M M' : Memory) (G G' : Ghost) → Whole env mix M G → Made env mix d M G M' G'
       → (port : ℕ) (bound : List ℕ) → G.bound port ≡ bound → owners_in M' bound ≡ owners_in M bound
-  owners_in-stay d M M' G G' whole made port [] b = refl
-  owners_in-stay d M M' G G' whole made port (n ∷ behind) b =
-      let to = whole.owned.bound_to port n behind b in
+  owners_in-stay d M M' G G' whole made port bound b =
       let other : suc d ≢ d = λ e. absurd (omega arith) in
-      let same = (made.others (suc d) other).owners n to.bucket to.first in
-      rw to.alone (ap (λ w. owner_of w ∷ []) same)
+      owners_in-same M M' bound (λ n i.
+      let is = bound_used M G whole port bound b n i in (made.others (suc d) other).owners n is.0 is.1)
 
   -- so an operation that leaves what a port is bound to leaves its owners
   pub owners-stay : (d : ℕ) (M M' : Memory) (G G' : Ghost) → Whole env mix M G → Made env mix d M G M' G'

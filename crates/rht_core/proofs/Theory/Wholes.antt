@@ -1,8 +1,9 @@
 -- What is true of the words and the ghost after each event of each run. Tables stand in the order in which they were attached;
--- so far one is. A port is bound to one node at most, which stands in a chain.
+-- so far one is. The first of the nodes to which a port is bound stands in a chain, and the others in its list behind it.
 use Rattle.std.proofs.Common.{◌≡◌, ◌↔◌, ℕ, ◌+◌, ◌-◌, ◌*◌, ◌/◌, ◌%◌, ◌<◌, ◌≤◌, nat_lt, cond, true, List, [], ◌∷◌, Option, Some, None, arith}
 use Rattle.std.specs.Int.{bit_at}
 use Rattle.rht_words.specs.declared.env.Env.{Env}
+use Rattle.rht_words.specs.declared.config.Kind.TheVariants.{Single}
 use Rattle.rht_words.specs.Links.{head_of, marker_of, future_of}
 use Rattle.rht_words.specs.Shapes.{unpacked, size_of}
 use Rattle.rht_words.specs.Places.{CurrentTable, PortCount, Slot, ShapeWord, SeedWord, FutureWord, NodeMap, Node, ChainLink, KeyWord, ListLink, PageWord, IsBucketPlace, place_of, pages_at}
@@ -20,6 +21,10 @@ chain_of M node = M (Node node ChainLink)
 -- the key words of nodes
 abbrev pub key_of : Memory → ℕ → ℕ
 key_of M node = M (Node node KeyWord)
+
+-- the links behind nodes in the lists of their ports
+abbrev pub list_of : Memory → ℕ → ℕ
+list_of M node = M (Node node ListLink)
 
 module _ (env : Env) (mix : ℕ → ℕ → ℕ → ℕ) where
   -- the place of the word of a bucket, and which of the words of all pages stands at a place
@@ -104,33 +109,48 @@ module _ (env : Env) (mix : ℕ → ℕ → ℕ → ℕ) where
     pub current : G.current ≤ table_at G j
     pub attached : table_at G j < G.attached
 
-  -- a node of the chain of a bucket is there, is one of the nodes, belongs there, and is what its port is bound to
+  -- a node of the chain of a bucket is there, is one of the nodes, belongs there, and is the first to which its port is bound
   pub record IsFirstAt (M : Memory) (G : Ghost) (n j : ℕ) : Type 0 where
     pub there : In n (G.bucket j).nodes
     pub among : n < env.geometry.nodes
     pub at_home : IsHomeOf G (key_of M n) j
-    pub bound_to : G.bound (key_of M n) ≡ n ∷ []
-    pub no_list : M (Node n ListLink) ≡ 0
+    pub behind : List ℕ
+    pub bound_to : G.bound (key_of M n) ≡ n ∷ behind
 
-  -- a node that a port is bound to is in a chain, has the port's key, and no other is behind it
+  -- a node behind a port's first one is one of the nodes, has the port's key, and the port is bound to it
+  pub record IsBehindIn (M : Memory) (G : Ghost) (n port : ℕ) : Type 0 where
+    pub among : n < env.geometry.nodes
+    pub key_is : key_of M n ≡ port
+    pub first : ℕ
+    pub behind : List ℕ
+    pub bound_to : G.bound port ≡ first ∷ behind
+    pub there : In n behind
+
+  -- The first node that a port is bound to is in a chain and has the port's key. The others are behind it, each once, along the
+  -- links of the port's list, which ends in 0.
   pub record IsBoundTo (M : Memory) (G : Ghost) (port n : ℕ) (behind : List ℕ) : Type 0 where
-    pub alone : behind ≡ []
     pub bucket : ℕ
     pub first : G.node n ≡ First bucket
     pub key_is : key_of M n ≡ port
+    pub list : IsSegment (list_of M) (list_of M n) behind 0
+    pub distinct : IsDistinct (n ∷ behind)
+    pub each : (m : ℕ) → In m behind → G.node m ≡ Behind port
 
+  -- who owns each node is what chains and lists say; in a table of one owner a port is bound to one node at most
   pub record Owned (M : Memory) (G : Ghost) : Type 0 where
     pub member : (j n : ℕ) → In n (G.bucket j).nodes → G.node n ≡ First j
     pub first_at : (n j : ℕ) → G.node n ≡ First j → IsFirstAt M G n j
+    pub behind_in : (n port : ℕ) → G.node n ≡ Behind port → IsBehindIn M G n port
     pub bound_to : (port n : ℕ) (behind : List ℕ) → G.bound port ≡ n ∷ behind → IsBoundTo M G port n behind
+    pub single : env.config.kind ≡ Single → (port n : ℕ) (behind : List ℕ) → G.bound port ≡ n ∷ behind → behind ≡ []
 
-  -- so far a node is free, with a caller, or in a chain
+  -- so far a node is free, with a caller, in a chain, or in a list behind it
   abbrev pub IsBuilt : Owner → Type 0
   IsBuilt Free = Unit {0}
   IsBuilt (Held c) = Unit {0}
   IsBuilt (First j) = Unit {0}
   IsBuilt (Leaving j) = ⊥
-  IsBuilt (Behind k) = ⊥
+  IsBuilt (Behind k) = Unit {0}
   IsBuilt (Taken c) = ⊥
 
   -- a node's bit is set exactly where nobody has the node

@@ -1,0 +1,43 @@
+-- Along the list of a port's nodes: which node a list link leads to.
+use Rattle.std.proofs.Common.{◌≡◌, ◌⊎◌, ℕ, ◌<◌, List, [], ◌∷◌, refl, sym, ap, ◌∙◌, subst, inl, inr}
+use Rattle.rht_words.specs.declared.env.Env.{Env}
+use Rattle.rht_words.specs.Chains.{IsSegment}
+use Rattle.rht_words.specs.Links.{link_of}
+use Rattle.rht_words.specs.Members.{In}
+use Rattle.rht_words.proofs.Memory.{Memory}
+use Rattle.rht_core.proofs.Theory.Ghosts.{Ghost}
+use Rattle.rht_core.proofs.Theory.Wholes.{list_of, Whole}
+
+-- the next one of these nodes
+pub record IsNextOf (nodes : List ℕ) (link : ℕ) : Type 0 where
+  pub node : ℕ
+  pub there : In node nodes
+  pub link_is : link ≡ link_of node
+
+-- behind each node of a list is the end or another of its nodes
+segment_next : (links : ℕ → ℕ) (first : ℕ) (nodes : List ℕ) → IsSegment links (links first) nodes 0
+    → (node : ℕ) → In node (first ∷ nodes) → (links node ≡ 0) ⊎ IsNextOf nodes (links node)
+segment_next links first [] ends node (inl e) = inl (ap links e ∙ ends)
+segment_next links first [] ends node (inr i) = absurd i
+segment_next links first (next ∷ nodes) segment node (inl e) =
+    inr (record { node = next; there = inl refl; link_is = ap links e ∙ segment.0 })
+segment_next links first (next ∷ nodes) segment node (inr i) = elim (segment_next links next nodes segment.1 node i) [
+  | inl ends ↦ inl ends
+  | inr behind ↦ inr (record { node = behind.node; there = inr behind.there; link_is = behind.link_is })
+]
+
+module _ (env : Env) (mix : ℕ → ℕ → ℕ → ℕ) (M : Memory) (G : Ghost) (whole : Whole env mix M G) where
+  -- behind each node to which a port is bound is the list's end or another of them
+  pub list_next : (port first : ℕ) (behind : List ℕ) → G.bound port ≡ first ∷ behind → (node : ℕ) → In node (first ∷ behind)
+      → (list_of M node ≡ 0) ⊎ IsNextOf behind (list_of M node)
+  list_next port first behind b node i =
+      segment_next (list_of M) first behind (whole.owned.bound_to port first behind b).list node i
+
+  -- each of them is one of the nodes
+  pub list_among : (port first : ℕ) (behind : List ℕ) → G.bound port ≡ first ∷ behind → (node : ℕ) → In node (first ∷ behind)
+      → node < env.geometry.nodes
+  list_among port first behind b node (inl e) =
+      let to = whole.owned.bound_to port first behind b in
+      subst (λ n. n < env.geometry.nodes) (sym e) (whole.owned.first_at first to.bucket to.first).among
+  list_among port first behind b node (inr i) =
+      (whole.owned.behind_in node port ((whole.owned.bound_to port first behind b).each node i)).among
