@@ -233,14 +233,14 @@ module _ (mix : ℕ → ℕ → ℕ → ℕ) (env : Env) where
   ends_taken : (call : Call) (node : Option ℕ) (reply : Reply) (steps : List Did) → TellsNode call node reply → HasTaken g node steps
       → IsTakenIn g call reply steps
   ends_taken (Bind port owner once) node reply steps tells taken = by_none node reply steps tells taken
-  ends_taken (Find port) node reply steps none taken = subst (λ node. HasTaken g node steps) none taken
-  ends_taken (All port) node reply steps none taken = subst (λ node. HasTaken g node steps) none taken
-  ends_taken (Release port owner) node reply steps none taken = subst (λ node. HasTaken g node steps) none taken
+  ends_taken (Find port) has reply steps none taken = subst (λ n. HasTaken g n steps) none taken
+  ends_taken (All port) has reply steps none taken = subst (λ n. HasTaken g n steps) none taken
+  ends_taken (Release port owner) has reply steps none taken = subst (λ n. HasTaken g n steps) none taken
   ends_taken (Rebind port owner new) node reply steps tells taken = by_none node reply steps tells taken
-  ends_taken (Walk from limit) node reply steps none taken = subst (λ node. HasTaken g node steps) none taken
-  ends_taken Work node reply steps none taken = subst (λ node. HasTaken g node steps) none taken
-  ends_taken Tidy node reply steps none taken = subst (λ node. HasTaken g node steps) none taken
-  ends_taken Count node reply steps none taken = subst (λ node. HasTaken g node steps) none taken
+  ends_taken (Walk from limit) has reply steps none taken = subst (λ n. HasTaken g n steps) none taken
+  ends_taken Work has reply steps none taken = subst (λ n. HasTaken g n steps) none taken
+  ends_taken Tidy has reply steps none taken = subst (λ n. HasTaken g n steps) none taken
+  ends_taken Count has reply steps none taken = subst (λ n. HasTaken g n steps) none taken
 
   abbrev Ended : Call → Ending → List Did → Type 0
   Ended call ending steps = IsTakenIn g call ending.answer.reply steps
