@@ -4,3 +4,5 @@ pub mod TakenNodes
 pub mod Quiet
 -- the store that binds a port
 pub mod Linking
+-- a store that changes what a port is bound to
+pub mod Rebinding

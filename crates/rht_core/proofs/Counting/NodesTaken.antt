@@ -247,8 +247,8 @@ module _ (mix : ℕ → ℕ → ℕ → ℕ) (env : Env) where
 
   leads_taken : (M : Type 0) (job : Job) (all : List Did) (next : Job × Next Ending) → call_of next.0 ≡ call_of job
       → HasKept (call_of job) (held_next next) all → LeadsOn M mix env JobTakes Ended job all next
-  leads_taken M job all (after, Go) same kept = subst (λ call. HasKept call (held_of after) all) (sym same) kept
-  leads_taken M job all (after, Done ending) same kept =
+  leads_taken M job all (next, Go) same kept = subst (λ call. HasKept call (held_of next) all) (sym same) kept
+  leads_taken M job all (next, Done ending) same kept =
       ends_taken (call_of job) kept.node ending.answer.reply all kept.told kept.taken
 
   -- at its beginning a call holds nothing

@@ -1,10 +1,10 @@
--- What the store that binds a port makes of the ghost, and all that the storing caller must know for it.
-use Rattle.std.proofs.Common.{◌≡◌, ℕ, ◌<◌, [], ◌∷◌, Some, None, true, false}
+-- What a store that changes what a port is bound to makes of the ghost, and what must be known where one binds a port first.
+use Rattle.std.proofs.Common.{◌≡◌, ℕ, ◌<◌, List, [], ◌∷◌, Some, None, Bool, true, false}
 use Rattle.rht_words.specs.declared.env.Env.{Env}
 use Rattle.rht_words.specs.Links.{link_of, head_of}
 use Rattle.rht_words.specs.Places.{Node, ListLink}
 use Rattle.rht_words.proofs.Memory.{Memory}
-use Rattle.rht_core.proofs.Theory.Ghosts.{put, Bucket, First, Ghost}
+use Rattle.rht_core.proofs.Theory.Ghosts.{put, Bucket, Owner, First, Ghost}
 use Rattle.rht_core.proofs.Theory.Wholes.{chain_of, key_of, place_at, IsHomeOf}
 use Rattle.rht_core.proofs.Theory.Knowledge.{HasNode}
 
@@ -19,6 +19,27 @@ linked G d j n port = record G {
   node = put G.node n (First j);
   bound = put G.bound port (n ∷ []);
   raised = put G.raised d false;
+}
+
+-- A change of what a port is bound to, by one store in a bucket: the nodes to which the port is bound from then on, the bucket as
+-- it is then, the owners that two nodes get, and whether the caller has raised the count, or has still to lower it.
+pub record Change : Type 0 where
+  pub port : ℕ
+  pub nodes : List ℕ
+  pub place : ℕ
+  pub bucket : Bucket
+  pub one : ℕ
+  pub one_owner : Owner
+  pub other : ℕ
+  pub other_owner : Owner
+  pub raised : Bool
+
+abbrev pub changed : Ghost → ℕ → Change → Ghost
+changed G d change = record G {
+  bucket = put G.bucket change.place change.bucket;
+  node = put (put G.node change.one change.one_owner) change.other change.other_owner;
+  bound = put G.bound change.port change.nodes;
+  raised = put G.raised d change.raised;
 }
 
 module _ (env : Env) (mix : ℕ → ℕ → ℕ → ℕ) where

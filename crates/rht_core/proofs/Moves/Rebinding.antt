@@ -1,0 +1,260 @@
+-- The store by which a caller that has locked a port's bucket changes what the port is bound to. What it does to other buckets,
+-- ports and callers is shown here once; what it does to the port and to its bucket is asked of each such store.
+use Rattle.std.proofs.Common.{◌≡◌, ◌≢◌, ◌⊎◌, ◌↔◌, ℕ, ◌+◌, ◌*◌, ◌/◌, ◌%◌, ◌<◌, List, [], ◌∷◌, Option, Some, None, refl, sym, ◌∙◌, ap, subst, inl, inr, arith}
+use Rattle.std.specs.Int.{bit_at}
+use Rattle.std.proofs.lemmas.Bool.{cases_eq}
+use Rattle.rht_words.specs.declared.env.Env.{Env}
+use Rattle.rht_words.specs.declared.config.Kind.TheVariants.{Single}
+use Rattle.rht_words.specs.Places.{Address, PortCount, NodeMap, Node, NodeWord, ChainLink, KeyWord, OwnerWord, ListLink, PageWord}
+use Rattle.rht_words.specs.Members.{In}
+use Rattle.rht_words.proofs.Memory.{Memory, IsWrite}
+use Rattle.rht_words.proofs.ChainLemmas.{IsSegment-members}
+use Rattle.rht_core.proofs.Theory.Ghosts.{put, put-same, put-other, put-all, Bucket, Owner, Free, Held, First, Behind, Ghost, is_used, IsUsed, held_not_used, held_by_one}
+use Rattle.rht_core.proofs.Theory.Wholes.{chain_of, list_of, key_of, IsHomeOf, BucketRight, IsFirstAt, IsBehindIn, IsBoundTo, Owned, ArenaRight, IsBuilt, Whole, firsts, raisers}
+use Rattle.rht_core.proofs.Theory.Frames.{Made, Others, IsNoTableWord, SameTables, same_tables, tables_stay, TablesRight-write, IsHomeOf-same, BucketRight-frame}
+use Rattle.rht_core.proofs.Theory.Readiness.{Change, changed}
+
+module _ (env : Env) (mix : ℕ → ℕ → ℕ → ℕ) (d : ℕ) (change : Change) (M M' : Memory) (G : Ghost) (a : Address) (v : ℕ) where
+  abbrev G' : Ghost
+  G' = changed G d change
+
+  abbrev port : ℕ
+  port = change.port
+
+  abbrev here : ℕ
+  here = change.place
+
+  -- the word that is stored is no word of a table, of the maps or the count, no key or owner, no link of another bucket's nodes or
+  -- of another port's list, and no word of a node that another caller has
+  pub record IsStoreFor : Type 0 where
+    pub write : IsWrite env.geometry M M' a v
+    pub no_table : IsNoTableWord env mix G a
+    pub no_map : (i : ℕ) → NodeMap i ≢ a
+    pub no_count : PortCount ≢ a
+    pub no_key : (n : ℕ) → Node n KeyWord ≢ a
+    pub no_owner : (n : ℕ) → Node n OwnerWord ≢ a
+    pub other_word : (i : ℕ) → i ≢ here → PageWord i ≢ a
+    pub other_link : (n i : ℕ) → i ≢ here → G.node n ≡ First i → Node n ChainLink ≢ a
+    pub other_list : (n other : ℕ) → other ≢ port → In n (G.bound other) → Node n ListLink ≢ a
+    pub other_node : (c n : ℕ) (w : NodeWord) → c ≢ d → G.node n ≡ Held c → Node n w ≢ a
+
+  -- a node that gets another owner is one of the port's, or the caller's that is to be one; and it is a port's then, or was one
+  pub record IsChanged (n : ℕ) (owner : Owner) : Type 0 where
+    pub before : In n (G.bound port) ⊎ (G.node n ≡ Held d)
+    pub key_is : key_of M n ≡ port
+    pub used : IsUsed owner
+    pub built : IsBuilt env mix owner
+
+  -- what the store makes of the port and of its bucket
+  pub record IsRebound : Type 0 where
+    pub holder : (G.bucket here).holder ≡ Some d
+    pub released : (c : ℕ) → c ≢ d → change.bucket.holder ≢ Some c
+    pub one_changed : IsChanged change.one change.one_owner
+    pub other_changed : IsChanged change.other change.other_owner
+    pub right : BucketRight env mix M' here change.bucket
+    -- the first node to which it was bound is in the bucket
+    pub seat : (n : ℕ) (behind : List ℕ) → G.bound port ≡ n ∷ behind → G.node n ≡ First here
+    pub members : (n : ℕ) → In n change.bucket.nodes → G'.node n ≡ First here
+    pub others_stay : (n : ℕ) → In n (G.bucket here).nodes → key_of M n ≢ port → In n change.bucket.nodes
+    pub first_here : (n i : ℕ) → G'.node n ≡ First i → key_of M n ≡ port → IsFirstAt env mix M' G' n i
+    pub behind_here : (n other : ℕ) → G'.node n ≡ Behind other → key_of M n ≡ port → IsBehindIn env mix M' G' n other
+    pub bound_here : (n : ℕ) (behind : List ℕ) → change.nodes ≡ n ∷ behind → IsBoundTo env mix M' G' port n behind
+    pub single : env.config.kind ≡ Single → (n : ℕ) (behind : List ℕ) → change.nodes ≡ n ∷ behind → behind ≡ []
+    pub counted : firsts env mix G' + raisers env mix G' ≡ firsts env mix G + raisers env mix G
+
+  module _ (whole : Whole env mix M G) (store : IsStoreFor) (is : IsRebound) where
+    same : SameTables env mix G G'
+    same = same_tables env mix G G'.bucket G'.node G'.bound G'.raised
+
+    -- ---- words that stay
+
+    key_stays : (n : ℕ) → n < env.geometry.nodes → key_of M' n ≡ key_of M n
+    key_stays n l = store.write.others (Node n KeyWord) l (store.no_key n)
+
+    -- ---- who owns nodes
+
+    -- what is so of each owner that changes and of each that stays is so of each
+    owners_all : (P : ℕ → Owner → Type 0) → P change.one change.one_owner → P change.other change.other_owner
+        → ((n : ℕ) → n ≢ change.one → n ≢ change.other → P n (G.node n)) → (n : ℕ) → P n (G'.node n)
+    owners_all P one other rest =
+        put-all P (put G.node change.one change.one_owner) change.other change.other_owner other
+        (λ n ne. put-all (λ m o. m ≢ change.other → P m o) G.node change.one change.one_owner (λ apart. one) (λ m apart apart_other. rest m apart apart_other) n ne)
+
+    -- a node of another port, or of another caller, keeps its owner
+    record IsKept (n : ℕ) : Type 0 where
+      no_one : n ≢ change.one
+      no_other : n ≢ change.other
+
+    kept_owner : (n : ℕ) → IsKept n → G'.node n ≡ G.node n
+    kept_owner n kept =
+        put-other (put G.node change.one change.one_owner) change.other change.other_owner n kept.no_other
+        ∙ put-other G.node change.one change.one_owner n kept.no_one
+
+    kept_from : (n : ℕ) → ((owner : Owner) → IsChanged n owner → ⊥) → IsKept n
+    kept_from n never = record {
+      no_one = λ e. never change.one_owner (subst (λ m. IsChanged m change.one_owner) (sym e) is.one_changed);
+      no_other = λ e. never change.other_owner (subst (λ m. IsChanged m change.other_owner) (sym e) is.other_changed);
+    }
+
+    kept_key : (n : ℕ) → key_of M n ≢ port → IsKept n
+    kept_key n other = kept_from n (λ owner at. other at.key_is)
+
+    -- a node to which the port is bound is used
+    listed_used : (n : ℕ) → In n (G.bound port) → IsUsed (G.node n)
+    listed_used n = go (G.bound port) refl
+      where
+        go : (nodes : List ℕ) → G.bound port ≡ nodes → In n nodes → IsUsed (G.node n)
+        go [] b i = absurd i
+        go (first ∷ behind) b (inl e) = rw e (ap is_used (is.seat first behind b))
+        go (first ∷ behind) b (inr i) = ap is_used ((whole.owned.bound_to port first behind b).each n i)
+
+    -- one of its nodes that is in a chain is in its bucket
+    listed_seat : (n i : ℕ) → In n (G.bound port) → G.node n ≡ First i → i ≡ here
+    listed_seat n i there first = go (G.bound port) refl there
+      where
+        go : (nodes : List ℕ) → G.bound port ≡ nodes → In n nodes → i ≡ here
+        go [] b k = absurd k
+        go (m ∷ behind) b (inl e) =
+            let q : First i ≡ First here = sym first ∙ ap G.node e ∙ is.seat m behind b in cc
+        go (m ∷ behind) b (inr k) =
+            let q : First i ≡ Behind port = sym first ∙ (whole.owned.bound_to port m behind b).each n k in absurd (cc)
+
+    held_kept : (c n : ℕ) → c ≢ d → G.node n ≡ Held c → IsKept n
+    held_kept c n ne held = kept_from n (λ owner at. elim at.before [
+      | inl there ↦ held_not_used (G.node n) c held (listed_used n there)
+      | inr mine ↦ ne (held_by_one (G.node n) c d held mine)
+    ])
+
+    first_kept : (n i : ℕ) → i ≢ here → G.node n ≡ First i → IsKept n
+    first_kept n i ne first = kept_from n (λ owner at. elim at.before [
+      | inl there ↦ ne (listed_seat n i there first)
+      | inr mine ↦ held_not_used (G.node n) d mine (ap is_used first)
+    ])
+
+    -- ---- the whole
+
+    other_owned : (n i : ℕ) → key_of M n ≢ port → G.node n ≡ First i → IsFirstAt env mix M' G' n i
+    other_owned n i other first =
+        let at = whole.owned.first_at n i first in
+        let key = key_stays n at.among in
+        record {
+          there = put-all (λ k b. In n (G.bucket k).nodes → In n b.nodes) G.bucket here change.bucket
+              (λ was. is.others_stay n was other) (λ k ne was. was) i at.there;
+          among = at.among;
+          at_home = rw key (IsHomeOf-same env mix G G' (key_of M n) i same at.at_home);
+          behind = at.behind;
+          bound_to = ap G'.bound key ∙ put-other G.bound port change.nodes (key_of M n) other ∙ at.bound_to;
+        }
+
+    other_behind : (n p : ℕ) → key_of M n ≢ port → G.node n ≡ Behind p → IsBehindIn env mix M' G' n p
+    other_behind n p other behind =
+        let at = whole.owned.behind_in n p behind in
+        record {
+          among = at.among;
+          key_is = key_stays n at.among ∙ at.key_is;
+          first = at.first;
+          behind = at.behind;
+          bound_to = put-other G.bound port change.nodes p (λ e. other (at.key_is ∙ e)) ∙ at.bound_to;
+          there = at.there;
+        }
+
+    other_bound : (p n : ℕ) (behind : List ℕ) → p ≢ port → G.bound p ≡ n ∷ behind → IsBoundTo env mix M' G' p n behind
+    other_bound p n behind ne b =
+        let to = whole.owned.bound_to p n behind b in
+        let at = whole.owned.first_at n to.bucket to.first in
+        let there : (m : ℕ) → In m (n ∷ behind) → In m (G.bound p) = λ m i. subst (In m) (sym b) i in
+        let link : list_of M' n ≡ list_of M n = store.write.others (Node n ListLink) at.among (store.other_list n p ne (there n (inl refl))) in
+        record {
+          bucket = to.bucket;
+          first = kept_owner n (kept_key n (λ e. ne (sym to.key_is ∙ e))) ∙ to.first;
+          key_is = key_stays n at.among ∙ to.key_is;
+          list = rw link (IsSegment-members (list_of M) (list_of M') (list_of M n) behind 0
+              (λ m i. let more = whole.owned.behind_in m p (to.each m i) in
+              store.write.others (Node m ListLink) more.among (store.other_list m p ne (there m (inr i)))) to.list);
+          distinct = to.distinct;
+          each = λ m i.
+              let more = whole.owned.behind_in m p (to.each m i) in
+              kept_owner m (kept_key m (λ e. ne (sym more.key_is ∙ e))) ∙ to.each m i;
+        }
+
+    rebound_owned : Owned env mix M' G'
+    rebound_owned = record {
+      member = λ i n. put-all (λ k b. In n b.nodes → G'.node n ≡ First k) G.bucket here change.bucket (is.members n)
+          (λ k ne there. let first = whole.owned.member k n there in kept_owner n (first_kept n k ne first) ∙ first) i;
+      first_at = λ n i first. elim (cases_eq (key_of M n) port) [
+        | inl e ↦ is.first_here n i first e
+        | inr ne ↦ other_owned n i ne (sym (kept_owner n (kept_key n ne)) ∙ first)
+      ];
+      behind_in = λ n p behind. elim (cases_eq (key_of M n) port) [
+        | inl e ↦ is.behind_here n p behind e
+        | inr ne ↦ other_behind n p ne (sym (kept_owner n (kept_key n ne)) ∙ behind)
+      ];
+      bound_to = λ p n behind b. elim (cases_eq p port) [
+        | inl e ↦
+            subst (λ q. IsBoundTo env mix M' G' q n behind) (sym e)
+            (is.bound_here n behind (sym (put-same G.bound port change.nodes) ∙ ap G'.bound (sym e) ∙ b))
+        | inr ne ↦ other_bound p n behind ne (sym (put-other G.bound port change.nodes p ne) ∙ b)
+      ];
+      single = λ one p n behind b. elim (cases_eq p port) [
+        | inl e ↦ is.single one n behind (sym (put-same G.bound port change.nodes) ∙ ap G'.bound (sym e) ∙ b)
+        | inr ne ↦ whole.owned.single one p n behind (sym (put-other G.bound port change.nodes p ne) ∙ b)
+      ];
+    }
+
+    -- no node that changes was free, and none is
+    changed_bits : (n : ℕ) (owner : Owner) → IsChanged n owner → n < env.geometry.nodes
+        → (bit_at (M (NodeMap (n / 64))) (n % 64) ≡ 1) ↔ (owner ≡ Free)
+    changed_bits n owner at l =
+        let old = whole.arena.bits n l in
+        ((λ set. absurd (elim at.before [
+          | inl there ↦ let q = sym (listed_used n there) ∙ ap is_used (old.0 set) in cc
+          | inr mine ↦ let q = sym mine ∙ old.0 set in cc
+        ])), (λ free. absurd (let q = sym at.used ∙ ap is_used free in cc)))
+
+    rebound_arena : ArenaRight env mix M' G'
+    rebound_arena = record {
+      built = owners_all (λ n o. IsBuilt env mix o) is.one_changed.built is.other_changed.built (λ n ne apart. whole.arena.built n);
+      bits = λ n l. rw (store.write.others (NodeMap (n / 64)) (omega arith) (store.no_map (n / 64)))
+          (owners_all (λ m o. m < env.geometry.nodes → (bit_at (M (NodeMap (m / 64))) (m % 64) ≡ 1) ↔ (o ≡ Free))
+          (changed_bits change.one change.one_owner is.one_changed) (changed_bits change.other change.other_owner is.other_changed)
+          (λ m ne apart. whole.arena.bits m) n l);
+    }
+
+    rebound_whole : Whole env mix M' G'
+    rebound_whole = record {
+      tables = TablesRight-write env mix M M' G G' a v store.write store.no_table same whole.tables;
+      buckets = put-all (λ i b. i < 64 * env.geometry.pages → BucketRight env mix M' i b) G.bucket here change.bucket (λ l. is.right)
+          (λ i ne l. BucketRight-frame env mix M M' i (G.bucket i) (store.write.others (PageWord i) l (store.other_word i ne))
+          (λ n there. let first = whole.owned.member i n there in
+          store.write.others (Node n ChainLink) (whole.owned.first_at n i first).among (store.other_link n i ne first)) (whole.buckets i l));
+      owned = rebound_owned;
+      arena = rebound_arena;
+      counted = store.write.others PortCount tt store.no_count ∙ whole.counted ∙ sym is.counted;
+    }
+
+    rebound_others : Others env mix d M G M' G'
+    rebound_others c ne =
+        let elsewhere : (i : ℕ) → (G.bucket i).holder ≡ Some c → i ≢ here =
+        λ i h e. ne (let q : ◌≡◌ {A = Option ℕ} (Some d) (Some c) = sym is.holder ∙ ap (λ k. (G.bucket k).holder) (sym e) ∙ h in cc) in
+        record {
+          tables = tables_stay env mix M G G' whole same;
+          locks = λ i h. put-other G.bucket here change.bucket i (elsewhere i h);
+          lists = λ i n h there.
+              let first = whole.owned.member i n there in
+              let at = whole.owned.first_at n i first in
+              put-other G.bound port change.nodes (key_of M n) (λ e. elsewhere i h
+              (listed_seat n i (subst (In n) (sym at.bound_to ∙ ap G.bound e) (inl refl)) first));
+          keys = λ n l used. key_stays n l;
+          owners = λ n l used. store.write.others (Node n OwnerWord) l (store.no_owner n);
+          nodes = λ n has. kept_owner n (held_kept c n ne has.mine) ∙ has.mine;
+          words = λ n has w. store.write.others (Node n w) has.among (store.other_node c n w ne has.mine);
+          raised = put-other G.raised d change.raised c ne;
+          no_node = owners_all (λ n o. o ≡ Held c → G.node n ≡ Held c)
+              (λ held. absurd (held_not_used change.one_owner c held is.one_changed.used))
+              (λ held. absurd (held_not_used change.other_owner c held is.other_changed.used)) (λ n apart other held. held);
+          no_lock = put-all (λ i b. b.holder ≡ Some c → (G.bucket i).holder ≡ Some c) G.bucket here change.bucket
+              (λ h. absurd (is.released c ne h)) (λ i apart h. h);
+        }
+
+    pub rebind : Made env mix d M G M' G'
+    rebind = record { whole = rebound_whole; others = rebound_others }
