@@ -56,8 +56,6 @@ pub mod TablesWalked
 pub mod FullTables
 -- in every run each call that has ended has a reply with its cause
 pub mod CausesInRuns
--- one call alone meets the model
-pub mod AloneRuns
 -- going along links finds what the whole chain holds
 pub mod FirstNodes
 -- the words of a state that is being opened

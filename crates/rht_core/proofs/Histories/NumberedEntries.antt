@@ -43,6 +43,14 @@ numbered_to-none i from (x ∷ xs) l rising =
     let past : nat_le x.number i ≡ false = (let r = rising.0 in grind (arith, nat_tests)) in
     rw past (numbered_to-none i x.number xs (let r = rising.0 in omega arith) rising.1)
 
+-- where the others are numbered behind an event, the entries up to it are the first ones
+pub numbered_to-before : (i : ℕ) (low high : List Numbered) → AllBelow (i + 1) low → NeverFalls (i + 1) high
+    → numbered_to i (low ++ high) ≡ history_of low
+numbered_to-before i [] high below rising = numbered_to-none i (i + 1) high (omega arith) rising
+numbered_to-before i (x ∷ low) high below rising =
+    let here : nat_le x.number i ≡ true = (let l = below.0 in grind (arith, nat_tests)) in
+    rw here (ap (λ rest. x.entry ∷ rest) (numbered_to-before i low high below.1 rising))
+
 -- ---- an entry that changes nothing
 
 -- behind all that is numbered up to this event
