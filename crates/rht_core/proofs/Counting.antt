@@ -6,3 +6,9 @@ pub mod RaisedNodes
 pub mod CountedNodes
 -- so far no call takes a node out of a port's list
 pub mod NodesOut
+-- in every run a bind takes one node at most
+pub mod NodesTaken
+-- a count of ports that is loaded is at most the ports bound and the other callers in mid-call
+pub mod FullTables
+-- the count of ports, and a table that nobody uses
+pub mod CountedRuns

@@ -1,3 +1,19 @@
+-- what an event does to each caller, and inductions over the events of a run
+pub mod Worlds
+-- in every run all words and callers are there, and each caller works in the run's table
+pub mod SoundRuns
+-- in every run all that callers name is in range, and each word is one
+pub mod RangesInRuns
+-- in every run a caller that isn't enrolled has done nothing
+pub mod CallersNotEnrolled
+-- a call begins as a look-up or a bind, and who is in no call plans no operation
+pub mod CallBeginnings
+-- a caller in a call does what its job says
+pub mod JobsOfCallers
+-- the words of a state that is being opened
+pub mod OpenedStates
+-- what holds of a state because a run has reached it
+pub mod ReachedStates
 -- the invariant, and that each event keeps it
 pub mod Invariants
 -- the invariant holds in every run

@@ -12,3 +12,5 @@ pub mod CallEnds
 pub mod FittingRuns
 -- a call that is alone stands behind all others in a history that fits
 pub mod AloneCalls
+-- one call alone meets the model, and has its cause
+pub mod AloneLaw

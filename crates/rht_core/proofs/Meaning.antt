@@ -1,2 +1,4 @@
 -- what the words stand for is what the ghost says
 pub mod BoundPorts
+-- going along links finds what the whole chain holds
+pub mod FirstNodes

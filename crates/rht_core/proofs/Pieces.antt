@@ -1,5 +1,5 @@
 -- taking a node, giving it back, and writing its words
-pub mod Nodes
+pub mod NewNodes
 -- the way to a port's bucket
 pub mod Locates
 -- the lock of a bucket is dropped
@@ -7,4 +7,4 @@ pub mod Locks
 -- the operations in a bucket: it is locked and walked
 pub mod Probes
 -- the count of ports is raised
-pub mod Counts
+pub mod PortCounts

@@ -6,6 +6,8 @@ pub mod Wholes
 pub mod Passed
 -- what each caller knows, and why others leave it
 pub mod Knowledge
+-- what has to be known where a store binds a port
+pub mod Readiness
 -- what a step leaves where it writes elsewhere
 pub mod Frames
 -- what an operation says about bindings, and what is known of a call's answer

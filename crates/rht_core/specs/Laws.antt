@@ -1,5 +1,5 @@
 -- What holds of every run.
-use Rattle.std.specs.Prelude.{◌≡◌, ℕ, ◌+◌, ◌<◌, ◌≤◌, ◌⊎◌, List, [], ◌∷◌, ◌++◌, length, map, take, Option, Some, IfSome}
+use Rattle.std.specs.Prelude.{◌≡◌, ◌≢◌, ℕ, ◌+◌, ◌<◌, ◌≤◌, ◌⊎◌, List, [], ◌∷◌, ◌++◌, length, map, take, Option, Some, IfSome}
 use Rattle.std.specs.List.{AllByRecursion, slice_get}
 use Rattle.std.specs.Int.{bit_at}
 use Rattle.rht_words.specs.declared.op.Op.{Op}
@@ -22,7 +22,7 @@ use Rattle.rht_core.specs.declared.local.Local.{Local}
 use Rattle.rht_core.specs.declared.local.Doing.{Doing}
 use Rattle.rht_core.specs.declared.local.Doing.TheVariants.{Idle, Finding, Binding}
 use Rattle.rht_core.specs.Locals.{fresh, begin_with, plan_of, local_after, ending_of}
-use Rattle.rht_core.specs.Runs.{Core, World, Seen, core_step, world_step, run_of, local_of, planned_in, seen, new_book, book_begun, book_after, IsSound, IsAdmitted, IsAdmittedEvent}
+use Rattle.rht_core.specs.Runs.{Core, World, View, core_step, world_step, run_of, local_of, planned_in, view_of, new_book, book_begun, book_after, IsSound, IsAdmitted, IsAdmittedEvent}
 use Rattle.rht_core.specs.Replies.{AnswersIn}
 use Rattle.rht_core.specs.Traces.{Did, Past, Trace, Traced, traced_of, IsStepOfOne, behind_calls, IsRising, AreInOrder}
 
@@ -30,14 +30,14 @@ use Rattle.rht_core.specs.Traces.{Did, Past, Trace, Traced, traced_of, IsStepOfO
 
 module _ {M : Type 0} where
   -- it was given a call, and what it does for it
-  abbrev pub seen_begin : Call → Doing M → Seen M → Seen M
-  seen_begin call doing seen = record { local = begin_with seen.local doing; book = book_begun call seen.book }
+  abbrev pub view_begun : Call → Doing M → View M → View M
+  view_begun call doing view = record { local = begin_with view.local doing; book = book_begun call view.book }
 
   -- it has made an operation, which found this word
-  abbrev pub seen_step : (ℕ → ℕ → ℕ → ℕ) → ℕ → Seen M → Seen M
-  seen_step mix old seen =
-      let next = local_after mix seen.local old in
-      record { local = next.0; book = book_after (ending_of next.0 next.1) seen.book }
+  abbrev pub view_stepped : (ℕ → ℕ → ℕ → ℕ) → ℕ → View M → View M
+  view_stepped mix old view =
+      let next = local_after mix view.local old in
+      record { local = next.0; book = book_after (ending_of next.0 next.1) view.book }
 
 -- ---- what a caller's state names
 
@@ -107,10 +107,9 @@ TakesOne g node (did ∷ steps) =
 abbrev pub TakesOneOf : Geometry → List Did → Type 0
 TakesOneOf g steps = (node : ℕ) × TakesOne g node steps
 
--- a call that needs a node, with this reply, has taken one; `NoNode` says that it has taken none
+-- a call that needs a node, with this reply, has taken one, or it was answered that there was none and has taken none
 abbrev pub IsTakenBy : Geometry → Reply → List Did → Type 0
-IsTakenBy g NoNode steps = TakesNone g steps
-IsTakenBy g _ steps = TakesOneOf g steps
+IsTakenBy g reply steps = ((reply ≡ NoNode) × TakesNone g steps) ⊎ ((reply ≢ NoNode) × TakesOneOf g steps)
 
 -- a bind and a rebind need a node, and no other call takes one
 abbrev pub IsTakenIn : Geometry → Call → Reply → List Did → Type 0
@@ -174,7 +173,7 @@ module _ (M : Type 0) (mix : ℕ → ℕ → ℕ → ℕ) where
   NotEnrolled =
       (env : Env) (events : List Event) → IsAdmitted env.config.kind events
       → let w : World M = run_of mix env events in
-      (c : ℕ) → w.core.enrolled ≤ c → seen w c ≡ record { local = fresh env; book = new_book }
+      (c : ℕ) → w.core.enrolled ≤ c → view_of w c ≡ record { local = fresh env; book = new_book }
 
   -- in every run each call that has ended has a reply of its kind
   abbrev pub Replies : Type 0

@@ -95,7 +95,7 @@ ArePairsWith (Walked len next) pairs = length pairs ≡ len
 ArePairsWith _ pairs = pairs ≡ []
 
 -- a call that has ended has a reply of its kind, and the lists that come with that
-pub record IsAnswered (done : Finished) : Type 0 where
+pub record IsRightlyAnswered (done : Finished) : Type 0 where
   pub reply : IsReplyTo done.call done.reply
   pub owners : AreOwnersWith done.reply done.owners
   pub pairs : ArePairsWith done.reply done.pairs
@@ -144,6 +144,6 @@ pub record HasLists {M : Type 0} (local : Local M) (book : Book) : Type 0 where
 -- each call of a caller that has ended was answered, the one in progress is the one that it works at, and its rooms
 -- have the lists of the last one that has ended
 pub record AnswersIn {M : Type 0} (env : Env) (c : ℕ) (local : Local M) (book : Book) : Type 0 where
-  pub finished : AllByRecursion IsAnswered book.finished
+  pub finished : AllByRecursion IsRightlyAnswered book.finished
   pub progress : IsBookOf env c local.doing book
   pub lists : HasLists local book

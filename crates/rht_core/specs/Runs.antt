@@ -138,7 +138,7 @@ book_at books c book = λ other. if other == c then book else books other
 -- ---- runs
 
 -- what one caller knows of itself
-pub record Seen (M : Type 0) : Type 0 where
+pub record View (M : Type 0) : Type 0 where
   pub local : Local M
   pub book : Book
 
@@ -227,5 +227,5 @@ module _ {M : Type 0} where
       pub admitted : IsAdmitted core.env.config.kind events
       pub same : (run_of core.env events).core ≡ core
 
-  abbrev pub seen : World M → ℕ → Seen M
-  seen w c = record { local = local_of w.core c; book = w.books c }
+  abbrev pub view_of : World M → ℕ → View M
+  view_of w c = record { local = local_of w.core c; book = w.books c }

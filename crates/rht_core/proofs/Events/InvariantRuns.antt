@@ -14,8 +14,8 @@ use Rattle.rht_core.specs.declared.event.Event.{Event}
 use Rattle.rht_core.specs.declared.local.Local.{Local}
 use Rattle.rht_core.specs.Locals.{fresh}
 use Rattle.rht_core.specs.Runs.{Core, World, local_in, opening, opening_core, run_of, IsAdmitted}
-use Rattle.rht_core.proofs.Worlds.{run_keeps_admitted}
-use Rattle.rht_core.proofs.RangesInRuns.{AllIn, opens-all, event-all}
+use Rattle.rht_core.proofs.Events.Worlds.{run_keeps_admitted}
+use Rattle.rht_core.proofs.Events.RangesInRuns.{AllIn, opens-all, event-all}
 use Rattle.rht_core.proofs.Theory.Ghosts.{Bucket, Free, Ghost, Table, PageOf, SlotFree, Live, is_first, has_table, put, put-same, put-other}
 use Rattle.rht_core.proofs.Theory.Wholes.{Whole, TableRight}
 use Rattle.rht_core.proofs.Theory.Steps.{mem}

@@ -23,11 +23,11 @@ use Rattle.rht_core.specs.Locals.{fresh, does_nothing, machine_of, begin_with, l
 use Rattle.rht_core.specs.Runs.{Core, local_of, beginning_in, planned_in, enrolling, core_step}
 use Rattle.rht_core.specs.Jobs.{Job, finds, binds, call_of, job_plan, job_after, job_of, told, held_of, held_next}
 use Rattle.rht_core.specs.Laws.{IsDoingIn}
-use Rattle.rht_core.proofs.CallBeginnings.{begins_so}
-use Rattle.rht_core.proofs.Worlds.{beginning-some, planned-some}
-use Rattle.rht_core.proofs.SoundRuns.{has_place, made_in}
-use Rattle.rht_core.proofs.RangesInRuns.{AllIn}
-use Rattle.rht_core.proofs.JobsOfCallers.{plan-job, left-job, nothing-job, is_no_job}
+use Rattle.rht_core.proofs.Events.CallBeginnings.{begins_so}
+use Rattle.rht_core.proofs.Events.Worlds.{beginning-some, planned-some}
+use Rattle.rht_core.proofs.Events.SoundRuns.{has_place, made_in}
+use Rattle.rht_core.proofs.Events.RangesInRuns.{AllIn}
+use Rattle.rht_core.proofs.Events.JobsOfCallers.{plan-job, left-job, nothing-job, is_no_job}
 use Rattle.rht_core.proofs.Theory.Ghosts.{Ghost}
 use Rattle.rht_core.proofs.Theory.Wholes.{Whole}
 use Rattle.rht_core.proofs.Theory.Knowledge.{Rely, Knowing-rely}

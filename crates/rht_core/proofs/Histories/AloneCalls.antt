@@ -18,15 +18,15 @@ use Rattle.rht_core.specs.declared.event.Event.TheVariants.{Begin, Step}
 use Rattle.rht_core.specs.declared.book.Book.{Book}
 use Rattle.rht_core.specs.declared.local.Doing.{Doing}
 use Rattle.rht_core.specs.Locals.{local_after, ending_of}
-use Rattle.rht_core.specs.Runs.{Seen, local_of, beginning_in, planned_in, books_begun, books_stepped, book_after}
+use Rattle.rht_core.specs.Runs.{View, local_of, beginning_in, planned_in, books_begun, books_stepped, book_after}
 use Rattle.rht_core.specs.Traces.{Did, Past, Trace, Traced, trace_did, traces_begun, traces_stepped, traced_step, traced_from, traced_of, behind_steps, behind_call}
 use Rattle.rht_core.specs.Laws.{IsRecorded, IsPastCall}
 use Rattle.rht_core.specs.Numbered.{Numbered, NeverFalls, entries_of}
 use Rattle.rht_core.specs.Alone.{call_events}
 use Rattle.rht_core.specs.RunHistories.{IsEntryOf, AreOfCalls, about_bindings}
-use Rattle.rht_core.proofs.Worlds.{begin_other, step_other}
-use Rattle.rht_core.proofs.TracedRuns.{traced_opening, traced_from-append, count-traced_of, trace_begin_other, trace_step_other}
-use Rattle.rht_core.proofs.TracesAtEvents.{behind_steps-push}
+use Rattle.rht_core.proofs.Events.Worlds.{begin_other, step_other}
+use Rattle.rht_core.proofs.Tracing.TracedRuns.{traced_opening, traced_from-append, count-traced_of, trace_begin_other, trace_step_other}
+use Rattle.rht_core.proofs.Tracing.TracesAtEvents.{behind_steps-push}
 use Rattle.rht_core.proofs.Histories.NumberedEntries.{AllBelow}
 use Rattle.rht_core.proofs.Histories.CallEnds.{AreEnded}
 
@@ -221,7 +221,7 @@ module _ (M : Type 0) (mix : ℕ → ℕ → ℕ → ℕ) (env : Env) (start : L
   alone-begin : (r0.world.books c).call ≡ None → IsAlone (traced_step mix r0 (Begin c call))
   alone-begin none = record {
     others = λ d ne. record {
-      book = ap (λ (s : Seen M). s.book) (begin_other M mix r0.world c call d ne);
+      book = ap (λ (s : View M). s.book) (begin_other M mix r0.world c call d ne);
       trace = trace_begin_other M mix r0 c call d ne;
     };
     own = go (beginning_in r0.world.core c call);
@@ -238,7 +238,7 @@ module _ (M : Type 0) (mix : ℕ → ℕ → ℕ → ℕ) (env : Env) (start : L
     others = λ d ne.
         let was = alone.others d ne in
         record {
-          book = ap (λ (s : Seen M). s.book) (step_other M mix r.world c d ne) ∙ was.book;
+          book = ap (λ (s : View M). s.book) (step_other M mix r.world c d ne) ∙ was.book;
           trace = trace_step_other M mix r c d ne ∙ was.trace;
         };
     own = go (planned_in r.world.core c);

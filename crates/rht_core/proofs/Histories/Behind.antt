@@ -12,7 +12,7 @@ use Rattle.rht_core.specs.declared.event.Event.{Event}
 use Rattle.rht_core.specs.Traces.{Did}
 use Rattle.rht_core.specs.Alone.{bindings_at}
 use Rattle.rht_core.specs.RunHistories.{bindings_behind, ChangesBindings}
-use Rattle.rht_core.proofs.Worlds.{take-push}
+use Rattle.rht_core.proofs.Events.Worlds.{take-push}
 
 -- one of a list with one more is one of the list, or the one more
 pub Any-push_cases : {X : Type 0} (P : X → Type 0) (xs : List X) (y : X) → Any P (xs ++ y ∷ []) → Any P xs ⊎ P y

@@ -24,19 +24,19 @@ use Rattle.rht_core.specs.declared.local.Local.{Local}
 use Rattle.rht_core.specs.declared.local.Doing.{Doing}
 use Rattle.rht_core.specs.Locals.{fresh, local_after, ending_of}
 use Rattle.rht_core.specs.Jobs.{Job, call_of, job_of, job_after, told, held_of, held_next}
-use Rattle.rht_core.specs.Runs.{World, Seen, IsAdmitted, IsAdmittedEvent, local_of, planned_in, beginning_in, enrolling, world_step}
+use Rattle.rht_core.specs.Runs.{World, View, IsAdmitted, IsAdmittedEvent, local_of, planned_in, beginning_in, enrolling, world_step}
 use Rattle.rht_core.specs.Traces.{Did, Past, Trace, Traced, trace_begun, trace_did, traces_after, traced_step, traced_of}
 use Rattle.rht_core.specs.StandsFor.{stands_for}
 use Rattle.rht_core.specs.Numbered.{Numbered, entries_of}
 use Rattle.rht_core.specs.Alone.{bindings_at}
 use Rattle.rht_core.specs.RunHistories.{ChangesBindings, AreInProgress, AreOfCalls, about_bindings, HasFittingHistory}
-use Rattle.rht_core.proofs.Worlds.{induct_by_last, run_of-push, beginning-some, planned-some, begin_none, begin_self, begin_other, step_none, step_self, step_other, step_words}
-use Rattle.rht_core.proofs.JobsOfCallers.{is_no_job, same_call, nothing-job, first_unknown, first_job-machine, local_after-job}
-use Rattle.rht_core.proofs.SoundRuns.{has_place, made_in}
-use Rattle.rht_core.proofs.TracedRuns.{world-traced_of, count-traced_of, traced_of-push, trace_begin_none, trace_begin_self, trace_begin_other, trace_step_none, trace_step_self, trace_step_other}
-use Rattle.rht_core.proofs.TracedCallers.{inv_now, stays_in}
-use Rattle.rht_core.proofs.TracedJobs.{busy-none, IsAtJob}
-use Rattle.rht_core.proofs.RepliesInRuns.{Holds, Answered, runs-right}
+use Rattle.rht_core.proofs.Events.Worlds.{induct_by_last, run_of-push, beginning-some, planned-some, begin_none, begin_self, begin_other, step_none, step_self, step_other, step_words}
+use Rattle.rht_core.proofs.Events.JobsOfCallers.{is_no_job, same_call, nothing-job, first_unknown, first_job-machine, local_after-job}
+use Rattle.rht_core.proofs.Events.SoundRuns.{has_place, made_in}
+use Rattle.rht_core.proofs.Tracing.TracedRuns.{world-traced_of, count-traced_of, traced_of-push, trace_begin_none, trace_begin_self, trace_begin_other, trace_step_none, trace_step_self, trace_step_other}
+use Rattle.rht_core.proofs.Tracing.TracedCallers.{inv_now, stays_in}
+use Rattle.rht_core.proofs.Tracing.TracedJobs.{busy-none, IsAtJob}
+use Rattle.rht_core.proofs.Tracing.RepliesInRuns.{Holds, Answered, runs-right}
 use Rattle.rht_core.proofs.Theory.Answering.{Says}
 use Rattle.rht_core.proofs.Theory.Frames.{Made}
 use Rattle.rht_core.proofs.Theory.Steps.{mem, owners, owners-stay, ghost_after}
@@ -209,7 +209,7 @@ module _ (M : Type 0) (mix : ℕ → ℕ → ℕ → ℕ) (env : Env) where
         callers = λ d. elim (cases_eq d c) [
           | inl same ↦
               subst (λ k. IsOfCaller more k (job_of (local_of (traced_step mix r (Begin c call)).world.core k).doing) (traces_after mix r (Begin c call) k) (entries_of k fitting.history)) (sym same)
-              (subst (λ (s : Seen M). IsOfCaller more c (job_of s.local.doing) (traces_after mix r (Begin c call) c) (entries_of c fitting.history)) (sym here)
+              (subst (λ (s : View M). IsOfCaller more c (job_of s.local.doing) (traces_after mix r (Begin c call) c) (entries_of c fitting.history)) (sym here)
               (subst (λ (t : Trace). IsOfCaller more c (job_of machine) t (entries_of c fitting.history)) (sym (trace_begin_self M mix r c call machine is))
               (subst (λ (j : Option Job). IsOfCaller more c j (trace_begun r.count (r.traces c)) (entries_of c fitting.history)) (sym first.does)
               (record {
@@ -228,7 +228,7 @@ module _ (M : Type 0) (mix : ℕ → ℕ → ℕ → ℕ) (env : Env) where
               }))))
           | inr other ↦
               of-more events (Begin c call) d _ _ _ _ _ _
-              (ap (λ (s : Seen M). job_of s.local.doing) (begin_other M mix r.world c call d other)) (trace_begin_other M mix r c call d other) refl (fitting.callers d)
+              (ap (λ (s : View M). job_of s.local.doing) (begin_other M mix r.world c call d other)) (trace_begin_other M mix r c call d other) refl (fitting.callers d)
         ];
       }
     where
@@ -316,7 +316,7 @@ module _ (M : Type 0) (mix : ℕ → ℕ → ℕ → ℕ) (env : Env) where
         local_after-job mix env local job old none (has.all.stays.locals_of c) of.is
 
     job-now : job_of (local_of (traced_step mix r event).world.core c).doing ≡ (told next_job).0
-    job-now = ap (λ (s : Seen M). job_of s.local.doing) (step_self M mix r.world c op is place) ∙ ap (λ l. l.0) left
+    job-now = ap (λ (s : View M). job_of s.local.doing) (step_self M mix r.world c op is place) ∙ ap (λ l. l.0) left
 
     trace-now : traces_after mix r event c ≡ trace_did (Some (call_of job)) did (told next_job).1 trace
     trace-now =
@@ -335,7 +335,7 @@ module _ (M : Type 0) (mix : ℕ → ℕ → ℕ → ℕ) (env : Env) where
         → IsOfCaller after_it d (job_of (local_of (traced_step mix r event).world.core d).doing) (traces_after mix r event d) (entries_of d next)
     others-now next same d other =
         of-more events event d _ _ _ _ _ _
-        (ap (λ (s : Seen M). job_of s.local.doing) (step_other M mix r.world c d other)) (trace_step_other M mix r c d other) (same d other) (fitting.callers d)
+        (ap (λ (s : View M). job_of s.local.doing) (step_other M mix r.world c d other)) (trace_step_other M mix r c d other) (same d other) (fitting.callers d)
 
     -- all callers, where this one is so
     all-now : (next : List Numbered) → ((d : ℕ) → d ≢ c → entries_of d next ≡ entries_of d history)

@@ -1,5 +1,5 @@
 -- What a bind knows in each state, and that each of its operations leads from what it knows to what it knows next.
-use Rattle.std.proofs.Common.{◌≡◌, ◌⊎◌, ℕ, ◌^◌, ◌<◌, List, [], ◌∷◌, length, min, Option, Some, None, Bool, true, false, cond, refl, sym, ◌∙◌, ap, subst, inl, inr, arith}
+use Rattle.std.proofs.Common.{◌≡◌, ◌≢◌, ◌⊎◌, ℕ, ◌^◌, ◌<◌, List, [], ◌∷◌, length, min, Option, Some, None, Bool, true, false, cond, refl, sym, ◌∙◌, ap, subst, inl, inr, arith}
 use Rattle.std.proofs.lemmas.Bool.{cases_eq, eq-eqb, ne_eqb}
 use Rattle.std.proofs.lemmas.Bool.Decides.{nat_tests}
 use Rattle.std.proofs.Math.Nat.{mod-eq_of_lt}
@@ -41,14 +41,16 @@ use Rattle.rht_core.proofs.Theory.Wholes.{home, place_at, word_index, place_at-i
 use Rattle.rht_core.proofs.Theory.Passed.{home-table, unbound_at_last}
 use Rattle.rht_core.proofs.Theory.Knowledge.{HasOnly, KnownNode, KnownTable, Nowhere, Passes, AtHome, KnownBucket, Unlocked, Locks, Missed, Member, Known, IsMember, Knowing}
 use Rattle.rht_core.proofs.Theory.Frames.{Made}
-use Rattle.rht_core.proofs.Theory.Answering.{KeepsAnswer, IsLegalOn, keeps, learns}
-use Rattle.rht_core.proofs.Theory.Steps.{Links, Holding, HoldsSame, by_test, mem, owners, owners_in, owners-stay, ghost_after, Moved, moved-map, with_knowledge, Step, answered, reads}
-use Rattle.rht_core.proofs.Moves.Linking.{IsReady, link_head, linked_bucket}
-use Rattle.rht_core.proofs.Pieces.Nodes as nodes
+use Rattle.rht_core.specs.Replies.{IsBindReply, AreOwnersWith, ArePairsWith}
+use Rattle.rht_core.proofs.Theory.Answering.{KeepsAnswer, IsLegalOn, IsRight, keeps, learns}
+use Rattle.rht_core.proofs.Theory.Steps.{Links, Holding, HoldsSame, by_test, mem, owners, owners_in, owners-stay, ghost_after, Moved, moved-map, with_knowledge, still_has, Step, answered, reads}
+use Rattle.rht_core.proofs.Theory.Readiness.{linked_bucket, IsReady}
+use Rattle.rht_core.proofs.Moves.Linking.{link_head}
+use Rattle.rht_core.proofs.Pieces.NewNodes as nodes
 use Rattle.rht_core.proofs.Pieces.Locates.{known_locate, first_passed, locate_step, LocateKnows, FutureIs, future_is}
 use Rattle.rht_core.proofs.Pieces.Locks.{unlock_step}
 use Rattle.rht_core.proofs.Pieces.Probes.{known_probe, known_found, place_of_probe, IsProbeFor, probed_by, ProbeKnows, probe_step}
-use Rattle.rht_core.proofs.Pieces.Counts.{raise_step}
+use Rattle.rht_core.proofs.Pieces.PortCounts.{raise_step}
 use Rattle.rht_core.proofs.Machines.FindSteps.{known_nothing, known_behind}
 
 -- what a call holds that links its node next
@@ -150,24 +152,38 @@ module _ (env : Env) (mix : ℕ → ℕ → ℕ → ℕ) (c : ℕ) (port owner :
         → IsLegalOn env.config.kind c call now (plain reply)
     refusal reply may refuses = record { legal = inr (may, refl); leaves = λ p. rw refuses refl }
 
+    -- a bind that has a node is answered so
+    with_node : (n : ℕ) (reply : Reply) → IsBindReply once reply → AreOwnersWith reply [] → ArePairsWith reply []
+        → reply ≢ NoNode → IsRight call (Some n) (plain reply)
+    with_node n reply is owners pairs other = record {
+      replied = record { reply = is; owners = owners; pairs = pairs };
+      tells = (λ none. absurd (cc), λ no_node. absurd (other no_node));
+    }
+
     -- ---- what the pieces lead to
 
     -- a node was taken, and its words stored; or there was none
     node_made : (new : NewNodeModel) (r : NewNodeModel × Next (Option ℕ)) → r.0.key ≡ port → r.0.owner ≡ owner
+        → (nodes.made_by (r.0.at, r.1) ≡ None → node_of_new new.at ≡ None)
         → Moved env mix c words G (new_node_plan new) (holds_node (node_of_new new.at) None) (holds_node (nodes.made_by (r.0.at, r.1)) None)
         (nodes.knowing env mix c held.holds_nothing Nowhere Unlocked (nodes.made_by (r.0.at, r.1)) (nodes.known_made port owner (r.0.at, r.1)))
         → BindMoved (at.Filling new) (filled r.0 r.1)
-    node_made new (next, Go) key own step =
+    node_made new (next, Go) key own had step =
         answered env mix c call words G (new_node_plan new) (holds_node (node_of_new new.at) None) (holds_node (node_of_new next.at) None) None (BindNext (at.Filling next, Go)) (inl refl)
+        (record { taken = λ node none some. refl; gone = λ node some none. absurd (let before = had none in cc) })
         (moved-map env mix c words G (new_node_plan new) (holds_node (node_of_new new.at) None) (holds_node (node_of_new next.at) None) _ (BindNext (at.Filling next, Go))
         (λ M' G' w k. record { knowing = k; fits = (key, own) }) step)
-    node_made new (next, Done None) key own step =
+    node_made new (next, Done None) key own had step =
         answered env mix c call words G (new_node_plan new) (holds_node (node_of_new new.at) None) (holds_node None None) (Some (plain NoNode)) (BindNext (at.Filling next, Done NoNode))
-        (learns env.config.kind c call now (plain NoNode) (refusal NoNode tt refl))
+        (learns env.config.kind c call (node_of_new new.at) now (plain NoNode)
+        (record { replied = record { reply = tt; owners = refl; pairs = refl }; tells = (λ none. refl, λ no_node. had refl) })
+        (refusal NoNode tt refl))
+        (record { taken = λ node none some. absurd (cc); gone = λ node some none told. absurd (cc) })
         (moved-map env mix c words G (new_node_plan new) (holds_node (node_of_new new.at) None) (holds_node None None) _ (BindNext (at.Filling next, Done NoNode))
         (λ M' G' w k. record { only = k.only; means = k.means }) step)
-    node_made new (next, Done (Some n)) key own step =
+    node_made new (next, Done (Some n)) key own had step =
         answered env mix c call words G (new_node_plan new) (holds_node (node_of_new new.at) None) (holds_node (Some n) None) None (BindNext (at.CurrentTable n, Go)) (inl refl)
+        (record { taken = λ node none some. refl; gone = λ node some none. absurd (cc) })
         (moved-map env mix c words G (new_node_plan new) (holds_node (node_of_new new.at) None) (holds_node (Some n) None) _ (BindNext (at.CurrentTable n, Go))
         (λ M' G' w k. record { knowing = k; fits = tt }) step)
 
@@ -176,13 +192,13 @@ module _ (env : Env) (mix : ℕ → ℕ → ℕ → ℕ) (c : ℕ) (port owner :
         → Moved env mix c words G (locate_plan locate) (holds_node (Some n) None) (holds_node (Some n) None) (LocateKnows env mix c (holds_node (Some n) None) (Some (own port owner n)) Unlocked port r)
         → BindMoved (at.Locating n locate) (located env port n r.0 r.1, Go)
     found_place n locate (next, Go) step =
-        answered env mix c call words G (locate_plan locate) (holds_node (Some n) None) (holds_node (Some n) None) None (BindNext (at.Locating n next, Go)) (inl refl)
+        answered env mix c call words G (locate_plan locate) (holds_node (Some n) None) (holds_node (Some n) None) None (BindNext (at.Locating n next, Go)) (inl refl) (still_has refl)
         (moved-map env mix c words G (locate_plan locate) (holds_node (Some n) None) (holds_node (Some n) None) _ (BindNext (at.Locating n next, Go))
         (λ M' G' w k. record { knowing = k; fits = tt }) step)
     found_place n locate (next, Done there) step =
         let is = step.knows in
         let probing = at.Probing n next.table there.shape (probe_new env.geometry is.place port) in
-        rw is.there (answered env mix c call words G (locate_plan locate) (holds_node (Some n) None) (holds_node (Some n) None) None (BindNext (probing, Go)) (inl refl)
+        rw is.there (answered env mix c call words G (locate_plan locate) (holds_node (Some n) None) (holds_node (Some n) None) None (BindNext (probing, Go)) (inl refl) (still_has refl)
         (with_knowledge env mix c words G (locate_plan locate) (holds_node (Some n) None) (holds_node (Some n) None) _ (BindNext (probing, Go)) step
         (record { knowing = record { only = is.knows.only; means = is.knows.means }; fits = (refl, tt) })))
 
@@ -219,14 +235,14 @@ module _ (env : Env) (mix : ℕ → ℕ → ℕ → ℕ) (c : ℕ) (port owner :
         (ProbeKnows env mix c (holds_node (Some n) None) (Some (own port owner n)) port table (Some shape) words G all whole (r.0.at, r.1))
         → BindMoved (at.Probing n table shape probe) (probed n table shape r.0 r.1, Go)
     walked n table shape probe (next, Go) key step =
-        answered env mix c call words G (probe_plan probe) (holds_node (Some n) (lock_of_probe probe.at)) (holds_node (Some n) (lock_of_probe next.at)) None (BindNext (at.Probing n table shape next, Go)) (inl refl)
+        answered env mix c call words G (probe_plan probe) (holds_node (Some n) (lock_of_probe probe.at)) (holds_node (Some n) (lock_of_probe next.at)) None (BindNext (at.Probing n table shape next, Go)) (inl refl) (still_has refl)
         (moved-map env mix c words G (probe_plan probe) (holds_node (Some n) (lock_of_probe probe.at)) (holds_node (Some n) (lock_of_probe next.at)) _ (BindNext (at.Probing n table shape next, Go))
         (λ M' G' w k. record { knowing = k.0; fits = (key, k.1) }) step)
     walked n table shape probe (next, Done end) key step =
         let claimed : Claimed = record { node = n; table = table; shape = shape; bucket = end.bucket } in
         let there = owner_or_future claimed end.seen.found end.seen.length in
         rw (seen_holds claimed end.seen.length end.seen.found)
-        (answered env mix c call words G (probe_plan probe) (holds_node (Some n) (lock_of_probe probe.at)) (holds_claimed claimed) None (BindNext (there, Go)) (inl refl)
+        (answered env mix c call words G (probe_plan probe) (holds_node (Some n) (lock_of_probe probe.at)) (holds_claimed claimed) None (BindNext (there, Go)) (inl refl) (still_has refl)
         (moved-map env mix c words G (probe_plan probe) (holds_node (Some n) (lock_of_probe probe.at)) (holds_claimed claimed) _ (BindNext (there, Go))
         (λ M' G' w k. seen_knows claimed end.seen.length end.seen.before end.seen.found M' G' k) step))
 
@@ -260,7 +276,7 @@ module _ (env : Env) (mix : ℕ → ℕ → ℕ → ℕ) (c : ℕ) (port owner :
         let count = M PortCount in
         by_test (λ t. BindMoved (at.Count claimed) (cond t (unlocking claimed (Answer (TooBig count))) (at.Link claimed), Go)) (is_above_max (min count 65536) env.config.max)
         (λ t. reads env mix c call words G (plan_at env (at.Count claimed)) (holds_claimed claimed) (held_of_bind (unlocking claimed (Answer (TooBig count)))) (BindNext (unlocking claimed (Answer (TooBig count)), Go)) whole refl refl
-        (learns env.config.kind c call now (plain (TooBig count)) (refusal (TooBig count) tt refl)) (unlocking_knows claimed (TooBig count) known.knowing))
+        (learns env.config.kind c call (Some claimed.node) now (plain (TooBig count)) (with_node claimed.node (TooBig count) tt refl refl (λ e. cc)) (refusal (TooBig count) tt refl)) (unlocking_knows claimed (TooBig count) known.knowing))
         (λ t. goes_on (at.Count claimed) (at.Link claimed) refl refl refl (record { knowing = known.knowing; fits = tt }))
 
     -- the port is bound to the owner of a node of its bucket that has its key, and to no other
@@ -288,7 +304,7 @@ module _ (env : Env) (mix : ℕ → ℕ → ℕ → ℕ) (c : ℕ) (port owner :
         let is = known.knowing.means.bucket in
         let answer = unlocking claimed (Answer (Exists first)) in
         reads env mix c call words G (plan_at env (at.FoundOwner claimed found)) (holds_claimed claimed) (held_of_bind answer) (BindNext (answer, Go)) whole refl refl
-        (learns env.config.kind c call now (plain (Exists first)) (exists first (bound_here claimed.bucket.place claimed.bucket.word found is)))
+        (learns env.config.kind c call (Some claimed.node) now (plain (Exists first)) (with_node claimed.node (Exists first) tt refl refl (λ e. cc)) (exists first (bound_here claimed.bucket.place claimed.bucket.word found is)))
         (record {
           knowing = record { only = known.knowing.only; means = record { node = known.knowing.means.node; table = tt; bucket = is.lock } };
           fits = tt;
@@ -343,7 +359,7 @@ module _ (env : Env) (mix : ℕ → ℕ → ℕ → ℕ) (c : ℕ) (port owner :
     nothing_left n j place is only = record {
       nodes = put-all (λ m o. o ≡ Held c → ◌≡◌ {A = Option ℕ} None (Some m)) G.node n (First j) (λ e. absurd (cc))
           (λ m ne holds. let q = only.nodes m holds in absurd (ne (cc)));
-      locks = put-all (λ i b. b.holder ≡ Some c → (◌≡◌ {A = Option ℕ} None (Some (place_at env mix i))) ⊎ (◌≡◌ {A = Option ℕ} None (Some (place_at env mix i)))) G.bucket j (linked_bucket env mix (G.bucket j) n)
+      locks = put-all (λ i b. b.holder ≡ Some c → (◌≡◌ {A = Option ℕ} None (Some (place_at env mix i))) ⊎ (◌≡◌ {A = Option ℕ} None (Some (place_at env mix i)))) G.bucket j (linked_bucket (G.bucket j) n)
           (λ e. absurd (cc))
           (λ i ne holds. elim (only.locks i holds) [
             | inl first ↦ absurd (ne (let q : place ≡ place_at env mix i = cc in let r = is in omega (arith, q, r)))
@@ -388,6 +404,10 @@ module _ (env : Env) (mix : ℕ → ℕ → ℕ → ℕ) (c : ℕ) (port owner :
             port = port;
             differs = λ e. let q : ◌≡◌ {A = List ℕ} (owner_of (M' (Node n OwnerWord)) ∷ []) [] = sym (ap (owners_in env mix M') (put-same G.bound port (n ∷ []))) ∙ e ∙ none in cc;
           });
+          right = λ answer unknown known.
+              subst (IsRight call (Some n)) (let same : ◌≡◌ {A = Option answers.Answer} (Some (plain (Bound kick))) (Some answer) = known in cc)
+              (with_node n (Bound kick) tt refl refl (λ e. cc));
+          in_time = record { taken = λ node none some. absurd (cc); gone = λ node some none told. absurd (cc) };
           knows = record {
             only = nothing_left n j place is known.knowing.only;
             means = record { node = tt; table = tt; bucket = tt };
@@ -409,7 +429,7 @@ module _ (env : Env) (mix : ℕ → ℕ → ℕ → ℕ) (c : ℕ) (port owner :
         let Knows : ℕ → ℕ → Type 0 = λ key o. nodes.knowing env mix c held.holds_nothing Nowhere Unlocked (node_of_new new.at) (nodes.known_at key o new.at) M G in
         let knows : Knows new.key new.owner = subst (λ key. Knows key new.owner) (sym known.fits.0) (subst (λ o. Knows port o) (sym known.fits.1) known.knowing) in
         let step : Made new.key new.owner = nodes.new_node_step env mix c held.holds_nothing Nowhere Unlocked words G all whole new is knows in
-        node_made new r known.fits.0 known.fits.1 (subst (λ key. Made key owner) known.fits.0 (subst (λ o. Made new.key o) known.fits.1 step))
+        node_made new r known.fits.0 known.fits.1 (nodes.made_none new.at (old_of words (new_node_plan new))) (subst (λ key. Made key owner) known.fits.0 (subst (λ o. Made new.key o) known.fits.1 step))
     bind_step (at.CurrentTable n) is known =
         goes_on (at.CurrentTable n) (at.Locating n (locate_new env.geometry (table_of (M CurrentTable)))) refl refl refl (record {
           knowing = record {
@@ -435,14 +455,14 @@ module _ (env : Env) (mix : ℕ → ℕ → ℕ → ℕ) (c : ℕ) (port owner :
         known.knowing known.knowing.means.bucket.none) known
     bind_step (at.Count claimed) is known = count_next claimed known
     bind_step (at.Link claimed) is known =
-        answered env mix c call words G (plan_at env (at.Link claimed)) (holds_claimed claimed) (holds_claimed claimed) None (BindNext (at.Raise claimed, Go)) (inl refl)
+        answered env mix c call words G (plan_at env (at.Link claimed)) (holds_claimed claimed) (holds_claimed claimed) None (BindNext (at.Raise claimed, Go)) (inl refl) (still_has refl)
         (moved-map env mix c words G (plan_at env (at.Link claimed)) (holds_claimed claimed) (holds_claimed claimed) _ (BindNext (at.Raise claimed, Go))
         (λ M' G' w k. record { knowing = k; fits = tt })
         (nodes.fill_step env mix c (holds_node None (Some claimed.bucket.place)) (at_home port owner claimed) (missed port owner claimed) words G all whole (own port owner claimed.node) ChainLink (head_of claimed.bucket.place claimed.bucket.word) known.knowing))
     bind_step (at.Raise claimed) is known =
         let kick = kicks env claimed.shape (M PortCount) in
         let p = claimed.bucket.place in
-        answered env mix c call words G (plan_at env (at.Raise claimed)) (holds_claimed claimed) (holds_publishing claimed.node p) None (BindNext (publishing env claimed kick, Go)) (inl refl)
+        answered env mix c call words G (plan_at env (at.Raise claimed)) (holds_claimed claimed) (holds_publishing claimed.node p) None (BindNext (publishing env claimed kick, Go)) (inl refl) (still_has refl)
         (moved-map env mix c words G (plan_at env (at.Raise claimed)) (holds_claimed claimed) (holds_publishing claimed.node p) _ (BindNext (publishing env claimed kick, Go))
         (λ M' G' w k. let table = k.means.table in record {
           knowing = record {
@@ -459,14 +479,14 @@ module _ (env : Env) (mix : ℕ → ℕ → ℕ → ℕ) (c : ℕ) (port owner :
     bind_step (at.Publish n table relink kick) is known = publish_step n table relink kick known
     bind_step (at.Unlocking n table unlock (Table next)) is known =
         answered env mix c call words G (plan_at env (at.Unlocking n table unlock (Table next))) (held_of_bind (at.Unlocking n table unlock (Table next))) (holds_node (Some n) None) None
-        (BindNext (at.Locating n (locate_new env.geometry next), Go)) (inl refl)
+        (BindNext (at.Locating n (locate_new env.geometry next), Go)) (inl refl) (still_has refl)
         (moved-map env mix c words G (plan_at env (at.Unlocking n table unlock (Table next))) (holds_node (Some n) (Some unlock.place)) (holds_node (Some n) None) _ (BindNext (at.Locating n (locate_new env.geometry next), Go))
         (λ M' G' w k. record { knowing = k; fits = tt })
         (unlock_step env mix c (holds_node (Some n) None) (Some (own port owner n)) (Passes port next) words G all whole unlock.place unlock.word known.knowing))
     bind_step (at.Unlocking n table unlock (Answer reply)) is known =
         let told : Holding = record held.holds_nothing { node = Some n; answer = Some (plain reply) } in
         answered env mix c call words G (plan_at env (at.Unlocking n table unlock (Answer reply))) (held_of_bind (at.Unlocking n table unlock (Answer reply))) told (Some (plain reply))
-        (BindNext (giving env n reply, Go)) (keeps env.config.kind c call now (Some (plain reply)))
+        (BindNext (giving env n reply, Go)) (inl (keeps (Some (plain reply)))) (still_has refl)
         (moved-map env mix c words G (plan_at env (at.Unlocking n table unlock (Answer reply))) (record told { lock = Some unlock.place }) told _ (BindNext (giving env n reply, Go))
         (λ M' G' w k. record { knowing = k; fits = tt })
         (unlock_step env mix c told (Some (own port owner n)) Nowhere words G all whole unlock.place unlock.word known.knowing))
@@ -475,5 +495,5 @@ module _ (env : Env) (mix : ℕ → ℕ → ℕ → ℕ) (c : ℕ) (port owner :
         subst (λ g. Step env mix c call words G (give_node_plan (record { geometry = g; node = give.node })) (record told { node = Some give.node }) told (Knowing env mix c told known_nothing))
         (sym is.geometry_same)
         (answered env mix c call words G (give_node_plan (record { geometry = env.geometry; node = give.node })) (record told { node = Some give.node }) told (Some (plain reply)) (Knowing env mix c told known_nothing)
-        (keeps env.config.kind c call now (Some (plain reply)))
+        (inl (keeps (Some (plain reply)))) (record { taken = λ node none some. absurd (cc); gone = λ node some none told. absurd (cc) })
         (nodes.give_step env mix c told Nowhere Unlocked words G all whole (own port owner give.node) known.knowing))

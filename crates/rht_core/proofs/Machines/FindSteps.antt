@@ -32,7 +32,7 @@ use Rattle.rht_core.proofs.Theory.Ghosts.{Ghost}
 use Rattle.rht_core.proofs.Theory.Wholes.{word_index, Whole}
 use Rattle.rht_core.proofs.Theory.Knowledge.{KnownTable, Nowhere, Passes, AtHome, KnownBucket, Unlocked, Locks, Missed, Member, OwnerIs, Known, IsMember, Knowing}
 use Rattle.rht_core.proofs.Theory.Answering.{KeepsAnswer, keeps, learns}
-use Rattle.rht_core.proofs.Theory.Steps.{Holding, mem, owners, owners_in, Moved, moved-map, with_knowledge, Step, answered, reads, HoldsSame}
+use Rattle.rht_core.proofs.Theory.Steps.{Holding, mem, owners, owners_in, Moved, moved-map, with_knowledge, Step, answered, reads, HoldsSame, still_has}
 use Rattle.rht_core.proofs.Pieces.Locates.{known_locate, first_passed, locate_step, LocateKnows, FutureIs, future_is}
 use Rattle.rht_core.proofs.Pieces.Locks.{unlock_step}
 use Rattle.rht_core.proofs.Pieces.Probes.{known_probe, known_found, place_of_probe, IsProbeFor, probed_by, ProbeKnows, probe_step}
@@ -135,14 +135,14 @@ module _ (env : Env) (mix : ℕ → ℕ → ℕ → ℕ) (c : ℕ) (port : ℕ) 
         → Moved env mix c words G (locate_plan locate) held.holds_nothing held.holds_nothing (LocateKnows env mix c held.holds_nothing None Unlocked port r)
         → FindMoved (at.Locating locate) (located env port r.0 r.1)
     found_place locate (next, Go) step =
-        answered env mix c call words G (locate_plan locate) held.holds_nothing held.holds_nothing None (FindNext (at.Locating next, Go)) (inl refl)
+        answered env mix c call words G (locate_plan locate) held.holds_nothing held.holds_nothing None (FindNext (at.Locating next, Go)) (inl refl) (still_has refl)
         (moved-map env mix c words G (locate_plan locate) held.holds_nothing held.holds_nothing (LocateKnows env mix c held.holds_nothing None Unlocked port (next, Go)) (FindNext (at.Locating next, Go))
         (λ M' G' w k. record { knowing = k; fits = tt }) step)
     found_place locate (next, Done there) step =
         let is = step.knows in
         let table = is.knows.means.table in
         let probing = at.Probing next.table (probe_new env.geometry is.place port) in
-        rw is.there (answered env mix c call words G (locate_plan locate) held.holds_nothing held.holds_nothing None (FindNext (probing, Go)) (inl refl)
+        rw is.there (answered env mix c call words G (locate_plan locate) held.holds_nothing held.holds_nothing None (FindNext (probing, Go)) (inl refl) (still_has refl)
         (with_knowledge env mix c words G (locate_plan locate) held.holds_nothing held.holds_nothing (LocateKnows env mix c held.holds_nothing None Unlocked port (next, Done there)) (FindNext (probing, Go)) step
         (record {
           knowing = record {
@@ -188,14 +188,14 @@ module _ (env : Env) (mix : ℕ → ℕ → ℕ → ℕ) (c : ℕ) (port : ℕ) 
         → Moved env mix c words G (probe_plan probe) (at_lock (lock_of_probe probe.at)) (at_lock (probed_by (r.0.at, r.1))) (ProbeKnows env mix c held.holds_nothing None port table None words G all whole (r.0.at, r.1))
         → FindMoved (at.Probing table probe) (probed table r.0 r.1, Go)
     walked table probe (next, Go) key step =
-        answered env mix c call words G (probe_plan probe) (at_lock (lock_of_probe probe.at)) (at_lock (lock_of_probe next.at)) None (FindNext (at.Probing table next, Go)) (inl refl)
+        answered env mix c call words G (probe_plan probe) (at_lock (lock_of_probe probe.at)) (at_lock (lock_of_probe next.at)) None (FindNext (at.Probing table next, Go)) (inl refl) (still_has refl)
         (moved-map env mix c words G (probe_plan probe) (at_lock (lock_of_probe probe.at)) (at_lock (lock_of_probe next.at))
         (ProbeKnows env mix c held.holds_nothing None port table None words G all whole (next.at, Go)) (FindNext (at.Probing table next, Go))
         (λ M' G' w k. record { knowing = k.0; fits = (key, k.1) }) step)
     walked table probe (next, Done end) key step =
         let there = found_or_not table end.bucket end.seen.found in
         rw (seen_holds table end.bucket end.seen.found)
-        (answered env mix c call words G (probe_plan probe) (at_lock (lock_of_probe probe.at)) (at_lock (Some end.bucket.place)) None (FindNext (there, Go)) (inl refl)
+        (answered env mix c call words G (probe_plan probe) (at_lock (lock_of_probe probe.at)) (at_lock (Some end.bucket.place)) None (FindNext (there, Go)) (inl refl) (still_has refl)
         (moved-map env mix c words G (probe_plan probe) (at_lock (lock_of_probe probe.at)) (at_lock (Some end.bucket.place))
         (ProbeKnows env mix c held.holds_nothing None port table None words G all whole (next.at, Done end)) (FindNext (there, Go))
         (λ M' G' w k. seen_knows table end.bucket end.seen.before end.seen.found M' G' k) step))
@@ -206,7 +206,7 @@ module _ (env : Env) (mix : ℕ → ℕ → ℕ → ℕ) (c : ℕ) (port : ℕ) 
     future_next table bucket None unbound known =
         let none : now port ≡ [] = ap (owners_in env mix M) unbound in
         reads env mix c call words G (plan_at env (at.Future table bucket)) (held_of_find (at.Future table bucket)) (held_of_find (unlocking table bucket (Answer Missing))) (FindNext (unlocking table bucket (Answer Missing), Go)) whole refl refl
-        (learns env.config.kind c call now (plain Missing) (record { legal = inl (ap (λ owners. Some (plain (answers.find_reply owners))) none); leaves = λ p. refl }))
+        (learns env.config.kind c call None now (plain Missing) (record { replied = record { reply = tt; owners = refl; pairs = refl }; tells = refl }) (record { legal = inl (ap (λ owners. Some (plain (answers.find_reply owners))) none); leaves = λ p. refl }))
         (record {
           knowing = record { only = known.knowing.only; means = record { node = tt; table = tt; bucket = known.knowing.means.bucket.lock } };
           fits = tt;
@@ -253,7 +253,7 @@ module _ (env : Env) (mix : ℕ → ℕ → ℕ → ℕ) (c : ℕ) (port : ℕ) 
         let ends : list_followed table bucket owner (node_of env.geometry.nodes (M (Node node ListLink))) ≡ answer =
         ap (λ link. list_followed table bucket owner (node_of env.geometry.nodes link)) bound.1 in
         rw ends (reads env mix c call words G (plan_at env (at.ListLink table bucket node owner)) (held_of_find (at.ListLink table bucket node owner)) (held_of_find answer) (FindNext (answer, Go)) whole refl refl
-        (learns env.config.kind c call now (plain (Found owner)) (record {
+        (learns env.config.kind c call None now (plain (Found owner)) (record { replied = record { reply = tt; owners = refl; pairs = refl }; tells = refl }) (record {
           legal = inl (ap (λ owners. Some (plain (answers.find_reply owners))) bound.0 ∙ ap (λ o. Some (plain (Found o))) own.owner_is);
           leaves = λ p. refl;
         }))
@@ -264,12 +264,12 @@ module _ (env : Env) (mix : ℕ → ℕ → ℕ → ℕ) (c : ℕ) (port : ℕ) 
     find_step (at.LaterOwner table bucket node owner) is known = absurd known.fits
     find_step (at.Unlocking table unlock (Table next)) is known =
         answered env mix c call words G (plan_at env (at.Unlocking table unlock (Table next))) (held_of_find (at.Unlocking table unlock (Table next))) held.holds_nothing None
-        (FindNext (at.Locating (locate_new env.geometry next), Go)) (inl refl)
+        (FindNext (at.Locating (locate_new env.geometry next), Go)) (inl refl) (still_has refl)
         (moved-map env mix c words G (plan_at env (at.Unlocking table unlock (Table next))) (at_lock (Some unlock.place)) held.holds_nothing _ (FindNext (at.Locating (locate_new env.geometry next), Go)) (λ M' G' w k. record { knowing = k; fits = tt })
         (unlock_step env mix c held.holds_nothing None (Passes port next) words G all whole unlock.place unlock.word known.knowing))
     find_step (at.Unlocking table unlock (Answer reply)) is known =
         let told : Holding = record held.holds_nothing { answer = Some (plain reply) } in
         answered env mix c call words G (plan_at env (at.Unlocking table unlock (Answer reply))) (held_of_find (at.Unlocking table unlock (Answer reply))) told (Some (plain reply))
-        (FindNext (at.Unlocking table unlock (Answer reply), Done reply)) (keeps env.config.kind c call now (Some (plain reply)))
+        (FindNext (at.Unlocking table unlock (Answer reply), Done reply)) (inl (keeps (Some (plain reply)))) (still_has refl)
         (moved-map env mix c words G (plan_at env (at.Unlocking table unlock (Answer reply))) (record told { lock = Some unlock.place }) told _ (FindNext (at.Unlocking table unlock (Answer reply), Done reply)) (λ M' G' w k. k)
         (unlock_step env mix c told None Nowhere words G all whole unlock.place unlock.word known.knowing))

@@ -1,5 +1,5 @@
 -- The store that makes a node the first of its bucket's chain, and unlocks the bucket. From it on the port is bound.
-use Rattle.std.proofs.Common.{◌≡◌, ◌≢◌, ◌↔◌, ℕ, ◌+◌, ◌*◌, ◌/◌, ◌%◌, ◌<◌, List, [], ◌∷◌, Option, Some, None, true, false, refl, sym, ◌∙◌, ap, inl, inr, arith}
+use Rattle.std.proofs.Common.{◌≡◌, ◌≢◌, ◌↔◌, ℕ, ◌+◌, ◌*◌, ◌/◌, ◌%◌, ◌<◌, List, [], ◌∷◌, Option, Some, false, refl, sym, ◌∙◌, ap, inl, inr, arith}
 use Rattle.std.specs.Int.{bit_at}
 use Rattle.std.proofs.lemmas.Bool.Decides.{nat_tests}
 use Rattle.rht_words.specs.declared.env.Env.{Env}
@@ -10,42 +10,17 @@ use Rattle.rht_words.proofs.Memory.{Memory, IsWrite}
 use Rattle.rht_words.specs.Members.{In, NotIn}
 use Rattle.rht_words.proofs.Members.{not_in_from, count_below-more}
 use Rattle.rht_words.proofs.ChainLemmas.{IsSegment-members}
-use Rattle.rht_core.proofs.Theory.Ghosts.{put, put-same, put-other, put-all, Bucket, Free, Held, First, Ghost, is_first, held_not_first, held_by_one, table_at}
-use Rattle.rht_core.proofs.Theory.Wholes.{chain_of, key_of, place_at, IsHomeOf, BucketRight, IsFirstAt, IsBoundTo, Owned, ArenaRight, IsBuilt, Whole, firsts, raisers}
+use Rattle.rht_core.proofs.Theory.Ghosts.{put, put-same, put-other, put-all, Free, Held, First, Ghost, is_first, held_not_first, held_by_one, table_at}
+use Rattle.rht_core.proofs.Theory.Wholes.{chain_of, key_of, place_at, BucketRight, IsFirstAt, IsBoundTo, Owned, ArenaRight, IsBuilt, Whole, firsts, raisers}
 use Rattle.rht_core.proofs.Theory.Passed.{home-within}
-use Rattle.rht_core.proofs.Theory.Knowledge.{HasNode}
+use Rattle.rht_core.proofs.Theory.Readiness.{linked_bucket, linked, IsReady}
 use Rattle.rht_core.proofs.Theory.Frames.{Made, FirstsStay, firsts_stay, SameTables, same_tables, tables_stay, TablesRight-write, IsHomeOf-same, BucketRight-frame}
 
 module _ (env : Env) (mix : ℕ → ℕ → ℕ → ℕ) where
   head_of-link : (place n : ℕ) → head_of place (link_of n) ≡ link_of n
   head_of-link place n = grind (arith, nat_tests)
 
-  -- the bucket with a new first node, unlocked
-  abbrev pub linked_bucket : Bucket → ℕ → Bucket
-  linked_bucket b n = record b { nodes = n ∷ b.nodes; plain = link_of n; holder = None }
-
-  -- the node in its bucket's chain, and the port bound to it
-  abbrev pub linked : Ghost → ℕ → ℕ → ℕ → ℕ → Ghost
-  linked G d j n port = record G {
-    bucket = put G.bucket j (linked_bucket (G.bucket j) n);
-    node = put G.node n (First j);
-    bound = put G.bound port (n ∷ []);
-    raised = put G.raised d false;
-  }
-
-  -- what is known when a node is linked into a bucket: the caller has the node and the lock, and the port is bound nowhere
-  pub record IsReady (d n port j : ℕ) (M : Memory) (G : Ghost) : Type 0 where
-    pub low : d < env.geometry.callers
-    pub home_of : IsHomeOf env mix G port j
-    pub unbound : G.bound port ≡ []
-    pub has : HasNode env mix d G n
-    pub key : key_of M n ≡ port
-    pub list : M (Node n ListLink) ≡ 0
-    pub holder : (G.bucket j).holder ≡ Some d
-    pub chain : chain_of M n ≡ head_of (place_at env mix j) (G.bucket j).plain
-    pub raised : G.raised d ≡ true
-
-  module _ (d n port here : ℕ) (M M' : Memory) (G : Ghost) (whole : Whole env mix M G) (ready : IsReady d n port here M G)
+  module _ (d n port here : ℕ) (M M' : Memory) (G : Ghost) (whole : Whole env mix M G) (ready : IsReady env mix d n port here M G)
       (write : IsWrite env.geometry M M' (PageWord here) (link_of n)) where
     abbrev G' : Ghost
     G' = linked G d here n port

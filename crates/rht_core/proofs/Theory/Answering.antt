@@ -1,12 +1,17 @@
 -- What an operation of a call says about bindings: nothing, or the call's answer, which it is on what the words stand for then; or it
 -- changes the bindings as the call is to change them, and the answer is what the call says of the bindings before.
-use Rattle.std.proofs.Common.{◌≡◌, ◌≢◌, ◌⊎◌, ℕ, Option, Some, None, refl, sym, ◌∙◌, inl, inr}
+use Rattle.std.proofs.Common.{◌≡◌, ◌≢◌, ◌⊎◌, ◌↔◌, ℕ, Bool, false, [], Option, Some, None, refl, sym, ◌∙◌, subst, inl, inr}
+use Rattle.std.specs.Prelude.{IfSome}
 use Rattle.rht_words.specs.declared.config.Kind.{Kind}
 use Rattle.rht_model.specs.declared.history.Call.{Call}
+use Rattle.rht_model.specs.declared.history.Call.TheVariants.{Bind, Find, All, Release, Rebind, Walk, Work, Tidy, Count}
 use Rattle.rht_model.specs.declared.history.Entry.{Entry}
+use Rattle.rht_model.specs.declared.history.Reply.{Reply}
+use Rattle.rht_model.specs.declared.history.Reply.TheVariants.{Bound, Released, NoNode}
 use Rattle.rht_model.specs.Multimap.{Multimap, Agree}
 use Rattle.rht_model.specs.Answers.{Answer, port_of}
 use Rattle.rht_model.specs.Histories.{without_kick, IsAnswered, IsLegalAt, left_by}
+use Rattle.rht_core.specs.Replies.{IsReplyTo, AreOwnersWith, ArePairsWith}
 use Rattle.rht_model.proofs.Agreements.{Agree-sym, answer_of-Agree, left_by-Agree, IsLegalAt-answer_of}
 
 -- the entry of a call that is answered so
@@ -27,6 +32,98 @@ abbrev pub KeepsAnswer : Option Answer → Option Answer → Type 0
 KeepsAnswer None now = now ≡ None
 KeepsAnswer (Some was) None = ⊥
 KeepsAnswer (Some was) (Some now) = IsSameAnswer was now
+
+-- what is known stays
+pub keeps : (answer : Option Answer) → KeepsAnswer answer answer
+keeps None = refl
+keeps (Some answer) = record { reply = refl; owners = refl }
+
+-- what holds of the reply of a bind or a release whether or not `work` has something to do
+pub record IsKickAside (P : Reply → Type 0) : Type 0 where
+  pub bound : (kick other : Bool) → P (Bound kick) → P (Bound other)
+  pub released : (kick other : Bool) → P (Released kick) → P (Released other)
+
+aside-without : (P : Reply → Type 0) → IsKickAside P → (reply : Reply) → P reply → P (without_kick reply)
+aside-without P aside (Bound kick) is = aside.bound kick false is
+aside-without P aside (Released kick) is = aside.released kick false is
+aside-without P aside reply is = is
+
+aside-with : (P : Reply → Type 0) → IsKickAside P → (reply : Reply) → P (without_kick reply) → P reply
+aside-with P aside (Bound kick) is = aside.bound false kick is
+aside-with P aside (Released kick) is = aside.released false kick is
+aside-with P aside reply is = is
+
+-- holds of the same answer
+pub same_reply : (P : Reply → Type 0) → IsKickAside P → (was now : Answer) → IsSameAnswer was now → P was.reply → P now.reply
+same_reply P aside was now same is =
+    aside-with P aside now.reply (subst P (sym same.reply) (aside-without P aside was.reply is))
+
+-- a call that needs a node is answered that there was none exactly where it has none, and no other call has a node
+abbrev pub TellsNode : Call → Option ℕ → Reply → Type 0
+TellsNode (Bind port owner once) node reply = (node ≡ None) ↔ (reply ≡ NoNode)
+TellsNode (Find port) node reply = node ≡ None
+TellsNode (All port) node reply = node ≡ None
+TellsNode (Release port owner) node reply = node ≡ None
+TellsNode (Rebind port owner new) node reply = (node ≡ None) ↔ (reply ≡ NoNode)
+TellsNode (Walk from limit) node reply = node ≡ None
+TellsNode Work node reply = node ≡ None
+TellsNode Tidy node reply = node ≡ None
+TellsNode Count node reply = node ≡ None
+
+-- the reply is one of the call's, and the owners are those that come with it, without pairs
+pub record IsReplied (call : Call) (answer : Answer) : Type 0 where
+  pub reply : IsReplyTo call answer.reply
+  pub owners : AreOwnersWith answer.reply answer.owners
+  pub pairs : ArePairsWith answer.reply []
+
+-- the same answer is one of the call's as well
+IsReplyTo-aside : (call : Call) → IsKickAside (IsReplyTo call)
+IsReplyTo-aside (Bind port owner once) = record { bound = λ k l is. is; released = λ k l is. is }
+IsReplyTo-aside (Find port) = record { bound = λ k l is. is; released = λ k l is. is }
+IsReplyTo-aside (All port) = record { bound = λ k l is. is; released = λ k l is. is }
+IsReplyTo-aside (Release port owner) = record { bound = λ k l is. is; released = λ k l is. is }
+IsReplyTo-aside (Rebind port owner new) = record { bound = λ k l is. is; released = λ k l is. is }
+IsReplyTo-aside (Walk from limit) = record { bound = λ k l is. is; released = λ k l is. is }
+IsReplyTo-aside Work = record { bound = λ k l is. is; released = λ k l is. is }
+IsReplyTo-aside Tidy = record { bound = λ k l is. is; released = λ k l is. is }
+IsReplyTo-aside Count = record { bound = λ k l is. is; released = λ k l is. is }
+
+pub IsReplied-same : (call : Call) (was now : Answer) → IsSameAnswer was now → IsReplied call was → IsReplied call now
+IsReplied-same call was now same is = record {
+  reply = same_reply (IsReplyTo call) (IsReplyTo-aside call) was now same is.reply;
+  owners =
+      subst (AreOwnersWith now.reply) (sym same.owners)
+      (same_reply (λ reply. AreOwnersWith reply was.owners) (record { bound = λ k l is. is; released = λ k l is. is }) was now same is.owners);
+  pairs =
+      same_reply (λ reply. ArePairsWith reply []) (record { bound = λ k l is. is; released = λ k l is. is }) was now same is.pairs;
+}
+
+-- and it tells of a node as well
+no_node-aside : (A : Type 0) → IsKickAside (λ reply. A ↔ (reply ≡ NoNode))
+no_node-aside A = record {
+  bound = λ k l is. (λ a. absurd (let none = is.0 a in cc), λ none. absurd (cc));
+  released = λ k l is. (λ a. absurd (let none = is.0 a in cc), λ none. absurd (cc));
+}
+
+TellsNode-aside : (call : Call) (node : Option ℕ) → IsKickAside (TellsNode call node)
+TellsNode-aside (Bind port owner once) node = no_node-aside (node ≡ None)
+TellsNode-aside (Find port) node = record { bound = λ k l is. is; released = λ k l is. is }
+TellsNode-aside (All port) node = record { bound = λ k l is. is; released = λ k l is. is }
+TellsNode-aside (Release port owner) node = record { bound = λ k l is. is; released = λ k l is. is }
+TellsNode-aside (Rebind port owner new) node = no_node-aside (node ≡ None)
+TellsNode-aside (Walk from limit) node = record { bound = λ k l is. is; released = λ k l is. is }
+TellsNode-aside Work node = record { bound = λ k l is. is; released = λ k l is. is }
+TellsNode-aside Tidy node = record { bound = λ k l is. is; released = λ k l is. is }
+TellsNode-aside Count node = record { bound = λ k l is. is; released = λ k l is. is }
+
+pub TellsNode-same : (call : Call) (node : Option ℕ) (was now : Answer) → IsSameAnswer was now → TellsNode call node was.reply
+    → TellsNode call node now.reply
+TellsNode-same call node was now same is = same_reply (TellsNode call node) (TellsNode-aside call node) was now same is
+
+-- and it tells of the node that the call has
+pub record IsRight (call : Call) (node : Option ℕ) (answer : Answer) : Type 0 where
+  pub replied : IsReplied call answer
+  pub tells : TellsNode call node answer.reply
 
 module _ (kind : Kind) (c : ℕ) (call : Call) where
   -- the answer is legal on these bindings, and leaves them; or the call isn't about bindings
@@ -65,6 +162,28 @@ module _ (kind : Kind) (c : ℕ) (call : Call) where
   abbrev pub Says : Multimap → Multimap → Option Answer → Option Answer → Type 0
   Says before after was now = Stills before after was now ⊎ ChangesBindings before after was now
 
+  -- whatever is so of an answer when it is told, and of the same answer, is so of the one that is known after an operation
+  pub known_so : (So : Answer → Type 0) → ((was now : Answer) → IsSameAnswer was now → So was → So now)
+      → (before after : Multimap) (was now : Option Answer) → Says before after was now
+      → ((answer : Answer) → was ≡ None → now ≡ Some answer → So answer) → IfSome was So → IfSome now So
+  known_so So same before after was None says told so = tt
+  known_so So same before after None (Some now) says told so = told now refl refl
+  known_so So same before after (Some was) (Some now) (inl still) told so = elim still.said [
+    | inl keeps ↦ same was now keeps so
+    | inr learns ↦ absurd (let none = learns.unknown in cc)
+  ]
+  known_so So same before after (Some was) (Some now) (inr changes) told so = absurd (let none = changes.unknown in cc)
+
+  -- while none is known after it, none was before
+  pub unknown_before : (before after : Multimap) (was now : Option Answer) → Says before after was now → now ≡ None → was ≡ None
+  unknown_before before after None now says none = refl
+  unknown_before before after (Some was) (Some now) says none = absurd (cc)
+  unknown_before before after (Some was) None (inl still) none = elim still.said [
+    | inl keeps ↦ absurd keeps
+    | inr learns ↦ absurd (let unknown = learns.unknown in cc)
+  ]
+  unknown_before before after (Some was) None (inr changes) none = absurd (let unknown = changes.unknown in cc)
+
   -- ---- bindings that agree
 
   IsLegalOn-agree : (bindings same : Multimap) (answer : Answer) → Agree same bindings → IsLegalOn bindings answer
@@ -91,15 +210,30 @@ module _ (kind : Kind) (c : ℕ) (call : Call) where
     said = IsSaidOn-agree bindings same learns.answer agree learns.said;
   })
 
-  -- nothing was known, and nothing is
-  pub keeps_none : (bindings : Multimap) → SaysStill bindings None None
-  keeps_none bindings = inl refl
+  -- an operation that changes no bindings, of a call that has this node, keeps what is known of the answer, or tells it rightly
+  pub record LearnsRightly (node : Option ℕ) (bindings : Multimap) (was now : Option Answer) : Type 0 where
+    pub learns : LearnsAnswer bindings was now
+    pub right : IsRight call node learns.answer
 
-  -- what is known stays
-  pub keeps : (bindings : Multimap) (answer : Option Answer) → SaysStill bindings answer answer
-  keeps bindings None = inl refl
-  keeps bindings (Some answer) = inl (record { reply = refl; owners = refl })
+  abbrev pub Tells : Option ℕ → Multimap → Option Answer → Option Answer → Type 0
+  Tells node bindings was now = KeepsAnswer was now ⊎ LearnsRightly node bindings was now
+
+  pub told-says : (node : Option ℕ) (bindings : Multimap) (was now : Option Answer) → Tells node bindings was now
+      → SaysStill bindings was now
+  told-says node bindings was now (inl keeps) = inl keeps
+  told-says node bindings was now (inr tells) = inr tells.learns
+
+  -- what is told is right
+  pub told-right : (node : Option ℕ) (bindings : Multimap) (was now : Option Answer) → Tells node bindings was now
+      → (answer : Answer) → was ≡ None → now ≡ Some answer → IsRight call node answer
+  told-right node bindings was now (inl keeps) answer unknown known =
+      absurd (let none = subst (λ a. KeepsAnswer a now) unknown keeps in let both = sym none ∙ known in cc)
+  told-right node bindings was now (inr tells) answer unknown known =
+      let same : tells.learns.answer ≡ answer = let both = sym tells.learns.known ∙ known in cc in
+      subst (IsRight call node) same tells.right
 
   -- an answer is told that is legal on the bindings and leaves them
-  pub learns : (bindings : Multimap) (answer : Answer) → IsLegalOn bindings answer → SaysStill bindings None (Some answer)
-  learns bindings answer is = inr (record { unknown = refl; answer = answer; known = refl; said = inl is })
+  pub learns : (node : Option ℕ) (bindings : Multimap) (answer : Answer) → IsRight call node answer
+      → IsLegalOn bindings answer → Tells node bindings None (Some answer)
+  learns node bindings answer right is =
+      inr (record { learns = record { unknown = refl; answer = answer; known = refl; said = inl is }; right = right })

@@ -19,8 +19,8 @@ use Rattle.rht_arena.specs.Laws.{map_place, map_bit, IsTaking}
 use Rattle.rht_core.proofs.Theory.Ghosts.{Free, Held, Ghost, with_holder, with_owner, with_raised}
 use Rattle.rht_core.proofs.Theory.Wholes.{place_at, Whole}
 use Rattle.rht_core.proofs.Theory.Frames.{Made, still}
-use Rattle.rht_core.proofs.Theory.Answering.{SaysStill, SaysStill-agree, Says}
-use Rattle.rht_core.proofs.Moves.Linking.{linked, IsReady}
+use Rattle.rht_core.proofs.Theory.Answering.{SaysStill-agree, Says, IsRight, Tells, told-says, told-right}
+use Rattle.rht_core.proofs.Theory.Readiness.{linked, IsReady}
 
 -- What an operation does beside what it finds: nothing that others see, a node taken or given back, a lock taken or dropped,
 -- the count raised, or a node linked for a port into a bucket
@@ -50,6 +50,18 @@ Holding = held.Held Answer
 -- it holds the same, whatever is known of its answer
 abbrev pub HoldsSame : Holding → Holding → Type 0
 HoldsSame h h' = h' ≡ record h { answer = h'.answer }
+
+-- a call takes a node while its answer isn't known, and has one no more once it is
+pub record HasNodeInTime (h h' : Holding) : Type 0 where
+  pub taken : (node : ℕ) → h.node ≡ None → h'.node ≡ Some node → h'.answer ≡ None
+  pub gone : (node : ℕ) → h.node ≡ Some node → h'.node ≡ None → h'.answer ≢ None
+
+-- it has the node that it had, or none as before
+pub still_has : {h h' : Holding} → h'.node ≡ h.node → HasNodeInTime h h'
+still_has same = record {
+  taken = λ node none some. absurd (cc);
+  gone = λ node some none. absurd (cc);
+}
 
 -- the operation leaves each bit of the word that it found
 abbrev pub LeavesBits : Op → ℕ → Type 0
@@ -113,7 +125,7 @@ module _ (env : Env) (mix : ℕ → ℕ → ℕ → ℕ) where
   ghost_after c (TakesLock j) G = with_holder G j (Some c)
   ghost_after c (DropsLock j) G = with_holder G j None
   ghost_after c Raises G = with_raised G c true
-  ghost_after c (Links n port j) G = linked env mix G c j n port
+  ghost_after c (Links n port j) G = linked G c j n port
 
   -- the words as a memory
   abbrev pub mem : List ℕ → Memory
@@ -154,6 +166,8 @@ module _ (env : Env) (mix : ℕ → ℕ → ℕ → ℕ) where
     pub made : Made env mix c (mem words) G (mem (applied words op)) (ghost_after c move G)
     pub does : Does move op (old_of words op) h h'
     pub says : Says env.config.kind c call (owners (mem words) G) (owners (mem (applied words op)) (ghost_after c move G)) h.answer h'.answer
+    pub right : (answer : Answer) → h.answer ≡ None → h'.answer ≡ Some answer → IsRight call h.node answer
+    pub in_time : HasNodeInTime h h'
     pub knows : Knows (mem (applied words op)) (ghost_after c move G)
 
   -- the same step with more said of what the caller knows
@@ -166,6 +180,8 @@ module _ (env : Env) (mix : ℕ → ℕ → ℕ → ℕ) where
     made = step.made;
     does = step.does;
     says = step.says;
+    right = step.right;
+    in_time = step.in_time;
     knows = more (mem (applied words op)) (ghost_after c step.move G) step.made.whole step.knows;
   }
 
@@ -304,9 +320,9 @@ module _ (env : Env) (mix : ℕ → ℕ → ℕ → ℕ) where
   -- an operation that leaves bindings is a step, with what it says of the answer on the bindings as they are
   pub answered : (c : ℕ) (call : Call) (words : List ℕ) (G : Ghost) (op : Op) (h h' : Holding) (answer : Option Answer)
       (Knows : Memory → Ghost → Type 0)
-      → SaysStill env.config.kind c call (owners (mem words) G) h.answer answer
+      → Tells env.config.kind c call h.node (owners (mem words) G) h.answer answer → HasNodeInTime h (with_answer h' answer)
       → Moved c words G op h h' Knows → Step c call words G op h (with_answer h' answer) Knows
-  answered c call words G op h h' answer Knows says step = record {
+  answered c call words G op h h' answer Knows tells in_time step = record {
     move = step.move;
     ready = step.ready;
     made = step.made;
@@ -314,16 +330,28 @@ module _ (env : Env) (mix : ℕ → ℕ → ℕ → ℕ) where
     says = inl (record {
       agree = step.agree;
       said = SaysStill-agree env.config.kind c call (owners (mem words) G) (owners (mem (applied words op)) (ghost_after c step.move G))
-          h.answer answer step.agree says;
+          h.answer answer step.agree (told-says env.config.kind c call h.node (owners (mem words) G) h.answer answer tells);
     });
+    right = told-right env.config.kind c call h.node (owners (mem words) G) h.answer answer tells;
+    in_time = in_time;
     knows = step.knows;
   }
 
   -- a load, after which nothing more is known of the answer, or it is told
   pub reads : (c : ℕ) (call : Call) (words : List ℕ) (G : Ghost) (op : Op) (h h' : Holding) (Knows : Memory → Ghost → Type 0)
       → Whole env mix (mem words) G → word_after (old_of words op) op ≡ old_of words op → HoldsSame h h'
-      → SaysStill env.config.kind c call (owners (mem words) G) h.answer h'.answer → Knows (mem words) G
+      → Tells env.config.kind c call h.node (owners (mem words) G) h.answer h'.answer → Knows (mem words) G
       → Step c call words G op h h' Knows
-  reads c call words G op h h' Knows whole same holds says knows =
-      let step = answered c call words G op h h' h'.answer Knows says (loads c words G op h h' Knows whole same holds knows) in
-      record { move = step.move; ready = step.ready; made = step.made; does = step.does; says = step.says; knows = step.knows }
+  reads c call words G op h h' Knows whole same holds tells knows =
+      let step = answered c call words G op h h' h'.answer Knows tells (still_has (ap (λ (x : Holding). x.node) holds))
+      (loads c words G op h h' Knows whole same holds knows) in
+      record {
+        move = step.move;
+        ready = step.ready;
+        made = step.made;
+        does = step.does;
+        says = step.says;
+        right = step.right;
+        in_time = record { taken = step.in_time.taken; gone = step.in_time.gone };
+        knows = step.knows;
+      }

@@ -1,4 +1,4 @@
-use Rattle.rht_core.proofs.FirstNodes.{chain-here, chain-past}
+use Rattle.rht_core.proofs.Meaning.FirstNodes.{chain-here, chain-past}
 use Rattle.rht_core.proofs.bound.first_in_bucket.Goals as goal
 
 pub returns-then-words-key-clause-first : goal.returns-then-words-key-clause-first

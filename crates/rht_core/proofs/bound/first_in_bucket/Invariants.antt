@@ -1,7 +1,7 @@
 use Rattle.std.proofs.Common.{◌≡◌, ◌<◌, ◌-◌, Some, IfSome}
 use Rattle.std.specs.List.{find}
 use Rattle.rht_core.specs.StandsFor.{bucket_nodes, has_key}
-use Rattle.rht_core.proofs.FirstNodes.{first_left}
+use Rattle.rht_core.proofs.Meaning.FirstNodes.{first_left}
 use Rattle.rht_core.proofs.bound.first_in_bucket.Given as goal
 
 -- the first node with the key in what is left of the chain is the first in the bucket

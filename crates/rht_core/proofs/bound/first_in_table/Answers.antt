@@ -1,6 +1,6 @@
 use Rattle.std.proofs.Common.{◌<◌, sym, ◌∙◌, ap, subst}
 use Rattle.rht_words.specs.Shapes.{size_of}
-use Rattle.rht_core.proofs.FirstNodes.{buckets-here, buckets-past}
+use Rattle.rht_core.proofs.Meaning.FirstNodes.{buckets-here, buckets-past}
 use Rattle.rht_core.proofs.bound.first_in_table.Goals as goal
 
 pub returns-then-is_some-clause-first : goal.returns-then-is_some-clause-first

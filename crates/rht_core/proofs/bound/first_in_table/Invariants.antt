@@ -2,7 +2,7 @@ use Rattle.std.proofs.Common.{◌≡◌}
 use Rattle.std.specs.List.{find}
 use Rattle.rht_words.specs.Shapes.{size_of, unpacked}
 use Rattle.rht_core.specs.StandsFor.{table_nodes, has_key}
-use Rattle.rht_core.proofs.FirstNodes.{first_of_buckets}
+use Rattle.rht_core.proofs.Meaning.FirstNodes.{first_of_buckets}
 use Rattle.rht_core.proofs.bound.first_in_table.Given as goal
 
 -- the first node with the key in the buckets from this one on is the first in the table

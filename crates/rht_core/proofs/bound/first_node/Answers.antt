@@ -2,7 +2,7 @@ use Rattle.std.proofs.Common.{sym, ◌∙◌, ap}
 use Rattle.std.specs.List.{find}
 use Rattle.rht_words.specs.Ports.{word_of}
 use Rattle.rht_core.specs.StandsFor.{table_nodes, has_key}
-use Rattle.rht_core.proofs.FirstNodes.{tables-here, tables-past, tables-none}
+use Rattle.rht_core.proofs.Meaning.FirstNodes.{tables-here, tables-past, tables-none}
 use Rattle.rht_core.proofs.bound.first_node.Goals as goal
 
 pub returns-in_default-clause-first : goal.returns-in_default-clause-first

@@ -1,7 +1,7 @@
 use Rattle.std.proofs.Common.{◌≡◌, ◌<◌, ◌-◌, IfSome}
 use Rattle.rht_words.specs.Ports.{word_of}
 use Rattle.rht_core.specs.StandsFor.{first_node}
-use Rattle.rht_core.proofs.FirstNodes.{first_of_tables}
+use Rattle.rht_core.proofs.Meaning.FirstNodes.{first_of_tables}
 use Rattle.rht_core.proofs.bound.first_node.Given as goal
 
 -- the first node of the port in the tables that are left is the first of all

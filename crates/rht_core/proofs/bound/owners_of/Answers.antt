@@ -1,4 +1,4 @@
-use Rattle.rht_core.proofs.FirstNodes.{owners-past, owners-none}
+use Rattle.rht_core.proofs.Meaning.FirstNodes.{owners-past, owners-none}
 use Rattle.rht_core.proofs.bound.owners_of.Goals as goal
 
 pub returns-in_default : goal.returns-in_default

@@ -1,4 +1,4 @@
-use Rattle.rht_core.proofs.StepsInTraces.{all_steps_traced}
+use Rattle.rht_core.proofs.Tracing.StepsInTraces.{all_steps_traced}
 use Rattle.rht_core.proofs.laws.all_steps_traced.Goals as goal
 
 pub returns : goal.returns

@@ -1,4 +1,4 @@
-use Rattle.rht_core.proofs.AloneLaw.{alone}
+use Rattle.rht_core.proofs.Histories.AloneLaw.{alone}
 use Rattle.rht_core.proofs.laws.alone.Goals as goal
 
 pub returns : goal.returns

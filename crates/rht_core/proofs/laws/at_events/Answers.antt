@@ -1,4 +1,4 @@
-use Rattle.rht_core.proofs.TracesAtEvents.{at_events}
+use Rattle.rht_core.proofs.Tracing.TracesAtEvents.{at_events}
 use Rattle.rht_core.proofs.laws.at_events.Goals as goal
 
 pub returns : goal.returns

@@ -1,4 +1,4 @@
-use Rattle.rht_core.proofs.Counts.{at_rest}
+use Rattle.rht_core.proofs.Counting.CountedRuns.{at_rest}
 use Rattle.rht_core.proofs.laws.at_rest.Goals as goal
 
 pub returns : goal.returns

@@ -1,4 +1,4 @@
-use Rattle.rht_core.proofs.CausesInRuns.{causes}
+use Rattle.rht_core.proofs.Reasons.CausesInRuns.{causes}
 use Rattle.rht_core.proofs.laws.causes.Goals as goal
 
 pub returns : goal.returns

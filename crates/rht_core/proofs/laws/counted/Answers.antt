@@ -1,4 +1,4 @@
-use Rattle.rht_core.proofs.Counts.{counted}
+use Rattle.rht_core.proofs.Counting.CountedRuns.{counted}
 use Rattle.rht_core.proofs.laws.counted.Goals as goal
 
 pub returns : goal.returns

@@ -1,4 +1,4 @@
-use Rattle.rht_core.proofs.RangesInRuns.{enrolled}
+use Rattle.rht_core.proofs.Events.RangesInRuns.{enrolled}
 use Rattle.rht_core.proofs.laws.enrolled.Goals as goal
 
 pub returns : goal.returns

@@ -1,4 +1,4 @@
-use Rattle.rht_core.proofs.Worlds.{extends}
+use Rattle.rht_core.proofs.Events.Worlds.{extends}
 use Rattle.rht_core.proofs.laws.extends.Goals as goal
 
 pub returns : goal.returns

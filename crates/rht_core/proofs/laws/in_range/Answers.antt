@@ -1,4 +1,4 @@
-use Rattle.rht_core.proofs.RangesInRuns.{in_range}
+use Rattle.rht_core.proofs.Events.RangesInRuns.{in_range}
 use Rattle.rht_core.proofs.laws.in_range.Goals as goal
 
 pub returns : goal.returns

@@ -1,4 +1,4 @@
-use Rattle.rht_core.proofs.CallersNotEnrolled.{not_enrolled}
+use Rattle.rht_core.proofs.Events.CallersNotEnrolled.{not_enrolled}
 use Rattle.rht_core.proofs.laws.not_enrolled.Goals as goal
 
 pub returns : goal.returns

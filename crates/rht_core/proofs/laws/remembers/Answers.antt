@@ -1,4 +1,4 @@
-use Rattle.rht_core.proofs.TracesInRuns.{remembers}
+use Rattle.rht_core.proofs.Tracing.TracesInRuns.{remembers}
 use Rattle.rht_core.proofs.laws.remembers.Goals as goal
 
 pub returns : goal.returns

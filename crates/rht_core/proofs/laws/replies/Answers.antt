@@ -1,4 +1,4 @@
-use Rattle.rht_core.proofs.RepliesInRuns.{replies}
+use Rattle.rht_core.proofs.Tracing.RepliesInRuns.{replies}
 use Rattle.rht_core.proofs.laws.replies.Goals as goal
 
 pub returns : goal.returns

@@ -1,4 +1,4 @@
-use Rattle.rht_core.proofs.NodesTaken.{taken_alone}
+use Rattle.rht_core.proofs.Counting.NodesTaken.{taken_alone}
 use Rattle.rht_core.proofs.laws.taken_alone.Goals as goal
 
 pub returns : goal.returns

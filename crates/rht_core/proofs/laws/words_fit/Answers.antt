@@ -1,4 +1,4 @@
-use Rattle.rht_core.proofs.RangesInRuns.{words_fit}
+use Rattle.rht_core.proofs.Events.RangesInRuns.{words_fit}
 use Rattle.rht_core.proofs.laws.words_fit.Goals as goal
 
 pub returns : goal.returns

@@ -1,5 +1,5 @@
 use Rattle.std.proofs.Common.{◌∙◌}
-use Rattle.rht_core.proofs.OpenedStates.{opening_words-more}
+use Rattle.rht_core.proofs.Events.OpenedStates.{opening_words-more}
 use Rattle.rht_core.proofs.state.opening_words.Goals as goal
 
 pub loop-place-preserved : goal.loop-place-preserved

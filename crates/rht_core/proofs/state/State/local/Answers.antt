@@ -1,7 +1,7 @@
 use Rattle.std.proofs.Common.{◌<◌, ◌≤◌, ap, ◌∙◌, arith, subst, sym}
 use Rattle.rht_core.specs.Locals.{is_idle}
 use Rattle.rht_core.specs.Runs.{Core, local_of}
-use Rattle.rht_core.proofs.ReachedStates.{place-reached, read-reached, idle-reached}
+use Rattle.rht_core.proofs.Events.ReachedStates.{place-reached, read-reached, idle-reached}
 use Rattle.rht_core.proofs.state.State.local.Goals as goal
 
 pub index-requires : goal.index-requires

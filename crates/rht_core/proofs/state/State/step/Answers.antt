@@ -1,6 +1,6 @@
 use Rattle.std.proofs.Common.{rules, subst, sym}
 use Rattle.rht_core.specs.Runs.{Core, IsAdmittedEvent, IsBuiltEvent}
-use Rattle.rht_core.proofs.ReachedStates.{IsSound-reached, IsReached-more}
+use Rattle.rht_core.proofs.Events.ReachedStates.{IsSound-reached, IsReached-more}
 use Rattle.rht_core.proofs.state.State.step.Goals as goal
 
 pub perform-requires : goal.perform-requires

@@ -13,7 +13,7 @@ use Rattle.rht_core.specs.declared.local.Doing.{Doing}
 use Rattle.rht_core.specs.Locals.{local_after, ending_of}
 use Rattle.rht_core.specs.Runs.{World, local_of, beginning_in, planned_in, run_from, run_of, opening}
 use Rattle.rht_core.specs.Traces.{Trace, Traced, trace_begun, trace_did, traces_begun, traces_stepped, traces_after, traced_step, traced_from, traced_of}
-use Rattle.rht_core.proofs.Worlds.{induct_by_last, changed-same, changed-other}
+use Rattle.rht_core.proofs.Events.Worlds.{induct_by_last, changed-same, changed-other}
 
 -- ---- runs
 

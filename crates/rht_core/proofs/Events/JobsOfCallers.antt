@@ -25,7 +25,7 @@ use Rattle.rht_core.specs.declared.local.Doing.{Doing}
 use Rattle.rht_core.specs.declared.local.Doing.TheVariants.{Idle, Finding, Binding}
 use Rattle.rht_core.specs.Locals.{does_nothing, machine_of, doing_plan, doing_after, local_after, ending_of, found_next, bound_next, IsDoingOf, IsLocalOf}
 use Rattle.rht_core.specs.Jobs.{Job, finds, binds, call_of, first_job, first_bind, job_plan, job_after, finds_next, binds_next, job_of, told, held_of}
-use Rattle.rht_core.proofs.CallBeginnings.{begins_so}
+use Rattle.rht_core.proofs.Events.CallBeginnings.{begins_so}
 
 -- there is no job
 abbrev pub is_no_job : Option Job → Bool
@@ -73,6 +73,17 @@ pub first_unknown : (env : Env) (call : Call) (job : Job) → first_job env call
 first_unknown env (Find port) job is = let here : finds port CurrentTable ≡ job = cc in ap (λ j. (held_of j).answer) (sym here)
 first_unknown env (Bind port owner once) job is = first_bind-unknown env port owner once env.config.kind job is
 first_unknown env _ job is = absurd (cc)
+
+-- and it has no node
+first_bind-without : (env : Env) (port owner : ℕ) (once : Bool) (kind : Kind) (job : Job)
+    → first_bind env port owner once kind ≡ Some job → (held_of job).node ≡ None
+first_bind-without env port owner once Single job is = let here : binds port owner once (bind.first_state env port owner) ≡ job = cc in ap (λ j. (held_of j).node) (sym here)
+first_bind-without env port owner once Listed job is = absurd (cc)
+
+pub first_without : (env : Env) (call : Call) (job : Job) → first_job env call ≡ Some job → (held_of job).node ≡ None
+first_without env (Find port) job is = let here : finds port CurrentTable ≡ job = cc in ap (λ j. (held_of j).node) (sym here)
+first_without env (Bind port owner once) job is = first_bind-without env port owner once env.config.kind job is
+first_without env _ job is = absurd (cc)
 
 -- the job that is left of what a caller does is the one that is left of its job
 module _ (M : Type 0) where

@@ -39,9 +39,9 @@ use Rattle.rht_core.specs.declared.local.Doing.TheVariants.{Idle, Finding, Bindi
 use Rattle.rht_core.specs.Locals.{fresh, machine_of, begin_with, doing_plan, plan_of, doing_after, local_after, found_next, bound_next}
 use Rattle.rht_core.specs.Runs.{Core, World, local_of, beginning_in, with_machine, planned_in, with_step, enrolling, world_step, run_of, opening, IsAdmitted, IsAdmittedCall, IsAdmittedEvent}
 use Rattle.rht_core.specs.Laws.{IsDoingIn, IsLocalIn, InRange, WordsFit, IsOfCaller, IsEnrolledKept, Enrolled}
-use Rattle.rht_core.proofs.CallBeginnings.{begins_so}
-use Rattle.rht_core.proofs.Worlds.{beginning-some, planned-some, run_of-push, run_keeps_admitted}
-use Rattle.rht_core.proofs.SoundRuns.{StaysIn, opens-in, stays-in, has_place, made_in, step-count, IsSound-stays}
+use Rattle.rht_core.proofs.Events.CallBeginnings.{begins_so}
+use Rattle.rht_core.proofs.Events.Worlds.{beginning-some, planned-some, run_of-push, run_keeps_admitted}
+use Rattle.rht_core.proofs.Events.SoundRuns.{StaysIn, opens-in, stays-in, has_place, made_in, step-count, IsSound-stays}
 
 -- ---- at opening
 

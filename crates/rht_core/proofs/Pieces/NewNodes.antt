@@ -17,7 +17,7 @@ use Rattle.rht_words.proofs.Memory.{Memory, IsWrite, is_write}
 use Rattle.rht_arena.specs.TakeNode.{TakeNodeModel, take_node_plan, take_node_after, next_word, claim_in, claim_among, IsTakeAtIn, IsTakeIn}
 use Rattle.rht_arena.specs.declared.take_node.TakeNodeAt.{TakeNodeAt}
 use Rattle.rht_arena.specs.declared.take_node.TakeNodeAt.TheVariants as takes
-use Rattle.rht_arena.specs.NewNode.{NewNodeModel, new_node_plan, new_node_after, node_of_new, node_taken, IsNewNodeIn}
+use Rattle.rht_arena.specs.NewNode.{NewNodeModel, new_node_plan, new_node_after, new_node_after_at, node_of_new, node_taken, IsNewNodeIn}
 use Rattle.rht_arena.specs.declared.new_node.NewNodeAt.{NewNodeAt}
 use Rattle.rht_arena.specs.declared.new_node.NewNodeAt.TheVariants as news
 use Rattle.rht_arena.proofs.TakenWereFree.{claims}
@@ -26,7 +26,7 @@ use Rattle.rht_core.proofs.Theory.Wholes.{Whole}
 use Rattle.rht_core.proofs.Theory.Knowledge.{KnownNode, KnownTable, KnownBucket, NodeMeans, TableMeans, Knowing, TableMeans-stay, BucketMeans-stay}
 use Rattle.rht_core.proofs.Theory.Frames.{same_tables, tables_stay}
 use Rattle.rht_core.proofs.Theory.Steps.{Quiet, TakesNode, GivesNode, by_test, Holding, mem, Moved, moved, loads}
-use Rattle.rht_core.proofs.Moves.Nodes.{fill, take_node, give_node, retouch}
+use Rattle.rht_core.proofs.Moves.TakenNodes.{fill, take_node, give_node, retouch}
 
 -- a node of which no word is known
 abbrev pub bare : ℕ → KnownNode
@@ -63,6 +63,13 @@ known_at key owner (news.ListLink node) = Some (with_word (with_word (bare node)
 abbrev pub made_by : NewNodeAt × Next (Option ℕ) → Option ℕ
 made_by (at, Go) = node_of_new at
 made_by (at, Done made) = made
+
+-- who ends without a node, or goes on without one, had none
+pub made_none : (state : NewNodeAt) (word : ℕ) → made_by (new_node_after_at state word) ≡ None → node_of_new state ≡ None
+made_none (news.Taking take) word none = refl
+made_none (news.Key node) word none = absurd (cc)
+made_none (news.Owner node) word none = absurd (cc)
+made_none (news.ListLink node) word none = absurd (cc)
 
 abbrev pub known_made : ℕ → ℕ → NewNodeAt × Next (Option ℕ) → Option KnownNode
 known_made key owner (at, Go) = known_at key owner at

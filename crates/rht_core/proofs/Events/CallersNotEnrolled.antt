@@ -13,10 +13,10 @@ use Rattle.rht_core.specs.declared.event.Event.TheVariants.{Enroll, Begin, Step}
 use Rattle.rht_core.specs.declared.local.Local.{Local}
 use Rattle.rht_core.specs.declared.local.Doing.{Doing}
 use Rattle.rht_core.specs.Locals.{fresh}
-use Rattle.rht_core.specs.Runs.{World, Seen, seen, new_book, beginning_in, planned_in, enrolling, enrolled_after, world_step, run_of, opening}
+use Rattle.rht_core.specs.Runs.{World, View, view_of, new_book, beginning_in, planned_in, enrolling, enrolled_after, world_step, run_of, opening}
 use Rattle.rht_core.specs.Laws.{NotEnrolled}
-use Rattle.rht_core.proofs.Worlds.{beginning-some, planned-some, begin_none, begin_other, step_none, step_other, run_keeps}
-use Rattle.rht_core.proofs.SoundRuns.{step-count}
+use Rattle.rht_core.proofs.Events.Worlds.{beginning-some, planned-some, begin_none, begin_other, step_none, step_other, run_keeps}
+use Rattle.rht_core.proofs.Events.SoundRuns.{step-count}
 
 -- an enrolling takes no caller away
 enrolled_after-rises : (env : Env) (enrolled old : ℕ) → enrolled ≤ enrolled_after env enrolled old
@@ -27,7 +27,7 @@ enrolled_after-rises env enrolled old =
 module _ (M : Type 0) (mix : ℕ → ℕ → ℕ → ℕ) (env : Env) where
   -- it is in no call and has made none
   abbrev IsFresh : World M → ℕ → Type 0
-  IsFresh w c = seen w c ≡ record { local = fresh env; book = new_book }
+  IsFresh w c = view_of w c ≡ record { local = fresh env; book = new_book }
 
   abbrev OthersFresh : World M → Type 0
   OthersFresh w = (c : ℕ) → w.core.enrolled ≤ c → IsFresh w c
@@ -36,7 +36,7 @@ module _ (M : Type 0) (mix : ℕ → ℕ → ℕ → ℕ) (env : Env) where
       → beginning_in w.core c call ≡ machine → OthersFresh w
       → (k : ℕ) → w.core.enrolled ≤ k → IsFresh (world_step mix w (Begin c call)) k
   begins-fresh w c call None is fresh k past =
-      ap (λ (v : World M). seen v k) (begin_none M mix w c call is) ∙ fresh k past
+      ap (λ (v : World M). view_of v k) (begin_none M mix w c call is) ∙ fresh k past
   begins-fresh w c call (Some machine) is fresh k past =
       let can = beginning-some w.core.env w.core.enrolled w.core.locals c call machine is in
       begin_other M mix w c call k (λ same. omega (arith, can.below)) ∙ fresh k past
@@ -44,7 +44,7 @@ module _ (M : Type 0) (mix : ℕ → ℕ → ℕ → ℕ) (env : Env) where
   steps-fresh : (w : World M) (c : ℕ) (op : Option Op) → planned_in w.core c ≡ op
       → OthersFresh w
       → (k : ℕ) → w.core.enrolled ≤ k → IsFresh (world_step mix w (Step c)) k
-  steps-fresh w c None is fresh k past = ap (λ (v : World M). seen v k) (step_none M mix w c is) ∙ fresh k past
+  steps-fresh w c None is fresh k past = ap (λ (v : World M). view_of v k) (step_none M mix w c is) ∙ fresh k past
   steps-fresh w c (Some op) is fresh k past =
       let can = planned-some w.core.env w.core.enrolled w.core.locals c op is in
       step_other M mix w c k (λ same. omega (arith, can.below)) ∙ fresh k past
@@ -60,7 +60,7 @@ module _ (M : Type 0) (mix : ℕ → ℕ → ℕ → ℕ) (env : Env) where
       steps-fresh w c (planned_in w.core c) refl fresh k (omega (arith, count, past))
 
   -- what a caller sees that does this and has made no call
-  abbrev alone : Local M → Seen M
+  abbrev alone : Local M → View M
   alone local = record { local = local; book = new_book }
 
   pub all-fresh : (events : List Event) → OthersFresh (run_of mix env events)

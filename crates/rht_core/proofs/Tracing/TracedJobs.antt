@@ -8,8 +8,6 @@ use Rattle.std.proofs.Common.{◌≡◌, ℕ, Bool, true, false, cond, List, [],
 use Rattle.std.specs.Prelude.{Option, Some, None}
 use Rattle.std.specs.List.{AllByRecursion, last_or}
 use Rattle.rht_words.specs.declared.env.Env.{Env}
-use Rattle.rht_words.specs.declared.config.Kind.{Kind}
-use Rattle.rht_words.specs.declared.config.Kind.TheVariants.{Single, Listed}
 use Rattle.rht_words.specs.declared.machine.Next.{Next}
 use Rattle.rht_words.specs.declared.machine.Next.TheVariants.{Go, Done}
 use Rattle.rht_words.specs.Machines.{GoesOrEnds}
@@ -17,30 +15,24 @@ use Rattle.rht_words.specs.Operations.{old_of}
 use Rattle.rht_words.specs.Places.{words_in}
 use Rattle.rht_words.proofs.EachElement.{AllByRecursion-push, last_or-push}
 use Rattle.rht_model.specs.declared.history.Call.{Call}
-use Rattle.rht_model.specs.declared.history.Call.TheVariants.{Bind, Find}
 use Rattle.rht_model.specs.declared.history.Reply.{Reply}
-use Rattle.rht_model.specs.Endings.{Ending, ended_with, ending_in, plain_ending}
-use Rattle.rht_find.specs.Find as find
-use Rattle.rht_find.specs.declared.find.FindAt.{FindAt}
-use Rattle.rht_find.specs.declared.find.FindAt.TheVariants.{CurrentTable}
-use Rattle.rht_bind.specs.Bind as bind
-use Rattle.rht_bind.specs.declared.bind.BindAt.{BindAt}
+use Rattle.rht_model.specs.Endings.{Ending, ended_with, ending_in}
 use Rattle.rht_core.specs.declared.event.Event.{Event}
 use Rattle.rht_core.specs.declared.book.Book.{Book}
 use Rattle.rht_core.specs.declared.local.Local.{Local}
 use Rattle.rht_core.specs.declared.local.Doing.{Doing}
 use Rattle.rht_core.specs.Locals.{is_idle, machine_of, local_after, ending_of}
-use Rattle.rht_core.specs.Jobs.{Job, finds, binds, call_of, first_bind, first_job, job_plan, finds_next, binds_next, job_after, job_of, told, held_of, held_next}
-use Rattle.rht_core.specs.Runs.{Seen, IsAdmitted, seen, book_begun, book_after, finished_with}
+use Rattle.rht_core.specs.Jobs.{Job, call_of, first_job, job_plan, job_after, job_of, told, held_of, held_next}
+use Rattle.rht_core.specs.Runs.{View, IsAdmitted, view_of, book_begun, book_after, finished_with}
 use Rattle.rht_core.specs.Traces.{Did, Past, Trace, Traced, trace_begun, trace_did, traced_of}
 use Rattle.rht_core.specs.Replies.{IsBookOfIdle, owners_with, pairs_with, HasLists}
-use Rattle.rht_core.specs.Laws.{seen_begin, seen_step}
-use Rattle.rht_core.proofs.JobsOfCallers.{is_no_job, has_ended, HasNoLists, same_call, left-told, nothing-job, first_job-machine, local_after-job}
+use Rattle.rht_core.specs.Laws.{view_begun, view_stepped}
+use Rattle.rht_core.proofs.Events.JobsOfCallers.{is_no_job, has_ended, HasNoLists, same_call, left-told, nothing-job, first_job-machine, local_after-job}
 use Rattle.rht_core.proofs.Theory.Ghosts.{Ghost}
 use Rattle.rht_core.proofs.Theory.Wholes.{Whole}
 use Rattle.rht_core.proofs.Theory.Steps.{mem, Step}
 use Rattle.rht_core.proofs.Machines.JobSteps.{JobIn, JobKnows, JobNext}
-use Rattle.rht_core.proofs.TracedCallers.{IsMade, IsKeptTraced, traced_callers_keep}
+use Rattle.rht_core.proofs.Tracing.TracedCallers.{IsMade, IsKeptTraced, traced_callers_keep}
 
 -- ---- the calls of a book
 
@@ -175,7 +167,7 @@ module _ (M : Type 0) (mix : ℕ → ℕ → ℕ → ℕ) (env : Env) (Now : Job
     IsAtJob (Some job) book steps = IsAtWork job book steps
 
     -- what a caller keeps
-    pub record IsKeeping (here : Seen M) (trace : Trace) : Type 0 where
+    pub record IsKeeping (here : View M) (trace : Trace) : Type 0 where
       pub past : AllByRecursion IsEndedSo trace.past
       pub now : IsAtJob (job_of here.local.doing) here.book trace.steps
       pub lists : HasLists here.local here.book
@@ -183,9 +175,9 @@ module _ (M : Type 0) (mix : ℕ → ℕ → ℕ → ℕ) (env : Env) (Now : Job
     -- ---- the beginning of a call
 
     module _ (keep : JobsKeep) where
-      begins-keeping : (c : ℕ) (call : Call) (machine : Doing M) (index : ℕ) (here : Seen M) (trace : Trace)
+      begins-keeping : (c : ℕ) (call : Call) (machine : Doing M) (index : ℕ) (here : View M) (trace : Trace)
           → machine_of env c call ≡ Some machine → IsKeeping here trace
-          → IsKeeping (seen_begin call machine here) (trace_begun index trace)
+          → IsKeeping (view_begun call machine here) (trace_begun index trace)
       begins-keeping c call machine index here trace is keeping =
           let first = first_job-machine env c call machine is in
           let busy = nothing-job machine ∙ ap is_no_job first.does in
@@ -224,10 +216,10 @@ module _ (M : Type 0) (mix : ℕ → ℕ → ℕ → ℕ) (env : Env) (Now : Job
             now = record { call = refl; steps = refl };
           }
 
-      steps-keeping : (events : List Event) (c : ℕ) (did : Did) (here : Seen M) (trace : Trace)
+      steps-keeping : (events : List Event) (c : ℕ) (did : Did) (here : View M) (trace : Trace)
           → IsMade M mix env events c here.local did → IsKeeping here trace
           → let next = local_after mix here.local did.old in
-          IsKeeping (seen_step mix did.old here) (trace_did here.book.call did (ending_of next.0 next.1) trace)
+          IsKeeping (view_stepped mix did.old here) (trace_did here.book.call did (ending_of next.0 next.1) trace)
       steps-keeping events c did here trace made keeping =
           let next = local_after mix here.local did.old in
           let planning = performs-made mix env M events c here.local did made in
@@ -270,65 +262,5 @@ module _ (M : Type 0) (mix : ℕ → ℕ → ℕ → ℕ) (env : Env) (Now : Job
 
       -- so what jobs keep holds of the calls of every caller in every run
       pub jobs_keep : (events : List Event) (c : ℕ) → IsAdmitted env.config.kind events
-          → let r : Traced M = traced_of mix env events in IsKeeping (seen r.world c) (r.traces c)
+          → let r : Traced M = traced_of mix env events in IsKeeping (view_of r.world c) (r.traces c)
       jobs_keep = traced_callers_keep M mix env (λ events c. IsKeeping) keeps
-
-    -- ---- machine by machine
-
-    -- the same, asked of each machine
-    pub record MachinesKeep : Type 0 where
-      pub find_begins : (port : ℕ) → Now (finds port CurrentTable) []
-      pub bind_begins : (port owner : ℕ) (once : Bool)
-          → Now (binds port owner once (bind.first_state env port owner)) []
-      pub find_goes : (port : ℕ) (state : FindAt) (steps : List Did) (did : Did)
-          → Performs mix env (finds port state) did
-          → Now (finds port state) steps
-          → let all = steps ++ did ∷ [] in
-          GoesOrEnds (λ next. Now (finds port next) all) (λ reply. Ended (Find port) (plain_ending reply) all) (find.after_at mix env port state did.old)
-      pub bind_goes : (port owner : ℕ) (once : Bool) (state : BindAt) (steps : List Did) (did : Did)
-          → Performs mix env (binds port owner once state) did
-          → Now (binds port owner once state) steps
-          → let all = steps ++ did ∷ [] in
-          GoesOrEnds (λ next. Now (binds port owner once next) all) (λ reply. Ended (Bind port owner once) (plain_ending reply) all) (bind.after_at mix env port state did.old)
-
-    finds-leads : (port : ℕ) (all : List Did) (next : FindAt × Next Reply)
-        → GoesOrEnds (λ state. Now (finds port state) all) (λ reply. Ended (Find port) (plain_ending reply) all) next
-        → GoesOrEnds (λ after. Now after all) (λ ending. Ended (Find port) ending all) (finds_next port next)
-    finds-leads port all (state, Go) leads = leads
-    finds-leads port all (state, Done reply) leads = leads
-
-    binds-leads : (port owner : ℕ) (once : Bool) (all : List Did) (next : BindAt × Next Reply)
-        → GoesOrEnds (λ state. Now (binds port owner once state) all) (λ reply. Ended (Bind port owner once) (plain_ending reply) all) next
-        → GoesOrEnds (λ after. Now after all) (λ ending. Ended (Bind port owner once) ending all) (binds_next port owner once next)
-    binds-leads port owner once all (state, Go) leads = leads
-    binds-leads port owner once all (state, Done reply) leads = leads
-
-    module _ (keep : MachinesKeep) where
-      -- what holds of a first job that there is
-      abbrev IsFirstSo : Option Job → Type 0
-      IsFirstSo None = Unit {0}
-      IsFirstSo (Some job) = Now job []
-
-      first_bind-so : (port owner : ℕ) (once : Bool) (kind : Kind) → IsFirstSo (first_bind env port owner once kind)
-      first_bind-so port owner once Single = keep.bind_begins port owner once
-      first_bind-so port owner once Listed = tt
-
-      first_job-so : (call : Call) → IsFirstSo (first_job env call)
-      first_job-so (Find port) = keep.find_begins port
-      first_job-so (Bind port owner once) = first_bind-so port owner once env.config.kind
-      first_job-so _ = tt
-
-      job-goes : (job : Job) (steps : List Did) (did : Did) → Performs mix env job did → Now job steps
-          → LeadsOn job (steps ++ did ∷ []) (job_after mix env job did.old)
-      job-goes (finds port state) steps did performs now =
-          finds-leads port (steps ++ did ∷ []) (find.after_at mix env port state did.old)
-          (keep.find_goes port state steps did performs now)
-      job-goes (binds port owner once state) steps did performs now =
-          binds-leads port owner once (steps ++ did ∷ []) (bind.after_at mix env port state did.old)
-          (keep.bind_goes port owner once state steps did performs now)
-
-      pub by_machines : JobsKeep
-      by_machines = record {
-        begins = λ call job is. subst IsFirstSo is (first_job-so call);
-        goes = job-goes;
-      }

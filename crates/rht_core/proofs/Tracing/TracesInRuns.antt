@@ -12,8 +12,8 @@ use Rattle.rht_core.specs.Locals.{local_after, ending_of}
 use Rattle.rht_core.specs.Runs.{IsAdmitted, book_begun, book_after, finished_with}
 use Rattle.rht_core.specs.Traces.{Did, Past, Trace, Traced, trace_begun, trace_did, traced_of}
 use Rattle.rht_core.specs.Laws.{IsTraceOf, Remembers}
-use Rattle.rht_core.proofs.TracedRuns.{world-traced_of, count-traced_of}
-use Rattle.rht_core.proofs.TracedCallers.{traced_callers_keep}
+use Rattle.rht_core.proofs.Tracing.TracedRuns.{world-traced_of, count-traced_of}
+use Rattle.rht_core.proofs.Tracing.TracedCallers.{traced_callers_keep}
 
 -- the past call that is made of a finished one is of that one
 done-past : (begin : ℕ) (steps : List Did) (finished : List Finished)

@@ -18,8 +18,8 @@ use Rattle.rht_core.specs.declared.book.Book.{Book}
 use Rattle.rht_core.specs.declared.local.Local.{Local}
 use Rattle.rht_core.specs.declared.local.Doing.{Doing}
 use Rattle.rht_core.specs.Locals.{fresh, is_idle, machine_of, begin_with, plan_of, local_after, ending_of}
-use Rattle.rht_core.specs.Runs.{World, Seen, seen, local_in, local_of, beginning, beginning_in, with_machine, planned, planned_in, with_step, book_at, book_begun, book_after, books_begun, books_stepped, world_step, run_from, run_of, opening, IsAdmitted, IsAdmittedEvent}
-use Rattle.rht_core.specs.Laws.{seen_begin, seen_step, Extends}
+use Rattle.rht_core.specs.Runs.{World, View, view_of, local_in, local_of, beginning, beginning_in, with_machine, planned, planned_in, with_step, book_at, book_begun, book_after, books_begun, books_stepped, world_step, run_from, run_of, opening, IsAdmitted, IsAdmittedEvent}
+use Rattle.rht_core.specs.Laws.{view_begun, view_stepped, Extends}
 
 -- ---- lists of events
 
@@ -95,7 +95,7 @@ module _ {M : Type 0} where
 
 module _ (M : Type 0) (mix : ℕ → ℕ → ℕ → ℕ) (w : World M) where
   -- what a caller is doing and its calls, as it sees them
-  abbrev pair : Local M → Book → Seen M
+  abbrev pair : Local M → Book → View M
   pair local book = record { local = local; book = book }
 
   module _ (c : ℕ) (call : Call) where
@@ -112,17 +112,17 @@ module _ (M : Type 0) (mix : ℕ → ℕ → ℕ → ℕ) (w : World M) where
 
     -- who begins has the machine and the call
     pub begin_self : (machine : Doing M) → beginning_in w.core c call ≡ Some machine → c < length w.core.locals
-        → seen (world_step mix w (Begin c call)) c ≡ seen_begin call machine (seen w c)
+        → view_of (world_step mix w (Begin c call)) c ≡ view_begun call machine (view_of w c)
     begin_self machine is below =
         let begun = begin_with (local_of w.core c) machine in
         let local : local_in w.core.env (slice_set w.core.locals c begun) c ≡ begun =
         get_or-set_same w.core.locals c begun (fresh w.core.env) below in
         let book : book_at w.books c (book_begun call (w.books c)) c ≡ book_begun call (w.books c) =
         changed-same w.books c (book_begun call (w.books c)) in
-        ap (λ o. seen (began_with o) c) is ∙ (λ i. pair (local i) (book i))
+        ap (λ o. view_of (began_with o) c) is ∙ (λ i. pair (local i) (book i))
 
     -- another caller sees nothing of it
-    began_other : (k : ℕ) → k ≢ c → (machine : Option (Doing M)) → seen (began_with machine) k ≡ seen w k
+    began_other : (k : ℕ) → k ≢ c → (machine : Option (Doing M)) → view_of (began_with machine) k ≡ view_of w k
     began_other k other None = refl
     began_other k other (Some machine) =
         let begun = begin_with (local_of w.core c) machine in
@@ -132,7 +132,7 @@ module _ (M : Type 0) (mix : ℕ → ℕ → ℕ → ℕ) (w : World M) where
         changed-other w.books c (book_begun call (w.books c)) k other in
         (λ i. pair (local i) (book i))
 
-    pub begin_other : (k : ℕ) → k ≢ c → seen (world_step mix w (Begin c call)) k ≡ seen w k
+    pub begin_other : (k : ℕ) → k ≢ c → view_of (world_step mix w (Begin c call)) k ≡ view_of w k
     begin_other k other = began_other k other (beginning_in w.core c call)
 
   module _ (c : ℕ) where
@@ -154,17 +154,17 @@ module _ (M : Type 0) (mix : ℕ → ℕ → ℕ → ℕ) (w : World M) where
 
     -- who steps goes on with the old word
     pub step_self : (op : Op) → planned_in w.core c ≡ Some op → c < length w.core.locals
-        → seen (world_step mix w (Step c)) c ≡ seen_step mix (old_of w.core.words op) (seen w c)
+        → view_of (world_step mix w (Step c)) c ≡ view_stepped mix (old_of w.core.words op) (view_of w c)
     step_self op is below =
         let next = local_after mix (local_of w.core c) (old_of w.core.words op) in
         let after = book_after (ending_of next.0 next.1) (w.books c) in
         let local : local_in w.core.env (slice_set w.core.locals c next.0) c ≡ next.0 =
         get_or-set_same w.core.locals c next.0 (fresh w.core.env) below in
         let book : book_at w.books c after c ≡ after = changed-same w.books c after in
-        ap (λ o. seen (stepped_with o) c) is ∙ (λ i. pair (local i) (book i))
+        ap (λ o. view_of (stepped_with o) c) is ∙ (λ i. pair (local i) (book i))
 
     -- another caller sees nothing of it
-    stepped_other : (k : ℕ) → k ≢ c → (op : Option Op) → seen (stepped_with op) k ≡ seen w k
+    stepped_other : (k : ℕ) → k ≢ c → (op : Option Op) → view_of (stepped_with op) k ≡ view_of w k
     stepped_other k other None = refl
     stepped_other k other (Some op) =
         let next = local_after mix (local_of w.core c) (old_of w.core.words op) in
@@ -174,7 +174,7 @@ module _ (M : Type 0) (mix : ℕ → ℕ → ℕ → ℕ) (w : World M) where
         let book : book_at w.books c after k ≡ w.books k = changed-other w.books c after k other in
         (λ i. pair (local i) (book i))
 
-    pub step_other : (k : ℕ) → k ≢ c → seen (world_step mix w (Step c)) k ≡ seen w k
+    pub step_other : (k : ℕ) → k ≢ c → view_of (world_step mix w (Step c)) k ≡ view_of w k
     step_other k other = stepped_other k other (planned_in w.core c)
 
 -- ---- runs

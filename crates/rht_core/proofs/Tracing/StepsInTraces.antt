@@ -26,14 +26,14 @@ use Rattle.rht_core.specs.Runs.{World, local_of, beginning_in, planned_in, run_o
 use Rattle.rht_core.specs.Traces.{Did, Past, Trace, Traced, trace_begun, trace_did, traces_after, traced_of, steps_by_call, IsStepOf, IsRising, behind_steps, behind_call, behind_calls, AreInOrder}
 use Rattle.rht_core.specs.Replies.{IsBookOfIdle}
 use Rattle.rht_core.specs.Laws.{IsInProgress, IsRecorded, calls_ended, AllStepsTraced}
-use Rattle.rht_core.proofs.Worlds.{induct_by_last, take-push, take-push_all, beginning-some, planned-some}
-use Rattle.rht_core.proofs.CallBeginnings.{idle_plans}
-use Rattle.rht_core.proofs.JobsOfCallers.{is_no_job, nothing-job}
-use Rattle.rht_core.proofs.TracedJobs.{IsAtJob}
-use Rattle.rht_core.proofs.RepliesInRuns.{Holds, Answered, runs-right}
-use Rattle.rht_core.proofs.TracesInRuns.{traces_of_books}
-use Rattle.rht_core.proofs.TracesAtEvents.{at_events}
-use Rattle.rht_core.proofs.TracedRuns.{traced_of-push, world-traced_of, count-traced_of, trace_with, trace_begin_none, trace_begin_self, trace_begin_other, trace_step_none, trace_step_self, trace_step_other}
+use Rattle.rht_core.proofs.Events.Worlds.{induct_by_last, take-push, take-push_all, beginning-some, planned-some}
+use Rattle.rht_core.proofs.Events.CallBeginnings.{idle_plans}
+use Rattle.rht_core.proofs.Events.JobsOfCallers.{is_no_job, nothing-job}
+use Rattle.rht_core.proofs.Tracing.TracedJobs.{IsAtJob}
+use Rattle.rht_core.proofs.Tracing.RepliesInRuns.{Holds, Answered, runs-right}
+use Rattle.rht_core.proofs.Tracing.TracesInRuns.{traces_of_books}
+use Rattle.rht_core.proofs.Tracing.TracesAtEvents.{at_events}
+use Rattle.rht_core.proofs.Tracing.TracedRuns.{traced_of-push, world-traced_of, count-traced_of, trace_with, trace_begin_none, trace_begin_self, trace_begin_other, trace_step_none, trace_step_self, trace_step_other}
 
 -- ---- lists of operations, one for each call
 

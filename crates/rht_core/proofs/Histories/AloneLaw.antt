@@ -26,10 +26,10 @@ use Rattle.rht_core.specs.Causes.{HasCause}
 use Rattle.rht_core.specs.Numbered.{Numbered, history_of, numbered_to, NeverFalls, entries_of}
 use Rattle.rht_core.specs.Alone.{entry_done, MeetsModel, IsQuiet, bindings_at, call_events, Alone}
 use Rattle.rht_core.specs.RunHistories.{bindings_behind, ChangesBindings, about_bindings, Fits}
-use Rattle.rht_core.proofs.TracedRuns.{world-traced_of}
-use Rattle.rht_core.proofs.TracesAtEvents.{at_events}
-use Rattle.rht_core.proofs.StepsInTraces.{idle-book}
-use Rattle.rht_core.proofs.CausesInRuns.{causes}
+use Rattle.rht_core.proofs.Tracing.TracedRuns.{world-traced_of}
+use Rattle.rht_core.proofs.Tracing.TracesAtEvents.{at_events}
+use Rattle.rht_core.proofs.Tracing.StepsInTraces.{idle-book}
+use Rattle.rht_core.proofs.Reasons.CausesInRuns.{causes}
 use Rattle.rht_core.proofs.Histories.NumberedEntries.{AllBelow, AllBelow-more, numbered_to-before, history_of-push, push-below}
 use Rattle.rht_core.proofs.Histories.CallEnds.{AreEnded, about-push}
 use Rattle.rht_core.proofs.Histories.FittingRuns.{opening-agree, fits}

@@ -17,15 +17,15 @@ use Rattle.rht_core.specs.declared.event.Event.TheVariants.{Enroll, Begin, Step}
 use Rattle.rht_core.specs.declared.local.Local.{Local}
 use Rattle.rht_core.specs.declared.local.Doing.{Doing}
 use Rattle.rht_core.specs.Locals.{fresh, is_idle, machine_of, plan_of, local_after, ending_of, IsLocalOf}
-use Rattle.rht_core.specs.Runs.{Core, World, Seen, IsAdmitted, IsAdmittedEvent, seen, local_of, new_book, beginning_in, planned_in, with_step, core_step, world_step, run_of}
+use Rattle.rht_core.specs.Runs.{Core, World, View, IsAdmitted, IsAdmittedEvent, view_of, local_of, new_book, beginning_in, planned_in, with_step, core_step, world_step, run_of}
 use Rattle.rht_core.specs.Traces.{Did, Trace, Traced, trace_begun, trace_did, traces_after, traced_step, traced_of}
-use Rattle.rht_core.specs.Laws.{IsRecorded, seen_begin, seen_step}
-use Rattle.rht_core.proofs.Worlds.{induct_by_last, take-push_all, beginning-some, planned-some, begin_none, begin_self, begin_other, step_none, step_self, step_other}
-use Rattle.rht_core.proofs.SoundRuns.{StaysIn, runs-in, made_in, has_place}
+use Rattle.rht_core.specs.Laws.{IsRecorded, view_begun, view_stepped}
+use Rattle.rht_core.proofs.Events.Worlds.{induct_by_last, take-push_all, beginning-some, planned-some, begin_none, begin_self, begin_other, step_none, step_self, step_other}
+use Rattle.rht_core.proofs.Events.SoundRuns.{StaysIn, runs-in, made_in, has_place}
 use Rattle.rht_core.proofs.Theory.Ghosts.{Ghost}
 use Rattle.rht_core.proofs.Events.Invariants.{Inv, StepOf, step_of}
 use Rattle.rht_core.proofs.Events.InvariantRuns.{HasInv, has_inv}
-use Rattle.rht_core.proofs.TracedRuns.{no_trace, traced_of-push, world-traced_of, count-traced_of, trace_with, trace_begin_none, trace_begin_self, trace_begin_other, trace_step_none, trace_step_self, trace_step_other}
+use Rattle.rht_core.proofs.Tracing.TracedRuns.{no_trace, traced_of-push, world-traced_of, count-traced_of, trace_with, trace_begin_none, trace_begin_self, trace_begin_other, trace_step_none, trace_step_self, trace_step_other}
 
 module _ (M : Type 0) (mix : ℕ → ℕ → ℕ → ℕ) (env : Env) where
   -- the run of these events, with its traces
@@ -109,26 +109,26 @@ module _ (M : Type 0) (mix : ℕ → ℕ → ℕ → ℕ) (env : Env) where
 
   -- ---- what callers keep
 
-  module _ (P : List Event → ℕ → Seen M → Trace → Type 0) where
+  module _ (P : List Event → ℕ → View M → Trace → Type 0) where
     -- what is kept of a caller and its trace behind these events
     pub record IsKeptTraced : Type 0 where
       pub opens : (c : ℕ) → P [] c (record { local = fresh env; book = new_book }) no_trace
-      pub stays : (events : List Event) (event : Event) (c : ℕ) (seen : Seen M) (trace : Trace)
-          → P events c seen trace → P (events ++ event ∷ []) c seen trace
+      pub stays : (events : List Event) (event : Event) (c : ℕ) (view : View M) (trace : Trace)
+          → P events c view trace → P (events ++ event ∷ []) c view trace
       pub begins : (events : List Event) (c : ℕ) (call : Call) (machine : Doing M) (index : ℕ)
-          (seen : Seen M) (trace : Trace)
+          (view : View M) (trace : Trace)
           → index ≡ length events
-          → is_idle seen.local ≡ true → machine_of env c call ≡ Some machine
-          → P events c seen trace
-          → P (events ++ Begin c call ∷ []) c (seen_begin call machine seen) (trace_begun index trace)
-      pub steps : (events : List Event) (c : ℕ) (did : Did) (seen : Seen M) (trace : Trace)
-          → IsMade events c seen.local did
-          → P events c seen trace
-          → let next = local_after mix seen.local did.old in
-          P (events ++ Step c ∷ []) c (seen_step mix did.old seen) (trace_did seen.book.call did (ending_of next.0 next.1) trace)
+          → is_idle view.local ≡ true → machine_of env c call ≡ Some machine
+          → P events c view trace
+          → P (events ++ Begin c call ∷ []) c (view_begun call machine view) (trace_begun index trace)
+      pub steps : (events : List Event) (c : ℕ) (did : Did) (view : View M) (trace : Trace)
+          → IsMade events c view.local did
+          → P events c view trace
+          → let next = local_after mix view.local did.old in
+          P (events ++ Step c ∷ []) c (view_stepped mix did.old view) (trace_did view.book.call did (ending_of next.0 next.1) trace)
 
     abbrev AllKeep : List Event → Traced M → Type 0
-    AllKeep events r = (k : ℕ) → P events k (seen r.world k) (r.traces k)
+    AllKeep events r = (k : ℕ) → P events k (view_of r.world k) (r.traces k)
 
     module _ (kept : IsKeptTraced) (events : List Event) (admitted : IsAdmitted env.config.kind events)
         (each : AllKeep events (R events)) where
@@ -136,25 +136,25 @@ module _ (M : Type 0) (mix : ℕ → ℕ → ℕ → ℕ) (env : Env) where
       r = R events
 
       -- where the caller and its trace have become these
-      put : (more : List Event) (c : ℕ) (here : Seen M) (before : Seen M) (was : Trace) (trace : Trace)
+      put : (more : List Event) (c : ℕ) (here : View M) (before : View M) (was : Trace) (trace : Trace)
           → before ≡ here → was ≡ trace
           → P more c here trace → P more c before was
       put more c here before was trace seen_is trace_is p =
           subst (P more c before) (sym trace_is) (subst (λ s. P more c s trace) (sym seen_is) p)
 
       -- where they are as before
-      stay : (event : Event) (k : ℕ) (here : Seen M) (trace : Trace) → here ≡ seen r.world k
+      stay : (event : Event) (k : ℕ) (here : View M) (trace : Trace) → here ≡ view_of r.world k
           → trace ≡ r.traces k
           → P (events ++ event ∷ []) k here trace
       stay event k here trace seen_is trace_is =
-          put (events ++ event ∷ []) k (seen r.world k) here trace (r.traces k) seen_is trace_is
-          (kept.stays events event k (seen r.world k) (r.traces k) (each k))
+          put (events ++ event ∷ []) k (view_of r.world k) here trace (r.traces k) seen_is trace_is
+          (kept.stays events event k (view_of r.world k) (r.traces k) (each k))
 
       begins : (c : ℕ) (call : Call) (machine : Option (Doing M))
           → beginning_in r.world.core c call ≡ machine
           → AllKeep (events ++ Begin c call ∷ []) (traced_step mix r (Begin c call))
       begins c call None is k =
-          stay (Begin c call) k _ _ (ap (λ (v : World M). seen v k) (begin_none M mix r.world c call is))
+          stay (Begin c call) k _ _ (ap (λ (v : World M). view_of v k) (begin_none M mix r.world c call is))
           (ap (λ (t : ℕ → Trace). t k) (trace_begin_none M mix r c call is))
       begins c call (Some machine) is k =
           let more = events ++ Begin c call ∷ [] in
@@ -164,11 +164,11 @@ module _ (M : Type 0) (mix : ℕ → ℕ → ℕ → ℕ) (env : Env) where
           elim (cases_eq k c) [
             | inl same ↦
                 subst
-                (λ j. P more j (seen (world_step mix r.world (Begin c call)) j) (traces_after mix r (Begin c call) j))
+                (λ j. P more j (view_of (world_step mix r.world (Begin c call)) j) (traces_after mix r (Begin c call) j))
                 (sym same)
-                (put more c (seen_begin call machine (seen r.world c)) _ _ (trace_begun r.count (r.traces c))
+                (put more c (view_begun call machine (view_of r.world c)) _ _ (trace_begun r.count (r.traces c))
                 (begin_self M mix r.world c call machine is place) (trace_begin_self M mix r c call machine is)
-                (kept.begins events c call machine r.count (seen r.world c) (r.traces c) (count-traced_of M mix env events) can.idle made (each c)))
+                (kept.begins events c call machine r.count (view_of r.world c) (r.traces c) (count-traced_of M mix env events) can.idle made (each c)))
             | inr other ↦
                 stay (Begin c call) k _ _ (begin_other M mix r.world c call k other) (trace_begin_other M mix r c call k other)
           ]
@@ -176,7 +176,7 @@ module _ (M : Type 0) (mix : ℕ → ℕ → ℕ → ℕ) (env : Env) where
       steps : (c : ℕ) (op : Option Op) → planned_by c r.world ≡ op
           → AllKeep (events ++ Step c ∷ []) (traced_step mix r (Step c))
       steps c None is k =
-          stay (Step c) k _ _ (ap (λ (v : World M). seen v k) (step_none M mix r.world c is))
+          stay (Step c) k _ _ (ap (λ (v : World M). view_of v k) (step_none M mix r.world c is))
           (ap (λ (t : ℕ → Trace). t k) (trace_step_none M mix r c is))
       steps c (Some op) is k =
           let more = events ++ Step c ∷ [] in
@@ -185,11 +185,11 @@ module _ (M : Type 0) (mix : ℕ → ℕ → ℕ → ℕ) (env : Env) where
           let place = has_place M mix env r.world.core c (stays_in events) can.below in
           elim (cases_eq k c) [
             | inl same ↦
-                subst (λ j. P more j (seen (world_step mix r.world (Step c)) j) (traces_after mix r (Step c) j))
+                subst (λ j. P more j (view_of (world_step mix r.world (Step c)) j) (traces_after mix r (Step c) j))
                 (sym same)
-                (put more c (seen_step mix did.old (seen r.world c)) _ _ (trace_with M mix r c op)
+                (put more c (view_stepped mix did.old (view_of r.world c)) _ _ (trace_with M mix r c op)
                 (step_self M mix r.world c op is place) (trace_step_self M mix r c op is)
-                (kept.steps events c did (seen r.world c) (r.traces c) (did_next-made events c op admitted is) (each c)))
+                (kept.steps events c did (view_of r.world c) (r.traces c) (did_next-made events c op admitted is) (each c)))
             | inr other ↦
                 stay (Step c) k _ _ (step_other M mix r.world c k other) (trace_step_other M mix r c k other)
           ]
@@ -203,7 +203,7 @@ module _ (M : Type 0) (mix : ℕ → ℕ → ℕ → ℕ) (env : Env) where
 
     -- so it holds of every caller in every run
     pub traced_callers_keep : IsKeptTraced → (events : List Event) (c : ℕ) → IsAdmitted env.config.kind events
-        → P events c (seen (R events).world c) ((R events).traces c)
+        → P events c (view_of (R events).world c) ((R events).traces c)
     traced_callers_keep kept events c admitted =
         induct_by_last (λ es. IsAdmitted env.config.kind es → AllKeep es (R es))
         (λ none k.

@@ -24,7 +24,7 @@ use Rattle.rht_core.proofs.Meaning.BoundPorts.{attached, index, index-within, pl
 use Rattle.rht_core.proofs.Counting.CountedPorts.{firsts-AreAllBound}
 use Rattle.rht_core.proofs.Counting.CountedNodes.{count_few}
 use Rattle.rht_core.proofs.Counting.NodesOut.{none_out}
-use Rattle.rht_core.proofs.FullTables.{raises}
+use Rattle.rht_core.proofs.Counting.FullTables.{raises}
 
 module _ (env : Env) (mix : ℕ → ℕ → ℕ → ℕ) (words : List ℕ) (G : Ghost)
     (whole : Whole env mix (mem env mix words) G) where

@@ -32,7 +32,7 @@ use Rattle.rht_core.specs.Traces.{Did}
 use Rattle.rht_core.specs.Laws.{IsRecorded}
 use Rattle.rht_core.specs.Causes.{others_in_call, CountedAt}
 use Rattle.rht_core.specs.Counts.{raised_by}
-use Rattle.rht_core.proofs.JobsOfCallers.{is_no_job, nothing-job}
+use Rattle.rht_core.proofs.Events.JobsOfCallers.{is_no_job, nothing-job}
 use Rattle.rht_core.proofs.Theory.Ghosts.{Ghost}
 use Rattle.rht_core.proofs.Theory.Wholes.{firsts, raisers}
 use Rattle.rht_core.proofs.Theory.Steps.{mem}

@@ -12,10 +12,10 @@ use Rattle.rht_core.specs.declared.event.Event.TheVariants.{Enroll, Begin, Step}
 use Rattle.rht_core.specs.declared.event.Stepped.{Stepped}
 use Rattle.rht_core.specs.declared.local.Local.{Local}
 use Rattle.rht_core.specs.Locals.{fresh, is_idle}
-use Rattle.rht_core.specs.Runs.{Core, World, Seen, local_of, planned_in, with_step, core_step, run_of, IsSound, IsAdmittedEvent, IsReached}
-use Rattle.rht_core.proofs.Worlds.{run_of-push}
-use Rattle.rht_core.proofs.SoundRuns.{runs-in, IsSound-stays}
-use Rattle.rht_core.proofs.CallersNotEnrolled.{all-fresh}
+use Rattle.rht_core.specs.Runs.{Core, World, View, local_of, planned_in, with_step, core_step, run_of, IsSound, IsAdmittedEvent, IsReached}
+use Rattle.rht_core.proofs.Events.Worlds.{run_of-push}
+use Rattle.rht_core.proofs.Events.SoundRuns.{runs-in, IsSound-stays}
+use Rattle.rht_core.proofs.Events.CallersNotEnrolled.{all-fresh}
 
 module _ (M : Type 0) (mix : ℕ → ℕ → ℕ → ℕ) where
   pub IsSound-reached : (core : Core M) → IsReached mix core → IsSound core
@@ -40,7 +40,7 @@ module _ (M : Type 0) (mix : ℕ → ℕ → ℕ → ℕ) where
       → is_idle (local_of core c) ≡ true
   idle-reached core c reached =
       subst (λ (k : Core M). k.enrolled ≤ c → is_idle (local_of k c) ≡ true) reached.same
-      (λ past. ap (λ (s : Seen M). is_idle s.local) (all-fresh M mix core.env reached.events c past))
+      (λ past. ap (λ (s : View M). is_idle s.local) (all-fresh M mix core.env reached.events c past))
 
   -- no event changes the environment
   step-env : (core : Core M) (c : ℕ) (op : Option Op) → (with_step mix core c op).0.env ≡ core.env

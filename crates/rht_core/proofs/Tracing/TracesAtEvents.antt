@@ -20,8 +20,8 @@ use Rattle.rht_core.specs.Locals.{local_after, ending_of}
 use Rattle.rht_core.specs.Runs.{World, IsAdmitted, planned_in, book_after, run_of}
 use Rattle.rht_core.specs.Traces.{Did, Past, Trace, Traced, trace_begun, trace_did, traced_of, IsRising, behind_steps, behind_call, behind_calls, AreInOrder}
 use Rattle.rht_core.specs.Laws.{IsInProgress, IsRecorded, IsAnsweredAt, IsPastCall, AtEvents}
-use Rattle.rht_core.proofs.Worlds.{take-push}
-use Rattle.rht_core.proofs.TracedCallers.{reply_of, traced_callers_keep}
+use Rattle.rht_core.proofs.Events.Worlds.{take-push}
+use Rattle.rht_core.proofs.Tracing.TracedCallers.{reply_of, traced_callers_keep}
 
 -- one more step behind the others
 pub behind_steps-push : (from : ℕ) (steps : List Did) (did : Did)

@@ -17,6 +17,8 @@ use Rattle.std.proofs.lemmas.List.Quantifiers.{Any-push}
 use Rattle.rht_words.specs.Machines.{Performed}
 use Rattle.rht_words.specs.declared.op.Op.TheVariants.{Load, Add}
 use Rattle.rht_words.specs.declared.env.Env.{Env}
+use Rattle.rht_words.specs.declared.config.Kind.{Kind}
+use Rattle.rht_words.specs.declared.config.Kind.TheVariants.{Single, Listed}
 use Rattle.rht_words.specs.declared.geometry.Geometry.{Geometry}
 use Rattle.rht_words.specs.declared.machine.Next.{Next}
 use Rattle.rht_words.specs.declared.machine.Next.TheVariants.{Go, Done}
@@ -28,9 +30,10 @@ use Rattle.rht_policy.specs.Thresholds.{is_above_75, is_above_max}
 use Rattle.rht_words.specs.Shapes.{unpacked, size_of}
 use Rattle.rht_words.specs.Links.{slot_of}
 use Rattle.rht_model.specs.declared.history.Call.{Call}
-use Rattle.rht_model.specs.declared.history.Call.TheVariants.{Bind, Find}
+use Rattle.rht_model.specs.declared.history.Call.TheVariants.{Bind, Find, All, Release, Rebind, Walk, Work, Tidy, Count}
 use Rattle.rht_model.specs.declared.history.Reply.{Reply}
 use Rattle.rht_model.specs.declared.history.Reply.TheVariants.{Bound, Exists, Found, Missing, TooBig, NoNode}
+use Rattle.rht_model.specs.Endings.{Ending}
 use Rattle.rht_arena.specs.TakeNode.{TakeNodeModel, take_node_after, IsTakeAtIn, IsTakeIn}
 use Rattle.rht_arena.specs.NewNode.{NewNodeModel, new_node_plan_at, new_node_after_at, node_taken, IsNewNodeAtIn}
 use Rattle.rht_arena.specs.declared.new_node.NewNodeAt.{NewNodeAt}
@@ -46,30 +49,30 @@ use Rattle.rht_chain.specs.Relink.{RelinkModel, relink_after}
 use Rattle.rht_arena.proofs.NodesSeen.{first_unseen, SawAllBelow, SawAllBelow-push, SawSoFar, take_after-saw}
 use Rattle.rht_find.specs.Find.{after_at as find_after_at}
 use Rattle.rht_find.specs.declared.find.FindAt.{FindAt}
+use Rattle.rht_find.specs.declared.find.FindAt.TheVariants.{CurrentTable}
 use Rattle.rht_words.proofs.Memory.{Memory}
 use Rattle.rht_bind.specs.BindHeld.{holds_node}
-use Rattle.rht_bind.specs.Bind.{after_at, filled, located, owner_or_future, probed, unlocking, future_or_count, checked_count, kicks, published, unlocked}
+use Rattle.rht_bind.specs.Bind.{first_state, after_at, filled, located, owner_or_future, probed, unlocking, future_or_count, checked_count, kicks, published, unlocked}
 use Rattle.rht_bind.specs.declared.bind.Claimed.{Claimed}
 use Rattle.rht_bind.specs.declared.bind.BindAt.{BindAt}
 use Rattle.rht_bind.specs.declared.bind.BindAt.TheVariants as at
 use Rattle.rht_core.specs.declared.event.Event.{Event}
-use Rattle.rht_core.specs.Jobs.{Job, finds, binds}
-use Rattle.rht_core.specs.Replies.{IsFindReply}
+use Rattle.rht_core.specs.Jobs.{Job, finds, binds, first_job, first_bind, finds_next, binds_next, job_after}
+use Rattle.rht_core.specs.Replies.{IsFindReply, IsReplyTo}
 use Rattle.rht_core.specs.Traces.{Did, Past, performed_of, traced_of}
 use Rattle.rht_core.specs.Runs.{IsAdmitted}
 use Rattle.rht_core.specs.Laws.{IsRecorded, IsPastCall}
 use Rattle.rht_core.specs.Causes.{FindCause, IsNoShapeLoad, LastWalked, IsDueBy, KicksRightly, SawFull, BindCause, CauseOf, HasCause, Causes}
 use Rattle.rht_words.specs.Machines.{GoesOrEnds}
-use Rattle.rht_words.proofs.MachineRuns.{GoesOrEnds-weaker}
-use Rattle.rht_core.proofs.MachineReplies.{HoldsFindReply, find_after-replies}
+use Rattle.rht_core.proofs.Tracing.RepliesInRuns.{Holds, Answered, runs-right}
 use Rattle.rht_core.proofs.Theory.Ghosts.{Ghost}
 use Rattle.rht_core.proofs.Theory.Knowledge.{Unlocked}
-use Rattle.rht_core.proofs.Pieces.Nodes.{filled as filled_node}
+use Rattle.rht_core.proofs.Pieces.NewNodes.{filled as filled_node}
 use Rattle.rht_core.proofs.Pieces.Locates.{LocateKnows, locate_step}
-use Rattle.rht_core.proofs.TracesAtEvents.{at_events}
-use Rattle.rht_core.proofs.TracedCalls.{FindDoes, BindDoes, calls_keep}
-use Rattle.rht_core.proofs.FullTables.{relink_stores, counted_at}
-use Rattle.rht_core.proofs.TablesWalked.{no_load, elsewhere, probe_loads, LastWalked-push, WalkedAt, WalkedNext, same_table, locate-walked}
+use Rattle.rht_core.proofs.Tracing.TracesAtEvents.{at_events}
+use Rattle.rht_core.proofs.Tracing.TracedJobs.{Performs, LeadsOn, IsEndedSo, jobs_keep}
+use Rattle.rht_core.proofs.Counting.FullTables.{relink_stores, counted_at}
+use Rattle.rht_core.proofs.Reasons.TablesWalked.{no_load, elsewhere, probe_loads, LastWalked-push, WalkedAt, WalkedNext, same_table, locate-walked}
 use Rattle.rht_core.proofs.Counting.CountedNodes.{raise_few}
 use Rattle.rht_core.proofs.Theory.Steps.{by_test}
 
@@ -102,11 +105,17 @@ module _ (env : Env) where
   SawFor (Exists owner) steps = Unit {0}
   SawFor _ steps = ⊥
 
-  -- and for any call to have it
+  -- and for any call to have it; a look-up has nothing to show, and of the others there is no machine yet
   abbrev pub SawOf : Call → Reply → List Did → Type 0
   SawOf (Bind port owner once) reply steps = SawFor reply steps
-  SawOf (Find port) reply steps = FindCause reply
-  SawOf _ reply steps = ⊥
+  SawOf (Find port) reply steps = Unit {0}
+  SawOf (All port) reply steps = ⊥
+  SawOf (Release port owner) reply steps = ⊥
+  SawOf (Rebind port owner new) reply steps = ⊥
+  SawOf (Walk from limit) reply steps = ⊥
+  SawOf Work reply steps = ⊥
+  SawOf Tidy reply steps = ⊥
+  SawOf Count reply steps = ⊥
 
   abbrev SawForReply : Option Reply → List Did → Type 0
   SawForReply reply steps = IfSome reply (λ r. SawFor r steps)
@@ -242,7 +251,7 @@ module _ (env : Env) where
         rw knows.there (subst (λ table. LastWalked env.geometry table there.shape steps) (sym same) walked)
 
     locating-saw : (node : ℕ) (locate : LocateModel) (steps : List Did) (did : Did)
-        → BindDoes env mix port owner once (at.Locating node locate) did
+        → Performs mix env (binds port owner once (at.Locating node locate)) did
         → SawAt (at.Locating node locate) steps
         → let next = locate_after mix port locate did.old in
         SawAt (located env port node next.0 next.1) (steps ++ did ∷ [])
@@ -250,8 +259,8 @@ module _ (env : Env) where
         let all = steps ++ did ∷ [] in
         let is : did.old ≡ old_of does.words (locate_plan locate) = does.found ∙ ap (old_of does.words) does.planned in
         let step = locate_step env mix does.caller (holds_node (Some node) None) (Some (filled_node node port owner)) Unlocked does.words does.ghost does.whole
-        port locate does.within.locate_in does.knows.knowing in
-        let walked = locate-walked env.geometry mix port locate locate.at steps did does.within.locate_in.table_in does.planned saw in
+        port locate does.within.at_in.locate_in does.knows.knowing in
+        let walked = locate-walked env.geometry mix port locate locate.at steps did does.within.at_in.locate_in.table_in does.planned saw in
         subst (λ old. let next = locate_after mix port locate old in SawAt (located env port node next.0 next.1) all) (sym is)
         (found-saw does.caller node locate (locate_after mix port locate (old_of does.words (locate_plan locate))) _ _ all step.knows
         (same_table env.geometry mix port locate locate.at (old_of does.words (locate_plan locate)))
@@ -259,12 +268,12 @@ module _ (env : Env) where
 
     -- while it makes a new node
     new-saw : (new : NewNodeModel) (state : NewNodeAt) (steps : List Did) (did : Did) → new.at ≡ state
-        → BindDoes env mix port owner once (at.Filling new) did → SawNew state steps
+        → Performs mix env (binds port owner once (at.Filling new)) did → SawNew state steps
         → let after = new_node_after_at state did.old in
         SawNext (steps ++ did ∷ []) (filled (record new { at = after.0 }) after.1)
     new-saw new (news.Taking take) steps did is does saw =
         let all = steps ++ did ∷ [] in
-        let fits : IsTakeIn env.geometry take = subst (IsNewNodeAtIn env.geometry) is does.within.at_in in
+        let fits : IsTakeIn env.geometry take = subst (IsNewNodeAtIn env.geometry) is does.within.at_in.at_in in
         let before = map performed_of steps in
         let planned = does.planned ∙ ap (new_node_plan_at new.geometry new.key new.owner) is in
         let range = subst (λ (h : Geometry). IsTakeAtIn h take.at) (sym fits.geometry_same) fits.at_in in
@@ -278,14 +287,14 @@ module _ (env : Env) where
     new-saw new (news.Owner node) steps did is does saw = tt
     new-saw new (news.ListLink node) steps did is does saw = tt
 
-    bind-saw : (state : BindAt) (steps : List Did) (did : Did) → BindDoes env mix port owner once state did
+    bind-saw : (state : BindAt) (steps : List Did) (did : Did) → Performs mix env (binds port owner once state) did
         → SawAt state steps → SawNext (steps ++ did ∷ []) (after_at mix env port state did.old)
     bind-saw (at.Filling new) steps did does saw = new-saw new new.at steps did refl does saw
     bind-saw (at.CurrentTable node) steps did does saw = tt
     bind-saw (at.Locating node locate) steps did does saw = locating-saw node locate steps did does saw
     bind-saw (at.Probing node table shape probe) steps did does saw =
         probed-saw node table shape (probe_after probe did.old).0 (probe_after probe did.old).1 (steps ++ did ∷ [])
-        (LastWalked-push env.geometry table shape steps did (probe_loads env.geometry did probe.at does.within.probe_in.at_in does.planned) saw)
+        (LastWalked-push env.geometry table shape steps did (probe_loads env.geometry did probe.at does.within.at_in.probe_in.at_in does.planned) saw)
     bind-saw (at.FoundOwner claimed found) steps did does saw = tt
     bind-saw (at.Future claimed length) steps did does saw =
         future-saw claimed (slot_of did.old) (steps ++ did ∷ [])
@@ -308,33 +317,54 @@ module _ (env : Env) where
         SawFor-push reply steps did (no_load env.geometry did _ does.planned (λ place load. cc)) saw
 
   -- a look-up has nothing to show for its answers
-  find_reply-saw : (reply : Reply) → IsFindReply reply → FindCause reply
-  find_reply-saw (Found owner) is = tt
-  find_reply-saw Missing is = tt
-  find_reply-saw _ is = absurd is
-
-  find-saw : (mix : ℕ → ℕ → ℕ → ℕ) (port : ℕ) (state : FindAt) (did : Did) → FindDoes env state did
-      → GoesOrEnds (λ next. Unit {0}) FindCause (find_after_at mix env port state did.old)
-  find-saw mix port state did does =
-      GoesOrEnds-weaker HoldsFindReply _ IsFindReply FindCause (λ next holds. tt) find_reply-saw
-      (find_after_at mix env port state did.old)
-      (find_after-replies mix env port state did.old does.holds)
+  find-cause : (reply : Reply) → IsFindReply reply → FindCause reply
+  find-cause (Found owner) is = tt
+  find-cause Missing is = tt
+  find-cause _ is = absurd is
 
 -- ---- runs
 
 module _ (M : Type 0) (mix : ℕ → ℕ → ℕ → ℕ) (env : Env) where
-  -- what the operations of each call that has ended have seen; below the first node there is none
+  abbrev EndsSeen : Call → Ending → List Did → Type 0
+  EndsSeen call ending steps = SawOf env call ending.answer.reply steps
+
+  find-leads : (port : ℕ) (all : List Did) (next : FindAt × Next Reply)
+      → LeadsOn M mix env (JobSaw env) EndsSeen (finds port CurrentTable) all (finds_next port next)
+  find-leads port all (state, Go) = tt
+  find-leads port all (state, Done reply) = tt
+
+  bind-leads : (port owner : ℕ) (once : Bool) (state : BindAt) (all : List Did) (next : BindAt × Next Reply)
+      → SawNext env all next
+      → LeadsOn M mix env (JobSaw env) EndsSeen (binds port owner once state) all (binds_next port owner once next)
+  bind-leads port owner once state all (after, Go) saw = saw
+  bind-leads port owner once state all (after, Done reply) saw = saw
+
+  job-leads : (job : Job) (steps : List Did) (did : Did) → Performs mix env job did → JobSaw env job steps
+      → LeadsOn M mix env (JobSaw env) EndsSeen job (steps ++ did ∷ []) (job_after mix env job did.old)
+  job-leads (finds port state) steps did performs saw =
+      find-leads port (steps ++ did ∷ []) (find_after_at mix env port state did.old)
+  job-leads (binds port owner once state) steps did performs saw =
+      bind-leads port owner once state (steps ++ did ∷ []) (after_at mix env port state did.old)
+      (bind-saw env mix port owner once state steps did performs saw)
+
+  -- below the first node there is none
+  first_bind-saw : (port owner : ℕ) (once : Bool) (kind : Kind) (job : Job) → first_bind env port owner once kind ≡ Some job
+      → JobSaw env job []
+  first_bind-saw port owner once Single job is =
+      let here : binds port owner once (first_state env port owner) ≡ job = cc in
+      subst (λ j. JobSaw env j []) here (λ node l. absurd (omega arith))
+  first_bind-saw port owner once Listed job is = absurd (cc)
+
+  first_job-saw : (call : Call) (job : Job) → first_job env call ≡ Some job → JobSaw env job []
+  first_job-saw (Find port) job is = subst (λ j. JobSaw env j []) (let here : finds port CurrentTable ≡ job = cc in here) tt
+  first_job-saw (Bind port owner once) job is = first_bind-saw port owner once env.config.kind job is
+  first_job-saw _ job is = absurd (cc)
+
+  -- what the operations of each call that has ended have seen
   past-saw : (events : List Event) (c : ℕ) → IsAdmitted env.config.kind events
       → AllByRecursion (λ (past : Past). SawOf env past.done.call past.done.reply past.steps) ((traced_of {M = M} mix env events).traces c).past
   past-saw events c admitted =
-      calls_keep M mix env (JobSaw env) (λ call ending. SawOf env call ending.answer.reply)
-      record {
-        find_begins = λ port. tt;
-        bind_begins = λ port owner once node l. absurd (omega arith);
-        find_goes = λ port state steps did does saw. find-saw env mix port state did does;
-        bind_goes = bind-saw env mix;
-      }
-      events c admitted
+      (jobs_keep M mix env (JobSaw env) EndsSeen record { begins = first_job-saw; goes = job-leads } events c admitted).past
 
   -- ---- the causes
 
@@ -397,21 +427,24 @@ module _ (M : Type 0) (mix : ℕ → ℕ → ℕ → ℕ) (env : Env) where
     bind-cause past (TooBig count) saw recorded = full-saw count past.steps recorded saw
     bind-cause past _ saw recorded = absurd saw
 
-    cause_of : (past : Past) (call : Call) (reply : Reply) → SawOf env call reply past.steps
+    cause_of : (past : Past) (call : Call) (reply : Reply) → SawOf env call reply past.steps → IsReplyTo call reply
         → AllByRecursion IsRecordedHere past.steps → CauseOf M mix env events c past call reply
-    cause_of past (Bind port owner once) reply saw recorded = bind-cause past reply saw recorded
-    cause_of past (Find port) reply saw recorded = saw
-    cause_of past _ reply saw recorded = absurd saw
+    cause_of past (Bind port owner once) reply saw right recorded = bind-cause past reply saw recorded
+    cause_of past (Find port) reply saw right recorded = find-cause env reply right
+    cause_of past _ reply saw right recorded = absurd saw
 
     all_caused : (calls : List Past)
         → AllByRecursion (λ (past : Past). SawOf env past.done.call past.done.reply past.steps) calls
+        → AllByRecursion (IsEndedSo M mix env (Holds M mix env) (Answered M mix env)) calls
         → AllByRecursion (IsPastCall M mix env events c) calls
         → AllByRecursion (HasCause M mix env events c) calls
-    all_caused [] saw were = tt
-    all_caused (past ∷ calls) saw were =
-        (cause_of past past.done.call past.done.reply saw.0 were.0.steps, all_caused calls saw.1 were.1)
+    all_caused [] saw right were = tt
+    all_caused (past ∷ calls) saw right were = (
+      cause_of past past.done.call past.done.reply saw.0 right.0.reply were.0.steps,
+      all_caused calls saw.1 right.1 were.1,
+    )
 
 pub causes : (M : Type 0) (mix : ℕ → ℕ → ℕ → ℕ) → Causes M mix
 causes M mix env events c admitted =
     all_caused M mix env events c admitted ((traced_of {M = M} mix env events).traces c).past
-    (past-saw M mix env events c admitted) (at_events M mix env events admitted c).past
+    (past-saw M mix env events c admitted) (runs-right M mix env events c admitted).past (at_events M mix env events admitted c).past

@@ -26,8 +26,8 @@ use Rattle.rht_core.specs.declared.local.Doing.{Doing}
 use Rattle.rht_core.specs.declared.local.Doing.TheVariants.{Idle, Finding, Binding}
 use Rattle.rht_core.specs.Locals.{fresh, machine_of, begin_with, doing_after, local_after, found_next, bound_next, IsDoingOf, IsLocalOf}
 use Rattle.rht_core.specs.Runs.{Core, World, local_of, beginning_in, with_machine, planned_in, with_step, enrolling, enrolled_after, world_step, run_of, opening, opening_core, IsSound}
-use Rattle.rht_core.proofs.CallBeginnings.{begins_so}
-use Rattle.rht_core.proofs.Worlds.{CanBegin, beginning-some, planned-some, run_keeps}
+use Rattle.rht_core.proofs.Events.CallBeginnings.{begins_so}
+use Rattle.rht_core.proofs.Events.Worlds.{CanBegin, beginning-some, planned-some, run_keeps}
 
 -- ---- what a caller does
 

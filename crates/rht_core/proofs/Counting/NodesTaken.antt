@@ -1,0 +1,272 @@
+-- In every run a bind or a rebind takes one node, or is answered that there was none, and no other call takes one.
+--
+-- What an operation does to the bits of nodes is told by its move (`took`): the move that takes a node clears that
+-- one's bit, and any other is on another word, or sets a bit, or leaves each bit. So while its answer isn't known a call has
+-- taken what it holds. A node is taken only then, and an answer tells of the node that the call has when it becomes known.
+use Rattle.std.proofs.Common.{◌≡◌, ◌↔◌, ℕ, ◌+◌, ◌/◌, ◌<◌, ◌≤◌, ◌⊎◌, inl, inr, List, [], ◌∷◌, ◌++◌, refl, sym, ap, ◌∙◌, subst, arith}
+use Rattle.std.specs.Prelude.{Option, Some, None, IfSome}
+use Rattle.std.specs.Int.{bit_at}
+use Rattle.std.proofs.lemmas.Bool.{cases_eq}
+use Rattle.rht_words.specs.declared.op.Op.{Op}
+use Rattle.rht_words.specs.declared.op.Op.TheVariants.{Or}
+use Rattle.rht_words.specs.declared.env.Env.{Env}
+use Rattle.rht_words.specs.declared.geometry.Geometry.{Geometry}
+use Rattle.rht_words.specs.declared.machine.Next.{Next}
+use Rattle.rht_words.specs.declared.machine.Next.TheVariants.{Go, Done}
+use Rattle.rht_words.specs.Maps.{bit_of}
+use Rattle.rht_words.specs.Operations.{op_place, word_after}
+use Rattle.rht_words.specs.Places.{nodes_at}
+use Rattle.rht_words.proofs.BitChanges.{bit_at-set, bit_at-set_other}
+use Rattle.rht_words.proofs.EachElement.{AllByRecursion-push}
+use Rattle.rht_words.proofs.PlacesApart.{parts_in_order}
+use Rattle.rht_model.specs.declared.history.Call.{Call}
+use Rattle.rht_model.specs.declared.history.Call.TheVariants.{Bind, Find, All, Release, Rebind, Walk, Work, Tidy, Count}
+use Rattle.rht_model.specs.declared.history.Reply.{Reply}
+use Rattle.rht_model.specs.declared.history.Reply.TheVariants.{NoNode}
+use Rattle.rht_model.specs.Answers.{Answer}
+use Rattle.rht_model.specs.Endings.{Ending}
+use Rattle.rht_arena.specs.Laws.{map_bit}
+use Rattle.rht_core.specs.Jobs.{Job, call_of, first_job, job_after, held_of, held_next}
+use Rattle.rht_core.specs.Traces.{Did}
+use Rattle.rht_core.specs.Laws.{IsNoTake, IsTakeOf, TakesNone, TakesOne, IsTakenBy, IsTakenIn, TakenAlone}
+use Rattle.rht_core.proofs.Theory.Wholes.{place_at}
+use Rattle.rht_core.proofs.Theory.Answering.{TellsNode, TellsNode-same, known_so, unknown_before}
+use Rattle.rht_core.proofs.Theory.Steps.{Holding, Move, Quiet, TakesNode, GivesNode, TakesLock, DropsLock, Raises, Links, Does}
+use Rattle.rht_core.proofs.Events.JobsOfCallers.{same_call, first_unknown, first_without}
+use Rattle.rht_core.proofs.Tracing.TracedJobs.{Performs, LeadsOn, jobs_keep}
+
+-- ---- one more step
+
+TakesOne-push : (g : Geometry) (node : ℕ) (steps : List Did) (did : Did) → TakesOne g node steps
+    → IsNoTake g did → TakesOne g node (steps ++ did ∷ [])
+TakesOne-push g node [] did takes takes_none = absurd takes
+TakesOne-push g node (first ∷ steps) did (inl now) takes_none =
+    inl (now.0, AllByRecursion-push (IsNoTake g) steps did now.1 takes_none)
+TakesOne-push g node (first ∷ steps) did (inr later) takes_none =
+    inr (later.0, TakesOne-push g node steps did later.1 takes_none)
+
+TakesOne-last : (g : Geometry) (node : ℕ) (steps : List Did) (did : Did) → TakesNone g steps
+    → IsTakeOf g node did → TakesOne g node (steps ++ did ∷ [])
+TakesOne-last g node [] did none takes = inl (takes, tt)
+TakesOne-last g node (first ∷ steps) did none takes = inr (none.0, TakesOne-last g node steps did none.1 takes)
+
+-- ---- what an operation does to the bits of nodes
+
+module _ (g : Geometry) (did : Did) where
+  -- an operation before the map of nodes, or behind it, takes none
+  off_map : ((op_place did.op < 280) ⊎ (nodes_at g ≤ op_place did.op)) → IsNoTake g did
+  off_map where_it_is node clears =
+      let parts = parts_in_order g in
+      let on : op_place did.op ≡ 280 + node / 64 = clears.place in
+      elim where_it_is [
+        | inl before ↦ absurd (omega (arith, before, on))
+        | inr behind ↦ absurd (omega (arith, behind, on, clears.within, parts.page_map, parts.nodes))
+      ]
+
+  -- and so does one that leaves each bit that it finds set
+  keeps_bits : ((bit : ℕ) → bit < 64 → bit_at did.old bit ≡ 1 → bit_at (word_after did.old did.op) bit ≡ 1)
+      → IsNoTake g did
+  keeps_bits keeps node clears =
+      let kept = keeps (map_bit node) (omega arith) clears.free in
+      absurd (omega (arith, kept, clears.taken))
+
+-- and so does one on the word of a bucket
+on_bucket : (env : Env) (mix : ℕ → ℕ → ℕ → ℕ) (did : Did) (j : ℕ) → op_place did.op ≡ place_at env mix j
+    → IsNoTake env.geometry did
+on_bucket env mix did j on =
+    let parts = parts_in_order env.geometry in
+    off_map env.geometry did (inr (omega (arith, on, parts.pages)))
+
+-- setting a bit clears none
+set_keeps : (old bit other : ℕ) → bit_at old other ≡ 1 → bit_at (word_after old (Or 0 (bit_of bit))) other ≡ 1
+set_keeps old bit other set = elim (cases_eq other bit) [
+  | inl same ↦ rw same (bit_at-set old bit)
+  | inr differ ↦ bit_at-set_other old bit other differ ∙ set
+]
+
+-- the operation took no node, and the call holds the one that it held, or none
+record TookNone (g : Geometry) (h h' : Holding) (did : Did) : Type 0 where
+  none : IsNoTake g did
+  left : (h'.node ≡ h.node) ⊎ (h'.node ≡ None)
+
+-- the operation took the node that the call holds now, and it held none before
+record TookOne (g : Geometry) (h h' : Holding) (did : Did) : Type 0 where
+  node : ℕ
+  before : h.node ≡ None
+  now : h'.node ≡ Some node
+  takes : IsTakeOf g node did
+
+-- By the move.
+took : (env : Env) (mix : ℕ → ℕ → ℕ → ℕ) (move : Move) (did : Did) (h h' : Holding)
+    → Does env mix move did.op did.old h h'
+    → TookNone env.geometry h h' did ⊎ TookOne env.geometry h h' did
+took env mix Quiet did h h' does =
+    let g = env.geometry in
+    let parts = parts_in_order g in
+    inl record {
+      none = elim does.leaves [
+        | inl leaves ↦ keeps_bits g did (λ bit l set. leaves bit l ∙ set)
+        | inr own ↦ off_map g did (inr (omega (arith, own.place)))
+      ];
+      left = inl (ap (λ (h : Holding). h.node) does.holds);
+    }
+took env mix (TakesNode n) did h h' does = inr record {
+  node = n;
+  before = does.none;
+  now = ap (λ (h : Holding). h.node) does.holds;
+  takes = record { within = does.taking.within; free = does.taking.free; clears = does.taking.clears };
+}
+took env mix (GivesNode n) did h h' does = inl record {
+  none = keeps_bits env.geometry did (λ bit l set.
+      subst (λ (op : Op). bit_at (word_after did.old op) bit ≡ 1) (sym does.giving)
+      (set_keeps did.old (map_bit n) bit set));
+  left = inr (ap (λ (h : Holding). h.node) does.holds);
+}
+took env mix (TakesLock j) did h h' does = inl record {
+  none = on_bucket env mix did j does.on;
+  left = inl (ap (λ (h : Holding). h.node) does.holds);
+}
+took env mix (DropsLock j) did h h' does = inl record {
+  none = on_bucket env mix did j does.on;
+  left = inl (ap (λ (h : Holding). h.node) does.holds);
+}
+took env mix Raises did h h' does = inl record {
+  none = off_map env.geometry did (inl (let on : op_place did.op ≡ 2 = ap op_place does.adds in omega (arith, on)));
+  left = inl (ap (λ (h : Holding). h.node) does.holds);
+}
+took env mix (Links n port j) did h h' does = inl record {
+  none = on_bucket env mix did j does.on;
+  left = inr (ap (λ (h : Holding). h.node) does.holds);
+}
+
+-- ---- what a call has taken
+
+-- the steps took the node that the call holds, and none where it holds none
+abbrev HasTaken : Geometry → Option ℕ → List Did → Type 0
+HasTaken g None steps = TakesNone g steps
+HasTaken g (Some node) steps = TakesOne g node steps
+
+HasTaken-push : (g : Geometry) (node : Option ℕ) (steps : List Did) (did : Did) → HasTaken g node steps
+    → IsNoTake g did → HasTaken g node (steps ++ did ∷ [])
+HasTaken-push g None steps did taken takes_none = AllByRecursion-push (IsNoTake g) steps did taken takes_none
+HasTaken-push g (Some node) steps did taken takes_none = TakesOne-push g node steps did taken takes_none
+
+module _ (mix : ℕ → ℕ → ℕ → ℕ) (env : Env) where
+  abbrev g : Geometry
+  g = env.geometry
+
+  -- what is kept of a call, by what it holds: which node it has taken; while its answer isn't known it holds that node, and
+  -- once it is known it tells of it
+  record HasKept (call : Call) (h : Holding) (steps : List Did) : Type 0 where
+    node : Option ℕ
+    taken : HasTaken g node steps
+    holds : h.answer ≡ None → h.node ≡ node
+    told : IfSome h.answer (λ answer. TellsNode call node answer.reply)
+
+  abbrev JobTakes : Job → List Did → Type 0
+  JobTakes job steps = HasKept (call_of job) (held_of job) steps
+
+  module _ (job : Job) (steps : List Did) (did : Did) (performs : Performs mix env job did) (kept : JobTakes job steps) where
+    abbrev h : Holding
+    h = held_of job
+
+    abbrev after : Holding
+    after = held_next (job_after mix env job did.old)
+
+    abbrev all : List Did
+    all = steps ++ did ∷ []
+
+    took_by : TookNone g h after did ⊎ TookOne g h after did
+    took_by =
+        let step = performs.step in
+        took env mix step.move did h after
+        (subst (λ old. Does env mix step.move did.op old h after) (sym performs.found) step.does)
+
+    unknown : after.answer ≡ None → h.answer ≡ None
+    unknown none = unknown_before env.config.kind performs.caller (call_of job) _ _ h.answer after.answer performs.step.says none
+
+    -- an operation that takes no node leaves what the call has taken
+    kept_still : TookNone g h after did → HasKept (call_of job) after all
+    kept_still none_now = record {
+      node = kept.node;
+      taken = HasTaken-push g kept.node steps did kept.taken none_now.none;
+      holds = λ none. elim none_now.left [
+        | inl same ↦ same ∙ kept.holds (unknown none)
+        | inr gone ↦ holds_none kept.node (kept.holds (unknown none)) gone none
+      ];
+      told =
+          known_so env.config.kind performs.caller (call_of job) (λ answer. TellsNode (call_of job) kept.node answer.reply)
+          (TellsNode-same (call_of job) kept.node) _ _ h.answer after.answer performs.step.says
+          (λ answer before known. subst (λ node. TellsNode (call_of job) node answer.reply) (kept.holds before)
+          (performs.step.right answer before known).tells)
+          kept.told;
+    }
+      where
+        holds_none : (node : Option ℕ) → h.node ≡ node → after.node ≡ None → after.answer ≡ None → after.node ≡ node
+        holds_none None had gone none = gone
+        holds_none (Some node) had gone none = absurd (performs.step.in_time.gone node had gone none)
+
+    -- one that takes a node is made while no answer is known, so the call had taken none
+    kept_one : TookOne g h after did → HasKept (call_of job) after all
+    kept_one one =
+        let none = performs.step.in_time.taken one.node one.before one.now in
+        let had_none : kept.node ≡ None = sym (kept.holds (unknown none)) ∙ one.before in
+        record {
+          node = Some one.node;
+          taken = TakesOne-last g one.node steps did (subst (λ node. HasTaken g node steps) had_none kept.taken) one.takes;
+          holds = λ still. one.now;
+          told = subst (λ answer. IfSome answer (λ a. TellsNode (call_of job) (Some one.node) a.reply)) (sym none) tt;
+        }
+
+    kept_next : HasKept (call_of job) after all
+    kept_next = elim took_by [
+      | inl none_now ↦ kept_still none_now
+      | inr one ↦ kept_one one
+    ]
+
+  -- a call that ends has taken the node of which it tells
+  by_none : (node : Option ℕ) (reply : Reply) (steps : List Did) → (node ≡ None) ↔ (reply ≡ NoNode) → HasTaken g node steps
+      → IsTakenBy g reply steps
+  by_none None reply steps tells taken = inl (tells.0 refl, taken)
+  by_none (Some node) reply steps tells taken = inr (λ no_node. let none = tells.1 no_node in cc, (node, taken))
+
+  ends_taken : (call : Call) (node : Option ℕ) (reply : Reply) (steps : List Did) → TellsNode call node reply → HasTaken g node steps
+      → IsTakenIn g call reply steps
+  ends_taken (Bind port owner once) node reply steps tells taken = by_none node reply steps tells taken
+  ends_taken (Find port) node reply steps none taken = subst (λ node. HasTaken g node steps) none taken
+  ends_taken (All port) node reply steps none taken = subst (λ node. HasTaken g node steps) none taken
+  ends_taken (Release port owner) node reply steps none taken = subst (λ node. HasTaken g node steps) none taken
+  ends_taken (Rebind port owner new) node reply steps tells taken = by_none node reply steps tells taken
+  ends_taken (Walk from limit) node reply steps none taken = subst (λ node. HasTaken g node steps) none taken
+  ends_taken Work node reply steps none taken = subst (λ node. HasTaken g node steps) none taken
+  ends_taken Tidy node reply steps none taken = subst (λ node. HasTaken g node steps) none taken
+  ends_taken Count node reply steps none taken = subst (λ node. HasTaken g node steps) none taken
+
+  abbrev Ended : Call → Ending → List Did → Type 0
+  Ended call ending steps = IsTakenIn g call ending.answer.reply steps
+
+  leads_taken : (M : Type 0) (job : Job) (all : List Did) (next : Job × Next Ending) → call_of next.0 ≡ call_of job
+      → HasKept (call_of job) (held_next next) all → LeadsOn M mix env JobTakes Ended job all next
+  leads_taken M job all (after, Go) same kept = subst (λ call. HasKept call (held_of after) all) (sym same) kept
+  leads_taken M job all (after, Done ending) same kept =
+      ends_taken (call_of job) kept.node ending.answer.reply all kept.told kept.taken
+
+  -- at its beginning a call holds nothing
+  begins_taken : (call : Call) (job : Job) → first_job env call ≡ Some job → JobTakes job []
+  begins_taken call job is = record {
+    node = None;
+    taken = tt;
+    holds = λ none. first_without env call job is;
+    told = subst (λ (answer : Option Answer). IfSome answer (λ a. TellsNode (call_of job) None a.reply)) (sym (first_unknown env call job is)) tt;
+  }
+
+pub taken_alone : (M : Type 0) (mix : ℕ → ℕ → ℕ → ℕ) → TakenAlone M mix
+taken_alone M mix env events admitted c =
+    (jobs_keep M mix env (JobTakes mix env) (Ended mix env)
+    record {
+      begins = begins_taken mix env;
+      goes = λ job steps did performs kept.
+          leads_taken mix env M job (steps ++ did ∷ []) (job_after mix env job did.old) (same_call mix env job did.old)
+          (kept_next mix env job steps did performs kept);
+    }
+    events c admitted).past

@@ -1,0 +1,4 @@
+-- the last table that a call walked is the one whose shape it loaded last
+pub mod TablesWalked
+-- in every run each call that has ended has a reply with its cause
+pub mod CausesInRuns

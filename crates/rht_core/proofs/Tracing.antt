@@ -1,0 +1,14 @@
+-- a run with its traces, event by event
+pub mod TracedRuns
+-- what each caller keeps of itself and of its trace holds in every run
+pub mod TracedCallers
+-- what jobs keep of their calls' operations holds of each call in every run
+pub mod TracedJobs
+-- in every run the traces remember each call
+pub mod TracesInRuns
+-- in every run the traces say what happened at which event
+pub mod TracesAtEvents
+-- in every run each operation stands in the trace of its call
+pub mod StepsInTraces
+-- in every run each call that has ended has a reply of its kind
+pub mod RepliesInRuns
