@@ -1,7 +1,5 @@
 -- an entry is put into a numbered history where it changes nothing, behind it, or gets another reply
 pub mod NumberedEntries
--- what is known of the answer of a call that alone changes bindings
-pub mod Meeting
 -- what the words stand for after so many events
 pub mod Behind
 -- histories beside runs
@@ -12,7 +10,7 @@ pub mod CallerEntries
 pub mod CallEnds
 -- in every run there is a history that fits it
 pub mod FittingRuns
--- one call alone meets the model
-pub mod AloneRuns
+-- a call that is alone stands behind all others in a history that fits
+pub mod AloneCalls
 -- one call alone meets the model, and has its cause
 pub mod AloneLaw

@@ -112,17 +112,6 @@ module _ (M : Type 0) where
       ∙ ap (λ (e : Env). (told (job_after mix e (binds m.port m.owner m.once m.at) old)).0) of
       ∙ ap (λ (j : Job). (told (job_after mix env j old)).0) here
 
-  -- and the operation of its job is what it plans
-  pub job-plans : (env : Env) (doing : Doing M) (job : Job) → IsDoingOf env doing → job_of doing ≡ Some job
-      → doing_plan doing ≡ Some (job_plan env job)
-  job-plans env Idle job of is = absurd (cc)
-  job-plans env (Finding m) job of is =
-      let here : finds m.port m.at ≡ job = cc in
-      ap (λ (e : Env). Some (find.plan_at e m.at)) of ∙ ap (λ (j : Job). Some (job_plan env j)) here
-  job-plans env (Binding m) job of is =
-      let here : binds m.port m.owner m.once m.at ≡ job = cc in
-      ap (λ (e : Env). Some (bind.plan_at e m.at)) of ∙ ap (λ (j : Job). Some (job_plan env j)) here
-
 module _ {M : Type 0} where
   -- who is in no call has no job
   pub nothing-job : (doing : Doing M) → does_nothing doing ≡ is_no_job (job_of doing)

@@ -3,7 +3,7 @@
 -- else that holds of runs goes through these equations.
 use Rattle.std.proofs.Common.{◌≡◌, ◌≢◌, ℕ, ◌<◌, ◌≤◌, Bool, true, false, cond, ◌&&◌, ◌==◌, nat_lt, List, [], ◌∷◌, ◌++◌, length, take, refl, sym, ap, ◌∙◌, subst, append_assoc}
 use Rattle.std.specs.Prelude.{Option, Some, None, slice_set}
-use Rattle.std.proofs.lemmas.Bool.{eq-eqb, ne_eqb, ltb-true, lt-ltb, and_parts}
+use Rattle.std.proofs.lemmas.Bool.{eq-eqb, ne_eqb, ltb-true, and_parts}
 use Rattle.std.proofs.lemmas.List.{append-nil, take-append-le, get_or-set_same, get_or-set_other}
 use Rattle.std.proofs.Math.Seq.{take-append_seam}
 use Rattle.rht_words.specs.declared.op.Op.{Op}
@@ -90,12 +90,6 @@ module _ {M : Type 0} where
   planned-some env enrolled locals c op is =
       let parts = cond_none (nat_lt c enrolled) (plan_of (local_in env locals c)) op is in
       record { below = ltb-true c enrolled parts.0; plan = parts.1 }
-
-  -- of who is enrolled the local alone says what it plans
-  pub planned-enrolled : (env : Env) (enrolled : ℕ) (locals : List (Local M)) (c : ℕ) → c < enrolled
-      → planned env enrolled locals c ≡ plan_of (local_in env locals c)
-  planned-enrolled env enrolled locals c below =
-      ap (λ (v : Bool). cond v (plan_of (local_in env locals c)) None) (lt-ltb c enrolled below)
 
 -- ---- what an event does
 

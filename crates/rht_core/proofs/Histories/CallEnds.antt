@@ -38,7 +38,7 @@ AreEnded-push (call ∷ calls) [] past x ended is = absurd ended
 AreEnded-push (call ∷ calls) (y ∷ ys) past x ended is = (ended.0, AreEnded-push calls ys past x ended.1 is)
 
 -- one more call, which may be about bindings or not
-about-push : (calls : List Past) (past : Past)
+pub about-push : (calls : List Past) (past : Past)
     → about_bindings (calls ++ past ∷ []) ≡ about_bindings calls ++ about_bindings (past ∷ [])
 about-push [] past = refl
 about-push (call ∷ calls) past = go (is_some (port_of call.done.call)) (about-push calls past)

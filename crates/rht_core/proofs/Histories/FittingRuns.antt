@@ -414,7 +414,7 @@ module _ (M : Type 0) (mix : ℕ → ℕ → ℕ → ℕ) (env : Env) where
   -- ---- runs
 
   -- at opening nothing is bound
-  opening-agree : Agree unbound (at_end [])
+  pub opening-agree : Agree unbound (at_end [])
   opening-agree p = sym (stands_for_bound env mix (opening_words env) (opening_ghost env) (opening_whole env mix) p)
 
   opening-fits : IsFitting [] (R [])

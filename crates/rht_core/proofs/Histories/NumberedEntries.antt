@@ -3,6 +3,7 @@
 use Rattle.std.proofs.Common.{◌≡◌, ◌≢◌, ◌⊎◌, ℕ, ◌+◌, ◌<◌, ◌≤◌, ◌==◌, nat_le, List, [], ◌∷◌, ◌++◌, Some, Bool, true, false, cond, refl, sym, ◌∙◌, ap, inl, inr, arith}
 use Rattle.std.proofs.lemmas.Bool.{cases_eq, cases_lt, eq-eqb, ne_eqb}
 use Rattle.std.proofs.lemmas.Bool.Decides.{nat_tests}
+use Rattle.std.proofs.lemmas.List.{append-nil}
 use Rattle.rht_words.specs.declared.config.Kind.{Kind}
 use Rattle.rht_model.specs.Multimap.{Multimap, Agree}
 use Rattle.rht_model.specs.declared.history.Call.{Call}
@@ -25,13 +26,6 @@ abbrev pub AllBelow : ℕ → List Numbered → Type 0
 AllBelow bound [] = Unit {0}
 AllBelow bound (x ∷ xs) = (x.number < bound) × AllBelow bound xs
 
--- up to an event behind all of them, all entries are numbered
-pub numbered_to-all : (i : ℕ) (xs : List Numbered) → AllBelow (i + 1) xs → numbered_to i xs ≡ history_of xs
-numbered_to-all i [] below = refl
-numbered_to-all i (x ∷ xs) below =
-    let here : nat_le x.number i ≡ true = (let l = below.0 in grind (arith, nat_tests)) in
-    rw here (ap (λ rest. x.entry ∷ rest) (numbered_to-all i xs below.1))
-
 pub AllBelow-more : (bound more : ℕ) (xs : List Numbered) → bound ≤ more → AllBelow bound xs → AllBelow more xs
 AllBelow-more bound more [] le below = tt
 AllBelow-more bound more (x ∷ xs) le below = (let l = below.0 in omega arith, AllBelow-more bound more xs le below.1)
@@ -42,6 +36,18 @@ numbered_to-none i from [] l rising = refl
 numbered_to-none i from (x ∷ xs) l rising =
     let past : nat_le x.number i ≡ false = (let r = rising.0 in grind (arith, nat_tests)) in
     rw past (numbered_to-none i x.number xs (let r = rising.0 in omega arith) rising.1)
+
+-- where all others are numbered behind it, the entries up to an event are the first ones
+pub numbered_to-before : (i : ℕ) (low high : List Numbered) → AllBelow (i + 1) low → NeverFalls (i + 1) high
+    → numbered_to i (low ++ high) ≡ history_of low
+numbered_to-before i [] high below rising = numbered_to-none i (i + 1) high (omega arith) rising
+numbered_to-before i (x ∷ low) high below rising =
+    let here : nat_le x.number i ≡ true = (let l = below.0 in grind (arith, nat_tests)) in
+    rw here (ap (λ rest. x.entry ∷ rest) (numbered_to-before i low high below.1 rising))
+
+-- and where there are no others, all are
+pub numbered_to-all : (i : ℕ) (xs : List Numbered) → AllBelow (i + 1) xs → numbered_to i xs ≡ history_of xs
+numbered_to-all i xs below = ap (numbered_to i) (sym (append-nil xs)) ∙ numbered_to-before i xs [] below tt
 
 -- ---- an entry that changes nothing
 

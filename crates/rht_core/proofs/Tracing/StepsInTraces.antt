@@ -24,6 +24,7 @@ use Rattle.rht_core.specs.Locals.{is_idle, plan_of, local_after, ending_of}
 use Rattle.rht_core.specs.Jobs.{Job, call_of, job_of}
 use Rattle.rht_core.specs.Runs.{World, local_of, beginning_in, planned_in, run_of, IsAdmitted, IsAdmittedEvent}
 use Rattle.rht_core.specs.Traces.{Did, Past, Trace, Traced, trace_begun, trace_did, traces_after, traced_of, steps_by_call, IsStepOf, IsRising, behind_steps, behind_call, behind_calls, AreInOrder}
+use Rattle.rht_core.specs.Replies.{IsBookOfIdle}
 use Rattle.rht_core.specs.Laws.{IsInProgress, IsRecorded, calls_ended, AllStepsTraced}
 use Rattle.rht_core.proofs.Events.Worlds.{induct_by_last, take-push, take-push_all, beginning-some, planned-some}
 use Rattle.rht_core.proofs.Events.CallBeginnings.{idle_plans}
@@ -136,19 +137,24 @@ module _ (M : Type 0) (mix : ℕ → ℕ → ℕ → ℕ) (env : Env) where
   abbrev R : List Event → Traced M
   R events = traced_of mix env events
 
-  -- a caller in no call has no operations of one
-  at_rest-none : (job : Option Job) (book : Book) (steps : List Did) → is_no_job job ≡ true
-      → IsAtJob M mix env (Holds M mix env) (Answered M mix env) job book steps → book.steps ≡ 0
-  at_rest-none None book steps none at = at.steps
-  at_rest-none (Some job) book steps none at = absurd (cc)
+  -- a caller in no call has none in its book, and no operations of one
+  at_rest-book : (job : Option Job) (book : Book) (steps : List Did) → is_no_job job ≡ true
+      → IsAtJob M mix env (Holds M mix env) (Answered M mix env) job book steps → IsBookOfIdle book
+  at_rest-book None book steps none at = at
+  at_rest-book (Some job) book steps none at = absurd (cc)
+
+  pub idle-book : (events : List Event) (c : ℕ) → IsAdmitted env.config.kind events
+      → is_idle (local_of (R events).world.core c) ≡ true → IsBookOfIdle ((R events).world.books c)
+  idle-book events c admitted idle =
+      let local = local_of (R events).world.core c in
+      at_rest-book (job_of local.doing) ((R events).world.books c) _ (sym (nothing-job local.doing) ∙ idle)
+      (runs-right M mix env events c admitted).now
 
   idle-none : (events : List Event) (c : ℕ) → IsAdmitted env.config.kind events → is_idle (local_of (R events).world.core c) ≡ true
       → ((R events).traces c).steps ≡ []
   idle-none events c admitted idle =
-      let local = local_of (R events).world.core c in
-      let book = (R events).world.books c in
-      let none = at_rest-none (job_of local.doing) book _ (sym (nothing-job local.doing) ∙ idle) (runs-right M mix env events c admitted).now in
-      nil_from_length ((R events).traces c).steps ((traces_of_books M mix env events c admitted).steps ∙ none)
+      nil_from_length ((R events).traces c).steps
+      ((traces_of_books M mix env events c admitted).steps ∙ (idle-book events c admitted idle).steps)
 
   -- and one that plans an operation has a call in its book
   at_work-call : (local : Local M) (op : Op) (job : Option Job) (book : Book) (steps : List Did)

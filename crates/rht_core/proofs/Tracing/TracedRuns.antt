@@ -25,7 +25,7 @@ module _ (M : Type 0) (mix : ℕ → ℕ → ℕ → ℕ) where
   abbrev pub traced_opening : Env → Traced M
   traced_opening env = record { world = opening env; count = 0; traces = λ _. no_trace }
 
-  traced_from-append : (r : Traced M) (past rest : List Event)
+  pub traced_from-append : (r : Traced M) (past rest : List Event)
       → traced_from mix r (past ++ rest) ≡ traced_from mix (traced_from mix r past) rest
   traced_from-append r [] rest = refl
   traced_from-append r (event ∷ past) rest = traced_from-append (traced_step mix r event) past rest
