@@ -6,3 +6,5 @@ pub mod Quiet
 pub mod Linking
 -- a store that changes what a port is bound to
 pub mod Rebinding
+-- a store that gives a bucket another chain
+pub mod Relinking

@@ -61,6 +61,26 @@ NotIn-append k [] ys p q = q
 NotIn-append k (a ∷ xs) ys p q = (p.0, NotIn-append k xs ys p.1 q)
 
 -- in a list without repeats a member is in neither part round it
+-- a list without one of its numbers, and with one more that is none of it
+pub IsDistinct-without : (xs : List ℕ) (m : ℕ) (ys : List ℕ) → IsDistinct (xs ++ m ∷ ys) → IsDistinct (xs ++ ys)
+IsDistinct-without [] m ys d = d.1
+IsDistinct-without (x ∷ xs) m ys d =
+    let cut = NotIn-cut x xs m ys d.0 in (NotIn-append x xs ys cut.0 cut.2, IsDistinct-without xs m ys d.1)
+
+pub IsDistinct-with : (xs : List ℕ) (m : ℕ) (ys : List ℕ) → IsDistinct (xs ++ ys) → NotIn m xs → NotIn m ys
+    → IsDistinct (xs ++ m ∷ ys)
+IsDistinct-with [] m ys d before behind = (behind, d)
+IsDistinct-with (x ∷ xs) m ys d before behind = (
+  not_in_from x (xs ++ m ∷ ys) (λ i. elim (In-append_cases x xs (m ∷ ys) i) [
+    | inl l ↦ in_and_not x (xs ++ ys) (In-append_left x xs ys l) d.0
+    | inr r ↦ elim r [
+      | inl e ↦ before.0 (sym e)
+      | inr k ↦ in_and_not x (xs ++ ys) (In-append_right x xs ys k) d.0
+    ]
+  ]),
+  IsDistinct-with xs m ys d.1 before.1 behind,
+)
+
 pub IsDistinct-cut : (xs : List ℕ) (m : ℕ) (ys : List ℕ) → IsDistinct (xs ++ m ∷ ys) → NotIn m xs × NotIn m ys
 IsDistinct-cut [] m ys d = (tt, d.0)
 IsDistinct-cut (a ∷ xs) m ys d =
