@@ -8,3 +8,7 @@ pub mod Linking
 pub mod Rebinding
 -- a store that gives a bucket another chain
 pub mod Relinking
+-- the stores that take nodes out of chains and lists
+pub mod Removing
+-- the store that takes a node out of a list
+pub mod ListCuts

@@ -61,6 +61,21 @@ NotIn-append k [] ys p q = q
 NotIn-append k (a ∷ xs) ys p q = (p.0, NotIn-append k xs ys p.1 q)
 
 -- in a list without repeats a member is in neither part round it
+-- the front of a list in which no number stands twice, and that none of its numbers is behind it
+NotIn-left : (n : ℕ) (xs ys : List ℕ) → NotIn n (xs ++ ys) → NotIn n xs
+NotIn-left n [] ys out = tt
+NotIn-left n (x ∷ xs) ys out = (out.0, NotIn-left n xs ys out.1)
+
+pub IsDistinct-left : (xs ys : List ℕ) → IsDistinct (xs ++ ys) → IsDistinct xs
+IsDistinct-left [] ys distinct = tt
+IsDistinct-left (n ∷ xs) ys distinct = (NotIn-left n xs ys distinct.0, IsDistinct-left xs ys distinct.1)
+
+pub IsDistinct-apart : (xs ys : List ℕ) (left right : ℕ) → IsDistinct (xs ++ ys) → In left xs → In right ys → right ≢ left
+IsDistinct-apart [] ys left right distinct i l same = i
+IsDistinct-apart (x ∷ xs) ys left right distinct (inl here) l same =
+    in_and_not x (xs ++ ys) (In-append_right x xs ys (subst (λ n. In n ys) (same ∙ here) l)) distinct.0
+IsDistinct-apart (x ∷ xs) ys left right distinct (inr i) l same = IsDistinct-apart xs ys left right distinct.1 i l same
+
 -- a list without one of its numbers, and with one more that is none of it
 pub IsDistinct-without : (xs : List ℕ) (m : ℕ) (ys : List ℕ) → IsDistinct (xs ++ m ∷ ys) → IsDistinct (xs ++ ys)
 IsDistinct-without [] m ys d = d.1

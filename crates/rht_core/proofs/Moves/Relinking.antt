@@ -10,14 +10,14 @@ use Rattle.rht_words.specs.Members.{In, NotIn, IsDistinct}
 use Rattle.rht_words.proofs.Memory.{Memory, IsWrite}
 use Rattle.rht_words.proofs.LinksRead.{heads_come_back}
 use Rattle.rht_words.proofs.ChainLemmas.{IsSegment-cut, IsSegment-members}
-use Rattle.rht_words.proofs.Members.{in_and_not, In-append_left, In-append_right}
+use Rattle.rht_words.proofs.Members.{in_and_not, In-append_left, In-append_right, IsDistinct-left, IsDistinct-apart}
 use Rattle.rht_core.proofs.Theory.Ghosts.{Bucket, lock_bit}
 use Rattle.rht_core.proofs.Theory.Wholes.{chain_of, place_at, BucketRight}
 use Rattle.rht_core.proofs.Theory.Knowledge.{last_of}
 
 -- ---- the last of a row
 
-last_in : (nodes : List ℕ) (last : ℕ) → last_of nodes ≡ Some last → In last nodes
+pub last_in : (nodes : List ℕ) (last : ℕ) → last_of nodes ≡ Some last → In last nodes
 last_in [] last is = absurd (cc)
 last_in (node ∷ []) last is = inl (let same : node ≡ last = cc in sym same)
 last_in (node ∷ next ∷ nodes) last is = inr (last_in (next ∷ nodes) last is)
@@ -82,15 +82,6 @@ module _ (env : Env) (mix : ℕ → ℕ → ℕ → ℕ) (M M' : Memory) (j link
     pub distinct : IsDistinct (front ++ (new ++ rear))
     pub among : (n : ℕ) → In n (front ++ (new ++ rear)) → n < env.geometry.nodes
 
-  -- the part before the last node is distinct
-  distinct-front : (front behind : List ℕ) → IsDistinct (front ++ behind) → IsDistinct front
-  distinct-front [] behind distinct = tt
-  distinct-front (n ∷ front) behind distinct = (not-front n front behind distinct.0, distinct-front front behind distinct.1)
-    where
-      not-front : (n : ℕ) (xs ys : List ℕ) → NotIn n (xs ++ ys) → NotIn n xs
-      not-front n [] ys out = tt
-      not-front n (x ∷ xs) ys out = (out.0, not-front n xs ys out.1)
-
   at_word : (front : List ℕ) (node : ℕ) (rear new : List ℕ) → CanRelink front node rear new → front ≡ []
       → IsWrite env.geometry M M' (PageWord j) (plain_of place link)
       → BucketRight env mix M' j (relinked place link b (front ++ (new ++ rear)) None)
@@ -115,7 +106,7 @@ module _ (env : Env) (mix : ℕ → ℕ → ℕ → ℕ) (M M' : Memory) (j link
       → BucketRight env mix M' j (relinked place link b (front ++ (new ++ rear)) (Some before))
   behind_node front node rear new before can last write =
       let first = head_of place b.plain in
-      let distinct = distinct-front front (new ++ rear) can.distinct in
+      let distinct = IsDistinct-left front (new ++ rear) can.distinct in
       let before_in = last_in front before last in
       let cut = IsSegment-cut (chain_of M) front node rear first (marker_of place)
       (subst (λ nodes. IsSegment (chain_of M) first nodes (marker_of place)) can.split can.right.chained.segment) in
@@ -123,7 +114,7 @@ module _ (env : Env) (mix : ℕ → ℕ → ℕ → ℕ) (M M' : Memory) (j link
       λ n i ne. write.others (Node n ChainLink) (can.among n i) (λ e. ne (cc)) in
       let rest : IsSegment (chain_of M') link (new ++ rear) (marker_of place) =
       IsSegment-members (chain_of M) (chain_of M') link (new ++ rear) (marker_of place)
-      (λ n i. others n (In-append_right n front (new ++ rear) i) (apart front (new ++ rear) n before can.distinct before_in i)) can.behind in
+      (λ n i. others n (In-append_right n front (new ++ rear) i) (IsDistinct-apart front (new ++ rear) before n can.distinct before_in i)) can.behind in
       record {
         locked = record {
           word_is = write.others (PageWord j) can.within (λ e. cc) ∙ can.right.locked.word_is;
@@ -137,12 +128,6 @@ module _ (env : Env) (mix : ℕ → ℕ → ℕ → ℕ) (M M' : Memory) (j link
           distinct = can.distinct;
         };
       }
-    where
-      apart : (xs ys : List ℕ) (n p : ℕ) → IsDistinct (xs ++ ys) → In p xs → In n ys → n ≢ p
-      apart [] ys n p d i k e = i
-      apart (x ∷ xs) ys n p d (inl here) k e =
-          in_and_not x (xs ++ ys) (In-append_right x xs ys (subst (λ q. In q ys) (e ∙ here) k)) d.0
-      apart (x ∷ xs) ys n p d (inr i) k e = apart xs ys n p d.1 i k e
 
   -- with either store the bucket is right again
   pub relinked_right : (front : List ℕ) (node : ℕ) (rear new : List ℕ) (before : Option ℕ) → CanRelink front node rear new
