@@ -41,7 +41,7 @@ module _ (env : Env) (mix : ℕ → ℕ → ℕ → ℕ) where
     word_same m w l = write.others (Node m w) l (λ e. cc)
 
     words_stay : UsedStay env mix M G M'
-    words_stay = used_stay env mix M M' G (PageWord here) (link_of n) write (λ m w e. cc)
+    words_stay = used_stay env mix M M' G (PageWord here) (link_of n) whole write (λ m w e. cc)
 
     first_word : (m j : ℕ) (w : NodeWord) → G.node m ≡ First j → M' (Node m w) ≡ M (Node m w)
     first_word = first_stays env mix M M' G whole words_stay
@@ -93,7 +93,7 @@ module _ (env : Env) (mix : ℕ → ℕ → ℕ → ℕ) where
             first = put-other G.node n (First here) m (first_differs m to.bucket to.first) ∙ to.first;
             key_is = first_word m to.bucket KeyWord to.first ∙ to.key_is;
             list = rw link (IsSegment-members (list_of M) (list_of M') (list_of M m) behind 0
-                (λ k i. words_stay ListLink k (whole.owned.behind_in k q (to.each k i)).among (ap is_used (to.each k i))) to.list);
+                (λ k i. words_stay.lists k (whole.owned.behind_in k q (to.each k i)).among (ap is_used (to.each k i))) to.list);
             distinct = to.distinct;
             each = λ k i.
                 put-other G.node n (First here) k (used_differs k (ap is_used (to.each k i))) ∙ to.each k i;
@@ -133,7 +133,7 @@ module _ (env : Env) (mix : ℕ → ℕ → ℕ → ℕ) where
             let other : p ≢ port = λ e. let q : ◌≡◌ {A = List ℕ} [] (is.first ∷ is.behind) = sym ready.unbound ∙ ap G.bound (sym e) ∙ is.bound_to in cc in
             record {
               among = is.among;
-              key_is = words_stay KeyWord k is.among (ap is_used f) ∙ is.key_is;
+              key_is = words_stay.keys k is.among (ap is_used f) ∙ is.key_is;
               first = is.first;
               behind = is.behind;
               bound_to = put-other G.bound port (n ∷ []) p other ∙ is.bound_to;
@@ -179,8 +179,8 @@ module _ (env : Env) (mix : ℕ → ℕ → ℕ → ℕ) where
             let at = whole.owned.first_at m j (whole.owned.member j m i) in
             put-other G.bound port (n ∷ []) (key_of M m)
             (λ e. let q : ◌≡◌ {A = List ℕ} [] (m ∷ at.behind) = sym ready.unbound ∙ ap G.bound (sym e) ∙ at.bound_to in cc);
-        keys = words_stay KeyWord;
-        owners = words_stay OwnerWord;
+        keys = words_stay.keys;
+        owners = words_stay.owners;
         nodes =
             λ m has. put-other G.node n (First here) m (λ e. ne (held_by_one (G.node n) c d (ap G.node (sym e) ∙ has.mine) ready.has.mine)) ∙ has.mine;
         words = λ m has w. word_same m w has.among;

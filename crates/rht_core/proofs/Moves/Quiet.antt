@@ -1,6 +1,6 @@
 -- The moves of a bind and a look-up that change neither nodes nor what is bound: the lock of a bucket is taken and dropped, and
 -- the count of ports is raised.
-use Rattle.std.proofs.Common.{◌≡◌, ◌≢◌, ℕ, ◌+◌, ◌*◌, ◌%◌, ◌^◌, ◌<◌, Option, Some, None, true, false, refl, sym, ◌∙◌, ap, arith}
+use Rattle.std.proofs.Common.{◌≡◌, ◌≢◌, ℕ, ◌+◌, ◌-◌, ◌*◌, ◌%◌, ◌^◌, ◌<◌, Option, Some, None, true, false, refl, sym, ◌∙◌, ap, arith}
 use Rattle.rht_words.specs.declared.env.Env.{Env}
 use Rattle.rht_words.specs.Places.{Address, PortCount, NodeMap, Node, NodeWord, KeyWord, OwnerWord, PageWord}
 use Rattle.rht_words.proofs.Memory.{Memory, IsWrite}
@@ -35,7 +35,7 @@ module _ (env : Env) (mix : ℕ → ℕ → ℕ → ℕ) where
   relocked j v holder M M' G whole l is write =
       let old = (whole.buckets j l).locked in
       Whole-frame env mix M M' G (with_holder G j holder) (PageWord j) v whole write (record { current = λ e. cc; slots = λ s u h e. cc }) (held_chains G j holder)
-      (used_stay env mix M M' G (PageWord j) v write (λ n w e. cc))
+      (used_stay env mix M M' G (PageWord j) v whole write (λ n w e. cc))
       (put-all (λ i b. i < 64 * env.geometry.pages → LockedRight env mix M' i b) G.bucket j (record (G.bucket j) { holder = holder })
       (λ k. record { word_is = write.same ∙ is; even = old.even; none_out = old.none_out; none_armed = old.none_armed })
       (λ i ne k. let right = (whole.buckets i k).locked in record {
@@ -115,12 +115,36 @@ module _ (env : Env) (mix : ℕ → ℕ → ℕ → ℕ) where
       = count_below-more G.raised (put G.raised d true) d env.geometry.callers l low (put-same G.raised d true) (λ n ne. put-other G.raised d true n ne) in
       let next : v ≡ firsts env mix G + (raisers env mix G + 1)
       = omega (arith, whole.counted, few, fewer, within.nodes_within.1, within.callers_within.1) in
-      let stay = used_stay env mix M M' G PortCount v write (λ n w e. cc) in
+      let stay = used_stay env mix M M' G PortCount v whole write (λ n w e. cc) in
       record {
         whole = Whole-frame env mix M M' G (with_raised G d true) PortCount v whole write (record { current = λ e. cc; slots = λ s u h e. cc }) (same_chains env mix G (put G.raised d true)) stay
             (locks_stay env mix M M' G PortCount v whole write (λ j e. cc)) (arena_stays env mix M M' G PortCount v whole write (with_raised G d true) refl (λ i e. cc))
             (write.same ∙ next ∙ ap (λ x. firsts env mix G + x) (sym more));
         others = λ c ne. Rely-same env mix c M M' G (with_raised G d true) whole (same_tables env mix G G.bucket G.node G.bound (put G.raised d true)) refl refl refl (put-other G.raised d true c ne) stay
+            (λ n w has. write.others (Node n w) has.among (λ e. cc));
+      }
+
+  -- the store of a call that lowers the count which it still had to lower
+  pub count_down : (d : ℕ) (M M' : Memory) (G : Ghost) → Whole env mix M G → d < env.geometry.callers
+      → G.raised d ≡ true
+      → IsWrite env.geometry M M' PortCount ((M PortCount + (2 ^ 64 - 1)) % 2 ^ 64)
+      → Made env mix d M G M' (with_raised G d false)
+  count_down d M M' G whole l high write =
+      let v = (M PortCount + (2 ^ 64 - 1)) % 2 ^ 64 in
+      let within = env.geometry.within in
+      let few = count_below-most (λ n. is_first (G.node n)) env.geometry.nodes in
+      let fewer = count_below-most G.raised env.geometry.callers in
+      let less : raisers env mix G ≡ raisers env mix (with_raised G d false) + 1
+      = count_below-more (put G.raised d false) G.raised d env.geometry.callers l (put-same G.raised d false) high
+      (λ n ne. sym (put-other G.raised d false n ne)) in
+      let next : v ≡ firsts env mix G + raisers env mix (with_raised G d false)
+      = omega (arith, whole.counted, less, few, fewer, within.nodes_within.1, within.callers_within.1) in
+      let stay = used_stay env mix M M' G PortCount v whole write (λ n w e. cc) in
+      record {
+        whole = Whole-frame env mix M M' G (with_raised G d false) PortCount v whole write (record { current = λ e. cc; slots = λ s u h e. cc }) (same_chains env mix G (put G.raised d false)) stay
+            (locks_stay env mix M M' G PortCount v whole write (λ j e. cc)) (arena_stays env mix M M' G PortCount v whole write (with_raised G d false) refl (λ i e. cc))
+            (write.same ∙ next);
+        others = λ c ne. Rely-same env mix c M M' G (with_raised G d false) whole (same_tables env mix G G.bucket G.node G.bound (put G.raised d false)) refl refl refl (put-other G.raised d false c ne) stay
             (λ n w has. write.others (Node n w) has.among (λ e. cc));
       }
 
@@ -132,7 +156,7 @@ module _ (env : Env) (mix : ℕ → ℕ → ℕ → ℕ) where
       → ((i : ℕ) → NodeMap i ≢ a) → PortCount ≢ a
       → Whole env mix M' G × ((c : ℕ) → Rely env mix c M G M' G)
   aside a v M M' G whole write table page node map count =
-      let stay = used_stay env mix M M' G a v write node in (
+      let stay = used_stay env mix M M' G a v whole write node in (
         Whole-frame env mix M M' G G a v whole write table (same_chains env mix G G.raised) stay (locks_stay env mix M M' G a v whole write page)
             (arena_stays env mix M M' G a v whole write G refl map) (write.others PortCount tt count ∙ whole.counted),
         λ c. Rely-same env mix c M M' G G whole (same_tables env mix G G.bucket G.node G.bound G.raised) refl refl refl refl stay (λ n w has. write.others (Node n w) has.among (node n w)),

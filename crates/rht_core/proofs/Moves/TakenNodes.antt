@@ -5,11 +5,11 @@ use Rattle.std.specs.Int.{bit_at, bit_not, w64}
 use Rattle.std.proofs.lemmas.Bool.{cases_eq}
 use Rattle.rht_words.specs.declared.env.Env.{Env}
 use Rattle.rht_words.specs.Maps.{bit_of, IsBitIn}
-use Rattle.rht_words.specs.Places.{PortCount, NodeMap, Node, NodeWord, KeyWord, OwnerWord, map_words}
+use Rattle.rht_words.specs.Places.{PortCount, NodeMap, Node, NodeWord, ChainLink, KeyWord, OwnerWord, ListLink, map_words}
 use Rattle.rht_words.proofs.BitChanges.{bit_at-cleared, bit_at-cleared_other, bit_at-set, bit_at-set_other}
 use Rattle.rht_words.proofs.Memory.{Memory, IsWrite}
 use Rattle.rht_words.proofs.Members.{count_below-same}
-use Rattle.rht_core.proofs.Theory.Ghosts.{put, put-other, put-all, Owner, Free, Held, First, Behind, Ghost, is_first, is_used, unused-not_first, held_not_used, held_by_one, with_owner}
+use Rattle.rht_core.proofs.Theory.Ghosts.{put, put-other, put-all, Owner, Free, Held, First, Behind, Ghost, is_first, is_used, IsUsed, unused-not_first, held_not_used, held_by_one, with_owner}
 use Rattle.rht_core.proofs.Theory.Wholes.{ArenaRight, IsBuilt, Whole, firsts as count_firsts, raisers}
 use Rattle.rht_core.proofs.Theory.Knowledge.{HasNode}
 use Rattle.rht_core.proofs.Theory.Frames.{Made, UsedStay, used_stay, tables_stay, same_tables, Rely-same, SameChains, same_chains, Whole-frame, locks_stay, arena_stays}
@@ -23,14 +23,43 @@ module _ (env : Env) (mix : ℕ → ℕ → ℕ → ℕ) where
   fill d n w v M M' G whole has write =
       let others_node : (m : ℕ) (u : NodeWord) → m < env.geometry.nodes → m ≢ n → M' (Node m u) ≡ M (Node m u)
       = λ m u l ne. write.others (Node m u) l (λ e. ne (cc)) in
-      let words : UsedStay env mix M G M'
-      = λ u m l used. others_node m u l (λ e. held_not_used (G.node n) d has.mine (rw (sym e) used)) in
+      let other : (m : ℕ) → IsUsed (G.node m) → m ≢ n = λ m used e. held_not_used (G.node n) d has.mine (rw (sym e) used) in
+      let words : UsedStay env mix M G M' = record {
+        keys = λ m l used. others_node m KeyWord l (other m used);
+        owners = λ m l used. others_node m OwnerWord l (other m used);
+        lists = λ m l used. others_node m ListLink l (other m used);
+        chains = λ m j first. others_node m ChainLink (whole.owned.first_at m j first).among (other m (ap is_used first));
+      } in
       record {
         whole = Whole-frame env mix M M' G G (Node n w) v whole write (record { current = λ e. cc; slots = λ s u h e. cc }) (same_chains env mix G G.raised) words
             (locks_stay env mix M M' G (Node n w) v whole write (λ j e. cc)) (arena_stays env mix M M' G (Node n w) v whole write G refl (λ i e. cc))
             (write.others PortCount tt (λ e. cc) ∙ whole.counted);
         others = λ c ne. Rely-same env mix c M M' G G whole (same_tables env mix G G.bucket G.node G.bound G.raised) refl refl refl refl words
             (λ m u held. others_node m u held.among (λ e. ne (held_by_one (G.node n) c d (ap G.node (sym e) ∙ held.mine) has.mine)));
+      }
+
+  -- ---- the link in a chain of a node that is in none
+
+  -- A node behind a port's first one gets the link that it has once it comes into the first one's place.
+  pub chain_behind : (d n port v : ℕ) (M M' : Memory) (G : Ghost) → Whole env mix M G → G.node n ≡ Behind port
+      → IsWrite env.geometry M M' (Node n ChainLink) v → Made env mix d M G M' G
+  chain_behind d n port v M M' G whole behind write =
+      let unchained : (m j : ℕ) → G.node m ≡ First j → m ≢ n =
+      λ m j first e. let q : First j ≡ Behind port = sym first ∙ ap G.node e ∙ behind in cc in
+      let words : UsedStay env mix M G M' = record {
+        keys = λ m l used. write.others (Node m KeyWord) l (λ e. cc);
+        owners = λ m l used. write.others (Node m OwnerWord) l (λ e. cc);
+        lists = λ m l used. write.others (Node m ListLink) l (λ e. cc);
+        chains = λ m j first. write.others (Node m ChainLink) (whole.owned.first_at m j first).among (λ e. unchained m j first (cc));
+      } in
+      record {
+        whole = Whole-frame env mix M M' G G (Node n ChainLink) v whole write (record { current = λ e. cc; slots = λ s u h e. cc }) (same_chains env mix G G.raised) words
+            (locks_stay env mix M M' G (Node n ChainLink) v whole write (λ j e. cc)) (arena_stays env mix M M' G (Node n ChainLink) v whole write G refl (λ i e. cc))
+            (write.others PortCount tt (λ e. cc) ∙ whole.counted);
+        others = λ c ne. Rely-same env mix c M M' G G whole (same_tables env mix G G.bucket G.node G.bound G.raised) refl refl refl refl words
+            (λ m u held. write.others (Node m u) held.among (λ e.
+            let same : m ≡ n = cc in
+            let q : Held c ≡ Behind port = sym held.mine ∙ ap G.node same ∙ behind in cc));
       }
 
   -- ---- the bit of a node
@@ -95,7 +124,7 @@ module _ (env : Env) (mix : ℕ → ℕ → ℕ → ℕ) where
   reowned i b value owner M M' G whole at is_built write was now here others =
       let n = 64 * i + b in
       Whole-frame env mix M M' G (with_owner G n owner) (NodeMap i) value whole write (record { current = λ e. cc; slots = λ s u h e. cc }) (reowned_chains G n owner was now)
-      (used_stay env mix M M' G (NodeMap i) value write (λ m w e. cc)) (locks_stay env mix M M' G (NodeMap i) value whole write (λ j e. cc))
+      (used_stay env mix M M' G (NodeMap i) value whole write (λ m w e. cc)) (locks_stay env mix M M' G (NodeMap i) value whole write (λ j e. cc))
       (reowned_bits i b value owner M M' G whole at is_built write here others)
       (write.others PortCount tt (λ e. cc) ∙ whole.counted ∙ ap (λ x. x + raisers env mix G) (sym (reowned_firsts G n owner (unused-not_first (G.node n) was) (unused-not_first owner now))))
 
@@ -104,7 +133,7 @@ module _ (env : Env) (mix : ℕ → ℕ → ℕ → ℕ) where
       → i < map_words env.geometry.nodes → IsWrite env.geometry M M' (NodeMap i) value
       → ((k : ℕ) → k < 64 → bit_at value k ≡ bit_at (M (NodeMap i)) k) → Made env mix d M G M' G
   retouch d i value M M' G whole l write same =
-      let words = used_stay env mix M M' G (NodeMap i) value write (λ m w e. cc) in
+      let words = used_stay env mix M M' G (NodeMap i) value whole write (λ m w e. cc) in
       record {
         whole = Whole-frame env mix M M' G G (NodeMap i) value whole write (record { current = λ e. cc; slots = λ s u h e. cc }) (same_chains env mix G G.raised) words
             (locks_stay env mix M M' G (NodeMap i) value whole write (λ j e. cc))
@@ -129,7 +158,7 @@ module _ (env : Env) (mix : ℕ → ℕ → ℕ → ℕ) where
       let bit : n % 64 ≡ b = omega (arith, at.within) in
       let free : G.node n ≡ Free = (whole.arena.bits n at.below).0 (rw word (rw bit found)) in
       let was : is_used (G.node n) ≡ false = ap is_used free in
-      let stay = used_stay env mix M M' G (NodeMap i) (bit_and (M (NodeMap i)) (bit_not w64 (bit_of b))) write (λ m w e. cc) in (
+      let stay = used_stay env mix M M' G (NodeMap i) (bit_and (M (NodeMap i)) (bit_not w64 (bit_of b))) whole write (λ m w e. cc) in (
         record {
           whole = reowned i b (bit_and (M (NodeMap i)) (bit_not w64 (bit_of b))) (Held d) M M' G whole at tt write was refl
               ((λ set. absurd (omega (arith, bit_at-cleared (M (NodeMap i)) b at.within, set))), (λ e. absurd (cc)))
@@ -138,8 +167,8 @@ module _ (env : Env) (mix : ℕ → ℕ → ℕ → ℕ) where
             tables = tables_stay env mix M G (with_owner G n (Held d)) whole (same_tables env mix G G.bucket (put G.node n (Held d)) G.bound G.raised);
             locks = λ j h. refl;
             lists = λ j m h i. refl;
-            keys = stay KeyWord;
-            owners = stay OwnerWord;
+            keys = stay.keys;
+            owners = stay.owners;
             nodes = λ m has. put-other G.node n (Held d) m (λ e. let q = sym free ∙ ap G.node (sym e) ∙ has.mine in cc) ∙ has.mine;
             words = λ m has w. write.others (Node m w) has.among (λ e. cc);
             raised = refl;
@@ -161,7 +190,7 @@ module _ (env : Env) (mix : ℕ → ℕ → ℕ → ℕ) where
       let parts : 64 * i + b ≡ n = omega arith in
       let was : is_used (G.node n) ≡ false = ap is_used has.mine in
       let stay =
-      used_stay env mix M M' G (NodeMap i) (bit_or (M (NodeMap i)) (bit_of b)) write (λ m w e. cc) in
+      used_stay env mix M M' G (NodeMap i) (bit_or (M (NodeMap i)) (bit_of b)) whole write (λ m w e. cc) in
       let made = reowned i b (bit_or (M (NodeMap i)) (bit_of b)) Free M M' G whole (record { within = omega arith; below = omega (arith, has.among) }) tt write
       (ap (λ m. is_used (G.node m)) parts ∙ was) refl
       ((λ set. refl), (λ e. bit_at-set (M (NodeMap i)) b))
@@ -172,8 +201,8 @@ module _ (env : Env) (mix : ℕ → ℕ → ℕ → ℕ) where
           tables = tables_stay env mix M G (with_owner G n Free) whole (same_tables env mix G G.bucket (put G.node n Free) G.bound G.raised);
           locks = λ j h. refl;
           lists = λ j m h i. refl;
-          keys = stay KeyWord;
-          owners = stay OwnerWord;
+          keys = stay.keys;
+          owners = stay.owners;
           nodes = λ m held. put-other G.node n Free m (λ e. ne (held_by_one (G.node n) c d (ap G.node (sym e) ∙ held.mine) has.mine)) ∙ held.mine;
           words = λ m held w. write.others (Node m w) held.among (λ e. cc);
           raised = refl;

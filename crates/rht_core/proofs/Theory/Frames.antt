@@ -21,18 +21,29 @@ module _ (env : Env) (mix : ℕ → ℕ → ℕ → ℕ) where
     pub whole : Whole env mix M' G'
     pub others : Others d M G M' G'
 
-  -- each word of a node that is or was a port's stays
-  abbrev pub UsedStay : Memory → Ghost → Memory → Type 0
-  UsedStay M G M' = (w : NodeWord) → WordStays env mix w M G M'
+  -- each word of a node that is or was a port's stays, but for links in chains of nodes that are in none
+  pub record UsedStay (M : Memory) (G : Ghost) (M' : Memory) : Type 0 where
+    pub keys : WordStays env mix KeyWord M G M'
+    pub owners : WordStays env mix OwnerWord M G M'
+    pub lists : WordStays env mix ListLink M G M'
+    pub chains : (n j : ℕ) → G.node n ≡ First j → chain_of M' n ≡ chain_of M n
 
-  pub used_stay : (M M' : Memory) (G : Ghost) (a : Address) (v : ℕ) → IsWrite env.geometry M M' a v
+  pub used_stay : (M M' : Memory) (G : Ghost) (a : Address) (v : ℕ) → Whole env mix M G → IsWrite env.geometry M M' a v
       → ((n : ℕ) (w : NodeWord) → Node n w ≢ a) → UsedStay M G M'
-  used_stay M M' G a v write not_node w n l used = write.others (Node n w) l (not_node n w)
+  used_stay M M' G a v whole write not_node = record {
+    keys = λ n l used. write.others (Node n KeyWord) l (not_node n KeyWord);
+    owners = λ n l used. write.others (Node n OwnerWord) l (not_node n OwnerWord);
+    lists = λ n l used. write.others (Node n ListLink) l (not_node n ListLink);
+    chains = λ n j first. write.others (Node n ChainLink) (whole.owned.first_at n j first).among (not_node n ChainLink);
+  }
 
   -- so each word of a node in a chain does
   pub first_stays : (M M' : Memory) (G : Ghost) → Whole env mix M G → UsedStay M G M' → (n j : ℕ) (w : NodeWord)
       → G.node n ≡ First j → M' (Node n w) ≡ M (Node n w)
-  first_stays M M' G whole words n j w first = words w n (whole.owned.first_at n j first).among (ap is_used first)
+  first_stays M M' G whole words n j ChainLink first = words.chains n j first
+  first_stays M M' G whole words n j KeyWord first = words.keys n (whole.owned.first_at n j first).among (ap is_used first)
+  first_stays M M' G whole words n j OwnerWord first = words.owners n (whole.owned.first_at n j first).among (ap is_used first)
+  first_stays M M' G whole words n j ListLink first = words.lists n (whole.owned.first_at n j first).among (ap is_used first)
 
   -- ---- tables
 
@@ -83,8 +94,8 @@ module _ (env : Env) (mix : ℕ → ℕ → ℕ → ℕ) where
     tables = tables_stay M G G' whole same;
     locks = λ j h. ap (λ b. b j) buckets;
     lists = λ j n h i. ap (λ b. b (key_of M n)) bound;
-    keys = words KeyWord;
-    owners = words OwnerWord;
+    keys = words.keys;
+    owners = words.owners;
     nodes = λ n has. ap (λ o. o n) nodes ∙ has.mine;
     words = λ n has w. own n w has;
     raised = raised;
@@ -96,8 +107,11 @@ module _ (env : Env) (mix : ℕ → ℕ → ℕ → ℕ) where
   pub still : (d : ℕ) (M : Memory) (G : Ghost) → Whole env mix M G → Made d M G M G
   still d M G whole = record {
     whole = whole;
-    others = λ c ne. Rely-same c M M G G whole (same_tables G G.bucket G.node G.bound G.raised) refl refl refl refl (λ w n l used. refl) (λ n w has. refl);
+    others = λ c ne. Rely-same c M M G G whole (same_tables G G.bucket G.node G.bound G.raised) refl refl refl refl unwritten (λ n w has. refl);
   }
+    where
+      unwritten : UsedStay M G M
+      unwritten = record { keys = λ n l used. refl; owners = λ n l used. refl; lists = λ n l used. refl; chains = λ n j first. refl }
 
   -- ---- the parts of the whole
 
@@ -246,7 +260,7 @@ module _ (env : Env) (mix : ℕ → ℕ → ℕ → ℕ) where
             let is = owned.behind_in n port before in
             record {
               among = is.among;
-              key_is = words KeyWord n is.among (ap is_used before) ∙ is.key_is;
+              key_is = words.keys n is.among (ap is_used before) ∙ is.key_is;
               first = is.first;
               behind = is.behind;
               bound_to = same.bound port ∙ is.bound_to;
@@ -260,7 +274,7 @@ module _ (env : Env) (mix : ℕ → ℕ → ℕ → ℕ) where
               first = same.firsts_after n to.bucket to.first;
               key_is = first_stays M M' G whole words n to.bucket KeyWord to.first ∙ to.key_is;
               list = rw link (IsSegment-members (list_of M) (list_of M') (list_of M n) behind 0
-                  (λ m i. words ListLink m (owned.behind_in m port (to.each m i)).among (ap is_used (to.each m i))) to.list);
+                  (λ m i. words.lists m (owned.behind_in m port (to.each m i)).among (ap is_used (to.each m i))) to.list);
               distinct = to.distinct;
               each = λ m i. same.behind_after m port (to.each m i);
             };
