@@ -18,3 +18,5 @@ pub mod ReachedStates
 pub mod Invariants
 -- the invariant holds in every run
 pub mod InvariantRuns
+-- in every run each caller works at the call of its book, and its calls took out as many nodes as that says
+pub mod BooksInRuns

@@ -117,10 +117,10 @@ module _ (env : Env) (mix : ℕ → ℕ → ℕ → ℕ) where
   }
 
   module _ (L : Type 0) where
-    idle_at_opening : (c : ℕ) → ◌≡◌ {A = Local L} (local_in env (replicate env.geometry.callers (fresh env)) c) (fresh env)
+    pub idle_at_opening : (c : ℕ) → ◌≡◌ {A = Local L} (local_in env (replicate env.geometry.callers (fresh env)) c) (fresh env)
     idle_at_opening c = each_replicate (λ (local : Local L). local ≡ fresh env) env.geometry.callers c (fresh env) refl
 
-    opening_inv : Inv env mix L (opening_core env) (opening_ghost env)
+    pub opening_inv : Inv env mix L (opening_core env) (opening_ghost env)
     opening_inv = record {
       same_env = refl;
       whole = opening_whole;

@@ -1,6 +1,6 @@
 -- The invariant of every run: the whole is true of the words and some ghost, and each caller knows what its job says.
 -- An operation of a caller keeps the whole and leads to what its next state says, and everybody else still knows what it knew.
-use Rattle.std.proofs.Common.{◌≡◌, ℕ, ◌<◌, true, length, refl, sym, ◌∙◌, subst, inl, inr, arith}
+use Rattle.std.proofs.Common.{◌≡◌, ◌≢◌, ℕ, ◌+◌, ◌<◌, true, length, refl, sym, ◌∙◌, subst, inl, inr, arith}
 use Rattle.std.specs.Prelude.{Option, Some, None}
 use Rattle.std.proofs.lemmas.Bool.{cases_eq}
 use Rattle.std.proofs.lemmas.List.{get_or-set_same, get_or-set_other}
@@ -12,6 +12,7 @@ use Rattle.rht_words.specs.Operations.{old_of, word_after, applied}
 use Rattle.rht_words.specs.Places.{EnrolledCallers, words_in, word_at}
 use Rattle.rht_words.proofs.Memory.{Memory, is_write}
 use Rattle.rht_words.proofs.EachElement.{each_set}
+use Rattle.rht_words.proofs.Members.{count_below-same}
 use Rattle.rht_model.specs.declared.history.Call.{Call}
 use Rattle.rht_model.specs.Endings.{Ending}
 use Rattle.rht_core.specs.declared.event.Event.{Event}
@@ -28,8 +29,9 @@ use Rattle.rht_core.proofs.Events.Worlds.{beginning-some, planned-some}
 use Rattle.rht_core.proofs.Events.SoundRuns.{has_place, made_in}
 use Rattle.rht_core.proofs.Events.RangesInRuns.{AllIn}
 use Rattle.rht_core.proofs.Events.JobsOfCallers.{plan-job, left-job, nothing-job, is_no_job}
-use Rattle.rht_core.proofs.Theory.Ghosts.{Ghost}
-use Rattle.rht_core.proofs.Theory.Wholes.{Whole}
+use Rattle.rht_core.proofs.Theory.Ghosts.{Ghost, is_taken_by}
+use Rattle.rht_core.proofs.Theory.Wholes.{outs, Whole}
+use Rattle.rht_core.proofs.Theory.Answering.{outs_of}
 use Rattle.rht_core.proofs.Theory.Knowledge.{members_used, Rely, Knowing-rely}
 use Rattle.rht_core.proofs.Theory.Steps.{mem, Step, ghost_after}
 use Rattle.rht_core.proofs.Moves.Quiet.{aside}
@@ -127,16 +129,36 @@ module _ (env : Env) (mix : ℕ → ℕ → ℕ → ℕ) where
 
     -- ---- one event
 
+    -- how many nodes each caller's calls have taken out of lists: as many as before, but for a caller that makes an operation
+    pub record StepOuts (core : Core L) (G G' : Ghost) (c : ℕ) : Type 0 where
+      pub others : (k : ℕ) → k ≢ c → outs env mix G' k ≡ outs env mix G k
+      pub none : planned_in core c ≡ None → outs env mix G' c ≡ outs env mix G c
+      pub mine : (op : Op) (job : Job) → planned_in core c ≡ Some op → job_of (local_of core c).doing ≡ Some job
+          → outs env mix G' c + outs_of (held_of job).answer
+          ≡ outs env mix G c + outs_of (held_next (job_after mix env job (old_of core.words op))).answer
+
+    abbrev pub OutsKept : Core L → Ghost → Ghost → Event → Type 0
+    OutsKept core G G' Enroll = (k : ℕ) → outs env mix G' k ≡ outs env mix G k
+    OutsKept core G G' (Begin c call) = (k : ℕ) → outs env mix G' k ≡ outs env mix G k
+    OutsKept core G G' (events.Step c) = StepOuts core G G' c
+
     -- the invariant again, with some ghost
-    pub record Kept (core : Core L) (event : Event) : Type 0 where
+    pub record Kept (core : Core L) (G : Ghost) (event : Event) : Type 0 where
       pub ghost : Ghost
       pub inv : Inv (core_step mix core event).0 ghost
+      pub outs_kept : OutsKept core G ghost event
+
+    -- others see no node taken out
+    others_outs : (k : ℕ) (M M' : Memory) (G G' : Ghost) → Rely env mix k M G M' G' → outs env mix G' k ≡ outs env mix G k
+    others_outs k M M' G G' rely =
+        count_below-same (λ n. is_taken_by k (G.node n)) (λ n. is_taken_by k (G'.node n)) env.geometry.nodes (λ n l. rely.taken n)
 
     begin_kept : (core : Core L) (G : Ghost) (c : ℕ) (call : Call) (machine : Option (Doing L))
-        → AllIn L mix env core → Inv core G → beginning_in core c call ≡ machine → Kept core (Begin c call)
+        → AllIn L mix env core → Inv core G → beginning_in core c call ≡ machine → Kept core G (Begin c call)
     begin_kept core G c call None sound inv is = record {
       ghost = G;
       inv = rw is (record { same_env = inv.same_env; whole = inv.whole; each = inv.each });
+      outs_kept = λ k. refl;
     }
     begin_kept core G c call (Some machine) sound inv is =
         let can = beginning-some core.env core.enrolled core.locals c call machine is in
@@ -151,13 +173,19 @@ module _ (env : Env) (mix : ℕ → ℕ → ℕ → ℕ) where
             whole = inv.whole;
             each = each_set (λ k local. Knows k (job_of local.doing) M G) (fresh core.env) core.locals c (begin_with (local_of core c) machine) place knows inv.each;
           });
+          outs_kept = λ k. refl;
         }
 
     step_kept : (core : Core L) (G : Ghost) (c : ℕ) (plan : Option Op) → AllIn L mix env core → Inv core G
-        → planned_in core c ≡ plan → Kept core (events.Step c)
+        → planned_in core c ≡ plan → Kept core G (events.Step c)
     step_kept core G c None sound inv is = record {
       ghost = G;
       inv = rw is (record { same_env = inv.same_env; whole = inv.whole; each = inv.each });
+      outs_kept = record {
+        others = λ k ne. refl;
+        none = λ none. refl;
+        mine = λ op job plans of. absurd (let both = sym is ∙ plans in cc);
+      };
     }
     step_kept core G c (Some op) sound inv is =
         let can = planned-some core.env core.enrolled core.locals c op is in
@@ -182,9 +210,18 @@ module _ (env : Env) (mix : ℕ → ℕ → ℕ → ℕ) where
                   (Knows-rely k (job_of (local_of core k).doing) (mem env mix core.words) M' G G' inv.whole (step.made.others k ne) (inv.each k))
             ];
           });
+          outs_kept = record {
+            others = λ k ne. others_outs k (mem env mix core.words) M' G G' (step.made.others k ne);
+            none = λ none. absurd (let both = sym is ∙ none in cc);
+            mine = λ other job plans does.
+                let same_op : op ≡ other = (let both = sym is ∙ plans in cc) in
+                let same : of.job ≡ job = (let both = sym of.is ∙ does in cc) in
+                subst (λ j. outs env mix G' c + outs_of (held_of j).answer ≡ outs env mix G c + outs_of (held_next (job_after mix env j (old_of core.words other))).answer) same
+                (subst (λ o. outs env mix G' c + outs_of (held_of of.job).answer ≡ outs env mix G c + outs_of (held_next (job_after mix env of.job (old_of core.words o))).answer) same_op step.outs);
+          };
         }
 
-    enroll_kept : (core : Core L) (G : Ghost) → AllIn L mix env core → Inv core G → Kept core Enroll
+    enroll_kept : (core : Core L) (G : Ghost) → AllIn L mix env core → Inv core G → Kept core G Enroll
     enroll_kept core G sound inv =
         let op = enrolling core.env in
         let M' = mem env mix (applied core.words op) in
@@ -198,10 +235,11 @@ module _ (env : Env) (mix : ℕ → ℕ → ℕ → ℕ) where
             whole = kept.0;
             each = λ k. Knows-rely k (job_of (local_of core k).doing) (mem env mix core.words) M' G G inv.whole (kept.1 k) (inv.each k);
           };
+          outs_kept = λ k. refl;
         }
 
     -- each event keeps the invariant
-    pub kept : (core : Core L) (G : Ghost) (event : Event) → AllIn L mix env core → Inv core G → Kept core event
+    pub kept : (core : Core L) (G : Ghost) (event : Event) → AllIn L mix env core → Inv core G → Kept core G event
     kept core G Enroll sound inv = enroll_kept core G sound inv
     kept core G (Begin c call) sound inv = begin_kept core G c call (beginning_in core c call) sound inv refl
     kept core G (events.Step c) sound inv = step_kept core G c (planned_in core c) sound inv refl

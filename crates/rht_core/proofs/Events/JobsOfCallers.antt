@@ -2,7 +2,7 @@
 -- the job, and a call that begins begins as its first job. Each is shown by cases on machines; what is said of callers
 -- above is said of jobs.
 use Rattle.std.proofs.Common.{◌≡◌, ℕ, Bool, true, false, [], refl, sym, ap, ◌∙◌, subst}
-use Rattle.std.specs.Prelude.{Option, Some, None}
+use Rattle.std.specs.Prelude.{Option, Some, None, option_map}
 use Rattle.rht_words.specs.declared.op.Op.{Op}
 use Rattle.rht_words.specs.declared.env.Env.{Env}
 use Rattle.rht_words.specs.declared.machine.Next.{Next}
@@ -23,7 +23,7 @@ use Rattle.rht_bind.specs.declared.bind.BindAt.{BindAt}
 use Rattle.rht_core.specs.declared.local.Local.{Local}
 use Rattle.rht_core.specs.declared.local.Doing.{Doing}
 use Rattle.rht_core.specs.declared.local.Doing.TheVariants.{Idle, Finding, Binding}
-use Rattle.rht_core.specs.Locals.{does_nothing, machine_of, doing_plan, doing_after, local_after, ending_of, found_next, bound_next, IsDoingOf, IsLocalOf}
+use Rattle.rht_core.specs.Locals.{fresh, does_nothing, machine_of, doing_plan, doing_after, local_after, ending_of, found_next, bound_next, IsDoingOf, IsLocalOf}
 use Rattle.rht_core.specs.Jobs.{Job, finds, binds, call_of, first_job, first_bind, job_plan, job_after, finds_next, binds_next, job_of, told, held_of}
 use Rattle.rht_core.proofs.Events.CallBeginnings.{begins_so}
 
@@ -194,6 +194,20 @@ module _ {M : Type 0} where
         bound-told m (bind.after_at mix m.env m.port m.at old)
         ∙ ap (λ (e : Env). told (job_after mix e (binds m.port m.owner m.once m.at) old)) of
         ∙ ap (λ (j : Job). told (job_after mix env j old)) here
+
+  -- the reply is that with which its call has ended, whatever is in its rooms
+  pub doing_after-reply : (mix : ℕ → ℕ → ℕ → ℕ) (env : Env) (doing : Doing M) (job : Job) (old : ℕ)
+      → IsDoingOf env doing → job_of doing ≡ Some job
+      → (doing_after mix doing old).1 ≡ option_map (λ (e : Ending). e.answer.reply) (told (job_after mix env job old)).1
+  doing_after-reply mix env doing job old of is =
+      let local : Local M = fresh env in
+      let next = doing_after mix doing old in
+      sym (ended-reply (record local { doing = next.0 }) next.1)
+      ∙ ap (λ l. option_map (λ (e : Ending). e.answer.reply) l.1) (doing_after-job local (record { owners = refl; pairs = refl }) mix env doing job old of is)
+    where
+      ended-reply : (local : Local M) (reply : Option Reply) → option_map (λ (e : Ending). e.answer.reply) (ending_of local reply) ≡ reply
+      ended-reply local None = refl
+      ended-reply local (Some reply) = refl
 
   -- what becomes of a caller is what becomes of its job
   pub local_after-job : (mix : ℕ → ℕ → ℕ → ℕ) (env : Env) (local : Local M) (job : Job) (old : ℕ)

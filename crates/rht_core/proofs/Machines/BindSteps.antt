@@ -1,5 +1,5 @@
 -- What a bind knows in each state, and that each of its operations leads from what it knows to what it knows next.
-use Rattle.std.proofs.Common.{◌≡◌, ◌≢◌, ◌⊎◌, ℕ, ◌^◌, ◌<◌, List, [], ◌∷◌, length, min, Option, Some, None, Bool, true, false, cond, refl, sym, ◌∙◌, ap, subst, inl, inr, arith}
+use Rattle.std.proofs.Common.{◌≡◌, ◌≢◌, ◌⊎◌, ℕ, ◌+◌, ◌^◌, ◌<◌, List, [], ◌∷◌, length, min, Option, Some, None, Bool, true, false, cond, refl, sym, ◌∙◌, ap, subst, inl, inr, arith}
 use Rattle.std.proofs.lemmas.Bool.{cases_eq, eq-eqb, ne_eqb}
 use Rattle.std.proofs.lemmas.Bool.Decides.{nat_tests}
 use Rattle.std.proofs.Math.Nat.{mod-eq_of_lt}
@@ -36,14 +36,14 @@ use Rattle.rht_bind.specs.BindHeld.{held_of_bind, holds_node, holds_claimed}
 use Rattle.rht_bind.specs.declared.bind.Claimed.{Claimed}
 use Rattle.rht_bind.specs.declared.bind.BindAt.{BindAt}
 use Rattle.rht_bind.specs.declared.bind.BindAt.TheVariants as at
-use Rattle.rht_core.proofs.Theory.Ghosts.{put, put-same, put-other, put-all, Held, First, Ghost, index_at, table_at}
+use Rattle.rht_core.proofs.Theory.Ghosts.{put, put-same, put-other, put-all, Held, First, Ghost, is_taken_by, index_at, table_at}
 use Rattle.rht_core.proofs.Theory.Wholes.{key_of, home, place_at, word_index, place_at-index, index-within, Whole}
 use Rattle.rht_core.proofs.Theory.Passed.{home-table, unbound_at_last}
 use Rattle.rht_core.proofs.Theory.Knowledge.{HasOnly, KnownNode, KnownTable, Nowhere, Passes, AtHome, KnownBucket, Unlocked, Locks, Missed, Member, Known, IsMember, Knowing}
 use Rattle.rht_core.proofs.Theory.Frames.{Made}
 use Rattle.rht_core.specs.Replies.{IsBindReply, AreOwnersWith, ArePairsWith}
 use Rattle.rht_core.proofs.Theory.Answering.{KeepsAnswer, IsLegalOn, IsRight, keeps, learns}
-use Rattle.rht_core.proofs.Theory.Steps.{Links, Holding, HoldsSame, by_test, mem, owners, owners_in, owners-stay, ghost_after, Moved, moved-map, with_knowledge, still_has, Step, answered, reads}
+use Rattle.rht_core.proofs.Theory.Steps.{Links, Holding, HoldsSame, by_test, mem, owners, owners_in, owners-stay, ghost_after, Moved, moved-map, with_knowledge, still_has, reowned-outs, Step, answered, reads}
 use Rattle.rht_core.proofs.Theory.Readiness.{linked_bucket, IsReady}
 use Rattle.rht_core.proofs.Moves.Linking.{link_head}
 use Rattle.rht_core.proofs.Pieces.NewNodes as nodes
@@ -176,7 +176,7 @@ module _ (env : Env) (mix : ℕ → ℕ → ℕ → ℕ) (c : ℕ) (port owner :
     node_made new (next, Done None) key own had step =
         answered env mix c call words G (new_node_plan new) (holds_node (node_of_new new.at) None) (holds_node None None) (Some (plain NoNode)) (BindNext (at.Filling next, Done NoNode))
         (learns env.config.kind c call (node_of_new new.at) now (plain NoNode)
-        (record { replied = record { reply = tt; owners = refl; pairs = refl }; tells = (λ none. refl, λ no_node. had refl) })
+        (record { replied = record { reply = tt; owners = refl; pairs = refl }; tells = (λ none. refl, λ no_node. had refl) }) refl
         (refusal NoNode tt refl))
         (record { taken = λ node none some. absurd (cc); gone = λ node some none told. absurd (cc) })
         (moved-map env mix c words G (new_node_plan new) (holds_node (node_of_new new.at) None) (holds_node None None) _ (BindNext (at.Filling next, Done NoNode))
@@ -276,7 +276,7 @@ module _ (env : Env) (mix : ℕ → ℕ → ℕ → ℕ) (c : ℕ) (port owner :
         let count = M PortCount in
         by_test (λ t. BindMoved (at.Count claimed) (cond t (unlocking claimed (Answer (TooBig count))) (at.Link claimed), Go)) (is_above_max (min count 65536) env.config.max)
         (λ t. reads env mix c call words G (plan_at env (at.Count claimed)) (holds_claimed claimed) (held_of_bind (unlocking claimed (Answer (TooBig count)))) (BindNext (unlocking claimed (Answer (TooBig count)), Go)) whole refl refl
-        (learns env.config.kind c call (Some claimed.node) now (plain (TooBig count)) (with_node claimed.node (TooBig count) tt refl refl (λ e. cc)) (refusal (TooBig count) tt refl)) (unlocking_knows claimed (TooBig count) known.knowing))
+        (learns env.config.kind c call (Some claimed.node) now (plain (TooBig count)) (with_node claimed.node (TooBig count) tt refl refl (λ e. cc)) refl (refusal (TooBig count) tt refl)) (unlocking_knows claimed (TooBig count) known.knowing))
         (λ t. goes_on (at.Count claimed) (at.Link claimed) refl refl refl (record { knowing = known.knowing; fits = tt }))
 
     -- the port is bound to the owner of a node of its bucket that has its key, and to no other
@@ -305,7 +305,7 @@ module _ (env : Env) (mix : ℕ → ℕ → ℕ → ℕ) (c : ℕ) (port owner :
         let is = known.knowing.means.bucket in
         let answer = unlocking claimed (Answer (Exists first)) in
         reads env mix c call words G (plan_at env (at.FoundOwner claimed found)) (holds_claimed claimed) (held_of_bind answer) (BindNext (answer, Go)) whole refl refl
-        (learns env.config.kind c call (Some claimed.node) now (plain (Exists first)) (with_node claimed.node (Exists first) tt refl refl (λ e. cc)) (exists first (bound_here claimed.bucket.place claimed.bucket.word found is)))
+        (learns env.config.kind c call (Some claimed.node) now (plain (Exists first)) (with_node claimed.node (Exists first) tt refl refl (λ e. cc)) refl (exists first (bound_here claimed.bucket.place claimed.bucket.word found is)))
         (record {
           knowing = record { only = known.knowing.only; means = record { node = known.knowing.means.node; table = tt; bucket = is.lock } };
           fits = tt;
@@ -409,6 +409,7 @@ module _ (env : Env) (mix : ℕ → ℕ → ℕ → ℕ) (c : ℕ) (port owner :
               subst (IsRight call (Some n)) (let same : ◌≡◌ {A = Option answers.Answer} (Some (plain (Bound kick))) (Some answer) = known in cc)
               (with_node n (Bound kick) tt refl refl (λ e. cc));
           in_time = record { taken = λ node none some. absurd (cc); gone = λ node some none told. absurd (cc) };
+          outs = ap (λ o. o + 0) (reowned-outs env mix c n (First j) G (ap (is_taken_by c) ready.has.mine) refl);
           knows = record {
             only = nothing_left n j place is known.knowing.only;
             means = record { node = tt; table = tt; bucket = tt };

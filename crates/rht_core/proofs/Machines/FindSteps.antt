@@ -200,7 +200,7 @@ module _ (env : Env) (mix : ℕ → ℕ → ℕ → ℕ) (c : ℕ) (port : ℕ) 
     future_next table bucket None unbound known =
         let none : now port ≡ [] = ap (owners_in env mix M) unbound in
         reads env mix c call words G (plan_at env (at.Future table bucket)) (held_of_find (at.Future table bucket)) (held_of_find (unlocking table bucket (Answer Missing))) (FindNext (unlocking table bucket (Answer Missing), Go)) whole refl refl
-        (learns env.config.kind c call None now (plain Missing) (record { replied = record { reply = tt; owners = refl; pairs = refl }; tells = refl }) (record { legal = inl (ap (λ owners. Some (plain (answers.find_reply owners))) none); leaves = λ p. refl }))
+        (learns env.config.kind c call None now (plain Missing) (record { replied = record { reply = tt; owners = refl; pairs = refl }; tells = refl }) refl (record { legal = inl (ap (λ owners. Some (plain (answers.find_reply owners))) none); leaves = λ p. refl }))
         (record {
           knowing = record { only = known.knowing.only; means = record { node = tt; table = tt; bucket = known.knowing.means.bucket.lock } };
           fits = tt;
@@ -222,7 +222,7 @@ module _ (env : Env) (mix : ℕ → ℕ → ℕ → ℕ) (c : ℕ) (port : ℕ) 
         let bound : now port ≡ owner_of (M (Node here.first OwnerWord)) ∷ owners_in env mix M here.behind =
         ap (owners_in env mix M) here.bound_to in
         rw ends (reads env mix c call words G (plan_at env (at.ListLink table bucket node owner)) (held_of_find (at.ListLink table bucket node owner)) (held_of_find answer) (FindNext (answer, Go)) whole refl refl
-        (learns env.config.kind c call None now (plain (Found owner)) (record { replied = record { reply = tt; owners = refl; pairs = refl }; tells = refl }) (record {
+        (learns env.config.kind c call None now (plain (Found owner)) (record { replied = record { reply = tt; owners = refl; pairs = refl }; tells = refl }) refl (record {
           legal = inl (ap (λ owners. Some (plain (answers.find_reply owners))) bound ∙ ap (λ o. Some (plain (Found o))) here.owner_is);
           leaves = λ p. refl;
         }))

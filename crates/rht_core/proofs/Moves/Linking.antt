@@ -10,7 +10,7 @@ use Rattle.rht_words.proofs.Memory.{Memory, IsWrite}
 use Rattle.rht_words.specs.Members.{In, NotIn}
 use Rattle.rht_words.proofs.Members.{not_in_from, count_below-more}
 use Rattle.rht_words.proofs.ChainLemmas.{IsSegment-members}
-use Rattle.rht_core.proofs.Theory.Ghosts.{put, put-same, put-other, put-all, Free, Held, First, Behind, Ghost, is_first, is_used, IsUsed, held_not_used, held_by_one, table_at}
+use Rattle.rht_core.proofs.Theory.Ghosts.{put, put-same, put-other, put-all, Free, Held, First, Behind, Ghost, is_first, is_used, is_taken_by, IsUsed, held_not_used, held_by_one, table_at}
 use Rattle.rht_core.proofs.Theory.Wholes.{chain_of, list_of, key_of, place_at, BucketRight, IsFirstAt, IsBehindIn, IsBoundTo, Owned, ArenaRight, IsBuilt, Whole, firsts, raisers}
 use Rattle.rht_core.proofs.Theory.Passed.{home-within}
 use Rattle.rht_core.proofs.Theory.Readiness.{linked_bucket, linked, IsReady}
@@ -185,6 +185,7 @@ module _ (env : Env) (mix : ℕ → ℕ → ℕ → ℕ) where
             λ m has. put-other G.node n (First here) m (λ e. ne (held_by_one (G.node n) c d (ap G.node (sym e) ∙ has.mine) ready.has.mine)) ∙ has.mine;
         words = λ m has w. word_same m w has.among;
         raised = put-other G.raised d false c ne;
+        taken = put-all (λ k o. is_taken_by c o ≡ is_taken_by c (G.node k)) G.node n (First here) (sym (ap (is_taken_by c) ready.has.mine)) (λ k kn. refl);
         no_node =
             λ m. put-all (λ k o. o ≡ Held c → G.node k ≡ Held c) G.node n (First here) (λ e. absurd (cc)) (λ k kn h. h) m;
         no_lock =

@@ -10,7 +10,7 @@ use Rattle.rht_words.specs.Members.{In, NotIn, IsDistinct}
 use Rattle.rht_words.proofs.Memory.{Memory, IsWrite}
 use Rattle.rht_words.proofs.ChainLemmas.{IsSegment-cut, IsSegment-members}
 use Rattle.rht_words.proofs.Members.{in_and_not, in-middle, In-append_left, In-append_right, In-append_cases, NotIn-cut, NotIn-append, IsDistinct-cut, IsDistinct-without, IsDistinct-left, IsDistinct-apart, count_below-same}
-use Rattle.rht_core.proofs.Theory.Ghosts.{put, put-same, put-other, put-all, Held, First, Behind, Taken, Ghost, is_first, is_used, held_not_used, table_at}
+use Rattle.rht_core.proofs.Theory.Ghosts.{put, put-same, put-other, put-all, Held, First, Behind, Taken, Ghost, is_first, is_used, taken_by_one, held_not_used, table_at}
 use Rattle.rht_core.proofs.Theory.Passed.{home-within}
 use Rattle.rht_core.proofs.Theory.Wholes.{chain_of, list_of, key_of, IsHomeOf, BucketRight, IsFirstAt, IsBehindIn, IsBoundTo, IsBuilt, Whole, firsts, raisers}
 use Rattle.rht_core.proofs.Theory.Knowledge.{last_of}
@@ -133,6 +133,7 @@ module _ (env : Env) (mix : ℕ → ℕ → ℕ → ℕ) (d port j m q p : ℕ) 
       key_is = (whole.owned.behind_in q port mine).key_is;
       used = refl;
       built = built;
+      no_others = λ c ne. taken_by_one c d ne;
     }
 
     key_stays : (n : ℕ) → n < env.geometry.nodes → key_of M' n ≡ key_of M n

@@ -61,6 +61,7 @@ module _ (env : Env) (mix : ℕ → ℕ → ℕ → ℕ) where
     nodes = λ n has. has.mine;
     words = λ n has w. write.others (Node n w) has.among (λ e. cc);
     raised = refl;
+    taken = λ n. refl;
     no_node = λ n h. h;
     no_lock = λ i. put-all (λ i b. b.holder ≡ Some c → (G.bucket i).holder ≡ Some c) G.bucket j (record (G.bucket j) { holder = holder })
         (λ h. absurd (after c ne h)) (λ i ni h. h) i;

@@ -1,6 +1,6 @@
 -- The store by which a caller that has locked a port's bucket changes what the port is bound to. What it does to other buckets,
 -- ports and callers is shown here once; what it does to the port and to its bucket is asked of each such store.
-use Rattle.std.proofs.Common.{◌≡◌, ◌≢◌, ◌⊎◌, ◌↔◌, ℕ, ◌+◌, ◌*◌, ◌/◌, ◌%◌, ◌<◌, List, [], ◌∷◌, Option, Some, None, refl, sym, ◌∙◌, ap, subst, inl, inr, arith}
+use Rattle.std.proofs.Common.{◌≡◌, ◌≢◌, ◌⊎◌, ◌↔◌, ℕ, ◌+◌, ◌*◌, ◌/◌, ◌%◌, ◌<◌, List, [], ◌∷◌, Option, Some, None, false, refl, sym, ◌∙◌, ap, subst, inl, inr, arith}
 use Rattle.std.specs.Int.{bit_at}
 use Rattle.std.proofs.lemmas.Bool.{cases_eq}
 use Rattle.rht_words.specs.declared.env.Env.{Env}
@@ -9,7 +9,7 @@ use Rattle.rht_words.specs.Places.{Address, PortCount, NodeMap, Node, NodeWord, 
 use Rattle.rht_words.specs.Members.{In}
 use Rattle.rht_words.proofs.Memory.{Memory, IsWrite}
 use Rattle.rht_words.proofs.ChainLemmas.{IsSegment-members}
-use Rattle.rht_core.proofs.Theory.Ghosts.{put, put-same, put-other, put-all, Bucket, Owner, Free, Held, First, Behind, Ghost, is_used, IsUsed, held_not_used, held_by_one}
+use Rattle.rht_core.proofs.Theory.Ghosts.{put, put-same, put-other, put-all, Bucket, Owner, Free, Held, First, Behind, Ghost, is_used, is_taken_by, IsUsed, held_not_used, held_by_one}
 use Rattle.rht_core.proofs.Theory.Wholes.{chain_of, list_of, key_of, IsHomeOf, BucketRight, IsFirstAt, IsBehindIn, IsBoundTo, Owned, ArenaRight, IsBuilt, Whole, firsts, raisers}
 use Rattle.rht_core.proofs.Theory.Frames.{Made, Others, IsNoTableWord, SameTables, same_tables, tables_stay, TablesRight-write, IsHomeOf-same, BucketRight-frame}
 use Rattle.rht_core.proofs.Theory.Readiness.{Change, changed}
@@ -44,6 +44,7 @@ module _ (env : Env) (mix : ℕ → ℕ → ℕ → ℕ) (d : ℕ) (change : Cha
     pub key_is : key_of M n ≡ port
     pub used : IsUsed owner
     pub built : IsBuilt env mix owner
+    pub no_others : (c : ℕ) → c ≢ d → is_taken_by c owner ≡ false
 
   -- what the store makes of the port and of its bucket
   pub record IsRebound : Type 0 where
@@ -107,6 +108,21 @@ module _ (env : Env) (mix : ℕ → ℕ → ℕ → ℕ) (d : ℕ) (change : Cha
         go [] b i = absurd i
         go (first ∷ behind) b (inl e) = rw e (ap is_used (is.seat first behind b))
         go (first ∷ behind) b (inr i) = ap is_used ((whole.owned.bound_to port first behind b).each n i)
+
+    -- no node that changes had been taken out of a list
+    not_out : (n c : ℕ) → In n (G.bound port) → is_taken_by c (G.node n) ≡ false
+    not_out n c = go (G.bound port) refl
+      where
+        go : (nodes : List ℕ) → G.bound port ≡ nodes → In n nodes → is_taken_by c (G.node n) ≡ false
+        go [] b i = absurd i
+        go (first ∷ behind) b (inl e) = ap (λ m. is_taken_by c (G.node m)) e ∙ ap (is_taken_by c) (is.seat first behind b)
+        go (first ∷ behind) b (inr i) = ap (is_taken_by c) ((whole.owned.bound_to port first behind b).each n i)
+
+    was_not_out : (c n : ℕ) (owner : Owner) → IsChanged n owner → is_taken_by c (G.node n) ≡ false
+    was_not_out c n owner at = elim at.before [
+      | inl there ↦ not_out n c there
+      | inr held ↦ ap (is_taken_by c) held
+    ]
 
     -- one of its nodes that is in a chain is in its bucket
     listed_seat : (n i : ℕ) → In n (G.bound port) → G.node n ≡ First i → i ≡ here
@@ -249,6 +265,9 @@ module _ (env : Env) (mix : ℕ → ℕ → ℕ → ℕ) (d : ℕ) (change : Cha
           nodes = λ n has. kept_owner n (held_kept c n ne has.mine) ∙ has.mine;
           words = λ n has w. store.write.others (Node n w) has.among (store.other_node c n w ne has.mine);
           raised = put-other G.raised d change.raised c ne;
+          taken = owners_all (λ n o. is_taken_by c o ≡ is_taken_by c (G.node n))
+              (is.one_changed.no_others c ne ∙ sym (was_not_out c change.one change.one_owner is.one_changed))
+              (is.other_changed.no_others c ne ∙ sym (was_not_out c change.other change.other_owner is.other_changed)) (λ n apart other. refl);
           no_node = owners_all (λ n o. o ≡ Held c → G.node n ≡ Held c)
               (λ held. absurd (held_not_used change.one_owner c held is.one_changed.used))
               (λ held. absurd (held_not_used change.other_owner c held is.other_changed.used)) (λ n apart other held. held);

@@ -13,7 +13,7 @@ use Rattle.rht_words.specs.Members.{In, NotIn, IsDistinct}
 use Rattle.rht_words.proofs.Memory.{Memory, IsWrite}
 use Rattle.rht_words.proofs.ChainLemmas.{IsSegment-cut, IsSegment-members}
 use Rattle.rht_words.proofs.Members.{not_in_from, in_and_not, in-middle, In-append_left, In-append_right, In-append_cases, NotIn-append, IsDistinct-cut, IsDistinct-without, IsDistinct-with, count_below, count_below-more, count_below-same}
-use Rattle.rht_core.proofs.Theory.Ghosts.{put, put-same, put-other, put-all, Bucket, Owner, Held, First, Behind, Taken, Ghost, is_first, is_used, held_not_used, table_at}
+use Rattle.rht_core.proofs.Theory.Ghosts.{put, put-same, put-other, put-all, Bucket, Owner, Held, First, Behind, Taken, Ghost, is_first, is_used, is_taken_by, taken_by_one, held_not_used, table_at}
 use Rattle.rht_core.proofs.Theory.Wholes.{chain_of, list_of, key_of, place_at, IsHomeOf, BucketRight, IsFirstAt, IsBehindIn, IsBoundTo, IsBuilt, Whole, firsts, raisers}
 use Rattle.rht_core.proofs.Theory.Passed.{home-within}
 use Rattle.rht_core.proofs.Theory.Knowledge.{last_of, HasNode}
@@ -170,6 +170,7 @@ module _ (env : Env) (mix : ℕ → ℕ → ℕ → ℕ) (d port j m : ℕ) (fro
       key_is = found.key_is;
       used = refl;
       built = built;
+      no_others = λ c ne. taken_by_one c d ne;
     }
 
     unlinked_counted : firsts env mix unlinked + raisers env mix unlinked ≡ firsts env mix G + raisers env mix G
@@ -257,6 +258,7 @@ module _ (env : Env) (mix : ℕ → ℕ → ℕ → ℕ) (d port j m : ℕ) (fro
     pub used : is_used owner ≡ true
     pub built : IsBuilt env mix owner
     pub no_first : is_first owner ≡ false
+    pub no_others : (c : ℕ) → c ≢ d → is_taken_by c owner ≡ false
     pub listed : (n : ℕ) → In n tail → ((n ≡ m) × (owner ≡ Behind port)) ⊎ (In n behind × (n ≢ x))
     pub back : (n : ℕ) → In n behind → n ≢ x → In n tail
     pub back_one : (p : ℕ) → owner ≡ Behind p → (p ≡ port) × In m tail
@@ -356,6 +358,7 @@ module _ (env : Env) (mix : ℕ → ℕ → ℕ → ℕ) (d port j m : ℕ) (fro
       key_is = found.key_is;
       used = can.used;
       built = can.built;
+      no_others = can.no_others;
     }
 
     new_changed : IsChanged env mix d change M M' G a v x (First j)
@@ -364,6 +367,7 @@ module _ (env : Env) (mix : ℕ → ℕ → ℕ → ℕ) (d port j m : ℕ) (fro
       key_is = can.key_is;
       used = refl;
       built = tt;
+      no_others = λ c ne. refl;
     }
 
     new_right : BucketRight env mix M' j change.bucket

@@ -9,7 +9,7 @@ use Rattle.rht_words.specs.Places.{PortCount, NodeMap, Node, NodeWord, ChainLink
 use Rattle.rht_words.proofs.BitChanges.{bit_at-cleared, bit_at-cleared_other, bit_at-set, bit_at-set_other}
 use Rattle.rht_words.proofs.Memory.{Memory, IsWrite}
 use Rattle.rht_words.proofs.Members.{count_below-same}
-use Rattle.rht_core.proofs.Theory.Ghosts.{put, put-other, put-all, Owner, Free, Held, First, Behind, Ghost, is_first, is_used, IsUsed, unused-not_first, held_not_used, held_by_one, with_owner}
+use Rattle.rht_core.proofs.Theory.Ghosts.{put, put-other, put-all, Owner, Free, Held, First, Behind, Ghost, is_first, is_used, is_taken_by, IsUsed, unused-not_first, held_not_used, held_by_one, with_owner}
 use Rattle.rht_core.proofs.Theory.Wholes.{ArenaRight, IsBuilt, Whole, firsts as count_firsts, raisers}
 use Rattle.rht_core.proofs.Theory.Knowledge.{HasNode}
 use Rattle.rht_core.proofs.Theory.Frames.{Made, UsedStay, used_stay, tables_stay, same_tables, Rely-same, SameChains, same_chains, Whole-frame, locks_stay, arena_stays}
@@ -172,6 +172,7 @@ module _ (env : Env) (mix : ℕ → ℕ → ℕ → ℕ) where
             nodes = λ m has. put-other G.node n (Held d) m (λ e. let q = sym free ∙ ap G.node (sym e) ∙ has.mine in cc) ∙ has.mine;
             words = λ m has w. write.others (Node m w) has.among (λ e. cc);
             raised = refl;
+            taken = put-all (λ k o. is_taken_by c o ≡ is_taken_by c (G.node k)) G.node n (Held d) (sym (ap (is_taken_by c) free)) (λ k kn. refl);
             no_node =
                 λ m. put-all (λ k o. o ≡ Held c → G.node k ≡ Held c) G.node n (Held d) (λ e. absurd (ne (cc))) (λ k kn h. h) m;
             no_lock = λ j h. h;
@@ -206,6 +207,7 @@ module _ (env : Env) (mix : ℕ → ℕ → ℕ → ℕ) where
           nodes = λ m held. put-other G.node n Free m (λ e. ne (held_by_one (G.node n) c d (ap G.node (sym e) ∙ held.mine) has.mine)) ∙ held.mine;
           words = λ m held w. write.others (Node m w) held.among (λ e. cc);
           raised = refl;
+          taken = put-all (λ k o. is_taken_by c o ≡ is_taken_by c (G.node k)) G.node n Free (sym (ap (is_taken_by c) has.mine)) (λ k kn. refl);
           no_node =
               λ m. put-all (λ k o. o ≡ Held c → G.node k ≡ Held c) G.node n Free (λ e. absurd (cc)) (λ k kn h. h) m;
           no_lock = λ j h. h;

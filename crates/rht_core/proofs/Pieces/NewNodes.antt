@@ -192,7 +192,7 @@ module _ (env : Env) (mix : ℕ → ℕ → ℕ → ℕ) (c : ℕ) (h : Holding)
         let write : IsWrite env.geometry M M' (NodeMap index) (bit_and word (bit_not w64 (bit_of bit))) =
         is_write env.geometry words (NodeMap index) op all low refl in
         let taken = take_node env mix c index bit M M' G whole range free write in
-        moved env mix c words G op (holding None) (holding (Some n)) (knowing (Some n) (Some (bare n))) (TakesNode n) whole tt tt taken.0
+        moved env mix c words G op (holding None) (holding (Some n)) (knowing (Some n) (Some (bare n))) (TakesNode n) whole taken.1 tt taken.0
         (record { taking = claims env.geometry index bit word range free; none = refl; holds = refl })
         (record {
           only = record {
@@ -281,7 +281,7 @@ module _ (env : Env) (mix : ℕ → ℕ → ℕ → ℕ) (c : ℕ) (h : Holding)
         let M' = mem env mix (applied words op) in
         let has = knows.means.node.has in
         let write = is_write env.geometry words (NodeMap (n / 64)) op all (omega (arith, has.among)) refl in
-        moved env mix c words G op (holding (Some n)) (holding None) (knowing None None) (GivesNode n) whole tt tt
+        moved env mix c words G op (holding (Some n)) (holding None) (knowing None None) (GivesNode n) whole knows.means.node.has.mine tt
         (give_node env mix c n M M' G whole has write)
         (record { giving = refl; has = refl; holds = refl })
         (record {

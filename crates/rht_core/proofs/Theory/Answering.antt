@@ -1,6 +1,6 @@
 -- What an operation of a call says about bindings: nothing, or the call's answer, which it is on what the words stand for then; or it
 -- changes the bindings as the call is to change them, and the answer is what the call says of the bindings before.
-use Rattle.std.proofs.Common.{◌≡◌, ◌≢◌, ◌⊎◌, ◌↔◌, ℕ, Bool, false, [], Option, Some, None, refl, sym, ◌∙◌, subst, inl, inr}
+use Rattle.std.proofs.Common.{◌≡◌, ◌≢◌, ◌⊎◌, ◌↔◌, ℕ, Bool, false, [], Option, Some, None, refl, sym, ap, ◌∙◌, subst, inl, inr}
 use Rattle.std.specs.Prelude.{IfSome}
 use Rattle.rht_words.specs.declared.config.Kind.{Kind}
 use Rattle.rht_model.specs.declared.history.Call.{Call}
@@ -11,6 +11,8 @@ use Rattle.rht_model.specs.declared.history.Reply.TheVariants.{Bound, Released, 
 use Rattle.rht_model.specs.Multimap.{Multimap, Agree}
 use Rattle.rht_model.specs.Answers.{Answer, port_of}
 use Rattle.rht_model.specs.Histories.{without_kick, IsAnswered, IsLegalAt, left_by}
+use Rattle.rht_words.proofs.Members.{one_if}
+use Rattle.rht_core.specs.Counts.{takes_out}
 use Rattle.rht_core.specs.Replies.{IsReplyTo, AreOwnersWith, ArePairsWith}
 use Rattle.rht_model.proofs.Agreements.{Agree-sym, answer_of-Agree, left_by-Agree, IsLegalAt-answer_of}
 
@@ -57,6 +59,15 @@ aside-with P aside reply is = is
 pub same_reply : (P : Reply → Type 0) → IsKickAside P → (was now : Answer) → IsSameAnswer was now → P was.reply → P now.reply
 same_reply P aside was now same is =
     aside-with P aside now.reply (subst P (sym same.reply) (aside-without P aside was.reply is))
+
+-- how many nodes a call has taken out of a port's list by what is known of its answer
+abbrev pub outs_of : Option Answer → ℕ
+outs_of None = 0
+outs_of (Some answer) = one_if (takes_out answer.reply)
+
+outs_of-same : (was now : Answer) → IsSameAnswer was now → outs_of (Some now) ≡ outs_of (Some was)
+outs_of-same was now same =
+    same_reply (λ reply. one_if (takes_out reply) ≡ outs_of (Some was)) (record { bound = λ k l is. is; released = λ k l is. is }) was now same refl
 
 -- a call that needs a node is answered that there was none exactly where it has none, and no other call has a node
 abbrev pub TellsNode : Call → Option ℕ → Reply → Type 0
@@ -214,6 +225,7 @@ module _ (kind : Kind) (c : ℕ) (call : Call) where
   pub record LearnsRightly (has : Option ℕ) (bindings : Multimap) (was now : Option Answer) : Type 0 where
     pub learns : LearnsAnswer bindings was now
     pub right : IsRight call has learns.answer
+    pub takes_none : takes_out learns.answer.reply ≡ false
 
   abbrev pub Tells : Option ℕ → Multimap → Option Answer → Option Answer → Type 0
   Tells has bindings was now = KeepsAnswer was now ⊎ LearnsRightly has bindings was now
@@ -222,6 +234,15 @@ module _ (kind : Kind) (c : ℕ) (call : Call) where
       → SaysStill bindings was now
   told-says has bindings was now (inl keeps) = inl keeps
   told-says has bindings was now (inr tells) = inr tells.learns
+
+  -- and it takes no node out of a list
+  pub told-outs : (has : Option ℕ) (bindings : Multimap) (was now : Option Answer) → Tells has bindings was now
+      → outs_of now ≡ outs_of was
+  told-outs has bindings None now (inl keeps) = ap outs_of keeps
+  told-outs has bindings (Some was) None (inl keeps) = absurd keeps
+  told-outs has bindings (Some was) (Some now) (inl keeps) = outs_of-same was now keeps
+  told-outs has bindings was now (inr tells) =
+      ap outs_of tells.learns.known ∙ ap one_if tells.takes_none ∙ sym (ap outs_of tells.learns.unknown)
 
   -- what is told is right
   pub told-right : (has : Option ℕ) (bindings : Multimap) (was now : Option Answer) → Tells has bindings was now
@@ -234,6 +255,9 @@ module _ (kind : Kind) (c : ℕ) (call : Call) where
 
   -- an answer is told that is legal on the bindings and leaves them
   pub learns : (has : Option ℕ) (bindings : Multimap) (answer : Answer) → IsRight call has answer
-      → IsLegalOn bindings answer → Tells has bindings None (Some answer)
-  learns has bindings answer right is =
-      inr (record { learns = record { unknown = refl; answer = answer; known = refl; said = inl is }; right = right })
+      → takes_out answer.reply ≡ false → IsLegalOn bindings answer → Tells has bindings None (Some answer)
+  learns has bindings answer right none is = inr (record {
+    learns = record { unknown = refl; answer = answer; known = refl; said = inl is };
+    right = right;
+    takes_none = none;
+  })

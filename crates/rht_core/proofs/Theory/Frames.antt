@@ -6,7 +6,7 @@ use Rattle.rht_words.proofs.Memory.{Memory, IsWrite}
 use Rattle.rht_words.specs.Members.{In}
 use Rattle.rht_words.proofs.ChainLemmas.{IsSegment-members}
 use Rattle.rht_words.specs.Links.{head_of, marker_of}
-use Rattle.rht_core.proofs.Theory.Ghosts.{Table, Bucket, Owner, First, Behind, Ghost, is_used, PageOwner, SlotOwner, has_table, index_at, table_at}
+use Rattle.rht_core.proofs.Theory.Ghosts.{Table, Bucket, Owner, First, Behind, Ghost, is_used, is_taken_by, PageOwner, SlotOwner, has_table, index_at, table_at}
 use Rattle.rht_core.proofs.Theory.Wholes.{chain_of, list_of, key_of, place_at, home, TableRight, TablesRight, LockedRight, BucketRight, ChainedRight, IsHomeOf, Owned, ArenaRight, Whole, firsts, raisers}
 use Rattle.rht_core.proofs.Theory.Passed.{Passed}
 use Rattle.rht_core.proofs.Theory.Knowledge.{HasNode, TablesStay, WordStays, Rely}
@@ -99,6 +99,7 @@ module _ (env : Env) (mix : ℕ → ℕ → ℕ → ℕ) where
     nodes = λ n has. ap (λ o. o n) nodes ∙ has.mine;
     words = λ n has w. own n w has;
     raised = raised;
+    taken = λ n. ap (λ o. is_taken_by c (o n)) nodes;
     no_node = λ n h. ap (λ o. o n) (sym nodes) ∙ h;
     no_lock = λ j h. ap (λ b. (b j).holder) (sym buckets) ∙ h;
   }

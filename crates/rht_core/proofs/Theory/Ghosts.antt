@@ -111,6 +111,15 @@ is_used (Taken c) = true
 abbrev pub IsUsed : Owner → Type 0
 IsUsed owner = is_used owner ≡ true
 
+-- the node was taken out of a port's list by a call of this caller
+abbrev pub is_taken_by : ℕ → Owner → Bool
+is_taken_by c Free = false
+is_taken_by c (Held d) = false
+is_taken_by c (First j) = false
+is_taken_by c (Leaving j) = false
+is_taken_by c (Behind k) = false
+is_taken_by c (Taken d) = d == c
+
 -- the bucket in which a node is that is some port's first
 abbrev pub seat_of : Owner → Option ℕ
 seat_of Free = None
@@ -165,6 +174,13 @@ unused-not_first (First j) is = absurd (cc)
 unused-not_first (Leaving j) is = absurd (cc)
 unused-not_first (Behind k) is = refl
 unused-not_first (Taken c) is = refl
+
+pub taken_by_one : (c d : ℕ) → c ≢ d → is_taken_by c (Taken d) ≡ false
+taken_by_one c d ne = go (d == c) refl
+  where
+    go : (t : Bool) → (d == c) ≡ t → (d == c) ≡ false
+    go true e = absurd (ne (sym (eqb-true d c e)))
+    go false e = e
 
 -- one owner is not another
 pub held_not_used : (o : Owner) (d : ℕ) → o ≡ Held d → IsUsed o → ⊥

@@ -11,7 +11,7 @@ use Rattle.rht_words.proofs.Memory.{Memory}
 use Rattle.rht_words.specs.Members.{In}
 use Rattle.rht_words.proofs.Members.{In-append_left, in-middle}
 use Rattle.rht_policy.specs.Mix.{bucket_of}
-use Rattle.rht_core.proofs.Theory.Ghosts.{Bucket, Held, Ghost, is_used, IsUsed, has_table, index_at}
+use Rattle.rht_core.proofs.Theory.Ghosts.{Bucket, Held, Ghost, is_used, is_taken_by, IsUsed, has_table, index_at}
 use Rattle.rht_core.proofs.Theory.Wholes.{key_of, place_at, word_index, home, Whole}
 use Rattle.rht_core.proofs.Theory.Passed.{NoKey, NoKey-same, Passed}
 
@@ -196,6 +196,8 @@ module _ (env : Env) (mix : ℕ → ℕ → ℕ → ℕ) where
     pub words : (node : ℕ) → HasNode c G node → (word : NodeWord) → M' (Node node word) ≡ M (Node node word)
     -- whether it has raised the count
     pub raised : G'.raised c ≡ G.raised c
+    -- which nodes it has taken out of lists
+    pub taken : (node : ℕ) → is_taken_by c (G'.node node) ≡ is_taken_by c (G.node node)
     -- nobody gives it a node or a lock
     pub no_node : (node : ℕ) → G'.node node ≡ Held c → G.node node ≡ Held c
     pub no_lock : (j : ℕ) → (G'.bucket j).holder ≡ Some c → (G.bucket j).holder ≡ Some c

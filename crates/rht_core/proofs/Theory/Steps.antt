@@ -1,5 +1,5 @@
 -- What one operation of a caller makes of the words, the ghost, what its call holds, and what it knows.
-use Rattle.std.proofs.Common.{◌≡◌, ◌≢◌, ◌⊎◌, ℕ, suc, ◌+◌, ◌%◌, ◌<◌, List, [], ◌∷◌, map, Option, Some, None, Bool, true, false, refl, ◌∙◌, ap, inl, inr, arith}
+use Rattle.std.proofs.Common.{◌≡◌, ◌≢◌, ◌⊎◌, ℕ, suc, ◌+◌, ◌%◌, ◌<◌, List, [], ◌∷◌, map, Option, Some, None, Bool, true, false, refl, sym, ◌∙◌, ap, inl, inr, arith}
 use Rattle.std.specs.Int.{bit_at}
 use Rattle.std.proofs.lemmas.List.{set-get_or}
 use Rattle.rht_words.specs.declared.env.Env.{Env}
@@ -12,15 +12,16 @@ use Rattle.rht_words.specs.Ports.{owner_of}
 use Rattle.rht_words.specs.Operations.{op_place, old_of, word_after, applied}
 use Rattle.rht_words.specs.Places.{PortCount, Node, NodeWord, OwnerWord, place_of, word_at}
 use Rattle.rht_words.specs.Members.{In}
+use Rattle.rht_words.proofs.Members.{count_below-same}
 use Rattle.rht_words.proofs.Memory.{Memory}
 use Rattle.rht_model.specs.declared.history.Call.{Call}
 use Rattle.rht_model.specs.Multimap.{Multimap, Agree}
 use Rattle.rht_model.specs.Answers.{Answer}
 use Rattle.rht_arena.specs.Laws.{map_place, map_bit, IsTaking}
-use Rattle.rht_core.proofs.Theory.Ghosts.{Free, Held, Ghost, is_used, IsUsed, with_holder, with_owner, with_raised}
-use Rattle.rht_core.proofs.Theory.Wholes.{place_at, Whole}
+use Rattle.rht_core.proofs.Theory.Ghosts.{put, put-all, Owner, Free, Held, Ghost, is_used, is_taken_by, IsUsed, with_holder, with_owner, with_raised}
+use Rattle.rht_core.proofs.Theory.Wholes.{place_at, outs, Whole}
 use Rattle.rht_core.proofs.Theory.Frames.{Made, still}
-use Rattle.rht_core.proofs.Theory.Answering.{SaysStill-agree, Says, IsRight, Tells, told-says, told-right}
+use Rattle.rht_core.proofs.Theory.Answering.{outs_of, SaysStill-agree, Says, IsRight, Tells, told-says, told-outs, told-right}
 use Rattle.rht_core.proofs.Theory.Readiness.{linked, IsReady}
 
 -- What an operation does beside what it finds: nothing that others see, a node taken or given back, a lock taken or dropped,
@@ -142,8 +143,8 @@ module _ (env : Env) (mix : ℕ → ℕ → ℕ → ℕ) where
   -- what a move needs: to link a node, all that makes it ready
   abbrev pub ReadyFor : ℕ → Memory → Ghost → Move → Type 0
   ReadyFor c M G Quiet = Unit {0}
-  ReadyFor c M G (TakesNode n) = Unit {0}
-  ReadyFor c M G (GivesNode n) = Unit {0}
+  ReadyFor c M G (TakesNode n) = G.node n ≡ Free
+  ReadyFor c M G (GivesNode n) = G.node n ≡ Held c
   ReadyFor c M G (TakesLock j) = Unit {0}
   ReadyFor c M G (DropsLock j) = Unit {0}
   ReadyFor c M G Raises = Unit {0}
@@ -169,6 +170,7 @@ module _ (env : Env) (mix : ℕ → ℕ → ℕ → ℕ) where
     pub says : Says env.config.kind c call (owners (mem words) G) (owners (mem (applied words op)) (ghost_after c move G)) h.answer h'.answer
     pub right : (answer : Answer) → h.answer ≡ None → h'.answer ≡ Some answer → IsRight call h.node answer
     pub in_time : HasNodeInTime h h'
+    pub outs : outs env mix (ghost_after c move G) c + outs_of h.answer ≡ outs env mix G c + outs_of h'.answer
     pub knows : Knows (mem (applied words op)) (ghost_after c move G)
 
   -- the same step with more said of what the caller knows
@@ -183,6 +185,7 @@ module _ (env : Env) (mix : ℕ → ℕ → ℕ → ℕ) where
     says = step.says;
     right = step.right;
     in_time = step.in_time;
+    outs = step.outs;
     knows = more (mem (applied words op)) (ghost_after c step.move G) step.made.whole step.knows;
   }
 
@@ -231,7 +234,15 @@ module _ (env : Env) (mix : ℕ → ℕ → ℕ → ℕ) where
     pub made : Made env mix c (mem words) G (mem (applied words op)) (ghost_after c move G)
     pub does : Does move op (old_of words op) h h'
     pub agree : Agree (owners (mem (applied words op)) (ghost_after c move G)) (owners (mem words) G)
+    pub outs : outs env mix (ghost_after c move G) c ≡ outs env mix G c
     pub knows : Knows (mem (applied words op)) (ghost_after c move G)
+
+  -- a node that the caller hasn't taken out, and hasn't then
+  pub reowned-outs : (c n : ℕ) (owner : Owner) (G : Ghost) → is_taken_by c (G.node n) ≡ false → is_taken_by c owner ≡ false
+      → outs env mix (with_owner G n owner) c ≡ outs env mix G c
+  reowned-outs c n owner G was now =
+      count_below-same (λ m. is_taken_by c (G.node m)) (λ m. is_taken_by c (put G.node n owner m)) env.geometry.nodes
+      (λ m l. put-all (λ i o. is_taken_by c o ≡ is_taken_by c (G.node i)) G.node n owner (now ∙ sym was) (λ i ne. refl) m)
 
   -- where a move links no node, each port is bound to what it was
   abbrev LinksNone : Move → Type 0
@@ -252,6 +263,17 @@ module _ (env : Env) (mix : ℕ → ℕ → ℕ → ℕ) where
   same_bound c Raises G port none = refl
   same_bound c (Links n k j) G port none = absurd none
 
+  -- nor does it take one out of a list
+  same_outs : (c : ℕ) (move : Move) (M : Memory) (G : Ghost) → LinksNone move → ReadyFor c M G move
+      → outs env mix (ghost_after c move G) c ≡ outs env mix G c
+  same_outs c Quiet M G none ready = refl
+  same_outs c (TakesNode n) M G none ready = reowned-outs c n (Held c) G (ap (is_taken_by c) ready) refl
+  same_outs c (GivesNode n) M G none ready = reowned-outs c n Free G (ap (is_taken_by c) ready) refl
+  same_outs c (TakesLock j) M G none ready = refl
+  same_outs c (DropsLock j) M G none ready = refl
+  same_outs c Raises M G none ready = refl
+  same_outs c (Links n k j) M G none ready = absurd none
+
   pub moved : (c : ℕ) (words : List ℕ) (G : Ghost) (op : Op) (h h' : Holding) (Knows : Memory → Ghost → Type 0) (move : Move)
       → Whole env mix (mem words) G → ReadyFor c (mem words) G move → LinksNone move
       → Made env mix c (mem words) G (mem (applied words op)) (ghost_after c move G)
@@ -263,6 +285,7 @@ module _ (env : Env) (mix : ℕ → ℕ → ℕ → ℕ) where
     made = made;
     does = does;
     agree = λ port. owners-stay c (mem words) (mem (applied words op)) G (ghost_after c move G) whole made port (same_bound c move G port none);
+    outs = same_outs c move (mem words) G none ready;
     knows = knows;
   }
 
@@ -275,6 +298,7 @@ module _ (env : Env) (mix : ℕ → ℕ → ℕ → ℕ) where
     made = step.made;
     does = step.does;
     agree = step.agree;
+    outs = step.outs;
     knows = more (mem (applied words op)) (ghost_after c step.move G) step.made.whole step.knows;
   }
 
@@ -288,6 +312,7 @@ module _ (env : Env) (mix : ℕ → ℕ → ℕ → ℕ) where
     made = rw (unchanged words op same) (still env mix c (mem words) G whole);
     does = record { holds = holds; leaves = inl (λ bit l. ap (λ word. bit_at word bit) same) };
     agree = rw (unchanged words op same) (λ port. refl);
+    outs = refl;
     knows = rw (unchanged words op same) knows;
   }
 
@@ -296,7 +321,7 @@ module _ (env : Env) (mix : ℕ → ℕ → ℕ → ℕ) where
       → (step : Moved c words G op h h' Knows) → More (mem (applied words op)) (ghost_after c step.move G)
       → Moved c words G op h h' More
   with_knowledge c words G op h h' Knows More step more =
-      record { move = step.move; ready = step.ready; made = step.made; does = step.does; agree = step.agree; knows = more }
+      record { move = step.move; ready = step.ready; made = step.made; does = step.does; agree = step.agree; outs = step.outs; knows = more }
 
   -- ---- with what is known of the answer
 
@@ -352,6 +377,8 @@ module _ (env : Env) (mix : ℕ → ℕ → ℕ → ℕ) where
     });
     right = told-right env.config.kind c call h.node (owners (mem words) G) h.answer answer tells;
     in_time = in_time;
+    outs = ap (λ o. o + outs_of h.answer) step.outs
+        ∙ ap (λ o. outs env mix G c + o) (sym (told-outs env.config.kind c call h.node (owners (mem words) G) h.answer answer tells));
     knows = step.knows;
   }
 
@@ -371,5 +398,6 @@ module _ (env : Env) (mix : ℕ → ℕ → ℕ → ℕ) where
         says = step.says;
         right = step.right;
         in_time = record { taken = step.in_time.taken; gone = step.in_time.gone };
+        outs = step.outs;
         knows = step.knows;
       }

@@ -12,7 +12,7 @@ use Rattle.rht_words.proofs.Memory.{Memory}
 use Rattle.rht_words.specs.Members.{In, IsDistinct}
 use Rattle.rht_words.proofs.Members.{count_below}
 use Rattle.rht_policy.specs.Mix.{bucket_of}
-use Rattle.rht_core.proofs.Theory.Ghosts.{Bucket, Owner, Free, Held, First, Leaving, Behind, Taken, Ghost, Live, lock_bit, is_first, table_at, has_table, index_at, PageOf}
+use Rattle.rht_core.proofs.Theory.Ghosts.{Bucket, Owner, Free, Held, First, Leaving, Behind, Taken, Ghost, Live, lock_bit, is_first, is_taken_by, table_at, has_table, index_at, PageOf}
 
 -- the links behind nodes
 abbrev pub chain_of : Memory → ℕ → ℕ
@@ -162,6 +162,10 @@ module _ (env : Env) (mix : ℕ → ℕ → ℕ → ℕ) where
   -- the count of ports is the nodes in chains, and the callers that have raised it for a node that they haven't linked yet
   abbrev pub firsts : Ghost → ℕ
   firsts G = count_below (λ n. is_first (G.node n)) env.geometry.nodes
+
+  -- how many nodes calls of a caller have taken out of ports' lists
+  abbrev pub outs : Ghost → ℕ → ℕ
+  outs G c = count_below (λ n. is_taken_by c (G.node n)) env.geometry.nodes
 
   abbrev pub raisers : Ghost → ℕ
   raisers G = count_below G.raised env.geometry.callers
