@@ -4,7 +4,7 @@ pub mod CountedPorts
 pub mod RaisedNodes
 -- so the count of ports is at most the nodes
 pub mod CountedNodes
--- so far no call takes a node out of a port's list
+-- the nodes that calls have taken out of ports' lists
 pub mod NodesOut
 -- in every run a bind takes one node at most
 pub mod NodesTaken

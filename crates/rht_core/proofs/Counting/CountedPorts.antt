@@ -30,7 +30,7 @@ first_in env mix (Held c) built is = absurd (cc)
 first_in env mix (First j) built is = (j, refl)
 first_in env mix (Leaving j) built is = absurd built
 first_in env mix (Behind k) built is = absurd (cc)
-first_in env mix (Taken c) built is = absurd built
+first_in env mix (Taken c) built is = absurd (cc)
 
 module _ (env : Env) (mix : ℕ → ℕ → ℕ → ℕ) (words : List ℕ) (G : Ghost)
     (whole : Whole env mix (mem env mix words) G) where

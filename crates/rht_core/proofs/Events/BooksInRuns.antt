@@ -58,7 +58,7 @@ module _ (env : Env) (mix : ℕ → ℕ → ℕ → ℕ) (L : Type 0) where
 
   -- ---- a call begins
 
-  idle-says : (view : View L) (many : ℕ) → is_idle view.local ≡ true → ViewSays view many → many ≡ ended_outs view.book
+  pub idle-says : (view : View L) (many : ℕ) → is_idle view.local ≡ true → ViewSays view many → many ≡ ended_outs view.book
   idle-says view many idle says = go (job_of view.local.doing) (sym (nothing-job view.local.doing) ∙ idle) says
     where
       go : (job : Option Job) → is_no_job job ≡ true → BookSays job view.book many → many ≡ ended_outs view.book

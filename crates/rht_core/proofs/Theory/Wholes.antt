@@ -144,14 +144,14 @@ module _ (env : Env) (mix : ℕ → ℕ → ℕ → ℕ) where
     pub bound_to : (port n : ℕ) (behind : List ℕ) → G.bound port ≡ n ∷ behind → IsBoundTo M G port n behind
     pub single : env.config.kind ≡ Single → (port n : ℕ) (behind : List ℕ) → G.bound port ≡ n ∷ behind → behind ≡ []
 
-  -- so far a node is free, with a caller, in a chain, or in a list behind it
+  -- so far no node is on its way out of a chain, and one that was taken out of a list was so by one of the callers
   abbrev pub IsBuilt : Owner → Type 0
   IsBuilt Free = Unit {0}
   IsBuilt (Held c) = Unit {0}
   IsBuilt (First j) = Unit {0}
   IsBuilt (Leaving j) = ⊥
   IsBuilt (Behind k) = Unit {0}
-  IsBuilt (Taken c) = ⊥
+  IsBuilt (Taken c) = c < env.geometry.callers
 
   -- a node's bit is set exactly where nobody has the node
   pub record ArenaRight (M : Memory) (G : Ghost) : Type 0 where
