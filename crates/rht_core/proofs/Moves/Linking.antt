@@ -14,7 +14,7 @@ use Rattle.rht_core.proofs.Theory.Ghosts.{put, put-same, put-other, put-all, Fre
 use Rattle.rht_core.proofs.Theory.Wholes.{chain_of, list_of, key_of, place_at, BucketRight, IsFirstAt, IsBehindIn, IsBoundTo, Owned, ArenaRight, IsBuilt, Whole, firsts, raisers}
 use Rattle.rht_core.proofs.Theory.Passed.{home-within}
 use Rattle.rht_core.proofs.Theory.Readiness.{linked_bucket, linked, IsReady}
-use Rattle.rht_core.proofs.Theory.Frames.{Made, UsedStay, used_stay, first_stays, SameTables, same_tables, tables_stay, TablesRight-write, IsHomeOf-same, BucketRight-frame}
+use Rattle.rht_core.proofs.Theory.Frames.{Made, UsedStay, used_stay, chains_stay, first_stays, SameTables, same_tables, tables_stay, TablesRight-write, IsHomeOf-same, BucketRight-frame}
 
 module _ (env : Env) (mix : ℕ → ℕ → ℕ → ℕ) where
   head_of-link : (place n : ℕ) → head_of place (link_of n) ≡ link_of n
@@ -179,6 +179,7 @@ module _ (env : Env) (mix : ℕ → ℕ → ℕ → ℕ) where
             let at = whole.owned.first_at m j (whole.owned.member j m i) in
             put-other G.bound port (n ∷ []) (key_of M m)
             (λ e. let q : ◌≡◌ {A = List ℕ} [] (m ∷ at.behind) = sym ready.unbound ∙ ap G.bound (sym e) ∙ at.bound_to in cc);
+        chains = chains_stay env mix c M M' G (PageWord here) (link_of n) whole write (λ m used e. cc);
         keys = words_stay.keys;
         owners = words_stay.owners;
         nodes =

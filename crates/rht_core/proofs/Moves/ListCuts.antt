@@ -116,6 +116,7 @@ module _ (env : Env) (mix : ℕ → ℕ → ℕ → ℕ) (d port j m q p : ℕ) 
       no_owner = λ n e. cc;
       other_word = λ i ne e. cc;
       other_link = λ n i ne f e. cc;
+      no_behind = λ n other f e. cc;
       other_list = λ n other ne i e.
           let same : n ≡ p = cc in ne (sym (bound_key other n i) ∙ ap (key_of M) same ∙ before_key);
       other_node = λ c n w ne held e. let same : n ≡ p = cc in held_not_used (G.node n) c held (rw same before_used);

@@ -2,13 +2,13 @@
 -- the count of ports is raised.
 use Rattle.std.proofs.Common.{◌≡◌, ◌≢◌, ℕ, ◌+◌, ◌-◌, ◌*◌, ◌%◌, ◌^◌, ◌<◌, Option, Some, None, true, false, refl, sym, ◌∙◌, ap, arith}
 use Rattle.rht_words.specs.declared.env.Env.{Env}
-use Rattle.rht_words.specs.Places.{Address, PortCount, NodeMap, Node, NodeWord, KeyWord, OwnerWord, PageWord}
+use Rattle.rht_words.specs.Places.{Address, PortCount, NodeMap, Node, NodeWord, ChainLink, KeyWord, OwnerWord, PageWord}
 use Rattle.rht_words.proofs.Memory.{Memory, IsWrite}
 use Rattle.rht_words.proofs.Members.{count_below-more, count_below-most}
 use Rattle.rht_core.proofs.Theory.Ghosts.{put, put-same, put-other, put-all, Ghost, lock_bit, is_first, with_holder, with_raised}
 use Rattle.rht_core.proofs.Theory.Wholes.{LockedRight, Whole, firsts, raisers}
 use Rattle.rht_core.proofs.Theory.Knowledge.{Rely}
-use Rattle.rht_core.proofs.Theory.Frames.{Others, Made, IsNoTableWord, used_stay, tables_stay, same_tables, Rely-same, SameChains, same_chains, Whole-frame, locks_stay, arena_stays}
+use Rattle.rht_core.proofs.Theory.Frames.{Others, Made, IsNoTableWord, used_stay, chains_stay, tables_stay, same_tables, Rely-same, SameChains, same_chains, Whole-frame, locks_stay, arena_stays}
 
 module _ (env : Env) (mix : ℕ → ℕ → ℕ → ℕ) where
   -- ---- the lock of a bucket
@@ -56,6 +56,7 @@ module _ (env : Env) (mix : ℕ → ℕ → ℕ → ℕ) where
         (same_tables env mix G (put G.bucket j (record (G.bucket j) { holder = holder })) G.node G.bound G.raised);
     locks = λ i h. put-other G.bucket j (record (G.bucket j) { holder = holder }) i (λ e. before c ne (rw (sym e) h));
     lists = λ i n h k. refl;
+    chains = chains_stay env mix c M M' G (PageWord j) v whole write (λ n used e. cc);
     keys = λ n l used. write.others (Node n KeyWord) l (λ e. cc);
     owners = λ n l used. write.others (Node n OwnerWord) l (λ e. cc);
     nodes = λ n has. has.mine;
@@ -121,7 +122,7 @@ module _ (env : Env) (mix : ℕ → ℕ → ℕ → ℕ) where
         whole = Whole-frame env mix M M' G (with_raised G d true) PortCount v whole write (record { current = λ e. cc; slots = λ s u h e. cc }) (same_chains env mix G (put G.raised d true)) stay
             (locks_stay env mix M M' G PortCount v whole write (λ j e. cc)) (arena_stays env mix M M' G PortCount v whole write (with_raised G d true) refl (λ i e. cc))
             (write.same ∙ next ∙ ap (λ x. firsts env mix G + x) (sym more));
-        others = λ c ne. Rely-same env mix c M M' G (with_raised G d true) whole (same_tables env mix G G.bucket G.node G.bound (put G.raised d true)) refl refl refl (put-other G.raised d true c ne) stay
+        others = λ c ne. Rely-same env mix c M M' G (with_raised G d true) whole (same_tables env mix G G.bucket G.node G.bound (put G.raised d true)) refl refl refl (put-other G.raised d true c ne) stay (chains_stay env mix c M M' G PortCount v whole write (λ n used e. cc))
             (λ n w has. write.others (Node n w) has.among (λ e. cc));
       }
 
@@ -145,7 +146,7 @@ module _ (env : Env) (mix : ℕ → ℕ → ℕ → ℕ) where
         whole = Whole-frame env mix M M' G (with_raised G d false) PortCount v whole write (record { current = λ e. cc; slots = λ s u h e. cc }) (same_chains env mix G (put G.raised d false)) stay
             (locks_stay env mix M M' G PortCount v whole write (λ j e. cc)) (arena_stays env mix M M' G PortCount v whole write (with_raised G d false) refl (λ i e. cc))
             (write.same ∙ next);
-        others = λ c ne. Rely-same env mix c M M' G (with_raised G d false) whole (same_tables env mix G G.bucket G.node G.bound (put G.raised d false)) refl refl refl (put-other G.raised d false c ne) stay
+        others = λ c ne. Rely-same env mix c M M' G (with_raised G d false) whole (same_tables env mix G G.bucket G.node G.bound (put G.raised d false)) refl refl refl (put-other G.raised d false c ne) stay (chains_stay env mix c M M' G PortCount v whole write (λ n used e. cc))
             (λ n w has. write.others (Node n w) has.among (λ e. cc));
       }
 
@@ -160,5 +161,6 @@ module _ (env : Env) (mix : ℕ → ℕ → ℕ → ℕ) where
       let stay = used_stay env mix M M' G a v whole write node in (
         Whole-frame env mix M M' G G a v whole write table (same_chains env mix G G.raised) stay (locks_stay env mix M M' G a v whole write page)
             (arena_stays env mix M M' G a v whole write G refl map) (write.others PortCount tt count ∙ whole.counted),
-        λ c. Rely-same env mix c M M' G G whole (same_tables env mix G G.bucket G.node G.bound G.raised) refl refl refl refl stay (λ n w has. write.others (Node n w) has.among (node n w)),
+        λ c. Rely-same env mix c M M' G G whole (same_tables env mix G G.bucket G.node G.bound G.raised) refl refl refl refl stay (chains_stay env mix c M M' G a v whole write (λ n used. node n ChainLink))
+            (λ n w has. write.others (Node n w) has.among (node n w)),
       )

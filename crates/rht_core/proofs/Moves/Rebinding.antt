@@ -11,6 +11,7 @@ use Rattle.rht_words.proofs.Memory.{Memory, IsWrite}
 use Rattle.rht_words.proofs.ChainLemmas.{IsSegment-members}
 use Rattle.rht_core.proofs.Theory.Ghosts.{put, put-same, put-other, put-all, Bucket, Owner, Free, Held, First, Behind, Ghost, is_used, is_taken_by, IsUsed, held_not_used, held_by_one}
 use Rattle.rht_core.proofs.Theory.Wholes.{chain_of, list_of, key_of, IsHomeOf, BucketRight, IsFirstAt, IsBehindIn, IsBoundTo, Owned, ArenaRight, IsBuilt, Whole, firsts, raisers}
+use Rattle.rht_core.proofs.Theory.Knowledge.{bound_used}
 use Rattle.rht_core.proofs.Theory.Frames.{Made, Others, IsNoTableWord, SameTables, same_tables, tables_stay, TablesRight-write, IsHomeOf-same, BucketRight-frame}
 use Rattle.rht_core.proofs.Theory.Readiness.{Change, changed}
 
@@ -35,6 +36,7 @@ module _ (env : Env) (mix : ℕ → ℕ → ℕ → ℕ) (d : ℕ) (change : Cha
     pub no_owner : (n : ℕ) → Node n OwnerWord ≢ a
     pub other_word : (i : ℕ) → i ≢ here → PageWord i ≢ a
     pub other_link : (n i : ℕ) → i ≢ here → G.node n ≡ First i → Node n ChainLink ≢ a
+    pub no_behind : (n other : ℕ) → G.node n ≡ Behind other → Node n ChainLink ≢ a
     pub other_list : (n other : ℕ) → other ≢ port → In n (G.bound other) → Node n ListLink ≢ a
     pub other_node : (c n : ℕ) (w : NodeWord) → c ≢ d → G.node n ≡ Held c → Node n w ≢ a
 
@@ -260,6 +262,14 @@ module _ (env : Env) (mix : ℕ → ℕ → ℕ → ℕ) (d : ℕ) (change : Cha
               let at = whole.owned.first_at n i first in
               put-other G.bound port change.nodes (key_of M n) (λ e. elsewhere i h
               (listed_seat n i (subst (In n) (sym at.bound_to ∙ ap G.bound e) (inl refl)) first));
+          chains = λ i n m h there listed.
+              let first = whole.owned.member i n there in
+              let at = whole.owned.first_at n i first in
+              let used = bound_used env mix M G whole (key_of M n) (G.bound (key_of M n)) refl m listed in
+              store.write.others (Node m ChainLink) used.0 (elim (subst (In m) at.bound_to listed) [
+                | inl e ↦ store.other_link m i (elsewhere i h) (ap G.node e ∙ first)
+                | inr k ↦ store.no_behind m (key_of M n) ((whole.owned.bound_to (key_of M n) n at.behind at.bound_to).each m k)
+              ]);
           keys = λ n l used. key_stays n l;
           owners = λ n l used. store.write.others (Node n OwnerWord) l (store.no_owner n);
           nodes = λ n has. kept_owner n (held_kept c n ne has.mine) ∙ has.mine;

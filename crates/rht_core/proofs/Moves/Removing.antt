@@ -97,6 +97,7 @@ module _ (env : Env) (mix : ℕ → ℕ → ℕ → ℕ) (d port j m : ℕ) (fro
           no_owner = λ n e. cc;
           other_word = λ i ne e. ne (let same : i ≡ j = cc in same ∙ sym here);
           other_link = λ n i ne f e. cc;
+          no_behind = λ n p f e. cc;
           other_list = λ n p ne i e. cc;
           other_node = λ c n w ne held e. cc;
         }
@@ -114,6 +115,9 @@ module _ (env : Env) (mix : ℕ → ℕ → ℕ → ℕ) (d port j m : ℕ) (fro
                   let same : n ≡ p = cc in
                   let q : First i ≡ First j = sym f ∙ ap G.node same ∙ mine in
                   let place : i ≡ j = cc in place ∙ sym here);
+              no_behind = λ n other f e.
+                  let same : n ≡ p = cc in
+                  let q : Behind other ≡ First j = sym f ∙ ap G.node same ∙ mine in cc;
               other_list = λ n p ne i e. cc;
               other_node = λ c n w ne held e.
                   let same : n ≡ p = cc in

@@ -1,6 +1,6 @@
 -- The moves of nodes: a word of a node that the caller has is written, a free node is taken, one that the caller has is given back.
 -- Others see nothing of them but that a node is or isn't free.
-use Rattle.std.proofs.Common.{◌≡◌, ◌≢◌, ◌↔◌, ℕ, ◌+◌, ◌*◌, ◌/◌, ◌%◌, ◌<◌, false, refl, sym, ◌∙◌, ap, inl, inr, bit_and, bit_or, arith}
+use Rattle.std.proofs.Common.{◌≡◌, ◌≢◌, ◌↔◌, ℕ, ◌+◌, ◌*◌, ◌/◌, ◌%◌, ◌<◌, List, [], ◌∷◌, Option, Some, false, refl, sym, ◌∙◌, ap, subst, inl, inr, bit_and, bit_or, arith}
 use Rattle.std.specs.Int.{bit_at, bit_not, w64}
 use Rattle.std.proofs.lemmas.Bool.{cases_eq}
 use Rattle.rht_words.specs.declared.env.Env.{Env}
@@ -8,11 +8,12 @@ use Rattle.rht_words.specs.Maps.{bit_of, IsBitIn}
 use Rattle.rht_words.specs.Places.{PortCount, NodeMap, Node, NodeWord, ChainLink, KeyWord, OwnerWord, ListLink, map_words}
 use Rattle.rht_words.proofs.BitChanges.{bit_at-cleared, bit_at-cleared_other, bit_at-set, bit_at-set_other}
 use Rattle.rht_words.proofs.Memory.{Memory, IsWrite}
+use Rattle.rht_words.specs.Members.{In}
 use Rattle.rht_words.proofs.Members.{count_below-same}
-use Rattle.rht_core.proofs.Theory.Ghosts.{put, put-other, put-all, Owner, Free, Held, First, Behind, Ghost, is_first, is_used, is_taken_by, IsUsed, unused-not_first, held_not_used, held_by_one, with_owner}
-use Rattle.rht_core.proofs.Theory.Wholes.{ArenaRight, IsBuilt, Whole, firsts as count_firsts, raisers}
-use Rattle.rht_core.proofs.Theory.Knowledge.{HasNode}
-use Rattle.rht_core.proofs.Theory.Frames.{Made, UsedStay, used_stay, tables_stay, same_tables, Rely-same, SameChains, same_chains, Whole-frame, locks_stay, arena_stays}
+use Rattle.rht_core.proofs.Theory.Ghosts.{put, put-other, put-all, Owner, Free, Held, First, Behind, Ghost, is_first, is_used, is_taken_by, IsUsed, unused-not_first, behind_one, held_not_used, held_by_one, with_owner}
+use Rattle.rht_core.proofs.Theory.Wholes.{key_of, ArenaRight, IsBuilt, Whole, firsts as count_firsts, raisers}
+use Rattle.rht_core.proofs.Theory.Knowledge.{HasNode, bound_used}
+use Rattle.rht_core.proofs.Theory.Frames.{Made, UsedStay, used_stay, chains_stay, tables_stay, same_tables, Rely-same, SameChains, same_chains, Whole-frame, locks_stay, arena_stays}
 
 module _ (env : Env) (mix : ℕ → ℕ → ℕ → ℕ) where
   -- ---- a word of a node that the caller has
@@ -35,15 +36,30 @@ module _ (env : Env) (mix : ℕ → ℕ → ℕ → ℕ) where
             (locks_stay env mix M M' G (Node n w) v whole write (λ j e. cc)) (arena_stays env mix M M' G (Node n w) v whole write G refl (λ i e. cc))
             (write.others PortCount tt (λ e. cc) ∙ whole.counted);
         others = λ c ne. Rely-same env mix c M M' G G whole (same_tables env mix G G.bucket G.node G.bound G.raised) refl refl refl refl words
+            (chains_stay env mix c M M' G (Node n w) v whole write (λ m used e. other m used (cc)))
             (λ m u held. others_node m u held.among (λ e. ne (held_by_one (G.node n) c d (ap G.node (sym e) ∙ held.mine) has.mine)));
       }
 
   -- ---- the link in a chain of a node that is in none
 
-  -- A node behind a port's first one gets the link that it has once it comes into the first one's place.
-  pub chain_behind : (d n port v : ℕ) (M M' : Memory) (G : Ghost) → Whole env mix M G → G.node n ≡ Behind port
+  -- a node behind a port's first one is bound to no other port
+  listed_key : (M : Memory) (G : Ghost) → Whole env mix M G → (other port n : ℕ) → In n (G.bound other) → G.node n ≡ Behind port
+      → other ≡ port
+  listed_key M G whole other port n i behind = go (G.bound other) refl i
+    where
+      go : (nodes : List ℕ) → G.bound other ≡ nodes → In n nodes → other ≡ port
+      go [] b k = absurd k
+      go (f ∷ rest) b (inl e) =
+          let to = whole.owned.bound_to other f rest b in
+          let q : Behind port ≡ First to.bucket = sym behind ∙ ap G.node e ∙ to.first in absurd (cc)
+      go (f ∷ rest) b (inr k) = behind_one (G.node n) other port ((whole.owned.bound_to other f rest b).each n k) behind
+
+  -- A node behind a port's first one gets the link that it has once it comes into the first one's place. The caller has locked
+  -- the first one's bucket.
+  pub chain_behind : (d n port first j v : ℕ) (behind : List ℕ) (M M' : Memory) (G : Ghost) → Whole env mix M G → G.node n ≡ Behind port
+      → G.bound port ≡ first ∷ behind → G.node first ≡ First j → (G.bucket j).holder ≡ Some d
       → IsWrite env.geometry M M' (Node n ChainLink) v → Made env mix d M G M' G
-  chain_behind d n port v M M' G whole behind write =
+  chain_behind d n port first j v rest M M' G whole behind bound seat holder write =
       let unchained : (m j : ℕ) → G.node m ≡ First j → m ≢ n =
       λ m j first e. let q : First j ≡ Behind port = sym first ∙ ap G.node e ∙ behind in cc in
       let words : UsedStay env mix M G M' = record {
@@ -57,10 +73,27 @@ module _ (env : Env) (mix : ℕ → ℕ → ℕ → ℕ) where
             (locks_stay env mix M M' G (Node n ChainLink) v whole write (λ j e. cc)) (arena_stays env mix M M' G (Node n ChainLink) v whole write G refl (λ i e. cc))
             (write.others PortCount tt (λ e. cc) ∙ whole.counted);
         others = λ c ne. Rely-same env mix c M M' G G whole (same_tables env mix G G.bucket G.node G.bound G.raised) refl refl refl refl words
+            (λ i k m h here b.
+            let is = bound_used env mix M G whole (key_of M k) (G.bound (key_of M k)) refl m b in
+            write.others (Node m ChainLink) is.0 (λ e. ne (holder_one i k m h here b (cc))))
             (λ m u held. write.others (Node m u) held.among (λ e.
             let same : m ≡ n = cc in
             let q : Held c ≡ Behind port = sym held.mine ∙ ap G.node same ∙ behind in cc));
       }
+    where
+      -- who has locked a bucket in which the node's port has its first node is the caller
+      holder_one : {c : ℕ} → (i k m : ℕ) → (G.bucket i).holder ≡ Some c → In k (G.bucket i).nodes → In m (G.bound (key_of M k))
+          → m ≡ n → c ≡ d
+      holder_one i k m h here b same =
+          let f = whole.owned.member i k here in
+          let at = whole.owned.first_at k i f in
+          let key : key_of M k ≡ port = listed_key M G whole (key_of M k) port n (subst (λ x. In x (G.bound (key_of M k))) same b) behind in
+          let q : ◌≡◌ {A = List ℕ} (k ∷ at.behind) (first ∷ rest) = sym at.bound_to ∙ ap G.bound key ∙ bound in
+          let one : k ≡ first = cc in
+          let place : First i ≡ First j = sym f ∙ ap G.node one ∙ seat in
+          let bucket : i ≡ j = cc in
+          let z = sym h ∙ ap (λ x. (G.bucket x).holder) bucket ∙ holder in
+          cc
 
   -- ---- the bit of a node
 
@@ -144,7 +177,8 @@ module _ (env : Env) (mix : ℕ → ℕ → ℕ → ℕ) where
             })
             (write.others PortCount tt (λ e. cc) ∙ whole.counted);
         others =
-            λ c ne. Rely-same env mix c M M' G G whole (same_tables env mix G G.bucket G.node G.bound G.raised) refl refl refl refl words (λ m w has. write.others (Node m w) has.among (λ e. cc));
+            λ c ne. Rely-same env mix c M M' G G whole (same_tables env mix G G.bucket G.node G.bound G.raised) refl refl refl refl words
+            (chains_stay env mix c M M' G (NodeMap i) value whole write (λ m used e. cc)) (λ m w has. write.others (Node m w) has.among (λ e. cc));
       }
 
   -- the and that clears a bit which was set: the node was free
@@ -167,6 +201,7 @@ module _ (env : Env) (mix : ℕ → ℕ → ℕ → ℕ) where
             tables = tables_stay env mix M G (with_owner G n (Held d)) whole (same_tables env mix G G.bucket (put G.node n (Held d)) G.bound G.raised);
             locks = λ j h. refl;
             lists = λ j m h i. refl;
+            chains = chains_stay env mix c M M' G (NodeMap i) (bit_and (M (NodeMap i)) (bit_not w64 (bit_of b))) whole write (λ m used e. cc);
             keys = stay.keys;
             owners = stay.owners;
             nodes = λ m has. put-other G.node n (Held d) m (λ e. let q = sym free ∙ ap G.node (sym e) ∙ has.mine in cc) ∙ has.mine;
@@ -202,6 +237,7 @@ module _ (env : Env) (mix : ℕ → ℕ → ℕ → ℕ) where
           tables = tables_stay env mix M G (with_owner G n Free) whole (same_tables env mix G G.bucket (put G.node n Free) G.bound G.raised);
           locks = λ j h. refl;
           lists = λ j m h i. refl;
+          chains = chains_stay env mix c M M' G (NodeMap i) (bit_or (M (NodeMap i)) (bit_of b)) whole write (λ m used e. cc);
           keys = stay.keys;
           owners = stay.owners;
           nodes = λ m held. put-other G.node n Free m (λ e. ne (held_by_one (G.node n) c d (ap G.node (sym e) ∙ held.mine) has.mine)) ∙ held.mine;

@@ -6,10 +6,10 @@ use Rattle.rht_words.proofs.Memory.{Memory, IsWrite}
 use Rattle.rht_words.specs.Members.{In}
 use Rattle.rht_words.proofs.ChainLemmas.{IsSegment-members}
 use Rattle.rht_words.specs.Links.{head_of, marker_of}
-use Rattle.rht_core.proofs.Theory.Ghosts.{Table, Bucket, Owner, First, Behind, Ghost, is_used, is_taken_by, PageOwner, SlotOwner, has_table, index_at, table_at}
+use Rattle.rht_core.proofs.Theory.Ghosts.{Table, Bucket, Owner, First, Behind, Ghost, is_used, is_taken_by, IsUsed, PageOwner, SlotOwner, has_table, index_at, table_at}
 use Rattle.rht_core.proofs.Theory.Wholes.{chain_of, list_of, key_of, place_at, home, TableRight, TablesRight, LockedRight, BucketRight, ChainedRight, IsHomeOf, Owned, ArenaRight, Whole, firsts, raisers}
 use Rattle.rht_core.proofs.Theory.Passed.{Passed}
-use Rattle.rht_core.proofs.Theory.Knowledge.{HasNode, TablesStay, WordStays, Rely}
+use Rattle.rht_core.proofs.Theory.Knowledge.{HasNode, TablesStay, WordStays, ChainsStay, bound_used, Rely}
 
 module _ (env : Env) (mix : ℕ → ℕ → ℕ → ℕ) where
   -- what everybody but this caller can count on
@@ -44,6 +44,13 @@ module _ (env : Env) (mix : ℕ → ℕ → ℕ → ℕ) where
   first_stays M M' G whole words n j KeyWord first = words.keys n (whole.owned.first_at n j first).among (ap is_used first)
   first_stays M M' G whole words n j OwnerWord first = words.owners n (whole.owned.first_at n j first).among (ap is_used first)
   first_stays M M' G whole words n j ListLink first = words.lists n (whole.owned.first_at n j first).among (ap is_used first)
+
+  -- the links of the nodes to which the ports of a caller's buckets are bound, where the store is to no link of a node
+  pub chains_stay : (c : ℕ) (M M' : Memory) (G : Ghost) (a : Address) (v : ℕ) → Whole env mix M G → IsWrite env.geometry M M' a v
+      → ((n : ℕ) → IsUsed (G.node n) → Node n ChainLink ≢ a) → ChainsStay env mix c M G M'
+  chains_stay c M M' G a v whole write apart j n m h i b =
+      let is = bound_used env mix M G whole (key_of M n) (G.bound (key_of M n)) refl m b in
+      write.others (Node m ChainLink) is.0 (apart m is.1)
 
   -- ---- tables
 
@@ -88,12 +95,14 @@ module _ (env : Env) (mix : ℕ → ℕ → ℕ → ℕ) where
   -- where buckets and nodes have whom they had, a caller knows what it knew
   pub Rely-same : (c : ℕ) (M M' : Memory) (G G' : Ghost) → Whole env mix M G → SameTables G G'
       → G'.bucket ≡ G.bucket → G'.node ≡ G.node → G'.bound ≡ G.bound → G'.raised c ≡ G.raised c
-      → UsedStay M G M' → ((n : ℕ) (w : NodeWord) → HasNode env mix c G n → M' (Node n w) ≡ M (Node n w))
+      → UsedStay M G M' → ChainsStay env mix c M G M'
+      → ((n : ℕ) (w : NodeWord) → HasNode env mix c G n → M' (Node n w) ≡ M (Node n w))
       → Rely env mix c M G M' G'
-  Rely-same c M M' G G' whole same buckets nodes bound raised words own = record {
+  Rely-same c M M' G G' whole same buckets nodes bound raised words chains own = record {
     tables = tables_stay M G G' whole same;
     locks = λ j h. ap (λ b. b j) buckets;
     lists = λ j n h i. ap (λ b. b (key_of M n)) bound;
+    chains = chains;
     keys = words.keys;
     owners = words.owners;
     nodes = λ n has. ap (λ o. o n) nodes ∙ has.mine;
@@ -108,7 +117,7 @@ module _ (env : Env) (mix : ℕ → ℕ → ℕ → ℕ) where
   pub still : (d : ℕ) (M : Memory) (G : Ghost) → Whole env mix M G → Made d M G M G
   still d M G whole = record {
     whole = whole;
-    others = λ c ne. Rely-same c M M G G whole (same_tables G G.bucket G.node G.bound G.raised) refl refl refl refl unwritten (λ n w has. refl);
+    others = λ c ne. Rely-same c M M G G whole (same_tables G G.bucket G.node G.bound G.raised) refl refl refl refl unwritten (λ j n m h i b. refl) (λ n w has. refl);
   }
     where
       unwritten : UsedStay M G M

@@ -1,7 +1,7 @@
 -- What a caller knows in each state, and why nobody else's step takes it away.
 -- What it knows speaks of words and ghosts on which the caller holds the right, or which nobody changes. It is of three kinds: of the
 -- node that it has taken, of the table in which it looks for a port, and of the bucket that it has locked.
-use Rattle.std.proofs.Common.{◌≡◌, ◌≢◌, ◌⊎◌, ℕ, ◌<◌, ◌≤◌, List, [], ◌∷◌, ◌++◌, Option, Some, None, Bool, true, sym, ◌∙◌, ap}
+use Rattle.std.proofs.Common.{◌≡◌, ◌≢◌, ◌⊎◌, ℕ, ◌<◌, ◌≤◌, List, [], ◌∷◌, ◌++◌, Option, Some, None, Bool, true, refl, sym, ◌∙◌, ap, inl, inr}
 use Rattle.std.specs.Prelude.{IfSome}
 use Rattle.rht_words.specs.declared.env.Env.{Env}
 use Rattle.rht_words.specs.Places.{Node, NodeWord, ChainLink, KeyWord, OwnerWord, ListLink, IsBucketPlace}
@@ -177,6 +177,22 @@ module _ (env : Env) (mix : ℕ → ℕ → ℕ → ℕ) where
     pub indices : (s : ℕ) → has_table (G.slot s) ≡ true → index_at G' s ≡ index_at G s
     pub passed : (port τ : ℕ) → Passed env mix G port τ → Passed env mix G' port τ
 
+  -- nodes to which a port is bound are or were ports'
+  pub bound_used : (M : Memory) (G : Ghost) → Whole env mix M G → (port : ℕ) (bound : List ℕ) → G.bound port ≡ bound
+      → (n : ℕ) → In n bound → (n < env.geometry.nodes) × IsUsed (G.node n)
+  bound_used M G whole port [] b n i = absurd i
+  bound_used M G whole port (first ∷ behind) b n (inl e) =
+      let to = whole.owned.bound_to port first behind b in
+      rw e ((whole.owned.first_at first to.bucket to.first).among, ap is_used to.first)
+  bound_used M G whole port (first ∷ behind) b n (inr i) =
+      let is = (whole.owned.bound_to port first behind b).each n i in
+      ((whole.owned.behind_in n port is).among, ap is_used is)
+
+  -- the links in chains of all nodes to which the ports of the nodes in buckets that the caller has locked are bound
+  abbrev pub ChainsStay : ℕ → Memory → Ghost → Memory → Type 0
+  ChainsStay c M G M' = (j node other : ℕ) → (G.bucket j).holder ≡ Some c → In node (G.bucket j).nodes → In other (G.bound (key_of M node))
+      → M' (Node other ChainLink) ≡ M (Node other ChainLink)
+
   -- this word of each node that is or was a port's
   abbrev pub WordStays : NodeWord → Memory → Ghost → Memory → Type 0
   WordStays word M G M' = (node : ℕ) → node < env.geometry.nodes → IsUsed (G.node node) → M' (Node node word) ≡ M (Node node word)
@@ -188,6 +204,8 @@ module _ (env : Env) (mix : ℕ → ℕ → ℕ → ℕ) where
     -- what the ports of their nodes are bound to
     pub lists : (j node : ℕ) → (G.bucket j).holder ≡ Some c → In node (G.bucket j).nodes
         → G'.bound (key_of M node) ≡ G.bound (key_of M node)
+    -- the links in chains of the nodes to which these are bound
+    pub chains : ChainsStay c M G M'
     -- the words of nodes that are or were ports', but for their links
     pub keys : WordStays KeyWord M G M'
     pub owners : WordStays OwnerWord M G M'

@@ -20,6 +20,7 @@ use Rattle.rht_model.specs.Answers.{Answer}
 use Rattle.rht_arena.specs.Laws.{map_place, map_bit, IsTaking}
 use Rattle.rht_core.proofs.Theory.Ghosts.{put, put-all, Owner, Free, Held, Ghost, is_used, is_taken_by, IsUsed, with_holder, with_owner, with_raised}
 use Rattle.rht_core.proofs.Theory.Wholes.{place_at, outs, Whole}
+use Rattle.rht_core.proofs.Theory.Knowledge.{bound_used}
 use Rattle.rht_core.proofs.Theory.Frames.{Made, still}
 use Rattle.rht_core.proofs.Theory.Answering.{outs_of, SaysStill-agree, Says, IsRight, Tells, told-says, told-outs, told-right}
 use Rattle.rht_core.proofs.Theory.Readiness.{linked, IsReady}
@@ -191,17 +192,6 @@ module _ (env : Env) (mix : ℕ → ℕ → ℕ → ℕ) where
 
   -- ---- what the words stand for
 
-  -- nodes to which a port is bound are or were ports'
-  bound_used : (M : Memory) (G : Ghost) → Whole env mix M G → (port : ℕ) (bound : List ℕ) → G.bound port ≡ bound
-      → (n : ℕ) → In n bound → (n < env.geometry.nodes) × IsUsed (G.node n)
-  bound_used M G whole port [] b n i = absurd i
-  bound_used M G whole port (first ∷ behind) b n (inl e) =
-      let to = whole.owned.bound_to port first behind b in
-      rw e ((whole.owned.first_at first to.bucket to.first).among, ap is_used to.first)
-  bound_used M G whole port (first ∷ behind) b n (inr i) =
-      let is = (whole.owned.bound_to port first behind b).each n i in
-      ((whole.owned.behind_in n port is).among, ap is_used is)
-
   -- the owners of nodes whose owner words stay
   owners_in-same : (M M' : Memory) (bound : List ℕ)
       → ((n : ℕ) → In n bound → M' (Node n OwnerWord) ≡ M (Node n OwnerWord)) → owners_in M' bound ≡ owners_in M bound
@@ -216,7 +206,7 @@ module _ (env : Env) (mix : ℕ → ℕ → ℕ → ℕ) where
   owners_in-stay d M M' G G' whole made port bound b =
       let other : suc d ≢ d = λ e. absurd (omega arith) in
       owners_in-same M M' bound (λ n i.
-      let is = bound_used M G whole port bound b n i in (made.others (suc d) other).owners n is.0 is.1)
+      let is = bound_used env mix M G whole port bound b n i in (made.others (suc d) other).owners n is.0 is.1)
 
   -- so an operation that leaves what a port is bound to leaves its owners
   pub owners-stay : (d : ℕ) (M M' : Memory) (G G' : Ghost) → Whole env mix M G → Made env mix d M G M' G'
