@@ -31,7 +31,7 @@ use Rattle.rht_core.specs.Traces.{Did}
 use Rattle.rht_core.specs.Laws.{IsNoTake, IsTakeOf, TakesNone, TakesOne, IsTakenBy, IsTakenIn, TakenAlone}
 use Rattle.rht_core.proofs.Theory.Wholes.{place_at}
 use Rattle.rht_core.proofs.Theory.Answering.{TellsNode, TellsNode-same, known_so, unknown_before}
-use Rattle.rht_core.proofs.Theory.Steps.{Holding, Move, Quiet, TakesNode, GivesNode, TakesLock, DropsLock, Raises, Links, Does}
+use Rattle.rht_core.proofs.Theory.Steps.{Holding, Move, Quiet, TakesNode, GivesNode, TakesLock, DropsLock, Raises, Links, Lowers, Rebinds, LinksBehind, Does}
 use Rattle.rht_core.proofs.Events.JobsOfCallers.{same_call, first_unknown, first_without}
 use Rattle.rht_core.proofs.Tracing.TracedJobs.{Performs, LeadsOn, jobs_keep}
 
@@ -138,6 +138,17 @@ took env mix (Links n port j) did h h' does = inl record {
   none = on_bucket env mix did j does.on;
   left = inr (ap (λ (h : Holding). h.node) does.holds);
 }
+
+took env mix Lowers did h h' does = inl record {
+  none = off_map env.geometry did (inl (let on : op_place did.op ≡ 2 = ap op_place does.subtracts in omega (arith, on)));
+  left = inl (ap (λ (h : Holding). h.node) does.holds);
+}
+took env mix (Rebinds change) did h h' does =
+    inl record { none = off_map env.geometry did (inr does.behind_maps); left = does.left_node }
+took env mix (LinksBehind n) did h h' does =
+    let parts = parts_in_order env.geometry in
+    let on = does.on in
+    inl record { none = off_map env.geometry did (inr (omega (arith, on))); left = inl (ap (λ (h : Holding). h.node) does.holds) }
 
 -- ---- what a call has taken
 

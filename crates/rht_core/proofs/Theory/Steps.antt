@@ -1,16 +1,16 @@
 -- What one operation of a caller makes of the words, the ghost, what its call holds, and what it knows.
-use Rattle.std.proofs.Common.{◌≡◌, ◌≢◌, ◌⊎◌, ℕ, suc, ◌+◌, ◌%◌, ◌<◌, List, [], ◌∷◌, map, Option, Some, None, Bool, true, false, refl, sym, ◌∙◌, ap, inl, inr, arith}
+use Rattle.std.proofs.Common.{◌≡◌, ◌≢◌, ◌⊎◌, ℕ, suc, ◌+◌, ◌%◌, ◌<◌, ◌≤◌, List, [], ◌∷◌, map, Option, Some, None, Bool, true, false, refl, sym, ◌∙◌, ap, inl, inr, arith}
 use Rattle.std.specs.Int.{bit_at}
 use Rattle.std.proofs.lemmas.List.{set-get_or}
 use Rattle.rht_words.specs.declared.env.Env.{Env}
 use Rattle.rht_words.specs.declared.geometry.Geometry.{Geometry}
 use Rattle.rht_words.specs.declared.op.Op.{Op}
-use Rattle.rht_words.specs.declared.op.Op.TheVariants.{Add, Or}
+use Rattle.rht_words.specs.declared.op.Op.TheVariants.{Add, Sub, Or}
 use Rattle.rht_words.specs.Held as held
 use Rattle.rht_words.specs.Maps.{bit_of}
 use Rattle.rht_words.specs.Ports.{owner_of}
 use Rattle.rht_words.specs.Operations.{op_place, old_of, word_after, applied}
-use Rattle.rht_words.specs.Places.{PortCount, Node, NodeWord, OwnerWord, place_of, word_at}
+use Rattle.rht_words.specs.Places.{PortCount, Node, NodeWord, ChainLink, OwnerWord, nodes_at, place_of, word_at}
 use Rattle.rht_words.specs.Members.{In}
 use Rattle.rht_words.proofs.Members.{count_below-same}
 use Rattle.rht_words.proofs.Memory.{Memory}
@@ -23,10 +23,11 @@ use Rattle.rht_core.proofs.Theory.Wholes.{place_at, outs, Whole}
 use Rattle.rht_core.proofs.Theory.Knowledge.{bound_used}
 use Rattle.rht_core.proofs.Theory.Frames.{Made, still}
 use Rattle.rht_core.proofs.Theory.Answering.{outs_of, SaysStill-agree, Says, IsRight, Tells, told-says, told-outs, told-right}
-use Rattle.rht_core.proofs.Theory.Readiness.{linked, IsReady}
+use Rattle.rht_core.proofs.Theory.Readiness.{linked, IsReady, Change, changed}
 
 -- What an operation does beside what it finds: nothing that others see, a node taken or given back, a lock taken or dropped,
--- the count raised, or a node linked for a port into a bucket
+-- the count raised or lowered, a node linked for a port into a bucket, what a port is bound to changed, or a node behind a port's
+-- first one given its link in the chain
 pub data Move : Type 0 where
   Quiet : Move
   TakesNode : ℕ → Move
@@ -35,6 +36,9 @@ pub data Move : Type 0 where
   DropsLock : ℕ → Move
   Raises : Move
   Links : ℕ → ℕ → ℕ → Move
+  Lowers : Move
+  Rebinds : Change → Move
+  LinksBehind : ℕ → Move
 
 -- a test's two cases, with what the test says
 pub by_test : (C : Bool → Type 0) (b : Bool) → ((b ≡ true) → C true) → ((b ≡ false) → C false) → C b
@@ -119,6 +123,23 @@ module _ (g : Geometry) where
     pub raised : h.raised ≡ true
     pub holds : h' ≡ record h { node = None; lock = None; raised = false; answer = h'.answer }
 
+  pub record DoesLower (op : Op) (h h' : Holding) : Type 0 where
+    pub subtracts : op ≡ Sub (place_of g PortCount) 1
+    pub high : h.raised ≡ true
+    pub holds : h' ≡ record h { raised = false; answer = h'.answer }
+
+  -- the store is on a word of a node or of a bucket; the call has the node that it had, or none, and the lock or none
+  pub record DoesRebind (raised : Bool) (place : ℕ) (op : Op) (h h' : Holding) : Type 0 where
+    pub behind_maps : nodes_at g ≤ op_place op
+    pub lock : h.lock ≡ Some place
+    pub left_lock : (h'.lock ≡ h.lock) ⊎ (h'.lock ≡ None)
+    pub left_node : (h'.node ≡ h.node) ⊎ (h'.node ≡ None)
+    pub raised_is : h'.raised ≡ raised
+
+  pub record DoesLinkBehind (node : ℕ) (op : Op) (h h' : Holding) : Type 0 where
+    pub on : op_place op ≡ place_of g (Node node ChainLink)
+    pub holds : HoldsSame h h'
+
 module _ (env : Env) (mix : ℕ → ℕ → ℕ → ℕ) where
   -- the ghost after a move of a caller
   abbrev pub ghost_after : ℕ → Move → Ghost → Ghost
@@ -129,6 +150,9 @@ module _ (env : Env) (mix : ℕ → ℕ → ℕ → ℕ) where
   ghost_after c (DropsLock j) G = with_holder G j None
   ghost_after c Raises G = with_raised G c true
   ghost_after c (Links n port j) G = linked G c j n port
+  ghost_after c Lowers G = with_raised G c false
+  ghost_after c (Rebinds change) G = changed G c change
+  ghost_after c (LinksBehind n) G = G
 
   -- the words as a memory
   abbrev pub mem : List ℕ → Memory
@@ -150,6 +174,9 @@ module _ (env : Env) (mix : ℕ → ℕ → ℕ → ℕ) where
   ReadyFor c M G (DropsLock j) = Unit {0}
   ReadyFor c M G Raises = Unit {0}
   ReadyFor c M G (Links n port j) = IsReady env mix c n port j M G
+  ReadyFor c M G Lowers = Unit {0}
+  ReadyFor c M G (Rebinds change) = Unit {0}
+  ReadyFor c M G (LinksBehind n) = Unit {0}
 
   -- which operation the move is, and how what the call holds changes by it
   abbrev pub Does : Move → Op → ℕ → Holding → Holding → Type 0
@@ -160,6 +187,9 @@ module _ (env : Env) (mix : ℕ → ℕ → ℕ → ℕ) where
   Does (DropsLock j) op old h h' = DoesDropLock env.geometry (place_at env mix j) op old h h'
   Does Raises op old h h' = DoesRaise env.geometry op h h'
   Does (Links n port j) op old h h' = DoesLink env.geometry n (place_at env mix j) op h h'
+  Does Lowers op old h h' = DoesLower env.geometry op h h'
+  Does (Rebinds change) op old h h' = DoesRebind env.geometry change.raised (place_at env mix change.place) op h h'
+  Does (LinksBehind n) op old h h' = DoesLinkBehind env.geometry n op h h'
 
   -- An operation of a caller in a call, which holds this before it and that after it, with what it knows afterwards.
   pub record Step (c : ℕ) (call : Call) (words : List ℕ) (G : Ghost) (op : Op) (h h' : Holding)
@@ -234,7 +264,7 @@ module _ (env : Env) (mix : ℕ → ℕ → ℕ → ℕ) where
       count_below-same (λ m. is_taken_by c (G.node m)) (λ m. is_taken_by c (put G.node n owner m)) env.geometry.nodes
       (λ m l. put-all (λ i o. is_taken_by c o ≡ is_taken_by c (G.node i)) G.node n owner (now ∙ sym was) (λ i ne. refl) m)
 
-  -- where a move links no node, each port is bound to what it was
+  -- where a move binds no port otherwise, each port is bound to what it was
   abbrev LinksNone : Move → Type 0
   LinksNone Quiet = Unit {0}
   LinksNone (TakesNode n) = Unit {0}
@@ -243,6 +273,9 @@ module _ (env : Env) (mix : ℕ → ℕ → ℕ → ℕ) where
   LinksNone (DropsLock j) = Unit {0}
   LinksNone Raises = Unit {0}
   LinksNone (Links n port j) = ⊥
+  LinksNone Lowers = Unit {0}
+  LinksNone (Rebinds change) = ⊥
+  LinksNone (LinksBehind n) = Unit {0}
 
   same_bound : (c : ℕ) (move : Move) (G : Ghost) (port : ℕ) → LinksNone move → (ghost_after c move G).bound port ≡ G.bound port
   same_bound c Quiet G port none = refl
@@ -252,6 +285,9 @@ module _ (env : Env) (mix : ℕ → ℕ → ℕ → ℕ) where
   same_bound c (DropsLock j) G port none = refl
   same_bound c Raises G port none = refl
   same_bound c (Links n k j) G port none = absurd none
+  same_bound c Lowers G port none = refl
+  same_bound c (Rebinds change) G port none = absurd none
+  same_bound c (LinksBehind n) G port none = refl
 
   -- nor does it take one out of a list
   same_outs : (c : ℕ) (move : Move) (M : Memory) (G : Ghost) → LinksNone move → ReadyFor c M G move
@@ -263,6 +299,9 @@ module _ (env : Env) (mix : ℕ → ℕ → ℕ → ℕ) where
   same_outs c (DropsLock j) M G none ready = refl
   same_outs c Raises M G none ready = refl
   same_outs c (Links n k j) M G none ready = absurd none
+  same_outs c Lowers M G none ready = refl
+  same_outs c (Rebinds change) M G none ready = absurd none
+  same_outs c (LinksBehind n) M G none ready = refl
 
   pub moved : (c : ℕ) (words : List ℕ) (G : Ghost) (op : Op) (h h' : Holding) (Knows : Memory → Ghost → Type 0) (move : Move)
       → Whole env mix (mem words) G → ReadyFor c (mem words) G move → LinksNone move
@@ -349,6 +388,18 @@ module _ (env : Env) (mix : ℕ → ℕ → ℕ → ℕ) where
     raised = does.raised;
     holds = ap (λ x. with_answer x answer) does.holds;
   }
+
+  does-answered Lowers op old h h' answer does =
+      record { subtracts = does.subtracts; high = does.high; holds = ap (λ x. with_answer x answer) does.holds }
+  does-answered (Rebinds change) op old h h' answer does = record {
+    behind_maps = does.behind_maps;
+    lock = does.lock;
+    left_lock = does.left_lock;
+    left_node = does.left_node;
+    raised_is = does.raised_is;
+  }
+  does-answered (LinksBehind n) op old h h' answer does =
+      record { on = does.on; holds = ap (λ x. with_answer x answer) does.holds }
 
   -- an operation that leaves bindings is a step, with what it says of the answer on the bindings as they are
   pub answered : (c : ℕ) (call : Call) (words : List ℕ) (G : Ghost) (op : Op) (h h' : Holding) (answer : Option Answer)
