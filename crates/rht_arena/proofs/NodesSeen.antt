@@ -30,7 +30,7 @@ use Rattle.rht_words.proofs.MachineRuns.{performed, kept_to_end}
 use Rattle.rht_arena.specs.declared.take_node.TakeNodeAt.{TakeNodeAt}
 use Rattle.rht_arena.specs.declared.take_node.TakeNodeAt.TheVariants.{MapWord, Claim}
 use Rattle.rht_arena.specs.TakeNode.{TakeNodeModel, IsTakeAtIn, take_node_new, take_node_plan, take_node_after, plan_at, after_at, claim_in}
-use Rattle.rht_arena.specs.Laws.{SeesTaken, SeesAllTaken, LeavesWord, IsTaking, IsAnsweredBy, AnswersSayWhatWasDone}
+use Rattle.rht_arena.specs.Laws.{IsLook, SeesTaken, SeesAllTaken, LeavesWord, IsTaking, IsAnsweredBy, AnswersSayWhatWasDone}
 use Rattle.rht_arena.proofs.TakenWereFree.{claims}
 use Rattle.rht_arena.proofs.TakingStays.{take_after-in}
 
@@ -41,14 +41,14 @@ abbrev pub first_unseen : TakeNodeAt → ℕ
 first_unseen (MapWord index) = 64 * index
 first_unseen (Claim index bit) = 64 * index + bit
 
--- an operation on a word of the map that finds a bit clear sees the bit's node taken
-sees_taken : (g : Geometry) (step : Performed) (index bit : ℕ) → bit < 64
+-- an operation that looks at a word of the map and finds a bit clear sees the bit's node taken
+sees_taken : (g : Geometry) (step : Performed) (index bit : ℕ) → bit < 64 → IsLook step.op
     → op_place step.op ≡ place_of g (NodeMap index)
     → bit_at step.old bit ≡ 0 → SeesTaken g (64 * index + bit) step
-sees_taken g step index bit low is clear =
+sees_taken g step index bit low looks is clear =
     let word : (64 * index + bit) / 64 ≡ index = omega (arith, low) in
     let place : (64 * index + bit) % 64 ≡ bit = omega (arith, low) in
-    record { place = rw word is; taken = rw place clear }
+    record { looks = looks; place = rw word is; taken = rw place clear }
 
 -- and one that finds it set doesn't
 sees_free : (g : Geometry) (step : Performed) (index bit : ℕ) → bit < 64 → bit_at step.old bit ≡ 1
@@ -90,6 +90,7 @@ SawFrom g first step (take, Done (Some node)) = (end : ℕ) → SeesAllTaken g f
 
 -- The operation is on this word of the map. From the machine's node on, the bits that it found set are those of `word`.
 record LeftOf (take : TakeNodeModel) (step : Performed) (first index word : ℕ) : Type 0 where
+  looks : IsLook step.op
   place : op_place step.op ≡ place_of take.geometry (NodeMap index)
   low : 64 * index ≤ first
   high : first ≤ 64 * (index + 1)
@@ -107,8 +108,9 @@ module _ (take : TakeNodeModel) (step : Performed) (first index word : ℕ) (lef
       let bit = node - 64 * index in
       let is : 64 * index + bit ≡ node = omega (arith, l, left.low) in
       let low : bit < until = omega (arith, is, high) in
-      let found = left.clear bit (omega (arith, low, within)) (omega (arith, is, l)) (clear bit low) in
-      subst (λ n. SeesTaken g n step) is (sees_taken g step index bit (omega (arith, low, within)) left.place found)
+      let of_word : bit < 64 = omega (arith, low, within) in
+      let found = left.clear bit of_word (omega (arith, is, l)) (clear bit low) in
+      subst (λ n. SeesTaken g n step) is (sees_taken g step index bit of_word left.looks left.place found)
 
   -- so the machine goes on from the lowest bit that is set
   claim_in-saw : index < map_words g.nodes → (lowest : Option ℕ) → lowest_free g.nodes index word ≡ lowest
@@ -148,6 +150,7 @@ pub take_after-from : (take : TakeNodeModel) (state : TakeNodeAt) (step : Perfor
 take_after-from take (MapWord index) step is range =
     claim_in-saw take step (64 * index) index step.old
     record {
+      looks = subst IsLook (sym is) tt;
       place = ap op_place is;
       low = omega arith;
       high = omega arith;
@@ -169,6 +172,7 @@ take_after-from take (Claim index bit) step is range =
     omega (arith, eqb-false (bit_at step.old bit) 1 other, bit_at-lt step.old bit) in
     claim_in-saw take step (64 * index + bit) index above
     record {
+      looks = subst IsLook (sym is) tt;
       place = ap op_place is;
       low = omega arith;
       high = omega (arith, range.within);

@@ -7,7 +7,7 @@ use Rattle.rht_words.specs.declared.geometry.Geometry.{Geometry}
 use Rattle.rht_words.specs.Places.{NodeMap, place_of}
 use Rattle.rht_words.specs.Machines.{Performed}
 use Rattle.rht_words.specs.Operations.{op_place}
-use Rattle.rht_arena.specs.Laws.{SeesTaken, AreSeenInTurn, claim_of}
+use Rattle.rht_arena.specs.Laws.{IsLook, SeesTaken, AreSeenInTurn, claim_of}
 use Rattle.rht_arena.proofs.NodesSeen.{ends_before}
 
 module _ (g : Geometry) (two : g.nodes ≡ 2) where
@@ -19,21 +19,23 @@ module _ (g : Geometry) (two : g.nodes ≡ 2) where
   claimed node word = record { op = claim_of g node; old = word }
 
   -- whoever finds 0 finds both nodes taken, and then all are seen
-  sees_both : (step : Performed) → op_place step.op ≡ place_of g (NodeMap 0) → step.old ≡ 0
+  sees_both : (step : Performed) → IsLook step.op → op_place step.op ≡ place_of g (NodeMap 0) → step.old ≡ 0
       → AreSeenInTurn g 0 (step ∷ [])
-  sees_both step on found = record {
+  sees_both step looks on found = record {
     end = 2;
     rises = omega arith;
     sees = λ node low high. elim (cases_eq node 0) [
-      | inl is ↦ rw (is, found) record { place = on; taken = refl }
-      | inr other ↦ (let is : node ≡ 1 = omega (arith, other, high) in rw (is, found) record { place = on; taken = refl })
+      | inl is ↦ rw (is, found) record { looks = looks; place = on; taken = refl }
+      | inr other ↦
+          let is : node ≡ 1 = omega (arith, other, high) in
+          rw (is, found) record { looks = looks; place = on; taken = refl }
     ];
     behind = omega (arith, two);
   }
 
   -- both nodes are found taken at once
   pub at_once : AreSeenInTurn g 0 (loaded 0 ∷ [])
-  at_once = sees_both (loaded 0) refl refl
+  at_once = sees_both (loaded 0) tt refl refl
 
   -- node 0 is found free, and both are found taken when it is claimed
   pub one_later : AreSeenInTurn g 0 (loaded 1 ∷ claimed 0 0 ∷ [])
@@ -41,7 +43,7 @@ module _ (g : Geometry) (two : g.nodes ≡ 2) where
     end = 0;
     rises = omega arith;
     sees = λ node low high. absurd (omega (arith, high));
-    behind = sees_both (claimed 0 0) refl refl;
+    behind = sees_both (claimed 0 0) tt refl refl;
   }
 
   -- Node 0 is found free and node 1 taken; then node 0 is taken and node 1 free, and node 1 is claimed and taken.
@@ -51,10 +53,10 @@ module _ (g : Geometry) (two : g.nodes ≡ 2) where
   -- each of the two was seen taken
   pub each_seen : (node : ℕ) → node < 2 → Any (SeesTaken g node) crossed
   each_seen node high = elim (cases_eq node 0) [
-    | inl is ↦ rw is (1, claimed 0 2, omega arith, refl, record { place = refl; taken = refl })
+    | inl is ↦ rw is (1, claimed 0 2, omega arith, refl, record { looks = tt; place = refl; taken = refl })
     | inr other ↦
         let is : node ≡ 1 = omega (arith, other, high) in
-        rw is (0, loaded 1, omega arith, refl, record { place = refl; taken = refl })
+        rw is (0, loaded 1, omega arith, refl, record { looks = tt; place = refl; taken = refl })
   ]
 
   -- but not in turn

@@ -3,7 +3,7 @@ use Rattle.std.specs.Prelude.{◌≡◌, ◌≢◌, ◌↔◌, ℕ, ◌/◌, ◌
 use Rattle.std.specs.List.{All, Any}
 use Rattle.std.specs.Int.{bit_at, bit_not, w64}
 use Rattle.rht_words.specs.declared.op.Op.{Op}
-use Rattle.rht_words.specs.declared.op.Op.TheVariants.{And}
+use Rattle.rht_words.specs.declared.op.Op.TheVariants.{Load, Store, Exchange, Add, Sub, And, Or}
 use Rattle.rht_words.specs.declared.machine.Next.TheVariants.{Done}
 use Rattle.rht_words.specs.declared.geometry.Geometry.{Geometry}
 use Rattle.rht_words.specs.Maps.{bit_of}
@@ -78,8 +78,19 @@ AnswersSayWhatWasDone =
 
 -- ---- where there is none
 
--- the operation was on the word with the node's bit, and found the node taken
+-- the operation looks for a free node: it loads a word or clears bits of it, and gives nothing back
+abbrev pub IsLook : Op → Type 0
+IsLook (Load place) = Unit {0}
+IsLook (And place mask) = Unit {0}
+IsLook (Store place value) = ⊥
+IsLook (Exchange place old new) = ⊥
+IsLook (Add place by) = ⊥
+IsLook (Sub place by) = ⊥
+IsLook (Or place mask) = ⊥
+
+-- the operation looks at the word with the node's bit, and found the node taken
 pub record SeesTaken (g : Geometry) (node : ℕ) (step : Performed) : Type 0 where
+  pub looks : IsLook step.op
   pub place : op_place step.op ≡ map_place g node
   pub taken : bit_at step.old (map_bit node) ≡ 0
 

@@ -111,8 +111,9 @@ pub fn alone<M: Mix>()
 /// entry, with its reply and its list, at an event from its beginning to its last operation, both
 /// included; and a caller's calls come in the order in which it made them. A call in progress has an entry
 /// exactly where an operation of its own has changed what some port is bound to. After each event the
-/// entries up to it leave the bindings that the words stand for. So a run can't be told from one in which
-/// calls come one after another. It doesn't say that a call ends.
+/// entries up to it leave the bindings that the words stand for. So what these calls are answered could
+/// have come of calls made one after another, but for refusals and kicks: a refusal is legal anywhere,
+/// and a kick isn't looked at. It doesn't say that a call ends.
 pub fn fits<M: Mix>()
     ensures { HasFittingHistory M M.mix_of }
 {}
@@ -126,10 +127,10 @@ pub fn counted<M: Mix>()
 
 /// In every run, while nobody is in a call, no bucket of a table in force is locked; each node is free,
 /// in the list of a port, or out, and never two of these; those that are out are as many as the calls
-/// that were answered `Released` or `Rebound`, each of which took one out; in a table of one owner for
-/// each port no list has a second node; and the count is the number of ports that are bound. So a bind
-/// that is refused, or finds its port bound, has given its node back. It doesn't say that such a moment
-/// comes, and nothing of words that are no bucket's.
+/// that were answered `Released` or `Rebound`; in a table of one owner for each port no list has a
+/// second node; and the count is the number of ports that are bound. So no node is lost: a bind that is
+/// refused, or finds its port bound, has given its node back. It doesn't say which nodes are out or
+/// which call took one, nor that such a moment comes, and nothing of words that are no bucket's.
 pub fn at_rest<M: Mix>()
     ensures { AtRest M M.mix_of }
 {}
