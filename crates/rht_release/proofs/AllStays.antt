@@ -1,7 +1,7 @@
--- Whatever words it is told, a listing stays in its table: a case a state.
--- Links are read totally, so what they name is there or is none.
+-- Whatever words it is told, a listing stays in its table, and its room is empty until the port was
+-- found: a case a state. Links are read totally, so what they name is there or is none.
 use Rattle.std.proofs.Common.{ℕ}
-use Rattle.std.specs.Prelude.{Option, Some, None}
+use Rattle.std.specs.Prelude.{◌≡◌, Option, Some, None, []}
 use Rattle.rht_words.specs.declared.env.Env.{Env}
 use Rattle.rht_words.specs.declared.geometry.Geometry.{Geometry}
 use Rattle.rht_words.specs.declared.machine.Next.{Next}
@@ -10,9 +10,10 @@ use Rattle.rht_words.specs.Links.{node_of}
 use Rattle.rht_words.specs.Planned.{IsWord}
 use Rattle.rht_words.proofs.LinksRead.{node_of-in}
 use Rattle.rht_chain.specs.LockedWalk.{IsNodeOrNone}
+use Rattle.rht_model.specs.Rooms.{Kept}
 use Rattle.rht_release.specs.FoundPort.{IsFoundPortIn}
 use Rattle.rht_release.specs.Seek.{SeekModel, seek_after}
-use Rattle.rht_release.specs.All.{after_at, sought, list_followed, IsAllAtIn}
+use Rattle.rht_release.specs.All.{after_at, room_after, sought, list_followed, IsAllAtIn, IsRoomIn}
 use Rattle.rht_release.specs.declared.found_port.FoundPort.{FoundPort}
 use Rattle.rht_release.specs.declared.all.AllAt.{AllAt}
 use Rattle.rht_release.specs.declared.all.AllAt.TheVariants as at
@@ -45,3 +46,23 @@ module _ (mix : ℕ → ℕ → ℕ → ℕ) (env : Env) (port : ℕ) where
   all_stays (at.ListLink found node) word within told =
       list_followed-in found (node_of g.nodes word) within.found_in (node_of-in g word)
   all_stays (at.Unlocking table unlock) word within told = within
+
+  sought-room : (seek : SeekModel) (next : Next (Option FoundPort)) (room : Kept ℕ) → room.items ≡ []
+      → IsRoomIn (sought seek next).0 room
+  sought-room seek Go room empty = empty
+  sought-room seek (Done None) room empty = empty
+  sought-room seek (Done (Some found)) room empty = tt
+
+  list_followed-room : (found : FoundPort) (next : Option ℕ) (room : Kept ℕ)
+      → IsRoomIn (list_followed found next) room
+  list_followed-room found None room = tt
+  list_followed-room found (Some next) room = tt
+
+  pub room_stays : (state : AllAt) (room : Kept ℕ) (word : ℕ) → IsRoomIn state room
+      → IsRoomIn (after_at mix env port state word).0 (room_after state room word)
+  room_stays (at.Seeking seek) room word within =
+      sought-room (seek_after mix port seek word).0 (seek_after mix port seek word).1 room within
+  room_stays (at.Owner found node) room word within = tt
+  room_stays (at.ListLink found node) room word within =
+      list_followed-room found (node_of g.nodes word) room
+  room_stays (at.Unlocking table unlock) room word within = tt

@@ -1,5 +1,5 @@
 -- The listing of a port's owners: what each state performs, and what comes after it.
-use Rattle.std.specs.Prelude.{◌≡◌, ℕ, ◌^◌, ◌<◌, Option, None, Some, length}
+use Rattle.std.specs.Prelude.{◌≡◌, ℕ, ◌^◌, ◌<◌, Option, None, Some, [], length}
 use Rattle.rht_words.specs.declared.op.Op.{Op}
 use Rattle.rht_words.specs.declared.op.Op.TheVariants.{Load}
 use Rattle.rht_words.specs.declared.machine.Next.{Next}
@@ -101,9 +101,17 @@ IsAllAtIn env (at.Owner found node) = IsAtNodeIn env.geometry found node
 IsAllAtIn env (at.ListLink found node) = IsAtNodeIn env.geometry found node
 IsAllAtIn env (at.Unlocking table unlock) = IsUnlockingIn env.geometry table unlock
 
+-- until the port was found no owner is kept
+abbrev pub IsRoomIn : AllAt → Kept ℕ → Type 0
+IsRoomIn (at.Seeking seek) room = room.items ≡ []
+IsRoomIn (at.Owner found node) room = Unit {0}
+IsRoomIn (at.ListLink found node) room = Unit {0}
+IsRoomIn (at.Unlocking table unlock) room = Unit {0}
+
 -- a listing of this caller in this table, all that its state names being the table's
 pub record IsAllIn (env : Env) (caller : ℕ) (m : AllModel) : Type 0 where
   pub same_env : m.env ≡ env
   pub same_caller : m.caller ≡ caller
   pub port_in : m.port < 2 ^ 32
   pub at_in : IsAllAtIn env m.at
+  pub room_in : IsRoomIn m.at m.room

@@ -87,8 +87,8 @@ pub enum ReleaseAt {
 }
 
 /// Takes the first binding of a port to an owner out. The answers are `Released`, with the node
-/// that was taken out, and `Absent`. The kernel's counterpart is `rhashtable_remove_fast`, whose
-/// heart is `__rhashtable_remove_fast_one`.
+/// that was taken out, and `Absent`. The kernel's counterparts are `rhashtable_remove_fast` and
+/// `rhltable_remove`, whose heart is `__rhashtable_remove_fast_one`.
 #[derive(Drop)]
 pub struct Release<M: Mix> {
     env: Env,
@@ -376,7 +376,8 @@ fn unlinked(found: FoundPort, relink: Relink) -> ReleaseAt
 }
 
 /// Whether a table of this shape is due to shrink once the count, which was this, has been
-/// lowered. The count is cut to what it can be in a run, from 1 to the most ports and one more.
+/// lowered. What is left is cut to the most ports that there can be, which no run passes; a count
+/// of 0, which no run gives, leaves 0.
 #[inline(always)]
 pub fn kicks(env: Env, shape: u64, count: u64) -> bool
     ensures { result ≡ kicks env shape count }

@@ -45,7 +45,7 @@ pub enum SeekAt {
 
 /// Finds a port and locks its bucket. The answer is none where no table binds it, and then no
 /// bucket is locked. The kernel's counterpart is the loop over the tables in
-/// `rhashtable_remove_fast`.
+/// `__rhashtable_remove_fast`.
 #[derive(Clone, Copy, Debug, PartialEq, Eq)]
 pub struct Seek {
     geometry: Geometry,
