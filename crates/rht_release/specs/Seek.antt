@@ -108,13 +108,14 @@ lock_of_seek (at.Probing table shape probe) = lock_of_probe probe.at
 lock_of_seek (at.Future table bucket) = Some bucket.place
 lock_of_seek (at.Leaving table unlock future) = Some unlock.place
 
--- What a call answers whose port is bound nowhere, once that is known: from the load of a future on
--- that leads to no table. At that load no table binds the port, and none will while the bucket is
--- locked.
+-- this answer, where the future leads to no table
 abbrev pub answer_unless : {Answer : Type 0} → Answer → Option ℕ → Option Answer
 answer_unless absent None = Some absent
 answer_unless absent (Some table) = None
 
+-- What a call answers whose port is bound nowhere, once that is known: from the load of a future on
+-- that leads to no table. At that load no table binds the port, and none will while the bucket is
+-- locked.
 abbrev pub answer_of_seek : {Answer : Type 0} → Answer → SeekAt → Option Answer
 answer_of_seek absent at.CurrentTable = None
 answer_of_seek absent (at.Locating locate) = None
