@@ -2,14 +2,15 @@
 //!
 //! Stands on `rht_words`, `rht_policy`, `rht_model`, and the pieces of `rht_arena`, `rht_nest` and
 //! `rht_chain`. The three machines share the way to the port, `Seek`.
-//! Read `specs/Seek.antt` first, then `specs/Release.antt`: they are the machines as tables.
+//! Read `specs/Seek.antt` first, then `specs/Release.antt`: they are the machines as tables. Each
+//! machine has a module, in which the functions between its states are public.
 #![tactic(auto)]
 
-mod all;
+pub mod all;
 mod found_port;
-mod rebind;
-mod release;
-mod seek;
+pub mod rebind;
+pub mod release;
+pub mod seek;
 
 pub use all::{All, AllAt};
 pub use found_port::FoundPort;
