@@ -1,5 +1,5 @@
 -- Rooms for the lists that come beside replies.
-use Rattle.std.specs.Prelude.{ℕ, List, []}
+use Rattle.std.specs.Prelude.{ℕ, List, [], ◌∷◌, ◌++◌, length, nat_lt, if◌then◌else◌}
 
 -- a list, and how many items it may have
 pub record Kept (A : Type 0) : Type 0 where
@@ -9,3 +9,9 @@ pub record Kept (A : Type 0) : Type 0 where
 -- the same room without the items
 abbrev pub emptied : {A : Type 0} → Kept A → Kept A
 emptied room = record { items = []; limit = room.limit }
+
+-- the room with one item more, where it isn't full
+abbrev pub with_kept : {A : Type 0} → Kept A → A → Kept A
+with_kept room item =
+    if nat_lt (length room.items) room.limit then record { items = room.items ++ item ∷ []; limit = room.limit }
+    else room

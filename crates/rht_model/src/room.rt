@@ -1,7 +1,7 @@
 //! Room for a list that comes beside a reply. It takes all its memory at once, in `with_limit`.
 
 ghost use Rattle.std.specs.Prelude.{◌≡◌, ◌+◌, ◌<◌, ◌≤◌, [], ◌∷◌, ◌++◌, length, IfOk, vec_len, vec_capacity};
-ghost use Rattle.rht_model.specs.Rooms.{emptied};
+ghost use Rattle.rht_model.specs.Rooms.{emptied, with_kept};
 
 use std::alloc::{AllocError, Global};
 use std::marker::Model;
@@ -14,7 +14,7 @@ pub struct Room<T> {
 }
 
 impl<T> Model for Room<T> {
-    ghost use Rattle.std.specs.Prelude.{◌≤◌, vec_len, vec_capacity};
+    ghost use Rattle.std.specs.Prelude.{◌^◌, ◌<◌, ◌≤◌, vec_len, vec_capacity};
     ghost use Rattle.rht_model.specs.Rooms.{Kept};
 
     ghost Value = { Kept T };
@@ -24,6 +24,7 @@ impl<T> Model for Room<T> {
     ghost invariant = { λ r. record {
       within : vec_len r.items ≤ r.limit;
       limit_fits : r.limit ≤ vec_capacity r.items;
+      limit_in : r.limit < 2 ^ 32;
     } };
 }
 
@@ -49,11 +50,27 @@ impl<T: Drop> Room<T> {
         push_within(&mut self.items, item);
     }
 
+    /// One item more where there is room for it; an item that finds the room full isn't kept.
+    pub fn keep(&mut self, item: T)
+        ensures { self.new ≡ with_kept self.old item }
+    {
+        if self.items.len() < self.limit as usize {
+            push_within(&mut self.items, item);
+        }
+    }
+
     /// Takes all items out. The memory stays, for the items that come next.
     pub fn clear(&mut self)
         ensures { self.new ≡ emptied self.old }
     {
         self.items.clear();
+    }
+
+    /// How many items there are.
+    pub fn len(&self) -> u32
+        ensures { result ≡ length self.now.items }
+    {
+        self.items.len() as u32
     }
 
     /// The list.

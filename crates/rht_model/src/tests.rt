@@ -28,6 +28,11 @@ fn a_room_is_used_again_once_it_is_cleared(rt: HostRuntime) -> Result<(), Fail> 
     assert!(rt; room.as_slice().is_empty());
     room.push((5, 3));
     assert_eq!(rt; room.as_slice(), [(5, 3)].as_slice());
+    // The second item is kept, and the third finds the room full.
+    room.keep((6, 2));
+    room.keep((7, 1));
+    assert_eq!(rt; room.as_slice(), [(5, 3), (6, 2)].as_slice());
+    assert_eq!(rt; room.len(), 2);
     Ok(())
 }
 

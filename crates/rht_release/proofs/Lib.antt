@@ -1,0 +1,16 @@
+-- what begins at a port that was found is in its bucket
+pub mod FoundPortsStay
+-- the way to a port stays in its table, and on which words it works
+pub mod SeekStays
+-- whatever words it is told, a release stays in its table
+pub mod ReleaseStays
+-- on which words a release works
+pub mod ReleasePlanned
+-- whatever words it is told, a rebind stays in its table
+pub mod RebindStays
+-- on which words a rebind works
+pub mod RebindPlanned
+-- whatever words it is told, a listing stays in its table
+pub mod AllStays
+-- on which words a listing works
+pub mod AllPlanned

@@ -1,0 +1,82 @@
+-- Whatever words it is told, a rebind stays in its table: a case a state.
+-- Links and the node map are read totally, so what they name is there or is none.
+use Rattle.std.proofs.Common.{ℕ, ◌<◌, refl}
+use Rattle.std.specs.Prelude.{Bool, true, false, Option, Some, None, ◌==◌}
+use Rattle.rht_words.specs.declared.env.Env.{Env}
+use Rattle.rht_words.specs.declared.geometry.Geometry.{Geometry}
+use Rattle.rht_words.specs.declared.machine.Next.{Next}
+use Rattle.rht_words.specs.declared.machine.Next.TheVariants.{Go, Done}
+use Rattle.rht_words.specs.Links.{link_of}
+use Rattle.rht_words.specs.Planned.{IsWord}
+use Rattle.rht_words.specs.Ports.{owner_of}
+use Rattle.rht_words.proofs.PlannedWords.{link_of-fits}
+use Rattle.rht_arena.specs.NewNode.{NewNodeModel, new_node_after}
+use Rattle.rht_arena.proofs.NewNodesStay.{NewNodeIsIn, new_node_stays}
+use Rattle.rht_chain.specs.Relink.{RelinkModel, relink_after}
+use Rattle.rht_chain.proofs.PiecesStay.{relink_stays}
+use Rattle.rht_release.specs.Seek.{SeekModel, seek_after}
+use Rattle.rht_release.specs.Rebind.{after_at, filled, sought, owner_compared, replaced, IsReplacingIn, IsHoldingIn, IsRebindAtIn}
+use Rattle.rht_release.specs.declared.found_port.FoundPort.{FoundPort}
+use Rattle.rht_release.specs.declared.rebind.RebindAt.{RebindAt}
+use Rattle.rht_release.specs.declared.rebind.RebindAt.TheVariants as at
+use Rattle.rht_release.proofs.FoundPortsStay.{relink_of-in, unlock_of-in}
+use Rattle.rht_release.proofs.SeekStays.{SeekIsIn, seek_stays}
+
+module _ (mix : ℕ → ℕ → ℕ → ℕ) (env : Env) (port owner : ℕ) where
+  abbrev g : Geometry
+  g = env.geometry
+
+  filled-in : (new : NewNodeModel) (next : Next (Option ℕ)) → NewNodeIsIn g (new, next)
+      → IsRebindAtIn env (filled g new next).0
+  filled-in new Go stays = stays.new_in
+  filled-in new (Done None) stays = stays.new_in
+  filled-in new (Done (Some node)) stays =
+      record { node_in = stays.node_in; seek_in = record { geometry_same = refl; at_in = tt } }
+
+  sought-in : (node : ℕ) (seek : SeekModel) (next : Next (Option FoundPort)) → node < g.nodes
+      → SeekIsIn g (seek, next) → IsRebindAtIn env (sought g node seek next)
+  sought-in node seek Go node_in stays = record { node_in = node_in; seek_in = stays.seek_in }
+  sought-in node seek (Done None) node_in stays = record { geometry_same = refl; node_in = node_in }
+  sought-in node seek (Done (Some found)) node_in stays =
+      record { node_in = node_in; found_in = stays.end_in }
+
+  owner_compared-in : (node : ℕ) (found : FoundPort) (equal : Bool) → IsHoldingIn g node found
+      → IsRebindAtIn env (owner_compared node found equal)
+  owner_compared-in node found true within = within
+  owner_compared-in node found false within = record {
+    node_in = within.node_in;
+    table_in = within.found_in.table_in;
+    unlock_in = unlock_of-in g found within.found_in;
+  }
+
+  replaced-in : (node : ℕ) (found : FoundPort) (relink : RelinkModel) (next : Next (Unit {0}))
+      → IsReplacingIn g node found relink → IsRebindAtIn env (replaced node found relink next).0
+  replaced-in node found relink Go within = within
+  replaced-in node found relink (Done done) within = within
+
+  pub rebind_stays : (state : RebindAt) (word : ℕ) → IsRebindAtIn env state → IsWord word
+      → IsRebindAtIn env (after_at mix env port owner state word).0
+  rebind_stays (at.Filling new) word within told =
+      filled-in (new_node_after new word).0 (new_node_after new word).1 (new_node_stays g new word within)
+  rebind_stays (at.Seeking node seek) word within told =
+      sought-in node (seek_after mix port seek word).0 (seek_after mix port seek word).1 within.node_in
+      (seek_stays g mix port seek word within.seek_in told)
+  rebind_stays (at.Owner node found) word within told =
+      owner_compared-in node found (owner_of word == owner) within
+  rebind_stays (at.ChainLink node found) word within told =
+      record { node_in = within.node_in; found_in = within.found_in; link_in = told }
+  rebind_stays (at.Link node found link) word within told = record {
+    node_in = within.node_in;
+    found_in = within.found_in;
+    relink_in = relink_of-in g found within.found_in (link_of node) (link_of-fits g node within.node_in);
+  }
+  rebind_stays (at.Replacing node found relink) word within told =
+      replaced-in node found (relink_after relink).0 (relink_after relink).1
+      record {
+        node_in = within.node_in;
+        found_in = within.found_in;
+        relink_in = relink_stays g relink within.relink_in;
+      }
+  rebind_stays (at.Unlocking node table unlock) word within told =
+      record { geometry_same = refl; node_in = within.node_in }
+  rebind_stays (at.Giving give) word within told = within

@@ -1,0 +1,16 @@
+-- a port that was found in a locked bucket
+pub mod FoundPort
+-- the way to a port, through the tables
+pub mod Seek
+-- the removal, state by state
+pub mod Release
+-- what a release holds
+pub mod ReleaseHeld
+-- the replacement, state by state
+pub mod Rebind
+-- what a rebind holds
+pub mod RebindHeld
+-- the listing of owners, state by state
+pub mod All
+-- what a listing holds
+pub mod AllHeld

@@ -1,0 +1,163 @@
+-- The putting of another owner in the place of a port's only one: what each state performs, and what
+-- comes after.
+use Rattle.std.specs.Prelude.{◌≡◌, ℕ, ◌^◌, ◌<◌, ◌==◌, Bool, Option, None, Some, if◌then◌else◌}
+use Rattle.rht_words.specs.declared.op.Op.{Op}
+use Rattle.rht_words.specs.declared.op.Op.TheVariants.{Load, Store}
+use Rattle.rht_words.specs.declared.machine.Next.{Next}
+use Rattle.rht_words.specs.declared.machine.Next.TheVariants.{Go, Done}
+use Rattle.rht_words.specs.declared.env.Env.{Env}
+use Rattle.rht_words.specs.declared.geometry.Geometry.{Geometry}
+use Rattle.rht_words.specs.Links.{link_of}
+use Rattle.rht_words.specs.Planned.{IsWord}
+use Rattle.rht_words.specs.Ports.{word_of, owner_of}
+use Rattle.rht_words.specs.Places.{Node, ChainLink, OwnerWord, place_of}
+use Rattle.rht_arena.specs.NewNode.{NewNodeModel, new_node_new, new_node_plan, new_node_after, IsNewNodeIn}
+use Rattle.rht_arena.specs.GiveNode.{give_node_plan, IsGiveIn}
+use Rattle.rht_chain.specs.Relink.{RelinkModel, relink_plan, relink_after, IsRelinkIn}
+use Rattle.rht_chain.specs.Unlock.{unlock_plan, IsUnlockIn}
+use Rattle.rht_chain.specs.declared.unlock.Unlock.{Unlock}
+use Rattle.rht_model.specs.declared.history.Reply.{Reply}
+use Rattle.rht_model.specs.declared.history.Reply.TheVariants.{Rebound, Absent, NoNode}
+use Rattle.rht_release.specs.FoundPort.{relink_of, unlock_of, IsFoundPortIn}
+use Rattle.rht_release.specs.Seek.{SeekModel, seek_new, seek_plan, seek_after, IsSeekIn}
+use Rattle.rht_release.specs.declared.found_port.FoundPort.{FoundPort}
+use Rattle.rht_release.specs.declared.rebind.RebindAt.{RebindAt}
+use Rattle.rht_release.specs.declared.rebind.RebindAt.TheVariants as at
+
+-- what contracts see of the machine
+pub record RebindModel : Type 0 where
+  pub env : Env
+  pub caller : ℕ
+  pub port : ℕ
+  pub owner : ℕ
+  pub new_owner : ℕ
+  pub at : RebindAt
+
+-- it begins with a new node of the port and the new owner
+abbrev pub first_state : Env → ℕ → ℕ → RebindAt
+first_state env port new = at.Filling (new_node_new env.geometry (word_of port) new)
+
+abbrev pub rebind_new : Env → ℕ → ℕ → ℕ → ℕ → RebindModel
+rebind_new env caller port owner new = record {
+  env = env;
+  caller = caller;
+  port = port;
+  owner = owner;
+  new_owner = new;
+  at = first_state env port new;
+}
+
+-- the state's one operation
+abbrev pub plan_at : Env → RebindAt → Op
+plan_at env (at.Filling new) = new_node_plan new
+plan_at env (at.Seeking node seek) = seek_plan seek
+plan_at env (at.Owner node found) = Load (place_of env.geometry (Node found.node OwnerWord))
+plan_at env (at.ChainLink node found) = Load (place_of env.geometry (Node found.node ChainLink))
+plan_at env (at.Link node found link) = Store (place_of env.geometry (Node node ChainLink)) link
+plan_at env (at.Replacing node found relink) = relink_plan relink
+plan_at env (at.Unlocking node table unlock) = unlock_plan unlock
+plan_at env (at.Giving give) = give_node_plan give
+
+abbrev pub rebind_plan : RebindModel → Op
+rebind_plan m = plan_at m.env m.at
+
+-- with a new node the port is looked for; where no node was free the rebind ends
+abbrev pub filled : Geometry → NewNodeModel → Next (Option ℕ) → RebindAt × Next (Reply × Option ℕ)
+filled g new Go = (at.Filling new, Go)
+filled g new (Done None) = (at.Filling new, Done (NoNode, None))
+filled g new (Done (Some node)) = (at.Seeking node (seek_new g), Go)
+
+-- the node is given back, and then the port isn't bound to the old owner
+abbrev pub giving : Geometry → ℕ → RebindAt
+giving g node = at.Giving (record { geometry = g; node = node })
+
+-- what comes after an operation on the way: where the port was found its owner is looked at
+abbrev pub sought : Geometry → ℕ → SeekModel → Next (Option FoundPort) → RebindAt
+sought g node seek Go = at.Seeking node seek
+sought g node seek (Done None) = giving g node
+sought g node seek (Done (Some found)) = at.Owner node found
+
+-- the node with the old owner is replaced; with another owner the bucket is unlocked
+abbrev pub owner_compared : ℕ → FoundPort → Bool → RebindAt
+owner_compared node found equal =
+    if equal then at.ChainLink node found else at.Unlocking node found.table (unlock_of found)
+
+-- the new node takes the old one's place in the chain
+abbrev pub replacing : Geometry → ℕ → FoundPort → RebindAt
+replacing g node found = at.Replacing node found (relink_of g found (link_of node))
+
+-- with the last store the new owner has the old one's place, and the bucket is unlocked
+abbrev pub replaced : ℕ → FoundPort → RelinkModel → Next (Unit {0}) → RebindAt × Next (Reply × Option ℕ)
+replaced node found relink Go = (at.Replacing node found relink, Go)
+replaced node found relink (Done done) = (at.Replacing node found relink, Done (Rebound, Some found.node))
+
+-- where the rebind stands after a state that found this word, and what it says
+abbrev pub after_at : (ℕ → ℕ → ℕ → ℕ) → Env → ℕ → ℕ → RebindAt → ℕ → RebindAt × Next (Reply × Option ℕ)
+after_at mix env port owner (at.Filling new) word =
+    filled env.geometry (new_node_after new word).0 (new_node_after new word).1
+after_at mix env port owner (at.Seeking node seek) word =
+    (sought env.geometry node (seek_after mix port seek word).0 (seek_after mix port seek word).1, Go)
+after_at mix env port owner (at.Owner node found) word =
+    (owner_compared node found (owner_of word == owner), Go)
+after_at mix env port owner (at.ChainLink node found) word = (at.Link node found word, Go)
+after_at mix env port owner (at.Link node found link) word = (replacing env.geometry node found, Go)
+after_at mix env port owner (at.Replacing node found relink) word =
+    replaced node found (relink_after relink).0 (relink_after relink).1
+after_at mix env port owner (at.Unlocking node table unlock) word = (giving env.geometry node, Go)
+after_at mix env port owner (at.Giving give) word = (at.Giving give, Done (Absent, None))
+
+abbrev pub moved : RebindModel → RebindAt × Next (Reply × Option ℕ) → RebindModel × Next (Reply × Option ℕ)
+moved m next = (record m { at = next.0 }, next.1)
+
+abbrev pub rebind_after : (ℕ → ℕ → ℕ → ℕ) → RebindModel → ℕ → RebindModel × Next (Reply × Option ℕ)
+rebind_after mix m word = moved m (after_at mix m.env m.port m.owner m.at word)
+
+-- ---- what a rebind names
+
+-- the node that it has taken, with which it looks for the port
+pub record IsSeekingIn (g : Geometry) (node : ℕ) (seek : SeekModel) : Type 0 where
+  pub node_in : node < g.nodes
+  pub seek_in : IsSeekIn g seek
+
+-- and with which it has found it
+pub record IsHoldingIn (g : Geometry) (node : ℕ) (found : FoundPort) : Type 0 where
+  pub node_in : node < g.nodes
+  pub found_in : IsFoundPortIn g found
+
+-- its node gets this link
+pub record IsLinkingIn (g : Geometry) (node : ℕ) (found : FoundPort) (link : ℕ) : Type 0 where
+  pub node_in : node < g.nodes
+  pub found_in : IsFoundPortIn g found
+  pub link_in : IsWord link
+
+-- it changes the chain of a bucket of a table
+pub record IsReplacingIn (g : Geometry) (node : ℕ) (found : FoundPort) (relink : RelinkModel) : Type 0 where
+  pub node_in : node < g.nodes
+  pub found_in : IsFoundPortIn g found
+  pub relink_in : IsRelinkIn g relink
+
+-- it unlocks a bucket of a table
+pub record IsUnlockingIn (g : Geometry) (node table : ℕ) (unlock : Unlock) : Type 0 where
+  pub node_in : node < g.nodes
+  pub table_in : table < 8
+  pub unlock_in : IsUnlockIn g unlock
+
+-- all that the state names is the table's: slots, nodes and buckets; and the words that it keeps are words
+abbrev pub IsRebindAtIn : Env → RebindAt → Type 0
+IsRebindAtIn env (at.Filling new) = IsNewNodeIn env.geometry new
+IsRebindAtIn env (at.Seeking node seek) = IsSeekingIn env.geometry node seek
+IsRebindAtIn env (at.Owner node found) = IsHoldingIn env.geometry node found
+IsRebindAtIn env (at.ChainLink node found) = IsHoldingIn env.geometry node found
+IsRebindAtIn env (at.Link node found link) = IsLinkingIn env.geometry node found link
+IsRebindAtIn env (at.Replacing node found relink) = IsReplacingIn env.geometry node found relink
+IsRebindAtIn env (at.Unlocking node table unlock) = IsUnlockingIn env.geometry node table unlock
+IsRebindAtIn env (at.Giving give) = IsGiveIn env.geometry give
+
+-- a rebind of this caller in this table, all that its state names being the table's
+pub record IsRebindIn (env : Env) (caller : ℕ) (m : RebindModel) : Type 0 where
+  pub same_env : m.env ≡ env
+  pub same_caller : m.caller ≡ caller
+  pub port_in : m.port < 2 ^ 32
+  pub owner_in : m.owner < 2 ^ 32
+  pub new_owner_in : m.new_owner < 2 ^ 32
+  pub at_in : IsRebindAtIn env m.at

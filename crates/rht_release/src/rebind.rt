@@ -1,0 +1,281 @@
+//! The replacement, state by state.
+
+ghost use Rattle.std.specs.Prelude.{◌≡◌, ◌<◌};
+ghost use Rattle.rht_words.specs.Operations.{op_place};
+ghost use Rattle.rht_words.specs.Places.{words_in};
+ghost use Rattle.rht_arena.specs.NewNode.{new_node_after};
+ghost use Rattle.rht_chain.specs.LockedWalk.{IsNodeOrNone};
+ghost use Rattle.rht_chain.specs.Relink.{relink_after};
+ghost use Rattle.rht_release.specs.Seek.{seek_after};
+ghost use Rattle.rht_release.specs.Rebind.{rebind_new, rebind_plan, rebind_after, after_at, filled, giving, sought, owner_compared, replacing, replaced, IsRebindAtIn};
+
+use crate::found_port::FoundPort;
+use crate::seek::Seek;
+use rht_arena::{GiveNode, NewNode};
+use rht_chain::{Relink, Unlock};
+use rht_model::Reply;
+use rht_policy::Mix;
+use rht_words::{Env, Geometry, Next, Op, Port, link_of, owner_of, word_of};
+use std::marker::{Model, PhantomData};
+
+/// Where a rebind stands. Each state but those that hold a piece has one operation.
+#[derive(Clone, Copy, Debug, PartialEq, Eq)]
+pub enum RebindAt {
+    /// Takes a free node and stores the port and the new owner in it.
+    Filling {
+        new: NewNode,
+    },
+    /// Finds the port and locks its bucket.
+    Seeking {
+        node: u32,
+        seek: Seek,
+    },
+    /// Loads the port's owner. Where it is another one than the old owner, the port isn't bound to
+    /// that one at this moment.
+    Owner {
+        node: u32,
+        found: FoundPort,
+    },
+    /// Loads the link behind the old node in the chain. This and the two states behind it are
+    /// those of the kernel's `__rhashtable_replace_fast`.
+    ChainLink {
+        node: u32,
+        found: FoundPort,
+    },
+    /// Stores that link in the new node, which nobody else sees yet.
+    Link {
+        node: u32,
+        found: FoundPort,
+        link: u64,
+    },
+    /// Puts the new node in the old one's place, and unlocks the bucket. The new owner is bound
+    /// from the first store on.
+    Replacing {
+        node: u32,
+        found: FoundPort,
+        relink: Relink,
+    },
+    /// Unlocks the bucket without a change.
+    Unlocking {
+        node: u32,
+        table: u32,
+        unlock: Unlock,
+    },
+    /// Gives the new node back.
+    Giving {
+        give: GiveNode,
+    },
+}
+
+/// Puts a new owner in the place of a port's only one, in a table of one owner for each port. The
+/// answers are `Rebound`, with the node that was taken out, and `Absent` and `NoNode`. The kernel's
+/// counterpart is `rhashtable_replace_fast`.
+#[derive(Drop)]
+pub struct Rebind<M: Mix> {
+    env: Env,
+    caller: u32,
+    port: Port,
+    owner: u32,
+    new_owner: u32,
+    at: RebindAt,
+    mix: PhantomData<M>,
+}
+
+impl<M: Mix> Model for Rebind<M> {
+    ghost use Rattle.rht_release.specs.Rebind.{RebindModel, IsRebindAtIn};
+
+    ghost Value = { RebindModel };
+
+    ghost view = { λ m. record { env = m.env; caller = m.caller; port = m.port; owner = m.owner; new_owner = m.new_owner; at = m.at } };
+
+    ghost invariant = { λ m. IsRebindAtIn m.env m.at };
+}
+
+impl<M: Mix> Rebind<M> {
+    /// Before the first operation.
+    #[inline(always)]
+    pub fn new(env: Env, caller: u32, port: Port, owner: u32, new: u32) -> Rebind<M>
+        ensures { result ≡ rebind_new env caller port owner new }
+    {
+        Rebind {
+            env,
+            caller,
+            port,
+            owner,
+            new_owner: new,
+            at: RebindAt::Filling {
+                new: NewNode::new(env.geometry, word_of(port), new),
+            },
+            mix: PhantomData,
+        }
+    }
+
+    /// The rebind in another state.
+    #[inline(always)]
+    pub fn with(&self, at: RebindAt) -> Rebind<M>
+        requires { IsRebindAtIn self.now.env at }
+        ensures { result ≡ record self.now { at = at } }
+    {
+        Rebind {
+            env: self.env,
+            caller: self.caller,
+            port: self.port,
+            owner: self.owner,
+            new_owner: self.new_owner,
+            at,
+            mix: PhantomData,
+        }
+    }
+
+    /// The next operation.
+    #[inline(always)]
+    pub fn plan(&self) -> Op
+        ensures plan { result ≡ rebind_plan self.now }
+        ensures place { op_place result < words_in self.now.env.geometry }
+    {
+        let geometry = self.env.geometry;
+        match self.at {
+            RebindAt::Filling { new } => new.plan(),
+            RebindAt::Seeking { seek, .. } => seek.plan(),
+            RebindAt::Owner { found, .. } => Op::load(geometry.owner(found.node)),
+            RebindAt::ChainLink { found, .. } => Op::load(geometry.chain_link(found.node)),
+            RebindAt::Link { node, link, .. } => Op::store(geometry.chain_link(node), link),
+            RebindAt::Replacing { relink, .. } => relink.plan(),
+            RebindAt::Unlocking { unlock, .. } => unlock.plan(),
+            RebindAt::Giving { give } => give.plan(),
+        }
+    }
+
+    /// Takes in the word's old value.
+    #[inline(always)]
+    #[tactic(auto, using(crate::proofs::RebindStays::rebind_stays))]
+    pub fn take(&mut self, old: u64) -> Next<(Reply, Option<u32>)>
+        ensures { (self.new, result) ≡ rebind_after M.mix_of self.old old }
+    {
+        let (at, next) = after::<M>(self.env, self.port, self.owner, &self.at, old);
+        self.at = at;
+        next
+    }
+}
+
+/// Where the rebind stands after a state that found this value, and what it says.
+#[inline(always)]
+fn after<M: Mix>(
+    env: Env,
+    port: Port,
+    owner: u32,
+    at: &RebindAt,
+    old: u64,
+) -> (RebindAt, Next<(Reply, Option<u32>)>)
+    requires { IsRebindAtIn env at.now }
+    ensures { result ≡ after_at M.mix_of env port owner at.now old }
+{
+    let geometry = env.geometry;
+    let next = match *at {
+        RebindAt::Filling { new } => return filled(geometry, new, old),
+        RebindAt::Seeking { node, seek } => sought::<M>(geometry, port, node, seek, old),
+        RebindAt::Owner { node, found } => owner_compared(node, found, owner_of(old) == owner),
+        RebindAt::ChainLink { node, found } => RebindAt::Link {
+            node,
+            found,
+            link: old,
+        },
+        RebindAt::Link { node, found, .. } => replacing(geometry, node, found),
+        RebindAt::Replacing {
+            node,
+            found,
+            relink,
+        } => return replaced(node, found, relink),
+        RebindAt::Unlocking { node, .. } => giving(geometry, node),
+        RebindAt::Giving { .. } => return (*at, Next::Done((Reply::Absent, None))),
+    };
+    (next, Next::Go)
+}
+
+/// After an operation on the new node. Where no node is free the rebind ends.
+#[inline(always)]
+fn filled(geometry: Geometry, new: NewNode, old: u64) -> (RebindAt, Next<(Reply, Option<u32>)>)
+    ensures { result ≡ filled geometry (new_node_after new old).0 (new_node_after new old).1 }
+{
+    let (new, next) = new.after(old);
+    match next {
+        Next::Go => (RebindAt::Filling { new }, Next::Go),
+        Next::Done(Some(node)) => {
+            let seek = Seek::new(geometry);
+            (RebindAt::Seeking { node, seek }, Next::Go)
+        }
+        Next::Done(None) => (RebindAt::Filling { new }, Next::Done((Reply::NoNode, None))),
+    }
+}
+
+/// After an operation on the way. Where the port was found its owner is looked at; where it wasn't,
+/// the node is given back.
+#[inline(always)]
+fn sought<M: Mix>(geometry: Geometry, port: Port, node: u32, seek: Seek, old: u64) -> RebindAt
+    requires { node < geometry.nodes }
+    ensures { result ≡ sought geometry node (seek_after M.mix_of port seek old).0 (seek_after M.mix_of port seek old).1 }
+{
+    let (seek, next) = seek.after::<M>(port, old);
+    match next {
+        Next::Go => RebindAt::Seeking { node, seek },
+        Next::Done(Some(found)) => RebindAt::Owner { node, found },
+        Next::Done(None) => giving(geometry, node),
+    }
+}
+
+/// The node with the old owner is replaced. With another owner the bucket is unlocked.
+#[inline(always)]
+pub fn owner_compared(node: u32, found: FoundPort, equal: bool) -> RebindAt
+    ensures { result ≡ owner_compared node found equal }
+{
+    if equal {
+        RebindAt::ChainLink { node, found }
+    } else {
+        RebindAt::Unlocking {
+            node,
+            table: found.table,
+            unlock: found.unlock(),
+        }
+    }
+}
+
+/// The putting of the new node in the old one's place.
+#[inline(always)]
+pub fn replacing(geometry: Geometry, node: u32, found: FoundPort) -> RebindAt
+    requires { IsNodeOrNone geometry found.before }
+    ensures { result ≡ replacing geometry node found }
+{
+    RebindAt::Replacing {
+        node,
+        found,
+        relink: found.relink(geometry, link_of(node)),
+    }
+}
+
+/// After a store of the replacement. With the last one the rebind has its answer.
+#[inline(always)]
+fn replaced(node: u32, found: FoundPort, relink: Relink) -> (RebindAt, Next<(Reply, Option<u32>)>)
+    ensures { result ≡ replaced node found (relink_after relink).0 (relink_after relink).1 }
+{
+    let (relink, next) = relink.after();
+    let at = RebindAt::Replacing {
+        node,
+        found,
+        relink,
+    };
+    match next {
+        Next::Go => (at, Next::Go),
+        Next::Done(()) => (at, Next::Done((Reply::Rebound, Some(found.node)))),
+    }
+}
+
+/// The giving back of the node, behind which the port isn't bound to the old owner.
+#[inline(always)]
+pub fn giving(geometry: Geometry, node: u32) -> RebindAt
+    requires { node < geometry.nodes }
+    ensures { result ≡ giving geometry node }
+{
+    RebindAt::Giving {
+        give: GiveNode::new(geometry, node),
+    }
+}

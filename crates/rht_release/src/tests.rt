@@ -1,0 +1,405 @@
+//! The machines alone, on words made by hand. In a table of 8 nodes and 4 pages the node map is at
+//! 280, node n from 282 + 4 * n on (its chain link, key, owner and list link), slot t from
+//! 24 + 32 * t on, and the pages from 314 on. The ports 5, 69, 133 and 197 have bucket 5 of 64,
+//! which is at 319 and has the marker 639. The link to node n is 2 * n + 2.
+
+use super::{All, Rebind, Release};
+use rht_model::{Reply, Room};
+use rht_policy::Low;
+use rht_words::{Config, Env, Hash, Kind, Next, Op, Port, apply};
+use std::process::Abort;
+use std::test::Fail;
+
+const CONFIG: Config = Config {
+    kind: Kind::Listed,
+    nodes: 8,
+    pages: 4,
+    callers: 1,
+    hint: 0,
+    min: 4,
+    max: 0,
+    seed: 1,
+    rewalks: 1,
+    hash: Hash::Low,
+    shrink: true,
+};
+
+/// The chain of bucket 5: node 1 with port 69 and owner 1; node 0 with port 5 and owner 9, behind
+/// which are node 2 with owner 7 and node 3 with owner 8 in its list; and node 4 with port 133 and
+/// owner 2. Three ports are bound, and the nodes 5 to 7 are free.
+const WORDS: [(usize, u64); 20] = [
+    (2, 3),
+    (24, 6), // 64 buckets from page 0 on
+    (25, 1),
+    (280, 224),
+    (282, 10),
+    (283, 5),
+    (284, 9),
+    (285, 6),
+    (286, 2),
+    (287, 69),
+    (288, 1),
+    (291, 5),
+    (292, 7),
+    (293, 8),
+    (295, 5),
+    (296, 8),
+    (298, 639),
+    (299, 133),
+    (300, 2),
+    (319, 4),
+];
+
+/// A shape of four buckets from page 5 on, which there isn't: each bucket is missing.
+const NO_PAGE: (usize, u64) = (24, 5_122);
+
+const KICK: Reply = Reply::Released { kick: true };
+
+const NO_KICK: Reply = Reply::Released { kick: false };
+
+/// A machine of this crate.
+trait Steps {
+    fn plan(&self) -> Op;
+
+    /// A reply, with the node that was taken out.
+    fn take(&mut self, old: u64) -> Next<(Reply, Option<u32>)>;
+}
+
+impl Steps for Release<Low> {
+    fn plan(&self) -> Op {
+        self.plan()
+    }
+
+    fn take(&mut self, old: u64) -> Next<(Reply, Option<u32>)> {
+        self.take(old)
+    }
+}
+
+impl Steps for Rebind<Low> {
+    fn plan(&self) -> Op {
+        self.plan()
+    }
+
+    fn take(&mut self, old: u64) -> Next<(Reply, Option<u32>)> {
+        self.take(old)
+    }
+}
+
+impl Steps for All<Low> {
+    fn plan(&self) -> Op {
+        self.plan()
+    }
+
+    fn take(&mut self, old: u64) -> Next<(Reply, Option<u32>)> {
+        match self.take(old) {
+            Next::Go => Next::Go,
+            Next::Done(reply) => Next::Done((reply, None)),
+        }
+    }
+}
+
+/// The way to bucket 5, up to the key of its first node.
+fn way() -> [Op; 6] {
+    [
+        Op::load(0),
+        Op::load(24),
+        Op::load(25),
+        Op::load(319),
+        Op::exchange(319, 4, 5),
+        Op::load(287),
+    ]
+}
+
+/// From there on to the key of the node with port 5, and to that of the node with port 133.
+fn on_to_5() -> [Op; 2] {
+    [Op::load(286), Op::load(283)]
+}
+
+fn on_to_133() -> [Op; 4] {
+    [Op::load(286), Op::load(283), Op::load(282), Op::load(299)]
+}
+
+/// From there on to the end, where there is no future table and the bucket is unlocked.
+fn on_to_the_end() -> [Op; 3] {
+    [Op::load(298), Op::load(26), Op::store(319, 4)]
+}
+
+/// The way to a bucket that is missing.
+fn way_to_none() -> [Op; 3] {
+    [Op::load(0), Op::load(24), Op::load(25)]
+}
+
+/// The machine performs these operations in a table that differs from the one above by these
+/// words, and ends so.
+fn assert_steps<S: Steps>(
+    rt: &impl Abort,
+    machine: S,
+    changes: &[(usize, u64)],
+    parts: &[&[Op]],
+    end: (Reply, Option<u32>),
+) -> S {
+    let mut words = [0_u64; 570];
+    for list in [WORDS.as_slice(), changes] {
+        for (place, word) in list {
+            assert!(rt; *place < 570);
+            words[*place] = *word;
+        }
+    }
+    let mut machine = machine;
+    let mut next = Next::Go;
+    for part in parts {
+        for op in *part {
+            assert_eq!(rt; next, Next::Go, "before {op:?}");
+            assert_eq!(rt; machine.plan(), *op, "to {end:?}");
+            assert!(rt; op.place() < 570);
+            next = machine.take(apply(&mut words, *op));
+        }
+    }
+    assert_eq!(rt; next, Next::Done(end));
+    machine
+}
+
+/// A release of the port from the owner makes these steps.
+fn assert_release(
+    rt: &impl Abort,
+    of: (Port, u32),
+    changes: &[(usize, u64)],
+    parts: &[&[Op]],
+    end: (Reply, Option<u32>),
+) {
+    assert!(rt; CONFIG.is_settled());
+    let machine = Release::<Low>::new(Env::new(CONFIG), 0, of.0, of.1);
+    assert_steps(rt, machine, changes, parts, end);
+}
+
+#[test]
+fn releases_of_ports_with_one_owner(rt: HostRuntime) {
+    let of_69 = [
+        Op::load(288),
+        Op::load(289),
+        Op::load(286),
+        Op::store(319, 2),
+        Op::sub(2, 1),
+    ];
+    // Three tenths of 64 buckets are 19.
+    let parts: [&[Op]; 2] = [&way(), &of_69];
+    assert_release(&rt, (69, 1), &[], &parts, (KICK, Some(1)));
+    assert_release(&rt, (69, 1), &[(2, 19)], &parts, (KICK, Some(1)));
+    assert_release(&rt, (69, 1), &[(2, 20)], &parts, (NO_KICK, Some(1)));
+    let config = Config {
+        shrink: false,
+        ..CONFIG
+    };
+    assert!(rt; config.is_settled());
+    let machine = Release::<Low>::new(Env::new(config), 0, 69, 1);
+    assert_steps(&rt, machine, &[], &parts, (NO_KICK, Some(1)));
+    let of_133 = [
+        Op::load(300),
+        Op::load(301),
+        Op::load(298),
+        Op::store(282, 639),
+        Op::store(319, 4),
+        Op::sub(2, 1),
+    ];
+    let parts: [&[Op]; 3] = [&way(), &on_to_133(), &of_133];
+    assert_release(&rt, (133, 2), &[], &parts, (KICK, Some(4)));
+}
+
+#[test]
+fn releases_of_ports_that_the_first_table_has_not(rt: HostRuntime) {
+    let absent = (Reply::Absent, None);
+    let parts: [&[Op]; 1] = [&way_to_none()];
+    assert_release(&rt, (69, 1), &[NO_PAGE], &parts, absent);
+    let parts: [&[Op]; 3] = [&way(), &on_to_133(), &on_to_the_end()];
+    assert_release(&rt, (197, 3), &[], &parts, absent);
+    // The future table is in slot 1, with 128 buckets from page 2 on. Port 197 has bucket 69 there,
+    // at 314 + 64 * 2 + 69, and is in node 5 with owner 3.
+    let future = [
+        (26, 2),
+        (56, 2_055),
+        (57, 2),
+        (511, 12),
+        (302, 1_023),
+        (303, 197),
+        (304, 3),
+    ];
+    let of_197 = [
+        Op::load(56),
+        Op::load(57),
+        Op::load(511),
+        Op::exchange(511, 12, 13),
+        Op::load(303),
+        Op::load(304),
+        Op::load(305),
+        Op::load(302),
+        Op::store(511, 0),
+        Op::sub(2, 1),
+    ];
+    let parts: [&[Op]; 4] = [&way(), &on_to_133(), &on_to_the_end(), &of_197];
+    assert_release(&rt, (197, 3), &future, &parts, (KICK, Some(5)));
+}
+
+/// The loads of three owners, of which each but the last has a node behind it.
+fn three_owners() -> [Op; 6] {
+    [
+        Op::load(284),
+        Op::load(285),
+        Op::load(292),
+        Op::load(293),
+        Op::load(296),
+        Op::load(297),
+    ]
+}
+
+#[test]
+fn releases_of_a_port_with_three_owners(rt: HostRuntime) {
+    let first = [
+        Op::load(284),
+        Op::load(285),
+        Op::load(282),
+        Op::store(290, 10),
+        Op::store(286, 6),
+        Op::store(319, 4),
+    ];
+    let parts: [&[Op]; 3] = [&way(), &on_to_5(), &first];
+    assert_release(&rt, (5, 9), &[], &parts, (NO_KICK, Some(0)));
+    // Node 0 is the bucket's first: the link to the second owner's node goes into the word.
+    let front = [
+        Op::load(0),
+        Op::load(24),
+        Op::load(25),
+        Op::load(319),
+        Op::exchange(319, 2, 3),
+        Op::load(283),
+        Op::load(284),
+        Op::load(285),
+        Op::load(282),
+        Op::store(290, 10),
+        Op::store(319, 6),
+    ];
+    let parts: [&[Op]; 1] = [&front];
+    assert_release(&rt, (5, 9), &[(319, 2)], &parts, (NO_KICK, Some(0)));
+    let second = [
+        Op::load(284),
+        Op::load(285),
+        Op::load(292),
+        Op::load(293),
+        Op::store(285, 8),
+        Op::store(319, 4),
+    ];
+    let parts: [&[Op]; 3] = [&way(), &on_to_5(), &second];
+    assert_release(&rt, (5, 7), &[], &parts, (NO_KICK, Some(2)));
+    let last = [Op::store(293, 0), Op::store(319, 4)];
+    let parts: [&[Op]; 4] = [&way(), &on_to_5(), &three_owners(), &last];
+    assert_release(&rt, (5, 8), &[], &parts, (NO_KICK, Some(3)));
+    let unlock = [Op::store(319, 4)];
+    let parts: [&[Op]; 4] = [&way(), &on_to_5(), &three_owners(), &unlock];
+    assert_release(&rt, (5, 6), &[], &parts, (Reply::Absent, None));
+}
+
+/// The making of node 5 with this port and owner 11.
+fn new_node(port: u64) -> [Op; 5] {
+    [
+        Op::load(280),
+        Op::and(280, !32),
+        Op::store(303, port),
+        Op::store(304, 11),
+        Op::store(305, 0),
+    ]
+}
+
+/// A rebind of the port from the owner to owner 11 makes these steps.
+fn assert_rebind(
+    rt: &impl Abort,
+    of: (Port, u32),
+    changes: &[(usize, u64)],
+    parts: &[&[Op]],
+    end: (Reply, Option<u32>),
+) {
+    assert!(rt; CONFIG.is_settled());
+    let machine = Rebind::<Low>::new(Env::new(CONFIG), 0, of.0, of.1, 11);
+    assert_steps(rt, machine, changes, parts, end);
+}
+
+#[test]
+fn rebinds_that_are_made(rt: HostRuntime) {
+    let front = [
+        Op::load(288),
+        Op::load(286),
+        Op::store(302, 2),
+        Op::store(319, 12),
+    ];
+    let parts: [&[Op]; 3] = [&new_node(69), &way(), &front];
+    assert_rebind(&rt, (69, 1), &[], &parts, (Reply::Rebound, Some(1)));
+    let later = [
+        Op::load(300),
+        Op::load(298),
+        Op::store(302, 639),
+        Op::store(282, 12),
+        Op::store(319, 4),
+    ];
+    let parts: [&[Op]; 4] = [&new_node(133), &way(), &on_to_133(), &later];
+    assert_rebind(&rt, (133, 2), &[], &parts, (Reply::Rebound, Some(4)));
+}
+
+#[test]
+fn rebinds_that_are_not_made(rt: HostRuntime) {
+    let absent = (Reply::Absent, None);
+    let other = [Op::load(288), Op::store(319, 4), Op::or(280, 32)];
+    let parts: [&[Op]; 3] = [&new_node(69), &way(), &other];
+    assert_rebind(&rt, (69, 3), &[], &parts, absent);
+    let given = [Op::or(280, 32)];
+    let parts: [&[Op]; 5] = [
+        &new_node(197),
+        &way(),
+        &on_to_133(),
+        &on_to_the_end(),
+        &given,
+    ];
+    assert_rebind(&rt, (197, 3), &[], &parts, absent);
+    let parts: [&[Op]; 3] = [&new_node(197), &way_to_none(), &given];
+    assert_rebind(&rt, (197, 3), &[NO_PAGE], &parts, absent);
+    // No node is free.
+    let none = [Op::load(280)];
+    let parts: [&[Op]; 1] = [&none];
+    assert_rebind(&rt, (69, 1), &[(280, 0)], &parts, (Reply::NoNode, None));
+}
+
+/// A listing of the port makes these steps, and the owners are these.
+fn assert_all(
+    rt: &impl Abort,
+    room: Room<u32>,
+    port: Port,
+    changes: &[(usize, u64)],
+    parts: &[&[Op]],
+    owners: &[u32],
+) -> Room<u32> {
+    assert!(rt; CONFIG.is_settled());
+    let machine = All::<Low>::new(Env::new(CONFIG), 0, port, room);
+    assert!(rt; owners.len() < 9);
+    let len = owners.len() as u32;
+    let machine = assert_steps(rt, machine, changes, parts, (Reply::Listed { len }, None));
+    let room = machine.into_parts();
+    assert_eq!(rt; room.as_slice(), owners, "of {port}");
+    room
+}
+
+#[test]
+fn listings_keep_the_owners(rt: HostRuntime) -> Result<(), Fail> {
+    let room = Room::with_limit(rt.alloc(), 8)?;
+    let unlock = [Op::store(319, 4)];
+    let parts: [&[Op]; 4] = [&way(), &on_to_5(), &three_owners(), &unlock];
+    let room = assert_all(&rt, room, 5, &[], &parts, &[9, 7, 8]);
+    // A room for two is full before the third.
+    let two = Room::with_limit(rt.alloc(), 2)?;
+    assert_all(&rt, two, 5, &[], &parts, &[9, 7]);
+    // What was in the room goes.
+    let one = [Op::load(300), Op::load(301), Op::store(319, 4)];
+    let parts: [&[Op]; 3] = [&way(), &on_to_133(), &one];
+    let room = assert_all(&rt, room, 133, &[], &parts, &[2]);
+    let parts: [&[Op]; 3] = [&way(), &on_to_133(), &on_to_the_end()];
+    let room = assert_all(&rt, room, 197, &[], &parts, &[]);
+    let parts: [&[Op]; 1] = [&way_to_none()];
+    assert_all(&rt, room, 5, &[NO_PAGE], &parts, &[]);
+    Ok(())
+}
