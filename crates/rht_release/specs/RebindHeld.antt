@@ -1,5 +1,4 @@
--- What a rebind holds in each of its states: its node, and the old one from the store on that puts its
--- own in the old one's place; the lock of a bucket; and its answer once it is known. A rebind is
+-- What a rebind holds in each of its states: its node, up to the store that puts it in the old one's place; the lock of a bucket; and its answer once it is known. A rebind is
 -- answered Absent from the load of a future on that leads nowhere, or of another owner. With the first
 -- store of the relinking the new owner has the old one's place.
 use Rattle.std.specs.Prelude.{ℕ, Bool, Option, None, Some, if◌then◌else◌}
@@ -25,10 +24,10 @@ holds_node node lock answer = record holds_nothing { node = Some node; lock = lo
 abbrev pub holds_found : ℕ → FoundPort → Held Answer
 holds_found node found = holds_node node (Some found.bucket.place) None
 
--- while the chain is changed: its own node before the store of the link, and the old one behind it
+-- while the chain is changed: its node before the store of the link, and the answer behind it
 abbrev pub holds_replacing : ℕ → FoundPort → Bool → Held Answer
 holds_replacing node found stored =
-    if stored then holds_node found.node (Some found.bucket.place) (Some (plain Rebound))
+    if stored then record holds_nothing { lock = Some found.bucket.place; answer = Some (plain Rebound) }
     else holds_found node found
 
 -- what it holds in a state

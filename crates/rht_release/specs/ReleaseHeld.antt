@@ -1,4 +1,4 @@
--- What a release holds in each of its states: the lock of a bucket; the node that it has taken out; the
+-- What a release holds in each of its states: the lock of a bucket; the
 -- count, from the store that unlinks a port's only node to the lowering; and its answer once it is
 -- known. A release is answered Absent from the load of a future on that leads nowhere, or of the list
 -- link behind the last owner. It takes a binding out with one store: into the list link before a later
@@ -21,15 +21,15 @@ use Rattle.rht_release.specs.declared.release.ReleaseAt.TheVariants as at
 abbrev pub holds_bucket : FoundPort → Held Answer
 holds_bucket found = record holds_nothing { lock = Some found.bucket.place }
 
--- the node that was taken out, and the answer; whether a resize is due isn't known yet, and here it is no
-abbrev pub holds_removed : ℕ → Held Answer
-holds_removed node = record holds_nothing { node = Some node; answer = Some (plain (Released false)) }
+-- the answer, once a node was taken out; whether a resize is due isn't known yet, and here it is no. The node is in no list any
+-- more, and isn't one that the call would link or give back.
+abbrev pub holds_removed : Held Answer
+holds_removed = record holds_nothing { answer = Some (plain (Released false)) }
 
--- while the chain is changed: from the store of the link on it has the node and the answer, and the
--- count is still to be lowered, or not
+-- while the chain is changed: from the store of the link on it has the answer, and the count is still to be lowered, or not
 abbrev pub holds_relinking : FoundPort → Bool → Bool → Held Answer
 holds_relinking found raised stored =
-    if stored then record (holds_removed found.node) { lock = Some found.bucket.place; raised = raised }
+    if stored then record holds_removed { lock = Some found.bucket.place; raised = raised }
     else holds_bucket found
 
 -- what it holds in a state
@@ -46,9 +46,8 @@ held_of_release (at.Promoting found relink) =
     holds_relinking found false (has_relinked found.before relink.at)
 held_of_release (at.Unlinking found relink) =
     holds_relinking found true (has_relinked found.before relink.at)
-held_of_release (at.Lowering node shape) = record (holds_removed node) { raised = true }
+held_of_release (at.Lowering node shape) = record holds_removed { raised = true }
 held_of_release (at.Unlocking table unlock removed) = record holds_nothing {
-  node = removed;
   lock = Some unlock.place;
   answer = Some (plain (removed_reply removed));
 }

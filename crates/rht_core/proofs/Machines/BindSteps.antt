@@ -430,7 +430,7 @@ module _ (env : Env) (mix : ℕ → ℕ → ℕ → ℕ) (c : ℕ) (port owner :
         (nodes.knowing env mix c held.holds_nothing Nowhere Unlocked (nodes.made_by (r.0.at, r.1)) (nodes.known_made key o (r.0.at, r.1))) in
         let Knows : ℕ → ℕ → Type 0 = λ key o. nodes.knowing env mix c held.holds_nothing Nowhere Unlocked (node_of_new new.at) (nodes.known_at key o new.at) M G in
         let knows : Knows new.key new.owner = subst (λ key. Knows key new.owner) (sym known.fits.0) (subst (λ o. Knows port o) (sym known.fits.1) known.knowing) in
-        let step : Made new.key new.owner = nodes.new_node_step env mix c held.holds_nothing Nowhere Unlocked words G all whole new is knows in
+        let step : Made new.key new.owner = nodes.new_node_step env mix c held.holds_nothing Nowhere Unlocked words G all whole tt new is knows in
         node_made new r known.fits.0 known.fits.1 (nodes.made_none new.at (old_of words (new_node_plan new))) (subst (λ key. Made key owner) known.fits.0 (subst (λ o. Made new.key o) known.fits.1 step))
     bind_step (at.CurrentTable n) is known =
         goes_on (at.CurrentTable n) (at.Locating n (locate_new env.geometry (table_of (M CurrentTable)))) refl refl refl (record {
@@ -460,7 +460,7 @@ module _ (env : Env) (mix : ℕ → ℕ → ℕ → ℕ) (c : ℕ) (port owner :
         answered env mix c call words G (plan_at env (at.Link claimed)) (holds_claimed claimed) (holds_claimed claimed) None (BindNext (at.Raise claimed, Go)) (inl refl) (still_has refl)
         (moved-map env mix c words G (plan_at env (at.Link claimed)) (holds_claimed claimed) (holds_claimed claimed) _ (BindNext (at.Raise claimed, Go))
         (λ M' G' w k. record { knowing = k; fits = tt })
-        (nodes.fill_step env mix c (holds_node None (Some claimed.bucket.place)) (at_home port owner claimed) (missed port owner claimed) words G all whole (own port owner claimed.node) ChainLink (head_of claimed.bucket.place claimed.bucket.word) known.knowing))
+        (nodes.fill_step env mix c (holds_node None (Some claimed.bucket.place)) (at_home port owner claimed) (missed port owner claimed) words G all whole tt (own port owner claimed.node) ChainLink (head_of claimed.bucket.place claimed.bucket.word) known.knowing))
     bind_step (at.Raise claimed) is known =
         let kick = kicks env claimed.shape (M PortCount) in
         let p = claimed.bucket.place in
@@ -498,4 +498,4 @@ module _ (env : Env) (mix : ℕ → ℕ → ℕ → ℕ) (c : ℕ) (port owner :
         (sym is.geometry_same)
         (answered env mix c call words G (give_node_plan (record { geometry = env.geometry; node = give.node })) (record told { node = Some give.node }) told (Some (plain reply)) (Knowing env mix c told known_nothing)
         (inl (keeps (Some (plain reply)))) (record { taken = λ node none some. absurd (cc); gone = λ node some none told. absurd (cc) })
-        (nodes.give_step env mix c told Nowhere Unlocked words G all whole (own port owner give.node) known.knowing))
+        (nodes.give_step env mix c told Nowhere Unlocked words G all whole tt (own port owner give.node) known.knowing))

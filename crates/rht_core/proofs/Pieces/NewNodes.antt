@@ -1,5 +1,5 @@
 -- The operations that take a node and give it back, and those that write a word of a node which the caller has.
-use Rattle.std.proofs.Common.{◌≡◌, ◌≢◌, ℕ, ◌+◌, ◌*◌, ◌/◌, ◌%◌, ◌<◌, ◌==◌, List, length, Option, Some, None, cond, refl, sym, ◌∙◌, subst, inl, inr, bit_and, nat_lt, arith}
+use Rattle.std.proofs.Common.{◌≡◌, ◌≢◌, ℕ, ◌+◌, ◌*◌, ◌/◌, ◌%◌, ◌<◌, ◌==◌, List, length, Option, Some, None, cond, refl, sym, ◌∙◌, ap, subst, inl, inr, bit_and, bit_or, nat_lt, arith}
 use Rattle.std.specs.Prelude.{IfSome}
 use Rattle.std.proofs.lemmas.Bool.{cases_eq, eqb-true, eqb-false}
 use Rattle.std.proofs.lemmas.Nat.Bits.{bit_at-lt}
@@ -21,10 +21,10 @@ use Rattle.rht_arena.specs.NewNode.{NewNodeModel, new_node_plan, new_node_after,
 use Rattle.rht_arena.specs.declared.new_node.NewNodeAt.{NewNodeAt}
 use Rattle.rht_arena.specs.declared.new_node.NewNodeAt.TheVariants as news
 use Rattle.rht_arena.proofs.TakenWereFree.{claims}
-use Rattle.rht_core.proofs.Theory.Ghosts.{put, put-same, put-all, Owner, Free, Held, Ghost, IsUsed, held_not_used, with_owner}
+use Rattle.rht_core.proofs.Theory.Ghosts.{put, put-same, put-all, Owner, Free, Held, Ghost, IsUsed, is_taken_by, held_not_used, with_owner}
 use Rattle.rht_core.proofs.Theory.Wholes.{Whole}
-use Rattle.rht_core.proofs.Theory.Knowledge.{members_used, KnownNode, KnownTable, KnownBucket, NodeMeans, TableMeans, Knowing, TableMeans-stay, BucketMeans-stay}
-use Rattle.rht_core.proofs.Theory.Frames.{same_tables, tables_stay}
+use Rattle.rht_core.proofs.Theory.Knowledge.{members_used, IsPlain, BucketMeans-own, KnownNode, KnownTable, KnownBucket, NodeMeans, TableMeans, Knowing, TableMeans-stay, BucketMeans-stay}
+use Rattle.rht_core.proofs.Theory.Frames.{chains_stay, same_tables, tables_stay}
 use Rattle.rht_core.proofs.Theory.Steps.{Quiet, TakesNode, GivesNode, by_test, Holding, mem, Moved, moved, loads}
 use Rattle.rht_core.proofs.Moves.TakenNodes.{fill, take_node, give_node, retouch}
 
@@ -153,9 +153,9 @@ module _ (env : Env) (mix : ℕ → ℕ → ℕ → ℕ) (c : ℕ) (h : Holding)
         }
 
     -- a word of a node that the caller has is stored
-    pub fill_step : (known : KnownNode) (w : NodeWord) (value : ℕ) → knowing (Some known.node) (Some known) M G
+    pub fill_step : IsPlain env mix bucket → (known : KnownNode) (w : NodeWord) (value : ℕ) → knowing (Some known.node) (Some known) M G
         → Moved env mix c words G (Store (place_of env.geometry (Node known.node w)) value) (holding (Some known.node)) (holding (Some known.node)) (knowing (Some known.node) (Some (with_word known w value)))
-    fill_step known w value knows =
+    fill_step plain known w value knows =
         let op = Store (place_of env.geometry (Node known.node w)) value in
         let M' = mem env mix (applied words op) in
         let has = knows.means.node.has in
@@ -170,8 +170,9 @@ module _ (env : Env) (mix : ℕ → ℕ → ℕ → ℕ) (c : ℕ) (h : Holding)
             node = word-known known w value M' knows.means.node write;
             table = knows.means.table;
             bucket = BucketMeans-stay env mix c M M' G G (members_used env mix M G whole) (λ j holds. refl) (λ j n h i. refl)
+                (chains_stay env mix c M M' G (Node known.node w) value whole write (λ n used e. not_mine n used (cc)))
                 (λ n l used. write.others (Node n KeyWord) l (λ e. not_mine n used (cc)))
-                (λ n l used. write.others (Node n OwnerWord) l (λ e. not_mine n used (cc))) bucket knows.means.bucket;
+                (λ n l used. write.others (Node n OwnerWord) l (λ e. not_mine n used (cc))) (λ n. refl) bucket plain knows.means.bucket;
           };
         })
 
@@ -204,9 +205,12 @@ module _ (env : Env) (mix : ℕ → ℕ → ℕ → ℕ) (c : ℕ) (h : Holding)
           means = record {
             node = record { has = record { mine = put-same G.node n (Held c); among = range.below }; chain = tt; key = tt; owner = tt; list = tt };
             table = tables-reowned (put G.node n (Held c)) knows.means.table;
-            bucket = BucketMeans-stay env mix c M M' G (with_owner G n (Held c)) (members_used env mix M G whole) (λ j holds. refl) (λ j m h i. refl)
+            bucket = BucketMeans-own env mix c M M' G (with_owner G n (Held c)) (members_used env mix M G whole) (λ j holds. refl) (λ j m h i. refl)
+                (chains_stay env mix c M M' G (NodeMap index) (bit_and word (bit_not w64 (bit_of bit))) whole write (λ m used e. cc))
                 (λ m l used. write.others (Node m KeyWord) l (λ e. cc))
-                (λ m l used. write.others (Node m OwnerWord) l (λ e. cc)) bucket knows.means.bucket;
+                (λ m l used. write.others (Node m OwnerWord) l (λ e. cc))
+                (put-all (λ m o. is_taken_by c o ≡ is_taken_by c (G.node m)) G.node n (Held c) (sym (ap (is_taken_by c) taken.1)) (λ m ne. refl)) bucket
+                (λ x has. let none = knows.only.nodes x has.mine in absurd (cc)) knows.means.bucket;
           };
         })
 
@@ -235,9 +239,11 @@ module _ (env : Env) (mix : ℕ → ℕ → ℕ → ℕ) (c : ℕ) (h : Holding)
           means = record {
             node = tt;
             table = knows.means.table;
-            bucket = BucketMeans-stay env mix c M M' G G (members_used env mix M G whole) (λ j holds. refl) (λ j m h i. refl)
+            bucket = BucketMeans-own env mix c M M' G G (members_used env mix M G whole) (λ j holds. refl) (λ j m h i. refl)
+                (chains_stay env mix c M M' G (NodeMap index) (bit_and word (bit_not w64 (bit_of bit))) whole write (λ m used e. cc))
                 (λ m l used. write.others (Node m KeyWord) l (λ e. cc))
-                (λ m l used. write.others (Node m OwnerWord) l (λ e. cc)) bucket knows.means.bucket;
+                (λ m l used. write.others (Node m OwnerWord) l (λ e. cc)) (λ m. refl) bucket
+                (λ x has. let none = knows.only.nodes x has.mine in absurd (cc)) knows.means.bucket;
           };
         })
 
@@ -273,9 +279,9 @@ module _ (env : Env) (mix : ℕ → ℕ → ℕ → ℕ) (c : ℕ) (h : Holding)
 
     -- ---- a node is given back
 
-    pub give_step : (known : KnownNode) → knowing (Some known.node) (Some known) M G
+    pub give_step : IsPlain env mix bucket → (known : KnownNode) → knowing (Some known.node) (Some known) M G
         → Moved env mix c words G (Or (place_of env.geometry (NodeMap (known.node / 64))) (bit_of (known.node % 64))) (holding (Some known.node)) (holding None) (knowing None None)
-    give_step known knows =
+    give_step plain known knows =
         let n = known.node in
         let op = Or (place_of env.geometry (NodeMap (n / 64))) (bit_of (n % 64)) in
         let M' = mem env mix (applied words op) in
@@ -295,8 +301,10 @@ module _ (env : Env) (mix : ℕ → ℕ → ℕ → ℕ) (c : ℕ) (h : Holding)
             node = tt;
             table = tables-reowned (put G.node n Free) knows.means.table;
             bucket = BucketMeans-stay env mix c M M' G (with_owner G n Free) (members_used env mix M G whole) (λ j holds. refl) (λ j m h i. refl)
+                (chains_stay env mix c M M' G (NodeMap (n / 64)) (bit_or (M (NodeMap (n / 64))) (bit_of (n % 64))) whole write (λ m used e. cc))
                 (λ m l used. write.others (Node m KeyWord) l (λ e. cc))
-                (λ m l used. write.others (Node m OwnerWord) l (λ e. cc)) bucket knows.means.bucket;
+                (λ m l used. write.others (Node m OwnerWord) l (λ e. cc))
+                (put-all (λ m o. is_taken_by c o ≡ is_taken_by c (G.node m)) G.node n Free (sym (ap (is_taken_by c) knows.means.node.has.mine)) (λ m ne. refl)) bucket plain knows.means.bucket;
           };
         })
 
@@ -318,17 +326,17 @@ module _ (env : Env) (mix : ℕ → ℕ → ℕ → ℕ) (c : ℕ) (h : Holding)
         let r = new_node_after m (old_of words (new_node_plan m)) in
         Moved env mix c words G (new_node_plan m) (holding (node_of_new m.at)) (holding (made_by (r.0.at, r.1))) (knowing (made_by (r.0.at, r.1)) (known_made m.key m.owner (r.0.at, r.1)))
 
-    new_step_at : (key owner : ℕ) (at : NewNodeAt) → IsNewNodeIn env.geometry (record { geometry = env.geometry; key = key; owner = owner; at = at })
+    new_step_at : IsPlain env mix bucket → (key owner : ℕ) (at : NewNodeAt) → IsNewNodeIn env.geometry (record { geometry = env.geometry; key = key; owner = owner; at = at })
         → knowing (node_of_new at) (known_at key owner at) M G → NewStep (record { geometry = env.geometry; key = key; owner = owner; at = at })
-    new_step_at key owner (news.Taking take) is knows =
+    new_step_at plain key owner (news.Taking take) is knows =
         taken_next key owner (take_node_plan take) (take_node_after take (old_of words (take_node_plan take))) (take_step take is.at_in knows)
-    new_step_at key owner (news.Key node) is knows = fill_step (bare node) KeyWord key knows
-    new_step_at key owner (news.Owner node) is knows = fill_step (with_word (bare node) KeyWord key) OwnerWord owner knows
-    new_step_at key owner (news.ListLink node) is knows =
-        fill_step (with_word (with_word (bare node) KeyWord key) OwnerWord owner) ListLink 0 knows
+    new_step_at plain key owner (news.Key node) is knows = fill_step plain (bare node) KeyWord key knows
+    new_step_at plain key owner (news.Owner node) is knows = fill_step plain (with_word (bare node) KeyWord key) OwnerWord owner knows
+    new_step_at plain key owner (news.ListLink node) is knows =
+        fill_step plain (with_word (with_word (bare node) KeyWord key) OwnerWord owner) ListLink 0 knows
 
-    pub new_node_step : (m : NewNodeModel) → IsNewNodeIn env.geometry m → knowing (node_of_new m.at) (known_at m.key m.owner m.at) M G
+    pub new_node_step : IsPlain env mix bucket → (m : NewNodeModel) → IsNewNodeIn env.geometry m → knowing (node_of_new m.at) (known_at m.key m.owner m.at) M G
         → NewStep m
-    new_node_step m is knows =
+    new_node_step plain m is knows =
         subst (λ g. NewStep (record { geometry = g; key = m.key; owner = m.owner; at = m.at })) (sym is.geometry_same)
-        (new_step_at m.key m.owner m.at (record { geometry_same = refl; key_in = is.key_in; owner_in = is.owner_in; at_in = is.at_in }) knows)
+        (new_step_at plain m.key m.owner m.at (record { geometry_same = refl; key_in = is.key_in; owner_in = is.owner_in; at_in = is.at_in }) knows)

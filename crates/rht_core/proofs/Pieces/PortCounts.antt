@@ -3,12 +3,12 @@ use Rattle.std.proofs.Common.{◌≡◌, ℕ, ◌+◌, ◌%◌, ◌^◌, ◌<◌
 use Rattle.rht_words.specs.declared.env.Env.{Env}
 use Rattle.rht_words.specs.declared.op.Op.TheVariants.{Add}
 use Rattle.rht_words.specs.Operations.{applied}
-use Rattle.rht_words.specs.Places.{PortCount, Node, KeyWord, OwnerWord, place_of, words_in}
+use Rattle.rht_words.specs.Places.{PortCount, Node, ChainLink, KeyWord, OwnerWord, place_of, words_in}
 use Rattle.rht_words.proofs.Memory.{Memory, IsWrite, is_write}
 use Rattle.rht_core.proofs.Theory.Ghosts.{put-same, Ghost, with_raised}
 use Rattle.rht_core.proofs.Theory.Wholes.{Whole}
-use Rattle.rht_core.proofs.Theory.Knowledge.{members_used, Known, Knowing, NodeMeans-stay, TableMeans-stay, BucketMeans-stay}
-use Rattle.rht_core.proofs.Theory.Frames.{same_tables, tables_stay}
+use Rattle.rht_core.proofs.Theory.Knowledge.{members_used, Known, Knowing, NodeMeans-stay, TableMeans-stay, BucketMeans-own}
+use Rattle.rht_core.proofs.Theory.Frames.{chains_stay, same_tables, tables_stay}
 use Rattle.rht_core.proofs.Theory.Steps.{Raises, Holding, mem, Moved, moved}
 use Rattle.rht_core.proofs.Moves.Quiet.{count_up}
 
@@ -37,8 +37,10 @@ module _ (env : Env) (mix : ℕ → ℕ → ℕ → ℕ) (c : ℕ) (h : Holding)
         means = record {
           node = NodeMeans-stay env mix c M M' G G' (λ n has. has.mine) (λ n has w. write.others (Node n w) has.among (λ e. cc)) known.node knows.means.node;
           table = TableMeans-stay env mix c M M' G G' (tables_stay env mix M G G' whole (same_tables env mix G G.bucket G.node G.bound G'.raised)) known.table knows.means.table;
-          bucket = BucketMeans-stay env mix c M M' G G' (members_used env mix M G whole) (λ j holds. refl) (λ j n h i. refl)
+          bucket = BucketMeans-own env mix c M M' G G' (members_used env mix M G whole) (λ j holds. refl) (λ j n h i. refl)
+              (chains_stay env mix c M M' G PortCount ((M PortCount + 1) % 2 ^ 64) whole write (λ n used e. cc))
               (λ n l used. write.others (Node n KeyWord) l (λ e. cc))
-              (λ n l used. write.others (Node n OwnerWord) l (λ e. cc)) known.bucket knows.means.bucket;
+              (λ n l used. write.others (Node n OwnerWord) l (λ e. cc)) (λ n. refl) known.bucket
+              (λ n has. (record { mine = has.mine; among = has.among }, write.others (Node n ChainLink) has.among (λ e. cc))) knows.means.bucket;
         };
       })

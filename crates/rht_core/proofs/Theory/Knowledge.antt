@@ -1,18 +1,19 @@
 -- What a caller knows in each state, and why nobody else's step takes it away.
 -- What it knows speaks of words and ghosts on which the caller holds the right, or which nobody changes. It is of three kinds: of the
 -- node that it has taken, of the table in which it looks for a port, and of the bucket that it has locked.
-use Rattle.std.proofs.Common.{◌≡◌, ◌≢◌, ◌⊎◌, ℕ, ◌<◌, ◌≤◌, List, [], ◌∷◌, ◌++◌, Option, Some, None, Bool, true, refl, sym, ◌∙◌, ap, inl, inr}
+use Rattle.std.proofs.Common.{◌≡◌, ◌≢◌, ◌⊎◌, ℕ, ◌<◌, ◌≤◌, List, [], ◌∷◌, ◌++◌, map, Option, Some, None, Bool, true, refl, sym, ◌∙◌, ap, subst, inl, inr}
 use Rattle.std.specs.Prelude.{IfSome}
 use Rattle.rht_words.specs.declared.env.Env.{Env}
 use Rattle.rht_words.specs.Places.{Node, NodeWord, ChainLink, KeyWord, OwnerWord, ListLink, IsBucketPlace}
 use Rattle.rht_words.specs.Ports.{owner_of}
+use Rattle.rht_words.specs.Links.{link_of}
 use Rattle.rht_words.specs.Held as held
 use Rattle.rht_words.proofs.Memory.{Memory}
 use Rattle.rht_words.specs.Members.{In}
-use Rattle.rht_words.proofs.Members.{In-append_left, in-middle}
+use Rattle.rht_words.proofs.Members.{In-append_left, In-append_cases, in-middle}
 use Rattle.rht_policy.specs.Mix.{bucket_of}
 use Rattle.rht_core.proofs.Theory.Ghosts.{Bucket, Held, Ghost, is_used, is_taken_by, IsUsed, has_table, index_at}
-use Rattle.rht_core.proofs.Theory.Wholes.{key_of, place_at, word_index, home, Whole}
+use Rattle.rht_core.proofs.Theory.Wholes.{chain_of, key_of, place_at, word_index, home, Whole}
 use Rattle.rht_core.proofs.Theory.Passed.{NoKey, NoKey-same, Passed}
 
 -- ---- what may be known
@@ -33,9 +34,28 @@ pub data KnownTable : Type 0 where
   Shaped : ℕ → ℕ → ℕ → KnownTable
   AtHome : ℕ → ℕ → Option ℕ → ℕ → KnownTable
 
+-- Of the list of a port whose first node was found. It stands at a node, behind another one or none, and no owner before it is
+-- this one; nor is the node's; or the node's is, and then which link is behind it. The first node has the owner, and which one is
+-- second; then which link is behind the first one in the chain; and that the second one leads on as the first one does. Which link
+-- is behind the first one; and that the caller's own node leads on as that does. The owners of the nodes before this one, and those
+-- up to this one.
+pub data KnownList : Type 0 where
+  AtNode : ℕ → Option ℕ → ℕ → KnownList
+  Differing : ℕ → ℕ → KnownList
+  Matching : ℕ → Option ℕ → ℕ → KnownList
+  CutsOut : ℕ → ℕ → ℕ → ℕ → KnownList
+  Leads : Option ℕ → ℕ → KnownList
+  LeadsTo : Option ℕ → ℕ → ℕ → KnownList
+  Promotes : ℕ → ℕ → KnownList
+  FirstLink : ℕ → KnownList
+  Replaces : ℕ → KnownList
+  Collected : ℕ → List ℕ → KnownList
+  CollectedTo : ℕ → List ℕ → KnownList
+
 -- Of a bucket that it has locked, whose word was this before: nothing more; at which node of it a walk for a key stands, before or
 -- behind the load of the node's key; that none of its nodes has the key; its first node that has it; a node that has it; or one of
--- the nodes to which the key's port is bound, with the owner of the first of them. Beside the node at which a walk stands is the one before it.
+-- the nodes to which the key's port is bound, with the owner of the first of them; or what is known of the list of that port. A node that the caller has taken out, with or
+-- without a bucket locked. Beside the node at which a walk stands is the one before it.
 pub data KnownBucket : Type 0 where
   Unlocked : KnownBucket
   Locks : ℕ → ℕ → KnownBucket
@@ -45,6 +65,9 @@ pub data KnownBucket : Type 0 where
   Found : ℕ → ℕ → ℕ → ℕ → Option ℕ → KnownBucket
   Member : ℕ → ℕ → ℕ → ℕ → KnownBucket
   Listing : ℕ → ℕ → ℕ → ℕ → ℕ → KnownBucket
+  InList : ℕ → ℕ → ℕ → ℕ → Option ℕ → KnownList → KnownBucket
+  TakenOut : ℕ → KnownBucket
+  LocksTakenOut : ℕ → ℕ → ℕ → KnownBucket
 
 -- what a caller knows in a state
 pub record Known : Type 0 where
@@ -65,6 +88,71 @@ pub record StandsAt (M : Memory) (nodes : List ℕ) (key node : ℕ) (before : O
   pub split : nodes ≡ front ++ node ∷ rear
   pub passed : NoKey M key front
   pub last : before ≡ last_of front
+
+-- none of these nodes has the owner
+abbrev pub NoOwner : Memory → ℕ → List ℕ → Type 0
+NoOwner M owner [] = Unit {0}
+NoOwner M owner (node ∷ nodes) = (owner_of (M (Node node OwnerWord)) ≢ owner) × NoOwner M owner nodes
+
+-- the owners of these nodes
+abbrev pub owners_of : Memory → List ℕ → List ℕ
+owners_of M nodes = map (λ n. owner_of (M (Node n OwnerWord))) nodes
+
+-- the list link that leads to the first of these nodes, and the first of them
+abbrev pub list_link : List ℕ → ℕ
+list_link [] = 0
+list_link (node ∷ nodes) = link_of node
+
+abbrev pub first_of_list : List ℕ → Option ℕ
+first_of_list [] = None
+first_of_list (node ∷ nodes) = Some node
+
+-- a node of a list, behind this one or none
+pub record IsAmong (nodes : List ℕ) (node : ℕ) (before : Option ℕ) : Type 0 where
+  pub front : List ℕ
+  pub rear : List ℕ
+  pub split : nodes ≡ front ++ node ∷ rear
+  pub last : before ≡ last_of front
+
+-- no node before it has the owner
+pub record StandsInList (M : Memory) (nodes : List ℕ) (node : ℕ) (before : Option ℕ) (owner : ℕ) : Type 0 where
+  pub among : IsAmong nodes node before
+  pub none : NoOwner M owner among.front
+
+pub record IsOtherOwner (M : Memory) (nodes : List ℕ) (node owner : ℕ) : Type 0 where
+  pub before : Option ℕ
+  pub stands : StandsInList M nodes node before owner
+  pub differs : owner_of (M (Node node OwnerWord)) ≢ owner
+
+pub record IsOwnersNode (M : Memory) (nodes : List ℕ) (node : ℕ) (before : Option ℕ) (owner : ℕ) : Type 0 where
+  pub stands : StandsInList M nodes node before owner
+  pub owner_is : owner_of (M (Node node OwnerWord)) ≡ owner
+
+pub record IsCutOut (M : Memory) (nodes : List ℕ) (node before link owner : ℕ) : Type 0 where
+  pub is : IsOwnersNode M nodes node (Some before) owner
+  pub link_is : list_link is.stands.among.rear ≡ link
+
+pub record IsLeading (M : Memory) (first : ℕ) (behind : List ℕ) (second : Option ℕ) (owner : ℕ) : Type 0 where
+  pub owner_is : owner_of (M (Node first OwnerWord)) ≡ owner
+  pub second_is : second ≡ first_of_list behind
+
+pub record IsLeadingTo (M : Memory) (first : ℕ) (behind : List ℕ) (second : Option ℕ) (link owner : ℕ) : Type 0 where
+  pub leads : IsLeading M first behind second owner
+  pub link_is : chain_of M first ≡ link
+
+pub record IsPromoting (M : Memory) (first : ℕ) (behind : List ℕ) (second owner : ℕ) : Type 0 where
+  pub leads : IsLeading M first behind (Some second) owner
+  pub alike : chain_of M second ≡ chain_of M first
+
+pub record IsCollected (M : Memory) (nodes : List ℕ) (node : ℕ) (owners : List ℕ) : Type 0 where
+  pub before : Option ℕ
+  pub among : IsAmong nodes node before
+  pub owners_are : owners ≡ owners_of M among.front
+
+pub record IsCollectedTo (M : Memory) (nodes : List ℕ) (node : ℕ) (owners : List ℕ) : Type 0 where
+  pub before : Option ℕ
+  pub among : IsAmong nodes node before
+  pub owners_are : owners ≡ owners_of M (among.front ++ node ∷ [])
 
 module _ (env : Env) (mix : ℕ → ℕ → ℕ → ℕ) where
   -- ---- what it means
@@ -140,6 +228,40 @@ module _ (env : Env) (mix : ℕ → ℕ → ℕ → ℕ) where
     pub listed : In node (first ∷ behind)
     pub owner_is : owner_of (M (Node first OwnerWord)) ≡ owner
 
+  -- the caller's own node leads on as the first one does
+  pub record IsReplacing (c : ℕ) (M : Memory) (G : Ghost) (first node : ℕ) : Type 0 where
+    pub has : HasNode c G node
+    pub alike : chain_of M node ≡ chain_of M first
+
+  abbrev pub ListMeans : ℕ → Memory → Ghost → ℕ → List ℕ → KnownList → Type 0
+  ListMeans c M G first behind (AtNode node before owner) = StandsInList M (first ∷ behind) node before owner
+  ListMeans c M G first behind (Differing node owner) = IsOtherOwner M (first ∷ behind) node owner
+  ListMeans c M G first behind (Matching node before owner) = IsOwnersNode M (first ∷ behind) node before owner
+  ListMeans c M G first behind (CutsOut node before link owner) = IsCutOut M (first ∷ behind) node before link owner
+  ListMeans c M G first behind (Leads second owner) = IsLeading M first behind second owner
+  ListMeans c M G first behind (LeadsTo second link owner) = IsLeadingTo M first behind second link owner
+  ListMeans c M G first behind (Promotes second owner) = IsPromoting M first behind second owner
+  ListMeans c M G first behind (FirstLink link) = chain_of M first ≡ link
+  ListMeans c M G first behind (Replaces node) = IsReplacing c M G first node
+  ListMeans c M G first behind (Collected node owners) = IsCollected M (first ∷ behind) node owners
+  ListMeans c M G first behind (CollectedTo node owners) = IsCollectedTo M (first ∷ behind) node owners
+
+  -- the first node that has the key was found, and the key's port is bound to it and to these behind it
+  pub record IsInList (c : ℕ) (M : Memory) (G : Ghost) (place word key first : ℕ) (before : Option ℕ) (known : KnownList) : Type 0 where
+    pub found : IsFound c M G place word key first before
+    pub behind : List ℕ
+    pub bound_to : G.bound key ≡ first ∷ behind
+    pub means : ListMeans c M G first behind known
+
+  -- the caller has taken the node out of a list
+  pub record HasTakenOut (c : ℕ) (G : Ghost) (node : ℕ) : Type 0 where
+    pub among : node < env.geometry.nodes
+    pub taken : is_taken_by c (G.node node) ≡ true
+
+  pub record LocksAndTook (c : ℕ) (G : Ghost) (place word node : ℕ) : Type 0 where
+    pub lock : HoldsLock c G place word
+    pub took : HasTakenOut c G node
+
   abbrev pub BucketMeans : ℕ → Memory → Ghost → KnownBucket → Type 0
   BucketMeans c M G Unlocked = Unit {0}
   BucketMeans c M G (Locks place word) = HoldsLock c G place word
@@ -149,6 +271,36 @@ module _ (env : Env) (mix : ℕ → ℕ → ℕ → ℕ) where
   BucketMeans c M G (Found place word key node before) = IsFound c M G place word key node before
   BucketMeans c M G (Member place word key node) = IsMember c M G place word key node
   BucketMeans c M G (Listing place word key node owner) = IsListing c M G place word key node owner
+  BucketMeans c M G (InList place word key first before known) = IsInList c M G place word key first before known
+  BucketMeans c M G (TakenOut node) = HasTakenOut c G node
+  BucketMeans c M G (LocksTakenOut place word node) = LocksAndTook c G place word node
+
+  -- what is known of a list doesn't speak of the caller's own node
+  abbrev pub IsPlainList : KnownList → Type 0
+  IsPlainList (AtNode node before owner) = Unit {0}
+  IsPlainList (Differing node owner) = Unit {0}
+  IsPlainList (Matching node before owner) = Unit {0}
+  IsPlainList (CutsOut node before link owner) = Unit {0}
+  IsPlainList (Leads second owner) = Unit {0}
+  IsPlainList (LeadsTo second link owner) = Unit {0}
+  IsPlainList (Promotes second owner) = Unit {0}
+  IsPlainList (FirstLink link) = Unit {0}
+  IsPlainList (Replaces node) = ⊥
+  IsPlainList (Collected node owners) = Unit {0}
+  IsPlainList (CollectedTo node owners) = Unit {0}
+
+  abbrev pub IsPlain : KnownBucket → Type 0
+  IsPlain Unlocked = Unit {0}
+  IsPlain (Locks place word) = Unit {0}
+  IsPlain (Stands place word key node before) = Unit {0}
+  IsPlain (Differs place word key node before) = Unit {0}
+  IsPlain (Missed place word key) = Unit {0}
+  IsPlain (Found place word key node before) = Unit {0}
+  IsPlain (Member place word key node) = Unit {0}
+  IsPlain (Listing place word key node owner) = Unit {0}
+  IsPlain (InList place word key first before known) = IsPlainList known
+  IsPlain (TakenOut node) = Unit {0}
+  IsPlain (LocksTakenOut place word node) = Unit {0}
 
   pub record Means (c : ℕ) (M : Memory) (G : Ghost) (known : Known) : Type 0 where
     pub node : IfSome known.node (NodeMeans c M G)
@@ -220,14 +372,21 @@ module _ (env : Env) (mix : ℕ → ℕ → ℕ → ℕ) where
     pub no_node : (node : ℕ) → G'.node node ≡ Held c → G.node node ≡ Held c
     pub no_lock : (j : ℕ) → (G'.bucket j).holder ≡ Some c → (G.bucket j).holder ≡ Some c
 
-  -- each member of a bucket is one of the nodes and a port's, as the whole has it
-  abbrev pub MembersUsed : Ghost → Type 0
-  MembersUsed G = (j node : ℕ) → In node (G.bucket j).nodes → (node < env.geometry.nodes) × IsUsed (G.node node)
+  -- each member of a bucket is one of the nodes and a port's, as the whole has it, and so is each to which a port is bound
+  abbrev pub IsUsedNode : Ghost → ℕ → Type 0
+  IsUsedNode G node = (node < env.geometry.nodes) × IsUsed (G.node node)
+
+  pub record MembersUsed (G : Ghost) : Type 0 where
+    pub member : (j node : ℕ) → In node (G.bucket j).nodes → IsUsedNode G node
+    pub bound : (port node : ℕ) → In node (G.bound port) → IsUsedNode G node
 
   pub members_used : (M : Memory) (G : Ghost) → Whole env mix M G → MembersUsed G
-  members_used M G whole j node i =
-      let first = whole.owned.member j node i in
-      ((whole.owned.first_at node j first).among, ap is_used first)
+  members_used M G whole = record {
+    member = λ j node i.
+        let first = whole.owned.member j node i in
+        ((whole.owned.first_at node j first).among, ap is_used first);
+    bound = λ port node i. bound_used M G whole port (G.bound port) refl node i;
+  }
 
   -- ---- what is known outlives a step that leaves what it speaks of
 
@@ -292,9 +451,10 @@ module _ (env : Env) (mix : ℕ → ℕ → ℕ → ℕ) where
     module _ (members : MembersUsed G) (locks : (j : ℕ) → (G.bucket j).holder ≡ Some c → G'.bucket j ≡ G.bucket j)
         (lists : (j node : ℕ) → (G.bucket j).holder ≡ Some c → In node (G.bucket j).nodes
         → G'.bound (key_of M node) ≡ G.bound (key_of M node))
-        (keys : WordStays KeyWord M G M') (owners : WordStays OwnerWord M G M') where
+        (chains : ChainsStay c M G M') (keys : WordStays KeyWord M G M') (owners : WordStays OwnerWord M G M')
+        (taken : (node : ℕ) → is_taken_by c (G'.node node) ≡ is_taken_by c (G.node node)) where
       key-stays_in : (j node : ℕ) → In node (G.bucket j).nodes → key_of M' node ≡ key_of M node
-      key-stays_in j node i = let is = members j node i in keys node is.0 is.1
+      key-stays_in j node i = let is = members.member j node i in keys node is.0 is.1
 
       HoldsLock-stay : (place word : ℕ) → HoldsLock c G place word → HoldsLock c G' place word
       HoldsLock-stay place word holds =
@@ -341,27 +501,170 @@ module _ (env : Env) (mix : ℕ → ℕ → ℕ → ℕ) where
             key_is = key-stays_in j node means.there ∙ means.key_is;
           }
 
-      pub BucketMeans-stay : (known : KnownBucket) → BucketMeans c M G known → BucketMeans c M' G' known
-      BucketMeans-stay Unlocked means = tt
-      BucketMeans-stay (Locks place word) means = HoldsLock-stay place word means
-      BucketMeans-stay (Stands place word key node before) means = IsStanding-stay place word key node before means
-      BucketMeans-stay (Differs place word key node before) means = record {
+      NoOwner-stay : (owner : ℕ) (nodes : List ℕ) → ((node : ℕ) → In node nodes → M' (Node node OwnerWord) ≡ M (Node node OwnerWord))
+          → NoOwner M owner nodes → NoOwner M' owner nodes
+      NoOwner-stay owner [] same none = tt
+      NoOwner-stay owner (node ∷ nodes) same none =
+          ((λ is. none.0 (ap owner_of (sym (same node (inl refl))) ∙ is)), NoOwner-stay owner nodes (λ other i. same other (inr i)) none.1)
+
+      owners_of-stay : (nodes : List ℕ) → ((node : ℕ) → In node nodes → M' (Node node OwnerWord) ≡ M (Node node OwnerWord))
+          → owners_of M' nodes ≡ owners_of M nodes
+      owners_of-stay [] same = refl
+      owners_of-stay (node ∷ nodes) same =
+          ap (λ w. owner_of w ∷ owners_of M' nodes) (same node (inl refl))
+          ∙ ap (λ rest. owner_of (M (Node node OwnerWord)) ∷ rest) (owners_of-stay nodes (λ other i. same other (inr i)))
+
+      -- of a list: where the owners of its nodes stay, and their links in chains
+      module _ (first : ℕ) (behind : List ℕ)
+          (owner_words : (node : ℕ) → In node (first ∷ behind) → M' (Node node OwnerWord) ≡ M (Node node OwnerWord))
+          (links : (node : ℕ) → In node (first ∷ behind) → chain_of M' node ≡ chain_of M node) where
+        none-stays : (node : ℕ) (before : Option ℕ) (owner : ℕ) → (is : StandsInList M (first ∷ behind) node before owner)
+            → NoOwner M' owner is.among.front
+        none-stays node before owner is = NoOwner-stay owner is.among.front
+            (λ n i. owner_words n (subst (In n) (sym is.among.split) (In-append_left n is.among.front (node ∷ is.among.rear) i))) is.none
+
+        Stands-stay : (node : ℕ) (before : Option ℕ) (owner : ℕ) → StandsInList M (first ∷ behind) node before owner
+            → StandsInList M' (first ∷ behind) node before owner
+        Stands-stay node before owner is = record { among = is.among; none = none-stays node before owner is }
+
+        owner-stays : (node : ℕ) (before : Option ℕ) → (among : IsAmong (first ∷ behind) node before)
+            → owner_of (M' (Node node OwnerWord)) ≡ owner_of (M (Node node OwnerWord))
+        owner-stays node before among =
+            ap owner_of (owner_words node (subst (In node) (sym among.split) (in-middle node among.front among.rear)))
+
+        Matching-stay : (node : ℕ) (before : Option ℕ) (owner : ℕ) → IsOwnersNode M (first ∷ behind) node before owner
+            → IsOwnersNode M' (first ∷ behind) node before owner
+        Matching-stay node before owner is = record {
+          stands = Stands-stay node before owner is.stands;
+          owner_is = owner-stays node before is.stands.among ∙ is.owner_is;
+        }
+
+        Leads-stay : (second : Option ℕ) (owner : ℕ) → IsLeading M first behind second owner → IsLeading M' first behind second owner
+        Leads-stay second owner is =
+            record { owner_is = ap owner_of (owner_words first (inl refl)) ∙ is.owner_is; second_is = is.second_is }
+
+        -- the second node is one of the list
+        second_in : (second : ℕ) (rest : List ℕ) → Some second ≡ first_of_list rest → In second rest
+        second_in second [] is = absurd (cc)
+        second_in second (node ∷ rest) is = inl (let same : second ≡ node = cc in same)
+
+        ListMeans-stay : (known : KnownList) → IsPlainList known → ListMeans c M G first behind known → ListMeans c M' G' first behind known
+        ListMeans-stay (AtNode node before owner) plain is = Stands-stay node before owner is
+        ListMeans-stay (Differing node owner) plain is = record {
+          before = is.before;
+          stands = Stands-stay node is.before owner is.stands;
+          differs = λ e. is.differs (sym (owner-stays node is.before is.stands.among) ∙ e);
+        }
+        ListMeans-stay (Matching node before owner) plain is = Matching-stay node before owner is
+        ListMeans-stay (CutsOut node before link owner) plain is =
+            let stays = Matching-stay node (Some before) owner is.is in
+            record {
+              is = record { stands = record { among = is.is.stands.among; none = none-stays node (Some before) owner is.is.stands }; owner_is = stays.owner_is };
+              link_is = is.link_is;
+            }
+        ListMeans-stay (Leads second owner) plain is = Leads-stay second owner is
+        ListMeans-stay (LeadsTo second link owner) plain is =
+            record { leads = Leads-stay second owner is.leads; link_is = links first (inl refl) ∙ is.link_is }
+        ListMeans-stay (Promotes second owner) plain is = record {
+          leads = Leads-stay (Some second) owner is.leads;
+          alike = links second (inr (second_in second behind is.leads.second_is)) ∙ is.alike ∙ sym (links first (inl refl));
+        }
+        ListMeans-stay (FirstLink link) plain is = links first (inl refl) ∙ is
+        ListMeans-stay (Replaces node) plain is = absurd plain
+        ListMeans-stay (Collected node owners) plain is = record {
+          before = is.before;
+          among = is.among;
+          owners_are = is.owners_are ∙ sym (owners_of-stay is.among.front
+              (λ n i. owner_words n (subst (In n) (sym is.among.split) (In-append_left n is.among.front (node ∷ is.among.rear) i))));
+        }
+        ListMeans-stay (CollectedTo node owners) plain is = record {
+          before = is.before;
+          among = is.among;
+          owners_are = is.owners_are ∙ sym (owners_of-stay (is.among.front ++ node ∷ []) (λ n i.
+              owner_words n (subst (In n) (sym is.among.split) (elim (In-append_cases n is.among.front (node ∷ []) i) [
+                | inl l ↦ In-append_left n is.among.front (node ∷ is.among.rear) l
+                | inr r ↦ elim r [ inl e ↦ rw e (in-middle node is.among.front is.among.rear) | inr none ↦ absurd none ]
+              ]))));
+        }
+
+      IsFound-stay : (place word key node : ℕ) (before : Option ℕ) → IsFound c M G place word key node before
+          → IsFound c M' G' place word key node before
+      IsFound-stay place word key node before means = record {
+        standing = IsStanding-stay place word key node before means.standing;
+        key_is = key-stays place word key node before means.standing ∙ means.key_is;
+      }
+
+      -- the first node of a list that was found is in its bucket
+      found_there : (place word key node : ℕ) (before : Option ℕ) → IsFound c M G place word key node before
+          → In node (bucket_at G place).nodes
+      found_there place word key node before means =
+          let s = means.standing.stands in rw s.split (in-middle node s.front s.rear)
+
+      bound-stays : (place word key first : ℕ) (before : Option ℕ) → IsFound c M G place word key first before
+          → G'.bound key ≡ G.bound key
+      bound-stays place word key first before found =
+          ap G'.bound (sym found.key_is)
+          ∙ lists (word_index env mix place) first found.standing.lock.holder (found_there place word key first before found)
+          ∙ ap G.bound found.key_is
+
+      list_links : (place word key first : ℕ) (before : Option ℕ) (behind : List ℕ) → IsFound c M G place word key first before
+          → G.bound key ≡ first ∷ behind → (node : ℕ) → In node (first ∷ behind) → chain_of M' node ≡ chain_of M node
+      list_links place word key first before behind found bound node i =
+          chains (word_index env mix place) first node found.standing.lock.holder (found_there place word key first before found)
+          (rw found.key_is (rw bound i))
+
+      list_owners : (key first : ℕ) (behind : List ℕ) → G.bound key ≡ first ∷ behind → (node : ℕ) → In node (first ∷ behind)
+          → M' (Node node OwnerWord) ≡ M (Node node OwnerWord)
+      list_owners key first behind bound node i = let is = members.bound key node (rw bound i) in owners node is.0 is.1
+
+      InList-stay : (place word key first : ℕ) (before : Option ℕ) (known : KnownList) → IsPlainList known
+          → IsInList c M G place word key first before known → IsInList c M' G' place word key first before known
+      InList-stay place word key first before known plain means = record {
+        found = IsFound-stay place word key first before means.found;
+        behind = means.behind;
+        bound_to = bound-stays place word key first before means.found ∙ means.bound_to;
+        means = ListMeans-stay first means.behind (list_owners key first means.behind means.bound_to)
+            (list_links place word key first before means.behind means.found means.bound_to) known plain means.means;
+      }
+
+      -- the caller's own node leads on as the first one does, where it has the node still, with its link
+      Replaces-stay : (place word key first : ℕ) (before : Option ℕ) (node : ℕ)
+          → (HasNode c G node → HasNode c G' node × (chain_of M' node ≡ chain_of M node))
+          → IsInList c M G place word key first before (Replaces node) → IsInList c M' G' place word key first before (Replaces node)
+      Replaces-stay place word key first before node own means =
+          let mine = own means.means.has in
+          record {
+            found = IsFound-stay place word key first before means.found;
+            behind = means.behind;
+            bound_to = bound-stays place word key first before means.found ∙ means.bound_to;
+            means = record {
+              has = mine.0;
+              alike = mine.1 ∙ means.means.alike
+                  ∙ sym (list_links place word key first before means.behind means.found means.bound_to first (inl refl));
+            };
+          }
+
+      TakenOut-stay : (node : ℕ) → HasTakenOut c G node → HasTakenOut c G' node
+      TakenOut-stay node means = record { among = means.among; taken = taken node ∙ means.taken }
+
+      pub BucketMeans-stay : (known : KnownBucket) → IsPlain known → BucketMeans c M G known → BucketMeans c M' G' known
+      BucketMeans-stay Unlocked plain means = tt
+      BucketMeans-stay (Locks place word) plain means = HoldsLock-stay place word means
+      BucketMeans-stay (Stands place word key node before) plain means = IsStanding-stay place word key node before means
+      BucketMeans-stay (Differs place word key node before) plain means = record {
         standing = IsStanding-stay place word key node before means.standing;
         differs = λ same. means.differs (sym (key-stays place word key node before means.standing) ∙ same);
       }
-      BucketMeans-stay (Missed place word key) means = record {
+      BucketMeans-stay (Missed place word key) plain means = record {
         lock = HoldsLock-stay place word means.lock;
         none = rw (nodes-stay place word means.lock)
             (NoKey-stay key (word_index env mix place) (bucket_at G place).nodes (λ node i. i) means.none);
       }
-      BucketMeans-stay (Found place word key node before) means = record {
-        standing = IsStanding-stay place word key node before means.standing;
-        key_is = key-stays place word key node before means.standing ∙ means.key_is;
-      }
-      BucketMeans-stay (Member place word key node) means = IsMember-stay place word key node means
-      BucketMeans-stay (Listing place word key node owner) means =
+      BucketMeans-stay (Found place word key node before) plain means = IsFound-stay place word key node before means
+      BucketMeans-stay (Member place word key node) plain means = IsMember-stay place word key node means
+      BucketMeans-stay (Listing place word key node owner) plain means =
           let j = word_index env mix place in
-          let is = members j means.first means.member.there in
+          let is = members.member j means.first means.member.there in
           record {
             first = means.first;
             behind = means.behind;
@@ -372,6 +675,39 @@ module _ (env : Env) (mix : ℕ → ℕ → ℕ → ℕ) where
             listed = means.listed;
             owner_is = ap owner_of (owners means.first is.0 is.1) ∙ means.owner_is;
           }
+      BucketMeans-stay (InList place word key first before known) plain means = InList-stay place word key first before known plain means
+      BucketMeans-stay (TakenOut node) plain means = TakenOut-stay node means
+      BucketMeans-stay (LocksTakenOut place word node) plain means =
+          record { lock = HoldsLock-stay place word means.lock; took = TakenOut-stay node means.took }
+
+      -- the same of what speaks of the caller's own node, where it has that still, with its link
+      pub BucketMeans-own : (known : KnownBucket)
+          → ((node : ℕ) → HasNode c G node → HasNode c G' node × (chain_of M' node ≡ chain_of M node))
+          → BucketMeans c M G known → BucketMeans c M' G' known
+      BucketMeans-own Unlocked own means = tt
+      BucketMeans-own (Locks place word) own means = BucketMeans-stay (Locks place word) tt means
+      BucketMeans-own (Stands place word key node before) own means = BucketMeans-stay (Stands place word key node before) tt means
+      BucketMeans-own (Differs place word key node before) own means = BucketMeans-stay (Differs place word key node before) tt means
+      BucketMeans-own (Missed place word key) own means = BucketMeans-stay (Missed place word key) tt means
+      BucketMeans-own (Found place word key node before) own means = BucketMeans-stay (Found place word key node before) tt means
+      BucketMeans-own (Member place word key node) own means = BucketMeans-stay (Member place word key node) tt means
+      BucketMeans-own (Listing place word key node owner) own means = BucketMeans-stay (Listing place word key node owner) tt means
+      BucketMeans-own (InList place word key first before known) own means = go known means
+        where
+          go : (known : KnownList) → IsInList c M G place word key first before known → IsInList c M' G' place word key first before known
+          go (AtNode node b owner) m = InList-stay place word key first before (AtNode node b owner) tt m
+          go (Differing node owner) m = InList-stay place word key first before (Differing node owner) tt m
+          go (Matching node b owner) m = InList-stay place word key first before (Matching node b owner) tt m
+          go (CutsOut node b link owner) m = InList-stay place word key first before (CutsOut node b link owner) tt m
+          go (Leads second owner) m = InList-stay place word key first before (Leads second owner) tt m
+          go (LeadsTo second link owner) m = InList-stay place word key first before (LeadsTo second link owner) tt m
+          go (Promotes second owner) m = InList-stay place word key first before (Promotes second owner) tt m
+          go (FirstLink link) m = InList-stay place word key first before (FirstLink link) tt m
+          go (Replaces node) m = Replaces-stay place word key first before node (own node) m
+          go (Collected node owners) m = InList-stay place word key first before (Collected node owners) tt m
+          go (CollectedTo node owners) m = InList-stay place word key first before (CollectedTo node owners) tt m
+      BucketMeans-own (TakenOut node) own means = BucketMeans-stay (TakenOut node) tt means
+      BucketMeans-own (LocksTakenOut place word node) own means = BucketMeans-stay (LocksTakenOut place word node) tt means
 
   -- what is known outlives a step of anybody else, and so does that there is nothing more
   module _ (c : ℕ) (M M' : Memory) (G G' : Ghost) (members : MembersUsed G) (rely : Rely c M G M' G') where
@@ -379,7 +715,8 @@ module _ (env : Env) (mix : ℕ → ℕ → ℕ → ℕ) where
     Means-rely known means = record {
       node = NodeMeans-stay c M M' G G' rely.nodes rely.words known.node means.node;
       table = TableMeans-stay c M M' G G' rely.tables known.table means.table;
-      bucket = BucketMeans-stay c M M' G G' members rely.locks rely.lists rely.keys rely.owners known.bucket means.bucket;
+      bucket = BucketMeans-own c M M' G G' members rely.locks rely.lists rely.chains rely.keys rely.owners rely.taken known.bucket
+          (λ node has. (record { mine = rely.nodes node has; among = has.among }, rely.words node has ChainLink)) means.bucket;
     }
 
     pub Only-rely : (has lock second : Option ℕ) (raised : Bool) → HasOnly c G has lock second raised
