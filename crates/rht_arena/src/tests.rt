@@ -2,7 +2,7 @@
 //! `280 + n / 64` is set where node n is free.
 
 use super::{GiveNode, NewNode, TakeNode};
-use rht_words::{Geometry, Next, Op};
+use rht_words::{Geometry, Next, Op, assert_performs};
 use std::test::Fail;
 
 /// All bits of a word.
@@ -63,14 +63,8 @@ fn nodes_are_taken_from_the_lowest_on(rt: HostRuntime) -> Result<(), Fail> {
         (8, &[(Op::load(280), 256)], None),
     ];
     for (nodes, steps, want) in cases {
-        let mut machine = TakeNode::new(Geometry::new(nodes, 4, 1).ok_or("within limits")?);
-        let mut next = Next::Go;
-        for (op, old) in steps {
-            assert_eq!(rt; next, Next::Go, "before {op:?}");
-            assert_eq!(rt; machine.plan(), *op);
-            next = machine.take(*old);
-        }
-        assert_eq!(rt; next, Next::Done(want), "of {nodes}");
+        let geometry = Geometry::new(nodes, 4, 1).ok_or("within limits")?;
+        assert_performs!(rt; TakeNode::new(geometry), steps => want);
     }
     Ok(())
 }
@@ -79,9 +73,8 @@ fn nodes_are_taken_from_the_lowest_on(rt: HostRuntime) -> Result<(), Fail> {
 fn a_node_is_given_back_by_its_bit(rt: HostRuntime) -> Result<(), Fail> {
     let geometry = Geometry::new(65, 4, 1).ok_or("within limits")?;
     for (node, place, mask) in [(0, 280, 1), (5, 280, 32), (64, 281, 1)] {
-        let mut machine = GiveNode::new(geometry, node);
-        assert_eq!(rt; machine.plan(), Op::or(place, mask));
-        assert_eq!(rt; machine.take(0), Next::Done(()));
+        let steps = [(Op::or(place, mask), 0)];
+        assert_performs!(rt; GiveNode::new(geometry, node), &steps => ());
     }
     Ok(())
 }
@@ -114,14 +107,7 @@ fn a_new_node_is_taken_and_filled(rt: HostRuntime) -> Result<(), Fail> {
         (&[(Op::load(280), 0)], None),
     ];
     for (steps, want) in cases {
-        let mut machine = NewNode::new(geometry, 5, 9);
-        let mut next = Next::Go;
-        for (op, old) in steps {
-            assert_eq!(rt; next, Next::Go, "before {op:?}");
-            assert_eq!(rt; machine.plan(), *op);
-            next = machine.take(*old);
-        }
-        assert_eq!(rt; next, Next::Done(want));
+        assert_performs!(rt; NewNode::new(geometry, 5, 9), steps => want);
     }
     Ok(())
 }

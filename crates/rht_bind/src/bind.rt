@@ -150,15 +150,7 @@ impl<M: Mix> Bind<M> {
         requires { IsBindAtIn self.now.env at }
         ensures { result ≡ record self.now { at = at } }
     {
-        Bind {
-            env: self.env,
-            caller: self.caller,
-            port: self.port,
-            owner: self.owner,
-            once: self.once,
-            at,
-            mix: PhantomData,
-        }
+        Bind { at, ..*self }
     }
 
     /// The next operation.

@@ -4,52 +4,75 @@
 use super::Bind;
 use rht_model::Reply;
 use rht_policy::Low;
-use rht_words::{Config, Env, Hash, Kind, Next, Op};
+use rht_words::{Config, Env, Hash, Op, assert_performs};
 use std::process::Abort;
 
-const CONFIG: Config = Config {
-    kind: Kind::Single,
-    nodes: 8,
-    pages: 4,
-    callers: 1,
-    hint: 0,
-    min: 4,
-    max: 0,
-    seed: 1,
-    rewalks: 1,
-    hash: Hash::Low,
-    shrink: false,
-};
+/// The operations that take node 0 and fill it, with what each finds, and behind them the load that
+/// says that the current table is in slot 0.
+fn node_0_filled() -> [(Op, u64); 6] {
+    [
+        (Op::load(280), 1),
+        (Op::and(280, !1), 1),
+        (Op::store(283, 5), 0),
+        (Op::store(284, 9), 0),
+        (Op::store(285, 0), 0),
+        (Op::load(0), 0),
+    ]
+}
 
-/// A bind of port 5 to owner 9 performs these operations, which find these words. The last one has
-/// this reply.
-fn assert_bind(rt: &impl Abort, config: Config, lines: &[(Op, u64)], reply: Reply) {
+/// With at most so many buckets, a bind of port 5 to owner 9 performs these operations and then
+/// those, which find these words. The last one has this reply.
+fn assert_bind(
+    rt: &impl Abort,
+    max: u32,
+    filling: &[(Op, u64)],
+    steps: &[(Op, u64)],
+    reply: Reply,
+) {
+    let config = Config {
+        nodes: 8,
+        pages: 4,
+        max,
+        hash: Hash::Low,
+        ..Config::plain()
+    };
     assert!(rt; config.is_settled(), "at {config:?}");
-    let mut bind = Bind::<Low>::new(Env::new(config), 0, 5, 9, false);
-    for (i, (op, old)) in lines.iter().enumerate() {
-        let next = if i + 1 == lines.len() {
-            Next::Done(reply)
-        } else {
-            Next::Go
-        };
-        assert_eq!(rt; bind.plan(), *op, "at {i} to {reply:?}");
-        assert_eq!(rt; bind.take(*old), next, "at {i} to {reply:?}");
-    }
+    let bind = Bind::<Low>::new(Env::new(config), 0, 5, 9, false);
+    assert_performs!(rt; bind, filling, steps => reply);
+}
+
+#[test]
+fn binds_that_get_no_bucket(rt: HostRuntime) {
+    // The one free node is taken by another caller meanwhile.
+    let no_node = [(Op::load(280), 1), (Op::and(280, !1), 0)];
+    assert_bind(&rt, 0, &no_node, &[], Reply::NoNode);
+    // Four buckets from page 5 on, which there isn't: the bucket is missing.
+    let no_table = [
+        (Op::load(24), 5_122),
+        (Op::load(25), 1),
+        (Op::or(280, 1), 0),
+    ];
+    assert_bind(
+        &rt,
+        0,
+        &node_0_filled(),
+        &no_table,
+        Reply::NoTable { size: 4 },
+    );
 }
 
 #[test]
 fn binds_that_are_not_made(rt: HostRuntime) {
-    // The one free node is taken by another caller meanwhile.
-    let no_node = [(Op::load(280), 1), (Op::and(280, !1), 0)];
-    assert_bind(&rt, CONFIG, &no_node, Reply::NoNode);
     // Node 3 is taken. Node 1 has another key, and node 0 the port.
-    let exists = [
+    let node_3_filled = [
         (Op::load(280), 8),
         (Op::and(280, !8), 8),
         (Op::store(295, 5), 0), // 282 + 4 * 3 + 1
         (Op::store(296, 9), 0),
         (Op::store(297, 0), 0),
         (Op::load(0), 0),
+    ];
+    let exists = [
         (Op::load(24), 6), // 64 buckets from page 0 on
         (Op::load(25), 1),
         (Op::load(319), 5), // 314 + 5, locked
@@ -62,16 +85,9 @@ fn binds_that_are_not_made(rt: HostRuntime) {
         (Op::store(319, 4), 5),
         (Op::or(280, 8), 0),
     ];
-    assert_bind(&rt, CONFIG, &exists, Reply::Exists { owner: 7 });
+    assert_bind(&rt, 0, &node_3_filled, &exists, Reply::Exists { owner: 7 });
     // With at most 4 buckets there may be at most 2 * 4 ports. Port 5 has bucket 1.
-    let config = Config { max: 4, ..CONFIG };
     let too_big = [
-        (Op::load(280), 1),
-        (Op::and(280, !1), 1),
-        (Op::store(283, 5), 0),
-        (Op::store(284, 9), 0),
-        (Op::store(285, 0), 0),
-        (Op::load(0), 0),
         (Op::load(24), 2), // 4 buckets
         (Op::load(25), 1),
         (Op::load(315), 0),
@@ -81,32 +97,19 @@ fn binds_that_are_not_made(rt: HostRuntime) {
         (Op::store(315, 0), 1),
         (Op::or(280, 1), 0),
     ];
-    assert_bind(&rt, config, &too_big, Reply::TooBig { count: 8 });
-    // Four buckets from page 5 on, which there isn't: the bucket is missing.
-    let no_table = [
-        (Op::load(280), 1),
-        (Op::and(280, !1), 1),
-        (Op::store(283, 5), 0),
-        (Op::store(284, 9), 0),
-        (Op::store(285, 0), 0),
-        (Op::load(0), 0),
-        (Op::load(24), 5_122),
-        (Op::load(25), 1),
-        (Op::or(280, 1), 0),
-    ];
-    assert_bind(&rt, CONFIG, &no_table, Reply::NoTable { size: 4 });
+    assert_bind(
+        &rt,
+        4,
+        &node_0_filled(),
+        &too_big,
+        Reply::TooBig { count: 8 },
+    );
 }
 
 #[test]
 fn binds_that_are_made(rt: HostRuntime) {
     // Another port is bound between the two looks at the count, which makes 49 of 64.
     let kick = [
-        (Op::load(280), 1),
-        (Op::and(280, !1), 1),
-        (Op::store(283, 5), 0),
-        (Op::store(284, 9), 0),
-        (Op::store(285, 0), 0),
-        (Op::load(0), 0),
         (Op::load(24), 6),
         (Op::load(25), 1),
         (Op::load(319), 0),
@@ -117,15 +120,9 @@ fn binds_that_are_made(rt: HostRuntime) {
         (Op::add(2, 1), 48),
         (Op::store(319, 2), 1),
     ];
-    assert_bind(&rt, CONFIG, &kick, Reply::Bound { kick: true });
+    assert_bind(&rt, 0, &node_0_filled(), &kick, Reply::Bound { kick: true });
     // The future table is in slot 1. With 97 of 128 it would be too full.
     let future = [
-        (Op::load(280), 1),
-        (Op::and(280, !1), 1),
-        (Op::store(283, 5), 0),
-        (Op::store(284, 9), 0),
-        (Op::store(285, 0), 0),
-        (Op::load(0), 0),
         (Op::load(24), 6),
         (Op::load(25), 1),
         (Op::load(319), 4),
@@ -144,5 +141,11 @@ fn binds_that_are_made(rt: HostRuntime) {
         (Op::add(2, 1), 95),
         (Op::store(447, 2), 1),
     ];
-    assert_bind(&rt, CONFIG, &future, Reply::Bound { kick: false });
+    assert_bind(
+        &rt,
+        0,
+        &node_0_filled(),
+        &future,
+        Reply::Bound { kick: false },
+    );
 }

@@ -3,7 +3,7 @@
 //! word is at 314, the link to n is `2 * n + 2`, and the marker of 314 is 629.
 
 use super::{Lock, Locked, LockedWalk, Probe, Probed, Relink, Seen, Unlock, seen_in};
-use rht_words::{Geometry, Next, Op, Start};
+use rht_words::{Geometry, Op, Start, assert_performs};
 use std::test::Fail;
 
 #[test]
@@ -43,15 +43,9 @@ fn a_lock_waits_and_tries_again(rt: HostRuntime) {
         ),
     ];
     for (steps, want) in cases {
-        let mut machine = Lock::new(314);
-        assert_eq!(rt; machine.place(), 314);
-        let mut next = Next::Go;
-        for (op, old) in steps {
-            assert_eq!(rt; next, Next::Go, "before {op:?}");
-            assert_eq!(rt; machine.plan(), *op);
-            next = machine.take(*old);
-        }
-        assert_eq!(rt; next, Next::Done(want));
+        let lock = Lock::new(314);
+        assert_eq!(rt; lock.place(), 314);
+        assert_performs!(rt; lock, steps => want);
     }
 }
 
@@ -140,16 +134,10 @@ fn a_walk_sees_the_first_node_with_its_key(rt: HostRuntime) -> Result<(), Fail> 
     for (word, nodes, steps, want) in cases {
         assert!(rt; nodes.len() < 4_294_967_296);
         assert_eq!(rt; seen_in(&keys, nodes, 5, 629), want);
-        let Start::Running(mut machine) = LockedWalk::new(geometry, 314, word, 5) else {
+        let Start::Running(walk) = LockedWalk::new(geometry, 314, word, 5) else {
             return Err("a chain with a node".into());
         };
-        let mut next = Next::Go;
-        for (op, old) in steps {
-            assert_eq!(rt; next, Next::Go, "before {op:?}");
-            assert_eq!(rt; machine.plan(), *op);
-            next = machine.take(*old);
-        }
-        assert_eq!(rt; next, Next::Done(want));
+        assert_performs!(rt; walk, steps => want);
     }
     Ok(())
 }
@@ -158,28 +146,27 @@ fn a_walk_sees_the_first_node_with_its_key(rt: HostRuntime) -> Result<(), Fail> 
 fn a_link_is_stored_and_the_bucket_unlocked(rt: HostRuntime) -> Result<(), Fail> {
     let geometry = Geometry::new(8, 4, 1).ok_or("within limits")?;
     // the node before, the link, and the stores in a bucket that had the word 6
-    let cases: [(Option<u32>, u64, &[Op]); 4] = [
-        (None, 2, &[Op::store(314, 2)]),
+    let cases: [(Option<u32>, u64, &[(Op, u64)]); 4] = [
+        (None, 2, &[(Op::store(314, 2), 0)]),
         // the marker is not stored in the bucket's word
-        (None, 629, &[Op::store(314, 0)]),
-        (Some(2), 2, &[Op::store(290, 2), Op::store(314, 6)]),
-        (Some(7), 629, &[Op::store(310, 629), Op::store(314, 6)]),
+        (None, 629, &[(Op::store(314, 0), 0)]),
+        (
+            Some(2),
+            2,
+            &[(Op::store(290, 2), 0), (Op::store(314, 6), 0)],
+        ),
+        (
+            Some(7),
+            629,
+            &[(Op::store(310, 629), 0), (Op::store(314, 6), 0)],
+        ),
     ];
     for (before, link, stores) in cases {
-        let mut machine = Relink::new(geometry, 314, 6, before, link);
-        let mut next = Next::Go;
-        for op in stores {
-            assert_eq!(rt; next, Next::Go, "before {op:?}");
-            assert_eq!(rt; machine.plan(), *op);
-            next = machine.take(0);
-        }
-        assert_eq!(rt; next, Next::Done(()), "at {link}");
+        let relink = Relink::new(geometry, 314, 6, before, link);
+        assert_performs!(rt; relink, stores => ());
     }
-    let mut unlock = Unlock::new(314, 6);
-    assert_eq!(rt;
-        (unlock.plan(), unlock.take(7)),
-        (Op::store(314, 6), Next::Done(()))
-    );
+    let store = [(Op::store(314, 6), 7)];
+    assert_performs!(rt; Unlock::new(314, 6), &store => ());
     Ok(())
 }
 
@@ -234,14 +221,8 @@ fn a_probe_locks_and_walks(rt: HostRuntime) -> Result<(), Fail> {
         ),
     ];
     for (steps, want) in cases {
-        let mut machine = probe_of_a_bucket().ok_or("within limits")?;
-        let mut next = Next::Go;
-        for (op, old) in steps {
-            assert_eq!(rt; next, Next::Go, "before {op:?}");
-            assert_eq!(rt; machine.plan(), *op);
-            next = machine.take(*old);
-        }
-        assert_eq!(rt; next, Next::Done(want));
+        let probe = probe_of_a_bucket().ok_or("within limits")?;
+        assert_performs!(rt; probe, steps => want);
     }
     Ok(())
 }

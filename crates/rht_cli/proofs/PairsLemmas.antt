@@ -9,10 +9,12 @@ use Rattle.std.proofs.lemmas.List.{take-append-drop, take_more, map-append}
 use Rattle.std.proofs.lemmas.List.Elements.{All-from_recursion}
 use Rattle.std.proofs.lemmas.List.Sorted.{IsPartitionedBy-ltb}
 use Rattle.rht_words.proofs.EachElement.{AllByRecursion-append, AllByRecursion-cut, AllByRecursion-take, AllByRecursion-drop, AllByRecursion-weaker}
+use Rattle.rht_model.specs.declared.history.Reply.TheVariants.{Absent, Released, Rebound}
+use Rattle.rht_model.specs.Answers.{release_reply, rebind_reply, owners_released, owners_rebound}
 use Rattle.rht_model.specs.Multimap.{Multimap, with_owners}
 use Rattle.rht_model.specs.Listing.{added}
 use Rattle.rht_model.proofs.PlainPairs.{same_bindings}
-use Rattle.rht_cli.specs.Pairs.{bound_in, listed, HasRisingPorts, IsPlace, IsGap, IsAt}
+use Rattle.rht_cli.specs.Pairs.{bound_in, listed, HasRisingPorts, IsPlace, IsGap, IsAt, IsOthers}
 
 -- pairs of higher ports say nothing of a port
 said_above : (port : ℕ) (pairs : List (ℕ × ℕ)) → AllByRecursion (λ pair. port < pair.0) pairs
@@ -167,6 +169,30 @@ with_owners-same bindings port owners has = same_bindings _ _ (λ other. elim (c
   | inl same ↦ rw (eq-eqb other port same, same) has
   | inr differs ↦ rw (ne_eqb other port differs) refl
 ])
+
+-- a port of this owner is released from it
+pub released-own : (owner : ℕ) (owners : List ℕ) → owners ≡ owner ∷ []
+    → (Released false ≡ release_reply owner owners) × ([] ≡ owners_released owner owners)
+released-own owner owners own = rw (own, eq-eqb owner owner refl) (refl, refl)
+
+-- and rebound
+pub rebound-own : (owner new : ℕ) (owners : List ℕ) → owners ≡ owner ∷ []
+    → (Rebound ≡ rebind_reply owner owners) × (new ∷ [] ≡ owners_rebound owner new owners)
+rebound-own owner new owners own = rw (own, eq-eqb owner owner refl) (refl, refl)
+
+-- where it is bound to nobody or to another one, it is not released
+pub released-others : (owner : ℕ) (owners : List ℕ) → IsOthers owner owners
+    → (Absent ≡ release_reply owner owners) × (owners ≡ owners_released owner owners)
+released-others owner [] others = (refl, refl)
+released-others owner (other ∷ []) others = rw (ne_eqb other owner others) (refl, refl)
+released-others owner (first ∷ second ∷ rest) others = absurd others
+
+-- and not rebound
+pub rebound-others : (owner new : ℕ) (owners : List ℕ) → IsOthers owner owners
+    → (Absent ≡ rebind_reply owner owners) × (owners ≡ owners_rebound owner new owners)
+rebound-others owner new [] others = (refl, refl)
+rebound-others owner new (other ∷ []) others = rw (ne_eqb other owner others) (refl, refl)
+rebound-others owner new (first ∷ second ∷ rest) others = absurd others
 
 -- along rising pairs the ports don't fall
 rising_ports : (pairs : List (ℕ × ℕ)) → HasRisingPorts pairs → (i j : ℕ) (d : ℕ × ℕ) → i ≤ j

@@ -1,8 +1,8 @@
 -- How the form `run` is served: what was read of a script is its input, what its workers leave is a text of its,
 -- and that text was written whole, or where the sink failed a prefix of it.
-use Rattle.std.proofs.Common.{ℕ, List, Option, refl, ap, ◌∙◌, inl}
-use Rattle.std.specs.Io.KnownBytes.{Appends}
-use Rattle.rht_io.specs.Told.{AppendsPrefix}
+use Rattle.std.proofs.Common.{ℕ, List, Option, Result, Ok, Err, refl, ap, ◌∙◌, inl}
+use Rattle.rht_io.specs.declared.source.Failed.{Failed}
+use Rattle.rht_io.specs.Told.{Puts}
 use Rattle.rht_script.specs.declared.script.ReadError.{ReadError}
 use Rattle.rht_script.specs.declared.script.ReadError.TheVariants as reads
 use Rattle.rht_script.specs.Grammar.{Said}
@@ -13,7 +13,7 @@ use Rattle.rht_cli.specs.declared.form.Form.TheVariants.{Run}
 use Rattle.rht_cli.specs.Input.{IsRead}
 use Rattle.rht_cli.specs.Outcomes.{workers_endings, IsOutcome}
 use Rattle.rht_cli.specs.Forms.{IsInputOf, IsTextOf}
-use Rattle.rht_cli.specs.Endings.{IsDone, IsCutShort, FailsBy, of_read_error}
+use Rattle.rht_cli.specs.Endings.{FailsBy, Serves, of_read_error, served_by}
 use Rattle.rht_cli.proofs.ToldInput.{IsFaultOf-read}
 
 -- the text of an outcome is one of the form's
@@ -37,13 +37,13 @@ module _ {S O : Type 0} (left : S → Option (List ℕ)) (sfaults : S → ℕ) (
   FailsBy-read o bytes (reads.Fault fault) read reason = (IsFaultOf-read (left s) (left s') bytes fault read reason, refl)
   FailsBy-read o bytes reads.Memory read reason = inl refl
 
-  module _ (o o' : O) (said : Said) (text : List ℕ) (read : IsInputOf Run (left s) (left s') said) (printed : IsTextOf Run said text) where
-    -- the text was written
-    pub IsDone-written : Appends (held o) (held o') text
-        → IsDone Run (left s) (left s') (held o) (held o')
-    IsDone-written written = record { said = said; text = text; read = read; printed = printed; written = written }
-
-    -- the sink failed, and a prefix of the text was written
-    pub IsCutShort-written : AppendsPrefix (held o) (held o') text
-        → IsCutShort Run (left s) (left s') (held o) (held o')
-    IsCutShort-written written = record { said = said; text = text; read = read; printed = printed; written = written }
+  -- the text was put: it was written, or the sink failed and a prefix of it was
+  pub Serves-put : (o o' : O) (said : Said) (text : List ℕ) (put : Result (Unit {0}) Failed)
+      → IsInputOf Run (left s) (left s') said → IsTextOf Run said text → Puts held ofaults o o' put text
+      → Serves left sfaults held ofaults Run s s' o o' (served_by put)
+  Serves-put o o' said text (Ok done) read printed puts =
+      record { said = said; text = text; read = read; printed = printed; written = puts.whole }
+  Serves-put o o' said text (Err failed) read printed puts = (
+    puts.failed,
+    record { said = said; text = text; read = read; printed = printed; written = puts.prefix },
+  )

@@ -1,6 +1,7 @@
 -- How a run can end: its status, its line, and what was read and written.
 use Rattle.std.specs.Prelude.{◌≡◌, ℕ, ◌==◌, ◌⊎◌, if◌then◌else◌, Option, Result, Ok, Err, List, [], codes}
 use Rattle.std.specs.Io.KnownBytes.{Appends}
+use Rattle.rht_io.specs.declared.source.Failed.{Failed}
 use Rattle.rht_io.specs.Told.{Rose, AppendsPrefix}
 use Rattle.rht_script.specs.declared.script.ReadError.{ReadError}
 use Rattle.rht_script.specs.declared.script.ReadError.TheVariants as reads
@@ -17,6 +18,11 @@ use Rattle.rht_cli.specs.Forms.{IsInputOf, IsFaultOf, IsTextOf}
 abbrev pub of_read_error : ReadError → Failure
 of_read_error (reads.Fault fault) = Fault fault
 of_read_error reads.Memory = Memory
+
+-- how a form is served whose text was put so
+abbrev pub served_by : Result (Unit {0}) Failed → Result (Unit {0}) Failure
+served_by (Ok done) = Ok done
+served_by (Err failed) = Err Write
 
 -- how a run of a form ends that was served or failed so
 abbrev pub ending_of : Result (Unit {0}) Failure → Ending

@@ -1,5 +1,5 @@
 -- The plain list's pairs, each a port and its one owner, as bindings.
-use Rattle.std.specs.Prelude.{◌≡◌, ℕ, ◌+◌, ◌<◌, ◌≤◌, if◌then◌else◌, Option, None, Some, List, [], ◌∷◌, length, map, take, drop}
+use Rattle.std.specs.Prelude.{◌≡◌, ◌≢◌, ℕ, ◌+◌, ◌<◌, ◌≤◌, if◌then◌else◌, Option, None, Some, List, [], ◌∷◌, length, map, take, drop}
 use Rattle.std.specs.List.{AllByRecursion}
 use Rattle.rht_model.specs.Multimap.{Port, same_port, IsBefore, Multimap}
 
@@ -36,6 +36,17 @@ pub record IsAt (pairs : List (Port × ℕ)) (port : Port) (place owner : ℕ) :
 abbrev pub IsFoundAt : List (Port × ℕ) → Port → ℕ → Option ℕ → Type 0
 IsFoundAt pairs port place None = IsGap pairs port place
 IsFoundAt pairs port place (Some owner) = IsAt pairs port place owner
+
+-- nobody is the owner, or another one alone
+abbrev pub IsOthers : ℕ → List ℕ → Type 0
+IsOthers owner [] = Unit {0}
+IsOthers owner (other ∷ []) = other ≢ owner
+IsOthers owner (first ∷ second ∷ others) = ⊥
+
+-- the place of the port's pair where this is its owner, or none where it has no owner or another one
+abbrev pub IsOwnedAt : List (Port × ℕ) → Port → ℕ → Option ℕ → Type 0
+IsOwnedAt pairs port owner None = IsOthers owner (bound_in pairs port)
+IsOwnedAt pairs port owner (Some place) = IsAt pairs port place owner
 
 -- the pairs as a closed table lists them: each port with the list of its one owner
 abbrev pub listed : List (Port × ℕ) → List (Port × List ℕ)

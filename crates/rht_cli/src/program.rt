@@ -11,7 +11,7 @@ ghost use Rattle.rht_script.specs.Text.{fault_line};
 ghost use Rattle.rht_cli.specs.declared.form.Form.{Form};
 ghost use Rattle.rht_cli.specs.declared.form.Form.TheVariants.{Run};
 ghost use Rattle.rht_cli.specs.Forms.{form_of, HasForm, IsInputOf, IsFaultOf};
-ghost use Rattle.rht_cli.specs.Endings.{IsDone, IsCutShort, Serves, ending_of, status_line};
+ghost use Rattle.rht_cli.specs.Endings.{IsDone, IsCutShort, Serves, served_by, ending_of, status_line};
 
 use crate::ending::{Ending, Failure};
 use crate::form::Form;
@@ -131,7 +131,14 @@ fn serve_run<R: Threads + Wait + Sync, S: Source, O: Sink, G: Gate + Sync>(
     let bytes = read_all(alloc, source)?;
     let script = read(alloc, &bytes)?;
     let outcome = run_workers(rt, alloc, &script, gate)?;
-    match write_run(out, &outcome.replies, &outcome.closed) {
+    served_by(write_run(out, &outcome.replies, &outcome.closed))
+}
+
+/// How a form is served whose text was put so.
+fn served_by(put: Result<(), Failed>) -> Result<(), Failure>
+    ensures { result ≡ served_by put }
+{
+    match put {
         Ok(()) => Ok(()),
         Err(Failed) => Err(Failure::Write),
     }

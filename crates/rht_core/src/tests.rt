@@ -3,31 +3,17 @@
 //! 282 + 4 * n on, and the pages from 314 on. With the low hash port 5 has bucket 5 of 64, which is
 //! at 314 + 5 = 319, and the marker of that place is 2 * 319 + 1 = 639.
 
-ghost use Rattle.std.specs.Prelude.{◌≡◌, true};
+ghost use Rattle.std.specs.Prelude.{◌≡◌, ◌<◌, true};
 ghost use Rattle.rht_words.specs.declared.config.Kind.{Kind};
-ghost use Rattle.rht_core.specs.Runs.{IsBuiltFor};
+ghost use Rattle.rht_core.specs.Runs.{IsBuiltEvent};
 
 use super::{Event, State, Stepped, owners_of};
 use rht_model::{Call, Reply};
 use rht_policy::{Lookup3, Low, Mix};
 use rht_words::{Config, Geometry, Hash, Kind, Op, Port};
-use std::alloc::{AllocError, Global};
+use std::alloc::Global;
 use std::process::Abort;
 use std::test::Fail;
-
-const SMALL: Config = Config {
-    kind: Kind::Single,
-    nodes: 8,
-    pages: 4,
-    callers: 1,
-    hint: 0,
-    min: 4,
-    max: 0,
-    seed: 1,
-    rewalks: 1,
-    hash: Hash::Low,
-    shrink: false,
-};
 
 const NOTHING: Stepped = Stepped {
     did: None,
@@ -38,6 +24,58 @@ const BOUND: Reply = Reply::Bound { kick: false };
 
 const FIND_5: Call = Call::Find { port: 5 };
 
+/// What a run is told next, and what is wanted of it.
+#[derive(Clone, Copy)]
+enum Row<'a> {
+    /// An event without an operation.
+    Quiet {
+        event: Event,
+    },
+    /// One more caller, where the word of enrolled callers says this.
+    Enrolls {
+        old: u64,
+    },
+    /// A caller performs operations, which find these words. The last one may end its call.
+    Steps {
+        caller: u32,
+        lines: &'a [(Op, u64)],
+        end: Option<(Call, Reply)>,
+    },
+    /// The first caller is given a call, which runs to this reply.
+    Replies {
+        call: Call,
+        reply: Reply,
+    },
+}
+
+fn enrolls(old: u64) -> Row<'static> {
+    Row::Enrolls { old }
+}
+
+fn begins(caller: u32, call: Call) -> Row<'static> {
+    let event = Event::Begin { caller, call };
+    Row::Quiet { event }
+}
+
+fn idles(caller: u32) -> Row<'static> {
+    let event = Event::Step { caller };
+    Row::Quiet { event }
+}
+
+fn steps<'a>(caller: u32, lines: &'a [(Op, u64)]) -> Row<'a> {
+    let end = None;
+    Row::Steps { caller, lines, end }
+}
+
+fn ends<'a>(caller: u32, lines: &'a [(Op, u64)], call: Call, reply: Reply) -> Row<'a> {
+    let end = Some((call, reply));
+    Row::Steps { caller, lines, end }
+}
+
+fn replies(call: Call, reply: Reply) -> Row<'static> {
+    Row::Replies { call, reply }
+}
+
 fn bind(port: Port, owner: u32) -> Call {
     Call::Bind {
         port,
@@ -46,152 +84,217 @@ fn bind(port: Port, owner: u32) -> Call {
     }
 }
 
-fn load(place: usize) -> Op {
-    Op::Load { place }
-}
-
-fn store(place: usize, value: u64) -> Op {
-    Op::Store { place, value }
-}
-
-fn exchange(place: usize, old: u64, new: u64) -> Op {
-    Op::Exchange { place, old, new }
-}
-
-fn add(place: usize, by: u64) -> Op {
-    Op::Add { place, by }
-}
-
-/// Clears one bit of the node map.
-fn taken(bit: u64) -> Op {
-    Op::And {
-        place: 280,
-        mask: !bit,
+/// A table of 8 nodes and 4 pages for one caller, with the low hash.
+fn small() -> Config {
+    Config {
+        nodes: 8,
+        pages: 4,
+        hash: Hash::Low,
+        ..Config::plain()
     }
 }
 
-/// A table of this config, in which all callers have enrolled.
-fn opened<M: Mix>(rt: &impl Abort, alloc: Global, config: Config) -> Result<State<M>, AllocError> {
-    assert!(rt; config.is_settled(), "at {config:?}");
-    let mut state = State::open(alloc, config)?;
-    for _ in 0..config.callers {
-        state.step(Event::Enroll);
+/// The same for two callers.
+fn for_two() -> Config {
+    Config {
+        callers: 2,
+        ..small()
     }
-    Ok(state)
 }
 
-/// Whether the call may begin in every table.
-fn is_built(call: Call) -> bool
-    ensures { result ≡ true → (kind : Kind) → IsBuiltFor kind call }
+/// The steps of a bind up to the load of the current table: of these free nodes it takes this one.
+fn filled(free: u64, node: usize, port: u64, owner: u64) -> [(Op, u64); 6]
+    requires { node < 8 }
 {
-    !matches!(call, Call::Rebind { .. })
+    let start = 282 + 4 * node;
+    [
+        (Op::load(280), free),
+        (Op::and(280, !(1 << node)), free),
+        (Op::store(start + 1, port), 0),
+        (Op::store(start + 2, owner), 0),
+        (Op::store(start + 3, 0), 0),
+        (Op::load(0), 0),
+    ]
 }
 
-/// A caller is given a call, without an operation.
-fn begin<M: Mix>(rt: &impl Abort, state: &mut State<M>, caller: u32, call: Call) {
-    assert!(rt; is_built(call), "at {call:?}");
-    let stepped = state.step(Event::Begin { caller, call });
-    assert_eq!(rt; stepped, NOTHING, "at {call:?}");
+/// The loads of the first table's shape and of its seed. It has 64 buckets.
+fn located(seed: u64) -> [(Op, u64); 2] {
+    [(Op::load(24), 6), (Op::load(25), seed)]
 }
 
-/// A caller performs these operations, which find these words. The last one has this reply.
-fn assert_steps<M: Mix>(
-    rt: &impl Abort,
-    state: &mut State<M>,
-    caller: u32,
-    lines: &[(Op, u64)],
-    reply: Option<Reply>,
-) {
-    for (i, line) in lines.iter().enumerate() {
-        let want = Stepped {
-            did: Some(*line),
-            reply: if i + 1 == lines.len() { reply } else { None },
-        };
-        assert_eq!(rt; state.step(Event::Step { caller }), want, "at {i}");
+/// The steps of a bind that links node 0 into the empty bucket of port 5, in an empty table.
+fn linked() -> [(Op, u64); 5] {
+    [
+        (Op::load(26), 0),
+        (Op::load(2), 0),
+        (Op::store(282, 639), 0),
+        (Op::add(2, 1), 0),
+        (Op::store(319, 2), 1),
+    ]
+}
+
+/// A run so far: the table, and the ports that it has bound, with their owners.
+#[derive(Drop)]
+struct Run<M: Mix> {
+    state: State<M>,
+    geometry: Geometry,
+    bound: Vec<(Port, u32)>,
+}
+
+/// Whether the event may happen in every table.
+fn is_built(event: Event) -> bool
+    ensures { result ≡ true → (kind : Kind) → IsBuiltEvent kind event }
+{
+    !matches!(
+        event,
+        Event::Begin {
+            call: Call::Rebind { .. },
+            ..
+        }
+    )
+}
+
+/// The words stand for the owners of these ports, which are those of the binds that were made.
+fn assert_bound<M: Mix>(rt: &impl Abort, alloc: Global, run: &Run<M>) -> Result<(), Fail> {
+    let words = run.state.words();
+    assert_eq!(rt; words.len(), run.geometry.words());
+    for port in [0, 1, 5, 6, 7, 8, 69] {
+        let mut want = Vec::new(alloc);
+        for (at, owner) in &run.bound {
+            if *at == port {
+                want.push(*owner)?;
+            }
+        }
+        let owners = owners_of(alloc, run.geometry, words, port)?;
+        assert_eq!(rt; owners.as_slice(), want.as_slice(), "at {port}");
     }
-}
-
-/// The words stand for these owners of the port.
-fn assert_owners<M: Mix>(
-    rt: &impl Abort,
-    alloc: Global,
-    state: &State<M>,
-    port: Port,
-    want: &[u32],
-) -> Result<(), Fail> {
-    let geometry = Geometry::new(8, 4, 1).ok_or("within limits")?;
-    let words = state.words();
-    assert_eq!(rt; words.len(), geometry.words());
-    let owners = owners_of(alloc, geometry, words, port)?;
-    assert_eq!(rt; owners.as_slice(), want, "at {port}");
     Ok(())
 }
 
-/// Runs a caller's call to its reply.
-fn reply_to<M: Mix>(
+/// The call has had this reply.
+fn ended<M: Mix>(run: &mut Run<M>, call: Call, reply: Reply) -> Result<(), Fail> {
+    if let (Call::Bind { port, owner, .. }, Reply::Bound { .. }) = (call, reply) {
+        run.bound.push((port, owner))?;
+    }
+    Ok(())
+}
+
+/// The event does this.
+fn assert_event<M: Mix>(rt: &impl Abort, run: &mut Run<M>, event: Event, want: Stepped) {
+    assert!(rt; is_built(event), "at {event:?}");
+    assert_eq!(rt; run.state.step(event), want, "at {event:?}");
+}
+
+/// The caller's steps perform these operations, and the last one ends the call, where that is said.
+fn assert_steps<M: Mix>(
     rt: &impl Abort,
-    state: &mut State<M>,
+    alloc: Global,
+    run: &mut Run<M>,
     caller: u32,
-    call: Call,
-) -> Option<Reply> {
-    begin(rt, state, caller, call);
-    for _ in 0..100 {
-        let stepped = state.step(Event::Step { caller });
-        if stepped.reply.is_some() {
-            return stepped.reply;
+    lines: &[(Op, u64)],
+    end: Option<(Call, Reply)>,
+) -> Result<(), Fail> {
+    for (i, line) in lines.iter().enumerate() {
+        assert_bound(rt, alloc, run)?;
+        let did = Some(*line);
+        let event = Event::Step { caller };
+        match end {
+            Some((call, reply)) if i + 1 == lines.len() => {
+                let want = Stepped {
+                    did,
+                    reply: Some(reply),
+                };
+                assert_event(rt, run, event, want);
+                ended(run, call, reply)?;
+            }
+            _ => assert_event(rt, run, event, Stepped { did, reply: None }),
         }
     }
-    None
+    assert_bound(rt, alloc, run)
+}
+
+/// The first caller's call runs to this reply.
+fn assert_reply<M: Mix>(
+    rt: &impl Abort,
+    alloc: Global,
+    run: &mut Run<M>,
+    call: Call,
+    reply: Reply,
+) -> Result<(), Fail> {
+    assert_event(rt, run, Event::Begin { caller: 0, call }, NOTHING);
+    for _ in 0..100 {
+        let stepped = run.state.step(Event::Step { caller: 0 });
+        if let Some(found) = stepped.reply {
+            assert_eq!(rt; found, reply, "at {call:?}");
+            ended(run, call, reply)?;
+            return assert_bound(rt, alloc, run);
+        }
+    }
+    Err("a call without a reply".into())
+}
+
+/// A table is opened with this config, and then the rows are as they say.
+fn assert_run<M: Mix>(
+    rt: &impl Abort,
+    alloc: Global,
+    config: Config,
+    rows: &[Row<'_>],
+) -> Result<(), Fail> {
+    assert!(rt; config.is_settled(), "at {config:?}");
+    let state = State::<M>::open(alloc, config)?;
+    assert!(rt; state.local(0).is_idle());
+    assert!(rt; state.local(0).owners().is_empty());
+    assert!(rt; state.local(0).pairs().is_empty());
+    let mut run = Run {
+        state,
+        geometry: Geometry::new(config.nodes, config.pages, config.callers).ok_or("settled")?,
+        bound: Vec::new(alloc),
+    };
+    for row in rows {
+        match *row {
+            Row::Quiet { event } => assert_event(rt, &mut run, event, NOTHING),
+            Row::Enrolls { old } => {
+                let did = Some((Op::add(4, 1), old));
+                let want = Stepped { did, reply: None };
+                assert_event(rt, &mut run, Event::Enroll, want);
+            }
+            Row::Steps { caller, lines, end } => {
+                assert_steps(rt, alloc, &mut run, caller, lines, end)?;
+            }
+            Row::Replies { call, reply } => assert_reply(rt, alloc, &mut run, call, reply)?,
+        }
+    }
+    Ok(())
 }
 
 #[test]
 fn one_bind_and_one_find(rt: HostRuntime) -> Result<(), Fail> {
-    let bind_lines = [
-        (load(280), 255),
-        (taken(1), 255),
-        (store(283, 5), 0),
-        (store(284, 9), 0),
-        (store(285, 0), 0),
-        (load(0), 0),
-        (load(24), 6),
-        (load(25), 1),
-        (load(319), 0),
-        (exchange(319, 0, 1), 0),
-        (load(26), 0),
-        (load(2), 0),
-        (store(282, 639), 0),
-        (add(2, 1), 0),
-        (store(319, 2), 1),
+    let locked = [(Op::load(319), 0), (Op::exchange(319, 0, 1), 0)];
+    let found = [
+        (Op::load(319), 2),
+        (Op::exchange(319, 2, 3), 2),
+        (Op::load(283), 5),
+        (Op::load(284), 9),
+        (Op::load(285), 0),
+        (Op::store(319, 2), 3),
     ];
-    let find_lines = [
-        (load(0), 0),
-        (load(24), 6),
-        (load(25), 1),
-        (load(319), 2),
-        (exchange(319, 2, 3), 2),
-        (load(283), 5),
-        (load(284), 9),
-        (load(285), 0),
-        (store(319, 2), 3),
-    ];
-    let mut state = opened::<Low>(&rt, rt.alloc(), SMALL)?;
-    begin(&rt, &mut state, 0, bind(5, 9));
-    for line in &bind_lines[..14] {
-        assert_owners(&rt, rt.alloc(), &state, 5, &[])?;
-        assert_steps(&rt, &mut state, 0, &[*line], None);
-    }
-    assert_owners(&rt, rt.alloc(), &state, 5, &[])?;
-    assert_steps(&rt, &mut state, 0, &bind_lines[14..], Some(BOUND));
-    assert_owners(&rt, rt.alloc(), &state, 5, &[9])?;
-    begin(&rt, &mut state, 0, FIND_5);
-    for line in &find_lines[..8] {
-        assert_steps(&rt, &mut state, 0, &[*line], None);
-        assert_owners(&rt, rt.alloc(), &state, 5, &[9])?;
-    }
-    let found = Reply::Found { owner: 9 };
-    assert_steps(&rt, &mut state, 0, &find_lines[8..], Some(found));
-    assert_owners(&rt, rt.alloc(), &state, 5, &[9])?;
-    Ok(())
+    assert_run::<Low>(
+        &rt,
+        rt.alloc(),
+        small(),
+        &[
+            enrolls(0),
+            begins(0, bind(5, 9)),
+            steps(0, &filled(255, 0, 5, 9)),
+            steps(0, &located(1)),
+            steps(0, &locked),
+            ends(0, &linked(), bind(5, 9), BOUND),
+            begins(0, FIND_5),
+            steps(0, &[(Op::load(0), 0)]),
+            steps(0, &located(1)),
+            ends(0, &found, FIND_5, Reply::Found { owner: 9 }),
+        ],
+    )
 }
 
 #[test]
@@ -211,168 +314,147 @@ fn calls_without_a_machine_are_not_begun(rt: HostRuntime) -> Result<(), Fail> {
         (Kind::Single, Call::Count),
     ];
     for (kind, call) in cases {
-        let config = Config { kind, ..SMALL };
-        let mut state = opened::<Low>(&rt, rt.alloc(), config)?;
-        begin(&rt, &mut state, 0, call);
-        let stepped = state.step(Event::Step { caller: 0 });
-        assert_eq!(rt; stepped, NOTHING, "at {call:?}");
+        let config = Config { kind, ..small() };
+        let rows = [enrolls(0), begins(0, call), idles(0)];
+        assert_run::<Low>(&rt, rt.alloc(), config, &rows)?;
     }
     Ok(())
 }
 
 #[test]
 fn only_enrolled_and_idle_callers_begin(rt: HostRuntime) -> Result<(), Fail> {
-    let config = Config {
-        callers: 2,
-        ..SMALL
-    };
-    assert!(rt; config.is_settled());
-    let mut state = State::<Low>::open(rt.alloc(), config)?;
-    assert!(rt; state.local(0).is_idle());
-    assert!(rt; state.local(0).owners().is_empty());
-    assert!(rt; state.local(0).pairs().is_empty());
-    let enroll = |old| Stepped {
-        did: Some((add(4, 1), old)),
-        reply: None,
-    };
-    // Nobody has enrolled; then caller 0 has, then caller 1; a third one finds no room.
-    for enrolled in 0..4 {
-        begin(&rt, &mut state, enrolled, FIND_5);
-        let stepped = state.step(Event::Step { caller: enrolled });
-        assert_eq!(rt; stepped, NOTHING, "at {enrolled}");
-        let stepped = state.step(Event::Enroll);
-        assert_eq!(rt; stepped, enroll(u64::from(enrolled)), "at {enrolled}");
-    }
-    for caller in 2..4 {
-        begin(&rt, &mut state, caller, FIND_5);
-        assert_eq!(rt; state.step(Event::Step { caller }), NOTHING, "at {caller}");
-    }
-    // An idle caller has no operation. A busy one keeps the call that it has.
-    assert_eq!(rt; state.step(Event::Step { caller: 1 }), NOTHING);
-    begin(&rt, &mut state, 1, FIND_5);
-    begin(&rt, &mut state, 1, bind(5, 9));
-    assert_steps(&rt, &mut state, 1, &[(load(0), 0)], None);
-    begin(&rt, &mut state, 1, bind(5, 9));
-    assert_steps(&rt, &mut state, 1, &[(load(24), 6)], None);
-    Ok(())
+    assert_run::<Low>(
+        &rt,
+        rt.alloc(),
+        for_two(),
+        &[
+            // Nobody has enrolled; then caller 0 has, then caller 1; a third one finds no room.
+            begins(0, FIND_5),
+            idles(0),
+            enrolls(0),
+            begins(1, FIND_5),
+            idles(1),
+            enrolls(1),
+            begins(2, FIND_5),
+            idles(2),
+            enrolls(2),
+            begins(3, FIND_5),
+            idles(3),
+            enrolls(3),
+            begins(2, FIND_5),
+            idles(2),
+            begins(3, FIND_5),
+            idles(3),
+            // An idle caller has no operation. A busy one keeps the call that it has.
+            idles(1),
+            begins(1, FIND_5),
+            begins(1, bind(5, 9)),
+            steps(1, &[(Op::load(0), 0)]),
+            begins(1, bind(5, 9)),
+            steps(1, &[(Op::load(24), 6)]),
+        ],
+    )
 }
 
 #[test]
 fn two_callers_at_one_bucket(rt: HostRuntime) -> Result<(), Fail> {
-    let config = Config {
-        callers: 2,
-        ..SMALL
-    };
-    let alloc = rt.alloc();
-    let mut state = opened::<Low>(&rt, alloc, config)?;
-    begin(&rt, &mut state, 0, bind(5, 9));
-    let lines = [
-        (load(280), 255),
-        (taken(1), 255),
-        (store(283, 5), 0),
-        (store(284, 9), 0),
-        (store(285, 0), 0),
-        (load(0), 0),
-        (load(24), 6),
-        (load(25), 1),
-        (load(319), 0),
+    let waits = [
+        (Op::exchange(319, 0, 1), 1),
+        (Op::load(319), 1),
+        (Op::load(319), 1),
     ];
-    assert_steps(&rt, &mut state, 0, &lines, None);
-    // Port 69 has bucket 69 - 64 too.
-    begin(&rt, &mut state, 1, bind(69, 7));
-    let lines = [
-        (load(280), 254),
-        (taken(2), 254),
-        (store(287, 69), 0),
-        (store(288, 7), 0),
-        (store(289, 0), 0),
-        (load(0), 0),
-        (load(24), 6),
-        (load(25), 1),
-        (load(319), 0),
+    let linked_before = [
+        (Op::load(319), 2),
+        (Op::exchange(319, 2, 3), 2),
+        (Op::load(283), 5),
+        (Op::load(282), 639),
+        (Op::load(26), 0),
+        (Op::load(2), 1),
+        (Op::store(286, 2), 0),
+        (Op::add(2, 1), 1),
+        (Op::store(319, 4), 3),
     ];
-    assert_steps(&rt, &mut state, 1, &lines, None);
-    // Both found the bucket unlocked. Caller 0 locks it, and caller 1 waits.
-    assert_steps(&rt, &mut state, 0, &[(exchange(319, 0, 1), 0)], None);
-    let lines = [(exchange(319, 0, 1), 1), (load(319), 1), (load(319), 1)];
-    assert_steps(&rt, &mut state, 1, &lines, None);
-    let lines = [
-        (load(26), 0),
-        (load(2), 0),
-        (store(282, 639), 0),
-        (add(2, 1), 0),
-        (store(319, 2), 1),
+    let exists = [
+        (Op::load(319), 4),
+        (Op::exchange(319, 4, 5), 4),
+        (Op::load(287), 69),
+        (Op::load(286), 2),
+        (Op::load(283), 5),
+        (Op::load(284), 9),
+        (Op::store(319, 4), 5),
+        (Op::or(280, 4), 248),
     ];
-    assert_steps(&rt, &mut state, 0, &lines, Some(BOUND));
-    assert_owners(&rt, alloc, &state, 5, &[9])?;
-    assert_owners(&rt, alloc, &state, 69, &[])?;
-    let lines = [
-        (load(319), 2),
-        (exchange(319, 2, 3), 2),
-        (load(283), 5),
-        (load(282), 639),
-        (load(26), 0),
-        (load(2), 1),
-        (store(286, 2), 0),
-        (add(2, 1), 1),
-        (store(319, 4), 3),
-    ];
-    assert_steps(&rt, &mut state, 1, &lines, Some(BOUND));
-    assert_owners(&rt, alloc, &state, 5, &[9])?;
-    assert_owners(&rt, alloc, &state, 69, &[7])?;
-    // The chain is node 1, then node 0. A third node is taken and given back.
-    begin(&rt, &mut state, 0, bind(5, 3));
-    let lines = [
-        (load(280), 252),
-        (taken(4), 252),
-        (store(291, 5), 0),
-        (store(292, 3), 0),
-        (store(293, 0), 0),
-        (load(0), 0),
-        (load(24), 6),
-        (load(25), 1),
-        (load(319), 4),
-        (exchange(319, 4, 5), 4),
-        (load(287), 69),
-        (load(286), 2),
-        (load(283), 5),
-        (load(284), 9),
-        (store(319, 4), 5),
-        (
-            Op::Or {
-                place: 280,
-                mask: 4,
-            },
-            248,
-        ),
-    ];
-    let exists = Reply::Exists { owner: 9 };
-    assert_steps(&rt, &mut state, 0, &lines, Some(exists));
-    assert_owners(&rt, alloc, &state, 5, &[9])?;
-    Ok(())
+    assert_run::<Low>(
+        &rt,
+        rt.alloc(),
+        for_two(),
+        &[
+            enrolls(0),
+            enrolls(1),
+            begins(0, bind(5, 9)),
+            steps(0, &filled(255, 0, 5, 9)),
+            steps(0, &located(1)),
+            steps(0, &[(Op::load(319), 0)]),
+            // Port 69 has bucket 69 - 64 too.
+            begins(1, bind(69, 7)),
+            steps(1, &filled(254, 1, 69, 7)),
+            steps(1, &located(1)),
+            steps(1, &[(Op::load(319), 0)]),
+            // Both found the bucket unlocked. Caller 0 locks it, and caller 1 waits.
+            steps(0, &[(Op::exchange(319, 0, 1), 0)]),
+            steps(1, &waits),
+            ends(0, &linked(), bind(5, 9), BOUND),
+            ends(1, &linked_before, bind(69, 7), BOUND),
+            // The chain is node 1, then node 0. A third node is taken and given back.
+            begins(0, bind(5, 3)),
+            steps(0, &filled(252, 2, 5, 3)),
+            steps(0, &located(1)),
+            ends(0, &exists, bind(5, 3), Reply::Exists { owner: 9 }),
+        ],
+    )
 }
 
 #[test]
 fn full_tables_refuse(rt: HostRuntime) -> Result<(), Fail> {
-    let config = Config { nodes: 1, ..SMALL };
-    let mut state = opened::<Low>(&rt, rt.alloc(), config)?;
-    assert_eq!(rt; reply_to(&rt, &mut state, 0, bind(5, 9)), Some(BOUND));
-    begin(&rt, &mut state, 0, bind(6, 9));
-    assert_steps(&rt, &mut state, 0, &[(load(280), 0)], Some(Reply::NoNode));
+    let config = Config {
+        nodes: 1,
+        ..small()
+    };
+    let no_node = [(Op::load(280), 0)];
+    assert_run::<Low>(
+        &rt,
+        rt.alloc(),
+        config,
+        &[
+            enrolls(0),
+            replies(bind(5, 9), BOUND),
+            begins(0, bind(6, 9)),
+            ends(0, &no_node, bind(6, 9), Reply::NoNode),
+        ],
+    )?;
     // A table that may have at most 4 buckets may hold 2 * 4 ports.
     let config = Config {
         nodes: 16,
         max: 4,
-        ..SMALL
+        ..small()
     };
-    let mut state = opened::<Low>(&rt, rt.alloc(), config)?;
-    for port in 0..8 {
-        let reply = reply_to(&rt, &mut state, 0, bind(port, 9));
-        assert_eq!(rt; reply, Some(BOUND), "at {port}");
-    }
-    let reply = reply_to(&rt, &mut state, 0, bind(8, 9));
-    assert_eq!(rt; reply, Some(Reply::TooBig { count: 8 }));
-    Ok(())
+    assert_run::<Low>(
+        &rt,
+        rt.alloc(),
+        config,
+        &[
+            enrolls(0),
+            replies(bind(0, 9), BOUND),
+            replies(bind(1, 9), BOUND),
+            replies(bind(2, 9), BOUND),
+            replies(bind(3, 9), BOUND),
+            replies(bind(4, 9), BOUND),
+            replies(bind(5, 9), BOUND),
+            replies(bind(6, 9), BOUND),
+            replies(bind(7, 9), BOUND),
+            replies(bind(8, 9), Reply::TooBig { count: 8 }),
+        ],
+    )
 }
 
 #[test]
@@ -380,42 +462,38 @@ fn a_table_with_the_mixed_hash(rt: HostRuntime) -> Result<(), Fail> {
     let config = Config {
         hash: Hash::Mix,
         seed: 0,
-        ..SMALL
+        ..small()
     };
-    let mut state = opened::<Lookup3>(&rt, rt.alloc(), config)?;
     // The published mix of port 1 with the seed 0 is 0x40f3f2be, which is 62 modulo 64: the bucket
     // is at 314 + 62 = 376.
-    assert_eq!(rt; reply_to(&rt, &mut state, 0, bind(1, 8)), Some(BOUND));
-    let lines = [
-        (load(0), 0),
-        (load(24), 6),
-        (load(25), 0),
-        (load(376), 2),
-        (exchange(376, 2, 3), 2),
-        (load(283), 1),
-        (load(284), 8),
-        (load(285), 0),
-        (store(376, 2), 3),
+    let found = [
+        (Op::load(376), 2),
+        (Op::exchange(376, 2, 3), 2),
+        (Op::load(283), 1),
+        (Op::load(284), 8),
+        (Op::load(285), 0),
+        (Op::store(376, 2), 3),
     ];
-    begin(&rt, &mut state, 0, Call::Find { port: 1 });
-    let found = Reply::Found { owner: 8 };
-    assert_steps(&rt, &mut state, 0, &lines, Some(found));
-    let cases = [
-        (bind(5, 9), BOUND),
-        (bind(69, 7), BOUND),
-        (bind(5, 3), Reply::Exists { owner: 9 }),
-        (FIND_5, Reply::Found { owner: 9 }),
-        (Call::Find { port: 69 }, Reply::Found { owner: 7 }),
-        (Call::Find { port: 6 }, Reply::Missing),
-    ];
-    for (call, want) in cases {
-        let reply = reply_to(&rt, &mut state, 0, call);
-        assert_eq!(rt; reply, Some(want), "at {call:?}");
-    }
-    assert_owners(&rt, rt.alloc(), &state, 5, &[9])?;
-    assert_owners(&rt, rt.alloc(), &state, 69, &[7])?;
-    assert_owners(&rt, rt.alloc(), &state, 6, &[])?;
-    Ok(())
+    let find = Call::Find { port: 1 };
+    assert_run::<Lookup3>(
+        &rt,
+        rt.alloc(),
+        config,
+        &[
+            enrolls(0),
+            replies(bind(1, 8), BOUND),
+            begins(0, find),
+            steps(0, &[(Op::load(0), 0)]),
+            steps(0, &located(0)),
+            ends(0, &found, find, Reply::Found { owner: 8 }),
+            replies(bind(5, 9), BOUND),
+            replies(bind(69, 7), BOUND),
+            replies(bind(5, 3), Reply::Exists { owner: 9 }),
+            replies(FIND_5, Reply::Found { owner: 9 }),
+            replies(Call::Find { port: 69 }, Reply::Found { owner: 7 }),
+            replies(Call::Find { port: 6 }, Reply::Missing),
+        ],
+    )
 }
 
 #[test]

@@ -105,13 +105,7 @@ impl<M: Mix> Find<M> {
         requires { IsFindAtIn self.now.env at }
         ensures { result ≡ record self.now { at = at } }
     {
-        Find {
-            env: self.env,
-            caller: self.caller,
-            port: self.port,
-            at,
-            mix: PhantomData,
-        }
+        Find { at, ..*self }
     }
 
     /// The operation of its state.

@@ -13,6 +13,7 @@ use Rattle.rht_words.specs.declared.config.Hash.{Hash}
 use Rattle.rht_words.specs.declared.config.Hash.TheVariants.{Mix, Low}
 use Rattle.rht_words.specs.declared.limits.Limits.{Limits}
 use Rattle.rht_words.specs.Limits.{IsWithinLimits, hint_limits, min_limits, page_limits, seed_limits, rewalk_limits, page_words}
+use Rattle.rht_words.specs.Settled.{plain_config}
 use Rattle.rht_words.specs.Sizes.{first_size}
 use Rattle.rht_model.specs.declared.history.Call.{Call}
 use Rattle.rht_model.specs.declared.history.Call.TheVariants.{Bind, Find, All as ListAll, Release, Rebind, Walk, Work, Tidy, Count}
@@ -22,7 +23,7 @@ use Rattle.rht_script.specs.declared.options.Setting.TheVariants.{Hint, Min, Pag
 use Rattle.rht_script.specs.declared.options.Options.{Options}
 use Rattle.rht_script.specs.Spelling.{◌>>=◌, lines_of, is_skipped, number_of}
 use Rattle.rht_script.specs.Grammar.{most_lines, words_at, commands_from, said_from}
-use Rattle.rht_script.specs.TableLines.{no_options, with_setting, setting_of, options_from, plain_config, configured, has_room, rounded_min, config_of, table_of}
+use Rattle.rht_script.specs.TableLines.{no_options, with_setting, setting_of, options_from, configured, has_room, rounded_min, config_of, table_of}
 use Rattle.rht_script.specs.CommandLines.{port_limits, owner_limits, worker_limits, bind_of, find_of, release_of, call_of, command_of}
 use Rattle.rht_script.specs.Plain.{IsSayableConfig, IsSayableCall, IsSayableCommand, hint_words, hash_word, table_words, call_words, command_words, plain_line, plain_script}
 use Rattle.rht_script.specs.Laws.{ReadsBack}

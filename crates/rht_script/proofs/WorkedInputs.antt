@@ -3,6 +3,7 @@
 -- The tests of `read` have what would take too long here: too many lines, too many bytes, and what competes with these.
 -- They are examples to read beside the definitions; nothing cites them.
 use Rattle.std.proofs.Common.{◌≡◌, ℕ, ◌+◌, true, false, Ok, Err, List, [], ◌∷◌, ◌++◌, map, replicate, codes, refl}
+use Rattle.rht_words.specs.Settled.{plain_config}
 use Rattle.rht_words.specs.Sizes.{powers, rounded_up}
 use Rattle.rht_words.specs.declared.config.Config.{Config}
 use Rattle.rht_words.specs.declared.config.Hash.TheVariants.{Low}
@@ -11,7 +12,7 @@ use Rattle.rht_model.specs.declared.history.Call.TheVariants.{Bind, Find, Releas
 use Rattle.rht_script.specs.declared.cause.Cause.{Cause}
 use Rattle.rht_script.specs.declared.cause.Cause.TheVariants.{NoTableLine, UnknownWord, BadNumber, OutOfRange, LineTooLong, OptionsDisagree}
 use Rattle.rht_script.specs.Spelling.{lines_of, words_of, number_of}
-use Rattle.rht_script.specs.TableLines.{setting_of, plain_config, configured, config_of, table_of}
+use Rattle.rht_script.specs.TableLines.{setting_of, configured, config_of, table_of}
 use Rattle.rht_script.specs.CommandLines.{bind_of, find_of, release_of, call_of, command_of}
 use Rattle.rht_script.specs.Grammar.{most_in_line, fault_at, reading_of}
 

@@ -6,11 +6,10 @@ use Rattle.rht_words.specs.declared.config.Config.{Config}
 use Rattle.rht_words.specs.declared.config.Hash.{Hash}
 use Rattle.rht_words.specs.declared.config.Hash.TheVariants.{Mix, Low}
 use Rattle.rht_words.specs.Limits.{IsWithinLimits}
-use Rattle.rht_words.specs.Settled.{IsSettled}
+use Rattle.rht_words.specs.Settled.{IsSettled, plain_config}
 use Rattle.rht_model.specs.declared.history.Call.{Call}
 use Rattle.rht_model.specs.declared.history.Call.TheVariants.{Bind, Find, All as ListAll, Release, Rebind, Walk, Work, Tidy, Count}
 use Rattle.rht_script.specs.Grammar.{most_lines, Said}
-use Rattle.rht_script.specs.TableLines.{plain_config}
 use Rattle.rht_script.specs.CommandLines.{port_limits, owner_limits, worker_limits}
 
 -- ---- what can be said

@@ -2,11 +2,11 @@
 -- Words are read from left to right; that the options agree is asked of the whole line, last.
 use Rattle.std.specs.Prelude.{ℕ, ◌*◌, Bool, true, false, ◌||◌, nat_le, max, if◌then◌else◌, None, Some, is_some, unwrap_or, Result, Ok, Err, List, [], ◌∷◌, codes}
 use Rattle.rht_words.specs.declared.config.Config.{Config}
-use Rattle.rht_words.specs.declared.config.Kind.TheVariants.{Single}
 use Rattle.rht_words.specs.declared.config.Hash.{Hash}
 use Rattle.rht_words.specs.declared.config.Hash.TheVariants.{Mix, Low}
 use Rattle.rht_words.specs.declared.limits.Limits.{Limits}
 use Rattle.rht_words.specs.Limits.{hint_limits, min_limits, page_limits, seed_limits, rewalk_limits, least_size, page_words}
+use Rattle.rht_words.specs.Settled.{plain_config}
 use Rattle.rht_words.specs.Sizes.{rounded_up, first_size}
 use Rattle.rht_script.specs.declared.script.TableLine.{TableLine}
 use Rattle.rht_script.specs.declared.cause.Cause.{Cause}
@@ -68,22 +68,6 @@ options_from options (name ∷ value ∷ words) = do
 -- the least size, rounded up to a power of two from the least number of buckets on
 abbrev pub rounded_min : ℕ → ℕ
 rounded_min number = max least_size (rounded_up number)
-
--- what a table is opened with where no option is set
-abbrev pub plain_config : Config
-plain_config = record {
-  kind = Single;
-  nodes = 4096;
-  pages = 256;
-  callers = 1;
-  hint = 0;
-  min = 4;
-  max = 0;
-  seed = 1;
-  rewalks = 8;
-  hash = Mix;
-  shrink = false;
-}
 
 -- what a table with these options is opened with
 unfoldable pub configured : Options → Config

@@ -8,22 +8,7 @@ ghost use Rattle.rht_script.specs.Allowed.{AreAllowed, IsAllowed};
 
 use crate::cause::Cause;
 use rht_words::limits::{LEAST_SIZE, PAGE_WORDS};
-use rht_words::{Config, Hash, Kind, rounded_up};
-
-/// What a table is opened with where no option is set.
-pub(crate) const PLAIN: Config = Config {
-    kind: Kind::Single,
-    nodes: 4096,
-    pages: 256,
-    callers: 1,
-    hint: 0,
-    min: 4,
-    max: 0,
-    seed: 1,
-    rewalks: 8,
-    hash: Hash::Mix,
-    shrink: false,
-};
+use rht_words::{Config, Hash, rounded_up};
 
 /// An option with its value.
 #[derive(Clone, Copy, Debug, PartialEq, Eq)]
@@ -125,14 +110,15 @@ impl Options {
         requires { AreAllowed self }
         ensures { result ≡ configured self }
     {
+        let plain = Config::plain();
         Config {
-            pages: self.pages.unwrap_or(PLAIN.pages),
-            hint: self.hint.unwrap_or(PLAIN.hint),
-            min: rounded_up(self.min.unwrap_or(PLAIN.min)).max(LEAST_SIZE),
-            seed: self.seed.unwrap_or(PLAIN.seed),
-            rewalks: self.rewalks.unwrap_or(PLAIN.rewalks),
-            hash: self.hash.unwrap_or(PLAIN.hash),
-            ..PLAIN
+            pages: self.pages.unwrap_or(plain.pages),
+            hint: self.hint.unwrap_or(plain.hint),
+            min: rounded_up(self.min.unwrap_or(plain.min)).max(LEAST_SIZE),
+            seed: self.seed.unwrap_or(plain.seed),
+            rewalks: self.rewalks.unwrap_or(plain.rewalks),
+            hash: self.hash.unwrap_or(plain.hash),
+            ..plain
         }
     }
 }

@@ -4,7 +4,7 @@ pub mod Ports
 pub mod Sizes
 -- within which limits the numbers of a geometry lie
 pub mod Limits
--- which configs a table can be opened with
+-- which configs a table can be opened with, and the plain one
 pub mod Settled
 -- the seven operations on one word
 pub mod Operations

@@ -52,8 +52,28 @@ pub struct Config {
 impl Config {
     ghost use Rattle.std.specs.Prelude.{◌≡◌, ◌≤◌, ◌↔◌, IsTrue};
     ghost use Rattle.rht_words.specs.Limits.{hint_limits};
-    ghost use Rattle.rht_words.specs.Settled.{IsSettled};
+    ghost use Rattle.rht_words.specs.Settled.{IsSettled, plain_config};
     ghost use Rattle.rht_words.specs.Sizes.{first_size};
+
+    /// What a table is opened with where nothing is said of it, as by a table line without options.
+    pub fn plain() -> Config
+        ensures value { result ≡ plain_config }
+        ensures settled { IsSettled result }
+    {
+        Config {
+            kind: Kind::Single,
+            nodes: 4_096,
+            pages: 256,
+            callers: 1,
+            hint: 0,
+            min: 4,
+            max: 0,
+            seed: 1,
+            rewalks: 8,
+            hash: Hash::Mix,
+            shrink: false,
+        }
+    }
 
     /// Whether a table can be opened with the config: each number is within its limits, `min` and
     /// `max` are rounded and agree, and the first table fits the pages.

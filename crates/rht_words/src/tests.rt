@@ -1,9 +1,9 @@
 //! Numbers worked out by hand from the layout and the formulas.
 
 use super::{
-    Config, Env, Geometry, Hash, Kind, Op, Shape, apply, entry_of, future_of, head_of, is_locked,
-    link_of, marker_of, node_of, opening_word, page_of, places, plain_of, port_of, rounded_down,
-    rounded_up, slot_of, starting_size, unlocked, word_of,
+    Config, Env, Geometry, Op, Shape, apply, entry_of, future_of, head_of, is_locked, link_of,
+    marker_of, node_of, opening_word, page_of, places, plain_of, port_of, rounded_down, rounded_up,
+    slot_of, starting_size, unlocked, word_of,
 };
 use std::test::Fail;
 
@@ -268,25 +268,11 @@ fn a_table_starts_so_large(rt: HostRuntime) {
             hint,
             min: least,
             max: greatest,
-            ..SMALLEST
+            ..Config::plain()
         };
         assert_eq!(rt; config.starting_size(), want, "at {config:?}");
     }
 }
-
-const SMALLEST: Config = Config {
-    kind: Kind::Single,
-    nodes: 1,
-    pages: 4,
-    callers: 1,
-    hint: 0,
-    min: 4,
-    max: 0,
-    seed: 1,
-    rewalks: 8,
-    hash: Hash::Mix,
-    shrink: false,
-};
 
 #[test]
 fn configs_are_settled_within_their_limits(rt: HostRuntime) {
@@ -308,7 +294,7 @@ fn configs_are_settled_within_their_limits(rt: HostRuntime) {
             pages,
             callers,
             rewalks,
-            ..SMALLEST
+            ..Config::plain()
         };
         assert_eq!(rt; config.is_settled(), want, "at {config:?}");
     }
@@ -352,7 +338,7 @@ fn configs_are_settled_with_rounded_sizes(rt: HostRuntime) {
             hint,
             min,
             max,
-            ..SMALLEST
+            ..Config::plain()
         };
         assert_eq!(rt; config.is_settled(), want, "at {config:?}");
     }
@@ -447,7 +433,7 @@ fn a_table_opens_with_one_empty_table(rt: HostRuntime) {
             hint,
             min,
             seed: 77,
-            ..SMALLEST
+            ..Config::plain()
         };
         assert!(rt; config.is_settled(), "at {config:?}");
         let env = Env::new(config);

@@ -7,7 +7,7 @@ ghost use Rattle.rht_model.specs.declared.history.Call.TheVariants.{All};
 ghost use Rattle.rht_model.specs.Answers.{answer_of, bindings_after, bind_reply, find_reply, release_reply, rebind_reply, owners_bound, owners_released, owners_rebound};
 ghost use Rattle.rht_model.specs.Multimap.{with_owners};
 ghost use Rattle.rht_model.specs.Listing.{Lists};
-ghost use Rattle.rht_cli.specs.Pairs.{bound_in, HasRisingPorts, IsPlace, IsFoundAt};
+ghost use Rattle.rht_cli.specs.Pairs.{bound_in, HasRisingPorts, IsPlace, IsFoundAt, IsOwnedAt};
 ghost use Rattle.rht_cli.specs.Outcomes.{told};
 
 use rht_model::{Bindings, Call, Replies, Reply};
@@ -99,13 +99,12 @@ impl PlainList {
             (owners_released owner (bound_in self.old port)) }
         ensures length { length self.new ≤ length self.old }
     {
-        let (place, bound) = self.search(port);
-        match bound {
-            Some(first) if first == owner => {
+        match self.place_of_owner(port, owner) {
+            Some(place) => {
                 self.pairs.remove(place);
                 Reply::Released { kick: false }
             }
-            _ => Reply::Absent,
+            None => Reply::Absent,
         }
     }
 
@@ -115,13 +114,23 @@ impl PlainList {
             (owners_rebound owner new (bound_in self.old port)) }
         ensures length { length self.new ≤ length self.old }
     {
-        let (place, bound) = self.search(port);
-        match bound {
-            Some(only) if only == owner => {
+        match self.place_of_owner(port, owner) {
+            Some(place) => {
                 self.pairs[place] = (port, new);
                 Reply::Rebound
             }
-            _ => Reply::Absent,
+            None => Reply::Absent,
+        }
+    }
+
+    /// The place of the port's pair, where the port is bound to this owner.
+    fn place_of_owner(&self, port: Port, owner: u32) -> Option<usize>
+        ensures { IsOwnedAt self.now port owner result }
+    {
+        let (place, bound) = self.search(port);
+        match bound {
+            Some(first) if first == owner => Some(place),
+            _ => None,
         }
     }
 

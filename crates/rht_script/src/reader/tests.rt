@@ -2,25 +2,10 @@
 //! from the rules of scripts, and stands beside it.
 
 use super::*;
-use rht_words::{Config, Kind};
+use rht_words::Config;
 use std::alloc::AllocError;
 use std::process::Abort;
 use std::test::Fail;
-
-/// What a table line without options stands for.
-const PLAIN: Config = Config {
-    kind: Kind::Single,
-    nodes: 4096,
-    pages: 256,
-    callers: 1,
-    hint: 0,
-    min: 4,
-    max: 0,
-    seed: 1,
-    rewalks: 8,
-    hash: Hash::Mix,
-    shrink: false,
-};
 
 /// Inputs that are no script: the line of the first fault, and its cause.
 const FAULTS: &[(&str, u32, u8)] = &[
@@ -187,92 +172,92 @@ fn finds_the_first_fault(rt: HostRuntime) {
     }
 }
 
-/// Scripts: the config that each stands for, and its commands.
-const SCRIPTS: &[(&str, Config, &[(u32, Call)])] = &[
-    ("table single", PLAIN, &[]),
-    ("table single\n", PLAIN, &[]),
-    ("\n# a\n \t\r\n\ttable  single \r\n#b\n\n", PLAIN, &[]),
-    ("  # caf\u{e9}\ntable single\n#", PLAIN, &[]),
-    ("table single hint 96\n", Config { hint: 96, ..PLAIN }, &[]),
-    ("table single min 1\n", PLAIN, &[]),
-    ("table single min 3\n", PLAIN, &[]),
-    ("table single min 5\n", Config { min: 8, ..PLAIN }, &[]),
-    ("table single min 128\n", Config { min: 128, ..PLAIN }, &[]),
-    ("table single min 129\n", Config { min: 256, ..PLAIN }, &[]),
-    ("table single hash mix\n", PLAIN, &[]),
-    (
-        "table single hash low rewalks 0 seed 0 pages 4\n",
-        Config {
-            hash: Hash::Low,
-            rewalks: 0,
-            seed: 0,
-            pages: 4,
-            ..PLAIN
-        },
-        &[],
-    ),
-    // The first table has 131,072 buckets, which is 2,048 pages.
-    (
-        "table single seed 4294967295 hint 65536 rewalks 255 min 65536 pages 2048\n",
-        Config {
-            seed: 4294967295,
-            hint: 65536,
-            rewalks: 255,
-            min: 65536,
-            pages: 2048,
-            ..PLAIN
-        },
-        &[],
-    ),
-    // 192 * 4 / 3 = 256 buckets have room in 4 pages.
-    (
-        "table single pages 00004 hint 192 min 256\n",
-        Config {
-            pages: 4,
-            hint: 192,
-            min: 256,
-            ..PLAIN
-        },
-        &[],
-    ),
-    (
-        "table single\n1 bind 80 100\n1 find 80\n1 release 80 100",
-        PLAIN,
-        &[
-            (
-                1,
-                Call::Bind {
-                    port: 80,
-                    owner: 100,
-                    once: false,
-                },
-            ),
-            (1, Call::Find { port: 80 }),
-            (
-                1,
-                Call::Release {
-                    port: 80,
-                    owner: 100,
-                },
-            ),
-        ],
-    ),
-    (
-        "table single\r\n\r\n\t1 find\t0 \r\n# b\n00000000000000000001 find 00000000004294967295\n\n",
-        PLAIN,
-        &[
-            (1, Call::Find { port: 0 }),
-            (1, Call::Find { port: 4294967295 }),
-        ],
-    ),
-];
-
 #[test]
 fn reads_scripts(rt: HostRuntime) -> Result<(), Fail> {
-    for (text, config, commands) in SCRIPTS {
+    let plain = Config::plain();
+    // the input, the config that it stands for, and its commands
+    let scripts: [(&str, Config, &[(u32, Call)]); 16] = [
+        ("table single", plain, &[]),
+        ("table single\n", plain, &[]),
+        ("\n# a\n \t\r\n\ttable  single \r\n#b\n\n", plain, &[]),
+        ("  # caf\u{e9}\ntable single\n#", plain, &[]),
+        ("table single hint 96\n", Config { hint: 96, ..plain }, &[]),
+        ("table single min 1\n", plain, &[]),
+        ("table single min 3\n", plain, &[]),
+        ("table single min 5\n", Config { min: 8, ..plain }, &[]),
+        ("table single min 128\n", Config { min: 128, ..plain }, &[]),
+        ("table single min 129\n", Config { min: 256, ..plain }, &[]),
+        ("table single hash mix\n", plain, &[]),
+        (
+            "table single hash low rewalks 0 seed 0 pages 4\n",
+            Config {
+                hash: Hash::Low,
+                rewalks: 0,
+                seed: 0,
+                pages: 4,
+                ..plain
+            },
+            &[],
+        ),
+        // The first table has 131,072 buckets, which is 2,048 pages.
+        (
+            "table single seed 4294967295 hint 65536 rewalks 255 min 65536 pages 2048\n",
+            Config {
+                seed: 4294967295,
+                hint: 65536,
+                rewalks: 255,
+                min: 65536,
+                pages: 2048,
+                ..plain
+            },
+            &[],
+        ),
+        // 192 * 4 / 3 = 256 buckets have room in 4 pages.
+        (
+            "table single pages 00004 hint 192 min 256\n",
+            Config {
+                pages: 4,
+                hint: 192,
+                min: 256,
+                ..plain
+            },
+            &[],
+        ),
+        (
+            "table single\n1 bind 80 100\n1 find 80\n1 release 80 100",
+            plain,
+            &[
+                (
+                    1,
+                    Call::Bind {
+                        port: 80,
+                        owner: 100,
+                        once: false,
+                    },
+                ),
+                (1, Call::Find { port: 80 }),
+                (
+                    1,
+                    Call::Release {
+                        port: 80,
+                        owner: 100,
+                    },
+                ),
+            ],
+        ),
+        (
+            "table single\r\n\r\n\t1 find\t0 \r\n# b\n00000000000000000001 find 00000000004294967295\n\n",
+            plain,
+            &[
+                (1, Call::Find { port: 0 }),
+                (1, Call::Find { port: 4294967295 }),
+            ],
+        ),
+    ];
+    for (text, config, commands) in scripts {
         let script = read(rt.alloc(), text.as_bytes()).ok().ok_or("refused")?;
-        assert_eq!(rt; script.config, *config, "at {text:?}");
-        assert_eq!(rt; script.commands.as_slice(), *commands, "at {text:?}");
+        assert_eq!(rt; script.config, config, "at {text:?}");
+        assert_eq!(rt; script.commands.as_slice(), commands, "at {text:?}");
         assert!(rt; script.auto && script.schedule.is_empty());
         assert!(rt; script.is_sound(), "at {text:?}");
     }

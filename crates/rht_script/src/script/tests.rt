@@ -2,22 +2,7 @@
 
 use super::*;
 use rht_model::Cursor;
-use rht_words::Hash;
 use std::test::Fail;
-
-const CONFIG: Config = Config {
-    kind: Kind::Single,
-    nodes: 16,
-    pages: 4,
-    callers: 2,
-    hint: 0,
-    min: 4,
-    max: 0,
-    seed: 1,
-    rewalks: 8,
-    hash: Hash::Mix,
-    shrink: false,
-};
 
 /// A cursor, which no script's walk has.
 const CURSOR: Cursor = Cursor {
@@ -27,9 +12,15 @@ const CURSOR: Cursor = Cursor {
 
 #[test]
 fn tells_scripts_that_can_be_run(rt: HostRuntime) -> Result<(), Fail> {
+    let config = Config {
+        nodes: 16,
+        pages: 4,
+        callers: 2,
+        ..Config::plain()
+    };
     let listed = Config {
         kind: Kind::Listed,
-        ..CONFIG
+        ..config
     };
     let find = Call::Find { port: 80 };
     let rebind = Call::Rebind {
@@ -42,23 +33,23 @@ fn tells_scripts_that_can_be_run(rt: HostRuntime) -> Result<(), Fail> {
         number: 1_000_000,
     };
     let cases = [
-        (CONFIG, (2, find), last, true),
+        (config, (2, find), last, true),
         // The config isn't settled: 5 is no power of two, and 4 pages have 256 buckets.
-        (Config { min: 5, ..CONFIG }, (2, find), last, false),
+        (Config { min: 5, ..config }, (2, find), last, false),
         (
             Config {
                 hint: 300,
-                ..CONFIG
+                ..config
             },
             (2, find),
             last,
             false,
         ),
         // Workers are counted from 1, and there are two.
-        (CONFIG, (0, find), last, false),
-        (CONFIG, (3, find), last, false),
+        (config, (0, find), last, false),
+        (config, (3, find), last, false),
         (
-            CONFIG,
+            config,
             (2, find),
             Sched::Step {
                 worker: 0,
@@ -67,7 +58,7 @@ fn tells_scripts_that_can_be_run(rt: HostRuntime) -> Result<(), Fail> {
             false,
         ),
         (
-            CONFIG,
+            config,
             (2, find),
             Sched::Skip {
                 worker: 3,
@@ -76,7 +67,7 @@ fn tells_scripts_that_can_be_run(rt: HostRuntime) -> Result<(), Fail> {
             false,
         ),
         (
-            CONFIG,
+            config,
             (2, find),
             Sched::Step {
                 worker: 1,
@@ -85,7 +76,7 @@ fn tells_scripts_that_can_be_run(rt: HostRuntime) -> Result<(), Fail> {
             false,
         ),
         (
-            CONFIG,
+            config,
             (2, find),
             Sched::Skip {
                 worker: 1,
@@ -95,7 +86,7 @@ fn tells_scripts_that_can_be_run(rt: HostRuntime) -> Result<(), Fail> {
         ),
         // A bind is tried until it ends, a rebind needs one owner each, and a walk goes over all.
         (
-            CONFIG,
+            config,
             (
                 1,
                 Call::Bind {
@@ -107,10 +98,10 @@ fn tells_scripts_that_can_be_run(rt: HostRuntime) -> Result<(), Fail> {
             last,
             false,
         ),
-        (CONFIG, (1, rebind), last, true),
+        (config, (1, rebind), last, true),
         (listed, (1, rebind), last, false),
         (
-            CONFIG,
+            config,
             (
                 1,
                 Call::Walk {
@@ -122,7 +113,7 @@ fn tells_scripts_that_can_be_run(rt: HostRuntime) -> Result<(), Fail> {
             true,
         ),
         (
-            CONFIG,
+            config,
             (
                 1,
                 Call::Walk {
@@ -134,7 +125,7 @@ fn tells_scripts_that_can_be_run(rt: HostRuntime) -> Result<(), Fail> {
             false,
         ),
         (
-            CONFIG,
+            config,
             (
                 1,
                 Call::Walk {

@@ -7,7 +7,7 @@ use Rattle.rht_model.specs.Endings.{Ending}
 use Rattle.rht_cli.specs.declared.form.Form.TheVariants.{Run}
 use Rattle.rht_cli.specs.Forms.{IsTextOf}
 use Rattle.rht_cli.proofs.ToldInput.{IsInputOf-read}
-use Rattle.rht_cli.proofs.ServedScripts.{FailsBy-read, IsDone-written, IsCutShort-written, IsTextOf-outcome}
+use Rattle.rht_cli.proofs.ServedScripts.{FailsBy-read, Serves-put, IsTextOf-outcome}
 use Rattle.rht_cli.proofs.program.serve_run.Goals as goal
 
 pub returns-in_err-script : goal.returns-in_err-script
@@ -18,23 +18,6 @@ returns-in_err-script g c =
     rw (p.1, p.2)
     (FailsBy-read g.S.Source.left g.S.Source.faults g.O.Sink.held g.O.Sink.faults c.args.source.now c.read_all.new.source c.args.out.now
     c.in_ok-bytes.bytes.items error c.in_ok-bytes.ensures.read reason)
-
-pub returns-in-Ok : goal.returns-in-Ok
-returns-in-Ok g c =
-    let outcome = c.in_ok-outcome.outcome in
-    let pairs = outcome.closed.bindings.pairs in
-    let text = run_text c.deref-2.result.now pairs outcome.closed.size in
-    let said = said_by c.in_ok-script.script in
-    let bytes = c.in_ok-bytes.bytes.items in
-    let script : reading_of bytes ≡ Ok said =
-    subst (λ (l : List ℕ). reading_of l ≡ Ok said) c.deref.ensures.value c.in_ok-script.ensures.script in
-    let left = g.S.Source.left in
-    let read = IsInputOf-read (left c.args.source.now) (left c.read_all.new.source) bytes said c.in_ok-bytes.ensures.read script in
-    let printed : IsTextOf Run said text =
-    subst (λ (workers : List (List Ending)). IsTextOf Run said (run_text workers pairs outcome.closed.size)) (sym c.deref-2.ensures.value)
-    (IsTextOf-outcome said outcome c.in_ok-outcome.ensures) in
-    IsDone-written left g.S.Source.faults g.O.Sink.held g.O.Sink.faults c.args.source.now c.read_all.new.source c.args.out.now c.write_run.new.out
-    said text read printed c.in-Ok.ensures.whole
 
 pub returns : goal.returns
 returns g c =
@@ -49,8 +32,7 @@ returns g c =
     let read = IsInputOf-read (left c.args.source.now) (left c.read_all.new.source) bytes said c.in_ok-bytes.ensures.read script in
     let printed : IsTextOf Run said text =
     subst (λ (workers : List (List Ending)). IsTextOf Run said (run_text workers pairs outcome.closed.size)) (sym c.deref-2.ensures.value)
-    (IsTextOf-outcome said outcome c.in_ok-outcome.ensures) in (
-      c.in-Err.ensures.failed,
-      IsCutShort-written left g.S.Source.faults g.O.Sink.held g.O.Sink.faults c.args.source.now c.read_all.new.source c.args.out.now c.write_run.new.out
-          said text read printed c.in-Err.ensures.prefix,
-    )
+    (IsTextOf-outcome said outcome c.in_ok-outcome.ensures) in
+    rw c.served_by.ensures
+    (Serves-put left g.S.Source.faults g.O.Sink.held g.O.Sink.faults c.args.source.now c.read_all.new.source c.args.out.now c.write_run.new.out
+    said text c.write_run.result read printed c.write_run.ensures)
