@@ -33,7 +33,8 @@ use Rattle.rht_core.proofs.Counting.RaisedNodes.{OwnNode, few_used}
 
 module _ (env : Env) (mix : ℕ → ℕ → ℕ → ℕ) (c : ℕ) (M : Memory) (G : Ghost) where
   -- a bind that has raised the count has the node that it links next
-  bind-own : (port owner : ℕ) (once : Bool) (state : BindAt) → JobKnows env mix c (binds port owner once state) M G
+  bind-own : (port owner : ℕ) (once : Bool) (state : BindAt)
+      → JobKnows env mix c (binds port owner once state) M G
       → (held_of_bind state).raised ≡ true → OwnNode env G c
   bind-own port owner once (at.Filling new) knows is = absurd (cc)
   bind-own port owner once (at.CurrentTable node) knows is = absurd (cc)
@@ -65,7 +66,8 @@ module _ (env : Env) (mix : ℕ → ℕ → ℕ → ℕ) (c : ℕ) (M : Memory) 
   raised-own (Some job) knows is = job-own job knows (let raised = knows.knowing.only.raising in cc)
 
 -- what holds of each event holds of the one at a number
-each_event : (P : Event → Type 0) (events : List Event) (i : ℕ) (event : Event) → slice_get events i ≡ Some event
+each_event : (P : Event → Type 0) (events : List Event) (i : ℕ) (event : Event)
+    → slice_get events i ≡ Some event
     → AllByRecursion P events → P event
 each_event P events i event is all =
     subst P (get_or_from_slice_get events i event event is)
@@ -76,12 +78,14 @@ module _ (env : Env) (mix : ℕ → ℕ → ℕ → ℕ) (M : Type 0) where
   pub count_few : (core : Core M) (G : Ghost) → Inv env mix M core G
       → word_at env.geometry core.words PortCount ≤ env.geometry.nodes
   count_few core G inv =
-      let few = few_used env mix G (λ c is. raised-own env mix c (mem env mix core.words) G (job_of (local_of core c).doing) (inv.each c) is) in
+      let few = few_used env mix G (λ c is. raised-own env mix c (mem env mix core.words) G
+      (job_of (local_of core c).doing) (inv.each c) is) in
       let counted = inv.whole.counted in
       omega (arith, few, counted)
 
   -- the words after an operation that a caller plans
-  stepped_words : (core : Core M) (c : ℕ) (op : Op) (plan : Option Op) → planned_in core c ≡ plan → plan ≡ Some op
+  stepped_words : (core : Core M) (c : ℕ) (op : Op) (plan : Option Op) → planned_in core c ≡ plan
+      → plan ≡ Some op
       → (core_step mix core (Step c)).0.words ≡ applied core.words op
   stepped_words core c op plan is some = rw (is ∙ some) refl
 
@@ -93,17 +97,23 @@ module _ (env : Env) (mix : ℕ → ℕ → ℕ → ℕ) (M : Type 0) where
       let before = take did.index events in
       let more = before ++ Step c ∷ [] in
       let core : Core M = (run_of mix env before).core in
-      let admitted_event : IsAdmittedEvent env.config.kind (Step c) = each_event (IsAdmittedEvent env.config.kind) events did.index (Step c) is.event admitted in
+      let admitted_event : IsAdmittedEvent env.config.kind (Step c) = each_event
+      (IsAdmittedEvent env.config.kind) events did.index (Step c) is.event admitted in
       let admitted_before = taken (IsAdmittedEvent env.config.kind) did.index events admitted in
       let has = has_inv env mix M before admitted_before in
-      let later = has_inv env mix M more (AllByRecursion-push (IsAdmittedEvent env.config.kind) before (Step c) admitted_before admitted_event) in
+      let later = has_inv env mix M more (AllByRecursion-push (IsAdmittedEvent env.config.kind) before
+      (Step c) admitted_before admitted_event) in
       let words : (run_of {M = M} mix env more).core.words ≡ applied core.words did.op =
-      ap (λ (w : World M). w.core.words) (run_of-push M mix env before (Step c)) ∙ stepped_words core c did.op (planned_in core c) refl is.plan in
+      ap (λ (w : World M). w.core.words) (run_of-push M mix env before (Step c))
+      ∙ stepped_words core c did.op (planned_in core c) refl is.plan in
       let op = Add (place_of env.geometry PortCount) 1 in
       let write = is_write env.geometry core.words PortCount op has.all.stays.all_words tt refl in
-      let found : word_at env.geometry core.words PortCount ≡ did.old = sym (ap (old_of core.words) adds) ∙ is.found in
-      let raised : word_at env.geometry (run_of {M = M} mix env more).core.words PortCount ≡ (did.old + 1) % 2 ^ 64 =
-      ap (λ w. word_at env.geometry w PortCount) (words ∙ ap (applied core.words) adds) ∙ write.same ∙ ap (λ old. (old + 1) % 2 ^ 64) found in
+      let found : word_at env.geometry core.words PortCount ≡ did.old = sym (ap (old_of core.words) adds)
+      ∙ is.found in
+      let raised : word_at env.geometry (run_of {M = M} mix env more).core.words
+      PortCount ≡ (did.old + 1) % 2 ^ 64 =
+      ap (λ w. word_at env.geometry w PortCount) (words ∙ ap (applied core.words) adds) ∙ write.same
+      ∙ ap (λ old. (old + 1) % 2 ^ 64) found in
       let few = count_few core has.ghost has.inv in
       let few_later = count_few (run_of {M = M} mix env more).core later.ghost later.inv in
       let most = env.geometry.within.nodes_within.1 in

@@ -56,7 +56,13 @@ module _ (env : Env) (mix : ℕ → ℕ → ℕ → ℕ) (words : List ℕ) (G :
       → AllByRecursion (IsBoundBelow (suc n)) ports
   further n ports all =
       AllByRecursion-weaker (IsBoundBelow n) (IsBoundBelow (suc n))
-      (λ port is. let below = is.below in record { node = is.node; below = omega arith; behind = is.behind; bound_to = is.bound_to }) ports all
+      (λ port is. let below = is.below in record {
+        node = is.node;
+        below = omega arith;
+        behind =
+            is.behind;
+        bound_to = is.bound_to;
+      }) ports all
 
   -- the port of one more node in a chain is another one, since it is bound to that node
   one_more : (n : ℕ) → PortsBelow n → (in_it : Bool) → in_chain n ≡ in_it → PortsBelow (suc n)
@@ -68,13 +74,17 @@ module _ (env : Env) (mix : ℕ → ℕ → ℕ → ℕ) (words : List ℕ) (G :
         ports = port ∷ before.ports;
         distinct = (
           none_of (IsBoundBelow n) port (λ other below same.
-              let q : ◌≡◌ {A = List ℕ} (n ∷ here.behind) (below.node ∷ below.behind) = sym here.bound_to ∙ ap G.bound same ∙ below.bound_to in
+              let q : ◌≡◌ {A = List ℕ} (n ∷ here.behind) (below.node ∷ below.behind) = sym here.bound_to
+              ∙ ap G.bound same ∙ below.bound_to in
               let node : n ≡ below.node = (cc) in
               let less = below.below in
               absurd (omega arith)) before.ports before.each,
           before.distinct,
         );
-        each = (record { node = n; below = omega arith; behind = here.behind; bound_to = here.bound_to }, further n before.ports before.each);
+        each = (
+          record { node = n; below = omega arith; behind = here.behind; bound_to = here.bound_to },
+          further n before.ports before.each,
+        );
         many = let many = before.many in let one : one_if (in_chain n) ≡ 1 = ap one_if is in omega arith;
       }
   one_more n before false is = record {
@@ -105,7 +115,8 @@ module _ (env : Env) (mix : ℕ → ℕ → ℕ → ℕ) (words : List ℕ) (G :
         ports = all.ports;
         distinct = all.distinct;
         bound =
-            AllByRecursion-weaker (IsBoundBelow nodes) (λ port. stands_for env.geometry words port ≢ []) (is_bound nodes)
+            AllByRecursion-weaker (IsBoundBelow nodes) (λ port. stands_for env.geometry words port ≢ [])
+            (is_bound nodes)
             all.ports all.each;
         many = all.many;
       }
@@ -129,7 +140,8 @@ module _ (env : Env) (mix : ℕ → ℕ → ℕ → ℕ) (words : List ℕ) (G :
     where
       go : (nodes : List ℕ) → G.bound port ≡ nodes → HasFirst port
       go [] b =
-          absurd (some (stands_for_bound env mix words G whole port ∙ ap (owners_in env mix (mem env mix words)) b))
+          absurd (some (stands_for_bound env mix words G whole port
+          ∙ ap (owners_in env mix (mem env mix words)) b))
       go (n ∷ behind) b =
           let to = whole.owned.bound_to port n behind b in
           let here : node_of_port port ≡ n = ap node_for b in
@@ -143,8 +155,11 @@ module _ (env : Env) (mix : ℕ → ℕ → ℕ → ℕ) (words : List ℕ) (G :
   other_nodes : (port : ℕ) (ports : List ℕ) → NotIn port ports → HasFirst port
       → AllByRecursion HasFirst ports → NotIn (node_of_port port) (map node_of_port ports)
   other_nodes port [] none here all = tt
-  other_nodes port (q ∷ ports) none here all =
-      ((λ same. none.0 (sym here.key ∙ ap (key_of (mem env mix words)) same ∙ all.0.key)), other_nodes port ports none.1 here all.1)
+  other_nodes port (q ∷ ports) none here all = (
+    (λ same. none.0 (sym here.key ∙ ap (key_of (mem env mix words)) same ∙ all.0.key)),
+    other_nodes
+        port ports none.1 here all.1,
+  )
 
   nodes_distinct : (ports : List ℕ) → IsDistinct ports → AllByRecursion HasFirst ports
       → IsDistinct (map node_of_port ports)
@@ -178,8 +193,10 @@ module _ (env : Env) (mix : ℕ → ℕ → ℕ → ℕ) (words : List ℕ) (G :
     are = firsts-AreBound;
     most = λ more bound.
         let all = all_first bound.ports bound.bound in
-        let few = length-count_below (λ n. is_first (G.node n)) env.geometry.nodes (map node_of_port bound.ports)
-        (nodes_distinct bound.ports bound.distinct all) (nodes_below bound.ports all) (nodes_first bound.ports all) in
+        let few = length-count_below (λ n. is_first (G.node n)) env.geometry.nodes
+        (map node_of_port bound.ports)
+        (nodes_distinct bound.ports bound.distinct all) (nodes_below bound.ports all)
+        (nodes_first bound.ports all) in
         let many : length (map node_of_port bound.ports) ≡ more = same_length bound.ports ∙ bound.many in
         omega (arith, few, many);
   }

@@ -40,7 +40,8 @@ module _ (env : Env) (mix : ℕ → ℕ → ℕ → ℕ) (words : List ℕ) (G :
 
   -- a node in a port's list is the first of its nodes or behind it
   listed_used : (n : ℕ) → IsListed env.geometry words n → IsUsed (G.node n)
-  listed_used n (port, there) = go (G.bound port) refl (subst (In n) (listed_bound env mix words G whole port) there)
+  listed_used n (port, there) = go (G.bound port) refl
+      (subst (In n) (listed_bound env mix words G whole port) there)
     where
       go : (bound : List ℕ) → G.bound port ≡ bound → In n bound → IsUsed (G.node n)
       go [] b i = absurd i
@@ -51,7 +52,8 @@ module _ (env : Env) (mix : ℕ → ℕ → ℕ → ℕ) (words : List ℕ) (G :
 
   -- and isn't out
   listed_out : (n : ℕ) → IsListed env.geometry words n → is_out (G.node n) ≡ false
-  listed_out n (port, there) = go (G.bound port) refl (subst (In n) (listed_bound env mix words G whole port) there)
+  listed_out n (port, there) = go (G.bound port) refl
+      (subst (In n) (listed_bound env mix words G whole port) there)
     where
       go : (bound : List ℕ) → G.bound port ≡ bound → In n bound → is_out (G.node n) ≡ false
       go [] b i = absurd i
@@ -63,7 +65,8 @@ module _ (env : Env) (mix : ℕ → ℕ → ℕ → ℕ) (words : List ℕ) (G :
   out = out_nodes env mix G whole.arena.built
 
   -- one that a port is bound to is listed, and not free
-  is_listed : (n port : ℕ) → n < env.geometry.nodes → IsUsed (G.node n) → is_out (G.node n) ≡ false → In n (G.bound port) → IsPlaced env.geometry words out n
+  is_listed : (n port : ℕ) → n < env.geometry.nodes → IsUsed (G.node n) → is_out (G.node n) ≡ false
+      → In n (G.bound port) → IsPlaced env.geometry words out n
   is_listed n port l used in_list there = inr (inl (
     (port, subst (In n) (sym (listed_bound env mix words G whole port)) there),
     (λ free. let q = sym used ∙ ap is_used ((whole.arena.bits n l).0 free) in cc),
@@ -71,7 +74,8 @@ module _ (env : Env) (mix : ℕ → ℕ → ℕ → ℕ) (words : List ℕ) (G :
   ))
 
   -- a node that no caller has is free, in a port's list, or out
-  placed : (n : ℕ) → n < env.geometry.nodes → ((c : ℕ) → G.node n ≢ Held c) → IsPlaced env.geometry words out n
+  placed : (n : ℕ) → n < env.geometry.nodes → ((c : ℕ) → G.node n ≢ Held c)
+      → IsPlaced env.geometry words out n
   placed n l unheld = go (G.node n) refl (whole.arena.built n)
     where
       go : (o : Owner) → G.node n ≡ o → IsBuilt env mix o → IsPlaced env.geometry words out n
@@ -83,7 +87,8 @@ module _ (env : Env) (mix : ℕ → ℕ → ℕ → ℕ) (words : List ℕ) (G :
       go (Held c) e b = absurd (unheld c e)
       go (First j) e b =
           let at = whole.owned.first_at n j e in
-          is_listed n (key_of (mem env mix words) n) l (ap is_used e) (ap is_out e) (subst (In n) (sym at.bound_to) (inl refl))
+          is_listed n (key_of (mem env mix words) n) l (ap is_used e) (ap is_out e)
+          (subst (In n) (sym at.bound_to) (inl refl))
       go (Leaving j) e b = absurd b
       go (Behind k) e b =
           let is = whole.owned.behind_in n k e in
@@ -101,11 +106,13 @@ module _ (env : Env) (mix : ℕ → ℕ → ℕ → ℕ) (words : List ℕ) (G :
       let shape = (whole.tables.each 0 (attached env mix words G whole)).shape_is in
       let one : is.table ≡ (G.table 0).slot =
       only_one (subst (In is.table) (one_in_force env mix words G whole) is.of_table) in
-      let same : shape_of env.geometry words is.table ≡ (G.table 0).shape = ap (shape_of env.geometry words) one ∙ shape in
+      let same : shape_of env.geometry words is.table ≡ (G.table 0).shape = ap
+      (shape_of env.geometry words) one ∙ shape in
       let within = subst (λ s. is.bucket < size_of (unpacked s)) same is.within in
       let j = index env mix words G whole is.bucket in
       let there : Some place ≡ Some (place_at env mix j) =
-      sym (subst (λ s. bucket_place env.geometry s is.bucket ≡ Some place) same is.there) ∙ place-index env mix words G whole is.bucket within in
+      sym (subst (λ s. bucket_place env.geometry s is.bucket ≡ Some place) same is.there)
+      ∙ place-index env mix words G whole is.bucket within in
       (j, index-within env mix words G whole is.bucket within, some-same place (place_at env mix j) there)
     where
       only_one : {x y : ℕ} → In x (y ∷ []) → x ≡ y
@@ -116,11 +123,15 @@ module _ (M : Type 0) (mix : ℕ → ℕ → ℕ → ℕ) where
   raising-raisers : (env : Env) (core : Core M) (G : Ghost) → Inv env mix M core G
       → raising core ≡ raisers env mix G
   raising-raisers env core G inv =
-      ap (λ (e : Env). count_by_raising e) inv.same_env ∙ count_by-range (λ c. is_raising (local_of core c).doing) env.geometry.callers
-      ∙ count_below-same G.raised (λ c. is_raising (local_of core c).doing) env.geometry.callers (λ c l. sym (raises mix env c (job_of (local_of core c).doing) (mem env mix core.words) G (inv.each c)))
+      ap (λ (e : Env). count_by_raising e) inv.same_env
+      ∙ count_by-range (λ c. is_raising (local_of core c).doing) env.geometry.callers
+      ∙ count_below-same G.raised (λ c. is_raising (local_of core c).doing) env.geometry.callers
+      (λ c l. sym (raises mix env c (job_of (local_of core c).doing) (mem env mix core.words) G
+      (inv.each c)))
     where
       count_by_raising : Env → ℕ
-      count_by_raising e = count_by (λ c. is_raising (local_of core c).doing) (range_with_len 0 e.geometry.callers)
+      count_by_raising e = count_by (λ c. is_raising (local_of core c).doing)
+          (range_with_len 0 e.geometry.callers)
 
   pub counted : Counted M mix
   counted env events admitted =
@@ -130,7 +141,8 @@ module _ (M : Type 0) (mix : ℕ → ℕ → ℕ → ℕ) where
         bound = firsts env mix has.ghost;
         all_bound = firsts-AreAllBound env mix core.words has.ghost has.inv.whole;
         counted =
-            has.inv.whole.counted ∙ ap (λ r. firsts env mix has.ghost + r) (sym (raising-raisers env core has.ghost has.inv));
+            has.inv.whole.counted ∙ ap (λ r. firsts env mix has.ghost + r)
+            (sym (raising-raisers env core has.ghost has.inv));
         few = count_few env mix M core has.ghost has.inv;
       }
 
@@ -140,28 +152,35 @@ module _ (M : Type 0) (mix : ℕ → ℕ → ℕ → ℕ) where
       let has = has_books env mix M events admitted in
       let G = has.ghost in
       let knows : (c : ℕ) → KnowsNothing env mix c (mem env mix core.words) G =
-      λ c. idle_knows env mix M c (local_of core c).doing (mem env mix core.words) G (quiet c) (has.inv.each c) in
+      λ c. idle_knows env mix M c (local_of core c).doing (mem env mix core.words) G (quiet c)
+      (has.inv.each c) in
       let none_raised = count_below-none G.raised env.geometry.callers (λ c l. (knows c).only.raising) in
-      let all : word_at env.geometry core.words PortCount ≡ firsts env mix G = (let is = has.inv.whole.counted in omega (arith, is, none_raised)) in
+      let all : word_at env.geometry core.words PortCount ≡ firsts env mix G =
+      (let is = has.inv.whole.counted in omega (arith, is, none_raised)) in
       let built = has.inv.whole.arena.built in
       let w : World M = run_of mix env events in
       let all_ended : sum_by (outs env mix G) (range_with_len 0 env.geometry.callers) ≡ taken_out w =
-      sum_by-same (outs env mix G) (λ c. ended_outs (w.books c)) (λ c. idle-says env mix M (view_of w c) (outs env mix G c) (quiet c) (has.says c)) (range_with_len 0 env.geometry.callers)
-      ∙ ap (λ (e : Env). sum_by (λ c. ended_outs (w.books c)) (range_with_len 0 e.geometry.callers)) (sym has.inv.same_env) in
+      sum_by-same (outs env mix G) (λ c. ended_outs (w.books c))
+      (λ c. idle-says env mix M (view_of w c) (outs env mix G c) (quiet c) (has.says c))
+      (range_with_len 0 env.geometry.callers)
+      ∙ ap (λ (e : Env). sum_by (λ c. ended_outs (w.books c)) (range_with_len 0 e.geometry.callers))
+      (sym has.inv.same_env) in
       record {
         unlocked = λ place is.
             let at = in_one_table env mix core.words G has.inv.whole place is in
             let j = at.0 in
             let right = (has.inv.whole.buckets j at.1).locked in
             subst (λ p. slice_index core.words p % 2 ≡ 0) (sym at.2)
-            (even_word (G.bucket j).holder (G.bucket j).plain (word_at env.geometry core.words (PageWord j)) right.word_is right.even
+            (even_word (G.bucket j).holder (G.bucket j).plain
+            (word_at env.geometry core.words (PageWord j)) right.word_is right.even
             (λ c h. elim ((knows c).only.locks j h) [ inl e ↦ absurd (cc) | inr e ↦ absurd (cc) ]));
         nodes = record {
           out = out_nodes env mix G built;
           distinct = out_nodes-distinct env mix G built;
           among = out_nodes-among env mix G built;
           many = out_nodes-many env mix G built ∙ all_ended;
-          placed = λ n l. placed env mix core.words G has.inv.whole n l (λ c held. let none = (knows c).only.nodes n held in absurd (cc));
+          placed = λ n l. placed env mix core.words G has.inv.whole n l
+              (λ c held. let none = (knows c).only.nodes n held in absurd (cc));
         };
         single = few_listed env mix core.words G has.inv.whole;
         counted = rw all (firsts-AreAllBound env mix core.words G has.inv.whole);

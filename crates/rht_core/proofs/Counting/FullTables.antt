@@ -41,7 +41,8 @@ use Rattle.rht_core.proofs.Events.InvariantRuns.{has_inv}
 use Rattle.rht_core.proofs.Counting.CountedPorts.{firsts-AreBound}
 
 -- what holds of each of a list holds of the first ones
-pub taken : {X : Type 0} (P : X → Type 0) (n : ℕ) (xs : List X) → AllByRecursion P xs → AllByRecursion P (take n xs)
+pub taken : {X : Type 0} (P : X → Type 0) (n : ℕ) (xs : List X) → AllByRecursion P xs
+    → AllByRecursion P (take n xs)
 taken P zero xs all = tt
 taken P (suc n) [] all = tt
 taken P (suc n) (x ∷ xs) all = (all.0, taken P n xs all.1)
@@ -50,12 +51,14 @@ taken P (suc n) (x ∷ xs) all = (all.0, taken P n xs all.1)
 
 module _ (mix : ℕ → ℕ → ℕ → ℕ) (env : Env) where
   -- a caller has raised the count exactly where its job has
-  pub raises : (c : ℕ) (job : Option Job) (M : Memory) (G : Ghost) → Knows env mix c job M G → G.raised c ≡ raised_by job
+  pub raises : (c : ℕ) (job : Option Job) (M : Memory) (G : Ghost) → Knows env mix c job M G
+      → G.raised c ≡ raised_by job
   raises c None M G knows = knows.only.raising
   raises c (Some job) M G knows = knows.knowing.only.raising
 
   -- who has is in a call
-  raised-busy : (c : ℕ) (job : Option Job) (M : Memory) (G : Ghost) → G.raised c ≡ true → Knows env mix c job M G
+  raised-busy : (c : ℕ) (job : Option Job) (M : Memory) (G : Ghost) → G.raised c ≡ true
+      → Knows env mix c job M G
       → not (is_no_job job) ≡ true
   raised-busy c None M G is knows = let unraised = knows.only.raising in absurd (cc)
   raised-busy c (Some job) M G is knows = refl
@@ -74,7 +77,8 @@ find_raises (find_at.LaterOwner table bucket node owner) = refl
 find_raises (find_at.Unlocking table unlock next) = refl
 
 -- what stores the link into a bucket loads nothing
-pub relink_stores : (relink : RelinkModel) (state : RelinkAt) (place : ℕ) → relink_plan_at relink state ≢ Load place
+pub relink_stores : (relink : RelinkModel) (state : RelinkAt) (place : ℕ)
+    → relink_plan_at relink state ≢ Load place
 relink_stores relink (relinks.ChainLink before) place is = cc
 relink_stores relink (relinks.Word word) place is = cc
 
@@ -90,12 +94,14 @@ bind_loads-unraised e place (at.Future claimed length) is = refl
 bind_loads-unraised e place (at.Count claimed) is = refl
 bind_loads-unraised e place (at.Link claimed) is = refl
 bind_loads-unraised e place (at.Raise claimed) is = refl
-bind_loads-unraised e place (at.Publish node table relink kick) is = absurd (relink_stores relink relink.at place is)
+bind_loads-unraised e place (at.Publish node table relink kick) is = absurd
+    (relink_stores relink relink.at place is)
 bind_loads-unraised e place (at.Unlocking node table unlock next) is = refl
 bind_loads-unraised e place (at.Giving give reply) is = refl
 
 -- what loads has raised none
-load-unraised : (env : Env) (job : Job) (place : ℕ) → job_plan env job ≡ Load place → (held_of job).raised ≡ false
+load-unraised : (env : Env) (job : Job) (place : ℕ) → job_plan env job ≡ Load place
+    → (held_of job).raised ≡ false
 load-unraised env (finds port state) place is = find_raises state
 load-unraised env (binds port owner once state) place is = bind_loads-unraised env place state is
 
@@ -107,11 +113,13 @@ module _ (M : Type 0) (mix : ℕ → ℕ → ℕ → ℕ) (env : Env) where
   raisers-others core c G same unraised each =
       let other : ℕ → Bool = λ d. not (d == c) && not (is_idle (local_of core d)) in
       let counted : others_in_call core c ≡ count_below other env.geometry.callers =
-      count_by-range other core.env.geometry.callers ∙ ap (λ (e : Env). count_below other e.geometry.callers) same in
+      count_by-range other core.env.geometry.callers ∙ ap
+      (λ (e : Env). count_below other e.geometry.callers) same in
       let fewer = count_below-le G.raised other env.geometry.callers (λ d is.
       let differ : d ≢ c = λ e. let here : G.raised c ≡ true = ap G.raised (sym e) ∙ is in cc in
       and_from (not (d == c)) (not (is_idle (local_of core d))) (ap not (ne_eqb d c differ))
-      (ap not (nothing-job (local_of core d).doing) ∙ raised-busy mix env d (job_of (local_of core d).doing) (mem env mix core.words) G is (each d))) in
+      (ap not (nothing-job (local_of core d).doing) ∙ raised-busy mix env d
+      (job_of (local_of core d).doing) (mem env mix core.words) G is (each d))) in
       omega arith
 
   -- ---- the load of the count
@@ -123,7 +131,8 @@ module _ (M : Type 0) (mix : ℕ → ℕ → ℕ → ℕ) (env : Env) where
   counted_at events c count did admitted loaded found is =
       let before = take did.index events in
       let core : Core M = (run_of mix env before).core in
-      let has = has_inv env mix M before (taken (IsAdmittedEvent env.config.kind) did.index events admitted) in
+      let has = has_inv env mix M before (taken (IsAdmittedEvent env.config.kind) did.index events
+      admitted) in
       let G = has.ghost in
       let place = place_of env.geometry PortCount in
       let plans : planned_in core c ≡ Some (Load place) = is.plan ∙ ap Some loaded in

@@ -23,13 +23,15 @@ is_out (Taken c) = true
 
 -- ---- sums over callers
 
-pub sum_by-same : (f g : ℕ → ℕ) → ((c : ℕ) → f c ≡ g c) → (callers : List ℕ) → sum_by f callers ≡ sum_by g callers
+pub sum_by-same : (f g : ℕ → ℕ) → ((c : ℕ) → f c ≡ g c) → (callers : List ℕ)
+    → sum_by f callers ≡ sum_by g callers
 sum_by-same f g same [] = refl
 sum_by-same f g same (c ∷ callers) =
     let first = same c in let rest = sum_by-same f g same callers in
     sum_by-cons f c callers ∙ omega (arith, first, rest) ∙ sym (sum_by-cons g c callers)
 
-sum_by-plus : (f g : ℕ → ℕ) (callers : List ℕ) → sum_by (λ c. f c + g c) callers ≡ sum_by f callers + sum_by g callers
+sum_by-plus : (f g : ℕ → ℕ) (callers : List ℕ) → sum_by (λ c. f c + g c) callers ≡ sum_by f
+    callers + sum_by g callers
 sum_by-plus f g [] = refl
 sum_by-plus f g (c ∷ callers) =
     let both = sum_by-cons (λ c. f c + g c) c callers in
@@ -41,13 +43,15 @@ sum_by-plus f g (c ∷ callers) =
 sum_by-zero : (callers : List ℕ) → sum_by (λ (c : ℕ). 0) callers ≡ 0
 sum_by-zero [] = refl
 sum_by-zero (c ∷ callers) =
-    let all = sum_by-cons (λ (c : ℕ). 0) c callers in let rest = sum_by-zero callers in omega (arith, all, rest)
+    let all = sum_by-cons (λ (c : ℕ). 0) c callers in let rest = sum_by-zero callers in omega
+    (arith, all, rest)
 
 -- one caller of so many is this one
 one_caller : (d callers : ℕ) → d < callers → sum_by (λ c. one_if (d == c)) (range_with_len 0 callers) ≡ 1
 one_caller d callers l =
     let none = count_below-none (λ c. false) callers (λ c below. refl) in
-    let more = count_below-more (λ c. false) (λ c. d == c) d callers l refl (eq-eqb d d refl) (λ c ne. ne_eqb d c (λ e. ne (sym e))) in
+    let more = count_below-more (λ c. false) (λ c. d == c) d callers l refl (eq-eqb d d refl)
+    (λ c ne. ne_eqb d c (λ e. ne (sym e))) in
     count_by-range (λ c. d == c) callers ∙ omega (arith, none, more)
 
 module _ (env : Env) (mix : ℕ → ℕ → ℕ → ℕ) (G : Ghost) (built : (n : ℕ) → IsBuilt env mix (G.node n)) where
@@ -55,7 +59,8 @@ module _ (env : Env) (mix : ℕ → ℕ → ℕ → ℕ) (G : Ghost) (built : (n
   callers = range_with_len 0 env.geometry.callers
 
   -- each node that is out was taken by one of the callers
-  taken_once : (owner : Owner) → IsBuilt env mix owner → one_if (is_out owner) ≡ sum_by (λ c. one_if (is_taken_by c owner)) callers
+  taken_once : (owner : Owner) → IsBuilt env mix owner
+      → one_if (is_out owner) ≡ sum_by (λ c. one_if (is_taken_by c owner)) callers
   taken_once Free is = sym (sum_by-zero callers)
   taken_once (Held c) is = sym (sum_by-zero callers)
   taken_once (First j) is = sym (sum_by-zero callers)
@@ -64,12 +69,14 @@ module _ (env : Env) (mix : ℕ → ℕ → ℕ → ℕ) (G : Ghost) (built : (n
   taken_once (Taken d) is = sym (one_caller d env.geometry.callers is)
 
   counted_below : (bound : ℕ)
-      → count_below (λ n. is_out (G.node n)) bound ≡ sum_by (λ c. count_below (λ n. is_taken_by c (G.node n)) bound) callers
+      → count_below (λ n. is_out (G.node n)) bound ≡ sum_by
+      (λ c. count_below (λ n. is_taken_by c (G.node n)) bound) callers
   counted_below zero = sym (sum_by-zero callers)
   counted_below (suc n) =
       let before = counted_below n in
       let here = taken_once (G.node n) (built n) in
-      let both = sum_by-plus (λ c. count_below (λ n. is_taken_by c (G.node n)) n) (λ c. one_if (is_taken_by c (G.node n))) callers in
+      let both = sum_by-plus (λ c. count_below (λ n. is_taken_by c (G.node n)) n)
+      (λ c. one_if (is_taken_by c (G.node n))) callers in
       omega (arith, before, here, both)
 
   -- as many are out as all callers have taken
@@ -85,19 +92,26 @@ module _ (env : Env) (mix : ℕ → ℕ → ℕ → ℕ) (G : Ghost) (built : (n
   out_below zero = []
   out_below (suc n) = with_one (is_out (G.node n)) n (out_below n)
 
-  with_one-length : (t : Bool) (n : ℕ) (nodes : List ℕ) → length (with_one t n nodes) ≡ length nodes + one_if t
+  with_one-length : (t : Bool) (n : ℕ) (nodes : List ℕ)
+      → length (with_one t n nodes) ≡ length nodes + one_if t
   with_one-length true n nodes = omega arith
   with_one-length false n nodes = omega arith
 
   out_below-length : (bound : ℕ) → length (out_below bound) ≡ count_below (λ n. is_out (G.node n)) bound
   out_below-length zero = refl
   out_below-length (suc n) =
-      let rest = out_below-length n in let more = with_one-length (is_out (G.node n)) n (out_below n) in omega (arith, rest, more)
+      let rest = out_below-length n in let more = with_one-length (is_out (G.node n)) n (out_below n) in
+      omega (arith, rest, more)
 
   with_one-among : (t : Bool) (n : ℕ) (nodes : List ℕ) → AllByRecursion (λ m. m < n) nodes
       → AllByRecursion (λ m. m < suc n) (with_one t n nodes)
-  with_one-among true n nodes all = (omega arith, AllByRecursion-weaker (λ m. m < n) (λ m. m < suc n) (λ m l. omega arith) nodes all)
-  with_one-among false n nodes all = AllByRecursion-weaker (λ m. m < n) (λ m. m < suc n) (λ m l. omega arith) nodes all
+  with_one-among true n nodes all = (
+    omega arith,
+    AllByRecursion-weaker (λ m. m < n) (λ m. m < suc n)
+        (λ m l. omega arith) nodes all,
+  )
+  with_one-among false n nodes all = AllByRecursion-weaker (λ m. m < n) (λ m. m < suc n)
+      (λ m l. omega arith) nodes all
 
   out_below-among : (bound : ℕ) → AllByRecursion (λ m. m < bound) (out_below bound)
   out_below-among zero = tt
@@ -107,14 +121,16 @@ module _ (env : Env) (mix : ℕ → ℕ → ℕ → ℕ) (G : Ghost) (built : (n
   not_above n [] all = tt
   not_above n (m ∷ nodes) all = ((λ e. let l = all.0 in omega (arith, l, e)), not_above n nodes all.1)
 
-  with_one-distinct : (t : Bool) (n : ℕ) (nodes : List ℕ) → NotIn n nodes → IsDistinct nodes → IsDistinct (with_one t n nodes)
+  with_one-distinct : (t : Bool) (n : ℕ) (nodes : List ℕ) → NotIn n nodes → IsDistinct nodes
+      → IsDistinct (with_one t n nodes)
   with_one-distinct true n nodes out distinct = (out, distinct)
   with_one-distinct false n nodes out distinct = distinct
 
   out_below-distinct : (bound : ℕ) → IsDistinct (out_below bound)
   out_below-distinct zero = tt
   out_below-distinct (suc n) =
-      with_one-distinct (is_out (G.node n)) n (out_below n) (not_above n (out_below n) (out_below-among n)) (out_below-distinct n)
+      with_one-distinct (is_out (G.node n)) n (out_below n)
+      (not_above n (out_below n) (out_below-among n)) (out_below-distinct n)
 
   with_one-in : (t : Bool) (n m : ℕ) (nodes : List ℕ) → In m nodes → In m (with_one t n nodes)
   with_one-in true n m nodes i = inr i

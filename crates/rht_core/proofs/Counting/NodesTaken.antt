@@ -48,7 +48,8 @@ TakesOne-push g node (first ∷ steps) did (inr later) takes_none =
 TakesOne-last : (g : Geometry) (node : ℕ) (steps : List Did) (did : Did) → TakesNone g steps
     → IsTakeOf g node did → TakesOne g node (steps ++ did ∷ [])
 TakesOne-last g node [] did none takes = inl (takes, tt)
-TakesOne-last g node (first ∷ steps) did none takes = inr (none.0, TakesOne-last g node steps did none.1 takes)
+TakesOne-last g node (first ∷ steps) did none takes = inr
+    (none.0, TakesOne-last g node steps did none.1 takes)
 
 -- ---- what an operation does to the bits of nodes
 
@@ -131,16 +132,17 @@ took env mix (DropsLock j) did h h' does = inl record {
   left = inl (ap (λ (h : Holding). h.node) does.holds);
 }
 took env mix Raises did h h' does = inl record {
-  none = off_map env.geometry did (inl (let on : op_place did.op ≡ 2 = ap op_place does.adds in omega (arith, on)));
+  none = off_map env.geometry did (inl (let on : op_place did.op ≡ 2 = ap op_place does.adds in omega
+      (arith, on)));
   left = inl (ap (λ (h : Holding). h.node) does.holds);
 }
 took env mix (Links n port j) did h h' does = inl record {
   none = on_bucket env mix did j does.on;
   left = inr (ap (λ (h : Holding). h.node) does.holds);
 }
-
 took env mix Lowers did h h' does = inl record {
-  none = off_map env.geometry did (inl (let on : op_place did.op ≡ 2 = ap op_place does.subtracts in omega (arith, on)));
+  none = off_map env.geometry did (inl (let on : op_place did.op ≡ 2 = ap op_place does.subtracts in
+      omega (arith, on)));
   left = inl (ap (λ (h : Holding). h.node) does.holds);
 }
 took env mix (Rebinds change) did h h' does =
@@ -148,7 +150,11 @@ took env mix (Rebinds change) did h h' does =
 took env mix (LinksBehind n) did h h' does =
     let parts = parts_in_order env.geometry in
     let on = does.on in
-    inl record { none = off_map env.geometry did (inr (omega (arith, on))); left = inl (ap (λ (h : Holding). h.node) does.holds) }
+    inl record {
+      none = off_map env.geometry did (inr (omega (arith, on)));
+      left = inl
+          (ap (λ (h : Holding). h.node) does.holds);
+    }
 
 -- ---- what a call has taken
 
@@ -177,7 +183,8 @@ module _ (mix : ℕ → ℕ → ℕ → ℕ) (env : Env) where
   abbrev JobTakes : Job → List Did → Type 0
   JobTakes job steps = HasKept (call_of job) (held_of job) steps
 
-  module _ (job : Job) (steps : List Did) (did : Did) (performs : Performs mix env job did) (kept : JobTakes job steps) where
+  module _ (job : Job) (steps : List Did) (did : Did) (performs : Performs mix env job did)
+      (kept : JobTakes job steps) where
     abbrev h : Holding
     h = held_of job
 
@@ -194,7 +201,8 @@ module _ (mix : ℕ → ℕ → ℕ → ℕ) (env : Env) where
         (subst (λ old. Does env mix step.move did.op old h after) (sym performs.found) step.does)
 
     unknown : after.answer ≡ None → h.answer ≡ None
-    unknown none = unknown_before env.config.kind performs.caller (call_of job) _ _ h.answer after.answer performs.step.says none
+    unknown none = unknown_before env.config.kind performs.caller (call_of job) _ _ h.answer after.answer
+        performs.step.says none
 
     -- an operation that takes no node leaves what the call has taken
     kept_still : TookNone g h after did → HasKept (call_of job) after all
@@ -206,14 +214,17 @@ module _ (mix : ℕ → ℕ → ℕ → ℕ) (env : Env) where
         | inr gone ↦ holds_none kept.node (kept.holds (unknown none)) gone none
       ];
       told =
-          known_so env.config.kind performs.caller (call_of job) (λ answer. TellsNode (call_of job) kept.node answer.reply)
+          known_so env.config.kind performs.caller (call_of job)
+          (λ answer. TellsNode (call_of job) kept.node answer.reply)
           (TellsNode-same (call_of job) kept.node) _ _ h.answer after.answer performs.step.says
-          (λ answer before known. subst (λ node. TellsNode (call_of job) node answer.reply) (kept.holds before)
+          (λ answer before known. subst (λ node. TellsNode (call_of job) node answer.reply)
+          (kept.holds before)
           (performs.step.right answer before known).tells)
           kept.told;
     }
       where
-        holds_none : (node : Option ℕ) → h.node ≡ node → after.node ≡ None → after.answer ≡ None → after.node ≡ node
+        holds_none : (node : Option ℕ) → h.node ≡ node → after.node ≡ None → after.answer ≡ None
+            → after.node ≡ node
         holds_none None had gone none = gone
         holds_none (Some node) had gone none = absurd (performs.step.in_time.gone node had gone none)
 
@@ -224,9 +235,11 @@ module _ (mix : ℕ → ℕ → ℕ → ℕ) (env : Env) where
         let had_none : kept.node ≡ None = sym (kept.holds (unknown none)) ∙ one.before in
         record {
           node = Some one.node;
-          taken = TakesOne-last g one.node steps did (subst (λ node. HasTaken g node steps) had_none kept.taken) one.takes;
+          taken = TakesOne-last g one.node steps did (subst (λ node. HasTaken g node steps) had_none
+              kept.taken) one.takes;
           holds = λ still. one.now;
-          told = subst (λ answer. IfSome answer (λ a. TellsNode (call_of job) (Some one.node) a.reply)) (sym none) tt;
+          told = subst (λ answer. IfSome answer (λ a. TellsNode (call_of job) (Some one.node) a.reply))
+              (sym none) tt;
         }
 
     kept_next : HasKept (call_of job) after all
@@ -236,12 +249,17 @@ module _ (mix : ℕ → ℕ → ℕ → ℕ) (env : Env) where
     ]
 
   -- a call that ends has taken the node of which it tells
-  by_none : (node : Option ℕ) (reply : Reply) (steps : List Did) → (node ≡ None) ↔ (reply ≡ NoNode) → HasTaken g node steps
+  by_none : (node : Option ℕ) (reply : Reply) (steps : List Did) → (node ≡ None) ↔ (reply ≡ NoNode)
+      → HasTaken g node steps
       → IsTakenBy g reply steps
   by_none None reply steps tells taken = inl (tells.0 refl, taken)
-  by_none (Some node) reply steps tells taken = inr (λ no_node. let none = tells.1 no_node in cc, (node, taken))
+  by_none (Some node) reply steps tells taken = inr (
+    λ no_node. let none = tells.1 no_node in cc,
+    (node, taken),
+  )
 
-  ends_taken : (call : Call) (node : Option ℕ) (reply : Reply) (steps : List Did) → TellsNode call node reply → HasTaken g node steps
+  ends_taken : (call : Call) (node : Option ℕ) (reply : Reply) (steps : List Did)
+      → TellsNode call node reply → HasTaken g node steps
       → IsTakenIn g call reply steps
   ends_taken (Bind port owner once) node reply steps tells taken = by_none node reply steps tells taken
   ends_taken (Find port) has reply steps none taken = subst (λ n. HasTaken g n steps) none taken
@@ -256,7 +274,8 @@ module _ (mix : ℕ → ℕ → ℕ → ℕ) (env : Env) where
   abbrev Ended : Call → Ending → List Did → Type 0
   Ended call ending steps = IsTakenIn g call ending.answer.reply steps
 
-  leads_taken : (M : Type 0) (job : Job) (all : List Did) (next : Job × Next Ending) → call_of next.0 ≡ call_of job
+  leads_taken : (M : Type 0) (job : Job) (all : List Did) (next : Job × Next Ending)
+      → call_of next.0 ≡ call_of job
       → HasKept (call_of job) (held_next next) all → LeadsOn M mix env JobTakes Ended job all next
   leads_taken M job all (next, Go) same kept = subst (λ call. HasKept call (held_of next) all) (sym same) kept
   leads_taken M job all (next, Done ending) same kept =
@@ -268,7 +287,8 @@ module _ (mix : ℕ → ℕ → ℕ → ℕ) (env : Env) where
     node = None;
     taken = tt;
     holds = λ none. first_without env call job is;
-    told = subst (λ (answer : Option Answer). IfSome answer (λ a. TellsNode (call_of job) None a.reply)) (sym (first_unknown env call job is)) tt;
+    told = subst (λ (answer : Option Answer). IfSome answer (λ a. TellsNode (call_of job) None a.reply))
+        (sym (first_unknown env call job is)) tt;
   }
 
 pub taken_alone : (M : Type 0) (mix : ℕ → ℕ → ℕ → ℕ) → TakenAlone M mix
@@ -277,7 +297,8 @@ taken_alone M mix env events admitted c =
     record {
       begins = begins_taken mix env;
       goes = λ job steps did performs kept.
-          leads_taken mix env M job (steps ++ did ∷ []) (job_after mix env job did.old) (same_call mix env job did.old)
+          leads_taken mix env M job (steps ++ did ∷ []) (job_after mix env job did.old)
+          (same_call mix env job did.old)
           (kept_next mix env job steps did performs kept);
     }
     events c admitted).past

@@ -23,7 +23,8 @@ pub record OwnNode (env : Env) (G : Ghost) (c : ℕ) : Type 0 where
   pub mine : G.node node ≡ Held c
   pub only : (other : ℕ) → G.node other ≡ Held c → other ≡ node
 
-module _ (env : Env) (mix : ℕ → ℕ → ℕ → ℕ) (G : Ghost) (own : (c : ℕ) → G.raised c ≡ true → OwnNode env G c) where
+module _ (env : Env) (mix : ℕ → ℕ → ℕ → ℕ) (G : Ghost) (own : (c : ℕ) → G.raised c ≡ true
+    → OwnNode env G c) where
   abbrev N : ℕ
   N = env.geometry.nodes
 
@@ -51,18 +52,23 @@ module _ (env : Env) (mix : ℕ → ℕ → ℕ → ℕ) (G : Ghost) (own : (c :
   used-raised : (bound : ℕ) → G.raised bound ≡ true → used (suc bound) ≡ used bound + 1
   used-raised bound raised =
       let mine = own bound raised in
-      let was : is_used_below bound (G.node mine.node) ≡ false = ap (is_used_below bound) mine.mine ∙ grind (arith, nat_tests) in
-      let now : is_used_below (suc bound) (G.node mine.node) ≡ true = ap (is_used_below (suc bound)) mine.mine ∙ grind (arith, nat_tests) in
-      count_below-more (λ n. is_used_below bound (G.node n)) (λ n. is_used_below (suc bound) (G.node n)) mine.node N mine.among was now
+      let was : is_used_below bound (G.node mine.node) ≡ false = ap (is_used_below bound) mine.mine
+      ∙ grind (arith, nat_tests) in
+      let now : is_used_below (suc bound) (G.node mine.node) ≡ true = ap (is_used_below (suc bound))
+      mine.mine ∙ grind (arith, nat_tests) in
+      count_below-more (λ n. is_used_below bound (G.node n)) (λ n. is_used_below (suc bound) (G.node n))
+      mine.node N mine.among was now
       (λ n ne. same_but bound (G.node n) (λ held. ne (mine.only n held)))
 
   used-rises : (bound : ℕ) → used bound ≤ used (suc bound)
-  used-rises bound = count_below-le (λ n. is_used_below bound (G.node n)) (λ n. is_used_below (suc bound) (G.node n)) N (λ n. rises bound (G.node n))
+  used-rises bound = count_below-le (λ n. is_used_below bound (G.node n))
+      (λ n. is_used_below (suc bound) (G.node n)) N (λ n. rises bound (G.node n))
 
   -- by induction over the callers
   raisers-used : (bound : ℕ) → firsts env mix G + count_below G.raised bound ≤ used bound
   raisers-used zero =
-      let same : used zero ≡ firsts env mix G = count_below-same (λ n. is_first (G.node n)) (λ n. is_used_below zero (G.node n)) N (λ n l. first_or_none (G.node n)) in
+      let same : used zero ≡ firsts env mix G = count_below-same (λ n. is_first (G.node n))
+      (λ n. is_used_below zero (G.node n)) N (λ n l. first_or_none (G.node n)) in
       omega (arith, same)
     where
       first_or_none : (o : Owner) → is_used_below zero o ≡ is_first o
@@ -76,8 +82,10 @@ module _ (env : Env) (mix : ℕ → ℕ → ℕ → ℕ) (G : Ghost) (own : (c :
     where
       go : (t : Bool) → G.raised bound ≡ t → firsts env mix G + count_below G.raised bound ≤ used bound
           → firsts env mix G + (count_below G.raised bound + one_if (G.raised bound)) ≤ used (suc bound)
-      go true is below = let more = used-raised bound is in let one : one_if (G.raised bound) ≡ 1 = ap one_if is in omega (arith, below, more, one)
-      go false is below = let more = used-rises bound in let none : one_if (G.raised bound) ≡ 0 = ap one_if is in omega (arith, below, more, none)
+      go true is below = let more = used-raised bound is in let one : one_if (G.raised bound) ≡ 1 = ap
+          one_if is in omega (arith, below, more, one)
+      go false is below = let more = used-rises bound in let none : one_if (G.raised bound) ≡ 0 = ap
+          one_if is in omega (arith, below, more, none)
 
   pub few_used : firsts env mix G + raisers env mix G ≤ N
   few_used =

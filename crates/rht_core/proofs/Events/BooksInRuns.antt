@@ -42,7 +42,8 @@ ended_outs book = count_by (λ (done : Finished). takes_out done.reply) book.fin
 -- the book has the call of the job, and so many nodes have been taken out by those that have ended and by that one
 abbrev pub BookSays : Option Job → Book → ℕ → Type 0
 BookSays None book many = (book.call ≡ None) × (many ≡ ended_outs book)
-BookSays (Some job) book many = (book.call ≡ Some (call_of job)) × (many ≡ ended_outs book + outs_of (held_of job).answer)
+BookSays (Some job) book many = (book.call ≡ Some (call_of job))
+    × (many ≡ ended_outs book + outs_of (held_of job).answer)
 
 module _ (env : Env) (mix : ℕ → ℕ → ℕ → ℕ) (L : Type 0) where
   -- what a caller's view says of what its calls have taken out
@@ -58,32 +59,39 @@ module _ (env : Env) (mix : ℕ → ℕ → ℕ → ℕ) (L : Type 0) where
 
   -- ---- a call begins
 
-  pub idle-says : (view : View L) (many : ℕ) → is_idle view.local ≡ true → ViewSays view many → many ≡ ended_outs view.book
-  idle-says view many idle says = go (job_of view.local.doing) (sym (nothing-job view.local.doing) ∙ idle) says
+  pub idle-says : (view : View L) (many : ℕ) → is_idle view.local ≡ true → ViewSays view many
+      → many ≡ ended_outs view.book
+  idle-says view many idle says = go (job_of view.local.doing) (sym (nothing-job view.local.doing)
+      ∙ idle) says
     where
-      go : (job : Option Job) → is_no_job job ≡ true → BookSays job view.book many → many ≡ ended_outs view.book
+      go : (job : Option Job) → is_no_job job ≡ true → BookSays job view.book many
+          → many ≡ ended_outs view.book
       go None none says = says.1
       go (Some job) none says = absurd (cc)
 
-  begun-says : (c : ℕ) (call : Call) (machine : Doing L) (view : View L) (many : ℕ) → machine_of env c call ≡ Some machine
+  begun-says : (c : ℕ) (call : Call) (machine : Doing L) (view : View L) (many : ℕ)
+      → machine_of env c call ≡ Some machine
       → is_idle view.local ≡ true → ViewSays view many → ViewSays (view_begun call machine view) many
   begun-says c call machine view many is idle says =
       let first = first_job-machine env c call machine is in
       let so_far = idle-says view many idle says in
-      let none : outs_of (held_of first.job).answer ≡ 0 = ap outs_of (first_unknown env call first.job first.first) in
+      let none : outs_of (held_of first.job).answer ≡ 0 = ap outs_of
+      (first_unknown env call first.job first.first) in
       subst (λ (job : Option Job). BookSays job (book_begun call view.book) many) (sym first.does)
       (ap Some (sym first.asked), omega (arith, so_far, none))
 
   -- ---- an operation
 
-  after-says : (job : Job) (book : Book) (next : Job × Next Ending) (local : Local L) (reply : Option Reply) (many more : ℕ)
+  after-says : (job : Job) (book : Book) (next : Job × Next Ending) (local : Local L)
+      (reply : Option Reply) (many more : ℕ)
       → reply ≡ option_map (λ (e : Ending). e.answer.reply) (told next).1 → call_of next.0 ≡ call_of job
       → BookSays (Some job) book many
       → more + outs_of (held_of job).answer ≡ many + outs_of (held_next next).answer
       → BookSays (told next).0 (book_after (ending_of local reply) book) more
   after-says job book (after, Go) local reply many more replied same says outs =
       let so_far = says.1 in
-      subst (λ (r : Option Reply). BookSays (Some after) (book_after (ending_of local r) book) more) (sym replied)
+      subst (λ (r : Option Reply). BookSays (Some after) (book_after (ending_of local r) book) more)
+      (sym replied)
       (says.0 ∙ ap Some (sym same), omega (arith, so_far, outs))
   after-says job book (after, Done ending) local reply many more replied same says outs =
       subst (λ (r : Option Reply). BookSays None (book_after (ending_of local r) book) more) (sym replied)
@@ -99,12 +107,15 @@ module _ (env : Env) (mix : ℕ → ℕ → ℕ → ℕ) (L : Type 0) where
       finished : (call : Option Call) → call ≡ Some (call_of job)
           → count_by (λ (done : Finished). takes_out done.reply) (book.finished ++ finished_with call kept_as)
           ≡ ended_outs book + one_if (takes_out ending.answer.reply)
-      finished call is = rw is (sum_by_push (λ (done : Finished). one_if (takes_out done.reply)) book.finished (ended_with (call_of job) kept_as))
+      finished call is = rw is (sum_by_push (λ (done : Finished). one_if (takes_out done.reply))
+          book.finished (ended_with (call_of job) kept_as))
 
-      ended : more ≡ count_by (λ (done : Finished). takes_out done.reply) (book.finished ++ finished_with book.call kept_as)
+      ended : more ≡ count_by (λ (done : Finished). takes_out done.reply)
+          (book.finished ++ finished_with book.call kept_as)
       ended = let all = finished book.call says.0 in let so_far = says.1 in omega (arith, so_far, outs, all)
 
-  stepped-says : (w : World L) (G G' : Ghost) (c : ℕ) (op : Op) → planned_in w.core c ≡ Some op → AllIn L mix env w.core
+  stepped-says : (w : World L) (G G' : Ghost) (c : ℕ) (op : Op) → planned_in w.core c ≡ Some op
+      → AllIn L mix env w.core
       → Inv env mix L w.core G → StepOuts env mix L w.core G G' c
       → ViewSays (view_of w c) (outs env mix G c)
       → ViewSays (view_stepped mix (old_of w.core.words op) (view_of w c)) (outs env mix G' c)
@@ -117,9 +128,11 @@ module _ (env : Env) (mix : ℕ → ℕ → ℕ → ℕ) (L : Type 0) where
       let table = all.stays.locals_of c in
       let left : job_of next.0.doing ≡ (told r).0 = left-job L mix env local.doing of.job old table of.is in
       let says_job = subst (λ (job : Option Job). BookSays job (w.books c) (outs env mix G c)) of.is says in
-      subst (λ (job : Option Job). BookSays job (book_after (ending_of next.0 next.1) (w.books c)) (outs env mix G' c)) (sym left)
+      subst (λ (job : Option Job). BookSays job (book_after (ending_of next.0 next.1) (w.books c))
+      (outs env mix G' c)) (sym left)
       (after-says of.job (w.books c) r next.0 next.1 (outs env mix G c) (outs env mix G' c)
-      (doing_after-reply mix env local.doing of.job old table of.is) (same_call mix env of.job old) says_job (kept.mine op of.job is of.is))
+      (doing_after-reply mix env local.doing of.job old table of.is) (same_call mix env of.job old)
+      says_job (kept.mine op of.job is of.is))
 
   -- ---- one event
 
@@ -133,26 +146,34 @@ module _ (env : Env) (mix : ℕ → ℕ → ℕ → ℕ) (L : Type 0) where
       let after = kept env mix L w.core has.ghost (Begin c call) has.all has.inv in
       subst (ViewSays (view_of (world_step mix w (Begin c call)) k)) (sym (after.outs_kept k))
       (elim (cases_eq k c) [
-        | inl e ↦ subst (λ d. ViewSays (view_of (world_step mix w (Begin c call)) d) (outs env mix has.ghost d)) (sym e) (go (beginning_in w.core c call) refl)
-        | inr ne ↦ subst (λ (v : View L). ViewSays v (outs env mix has.ghost k)) (sym (begin_other L mix w c call k ne)) (has.says k)
+        | inl e ↦ subst (λ d. ViewSays (view_of (world_step mix w (Begin c call)) d)
+            (outs env mix has.ghost d)) (sym e) (go (beginning_in w.core c call) refl)
+        | inr ne ↦ subst (λ (v : View L). ViewSays v (outs env mix has.ghost k))
+            (sym (begin_other L mix w c call k ne)) (has.says k)
       ])
     where
       go : (machine : Option (Doing L)) → beginning_in w.core c call ≡ machine
           → ViewSays (view_of (world_step mix w (Begin c call)) c) (outs env mix has.ghost c)
-      go None is = subst (λ (v : World L). ViewSays (view_of v c) (outs env mix has.ghost c)) (sym (begin_none L mix w c call is)) (has.says c)
+      go None is = subst (λ (v : World L). ViewSays (view_of v c) (outs env mix has.ghost c))
+          (sym (begin_none L mix w c call is)) (has.says c)
       go (Some machine) is =
           let can = beginning-some w.core.env w.core.enrolled w.core.locals c call machine is in
           let place = has_place L mix env w.core c has.all.stays can.below in
-          subst (λ (v : View L). ViewSays v (outs env mix has.ghost c)) (sym (begin_self L mix w c call machine is place))
-          (begun-says c call machine (view_of w c) (outs env mix has.ghost c) (made_in L mix env w.core c call machine has.all.stays can)
+          subst (λ (v : View L). ViewSays v (outs env mix has.ghost c))
+          (sym (begin_self L mix w c call machine is place))
+          (begun-says c call machine (view_of w c) (outs env mix has.ghost c)
+          (made_in L mix env w.core c call machine has.all.stays can)
           can.idle (has.says c))
   event-says w (events.Step c) may has k =
       let after = kept env mix L w.core has.ghost (events.Step c) has.all has.inv in
       elim (cases_eq k c) [
-        | inl e ↦ subst (λ d. ViewSays (view_of (world_step mix w (events.Step c)) d) (outs env mix after.ghost d)) (sym e) (go (planned_in w.core c) refl)
+        | inl e ↦ subst (λ d. ViewSays (view_of (world_step mix w (events.Step c)) d)
+            (outs env mix after.ghost d)) (sym e) (go (planned_in w.core c) refl)
         | inr ne ↦
-            subst (ViewSays (view_of (world_step mix w (events.Step c)) k)) (sym (after.outs_kept.others k ne))
-            (subst (λ (v : View L). ViewSays v (outs env mix has.ghost k)) (sym (step_other L mix w c k ne)) (has.says k))
+            subst (ViewSays (view_of (world_step mix w (events.Step c)) k))
+            (sym (after.outs_kept.others k ne))
+            (subst (λ (v : View L). ViewSays v (outs env mix has.ghost k))
+            (sym (step_other L mix w c k ne)) (has.says k))
       ]
     where
       go : (plan : Option Op) → planned_in w.core c ≡ plan
@@ -161,24 +182,42 @@ module _ (env : Env) (mix : ℕ → ℕ → ℕ → ℕ) (L : Type 0) where
       go None is =
           let after = kept env mix L w.core has.ghost (events.Step c) has.all has.inv in
           subst (ViewSays (view_of (world_step mix w (events.Step c)) c)) (sym (after.outs_kept.none is))
-          (subst (λ (v : World L). ViewSays (view_of v c) (outs env mix has.ghost c)) (sym (step_none L mix w c is)) (has.says c))
+          (subst (λ (v : World L). ViewSays (view_of v c) (outs env mix has.ghost c))
+          (sym (step_none L mix w c is)) (has.says c))
       go (Some op) is =
           let after = kept env mix L w.core has.ghost (events.Step c) has.all has.inv in
           let can = planned-some w.core.env w.core.enrolled w.core.locals c op is in
           let place = has_place L mix env w.core c has.all.stays can.below in
-          subst (λ (v : View L). ViewSays v (outs env mix after.ghost c)) (sym (step_self L mix w c op is place))
+          subst (λ (v : View L). ViewSays v (outs env mix after.ghost c))
+          (sym (step_self L mix w c op is place))
           (stepped-says w has.ghost after.ghost c op is has.all has.inv after.outs_kept (has.says c))
 
   -- at opening nobody has called
   opening-says : (c : ℕ) → ViewSays (view_of (opening env) c) (outs env mix (opening_ghost env) c)
   opening-says c =
-      rw (idle_at_opening env mix L c) (refl, count_below-none (λ n. is_taken_by c Free) env.geometry.nodes (λ n l. refl))
+      rw (idle_at_opening env mix L c) (
+        refl,
+        count_below-none (λ n. is_taken_by c Free)
+            env.geometry.nodes (λ n l. refl),
+      )
 
   pub has_books : (events : List Event) → IsAdmitted env.config.kind events → HasBooks (run_of mix env events)
   has_books events admitted =
       run_keeps_admitted L mix env.config.kind HasBooks
       (λ w event may has.
       let k = kept env mix L w.core has.ghost event has.all has.inv in
-      record { ghost = k.ghost; inv = k.inv; all = event-all L mix env w event may has.all; says = event-says w event may has })
+      record {
+        ghost = k.ghost;
+        inv = k.inv;
+        all = event-all L mix env w event may has.all;
+        says =
+            event-says w event may has;
+      })
       (opening env) events admitted
-      (record { ghost = opening_ghost env; inv = opening_inv env mix L; all = opens-all L mix env; says = opening-says })
+      (record {
+        ghost = opening_ghost env;
+        inv = opening_inv env mix L;
+        all = opens-all L mix env;
+        says =
+            opening-says;
+      })

@@ -44,14 +44,16 @@ module _ (M : Type 0) (mix : ℕ → ℕ → ℕ → ℕ) (env : Env) where
   steps-fresh : (w : World M) (c : ℕ) (op : Option Op) → planned_in w.core c ≡ op
       → OthersFresh w
       → (k : ℕ) → w.core.enrolled ≤ k → IsFresh (world_step mix w (Step c)) k
-  steps-fresh w c None is fresh k past = ap (λ (v : World M). view_of v k) (step_none M mix w c is) ∙ fresh k past
+  steps-fresh w c None is fresh k past = ap (λ (v : World M). view_of v k) (step_none M mix w c is)
+      ∙ fresh k past
   steps-fresh w c (Some op) is fresh k past =
       let can = planned-some w.core.env w.core.enrolled w.core.locals c op is in
       step_other M mix w c k (λ same. omega (arith, can.below)) ∙ fresh k past
 
   pub event-fresh : (w : World M) (event : Event) → OthersFresh w → OthersFresh (world_step mix w event)
   event-fresh w Enroll fresh k past =
-      let rises = enrolled_after-rises w.core.env w.core.enrolled (old_of w.core.words (enrolling w.core.env)) in
+      let rises = enrolled_after-rises w.core.env w.core.enrolled
+      (old_of w.core.words (enrolling w.core.env)) in
       fresh k (omega (arith, rises, past))
   event-fresh w (Begin c call) fresh k past =
       begins-fresh w c call (beginning_in w.core c call) refl fresh k past

@@ -58,7 +58,8 @@ module _ (env : Env) (mix : ℕ → ℕ → ℕ → ℕ) where
   slots_at_opening : (s : ℕ) → has_table ((opening_ghost env).slot s) ≡ true → s ≡ 0
   slots_at_opening s has = elim (cases_eq s 0) [
     | inl zero ↦ zero
-    | inr other ↦ absurd (let free : false ≡ true = subst (λ o. has_table o ≡ true) (put-other (λ s. SlotFree) 0 (Live 0) s other) has in cc)
+    | inr other ↦ absurd (let free : false ≡ true = subst (λ o. has_table o ≡ true)
+        (put-other (λ s. SlotFree) 0 (Live 0) s other) has in cc)
   ]
 
   opening_table : (τ : ℕ) → τ < 1 → TableRight env mix (mem env mix (opening_words env)) (opening_ghost env) τ
@@ -78,8 +79,10 @@ module _ (env : Env) (mix : ℕ → ℕ → ℕ → ℕ) where
           flat = subst (λ (s : Shape). s.nest ≡ 0) (sym opens.shape) opens.flat;
           fits =
               subst (λ (s : Shape). 64 * s.page + size_of s ≤ 64 * env.geometry.pages) (sym opens.shape)
-              (subst (λ size. 0 + size ≤ 64 * env.geometry.pages) (sym opens.size) (omega (arith, opens.holds, opens.fits)));
-          places = λ b l. subst (λ (s : Shape). Some b ≡ Some (64 * s.page + b)) (sym opens.shape) (ap Some (omega arith));
+              (subst (λ size. 0 + size ≤ 64 * env.geometry.pages) (sym opens.size)
+              (omega (arith, opens.holds, opens.fits)));
+          places = λ b l. subst (λ (s : Shape). Some b ≡ Some (64 * s.page + b)) (sym opens.shape)
+              (ap Some (omega arith));
           pages = λ b l. refl;
         };
       })
@@ -91,7 +94,11 @@ module _ (env : Env) (mix : ℕ → ℕ → ℕ → ℕ) where
       current_in = omega arith;
       current_is = opened CurrentTable tt;
       each = opening_table;
-      slots = λ s has. rw (slots_at_opening s has) (record { attached = rw (put-same (λ s. SlotFree) 0 (Live 0)) (omega arith); slot = refl });
+      slots = λ s has. rw (slots_at_opening s has) (record {
+        attached =
+            rw (put-same (λ s. SlotFree) 0 (Live 0)) (omega arith);
+        slot = refl;
+      });
     };
     buckets = λ j l. record {
       locked = record { word_is = opened (PageWord j) l; even = refl; none_out = refl; none_armed = refl };
@@ -117,8 +124,10 @@ module _ (env : Env) (mix : ℕ → ℕ → ℕ → ℕ) where
   }
 
   module _ (L : Type 0) where
-    pub idle_at_opening : (c : ℕ) → ◌≡◌ {A = Local L} (local_in env (replicate env.geometry.callers (fresh env)) c) (fresh env)
-    idle_at_opening c = each_replicate (λ (local : Local L). local ≡ fresh env) env.geometry.callers c (fresh env) refl
+    pub idle_at_opening : (c : ℕ) → ◌≡◌ {A = Local L}
+        (local_in env (replicate env.geometry.callers (fresh env)) c) (fresh env)
+    idle_at_opening c = each_replicate (λ (local : Local L). local ≡ fresh env) env.geometry.callers c
+        (fresh env) refl
 
     pub opening_inv : Inv env mix L (opening_core env) (opening_ghost env)
     opening_inv = record {
@@ -136,7 +145,8 @@ module _ (env : Env) (mix : ℕ → ℕ → ℕ → ℕ) where
       pub inv : Inv env mix L core ghost
       pub all : AllIn L mix env core
 
-    pub has_inv : (events : List Event) → IsAdmitted env.config.kind events → HasInv (run_of {M = L} mix env events).core
+    pub has_inv : (events : List Event) → IsAdmitted env.config.kind events
+        → HasInv (run_of {M = L} mix env events).core
     has_inv events admitted =
         run_keeps_admitted L mix env.config.kind (λ (w : World L). HasInv w.core)
         (λ w event may has.

@@ -44,14 +44,17 @@ module _ (env : Env) (mix : ℕ → ℕ → ℕ → ℕ) where
   Knows c None M G = KnowsNothing env mix c M G
   Knows c (Some job) M G = JobKnows env mix c job M G
 
-  Knows-rely : (c : ℕ) (job : Option Job) (M M' : Memory) (G G' : Ghost) → Whole env mix M G → Rely env mix c M G M' G'
+  Knows-rely : (c : ℕ) (job : Option Job) (M M' : Memory) (G G' : Ghost) → Whole env mix M G
+      → Rely env mix c M G M' G'
       → Knows c job M G → Knows c job M' G'
   Knows-rely c None M M' G G' whole rely knows =
       Knowing-rely env mix c M M' G G' holds_no known_nothing (members_used env mix M G whole) rely knows
-  Knows-rely c (Some job) M M' G G' whole rely knows = JobKnows-rely env mix c job M M' G G' (members_used env mix M G whole) rely knows
+  Knows-rely c (Some job) M M' G G' whole rely knows = JobKnows-rely env mix c job M M' G G'
+      (members_used env mix M G whole) rely knows
 
   -- what a caller knows after an operation is what the job that is left says
-  knows-told : (c : ℕ) (r : Job × Next Ending) (M : Memory) (G : Ghost) → JobNext env mix c r M G → Knows c (told r).0 M G
+  knows-told : (c : ℕ) (r : Job × Next Ending) (M : Memory) (G : Ghost) → JobNext env mix c r M G
+      → Knows c (told r).0 M G
   knows-told c (job, Go) M G knows = knows
   knows-told c (job, Done ending) M G knows = record { only = knows.only; means = knows.means }
 
@@ -63,7 +66,8 @@ module _ (env : Env) (mix : ℕ → ℕ → ℕ → ℕ) where
       pub each : (c : ℕ) → Knows c (job_of (local_of core c).doing) (mem env mix core.words) G
 
     -- what a caller does that is in range is a job that is
-    pub job-in : (c : ℕ) (doing : Doing L) (job : Job) → job_of doing ≡ Some job → IsDoingIn env c doing → JobIn env mix c job
+    pub job-in : (c : ℕ) (doing : Doing L) (job : Job) → job_of doing ≡ Some job → IsDoingIn env c doing
+        → JobIn env mix c job
     job-in c Idle job is within = absurd (cc)
     job-in c (Finding m) job is within =
         let here : finds m.port m.at ≡ job = cc in subst (JobIn env mix c) here within.at_in
@@ -76,8 +80,18 @@ module _ (env : Env) (mix : ℕ → ℕ → ℕ → ℕ) where
         → machine_of env c call ≡ Some machine → KnowsNothing env mix c M G → Knows c (job_of machine) M G
     begun_knows c call machine M G is knows =
         begins_so L env c (λ asked first. Knows c (job_of first) M G)
-        (λ port. record { built = tt; knowing = record { only = knows.only; means = knows.means }; fits = tt })
-        (λ port owner once single. record { built = single; knowing = record { only = knows.only; means = knows.means }; fits = (refl, refl) })
+        (λ port. record {
+          built = tt;
+          knowing = record { only = knows.only; means = knows.means };
+          fits =
+              tt;
+        })
+        (λ port owner once single. record {
+          built = single;
+          knowing =
+              record { only = knows.only; means = knows.means };
+          fits = (refl, refl);
+        })
         call machine is
 
     -- a caller in no call has nothing
@@ -104,7 +118,8 @@ module _ (env : Env) (mix : ℕ → ℕ → ℕ → ℕ) where
           let r = job_after mix env job (old_of core.words op) in
           Step env mix c (call_of job) core.words G op (held_of job) (held_next r) (JobNext env mix c r)
 
-    pub step_of : (core : Core L) (G : Ghost) (c : ℕ) (op : Op) → AllIn L mix env core → Inv core G → planned_in core c ≡ Some op
+    pub step_of : (core : Core L) (G : Ghost) (c : ℕ) (op : Op) → AllIn L mix env core → Inv core G
+        → planned_in core c ≡ Some op
         → StepOf core G c op
     step_of core G c op sound inv is =
         let can = planned-some core.env core.enrolled core.locals c op is in
@@ -123,7 +138,8 @@ module _ (env : Env) (mix : ℕ → ℕ → ℕ → ℕ) where
           low = low;
           all = sound.stays.all_words;
           step = subst (λ o. let r = job_after mix env job (old_of core.words o) in
-              Step env mix c (call_of job) core.words G o (held_of job) (held_next r) (JobNext env mix c r)) (sym plans.plan)
+              Step env mix c (call_of job) core.words G o (held_of job) (held_next r)
+              (JobNext env mix c r)) (sym plans.plan)
               (job_step env mix c low core.words G sound.stays.all_words inv.whole job within knows);
         }
 
@@ -133,7 +149,8 @@ module _ (env : Env) (mix : ℕ → ℕ → ℕ → ℕ) where
     pub record StepOuts (core : Core L) (G G' : Ghost) (c : ℕ) : Type 0 where
       pub others : (k : ℕ) → k ≢ c → outs env mix G' k ≡ outs env mix G k
       pub none : planned_in core c ≡ None → outs env mix G' c ≡ outs env mix G c
-      pub mine : (op : Op) (job : Job) → planned_in core c ≡ Some op → job_of (local_of core c).doing ≡ Some job
+      pub mine : (op : Op) (job : Job) → planned_in core c ≡ Some op
+          → job_of (local_of core c).doing ≡ Some job
           → outs env mix G' c + outs_of (held_of job).answer
           ≡ outs env mix G c + outs_of (held_next (job_after mix env job (old_of core.words op))).answer
 
@@ -149,9 +166,11 @@ module _ (env : Env) (mix : ℕ → ℕ → ℕ → ℕ) where
       pub outs_kept : OutsKept core G ghost event
 
     -- others see no node taken out
-    others_outs : (k : ℕ) (M M' : Memory) (G G' : Ghost) → Rely env mix k M G M' G' → outs env mix G' k ≡ outs env mix G k
+    others_outs : (k : ℕ) (M M' : Memory) (G G' : Ghost) → Rely env mix k M G M' G'
+        → outs env mix G' k ≡ outs env mix G k
     others_outs k M M' G G' rely =
-        count_below-same (λ n. is_taken_by k (G.node n)) (λ n. is_taken_by k (G'.node n)) env.geometry.nodes (λ n l. rely.taken n)
+        count_below-same (λ n. is_taken_by k (G.node n)) (λ n. is_taken_by k (G'.node n))
+        env.geometry.nodes (λ n l. rely.taken n)
 
     begin_kept : (core : Core L) (G : Ghost) (c : ℕ) (call : Call) (machine : Option (Doing L))
         → AllIn L mix env core → Inv core G → beginning_in core c call ≡ machine → Kept core G (Begin c call)
@@ -165,13 +184,15 @@ module _ (env : Env) (mix : ℕ → ℕ → ℕ → ℕ) where
         let place = has_place L mix env core c sound.stays can.below in
         let M = mem env mix core.words in
         let nothing = idle_knows c (local_of core c).doing M G can.idle (inv.each c) in
-        let knows = begun_knows c call machine M G (made_in L mix env core c call machine sound.stays can) nothing in
+        let knows = begun_knows c call machine M G (made_in L mix env core c call machine sound.stays
+        can) nothing in
         record {
           ghost = G;
           inv = rw is (record {
             same_env = inv.same_env;
             whole = inv.whole;
-            each = each_set (λ k local. Knows k (job_of local.doing) M G) (fresh core.env) core.locals c (begin_with (local_of core c) machine) place knows inv.each;
+            each = each_set (λ k local. Knows k (job_of local.doing) M G) (fresh core.env) core.locals c
+                (begin_with (local_of core c) machine) place knows inv.each;
           });
           outs_kept = λ k. refl;
         }
@@ -197,7 +218,8 @@ module _ (env : Env) (mix : ℕ → ℕ → ℕ → ℕ) where
         let next = (local_after mix (local_of core c) old).0 in
         let M' = mem env mix (applied core.words op) in
         let G' = ghost_after env mix c step.move G in
-        let left : job_of next.doing ≡ (told (job_after mix env of.job old)).0 = left-job L mix env doing of.job old (sound.stays.locals_of c) of.is in
+        let left : job_of next.doing ≡ (told (job_after mix env of.job old)).0 = left-job L mix env doing
+        of.job old (sound.stays.locals_of c) of.is in
         record {
           ghost = G';
           inv = rw is (record {
@@ -207,7 +229,8 @@ module _ (env : Env) (mix : ℕ → ℕ → ℕ → ℕ) where
               | inl e ↦ rw e (rw (get_or-set_same core.locals c next (fresh core.env) place)
                   (rw left (knows-told c (job_after mix env of.job old) M' G' step.knows)))
               | inr ne ↦ rw (get_or-set_other core.locals c k next (fresh core.env) ne)
-                  (Knows-rely k (job_of (local_of core k).doing) (mem env mix core.words) M' G G' inv.whole (step.made.others k ne) (inv.each k))
+                  (Knows-rely k (job_of (local_of core k).doing) (mem env mix core.words) M' G G'
+                  inv.whole (step.made.others k ne) (inv.each k))
             ];
           });
           outs_kept = record {
@@ -216,8 +239,11 @@ module _ (env : Env) (mix : ℕ → ℕ → ℕ → ℕ) where
             mine = λ other job plans does.
                 let same_op : op ≡ other = (let both = sym is ∙ plans in cc) in
                 let same : of.job ≡ job = (let both = sym of.is ∙ does in cc) in
-                subst (λ j. outs env mix G' c + outs_of (held_of j).answer ≡ outs env mix G c + outs_of (held_next (job_after mix env j (old_of core.words other))).answer) same
-                (subst (λ o. outs env mix G' c + outs_of (held_of of.job).answer ≡ outs env mix G c + outs_of (held_next (job_after mix env of.job (old_of core.words o))).answer) same_op step.outs);
+                subst (λ j. outs env mix G' c + outs_of (held_of j).answer ≡ outs env mix G c + outs_of
+                (held_next (job_after mix env j (old_of core.words other))).answer) same
+                (subst (λ o. outs env mix G' c + outs_of (held_of of.job).answer ≡ outs env mix G
+                c + outs_of (held_next (job_after mix env of.job (old_of core.words o))).answer)
+                same_op step.outs);
           };
         }
 
@@ -226,20 +252,25 @@ module _ (env : Env) (mix : ℕ → ℕ → ℕ → ℕ) where
         let op = enrolling core.env in
         let M' = mem env mix (applied core.words op) in
         let write = is_write env.geometry core.words EnrolledCallers op sound.stays.all_words tt refl in
-        let kept = aside env mix EnrolledCallers (word_after (word_at env.geometry core.words EnrolledCallers) op) (mem env mix core.words) M' G inv.whole write
-        (record { current = λ e. cc; slots = λ s w h e. cc }) (λ j e. cc) (λ n w e. cc) (λ i e. cc) (λ e. cc) in
+        let kept = aside env mix EnrolledCallers (word_after
+        (word_at env.geometry core.words EnrolledCallers) op) (mem env mix core.words) M' G inv.whole
+        write
+        (record { current = λ e. cc; slots = λ s w h e. cc }) (λ j e. cc) (λ n w e. cc) (λ i e. cc)
+        (λ e. cc) in
         record {
           ghost = G;
           inv = record {
             same_env = inv.same_env;
             whole = kept.0;
-            each = λ k. Knows-rely k (job_of (local_of core k).doing) (mem env mix core.words) M' G G inv.whole (kept.1 k) (inv.each k);
+            each = λ k. Knows-rely k (job_of (local_of core k).doing) (mem env mix core.words) M' G G
+                inv.whole (kept.1 k) (inv.each k);
           };
           outs_kept = λ k. refl;
         }
 
     -- each event keeps the invariant
-    pub kept : (core : Core L) (G : Ghost) (event : Event) → AllIn L mix env core → Inv core G → Kept core G event
+    pub kept : (core : Core L) (G : Ghost) (event : Event) → AllIn L mix env core → Inv core G
+        → Kept core G event
     kept core G Enroll sound inv = enroll_kept core G sound inv
     kept core G (Begin c call) sound inv = begin_kept core G c call (beginning_in core c call) sound inv refl
     kept core G (events.Step c) sound inv = step_kept core G c (planned_in core c) sound inv refl

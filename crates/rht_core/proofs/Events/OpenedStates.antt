@@ -10,7 +10,8 @@ use Rattle.rht_words.specs.declared.env.Env.{Env}
 pub opening_words-more : (env : Env) (place word : ℕ) (words : List ℕ)
     → words ≡ map (λ p. opening_word env (address_at env.geometry p)) (range_with_len 0 place)
     → word ≡ opening_word env (address_at env.geometry place)
-    → words ++ word ∷ [] ≡ map (λ p. opening_word env (address_at env.geometry p)) (range_with_len 0 (place + 1))
+    → words ++ word ∷ [] ≡ map (λ p. opening_word env (address_at env.geometry p))
+    (range_with_len 0 (place + 1))
 opening_words-more env place word words before here =
     let opening = λ (p : ℕ). opening_word env (address_at env.geometry p) in
     rw (before, here) (sym (map-range_with_len_more opening 0 place place (omega arith)))

@@ -162,11 +162,15 @@ module _ (M : Type 0) (mix : ℕ → ℕ → ℕ → ℕ) (env : Env) where
 
   begin-all : (core : Core M) (c : ℕ) (call : Call) (machine : Option (Doing M)) → IsAdmittedCall call
       → beginning_in core c call ≡ machine → AllIn core
-      → (k : ℕ) → IsLocalIn env k (local_of (record core { locals = with_machine core.env core.locals c machine }) k)
+      → (k : ℕ)
+      → IsLocalIn env k (local_of (record core {
+        locals = with_machine core.env core.locals c machine;
+      }) k)
   begin-all core c call None admitted is all k = all.locals k
   begin-all core c call (Some machine) admitted is all k =
       let can = beginning-some core.env core.enrolled core.locals c call machine is in
-      let doing = begins-in M env c call machine (made_in M mix env core c call machine all.stays can) admitted in
+      let doing = begins-in M env c call machine (made_in M mix env core c call machine all.stays can)
+      admitted in
       let here = all.locals c in
       each_set (IsLocalIn env) (fresh core.env) core.locals c (begin_with (local_of core c) machine)
       (has_place M mix env core c all.stays can.below)
@@ -188,9 +192,11 @@ module _ (M : Type 0) (mix : ℕ → ℕ → ℕ → ℕ) (env : Env) where
       record {
         words = applied-fit core.words op plan.fits all.words;
         locals =
-            each_set (IsLocalIn env) (fresh core.env) core.locals c next.0 (has_place M mix env core c all.stays can.below)
+            each_set (IsLocalIn env) (fresh core.env) core.locals c next.0
+            (has_place M mix env core c all.stays can.below)
             record {
-              doing = doing_after-in M mix env c (local_of core c).doing old here.doing (old_of-fits core.words op all.words);
+              doing = doing_after-in M mix env c (local_of core c).doing old here.doing
+                  (old_of-fits core.words op all.words);
               owners = here.owners;
               pairs = here.pairs;
             }
@@ -213,15 +219,18 @@ module _ (M : Type 0) (mix : ℕ → ℕ → ℕ → ℕ) (env : Env) where
       let after = step-all w.core c (planned_in w.core c) refl all in
       record { stays = stays-in M mix env w (Step c) all.stays; words = after.words; locals = after.locals }
 
-  pub runs-all : (events : List Event) → IsAdmitted env.config.kind events → AllIn (run_of mix env events).core
+  pub runs-all : (events : List Event) → IsAdmitted env.config.kind events
+      → AllIn (run_of mix env events).core
   runs-all events admitted =
-      run_keeps_admitted M mix env.config.kind (λ (w : World M). AllIn w.core) event-all (opening env) events admitted opens-all
+      run_keeps_admitted M mix env.config.kind (λ (w : World M). AllIn w.core) event-all (opening env)
+      events admitted opens-all
 
   -- ---- who is enrolled
 
   step-kept : (core : Core M) (c : ℕ) (op : Option Op) → planned_in core c ≡ op
       → AllIn core
-      → word_at env.geometry (with_step mix core c op).0.words EnrolledCallers ≡ word_at env.geometry core.words EnrolledCallers
+      → word_at env.geometry (with_step mix core c op).0.words EnrolledCallers ≡ word_at env.geometry
+      core.words EnrolledCallers
   step-kept core c None is all = refl
   step-kept core c (Some op) is all =
       let can = planned-some core.env core.enrolled core.locals c op is in

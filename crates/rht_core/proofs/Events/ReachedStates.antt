@@ -21,7 +21,8 @@ module _ (M : Type 0) (mix : ℕ → ℕ → ℕ → ℕ) where
   pub IsSound-reached : (core : Core M) → IsReached mix core → IsSound core
   IsSound-reached core reached =
       subst (λ (k : Core M). IsSound k) reached.same
-      (IsSound-stays M mix core.env (run_of mix core.env reached.events).core (runs-in M mix core.env reached.events))
+      (IsSound-stays M mix core.env (run_of mix core.env reached.events).core
+      (runs-in M mix core.env reached.events))
 
   -- a caller that there may be has a place
   pub place-reached : (core : Core M) (c : ℕ) → IsReached mix core → c < core.env.geometry.callers
@@ -66,7 +67,8 @@ module _ (M : Type 0) (mix : ℕ → ℕ → ℕ → ℕ) where
         events = events;
         admitted =
             subst (λ (e : Env). AllByRecursion (IsAdmittedEvent e.config.kind) events) env
-            (AllByRecursion-append (IsAdmittedEvent core.env.config.kind) reached.events (event ∷ []) reached.admitted (more, tt));
+            (AllByRecursion-append (IsAdmittedEvent core.env.config.kind) reached.events (event ∷ [])
+            reached.admitted (more, tt));
         same = subst (λ (e : Env). (run_of {M = M} mix e events).core ≡ after) env same;
       }
 
@@ -76,4 +78,5 @@ module _ (M : Type 0) (mix : ℕ → ℕ → ℕ → ℕ) where
       → IsReached mix core
       → IsReached mix after
   IsReached-more core after event stepped more is reached =
-      subst (λ (k : Core M). IsReached mix k) (sym (ap (λ p. p.0) is)) (core_step-reached core event more reached)
+      subst (λ (k : Core M). IsReached mix k) (sym (ap (λ p. p.0) is))
+      (core_step-reached core event more reached)

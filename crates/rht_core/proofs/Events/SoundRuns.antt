@@ -36,7 +36,8 @@ module _ (M : Type 0) where
   begins-of : (env : Env) (c : ℕ) (call : Call) (machine : Doing M) → machine_of env c call ≡ Some machine
       → IsDoingOf env machine
   begins-of env c =
-      begins_so M env c (λ call machine. IsDoingOf env machine) (λ port. refl) (λ port owner once single. refl)
+      begins_so M env c (λ call machine. IsDoingOf env machine) (λ port. refl)
+      (λ port owner once single. refl)
 
   found_next-of : (env : Env) (m : FindModel) (next : Next Reply) → m.env ≡ env
       → IsDoingOf env (found_next {M = M} (m, next)).0
@@ -52,8 +53,10 @@ module _ (M : Type 0) where
   doing_after-of : (mix : ℕ → ℕ → ℕ → ℕ) (env : Env) (doing : Doing M) (old : ℕ) → IsDoingOf env doing
       → IsDoingOf env (doing_after mix doing old).0
   doing_after-of mix env Idle old of = tt
-  doing_after-of mix env (Finding m) old of = found_next-of env (find_after mix m old).0 (find_after mix m old).1 of
-  doing_after-of mix env (Binding m) old of = bound_next-of env (bind_after mix m old).0 (bind_after mix m old).1 of
+  doing_after-of mix env (Finding m) old of = found_next-of env (find_after mix m old).0
+      (find_after mix m old).1 of
+  doing_after-of mix env (Binding m) old of = bound_next-of env (bind_after mix m old).0
+      (bind_after mix m old).1 of
 
 -- ---- runs
 
@@ -91,7 +94,8 @@ module _ (M : Type 0) (mix : ℕ → ℕ → ℕ → ℕ) (env : Env) where
     few_enrolled = stays.few_enrolled;
     all_local = AllByRecursion-set (IsLocalOf env) core.locals c local of stays.all_local;
     locals_of =
-        each_set (λ k other. IsLocalOf env other) (fresh core.env) core.locals c local (has_place core c stays enrolled) of stays.locals_of;
+        each_set (λ k other. IsLocalOf env other) (fresh core.env) core.locals c local
+        (has_place core c stays enrolled) of stays.locals_of;
   }
 
   -- the words are changed by an operation
@@ -113,7 +117,8 @@ module _ (M : Type 0) (mix : ℕ → ℕ → ℕ → ℕ) (env : Env) where
       ap (λ (e : Env). e.geometry.callers) stays.same_env in
       cond_both (nat_lt old core.env.geometry.callers) (max core.enrolled (old + 1)) core.enrolled
       (λ n. n ≤ env.geometry.callers)
-      (λ t. let below = ltb-true old core.env.geometry.callers t in let few = stays.few_enrolled in omega arith)
+      (λ t. let below = ltb-true old core.env.geometry.callers t in let few = stays.few_enrolled in omega
+      arith)
       (λ f. stays.few_enrolled)
 
   -- who begins does what the run's environment says
@@ -139,7 +144,8 @@ module _ (M : Type 0) (mix : ℕ → ℕ → ℕ → ℕ) (env : Env) where
       let old = old_of core.words op in
       let next = local_after mix (local_of core c) old in
       applied-in (record core { locals = slice_set core.locals c next.0 }) op
-      (set-in core c next.0 stays can.below (doing_after-of M mix env (local_of core c).doing old (stays.locals_of c)))
+      (set-in core c next.0 stays can.below (doing_after-of M mix env (local_of core c).doing old
+      (stays.locals_of c)))
 
   pub stays-in : (w : World M) (event : Event) → StaysIn w.core → StaysIn (world_step mix w event).core
   stays-in w Enroll stays =
@@ -167,7 +173,8 @@ module _ (M : Type 0) (mix : ℕ → ℕ → ℕ → ℕ) (env : Env) where
         all_words = stays.all_words ∙ ap words_in g_same;
         all_locals = stays.all_locals ∙ ap (λ g. g.callers) g_same;
         few_enrolled = subst (λ g. core.enrolled ≤ g.callers) g_same stays.few_enrolled;
-        same_env = subst (λ (e : Env). AllByRecursion (IsLocalOf e) core.locals) (sym stays.same_env) stays.all_local;
+        same_env = subst (λ (e : Env). AllByRecursion (IsLocalOf e) core.locals) (sym stays.same_env)
+            stays.all_local;
       }
 
   pub step-count : (core : Core M) (c : ℕ) (op : Option Op)

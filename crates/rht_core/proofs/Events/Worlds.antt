@@ -66,13 +66,15 @@ cond_none false option a is = absurd (cc)
 
 module _ {M : Type 0} where
   -- who begins is enrolled and idle, and has a machine for the call
-  pub record CanBegin (env : Env) (enrolled : ℕ) (locals : List (Local M)) (c : ℕ) (call : Call) (machine : Doing M)
+  pub record CanBegin (env : Env) (enrolled : ℕ) (locals : List (Local M)) (c : ℕ) (call : Call)
+      (machine : Doing M)
       : Type 0 where
     pub below : c < enrolled
     pub idle : is_idle (local_in env locals c) ≡ true
     pub machine_is : machine_of env c call ≡ Some machine
 
-  pub beginning-some : (env : Env) (enrolled : ℕ) (locals : List (Local M)) (c : ℕ) (call : Call) (machine : Doing M)
+  pub beginning-some : (env : Env) (enrolled : ℕ) (locals : List (Local M)) (c : ℕ) (call : Call)
+      (machine : Doing M)
       → beginning env enrolled locals c call ≡ Some machine → CanBegin env enrolled locals c call machine
   beginning-some env enrolled locals c call machine is =
       let parts =
@@ -111,7 +113,8 @@ module _ (M : Type 0) (mix : ℕ → ℕ → ℕ → ℕ) (w : World M) where
     begin_none is = ap began_with is
 
     -- who begins has the machine and the call
-    pub begin_self : (machine : Doing M) → beginning_in w.core c call ≡ Some machine → c < length w.core.locals
+    pub begin_self : (machine : Doing M) → beginning_in w.core c call ≡ Some machine
+        → c < length w.core.locals
         → view_of (world_step mix w (Begin c call)) c ≡ view_begun call machine (view_of w c)
     begin_self machine is below =
         let begun = begin_with (local_of w.core c) machine in
@@ -122,7 +125,8 @@ module _ (M : Type 0) (mix : ℕ → ℕ → ℕ → ℕ) (w : World M) where
         ap (λ o. view_of (began_with o) c) is ∙ (λ i. pair (local i) (book i))
 
     -- another caller sees nothing of it
-    began_other : (k : ℕ) → k ≢ c → (machine : Option (Doing M)) → view_of (began_with machine) k ≡ view_of w k
+    began_other : (k : ℕ) → k ≢ c → (machine : Option (Doing M))
+        → view_of (began_with machine) k ≡ view_of w k
     began_other k other None = refl
     began_other k other (Some machine) =
         let begun = begin_with (local_of w.core c) machine in
@@ -187,7 +191,8 @@ module _ (M : Type 0) (mix : ℕ → ℕ → ℕ → ℕ) where
   run_from-append w (event ∷ past) rest = run_from-append (world_step mix w event) past rest
 
   pub run_of-push : (env : Env) (events : List Event) (event : Event)
-      → ◌≡◌ {A = World M} (run_of mix env (events ++ event ∷ [])) (world_step mix (run_of mix env events) event)
+      → ◌≡◌ {A = World M} (run_of mix env (events ++ event ∷ []))
+      (world_step mix (run_of mix env events) event)
   run_of-push env events event = run_from-append (opening env) events (event ∷ [])
 
   -- what each event keeps holds behind all of them
@@ -206,6 +211,7 @@ module _ (M : Type 0) (mix : ℕ → ℕ → ℕ → ℕ) where
 
   pub extends : Extends M mix
   extends env events event admitted more = record {
-    admitted = AllByRecursion-append (IsAdmittedEvent env.config.kind) events (event ∷ []) admitted (more, tt);
+    admitted = AllByRecursion-append (IsAdmittedEvent env.config.kind) events (event ∷ []) admitted
+        (more, tt);
     world = run_of-push env events event;
   }

@@ -15,7 +15,8 @@ use Rattle.rht_core.specs.RunHistories.{bindings_behind, ChangesBindings}
 use Rattle.rht_core.proofs.Events.Worlds.{take-push}
 
 -- one of a list with one more is one of the list, or the one more
-pub Any-push_cases : {X : Type 0} (P : X → Type 0) (xs : List X) (y : X) → Any P (xs ++ y ∷ []) → Any P xs ⊎ P y
+pub Any-push_cases : {X : Type 0} (P : X → Type 0) (xs : List X) (y : X) → Any P (xs ++ y ∷ [])
+    → Any P xs ⊎ P y
 Any-push_cases P xs y (k, x, within, is, p) = elim (cases_lt k (length xs)) [
   | inl low ↦
       let same : get_or (xs ++ y ∷ []) k x ≡ get_or xs k x = grind (arith, common_steps) in
@@ -44,20 +45,24 @@ module _ (M : Type 0) (mix : ℕ → ℕ → ℕ → ℕ) (env : Env) where
   pub behind-last : (events : List Event) (event : Event)
       → behind (events ++ event ∷ []) (length events + 1) ≡ bindings_at M mix env (events ++ event ∷ [])
   behind-last events event =
-      ap (bindings_at M mix env) (take_all (length events + 1) (events ++ event ∷ []) (omega (arith, length_push events event)))
+      ap (bindings_at M mix env) (take_all (length events + 1) (events ++ event ∷ [])
+      (omega (arith, length_push events event)))
 
   -- an operation that was made by then has changed what it had changed
   module _ (events : List Event) (event : Event) (did : Did) (l : did.index < length events) where
     before-same : (port : ℕ) → behind (events ++ event ∷ []) did.index port ≡ behind events did.index port
     before-same port = ap (λ (b : Multimap). b port) (behind-more events event did.index (omega (arith, l)))
 
-    after-same : (port : ℕ) → behind (events ++ event ∷ []) (did.index + 1) port ≡ behind events (did.index + 1) port
-    after-same port = ap (λ (b : Multimap). b port) (behind-more events event (did.index + 1) (omega (arith, l)))
+    after-same : (port : ℕ) → behind (events ++ event ∷ []) (did.index + 1) port ≡ behind events
+        (did.index + 1) port
+    after-same port = ap (λ (b : Multimap). b port) (behind-more events event (did.index + 1)
+        (omega (arith, l)))
 
     changes-more : ChangesBindings M mix env events did → ChangesBindings M mix env (events ++ event ∷ []) did
     changes-more (port, differ) = (port, λ same. differ (sym (before-same port) ∙ same ∙ after-same port))
 
-    changes-fewer : ChangesBindings M mix env (events ++ event ∷ []) did → ChangesBindings M mix env events did
+    changes-fewer : ChangesBindings M mix env (events ++ event ∷ []) did
+        → ChangesBindings M mix env events did
     changes-fewer (port, differ) = (port, λ same. differ (before-same port ∙ same ∙ sym (after-same port)))
 
   abbrev pub Changed : List Event → List Did → Type 0
@@ -65,7 +70,8 @@ module _ (M : Type 0) (mix : ℕ → ℕ → ℕ → ℕ) (env : Env) where
 
   module _ (events : List Event) (event : Event) (steps : List Did)
       (made : AllByRecursion (λ did. did.index < length events) steps) where
-    index_below : (k : ℕ) (did : Did) → k < length steps → get_or steps k did ≡ did → did.index < length events
+    index_below : (k : ℕ) (did : Did) → k < length steps → get_or steps k did ≡ did
+        → did.index < length events
     index_below k did within is =
         subst (λ (d : Did). d.index < length events) is
         (All-from_recursion (λ (d : Did). d.index < length events) steps made k did within)

@@ -30,7 +30,8 @@ AreEnded [] (x ∷ xs) = ⊥
 AreEnded (past ∷ calls) [] = ⊥
 AreEnded (past ∷ calls) (x ∷ xs) = IsEntryOf past x × AreEnded calls xs
 
-AreEnded-push : (calls : List Past) (xs : List Numbered) (past : Past) (x : Numbered) → AreEnded calls xs → IsEntryOf past x
+AreEnded-push : (calls : List Past) (xs : List Numbered) (past : Past) (x : Numbered) → AreEnded calls xs
+    → IsEntryOf past x
     → AreEnded (calls ++ past ∷ []) (xs ++ x ∷ [])
 AreEnded-push [] [] past x ended is = (is, tt)
 AreEnded-push [] (y ∷ ys) past x ended is = absurd ended
@@ -50,13 +51,15 @@ about-push (call ∷ calls) past = go (is_some (port_of call.done.call)) (about-
     go false rest = rest
 
 -- the last of these is the one that was put behind the others
-LastHas-last : (c : ℕ) (reply : Reply) (es : List Numbered) (x : Numbered) → without_kick reply ≡ without_kick x.entry.reply
+LastHas-last : (c : ℕ) (reply : Reply) (es : List Numbered) (x : Numbered)
+    → without_kick reply ≡ without_kick x.entry.reply
     → LastHas c reply (es ++ x ∷ [])
 LastHas-last c reply [] x is = is
 LastHas-last c reply (e ∷ []) x is = is
 LastHas-last c reply (e ∷ f ∷ es) x is = LastHas-last c reply (f ∷ es) x is
 
-module _ (M : Type 0) (mix : ℕ → ℕ → ℕ → ℕ) (env : Env) (events : List Event) (c : ℕ) (call : Call) (begin : ℕ)
+module _ (M : Type 0) (mix : ℕ → ℕ → ℕ → ℕ) (env : Env) (events : List Event) (c : ℕ) (call : Call)
+    (begin : ℕ)
     (before : List Did) (last : Did) (index : last.index + 1 ≡ length events) (ending : Ending) where
   abbrev kind : Kind
   kind = env.config.kind
@@ -77,14 +80,16 @@ module _ (M : Type 0) (mix : ℕ → ℕ → ℕ → ℕ) (env : Env) (events : 
     pub own : entries_of c next ≡ es
     pub ended : AreEnded (about_bindings (calls ++ past ∷ [])) es
 
-  module _ (history : List Numbered) (calls : List Past) (es : List Numbered) (good : IsGood M mix env events history)
+  module _ (history : List Numbered) (calls : List Past) (es : List Numbered)
+      (good : IsGood M mix env events history)
       (ended : AreEnded (about_bindings calls) es) (below : AllBelow begin es) where
     -- one more entry is that of the call
     one_more : is_some (port_of call) ≡ true → (x : Numbered) → IsEntryOf past x
         → AreEnded (about_bindings (calls ++ past ∷ [])) (es ++ x ∷ [])
     one_more about x is =
         let now : about_bindings (past ∷ []) ≡ past ∷ [] = ap (λ t. cond t (past ∷ []) []) about in
-        subst (λ all. AreEnded all (es ++ x ∷ [])) (sym (about-push calls past ∙ ap (λ l. about_bindings calls ++ l) now))
+        subst (λ all. AreEnded all (es ++ x ∷ [])) (sym (about-push calls past
+        ∙ ap (λ l. about_bindings calls ++ l) now))
         (AreEnded-push (about_bindings calls) es past x ended is)
 
     -- a call that isn't about bindings has none
@@ -97,11 +102,13 @@ module _ (M : Type 0) (mix : ℕ → ℕ → ℕ → ℕ) (env : Env) (events : 
           others = λ d ne. refl;
           es = es;
           own = none;
-          ended = subst (λ all. AreEnded all es) (sym (about-push calls past ∙ ap (λ l. about_bindings calls ++ l) now ∙ append-nil (about_bindings calls))) ended;
+          ended = subst (λ all. AreEnded all es) (sym (about-push calls past
+              ∙ ap (λ l. about_bindings calls ++ l) now ∙ append-nil (about_bindings calls))) ended;
         }
 
     -- where it has changed nothing, its entry is put in
-    put_now : entries_of c history ≡ es → is_some (port_of call) ≡ true → (is : IsSaid M mix env events c call begin ending.answer)
+    put_now : entries_of c history ≡ es → is_some (port_of call) ≡ true
+        → (is : IsSaid M mix env events c call begin ending.answer)
         → IsLegalOn kind c call (behind M mix env events (is.at + 1)) ending.answer → IsEnd history calls
     put_now none about is said =
         let entry = entry_of c call ending.answer in
@@ -111,25 +118,35 @@ module _ (M : Type 0) (mix : ℕ → ℕ → ℕ → ℕ) (env : Env) (events : 
         let agree : Agree left then = good.agrees is.at is.so_far in
         let back = Agree-sym left then agree in
         let can : CanPutIn kind x unbound history = record {
-          legal = IsLegalAt-answer_of kind then left entry (answer_of-Agree kind then left call back) said.legal;
+          legal = IsLegalAt-answer_of kind then left entry (answer_of-Agree kind then left call back)
+              said.legal;
           leaves = λ b same p.
-              left_by-Agree kind b then entry (λ q. same q ∙ agree q) p ∙ said.leaves p ∙ sym (same p ∙ agree p);
+              left_by-Agree kind b then entry (λ q. same q ∙ agree q) p ∙ said.leaves p
+              ∙ sym (same p ∙ agree p);
         } in
-        let low : AllBelow (is.at + 1) (entries_of c history) = subst (AllBelow (is.at + 1)) (sym none) (below_more es below (let l = is.begun in omega (arith, l))) in
+        let low : AllBelow (is.at + 1) (entries_of c history) = subst (AllBelow (is.at + 1)) (sym none)
+        (below_more es below (let l = is.begun in omega (arith, l))) in
         record {
           next = put_in x history;
           good = good-put M mix env events history x good is.so_far can;
           others = λ d ne. put_in-other x d history (λ e. ne (sym e));
           es = es ++ x ∷ [];
           own = put_in-own x 0 history good.rising low ∙ ap (λ own. own ++ x ∷ []) none;
-          ended = one_more about x (record { call = refl; reply = refl; owners = refl; begun = is.begun; ended = subst (λ n. is.at < n) (sym ends) is.so_far });
+          ended = one_more about x (record {
+            call = refl;
+            reply = refl;
+            owners = refl;
+            begun = is.begun;
+            ended = subst (λ n. is.at < n) (sym ends) is.so_far;
+          });
         }
       where
         below_more : (xs : List Numbered) → AllBelow begin xs → begin ≤ is.at + 1 → AllBelow (is.at + 1) xs
         below_more [] b l = tt
         below_more (x ∷ xs) b l = (let h = b.0 in omega (arith, h, l), below_more xs b.1 l)
 
-    pub end_history : IsTail M mix env events c call begin (before ++ last ∷ []) (Some ending.answer) es (entries_of c history)
+    pub end_history : IsTail M mix env events c call begin (before ++ last ∷ []) (Some ending.answer) es
+        (entries_of c history)
         → IsEnd history calls
     end_history (inl is) = elim is.still.said [
       | inl said ↦ elim (cases_Bool (is_some (port_of call))) [
@@ -143,7 +160,8 @@ module _ (M : Type 0) (mix : ℕ → ℕ → ℕ → ℕ) (env : Env) (events : 
         let told : pending.told ≡ ending.answer = (let known = pending.known in cc) in
         let x = is.entry in
         let reply = ending.answer.reply in
-        let same : without_kick reply ≡ without_kick x.entry.reply = ap (λ (a : Answer). without_kick a.reply) (sym told) ∙ pending.reply in
+        let same : without_kick reply ≡ without_kick x.entry.reply = ap
+        (λ (a : Answer). without_kick a.reply) (sym told) ∙ pending.reply in
         let has = subst (LastHas c reply) (sym is.one) (LastHas-last c reply es x same) in
         record {
           next = replied c reply history;

@@ -67,12 +67,14 @@ module _ (M : Type 0) (mix : ℕ → ℕ → ℕ → ℕ) (env : Env) where
       pub begun : begin ≤ x.number
       pub so_far : x.number < length events
 
-    pub record Unchanged (call : Call) (begin : ℕ) (steps : List Did) (answer : Option Answer) (es own : List Numbered) : Type 0 where
+    pub record Unchanged (call : Call) (begin : ℕ) (steps : List Did) (answer : Option Answer)
+        (es own : List Numbered) : Type 0 where
       pub none : own ≡ es
       pub same : ¬ Changed M mix env events steps
       pub still : Still call begin answer
 
-    pub record HasChanged (call : Call) (begin : ℕ) (steps : List Did) (answer : Option Answer) (es own : List Numbered) : Type 0 where
+    pub record HasChanged (call : Call) (begin : ℕ) (steps : List Did) (answer : Option Answer)
+        (es own : List Numbered) : Type 0 where
       pub entry : Numbered
       pub one : own ≡ es ++ entry ∷ []
       pub changed : Changed M mix env events steps
@@ -80,7 +82,8 @@ module _ (M : Type 0) (mix : ℕ → ℕ → ℕ → ℕ) (env : Env) where
 
     -- its entries are those of the calls that have ended, and that of the call in progress
     abbrev pub IsTail : Call → ℕ → List Did → Option Answer → List Numbered → List Numbered → Type 0
-    IsTail call begin steps answer es own = Unchanged call begin steps answer es own ⊎ HasChanged call begin steps answer es own
+    IsTail call begin steps answer es own = Unchanged call begin steps answer es own
+        ⊎ HasChanged call begin steps answer es own
 
   -- ---- one event more
 
@@ -91,19 +94,24 @@ module _ (M : Type 0) (mix : ℕ → ℕ → ℕ → ℕ) (env : Env) where
     longer : length more ≡ length events + 1
     longer = length_push events event
 
-    said-more : (c : ℕ) (call : Call) (begin : ℕ) (answer : Answer) → IsSaid events c call begin answer → IsSaid more c call begin answer
+    said-more : (c : ℕ) (call : Call) (begin : ℕ) (answer : Answer) → IsSaid events c call begin answer
+        → IsSaid more c call begin answer
     said-more c call begin answer is = record {
       at = is.at;
       begun = is.begun;
       so_far = (let l = is.so_far in omega (arith, longer, l));
-      said = subst (λ (b : Multimap). IsSaidOn kind c call b answer) (sym (behind-more M mix env events event (is.at + 1) (let l = is.so_far in omega (arith, l)))) is.said;
+      said = subst (λ (b : Multimap). IsSaidOn kind c call b answer)
+          (sym (behind-more M mix env events event (is.at + 1) (let l = is.so_far in omega (arith, l))))
+          is.said;
     }
 
-    still-more : (c : ℕ) (call : Call) (begin : ℕ) (answer : Option Answer) → Still events c call begin answer → Still more c call begin answer
+    still-more : (c : ℕ) (call : Call) (begin : ℕ) (answer : Option Answer)
+        → Still events c call begin answer → Still more c call begin answer
     still-more c call begin None still = still
     still-more c call begin (Some answer) still = said-more c call begin answer still
 
-    pending-more : (c : ℕ) (call : Call) (begin : ℕ) (answer : Option Answer) (x : Numbered) → IsPending events c call begin answer x
+    pending-more : (c : ℕ) (call : Call) (begin : ℕ) (answer : Option Answer) (x : Numbered)
+        → IsPending events c call begin answer x
         → IsPending more c call begin answer x
     pending-more c call begin answer x is = record {
       told = is.told;
@@ -117,8 +125,10 @@ module _ (M : Type 0) (mix : ℕ → ℕ → ℕ → ℕ) (env : Env) where
     }
 
     -- the event of another caller, or of none
-    pub tail-more : (c : ℕ) (call : Call) (begin : ℕ) (steps : List Did) (answer : Option Answer) (es own : List Numbered)
-        → AllByRecursion (λ did. did.index < length events) steps → IsTail events c call begin steps answer es own
+    pub tail-more : (c : ℕ) (call : Call) (begin : ℕ) (steps : List Did) (answer : Option Answer)
+        (es own : List Numbered)
+        → AllByRecursion (λ did. did.index < length events) steps
+        → IsTail events c call begin steps answer es own
         → IsTail more c call begin steps answer es own
     tail-more c call begin steps answer es own made (inl is) = inl (record {
       none = is.none;
@@ -135,7 +145,8 @@ module _ (M : Type 0) (mix : ℕ → ℕ → ℕ → ℕ) (env : Env) where
     -- ---- an operation of the call
 
     module _ (c : ℕ) (call : Call) (begin : ℕ) (begun : begin ≤ length events) (steps : List Did)
-        (made : AllByRecursion (λ did. did.index < length events) steps) (did : Did) (index : did.index ≡ length events) where
+        (made : AllByRecursion (λ did. did.index < length events) steps) (did : Did)
+        (index : did.index ≡ length events) where
       abbrev before : Multimap
       before = bindings_at M mix env events
 
@@ -143,27 +154,36 @@ module _ (M : Type 0) (mix : ℕ → ℕ → ℕ → ℕ) (env : Env) where
       after = bindings_at M mix env more
 
       before-is : behind more did.index ≡ before
-      before-is = ap (behind more) index ∙ behind-more M mix env events event (length events) (omega arith) ∙ behind-all M mix env events
+      before-is = ap (behind more) index ∙ behind-more M mix env events event (length events)
+          (omega arith) ∙ behind-all M mix env events
 
       after-is : behind more (did.index + 1) ≡ after
       after-is = ap (λ n. behind more (n + 1)) index ∙ behind-last M mix env events event
 
       -- where it leaves the bindings the call has changed them if it had
-      unchanged : Agree after before → ¬ Changed M mix env events steps → ¬ Changed M mix env more (steps ++ did ∷ [])
-      unchanged agree same changed = elim (Any-push_cases (ChangesBindings M mix env more) steps did changed) [
-        | inl earlier ↦ same (Changed-fewer M mix env events event steps made earlier)
-        | inr now ↦ now.1 (ap (λ (b : Multimap). b now.0) before-is ∙ sym (agree now.0) ∙ sym (ap (λ (b : Multimap). b now.0) after-is))
-      ]
+      unchanged : Agree after before → ¬ Changed M mix env events steps
+          → ¬ Changed M mix env more (steps ++ did ∷ [])
+      unchanged agree same changed = elim (Any-push_cases (ChangesBindings M mix env more) steps did
+          changed) [
+            | inl earlier ↦ same (Changed-fewer M mix env events event steps made earlier)
+            | inr now ↦ now.1 (ap (λ (b : Multimap). b now.0) before-is ∙ sym (agree now.0)
+                ∙ sym (ap (λ (b : Multimap). b now.0) after-is))
+          ]
 
       still_changed : Changed M mix env events steps → Changed M mix env more (steps ++ did ∷ [])
-      still_changed changed = Any-append_left (ChangesBindings M mix env more) steps (did ∷ []) (Changed-more M mix env events event steps made changed)
+      still_changed changed = Any-append_left (ChangesBindings M mix env more) steps (did ∷ [])
+          (Changed-more M mix env events event steps made changed)
 
       now_changed : (port : ℕ) → after port ≢ before port → Changed M mix env more (steps ++ did ∷ [])
-      now_changed port differs = Any-push (ChangesBindings M mix env more) steps did
-          (port, λ same. differs (sym (ap (λ (b : Multimap). b port) after-is) ∙ sym same ∙ ap (λ (b : Multimap). b port) before-is))
+      now_changed port differs = Any-push (ChangesBindings M mix env more) steps did (
+        port,
+        λ same. differs (sym (ap (λ (b : Multimap). b port) after-is) ∙ sym same
+            ∙ ap (λ (b : Multimap). b port) before-is),
+      )
 
       -- an answer is as good as one that says otherwise whether `work` has something to do
-      said-same : (was now : Answer) → IsSameAnswer was now → IsSaid more c call begin was → IsSaid more c call begin now
+      said-same : (was now : Answer) → IsSameAnswer was now → IsSaid more c call begin was
+          → IsSaid more c call begin now
       said-same was now same is = record {
         at = is.at;
         begun = is.begun;
@@ -184,7 +204,14 @@ module _ (M : Type 0) (mix : ℕ → ℕ → ℕ → ℕ) (env : Env) where
           y = record { number = 0; entry = entry_of c call now }
 
           alike : IsAlike x y
-          alike = record { number = refl; caller = refl; call = refl; owners = same.owners; reply = same.reply }
+          alike = record {
+            number = refl;
+            caller = refl;
+            call = refl;
+            owners = same.owners;
+            reply =
+                same.reply;
+          }
 
           legal-same : IsLegalOn kind c call b was → IsLegalOn kind c call b now
           legal-same legal = record {
@@ -192,18 +219,22 @@ module _ (M : Type 0) (mix : ℕ → ℕ → ℕ → ℕ) (env : Env) where
             leaves = λ p. ap (λ (m : Multimap). m p) (alike-left_by kind b x y alike) ∙ legal.leaves p;
           }
 
-      still-next : (was now : Option Answer) → SaysStill kind c call after was now → Still events c call begin was → Still more c call begin now
+      still-next : (was now : Option Answer) → SaysStill kind c call after was now
+          → Still events c call begin was → Still more c call begin now
       still-next None now (inl keeps) still = subst (Still more c call begin) (sym keeps) tt
       still-next (Some was) None (inl keeps) still = absurd keeps
-      still-next (Some was) (Some now) (inl keeps) still = said-same was now keeps (said-more c call begin was still)
+      still-next (Some was) (Some now) (inl keeps) still = said-same was now keeps
+          (said-more c call begin was still)
       still-next was now (inr learns) still = subst (Still more c call begin) (sym learns.known) (record {
         at = length events;
         begun = begun;
         so_far = omega (arith, longer);
-        said = subst (λ (b : Multimap). IsSaidOn kind c call b learns.answer) (sym (behind-last M mix env events event)) learns.said;
+        said = subst (λ (b : Multimap). IsSaidOn kind c call b learns.answer)
+            (sym (behind-last M mix env events event)) learns.said;
       })
 
-      pending-next : (was now : Option Answer) (x : Numbered) → SaysStill kind c call after was now → IsPending events c call begin was x
+      pending-next : (was now : Option Answer) (x : Numbered) → SaysStill kind c call after was now
+          → IsPending events c call begin was x
           → IsPending more c call begin now x
       pending-next None now x said is = absurd (let known = is.known in cc)
       pending-next (Some was) None x (inl keeps) is = absurd keeps
@@ -229,13 +260,20 @@ module _ (M : Type 0) (mix : ℕ → ℕ → ℕ → ℕ) (env : Env) where
         pub others : (d : ℕ) → d ≢ c → entries_of d next ≡ entries_of d history
         pub tail : IsTail more c call begin (steps ++ did ∷ []) now es (entries_of c next)
 
-      pub next_history : (history : List Numbered) (was now : Option Answer) (es : List Numbered) → IsGood M mix env events history
-          → Says kind c call before after was now → IsTail events c call begin steps was es (entries_of c history) → IsNext history now es
+      pub next_history : (history : List Numbered) (was now : Option Answer) (es : List Numbered)
+          → IsGood M mix env events history
+          → Says kind c call before after was now → IsTail events c call begin steps was es
+          (entries_of c history) → IsNext history now es
       next_history history was now es good (inl stills) (inl is) = record {
         next = history;
         good = good-quiet M mix env events event history good stills.agree;
         others = λ d ne. refl;
-        tail = inl (record { none = is.none; same = unchanged stills.agree is.same; still = still-next was now stills.said is.still });
+        tail = inl (record {
+          none = is.none;
+          same = unchanged stills.agree is.same;
+          still = still-next
+              was now stills.said is.still;
+        });
       }
       next_history history was now es good (inl stills) (inr is) = record {
         next = history;
@@ -253,7 +291,8 @@ module _ (M : Type 0) (mix : ℕ → ℕ → ℕ → ℕ) (env : Env) where
           let x : Numbered = record { number = length events; entry = entry } in
           record {
             next = history ++ x ∷ [];
-            good = good-push M mix env events event history entry good (inl changes.answered) changes.bindings;
+            good = good-push M mix env events event history entry good (inl changes.answered)
+                changes.bindings;
             others = λ d ne. push-other x d history (λ e. ne (sym e));
             tail = inr (record {
               entry = x;

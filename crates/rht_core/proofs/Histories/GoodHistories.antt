@@ -36,23 +36,27 @@ module _ (M : Type 0) (mix : ℕ → ℕ → ℕ → ℕ) (env : Env) where
     pub rising : NeverFalls 0 history
     pub below : AllBelow (length events) history
     pub now : Agree (left (history_of history)) (at_end events)
-    pub agrees : (i : ℕ) → i < length events → Agree (left (numbered_to i history)) (bindings_behind M mix env events (i + 1))
+    pub agrees : (i : ℕ) → i < length events → Agree (left (numbered_to i history))
+        (bindings_behind M mix env events (i + 1))
 
   -- ---- one more event
 
   -- after each event but the last it is as before, where the history up to it is
   module _ (events : List Event) (event : Event) (history more : List Numbered) (good : IsGood events history)
-      (below : AllBelow (length events + 1) more) (now : Agree (left (history_of more)) (at_end (events ++ event ∷ [])))
+      (below : AllBelow (length events + 1) more) (now : Agree (left (history_of more))
+      (at_end (events ++ event ∷ [])))
       (same : (i : ℕ) → i < length events → left (numbered_to i more) ≡ left (numbered_to i history)) where
     agrees-more : (i : ℕ) → i < length (events ++ event ∷ [])
         → Agree (left (numbered_to i more)) (bindings_behind M mix env (events ++ event ∷ []) (i + 1))
     agrees-more i l = elim (cases_lt i (length events)) [
       | inl before ↦ λ p.
           ap (λ (b : Multimap). b p) (same i before) ∙ good.agrees i before p
-          ∙ sym (ap (λ (b : Multimap). b p) (behind-more M mix env events event (i + 1) (omega (arith, before))))
+          ∙ sym (ap (λ (b : Multimap). b p) (behind-more M mix env events event (i + 1)
+          (omega (arith, before))))
       | inr last ↦
           let here : i ≡ length events = omega (arith, last, l, length_push events event) in
-          subst (λ j. Agree (left (numbered_to j more)) (bindings_behind M mix env (events ++ event ∷ []) (j + 1))) (sym here)
+          subst (λ j. Agree (left (numbered_to j more))
+          (bindings_behind M mix env (events ++ event ∷ []) (j + 1))) (sym here)
           (λ p. ap (λ (l : List Entry). left l p) (numbered_to-all (length events) more below) ∙ now p
           ∙ sym (ap (λ (b : Multimap). b p) (behind-last M mix env events event)))
     ]
@@ -61,18 +65,24 @@ module _ (M : Type 0) (mix : ℕ → ℕ → ℕ → ℕ) (env : Env) where
       → Agree (at_end (events ++ event ∷ [])) (at_end events) → IsGood (events ++ event ∷ []) history
   good-quiet events event history good agree =
       let longer = length_push events event in
-      let now : Agree (left (history_of history)) (at_end (events ++ event ∷ [])) = λ p. good.now p ∙ sym (agree p) in
+      let now : Agree (left (history_of history)) (at_end (events ++ event ∷ [])) = λ p. good.now p
+      ∙ sym (agree p) in
       record {
         legal = good.legal;
         rising = good.rising;
-        below = AllBelow-more (length events) (length (events ++ event ∷ [])) history (omega (arith, longer)) good.below;
+        below = AllBelow-more (length events) (length (events ++ event ∷ [])) history
+            (omega (arith, longer)) good.below;
         now = now;
-        agrees = agrees-more events event history history good (AllBelow-more (length events) (length events + 1) history (omega arith) good.below) now (λ i l. refl);
+        agrees = agrees-more events event history history good
+            (AllBelow-more (length events) (length events + 1) history (omega arith) good.below) now
+            (λ i l. refl);
       }
 
   -- an entry behind all others, of the last event, which changes the bindings as that does
-  pub good-push : (events : List Event) (event : Event) (history : List Numbered) (entry : Entry) → IsGood events history
-      → IsLegalAt kind (at_end events) entry → Agree (at_end (events ++ event ∷ [])) (left_by kind (at_end events) entry)
+  pub good-push : (events : List Event) (event : Event) (history : List Numbered) (entry : Entry)
+      → IsGood events history
+      → IsLegalAt kind (at_end events) entry → Agree (at_end (events ++ event ∷ []))
+      (left_by kind (at_end events) entry)
       → IsGood (events ++ event ∷ []) (history ++ record { number = length events; entry = entry } ∷ [])
   good-push events event history entry good legal leaves =
       let x : Numbered = record { number = length events; entry = entry } in
@@ -87,25 +97,31 @@ module _ (M : Type 0) (mix : ℕ → ℕ → ℕ → ℕ) (env : Env) where
       let low = AllBelow-more (length events) (length events + 1) history (omega arith) good.below in
       let below = push-below x (length events + 1) history (omega arith) low in
       let now : Agree (left (history_of more)) (at_end (events ++ event ∷ [])) = λ p.
-      ap (λ (b : Multimap). b p) is ∙ left_by-Agree kind (left (history_of history)) (at_end events) entry good.now p ∙ sym (leaves p) in
+      ap (λ (b : Multimap). b p) is ∙ left_by-Agree kind (left (history_of history)) (at_end events)
+      entry good.now p ∙ sym (leaves p) in
       record {
-        legal = subst (IsLegal kind) (sym pushed) ((IsLegalFrom-push kind unbound (history_of history) entry).1 (good.legal, here));
+        legal = subst (IsLegal kind) (sym pushed) ((IsLegalFrom-push kind unbound (history_of history)
+            entry).1 (good.legal, here));
         rising = push-rising x 0 history (omega arith) low good.rising;
-        below = AllBelow-more (length events + 1) (length (events ++ event ∷ [])) more (omega (arith, longer)) below;
+        below = AllBelow-more (length events + 1) (length (events ++ event ∷ [])) more
+            (omega (arith, longer)) below;
         now = now;
-        agrees = agrees-more events event history more good below now (λ i l. ap left (push-before x i history l));
+        agrees = agrees-more events event history more good below now
+            (λ i l. ap left (push-before x i history l));
       }
 
   -- ---- the history alone
 
   -- an entry that changes nothing is put in
-  pub good-put : (events : List Event) (history : List Numbered) (x : Numbered) → IsGood events history → x.number < length events
+  pub good-put : (events : List Event) (history : List Numbered) (x : Numbered) → IsGood events history
+      → x.number < length events
       → CanPutIn kind x unbound history → IsGood events (put_in x history)
   good-put events history x good low can =
       let more = put_in x history in
       let below = put_in-below x (length events) history low good.below in
       let all : (h : List Numbered) → AllBelow (length events) h → numbered_to (length events) h ≡ history_of h =
-      λ h b. numbered_to-all (length events) h (AllBelow-more (length events) (length events + 1) h (omega arith) b) in
+      λ h b. numbered_to-all (length events) h (AllBelow-more (length events) (length events + 1) h
+      (omega arith) b) in
       let same : (i : ℕ) → Agree (left (numbered_to i more)) (left (numbered_to i history)) =
       λ i. put_in-left kind x unbound i 0 history good.rising can in
       record {
@@ -118,21 +134,24 @@ module _ (M : Type 0) (mix : ℕ → ℕ → ℕ → ℕ) (env : Env) where
       }
 
   -- the last entry of a caller gets its reply
-  pub good-replied : (events : List Event) (history : List Numbered) (c : ℕ) (reply : Reply) → IsGood events history
+  pub good-replied : (events : List Event) (history : List Numbered) (c : ℕ) (reply : Reply)
+      → IsGood events history
       → LastHas c reply (entries_of c history) → IsGood events (replied c reply history)
   good-replied events history c reply good last =
       let more = replied c reply history in
       let alike = replied-alike c reply history last in
       let below = alike-below (length events) history more alike good.below in
       let all : (h : List Numbered) → AllBelow (length events) h → numbered_to (length events) h ≡ history_of h =
-      λ h b. numbered_to-all (length events) h (AllBelow-more (length events) (length events + 1) h (omega arith) b) in
+      λ h b. numbered_to-all (length events) h (AllBelow-more (length events) (length events + 1) h
+      (omega arith) b) in
       let same : (i : ℕ) → left (numbered_to i more) ≡ left (numbered_to i history) =
       λ i. alike-left kind unbound i history more alike in
       record {
         legal = alike-legal kind unbound history more alike good.legal;
         rising = alike-rising 0 history more alike good.rising;
         below = below;
-        now = λ p. sym (ap (λ (l : List Entry). left l p) (all more below)) ∙ ap (λ (b : Multimap). b p) (same (length events))
+        now = λ p. sym (ap (λ (l : List Entry). left l p) (all more below))
+            ∙ ap (λ (b : Multimap). b p) (same (length events))
             ∙ ap (λ (l : List Entry). left l p) (all history good.below) ∙ good.now p;
         agrees = λ i l p. ap (λ (b : Multimap). b p) (same i) ∙ good.agrees i l p;
       }

@@ -64,12 +64,18 @@ module _ (port : ℕ) where
   abbrev pub known_of_find : FindAt → Known
   known_of_find at.CurrentTable = known_nothing
   known_of_find (at.Locating locate) = knows_of (known_locate port locate.table locate.at) Unlocked
-  known_of_find (at.Probing table probe) = knows_of (AtHome port table None (place_of_probe probe.at)) (known_probe port probe.at)
-  known_of_find (at.Future table bucket) = knows_of (at_home table bucket) (Missed bucket.place bucket.word port)
-  known_of_find (at.FirstOwner table bucket node) = knows_of (at_home table bucket) (Member bucket.place bucket.word port node)
-  known_of_find (at.ListLink table bucket node owner) = knows_of (at_home table bucket) (Listing bucket.place bucket.word port node owner)
-  known_of_find (at.LaterOwner table bucket node owner) = knows_of (at_home table bucket) (Listing bucket.place bucket.word port node owner)
-  known_of_find (at.Unlocking table unlock next) = knows_of (known_behind port next) (Locks unlock.place unlock.word)
+  known_of_find (at.Probing table probe) = knows_of (AtHome port table None (place_of_probe probe.at))
+      (known_probe port probe.at)
+  known_of_find (at.Future table bucket) = knows_of (at_home table bucket)
+      (Missed bucket.place bucket.word port)
+  known_of_find (at.FirstOwner table bucket node) = knows_of (at_home table bucket)
+      (Member bucket.place bucket.word port node)
+  known_of_find (at.ListLink table bucket node owner) = knows_of (at_home table bucket)
+      (Listing bucket.place bucket.word port node owner)
+  known_of_find (at.LaterOwner table bucket node owner) = knows_of (at_home table bucket)
+      (Listing bucket.place bucket.word port node owner)
+  known_of_find (at.Unlocking table unlock next) = knows_of (known_behind port next)
+      (Locks unlock.place unlock.word)
 
   -- how its pieces are for the port
   abbrev pub fits_find : FindAt → Type 0
@@ -110,40 +116,57 @@ module _ (env : Env) (mix : ℕ → ℕ → ℕ → ℕ) (c : ℕ) (port : ℕ) 
 
     -- what an operation leads to from a state
     abbrev FindMoved : FindAt → FindAt × Next Reply → Type 0
-    FindMoved at r = Step env mix c call words G (plan_at env at) (held_of_find at) (find_holds r) (FindNext r)
+    FindMoved at r = Step env mix c call words G (plan_at env at) (held_of_find at) (find_holds r)
+        (FindNext r)
 
     abbrev pub FindStep : FindAt → Type 0
     FindStep at = FindMoved at (after_at mix env port at (old_of words (plan_at env at)))
 
     -- a load of which the answer isn't known
-    goes_on : (at next : FindAt) → word_after (old_of words (plan_at env at)) (plan_at env at) ≡ old_of words (plan_at env at)
-        → HoldsSame (held_of_find at) (held_of_find next) → KeepsAnswer (held_of_find at).answer (held_of_find next).answer
+    goes_on : (at next : FindAt) → word_after (old_of words (plan_at env at)) (plan_at env at) ≡ old_of
+        words (plan_at env at)
+        → HoldsSame (held_of_find at) (held_of_find next)
+        → KeepsAnswer (held_of_find at).answer (held_of_find next).answer
         → FindKnows next M G → FindMoved at (next, Go)
     goes_on at next same holds says knows =
-        reads env mix c call words G (plan_at env at) (held_of_find at) (held_of_find next) (FindNext (next, Go)) whole same holds (inl says) knows
+        reads env mix c call words G (plan_at env at) (held_of_find at) (held_of_find next)
+        (FindNext (next, Go)) whole same holds (inl says) knows
 
     -- ---- what the pieces lead to
 
     -- the way to the bucket
     found_place : (locate : LocateModel) (r : LocateModel × Next Located)
-        → Moved env mix c words G (locate_plan locate) held.holds_nothing held.holds_nothing (LocateKnows env mix c held.holds_nothing None Unlocked port r)
+        → Moved env mix c words G (locate_plan locate) held.holds_nothing held.holds_nothing
+        (LocateKnows env mix c held.holds_nothing None Unlocked port r)
         → FindMoved (at.Locating locate) (located env port r.0 r.1)
     found_place locate (next, Go) step =
-        answered env mix c call words G (locate_plan locate) held.holds_nothing held.holds_nothing None (FindNext (at.Locating next, Go)) (inl refl) (still_has refl)
-        (moved-map env mix c words G (locate_plan locate) held.holds_nothing held.holds_nothing (LocateKnows env mix c held.holds_nothing None Unlocked port (next, Go)) (FindNext (at.Locating next, Go))
+        answered env mix c call words G (locate_plan locate) held.holds_nothing held.holds_nothing None
+        (FindNext (at.Locating next, Go)) (inl refl) (still_has refl)
+        (moved-map env mix c words G (locate_plan locate) held.holds_nothing held.holds_nothing
+        (LocateKnows env mix c held.holds_nothing None Unlocked port (next, Go))
+        (FindNext (at.Locating next, Go))
         (λ M' G' w k. record { knowing = k; fits = tt }) step)
     found_place locate (next, Done there) step =
         let is = step.knows in
         let table = is.knows.means.table in
         let probing = at.Probing next.table (probe_new env.geometry is.place port) in
-        rw is.there (answered env mix c call words G (locate_plan locate) held.holds_nothing held.holds_nothing None (FindNext (probing, Go)) (inl refl) (still_has refl)
-        (with_knowledge env mix c words G (locate_plan locate) held.holds_nothing held.holds_nothing (LocateKnows env mix c held.holds_nothing None Unlocked port (next, Done there)) (FindNext (probing, Go)) step
+        rw is.there (answered env mix c call words G (locate_plan locate) held.holds_nothing
+        held.holds_nothing None (FindNext (probing, Go)) (inl refl) (still_has refl)
+        (with_knowledge env mix c words G (locate_plan locate) held.holds_nothing held.holds_nothing
+        (LocateKnows env mix c held.holds_nothing None Unlocked port (next, Done there))
+        (FindNext (probing, Go)) step
         (record {
           knowing = record {
             only = is.knows.only;
             means = record {
               node = tt;
-              table = record { passing = table.passing; shape_is = tt; bucket = table.bucket; here = table.here };
+              table = record {
+                passing = table.passing;
+                shape_is = tt;
+                bucket = table.bucket;
+                here =
+                    table.here;
+              };
               bucket = tt;
             };
           };
@@ -152,7 +175,9 @@ module _ (env : Env) (mix : ℕ → ℕ → ℕ → ℕ) (c : ℕ) (port : ℕ) 
 
     -- the end of a walk
     seen_knows : (table : ℕ) (bucket : Locked) (before found : Option ℕ) (M' : Memory) (G' : Ghost)
-        → Knowing env mix c (at_lock (Some bucket.place)) (knows_of (AtHome port table None bucket.place) (known_found bucket.place bucket.word port before found)) M' G'
+        → Knowing env mix c (at_lock (Some bucket.place))
+        (knows_of (AtHome port table None bucket.place)
+        (known_found bucket.place bucket.word port before found)) M' G'
         → FindKnows (found_or_not table bucket found) M' G'
     seen_knows table bucket before None M' G' k = record { knowing = k; fits = tt }
     seen_knows table bucket before (Some node) M' G' k =
@@ -165,7 +190,8 @@ module _ (env : Env) (mix : ℕ → ℕ → ℕ → ℕ) (c : ℕ) (port : ℕ) 
               table = k.means.table;
               bucket = record {
                 lock = is.standing.lock;
-                there = rw is.standing.stands.split (in-middle node is.standing.stands.front is.standing.stands.rear);
+                there = rw is.standing.stands.split (in-middle node is.standing.stands.front
+                    is.standing.stands.rear);
                 key_is = is.key_is;
               };
             };
@@ -179,40 +205,69 @@ module _ (env : Env) (mix : ℕ → ℕ → ℕ → ℕ) (c : ℕ) (port : ℕ) 
     seen_holds table bucket (Some node) = refl
 
     walked : (table : ℕ) (probe : ProbeModel) (r : ProbeModel × Next Probed) → r.0.key ≡ port
-        → Moved env mix c words G (probe_plan probe) (at_lock (lock_of_probe probe.at)) (at_lock (probed_by (r.0.at, r.1))) (ProbeKnows env mix c held.holds_nothing None port table None words G all whole (r.0.at, r.1))
+        → Moved env mix c words G (probe_plan probe) (at_lock (lock_of_probe probe.at))
+        (at_lock (probed_by (r.0.at, r.1))) (ProbeKnows env mix c held.holds_nothing None port table
+        None words G all whole (r.0.at, r.1))
         → FindMoved (at.Probing table probe) (probed table r.0 r.1, Go)
     walked table probe (next, Go) key step =
-        answered env mix c call words G (probe_plan probe) (at_lock (lock_of_probe probe.at)) (at_lock (lock_of_probe next.at)) None (FindNext (at.Probing table next, Go)) (inl refl) (still_has refl)
-        (moved-map env mix c words G (probe_plan probe) (at_lock (lock_of_probe probe.at)) (at_lock (lock_of_probe next.at))
-        (ProbeKnows env mix c held.holds_nothing None port table None words G all whole (next.at, Go)) (FindNext (at.Probing table next, Go))
+        answered env mix c call words G (probe_plan probe) (at_lock (lock_of_probe probe.at))
+        (at_lock (lock_of_probe next.at)) None (FindNext (at.Probing table next, Go)) (inl refl)
+        (still_has refl)
+        (moved-map env mix c words G (probe_plan probe) (at_lock (lock_of_probe probe.at))
+        (at_lock (lock_of_probe next.at))
+        (ProbeKnows env mix c held.holds_nothing None port table None words G all whole (next.at, Go))
+        (FindNext (at.Probing table next, Go))
         (λ M' G' w k. record { knowing = k.0; fits = (key, k.1) }) step)
     walked table probe (next, Done end) key step =
         let there = found_or_not table end.bucket end.seen.found in
         rw (seen_holds table end.bucket end.seen.found)
-        (answered env mix c call words G (probe_plan probe) (at_lock (lock_of_probe probe.at)) (at_lock (Some end.bucket.place)) None (FindNext (there, Go)) (inl refl) (still_has refl)
-        (moved-map env mix c words G (probe_plan probe) (at_lock (lock_of_probe probe.at)) (at_lock (Some end.bucket.place))
-        (ProbeKnows env mix c held.holds_nothing None port table None words G all whole (next.at, Done end)) (FindNext (there, Go))
+        (answered env mix c call words G (probe_plan probe) (at_lock (lock_of_probe probe.at))
+        (at_lock (Some end.bucket.place)) None (FindNext (there, Go)) (inl refl) (still_has refl)
+        (moved-map env mix c words G (probe_plan probe) (at_lock (lock_of_probe probe.at))
+        (at_lock (Some end.bucket.place))
+        (ProbeKnows env mix c held.holds_nothing None port table None words G all whole
+        (next.at, Done end)) (FindNext (there, Go))
         (λ M' G' w k. seen_knows table end.bucket end.seen.before end.seen.found M' G' k) step))
 
     -- the future of a table in which the port was looked for in vain
-    future_next : (table : ℕ) (bucket : Locked) (future : Option ℕ) → FutureIs env mix c (at_lock (Some bucket.place)) None (Missed bucket.place bucket.word port) words G whole port future
-        → FindKnows (at.Future table bucket) M G → FindMoved (at.Future table bucket) (unlocking table bucket (next_table future), Go)
+    future_next : (table : ℕ) (bucket : Locked) (future : Option ℕ)
+        → FutureIs env mix c (at_lock (Some bucket.place)) None (Missed bucket.place bucket.word port)
+        words G whole port future
+        → FindKnows (at.Future table bucket) M G → FindMoved (at.Future table bucket)
+        (unlocking table bucket (next_table future), Go)
     future_next table bucket None unbound known =
         let none : now port ≡ [] = ap (owners_in env mix M) unbound in
-        reads env mix c call words G (plan_at env (at.Future table bucket)) (held_of_find (at.Future table bucket)) (held_of_find (unlocking table bucket (Answer Missing))) (FindNext (unlocking table bucket (Answer Missing), Go)) whole refl refl
-        (learns env.config.kind c call None now (plain Missing) (record { replied = record { reply = tt; owners = refl; pairs = refl }; tells = refl }) refl (record { legal = inl (ap (λ owners. Some (plain (answers.find_reply owners))) none); leaves = λ p. refl }))
+        reads env mix c call words G (plan_at env (at.Future table bucket))
+        (held_of_find (at.Future table bucket)) (held_of_find
+        (unlocking table bucket (Answer Missing)))
+        (FindNext (unlocking table bucket (Answer Missing), Go)) whole refl refl
+        (learns env.config.kind c call None now (plain Missing)
+        (record { replied = record { reply = tt; owners = refl; pairs = refl }; tells = refl }) refl
         (record {
-          knowing = record { only = known.knowing.only; means = record { node = tt; table = tt; bucket = known.knowing.means.bucket.lock } };
+          legal = inl (ap (λ owners. Some (plain (answers.find_reply owners))) none);
+          leaves = λ p. refl;
+        }))
+        (record {
+          knowing = record {
+            only = known.knowing.only;
+            means =
+                record { node = tt; table = tt; bucket = known.knowing.means.bucket.lock };
+          };
           fits = tt;
         })
     future_next table bucket (Some next) passing known =
         goes_on (at.Future table bucket) (unlocking table bucket (Table next)) refl refl refl (record {
-          knowing = record { only = known.knowing.only; means = record { node = tt; table = passing; bucket = known.knowing.means.bucket.lock } };
+          knowing = record {
+            only = known.knowing.only;
+            means =
+                record { node = tt; table = passing; bucket = known.knowing.means.bucket.lock };
+          };
           fits = tt;
         })
 
     -- behind the last owner of a list the look-up has its answer, the first one
-    list_ends : (table : ℕ) (bucket : Locked) (node owner : ℕ) → FindKnows (at.ListLink table bucket node owner) M G
+    list_ends : (table : ℕ) (bucket : Locked) (node owner : ℕ)
+        → FindKnows (at.ListLink table bucket node owner) M G
         → M (Node node ListLink) ≡ 0 → FindStep (at.ListLink table bucket node owner)
     list_ends table bucket node owner known end =
         let here = known.knowing.means.bucket in
@@ -221,26 +276,39 @@ module _ (env : Env) (mix : ℕ → ℕ → ℕ → ℕ) (c : ℕ) (port : ℕ) 
         ap (λ link. list_followed table bucket owner (node_of env.geometry.nodes link)) end in
         let bound : now port ≡ owner_of (M (Node here.first OwnerWord)) ∷ owners_in env mix M here.behind =
         ap (owners_in env mix M) here.bound_to in
-        rw ends (reads env mix c call words G (plan_at env (at.ListLink table bucket node owner)) (held_of_find (at.ListLink table bucket node owner)) (held_of_find answer) (FindNext (answer, Go)) whole refl refl
-        (learns env.config.kind c call None now (plain (Found owner)) (record { replied = record { reply = tt; owners = refl; pairs = refl }; tells = refl }) refl (record {
-          legal = inl (ap (λ owners. Some (plain (answers.find_reply owners))) bound ∙ ap (λ o. Some (plain (Found o))) here.owner_is);
+        rw ends (reads env mix c call words G (plan_at env (at.ListLink table bucket node owner))
+        (held_of_find (at.ListLink table bucket node owner)) (held_of_find answer)
+        (FindNext (answer, Go)) whole refl refl
+        (learns env.config.kind c call None now (plain (Found owner))
+        (record { replied = record { reply = tt; owners = refl; pairs = refl }; tells = refl }) refl
+        (record {
+          legal = inl (ap (λ owners. Some (plain (answers.find_reply owners))) bound
+              ∙ ap (λ o. Some (plain (Found o))) here.owner_is);
           leaves = λ p. refl;
         }))
         (record {
-          knowing = record { only = known.knowing.only; means = record { node = tt; table = tt; bucket = here.member.lock } };
+          knowing = record {
+            only = known.knowing.only;
+            means =
+                record { node = tt; table = tt; bucket = here.member.lock };
+          };
           fits = tt;
         }))
 
     -- and before it goes on to the next node
-    list_goes_on : (table : ℕ) (bucket : Locked) (node owner : ℕ) → (known : FindKnows (at.ListLink table bucket node owner) M G)
-        → IsNextOf known.knowing.means.bucket.behind (M (Node node ListLink)) → FindStep (at.ListLink table bucket node owner)
+    list_goes_on : (table : ℕ) (bucket : Locked) (node owner : ℕ)
+        → (known : FindKnows (at.ListLink table bucket node owner) M G)
+        → IsNextOf known.knowing.means.bucket.behind (M (Node node ListLink))
+        → FindStep (at.ListLink table bucket node owner)
     list_goes_on table bucket node owner known next =
         let here = known.knowing.means.bucket in
         let later = at.LaterOwner table bucket next.node owner in
-        let among = list_among env mix M G whole port here.first here.behind here.bound_to next.node (inr next.there) in
+        let among = list_among env mix M G whole port here.first here.behind here.bound_to next.node
+        (inr next.there) in
         let goes : list_followed table bucket owner (node_of env.geometry.nodes (M (Node node ListLink))) ≡ later =
         ap (λ link. list_followed table bucket owner (node_of env.geometry.nodes link)) next.link_is
-        ∙ ap (list_followed table bucket owner) (links_tell_apart.link_names env.geometry.nodes next.node among) in
+        ∙ ap (list_followed table bucket owner) (links_tell_apart.link_names env.geometry.nodes next.node
+        among) in
         rw goes (goes_on (at.ListLink table bucket node owner) later refl refl refl (record {
           knowing = record {
             only = known.knowing.only;
@@ -263,10 +331,16 @@ module _ (env : Env) (mix : ℕ → ℕ → ℕ → ℕ) (c : ℕ) (port : ℕ) 
     -- each operation of a look-up leads from what it knows to what it knows next
     pub find_step : (at : FindAt) → IsFindAtIn env at → FindKnows at M G → FindStep at
     find_step at.CurrentTable is known =
-        goes_on at.CurrentTable (at.Locating (locate_new env.geometry (table_of (M CurrentTable)))) refl refl refl (record {
+        goes_on at.CurrentTable (at.Locating (locate_new env.geometry (table_of (M CurrentTable)))) refl
+        refl refl (record {
           knowing = record {
             only = known.knowing.only;
-            means = record { node = tt; table = first_passed env mix c held.holds_nothing None Unlocked words G whole port; bucket = tt };
+            means = record {
+              node = tt;
+              table = first_passed env mix c held.holds_nothing None Unlocked
+                  words G whole port;
+              bucket = tt;
+            };
           };
           fits = tt;
         })
@@ -276,16 +350,19 @@ module _ (env : Env) (mix : ℕ → ℕ → ℕ → ℕ) (c : ℕ) (port : ℕ) 
     find_step (at.Probing table probe) is known =
         let r = probe_after probe (old_of words (probe_plan probe)) in
         walked table probe r known.fits.0
-        (probe_step env mix c held.holds_nothing None port table None words G all whole probe is.probe_in known.fits.0 known.fits.1 known.knowing)
+        (probe_step env mix c held.holds_nothing None port table None words G all whole probe is.probe_in
+        known.fits.0 known.fits.1 known.knowing)
     find_step (at.Future table bucket) is known =
         future_next table bucket (slot_of (M (Slot table FutureWord)))
-        (future_is env mix c (at_lock (Some bucket.place)) None (Missed bucket.place bucket.word port) words G whole port table bucket.place None
+        (future_is env mix c (at_lock (Some bucket.place)) None (Missed bucket.place bucket.word port)
+        words G whole port table bucket.place None
         known.knowing known.knowing.means.bucket.none) known
     find_step (at.FirstOwner table bucket node) is known =
         let member = known.knowing.means.bucket in
         let j = word_index env mix bucket.place in
         let first = whole.owned.first_at node j (whole.owned.member j node member.there) in
-        goes_on (at.FirstOwner table bucket node) (at.ListLink table bucket node (owner_of (M (Node node OwnerWord)))) refl refl refl (record {
+        goes_on (at.FirstOwner table bucket node) (at.ListLink table bucket node
+        (owner_of (M (Node node OwnerWord)))) refl refl refl (record {
           knowing = record {
             only = known.knowing.only;
             means = record {
@@ -313,13 +390,22 @@ module _ (env : Env) (mix : ℕ → ℕ → ℕ → ℕ) (c : ℕ) (port : ℕ) 
         goes_on (at.LaterOwner table bucket node owner) (at.ListLink table bucket node owner) refl refl refl
         (record { knowing = known.knowing; fits = tt })
     find_step (at.Unlocking table unlock (Table next)) is known =
-        answered env mix c call words G (plan_at env (at.Unlocking table unlock (Table next))) (held_of_find (at.Unlocking table unlock (Table next))) held.holds_nothing None
+        answered env mix c call words G (plan_at env (at.Unlocking table unlock (Table next)))
+        (held_of_find (at.Unlocking table unlock (Table next))) held.holds_nothing None
         (FindNext (at.Locating (locate_new env.geometry next), Go)) (inl refl) (still_has refl)
-        (moved-map env mix c words G (plan_at env (at.Unlocking table unlock (Table next))) (at_lock (Some unlock.place)) held.holds_nothing _ (FindNext (at.Locating (locate_new env.geometry next), Go)) (λ M' G' w k. record { knowing = k; fits = tt })
-        (unlock_step env mix c held.holds_nothing None (Passes port next) words G all whole unlock.place unlock.word known.knowing))
+        (moved-map env mix c words G (plan_at env (at.Unlocking table unlock (Table next)))
+        (at_lock (Some unlock.place)) held.holds_nothing _
+        (FindNext (at.Locating (locate_new env.geometry next), Go))
+        (λ M' G' w k. record { knowing = k; fits = tt })
+        (unlock_step env mix c held.holds_nothing None (Passes port next) words G all whole unlock.place
+        unlock.word known.knowing))
     find_step (at.Unlocking table unlock (Answer reply)) is known =
         let told : Holding = record held.holds_nothing { answer = Some (plain reply) } in
-        answered env mix c call words G (plan_at env (at.Unlocking table unlock (Answer reply))) (held_of_find (at.Unlocking table unlock (Answer reply))) told (Some (plain reply))
-        (FindNext (at.Unlocking table unlock (Answer reply), Done reply)) (inl (keeps (Some (plain reply)))) (still_has refl)
-        (moved-map env mix c words G (plan_at env (at.Unlocking table unlock (Answer reply))) (record told { lock = Some unlock.place }) told _ (FindNext (at.Unlocking table unlock (Answer reply), Done reply)) (λ M' G' w k. k)
+        answered env mix c call words G (plan_at env (at.Unlocking table unlock (Answer reply)))
+        (held_of_find (at.Unlocking table unlock (Answer reply))) told (Some (plain reply))
+        (FindNext (at.Unlocking table unlock (Answer reply), Done reply))
+        (inl (keeps (Some (plain reply)))) (still_has refl)
+        (moved-map env mix c words G (plan_at env (at.Unlocking table unlock (Answer reply)))
+        (record told { lock = Some unlock.place }) told _
+        (FindNext (at.Unlocking table unlock (Answer reply), Done reply)) (λ M' G' w k. k)
         (unlock_step env mix c told None Nowhere words G all whole unlock.place unlock.word known.knowing))

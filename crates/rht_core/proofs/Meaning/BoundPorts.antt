@@ -48,7 +48,8 @@ module _ (env : Env) (mix : ℕ → ℕ → ℕ → ℕ) (words : List ℕ) (G :
   chain_met zero link (n ∷ nodes) stop fuel ends among s = absurd (omega arith)
   chain_met (suc left) link (n ∷ nodes) stop fuel ends among s =
       rw (ap (node_of g.nodes) s.0 ∙ links_tell_apart.link_names g.nodes n (among n (inl refl)))
-      (ap (λ rest. n ∷ rest) (chain_met left (chain_of M n) nodes stop (omega arith) ends (λ m i. among m (inr i)) s.1))
+      (ap (λ rest. n ∷ rest) (chain_met left (chain_of M n) nodes stop (omega arith) ends
+      (λ m i. among m (inr i)) s.1))
 
   -- a bucket's word with its lock leads to the same first link
   head_of-locked : (place plain : ℕ) (holder : Option ℕ) → plain % 2 ≡ 0
@@ -56,18 +57,22 @@ module _ (env : Env) (mix : ℕ → ℕ → ℕ → ℕ) (words : List ℕ) (G :
   head_of-locked place plain None even = ap (head_of place) (omega arith)
   head_of-locked place plain (Some c) even = grind (arith, nat_tests, even)
 
-  bucket_met : (j : ℕ) → j < 64 * g.pages → bucket_nodes g words (Some (place_at env mix j)) ≡ (G.bucket j).nodes
+  bucket_met : (j : ℕ) → j < 64 * g.pages → bucket_nodes g words
+      (Some (place_at env mix j)) ≡ (G.bucket j).nodes
   bucket_met j l =
       let right = whole.buckets j l in
       let b = G.bucket j in
       let among : (n : ℕ) → In n b.nodes → n < g.nodes =
       λ n i. (whole.owned.first_at n j (whole.owned.member j n i)).among in
       let few =
-      length-count_below (λ n. true) g.nodes b.nodes right.chained.distinct (In-AllByRecursion (λ n. n < g.nodes) b.nodes among) (λ n i. refl) in
+      length-count_below (λ n. true) g.nodes b.nodes right.chained.distinct
+      (In-AllByRecursion (λ n. n < g.nodes) b.nodes among) (λ n i. refl) in
       let most = count_below-most (λ n. true) g.nodes in
       let first : head_of (place_at env mix j) (slice_index words (place_at env mix j)) ≡ head_of (place_at env mix j) b.plain
-      = ap (head_of (place_at env mix j)) right.locked.word_is ∙ head_of-locked (place_at env mix j) b.plain b.holder right.locked.even in
-      rw first (chain_met g.nodes (head_of (place_at env mix j) b.plain) b.nodes (marker_of (place_at env mix j)) (omega (arith, few, most))
+      = ap (head_of (place_at env mix j)) right.locked.word_is
+      ∙ head_of-locked (place_at env mix j) b.plain b.holder right.locked.even in
+      rw first (chain_met g.nodes (head_of (place_at env mix j) b.plain) b.nodes
+      (marker_of (place_at env mix j)) (omega (arith, few, most))
       (links_tell_apart.marker_names_no_node g.nodes (place_at env mix j)) among right.chained.segment)
 
   -- ---- the one table
@@ -86,32 +91,39 @@ module _ (env : Env) (mix : ℕ → ℕ → ℕ → ℕ) (words : List ℕ) (G :
   pub index-within : (bucket : ℕ) → bucket < size → index bucket < 64 * g.pages
   index-within bucket below = let fits = (whole.tables.each 0 attached).placed.fits in omega arith
 
-  pub place-index : (bucket : ℕ) → bucket < size → bucket_place g (G.table 0).shape bucket ≡ Some (place_at env mix (index bucket))
+  pub place-index : (bucket : ℕ) → bucket < size → bucket_place g (G.table 0).shape bucket ≡ Some
+      (place_at env mix (index bucket))
   place-index bucket below =
-      ap (λ t. cond t (Some (place_at env mix (index bucket))) None) (lt-ltb (index bucket) (64 * g.pages) (index-within bucket below))
+      ap (λ t. cond t (Some (place_at env mix (index bucket))) None)
+      (lt-ltb (index bucket) (64 * g.pages) (index-within bucket below))
 
   abbrev all_nodes : List ℕ
   all_nodes = flat_map (λ bucket. (G.bucket (index bucket)).nodes) (range_with_len 0 size)
 
   table_met : table_nodes g words (G.table 0).slot ≡ all_nodes
   table_met = rw (whole.tables.each 0 attached).shape_is
-      (flat_map-same (λ bucket. bucket_nodes g words (bucket_place g (G.table 0).shape bucket)) (λ bucket. (G.bucket (index bucket)).nodes) (range_with_len 0 size)
+      (flat_map-same (λ bucket. bucket_nodes g words (bucket_place g (G.table 0).shape bucket))
+      (λ bucket. (G.bucket (index bucket)).nodes) (range_with_len 0 size)
       (λ bucket i. let below : bucket < size = omega (arith, range_with_len-In 0 size bucket i) in
-      ap (bucket_nodes g words) (place-index bucket below) ∙ bucket_met (index bucket) (index-within bucket below)))
+      ap (bucket_nodes g words) (place-index bucket below)
+      ∙ bucket_met (index bucket) (index-within bucket below)))
 
   pub one_in_force : in_force g words ≡ (G.table 0).slot ∷ []
   one_in_force =
       let right = whole.tables.each 0 attached in
       let current : G.current ≡ 0 = omega (arith, whole.tables.current_in, whole.tables.one) in
       let first : table_of (M CurrentTable) ≡ (G.table 0).slot =
-      ap table_of (whole.tables.current_is ∙ ap (λ τ. (G.table τ).slot) current) ∙ (let l = right.slot_in in omega arith) in
+      ap table_of (whole.tables.current_is ∙ ap (λ τ. (G.table τ).slot) current)
+      ∙ (let l = right.slot_in in omega arith) in
       let last : future_in env mix G 0 ≡ 0 =
-      ap (λ t. cond t (future_of (G.table 1).slot) 0) (le-ltb 1 G.attached (omega (arith, whole.tables.one))) in
+      ap (λ t. cond t (future_of (G.table 1).slot) 0)
+      (le-ltb 1 G.attached (omega (arith, whole.tables.one))) in
       let none : M (Slot (G.table 0).slot FutureWord) ≡ 0 = right.future_is ∙ last in
       rw first (rw none refl)
 
   all_met : flat_map (table_nodes g words) (in_force g words) ≡ all_nodes
-  all_met = ap (flat_map (table_nodes g words)) one_in_force ∙ append-nil (table_nodes g words (G.table 0).slot) ∙ table_met
+  all_met = ap (flat_map (table_nodes g words)) one_in_force
+      ∙ append-nil (table_nodes g words (G.table 0).slot) ∙ table_met
 
   -- a node that is met is the first of those to which its port is bound
   met_bound : (n : ℕ) → In n all_nodes → (behind : List ℕ) × (G.bound (key_of M n) ≡ n ∷ behind)
@@ -131,9 +143,11 @@ module _ (env : Env) (mix : ℕ → ℕ → ℕ → ℕ) (words : List ℕ) (G :
       let below = hash-below env mix M G whole key 0 in
       let table : table_at G to.bucket ≡ 0 = omega (arith, at.at_home.attached, whole.tables.one) in
       let there : index bucket ≡ to.bucket =
-      some-same (index bucket) to.bucket (sym (home-index env mix M G whole key 0 attached) ∙ ap (home env mix G key) (sym table) ∙ at.at_home.here) in (
+      some-same (index bucket) to.bucket (sym (home-index env mix M G whole key 0 attached)
+      ∙ ap (home env mix G key) (sym table) ∙ at.at_home.here) in (
         In-flat_map (λ x. (G.bucket (index x)).nodes) n bucket (range_with_len 0 size)
-            (In-range_with_len 0 size bucket (omega arith) (omega (arith, below))) (subst (λ j. In n (G.bucket j).nodes) (sym there) at.there),
+            (In-range_with_len 0 size bucket (omega arith) (omega (arith, below)))
+            (subst (λ j. In n (G.bucket j).nodes) (sym there) at.there),
         to.key_is,
       )
 
@@ -151,7 +165,8 @@ module _ (env : Env) (mix : ℕ → ℕ → ℕ → ℕ) (words : List ℕ) (G :
           let member = find-Some (has_key g words port) all_nodes m f in
           let key = eqb-true (key_of M m) port member.1 in
           let bound_m = met_bound m member.0 in
-          let q : ◌≡◌ {A = List ℕ} [] (m ∷ bound_m.0) = sym b ∙ ap G.bound (sym key) ∙ bound_m.1 in absurd (cc)
+          let q : ◌≡◌ {A = List ℕ} [] (m ∷ bound_m.0) = sym b ∙ ap G.bound (sym key)
+          ∙ bound_m.1 in absurd (cc)
       go None (n ∷ behind) f b =
           let met = bound_met port n behind b in
           let never = find-None (has_key g words port) all_nodes n f met.0 in
@@ -187,12 +202,14 @@ module _ (env : Env) (mix : ℕ → ℕ → ℕ → ℕ) (words : List ℕ) (G :
           let to = whole.owned.bound_to port n behind b in
           let among = list_among env mix M G whole port n behind b in
           let few =
-          length-count_below (λ n. true) g.nodes (n ∷ behind) to.distinct (In-AllByRecursion (λ m. m < g.nodes) (n ∷ behind) among) (λ m i. refl) in
+          length-count_below (λ n. true) g.nodes (n ∷ behind) to.distinct
+          (In-AllByRecursion (λ m. m < g.nodes) (n ∷ behind) among) (λ m i. refl) in
           let most = count_below-most (λ n. true) g.nodes in
           let some : g.nodes ≡ suc (g.nodes - 1) = omega (arith, g.within.nodes_within.0) in
           ap (list_from g words g.nodes) (first_bound port (n ∷ behind) b)
           ∙ ap (λ fuel. list_from g words fuel (Some n)) some
-          ∙ ap (λ rest. n ∷ rest) (list_met (g.nodes - 1) (list_of M n) behind (omega (arith, few, most, some)) (λ m i. among m (inr i)) to.list)
+          ∙ ap (λ rest. n ∷ rest) (list_met (g.nodes - 1) (list_of M n) behind
+          (omega (arith, few, most, some)) (λ m i. among m (inr i)) to.list)
           ∙ sym b
 
   -- so the owners of each port are those of the nodes to which it is bound

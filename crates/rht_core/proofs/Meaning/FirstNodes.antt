@@ -57,7 +57,8 @@ module _ (g : Geometry) (words : List ℕ) where
         (place : ℕ) (at : place ≡ place_of g (Node node KeyWord)) where
       -- one node stands before what is left behind it
       chain-some : chain_from g words (count - walked) next
-          ≡ node ∷ chain_from g words (count - (walked + 1)) (node_of g.nodes (word (place_of g (Node node ChainLink))))
+          ≡ node ∷ chain_from g words (count - (walked + 1))
+          (node_of g.nodes (word (place_of g (Node node ChainLink))))
       chain-some =
           let more : count - walked ≡ suc (count - (walked + 1)) = omega arith in
           rw (more, is)
@@ -80,15 +81,18 @@ module _ (g : Geometry) (words : List ℕ) where
         find (has_key g words key) (flat_map (table_nodes g words) (tables_from g words left next))
 
     module _ (count walked : ℕ) (next : Option ℕ) (table : ℕ) (whole : Option ℕ)
-        (is : next ≡ Some table) (within : walked < count) (first : first_of_tables (count - walked) next ≡ whole)
+        (is : next ≡ Some table) (within : walked < count)
+        (first : first_of_tables (count - walked) next ≡ whole)
         (found : Option ℕ) (searched : found ≡ find (has_key g words key) (table_nodes g words table)) where
       -- the nodes in the tables behind this one
       abbrev nodes_behind : List ℕ
       nodes_behind =
-          flat_map (table_nodes g words) (tables_from g words (count - (walked + 1)) (slot_of (word (place_of g (Slot table FutureWord)))))
+          flat_map (table_nodes g words) (tables_from g words (count - (walked + 1))
+          (slot_of (word (place_of g (Slot table FutureWord)))))
 
       -- the nodes of one table stand before those of the tables behind it
-      tables-some : first_of_tables (count - walked) next ≡ find (has_key g words key) (table_nodes g words table ++ nodes_behind)
+      tables-some : first_of_tables (count - walked) next ≡ find (has_key g words key)
+          (table_nodes g words table ++ nodes_behind)
       tables-some =
           let more : count - walked ≡ suc (count - (walked + 1)) = omega arith in
           rw (more, is)
@@ -103,7 +107,8 @@ module _ (g : Geometry) (words : List ℕ) where
           → (following : Option ℕ) → following ≡ slot_of (word place)
           → first_of_tables (count - (walked + 1)) following ≡ whole
       tables-past miss place at following leads =
-          let rest = find-rest (has_key g words key) (table_nodes g words table) nodes_behind found searched miss in
+          let rest = find-rest (has_key g words key) (table_nodes g words table) nodes_behind found
+          searched miss in
           rw (leads, at) (sym rest ∙ sym tables-some ∙ first)
 
     -- behind the last table there is none
@@ -125,14 +130,16 @@ module _ (g : Geometry) (words : List ℕ) where
 
     module _ (shape count bucket : ℕ) (whole : Option ℕ)
         (within : bucket < count) (first : first_of_buckets shape count bucket ≡ whole)
-        (found : Option ℕ) (place : Option ℕ) (searched : found ≡ find (has_key g words key) (bucket_nodes g words place))
+        (found : Option ℕ) (place : Option ℕ) (searched : found ≡ find (has_key g words key)
+        (bucket_nodes g words place))
         (at : place ≡ bucket_place g shape bucket) where
       -- the nodes in the buckets behind this one
       abbrev behind : List ℕ
       behind = flat_map (nodes_in shape) (range_with_len (bucket + 1) (count - (bucket + 1)))
 
       -- the nodes of one bucket stand before those of the buckets behind it
-      buckets-some : first_of_buckets shape count bucket ≡ find (has_key g words key) (nodes_in shape bucket ++ behind)
+      buckets-some : first_of_buckets shape count bucket ≡ find (has_key g words key)
+          (nodes_in shape bucket ++ behind)
       buckets-some =
           let more : count - bucket ≡ suc (count - (bucket + 1)) = omega arith in
           rw more
@@ -142,11 +149,13 @@ module _ (g : Geometry) (words : List ℕ) where
 
       pub buckets-here : is_some found ≡ true → found ≡ whole
       buckets-here hit =
-          sym (find-front (has_key g words key) (nodes_in shape bucket) behind found here hit) ∙ sym buckets-some ∙ first
+          sym (find-front (has_key g words key) (nodes_in shape bucket) behind found here hit)
+          ∙ sym buckets-some ∙ first
 
       pub buckets-past : is_some found ≡ false → first_of_buckets shape count (bucket + 1) ≡ whole
       buckets-past miss =
-          sym (find-rest (has_key g words key) (nodes_in shape bucket) behind found here miss) ∙ sym buckets-some ∙ first
+          sym (find-rest (has_key g words key) (nodes_in shape bucket) behind found here miss)
+          ∙ sym buckets-some ∙ first
 
   -- ---- owners
 
@@ -159,7 +168,8 @@ module _ (g : Geometry) (words : List ℕ) where
         owners_from g words (count - (walked + 1)) (node_of g.nodes (word (place_of g (Node node ListLink))))
 
     -- one owner stands before those behind it
-    owners-some : owners_from g words (count - walked) next ≡ owner_of (word (place_of g (Node node OwnerWord))) ∷ owners_behind
+    owners-some : owners_from g words (count - walked) next ≡ owner_of
+        (word (place_of g (Node node OwnerWord))) ∷ owners_behind
     owners-some =
         let more : count - walked ≡ suc (count - (walked + 1)) = omega arith in
         rw (more, is)
@@ -171,7 +181,8 @@ module _ (g : Geometry) (words : List ℕ) where
         → (following : Option ℕ) → following ≡ node_of g.nodes (word link)
         → after ++ owners_from g words (count - (walked + 1)) following ≡ all
     owners-past place at owner says after pushed link link_at following leads =
-        rw (pushed, leads, link_at, says, at, append_assoc) (ap (λ owners. before ++ owners) (sym owners-some) ∙ whole)
+        rw (pushed, leads, link_at, says, at, append_assoc)
+        (ap (λ owners. before ++ owners) (sym owners-some) ∙ whole)
 
   -- behind the last owner there are no others
   pub owners-none : (left : ℕ) (next : Option ℕ) (before all : List ℕ) → next ≡ None

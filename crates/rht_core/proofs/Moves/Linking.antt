@@ -20,16 +20,19 @@ module _ (env : Env) (mix : ℕ → ℕ → ℕ → ℕ) where
   head_of-link : (place n : ℕ) → head_of place (link_of n) ≡ link_of n
   head_of-link place n = grind (arith, nat_tests)
 
-  module _ (d n port here : ℕ) (M M' : Memory) (G : Ghost) (whole : Whole env mix M G) (ready : IsReady env mix d n port here M G)
+  module _ (d n port here : ℕ) (M M' : Memory) (G : Ghost) (whole : Whole env mix M G)
+      (ready : IsReady env mix d n port here M G)
       (write : IsWrite env.geometry M M' (PageWord here) (link_of n)) where
     abbrev G' : Ghost
     G' = linked G d here n port
 
     same : SameTables env mix G G'
-    same = same_tables env mix G (put G.bucket here (linked_bucket (G.bucket here) n)) (put G.node n (First here)) (put G.bound port (n ∷ [])) (put G.raised d false)
+    same = same_tables env mix G (put G.bucket here (linked_bucket (G.bucket here) n))
+        (put G.node n (First here)) (put G.bound port (n ∷ [])) (put G.raised d false)
 
     within : here < 64 * env.geometry.pages
-    within = home-within env mix M G whole port (table_at G here) here ready.home_of.attached ready.home_of.here
+    within = home-within env mix M G whole port (table_at G here) here ready.home_of.attached
+        ready.home_of.here
 
     used_differs : (m : ℕ) → IsUsed (G.node m) → m ≢ n
     used_differs m used e = held_not_used (G.node n) d ready.has.mine (rw (sym e) used)
@@ -53,32 +56,50 @@ module _ (env : Env) (mix : ℕ → ℕ → ℕ → ℕ) where
     linked_right =
         let old = whole.buckets here within in
         let rest : IsSegment (chain_of M') (head_of (place_at env mix here) (G.bucket here).plain) (G.bucket here).nodes (marker_of (place_at env mix here))
-        = IsSegment-members (chain_of M) (chain_of M') (head_of (place_at env mix here) (G.bucket here).plain) (G.bucket here).nodes (marker_of (place_at env mix here))
+        = IsSegment-members (chain_of M) (chain_of M')
+        (head_of (place_at env mix here) (G.bucket here).plain) (G.bucket here).nodes
+        (marker_of (place_at env mix here))
         (λ m i. first_word m here ChainLink (whole.owned.member here m i)) old.chained.segment in
         let behind : chain_of M' n ≡ head_of (place_at env mix here) (G.bucket here).plain =
         word_same n ChainLink ready.has.among ∙ ready.chain in
         record {
           locked =
-              record { word_is = write.same ∙ omega arith; even = omega arith; none_out = old.locked.none_out; none_armed = old.locked.none_armed };
+              record {
+                word_is = write.same ∙ omega arith;
+                even = omega arith;
+                none_out =
+                    old.locked.none_out;
+                none_armed = old.locked.none_armed;
+              };
           chained =
-              record { segment = (head_of-link (place_at env mix here) n, rw behind rest); distinct = (not_in here, old.chained.distinct) };
+              record {
+                segment = (head_of-link (place_at env mix here) n, rw behind rest);
+                distinct =
+                    (not_in here, old.chained.distinct);
+              };
         }
 
     linked_owned : Owned env mix M' G'
     linked_owned = record {
-      member = λ j m. put-all (λ i b. In m b.nodes → put G.node n (First here) m ≡ First i) G.bucket here (linked_bucket (G.bucket here) n)
+      member = λ j m. put-all (λ i b. In m b.nodes → put G.node n (First here) m ≡ First i) G.bucket here
+          (linked_bucket (G.bucket here) n)
           (λ i. elim i [
             | inl e ↦ rw e (put-same G.node n (First here))
-            | inr k ↦ let f = whole.owned.member here m k in put-other G.node n (First here) m (first_differs m here f) ∙ f
+            | inr k ↦ let f = whole.owned.member here m k in put-other G.node n (First here) m
+                (first_differs m here f) ∙ f
           ])
-          (λ i ne k. let f = whole.owned.member i m k in put-other G.node n (First here) m (first_differs m i f) ∙ f) j;
+          (λ i ne k. let f = whole.owned.member i m k in put-other G.node n (First here) m
+          (first_differs m i f) ∙ f) j;
       first_at = λ m j. put-all (λ k o. o ≡ First j → IsFirstAt env mix M' G' k j) G.node n (First here)
           (λ f. let e : here ≡ j = (cc) in rw (sym e) new_first)
           (λ k ne f. old_first k j ne f) m;
-      behind_in = λ m p. put-all (λ k o. o ≡ Behind p → IsBehindIn env mix M' G' k p) G.node n (First here) (λ f. absurd (cc))
+      behind_in = λ m p. put-all (λ k o. o ≡ Behind p
+          → IsBehindIn env mix M' G' k p) G.node n (First here) (λ f. absurd (cc))
           (λ k ne f. old_behind k p f) m;
-      bound_to = λ p m behind. put-all (λ q nodes. nodes ≡ m ∷ behind → IsBoundTo env mix M' G' q m behind) G.bound port (n ∷ [])
-          (λ e. let same : n ≡ m = (cc) in let none : [] ≡ behind = (cc) in subst (λ b. IsBoundTo env mix M' G' port m b) none record {
+      bound_to = λ p m behind. put-all (λ q nodes. nodes ≡ m ∷ behind
+          → IsBoundTo env mix M' G' q m behind) G.bound port (n ∷ [])
+          (λ e. let same : n ≡ m = (cc) in let none : [] ≡ behind = (cc) in subst
+          (λ b. IsBoundTo env mix M' G' port m b) none record {
             bucket = here;
             first = rw (sym same) (put-same G.node n (First here));
             key_is = rw (sym same) (word_same n KeyWord ready.has.among ∙ ready.key);
@@ -93,7 +114,8 @@ module _ (env : Env) (mix : ℕ → ℕ → ℕ → ℕ) where
             first = put-other G.node n (First here) m (first_differs m to.bucket to.first) ∙ to.first;
             key_is = first_word m to.bucket KeyWord to.first ∙ to.key_is;
             list = rw link (IsSegment-members (list_of M) (list_of M') (list_of M m) behind 0
-                (λ k i. words_stay.lists k (whole.owned.behind_in k q (to.each k i)).among (ap is_used (to.each k i))) to.list);
+                (λ k i. words_stay.lists k (whole.owned.behind_in k q (to.each k i)).among
+                (ap is_used (to.each k i))) to.list);
             distinct = to.distinct;
             each = λ k i.
                 put-other G.node n (First here) k (used_differs k (ap is_used (to.each k i))) ∙ to.each k i;
@@ -106,31 +128,38 @@ module _ (env : Env) (mix : ℕ → ℕ → ℕ → ℕ) where
         new_first = record {
           there = rw (put-same G.bucket here (linked_bucket (G.bucket here) n)) (inl refl);
           among = ready.has.among;
-          at_home = rw (word_same n KeyWord ready.has.among ∙ ready.key) (IsHomeOf-same env mix G G' port here same ready.home_of);
+          at_home = rw (word_same n KeyWord ready.has.among
+              ∙ ready.key) (IsHomeOf-same env mix G G' port here same ready.home_of);
           behind = [];
           bound_to =
-              ap (put G.bound port (n ∷ [])) (word_same n KeyWord ready.has.among ∙ ready.key) ∙ put-same G.bound port (n ∷ []);
+              ap (put G.bound port (n ∷ [])) (word_same n KeyWord ready.has.among ∙ ready.key)
+              ∙ put-same G.bound port (n ∷ []);
         }
 
         old_first : (k j : ℕ) → k ≢ n → G.node k ≡ First j → IsFirstAt env mix M' G' k j
         old_first k j ne f =
             let at = whole.owned.first_at k j f in
             let key = first_word k j KeyWord f in
-            let other : key_of M k ≢ port = λ e. let q : ◌≡◌ {A = List ℕ} [] (k ∷ at.behind) = sym ready.unbound ∙ ap G.bound (sym e) ∙ at.bound_to in cc in
+            let other : key_of M k ≢ port = λ e. let q : ◌≡◌ {A = List ℕ} [] (k ∷ at.behind) = sym
+            ready.unbound ∙ ap G.bound (sym e) ∙ at.bound_to in cc in
             record {
               there =
-                  put-all (λ i b. In k (G.bucket i).nodes → In k b.nodes) G.bucket here (linked_bucket (G.bucket here) n) (λ was. inr was) (λ i ne was. was) j at.there;
+                  put-all (λ i b. In k (G.bucket i).nodes
+                  → In k b.nodes) G.bucket here (linked_bucket (G.bucket here) n) (λ was. inr was)
+                  (λ i ne was. was) j at.there;
               among = at.among;
               at_home = rw key (IsHomeOf-same env mix G G' (key_of M k) j same at.at_home);
               behind = at.behind;
               bound_to =
-                  ap (put G.bound port (n ∷ [])) key ∙ put-other G.bound port (n ∷ []) (key_of M k) other ∙ at.bound_to;
+                  ap (put G.bound port (n ∷ [])) key ∙ put-other G.bound port (n ∷ []) (key_of M k) other
+                  ∙ at.bound_to;
             }
 
         old_behind : (k p : ℕ) → G.node k ≡ Behind p → IsBehindIn env mix M' G' k p
         old_behind k p f =
             let is = whole.owned.behind_in k p f in
-            let other : p ≢ port = λ e. let q : ◌≡◌ {A = List ℕ} [] (is.first ∷ is.behind) = sym ready.unbound ∙ ap G.bound (sym e) ∙ is.bound_to in cc in
+            let other : p ≢ port = λ e. let q : ◌≡◌ {A = List ℕ} [] (is.first ∷ is.behind) = sym
+            ready.unbound ∙ ap G.bound (sym e) ∙ is.bound_to in cc in
             record {
               among = is.among;
               key_is = words_stay.keys k is.among (ap is_used f) ∙ is.key_is;
@@ -144,52 +173,68 @@ module _ (env : Env) (mix : ℕ → ℕ → ℕ → ℕ) where
     linked_arena = record {
       built = put-all (λ k o. IsBuilt env mix o) G.node n (First here) tt (λ k ne. whole.arena.built k);
       bits = λ m l. rw (write.others (NodeMap (m / 64)) (omega arith) (λ e. cc))
-          (put-all (λ k o. k < env.geometry.nodes → (bit_at (M (NodeMap (k / 64))) (k % 64) ≡ 1) ↔ (o ≡ Free)) G.node n (First here)
+          (put-all (λ k o. k < env.geometry.nodes → (bit_at (M (NodeMap (k / 64))) (k % 64) ≡ 1) ↔
+          (o ≡ Free)) G.node n (First here)
           (λ k. let old = whole.arena.bits n k in
           ((λ set. let q = sym ready.has.mine ∙ old.0 set in absurd (cc)), (λ e. absurd (cc))))
           (λ k ne j. whole.arena.bits k j) m l);
     }
 
     one_more_first : firsts env mix G' ≡ firsts env mix G + 1
-    one_more_first = count_below-more (λ m. is_first (G.node m)) (λ m. is_first (put G.node n (First here) m)) n env.geometry.nodes ready.has.among
-        (ap is_first ready.has.mine) (ap is_first (put-same G.node n (First here))) (λ m ne. ap is_first (put-other G.node n (First here) m ne))
+    one_more_first = count_below-more (λ m. is_first (G.node m))
+        (λ m. is_first (put G.node n (First here) m)) n env.geometry.nodes ready.has.among
+        (ap is_first ready.has.mine) (ap is_first (put-same G.node n (First here)))
+        (λ m ne. ap is_first (put-other G.node n (First here) m ne))
 
     one_less_raiser : raisers env mix G ≡ raisers env mix G' + 1
-    one_less_raiser = count_below-more (put G.raised d false) G.raised d env.geometry.callers ready.low (put-same G.raised d false) ready.raised
+    one_less_raiser = count_below-more (put G.raised d false) G.raised d env.geometry.callers ready.low
+        (put-same G.raised d false) ready.raised
         (λ c ne. sym (put-other G.raised d false c ne))
 
     pub link_head : Made env mix d M G M' G'
     link_head = record {
       whole = record {
         tables =
-            TablesRight-write env mix M M' G G' (PageWord here) (link_of n) write (record { current = λ e. cc; slots = λ s w h e. cc }) same whole.tables;
-        buckets = put-all (λ i b. i < 64 * env.geometry.pages → BucketRight env mix M' i b) G.bucket here (linked_bucket (G.bucket here) n)
+            TablesRight-write env mix M M' G G' (PageWord here) (link_of n) write
+            (record { current = λ e. cc; slots = λ s w h e. cc }) same whole.tables;
+        buckets = put-all (λ i b. i < 64 * env.geometry.pages
+            → BucketRight env mix M' i b) G.bucket here (linked_bucket (G.bucket here) n)
             (λ l. linked_right)
-            (λ i ne l. BucketRight-frame env mix M M' i (G.bucket i) (write.others (PageWord i) l (λ e. ne (cc)))
+            (λ i ne l. BucketRight-frame env mix M M' i (G.bucket i)
+            (write.others (PageWord i) l (λ e. ne (cc)))
             (λ m k. first_word m i ChainLink (whole.owned.member i m k)) (whole.buckets i l));
         owned = linked_owned;
         arena = linked_arena;
-        counted = write.others PortCount tt (λ e. cc) ∙ omega (arith, whole.counted, one_more_first, one_less_raiser);
+        counted = write.others PortCount tt (λ e. cc)
+            ∙ omega (arith, whole.counted, one_more_first, one_less_raiser);
       };
       others = λ c ne. record {
         tables = tables_stay env mix M G G' whole same;
         locks =
-            λ j h. put-other G.bucket here (linked_bucket (G.bucket here) n) j (λ e. let q : ◌≡◌ {A = Option ℕ} (Some d) (Some c) = sym ready.holder ∙ ap (λ i. (G.bucket i).holder) (sym e) ∙ h in ne (cc));
+            λ j h. put-other G.bucket here (linked_bucket (G.bucket here) n) j
+            (λ e. let q : ◌≡◌ {A = Option ℕ} (Some d) (Some c) = sym ready.holder
+            ∙ ap (λ i. (G.bucket i).holder) (sym e) ∙ h in ne (cc));
         lists = λ j m h i.
             let at = whole.owned.first_at m j (whole.owned.member j m i) in
             put-other G.bound port (n ∷ []) (key_of M m)
-            (λ e. let q : ◌≡◌ {A = List ℕ} [] (m ∷ at.behind) = sym ready.unbound ∙ ap G.bound (sym e) ∙ at.bound_to in cc);
+            (λ e. let q : ◌≡◌ {A = List ℕ} [] (m ∷ at.behind) = sym ready.unbound ∙ ap G.bound (sym e)
+            ∙ at.bound_to in cc);
         chains = chains_stay env mix c M M' G (PageWord here) (link_of n) whole write (λ m used e. cc);
         keys = words_stay.keys;
         owners = words_stay.owners;
         nodes =
-            λ m has. put-other G.node n (First here) m (λ e. ne (held_by_one (G.node n) c d (ap G.node (sym e) ∙ has.mine) ready.has.mine)) ∙ has.mine;
+            λ m has. put-other G.node n (First here) m
+            (λ e. ne (held_by_one (G.node n) c d (ap G.node (sym e) ∙ has.mine) ready.has.mine))
+            ∙ has.mine;
         words = λ m has w. word_same m w has.among;
         raised = put-other G.raised d false c ne;
-        taken = put-all (λ k o. is_taken_by c o ≡ is_taken_by c (G.node k)) G.node n (First here) (sym (ap (is_taken_by c) ready.has.mine)) (λ k kn. refl);
+        taken = put-all (λ k o. is_taken_by c o ≡ is_taken_by c (G.node k)) G.node n (First here)
+            (sym (ap (is_taken_by c) ready.has.mine)) (λ k kn. refl);
         no_node =
-            λ m. put-all (λ k o. o ≡ Held c → G.node k ≡ Held c) G.node n (First here) (λ e. absurd (cc)) (λ k kn h. h) m;
+            λ m. put-all (λ k o. o ≡ Held c → G.node k ≡ Held c) G.node n (First here) (λ e. absurd (cc))
+            (λ k kn h. h) m;
         no_lock =
-            λ j. put-all (λ i b. b.holder ≡ Some c → (G.bucket i).holder ≡ Some c) G.bucket here (linked_bucket (G.bucket here) n) (λ e. absurd (cc)) (λ i ni h. h) j;
+            λ j. put-all (λ i b. b.holder ≡ Some c → (G.bucket i).holder ≡ Some c) G.bucket here
+            (linked_bucket (G.bucket here) n) (λ e. absurd (cc)) (λ i ni h. h) j;
       };
     }

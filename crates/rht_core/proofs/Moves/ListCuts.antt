@@ -19,7 +19,8 @@ use Rattle.rht_core.proofs.Theory.Readiness.{Change, changed}
 use Rattle.rht_core.proofs.Moves.Rebinding.{IsStoreFor, IsChanged, IsRebound, rebind}
 use Rattle.rht_core.proofs.Moves.Relinking.{segment_relinked, last_in}
 
-module _ (env : Env) (mix : ℕ → ℕ → ℕ → ℕ) (d port j m q p : ℕ) (us vs : List ℕ) (M M' : Memory) (G : Ghost) where
+module _ (env : Env) (mix : ℕ → ℕ → ℕ → ℕ) (d port j m q p : ℕ) (us vs : List ℕ) (M M' : Memory)
+    (G : Ghost) where
   -- The caller has locked the bucket of the port's first node, behind which lie these nodes, then one, then others.
   pub record IsBehindFirst : Type 0 where
     pub holder : (G.bucket j).holder ≡ Some d
@@ -42,7 +43,8 @@ module _ (env : Env) (mix : ℕ → ℕ → ℕ → ℕ) (d port j m q p : ℕ) 
     raised = G.raised d;
   }
 
-  module _ (whole : Whole env mix M G) (built : IsBuilt env mix (Taken d)) (link : ℕ) (link_is : list_of M q ≡ link)
+  module _ (whole : Whole env mix M G) (built : IsBuilt env mix (Taken d)) (link : ℕ)
+      (link_is : list_of M q ≡ link)
       (found : IsBehindFirst) (write : IsWrite env.geometry M M' (Node p ListLink) link) where
     abbrev cut : Ghost
     cut = changed G d cutting
@@ -78,7 +80,8 @@ module _ (env : Env) (mix : ℕ → ℕ → ℕ → ℕ) (d port j m q p : ℕ) 
     not_cut = IsDistinct-cut us q vs to.distinct.1
 
     kept_apart : (n : ℕ) → In n (us ++ vs) → n ≢ q
-    kept_apart n i e = in_and_not q (us ++ vs) (subst (λ k. In k (us ++ vs)) e i) (NotIn-append q us vs not_cut.0 not_cut.1)
+    kept_apart n i e = in_and_not q (us ++ vs) (subst (λ k. In k (us ++ vs)) e i)
+        (NotIn-append q us vs not_cut.0 not_cut.1)
 
     -- the node before is the first one, or is behind it as well
     before_in : In p (m ∷ us)
@@ -119,7 +122,8 @@ module _ (env : Env) (mix : ℕ → ℕ → ℕ → ℕ) (d port j m q p : ℕ) 
       no_behind = λ n other f e. cc;
       other_list = λ n other ne i e.
           let same : n ≡ p = cc in ne (sym (bound_key other n i) ∙ ap (key_of M) same ∙ before_key);
-      other_node = λ c n w ne held e. let same : n ≡ p = cc in held_not_used (G.node n) c held (rw same before_used);
+      other_node = λ c n w ne held e. let same : n ≡ p = cc in held_not_used (G.node n) c held
+          (rw same before_used);
     }
 
     cut-one : cut.node q ≡ Taken d
@@ -156,7 +160,8 @@ module _ (env : Env) (mix : ℕ → ℕ → ℕ → ℕ) (d port j m q p : ℕ) 
         record {
           there = in_chain;
           among = at.among;
-          at_home = rw key (IsHomeOf-same env mix G cut port j (same_tables env mix G cut.bucket cut.node cut.bound cut.raised)
+          at_home = rw key (IsHomeOf-same env mix G cut port j
+              (same_tables env mix G cut.bucket cut.node cut.bound cut.raised)
               (subst (λ k. IsHomeOf-at k) found.key_is at.at_home));
           behind = us ++ vs;
           bound_to = ap cut.bound key ∙ put-same G.bound port (m ∷ (us ++ vs));
@@ -177,13 +182,16 @@ module _ (env : Env) (mix : ℕ → ℕ → ℕ → ℕ) (d port j m q p : ℕ) 
         IsSegment-members (list_of M) (list_of M') link vs 0
         (λ n i. list_stays n (among n (In-append_right n us (q ∷ vs) (inr i))) (rear_apart n i))
         (subst (λ l. IsSegment (list_of M) l vs 0) link_is parts.1) in
-        (segment_relinked (list_of M) (list_of M') (m ∷ us) vs p (link_of m) (link_of q) link 0 found.last write.same rest
-        (λ n i ne. list_stays n (front_among n i) ne) (front_distinct, IsDistinct-left us (q ∷ vs) to.distinct.1) (refl, parts.0)).1
+        (segment_relinked (list_of M) (list_of M') (m ∷ us) vs p (link_of m) (link_of q) link 0
+        found.last write.same rest
+        (λ n i ne. list_stays n (front_among n i) ne)
+        (front_distinct, IsDistinct-left us (q ∷ vs) to.distinct.1) (refl, parts.0)).1
       where
         rear_apart : (n : ℕ) → In n vs → n ≢ p
         rear_apart n i e = elim before_in [
           | inl first_one ↦ no_first_behind n (In-append_right n us (q ∷ vs) (inr i)) (e ∙ first_one)
-          | inr behind_it ↦ IsDistinct-apart us vs p n (IsDistinct-without us q vs to.distinct.1) behind_it i e
+          | inr behind_it ↦ IsDistinct-apart us vs p n (IsDistinct-without us q vs to.distinct.1)
+              behind_it i e
         ]
 
         front_among : (n : ℕ) → In n (m ∷ us) → n < env.geometry.nodes
@@ -209,25 +217,30 @@ module _ (env : Env) (mix : ℕ → ℕ → ℕ → ℕ) (d port j m q p : ℕ) 
     cut_counted : firsts env mix cut + raisers env mix cut ≡ firsts env mix G + raisers env mix G
     cut_counted =
         let same : firsts env mix cut ≡ firsts env mix G =
-        count_below-same (λ n. is_first (G.node n)) (λ n. is_first (cut.node n)) env.geometry.nodes (λ n l. elim (cases_eq n q) [
-          | inl e ↦ ap (λ k. is_first (cut.node k)) e ∙ ap is_first cut-one ∙ sym (ap is_first (ap G.node e ∙ mine))
+        count_below-same (λ n. is_first (G.node n)) (λ n. is_first (cut.node n)) env.geometry.nodes
+        (λ n l. elim (cases_eq n q) [
+          | inl e ↦ ap (λ k. is_first (cut.node k)) e ∙ ap is_first cut-one
+              ∙ sym (ap is_first (ap G.node e ∙ mine))
           | inr ne ↦ ap is_first (cut-other n ne)
         ]) in
         let raised : raisers env mix cut ≡ raisers env mix G =
-        count_below-same G.raised (put G.raised d (G.raised d)) env.geometry.callers (λ c l. put-all (λ k r. r ≡ G.raised k) G.raised d (G.raised d) refl (λ k ne. refl) c) in
+        count_below-same G.raised (put G.raised d (G.raised d)) env.geometry.callers
+        (λ c l. put-all (λ k r. r ≡ G.raised k) G.raised d (G.raised d) refl (λ k ne. refl) c) in
         omega (arith, same, raised)
 
     -- the first node with the port's key is this one alone
     only_first : (n i : ℕ) → G.node n ≡ First i → key_of M n ≡ port → n ≡ m
     only_first n i f key =
         let other = whole.owned.first_at n i f in
-        let z : ◌≡◌ {A = List ℕ} (n ∷ other.behind) (m ∷ (us ++ q ∷ vs)) = sym other.bound_to ∙ ap G.bound key ∙ found.bound_to in cc
+        let z : ◌≡◌ {A = List ℕ} (n ∷ other.behind) (m ∷ (us ++ q ∷ vs)) = sym other.bound_to
+        ∙ ap G.bound key ∙ found.bound_to in cc
 
     still_behind : (n k : ℕ) → n ≢ q → G.node n ≡ Behind k → key_of M n ≡ port → IsBehindIn env mix M' cut n k
     still_behind n k ne f key =
         let is = whole.owned.behind_in n k f in
         let here : k ≡ port = sym is.key_is ∙ key in
-        let z : ◌≡◌ {A = List ℕ} (is.first ∷ is.behind) (m ∷ (us ++ q ∷ vs)) = sym is.bound_to ∙ ap G.bound here ∙ found.bound_to in
+        let z : ◌≡◌ {A = List ℕ} (is.first ∷ is.behind) (m ∷ (us ++ q ∷ vs)) = sym is.bound_to
+        ∙ ap G.bound here ∙ found.bound_to in
         let same : is.behind ≡ us ++ q ∷ vs = cc in
         record {
           among = is.among;
@@ -252,7 +265,8 @@ module _ (env : Env) (mix : ℕ → ℕ → ℕ → ℕ) (d port j m q p : ℕ) 
       one_changed = cut_changed;
       other_changed = cut_changed;
       right = BucketRight-frame env mix M M' j (G.bucket j) (write.others (PageWord j) within (λ e. cc))
-          (λ n i. write.others (Node n ChainLink) (whole.owned.first_at n j (whole.owned.member j n i)).among (λ e. cc)) (whole.buckets j within);
+          (λ n i. write.others (Node n ChainLink) (whole.owned.first_at n j
+          (whole.owned.member j n i)).among (λ e. cc)) (whole.buckets j within);
       seat = λ n more b. let same : n ≡ m = (let z = sym b ∙ found.bound_to in cc) in rw same first;
       members = λ n i.
           let f = whole.owned.member j n i in
@@ -273,13 +287,16 @@ module _ (env : Env) (mix : ℕ → ℕ → ℕ → ℕ) (d port j m q p : ℕ) 
       bound_here = λ n more e.
           let same : m ≡ n = cc in
           let rest_is : us ++ vs ≡ more = cc in
-          subst (λ k. IsBoundTo env mix M' cut port k more) same (subst (IsBoundTo env mix M' cut port m) rest_is new_bound);
-      single = λ one n more e. absurd (not_empty (whole.owned.single one port m (us ++ q ∷ vs) found.bound_to));
+          subst (λ k. IsBoundTo env mix M' cut port k more) same
+          (subst (IsBoundTo env mix M' cut port m) rest_is new_bound);
+      single = λ one n more e. absurd (not_empty (whole.owned.single one port m (us ++ q ∷ vs)
+          found.bound_to));
       counted = cut_counted;
     }
       where
         within : j < 64 * env.geometry.pages
-        within = home-within env mix M G whole (key_of M m) (table_at G j) j at.at_home.attached at.at_home.here
+        within = home-within env mix M G whole (key_of M m) (table_at G j) j at.at_home.attached
+            at.at_home.here
 
     pub cut_list : Made env mix d M G M' cut
     cut_list = rebind env mix d cutting M M' G (Node p ListLink) link whole cut_store cut_bound

@@ -34,10 +34,18 @@ module _ (env : Env) (mix : ℕ → ℕ → ℕ → ℕ) where
       → Whole env mix M' (with_holder G j holder)
   relocked j v holder M M' G whole l is write =
       let old = (whole.buckets j l).locked in
-      Whole-frame env mix M M' G (with_holder G j holder) (PageWord j) v whole write (record { current = λ e. cc; slots = λ s u h e. cc }) (held_chains G j holder)
+      Whole-frame env mix M M' G (with_holder G j holder) (PageWord j) v whole write
+      (record { current = λ e. cc; slots = λ s u h e. cc }) (held_chains G j holder)
       (used_stay env mix M M' G (PageWord j) v whole write (λ n w e. cc))
-      (put-all (λ i b. i < 64 * env.geometry.pages → LockedRight env mix M' i b) G.bucket j (record (G.bucket j) { holder = holder })
-      (λ k. record { word_is = write.same ∙ is; even = old.even; none_out = old.none_out; none_armed = old.none_armed })
+      (put-all (λ i b. i < 64 * env.geometry.pages → LockedRight env mix M' i b) G.bucket j
+      (record (G.bucket j) { holder = holder })
+      (λ k. record {
+        word_is = write.same ∙ is;
+        even = old.even;
+        none_out = old.none_out;
+        none_armed =
+            old.none_armed;
+      })
       (λ i ne k. let right = (whole.buckets i k).locked in record {
         word_is = write.others (PageWord i) k (λ e. ne (cc)) ∙ right.word_is;
         even = right.even;
@@ -53,8 +61,10 @@ module _ (env : Env) (mix : ℕ → ℕ → ℕ → ℕ) where
       → IsWrite env.geometry M M' (PageWord j) v → Others env mix d M G M' (with_holder G j holder)
   relocked_others d j v holder M M' G whole before after write c ne = record {
     tables = tables_stay env mix M G (with_holder G j holder) whole
-        (same_tables env mix G (put G.bucket j (record (G.bucket j) { holder = holder })) G.node G.bound G.raised);
-    locks = λ i h. put-other G.bucket j (record (G.bucket j) { holder = holder }) i (λ e. before c ne (rw (sym e) h));
+        (same_tables env mix G (put G.bucket j (record (G.bucket j) { holder = holder })) G.node G.bound
+        G.raised);
+    locks = λ i h. put-other G.bucket j (record (G.bucket j) { holder = holder }) i
+        (λ e. before c ne (rw (sym e) h));
     lists = λ i n h k. refl;
     chains = chains_stay env mix c M M' G (PageWord j) v whole write (λ n used e. cc);
     keys = λ n l used. write.others (Node n KeyWord) l (λ e. cc);
@@ -64,7 +74,8 @@ module _ (env : Env) (mix : ℕ → ℕ → ℕ → ℕ) where
     raised = refl;
     taken = λ n. refl;
     no_node = λ n h. h;
-    no_lock = λ i. put-all (λ i b. b.holder ≡ Some c → (G.bucket i).holder ≡ Some c) G.bucket j (record (G.bucket j) { holder = holder })
+    no_lock = λ i. put-all (λ i b. b.holder ≡ Some c → (G.bucket i).holder ≡ Some c) G.bucket j
+        (record (G.bucket j) { holder = holder })
         (λ h. absurd (after c ne h)) (λ i ni h. h) i;
   }
 
@@ -81,7 +92,8 @@ module _ (env : Env) (mix : ℕ → ℕ → ℕ → ℕ) where
       → Made env mix d M G M' (with_holder G j (Some d)) × ((G.bucket j).plain ≡ v)
   take_lock d j v M M' G whole l found even write =
       let right = (whole.buckets j l).locked in
-      let free = nobody_holds (G.bucket j).holder (G.bucket j).plain v (sym found ∙ right.word_is) even right.even in (
+      let free = nobody_holds (G.bucket j).holder (G.bucket j).plain v (sym found
+      ∙ right.word_is) even right.even in (
         record {
           whole = relocked j (v + 1) (Some d) M M' G whole l (ap (λ p. p + 1) (sym free.1)) write;
           others = relocked_others d j (v + 1) (Some d) M M' G whole
@@ -114,15 +126,22 @@ module _ (env : Env) (mix : ℕ → ℕ → ℕ → ℕ) where
       let few = count_below-most (λ n. is_first (G.node n)) env.geometry.nodes in
       let fewer = count_below-most G.raised env.geometry.callers in
       let more : raisers env mix (with_raised G d true) ≡ raisers env mix G + 1
-      = count_below-more G.raised (put G.raised d true) d env.geometry.callers l low (put-same G.raised d true) (λ n ne. put-other G.raised d true n ne) in
+      = count_below-more G.raised (put G.raised d true) d env.geometry.callers l low
+      (put-same G.raised d true) (λ n ne. put-other G.raised d true n ne) in
       let next : v ≡ firsts env mix G + (raisers env mix G + 1)
       = omega (arith, whole.counted, few, fewer, within.nodes_within.1, within.callers_within.1) in
       let stay = used_stay env mix M M' G PortCount v whole write (λ n w e. cc) in
       record {
-        whole = Whole-frame env mix M M' G (with_raised G d true) PortCount v whole write (record { current = λ e. cc; slots = λ s u h e. cc }) (same_chains env mix G (put G.raised d true)) stay
-            (locks_stay env mix M M' G PortCount v whole write (λ j e. cc)) (arena_stays env mix M M' G PortCount v whole write (with_raised G d true) refl (λ i e. cc))
+        whole = Whole-frame env mix M M' G (with_raised G d true) PortCount v whole write
+            (record { current = λ e. cc; slots = λ s u h e. cc })
+            (same_chains env mix G (put G.raised d true)) stay
+            (locks_stay env mix M M' G PortCount v whole write (λ j e. cc))
+            (arena_stays env mix M M' G PortCount v whole write (with_raised G d true) refl (λ i e. cc))
             (write.same ∙ next ∙ ap (λ x. firsts env mix G + x) (sym more));
-        others = λ c ne. Rely-same env mix c M M' G (with_raised G d true) whole (same_tables env mix G G.bucket G.node G.bound (put G.raised d true)) refl refl refl (put-other G.raised d true c ne) stay (chains_stay env mix c M M' G PortCount v whole write (λ n used e. cc))
+        others = λ c ne. Rely-same env mix c M M' G (with_raised G d true) whole
+            (same_tables env mix G G.bucket G.node G.bound (put G.raised d true)) refl refl refl
+            (put-other G.raised d true c ne) stay (chains_stay env mix c M M' G PortCount v whole write
+            (λ n used e. cc))
             (λ n w has. write.others (Node n w) has.among (λ e. cc));
       }
 
@@ -137,16 +156,23 @@ module _ (env : Env) (mix : ℕ → ℕ → ℕ → ℕ) where
       let few = count_below-most (λ n. is_first (G.node n)) env.geometry.nodes in
       let fewer = count_below-most G.raised env.geometry.callers in
       let less : raisers env mix G ≡ raisers env mix (with_raised G d false) + 1
-      = count_below-more (put G.raised d false) G.raised d env.geometry.callers l (put-same G.raised d false) high
+      = count_below-more (put G.raised d false) G.raised d env.geometry.callers l
+      (put-same G.raised d false) high
       (λ n ne. sym (put-other G.raised d false n ne)) in
       let next : v ≡ firsts env mix G + raisers env mix (with_raised G d false)
       = omega (arith, whole.counted, less, few, fewer, within.nodes_within.1, within.callers_within.1) in
       let stay = used_stay env mix M M' G PortCount v whole write (λ n w e. cc) in
       record {
-        whole = Whole-frame env mix M M' G (with_raised G d false) PortCount v whole write (record { current = λ e. cc; slots = λ s u h e. cc }) (same_chains env mix G (put G.raised d false)) stay
-            (locks_stay env mix M M' G PortCount v whole write (λ j e. cc)) (arena_stays env mix M M' G PortCount v whole write (with_raised G d false) refl (λ i e. cc))
+        whole = Whole-frame env mix M M' G (with_raised G d false) PortCount v whole write
+            (record { current = λ e. cc; slots = λ s u h e. cc })
+            (same_chains env mix G (put G.raised d false)) stay
+            (locks_stay env mix M M' G PortCount v whole write (λ j e. cc))
+            (arena_stays env mix M M' G PortCount v whole write (with_raised G d false) refl (λ i e. cc))
             (write.same ∙ next);
-        others = λ c ne. Rely-same env mix c M M' G (with_raised G d false) whole (same_tables env mix G G.bucket G.node G.bound (put G.raised d false)) refl refl refl (put-other G.raised d false c ne) stay (chains_stay env mix c M M' G PortCount v whole write (λ n used e. cc))
+        others = λ c ne. Rely-same env mix c M M' G (with_raised G d false) whole
+            (same_tables env mix G G.bucket G.node G.bound (put G.raised d false)) refl refl refl
+            (put-other G.raised d false c ne) stay (chains_stay env mix c M M' G PortCount v whole write
+            (λ n used e. cc))
             (λ n w has. write.others (Node n w) has.among (λ e. cc));
       }
 
@@ -159,8 +185,12 @@ module _ (env : Env) (mix : ℕ → ℕ → ℕ → ℕ) where
       → Whole env mix M' G × ((c : ℕ) → Rely env mix c M G M' G)
   aside a v M M' G whole write table page node map count =
       let stay = used_stay env mix M M' G a v whole write node in (
-        Whole-frame env mix M M' G G a v whole write table (same_chains env mix G G.raised) stay (locks_stay env mix M M' G a v whole write page)
-            (arena_stays env mix M M' G a v whole write G refl map) (write.others PortCount tt count ∙ whole.counted),
-        λ c. Rely-same env mix c M M' G G whole (same_tables env mix G G.bucket G.node G.bound G.raised) refl refl refl refl stay (chains_stay env mix c M M' G a v whole write (λ n used. node n ChainLink))
+        Whole-frame env mix M M' G G a v whole write table (same_chains env mix G G.raised) stay
+            (locks_stay env mix M M' G a v whole write page)
+            (arena_stays env mix M M' G a v whole write G refl map) (write.others PortCount tt count
+            ∙ whole.counted),
+        λ c. Rely-same env mix c M M' G G whole (same_tables env mix G G.bucket G.node G.bound G.raised)
+            refl refl refl refl stay (chains_stay env mix c M M' G a v whole write
+            (λ n used. node n ChainLink))
             (λ n w has. write.others (Node n w) has.among (node n w)),
       )

@@ -15,7 +15,8 @@ use Rattle.rht_core.proofs.Theory.Knowledge.{bound_used}
 use Rattle.rht_core.proofs.Theory.Frames.{Made, Others, IsNoTableWord, SameTables, same_tables, tables_stay, TablesRight-write, IsHomeOf-same, BucketRight-frame}
 use Rattle.rht_core.proofs.Theory.Readiness.{Change, changed}
 
-module _ (env : Env) (mix : ℕ → ℕ → ℕ → ℕ) (d : ℕ) (change : Change) (M M' : Memory) (G : Ghost) (a : Address) (v : ℕ) where
+module _ (env : Env) (mix : ℕ → ℕ → ℕ → ℕ) (d : ℕ) (change : Change) (M M' : Memory) (G : Ghost)
+    (a : Address) (v : ℕ) where
   abbrev G' : Ghost
   G' = changed G d change
 
@@ -60,9 +61,12 @@ module _ (env : Env) (mix : ℕ → ℕ → ℕ → ℕ) (d : ℕ) (change : Cha
     pub members : (n : ℕ) → In n change.bucket.nodes → G'.node n ≡ First here
     pub others_stay : (n : ℕ) → In n (G.bucket here).nodes → key_of M n ≢ port → In n change.bucket.nodes
     pub first_here : (n i : ℕ) → G'.node n ≡ First i → key_of M n ≡ port → IsFirstAt env mix M' G' n i
-    pub behind_here : (n other : ℕ) → G'.node n ≡ Behind other → key_of M n ≡ port → IsBehindIn env mix M' G' n other
-    pub bound_here : (n : ℕ) (behind : List ℕ) → change.nodes ≡ n ∷ behind → IsBoundTo env mix M' G' port n behind
-    pub single : env.config.kind ≡ Single → (n : ℕ) (behind : List ℕ) → change.nodes ≡ n ∷ behind → behind ≡ []
+    pub behind_here : (n other : ℕ) → G'.node n ≡ Behind other → key_of M n ≡ port
+        → IsBehindIn env mix M' G' n other
+    pub bound_here : (n : ℕ) (behind : List ℕ) → change.nodes ≡ n ∷ behind
+        → IsBoundTo env mix M' G' port n behind
+    pub single : env.config.kind ≡ Single → (n : ℕ) (behind : List ℕ) → change.nodes ≡ n ∷ behind
+        → behind ≡ []
     pub counted : firsts env mix G' + raisers env mix G' ≡ firsts env mix G + raisers env mix G
 
   module _ (whole : Whole env mix M G) (store : IsStoreFor) (is : IsRebound) where
@@ -81,7 +85,8 @@ module _ (env : Env) (mix : ℕ → ℕ → ℕ → ℕ) (d : ℕ) (change : Cha
         → ((n : ℕ) → n ≢ change.one → n ≢ change.other → P n (G.node n)) → (n : ℕ) → P n (G'.node n)
     owners_all P one other rest =
         put-all P (put G.node change.one change.one_owner) change.other change.other_owner other
-        (λ n ne. put-all (λ m o. m ≢ change.other → P m o) G.node change.one change.one_owner (λ apart. one) (λ m apart apart_other. rest m apart apart_other) n ne)
+        (λ n ne. put-all (λ m o. m ≢ change.other → P m o) G.node change.one change.one_owner
+        (λ apart. one) (λ m apart apart_other. rest m apart apart_other) n ne)
 
     -- a node of another port, or of another caller, keeps its owner
     record IsKept (n : ℕ) : Type 0 where
@@ -96,7 +101,8 @@ module _ (env : Env) (mix : ℕ → ℕ → ℕ → ℕ) (d : ℕ) (change : Cha
     kept_from : (n : ℕ) → ((owner : Owner) → IsChanged n owner → ⊥) → IsKept n
     kept_from n never = record {
       no_one = λ e. never change.one_owner (subst (λ m. IsChanged m change.one_owner) (sym e) is.one_changed);
-      no_other = λ e. never change.other_owner (subst (λ m. IsChanged m change.other_owner) (sym e) is.other_changed);
+      no_other = λ e. never change.other_owner (subst (λ m. IsChanged m change.other_owner) (sym e)
+          is.other_changed);
     }
 
     kept_key : (n : ℕ) → key_of M n ≢ port → IsKept n
@@ -117,8 +123,10 @@ module _ (env : Env) (mix : ℕ → ℕ → ℕ → ℕ) (d : ℕ) (change : Cha
       where
         go : (nodes : List ℕ) → G.bound port ≡ nodes → In n nodes → is_taken_by c (G.node n) ≡ false
         go [] b i = absurd i
-        go (first ∷ behind) b (inl e) = ap (λ m. is_taken_by c (G.node m)) e ∙ ap (is_taken_by c) (is.seat first behind b)
-        go (first ∷ behind) b (inr i) = ap (is_taken_by c) ((whole.owned.bound_to port first behind b).each n i)
+        go (first ∷ behind) b (inl e) = ap (λ m. is_taken_by c (G.node m)) e
+            ∙ ap (is_taken_by c) (is.seat first behind b)
+        go (first ∷ behind) b (inr i) = ap (is_taken_by c)
+            ((whole.owned.bound_to port first behind b).each n i)
 
     was_not_out : (c n : ℕ) (owner : Owner) → IsChanged n owner → is_taken_by c (G.node n) ≡ false
     was_not_out c n owner at = elim at.before [
@@ -135,7 +143,8 @@ module _ (env : Env) (mix : ℕ → ℕ → ℕ → ℕ) (d : ℕ) (change : Cha
         go (m ∷ behind) b (inl e) =
             let q : First i ≡ First here = sym first ∙ ap G.node e ∙ is.seat m behind b in cc
         go (m ∷ behind) b (inr k) =
-            let q : First i ≡ Behind port = sym first ∙ (whole.owned.bound_to port m behind b).each n k in absurd (cc)
+            let q : First i ≡ Behind port = sym first
+            ∙ (whole.owned.bound_to port m behind b).each n k in absurd (cc)
 
     held_kept : (c n : ℕ) → c ≢ d → G.node n ≡ Held c → IsKept n
     held_kept c n ne held = kept_from n (λ owner at. elim at.before [
@@ -176,19 +185,22 @@ module _ (env : Env) (mix : ℕ → ℕ → ℕ → ℕ) (d : ℕ) (change : Cha
           there = at.there;
         }
 
-    other_bound : (p n : ℕ) (behind : List ℕ) → p ≢ port → G.bound p ≡ n ∷ behind → IsBoundTo env mix M' G' p n behind
+    other_bound : (p n : ℕ) (behind : List ℕ) → p ≢ port → G.bound p ≡ n ∷ behind
+        → IsBoundTo env mix M' G' p n behind
     other_bound p n behind ne b =
         let to = whole.owned.bound_to p n behind b in
         let at = whole.owned.first_at n to.bucket to.first in
         let there : (m : ℕ) → In m (n ∷ behind) → In m (G.bound p) = λ m i. subst (In m) (sym b) i in
-        let link : list_of M' n ≡ list_of M n = store.write.others (Node n ListLink) at.among (store.other_list n p ne (there n (inl refl))) in
+        let link : list_of M' n ≡ list_of M n = store.write.others (Node n ListLink) at.among
+        (store.other_list n p ne (there n (inl refl))) in
         record {
           bucket = to.bucket;
           first = kept_owner n (kept_key n (λ e. ne (sym to.key_is ∙ e))) ∙ to.first;
           key_is = key_stays n at.among ∙ to.key_is;
           list = rw link (IsSegment-members (list_of M) (list_of M') (list_of M n) behind 0
               (λ m i. let more = whole.owned.behind_in m p (to.each m i) in
-              store.write.others (Node m ListLink) more.among (store.other_list m p ne (there m (inr i)))) to.list);
+              store.write.others (Node m ListLink) more.among
+              (store.other_list m p ne (there m (inr i)))) to.list);
           distinct = to.distinct;
           each = λ m i.
               let more = whole.owned.behind_in m p (to.each m i) in
@@ -197,8 +209,10 @@ module _ (env : Env) (mix : ℕ → ℕ → ℕ → ℕ) (d : ℕ) (change : Cha
 
     rebound_owned : Owned env mix M' G'
     rebound_owned = record {
-      member = λ i n. put-all (λ k b. In n b.nodes → G'.node n ≡ First k) G.bucket here change.bucket (is.members n)
-          (λ k ne there. let first = whole.owned.member k n there in kept_owner n (first_kept n k ne first) ∙ first) i;
+      member = λ i n. put-all (λ k b. In n b.nodes → G'.node n ≡ First k) G.bucket here change.bucket
+          (is.members n)
+          (λ k ne there. let first = whole.owned.member k n there in kept_owner n
+          (first_kept n k ne first) ∙ first) i;
       first_at = λ n i first. elim (cases_eq (key_of M n) port) [
         | inl e ↦ is.first_here n i first e
         | inr ne ↦ other_owned n i ne (sym (kept_owner n (kept_key n ne)) ∙ first)
@@ -223,28 +237,36 @@ module _ (env : Env) (mix : ℕ → ℕ → ℕ → ℕ) (d : ℕ) (change : Cha
     changed_bits : (n : ℕ) (owner : Owner) → IsChanged n owner → n < env.geometry.nodes
         → (bit_at (M (NodeMap (n / 64))) (n % 64) ≡ 1) ↔ (owner ≡ Free)
     changed_bits n owner at l =
-        let old = whole.arena.bits n l in
-        ((λ set. absurd (elim at.before [
-          | inl there ↦ let q = sym (listed_used n there) ∙ ap is_used (old.0 set) in cc
-          | inr mine ↦ let q = sym mine ∙ old.0 set in cc
-        ])), (λ free. absurd (let q = sym at.used ∙ ap is_used free in cc)))
+        let old = whole.arena.bits n l in (
+          (λ set. absurd (elim at.before [
+            | inl there ↦ let q = sym (listed_used n there) ∙ ap is_used (old.0 set) in cc
+            | inr mine ↦ let q = sym mine ∙ old.0 set in cc
+          ])),
+          (λ free. absurd (let q = sym at.used ∙ ap is_used free in cc)),
+        )
 
     rebound_arena : ArenaRight env mix M' G'
     rebound_arena = record {
-      built = owners_all (λ n o. IsBuilt env mix o) is.one_changed.built is.other_changed.built (λ n ne apart. whole.arena.built n);
+      built = owners_all (λ n o. IsBuilt env mix o) is.one_changed.built is.other_changed.built
+          (λ n ne apart. whole.arena.built n);
       bits = λ n l. rw (store.write.others (NodeMap (n / 64)) (omega arith) (store.no_map (n / 64)))
-          (owners_all (λ m o. m < env.geometry.nodes → (bit_at (M (NodeMap (m / 64))) (m % 64) ≡ 1) ↔ (o ≡ Free))
-          (changed_bits change.one change.one_owner is.one_changed) (changed_bits change.other change.other_owner is.other_changed)
+          (owners_all (λ m o. m < env.geometry.nodes → (bit_at (M (NodeMap (m / 64))) (m % 64) ≡ 1) ↔
+          (o ≡ Free))
+          (changed_bits change.one change.one_owner is.one_changed)
+          (changed_bits change.other change.other_owner is.other_changed)
           (λ m ne apart. whole.arena.bits m) n l);
     }
 
     rebound_whole : Whole env mix M' G'
     rebound_whole = record {
       tables = TablesRight-write env mix M M' G G' a v store.write store.no_table same whole.tables;
-      buckets = put-all (λ i b. i < 64 * env.geometry.pages → BucketRight env mix M' i b) G.bucket here change.bucket (λ l. is.right)
-          (λ i ne l. BucketRight-frame env mix M M' i (G.bucket i) (store.write.others (PageWord i) l (store.other_word i ne))
+      buckets = put-all (λ i b. i < 64 * env.geometry.pages
+          → BucketRight env mix M' i b) G.bucket here change.bucket (λ l. is.right)
+          (λ i ne l. BucketRight-frame env mix M M' i (G.bucket i)
+          (store.write.others (PageWord i) l (store.other_word i ne))
           (λ n there. let first = whole.owned.member i n there in
-          store.write.others (Node n ChainLink) (whole.owned.first_at n i first).among (store.other_link n i ne first)) (whole.buckets i l));
+          store.write.others (Node n ChainLink) (whole.owned.first_at n i first).among
+          (store.other_link n i ne first)) (whole.buckets i l));
       owned = rebound_owned;
       arena = rebound_arena;
       counted = store.write.others PortCount tt store.no_count ∙ whole.counted ∙ sym is.counted;
@@ -253,7 +275,8 @@ module _ (env : Env) (mix : ℕ → ℕ → ℕ → ℕ) (d : ℕ) (change : Cha
     rebound_others : Others env mix d M G M' G'
     rebound_others c ne =
         let elsewhere : (i : ℕ) → (G.bucket i).holder ≡ Some c → i ≢ here =
-        λ i h e. ne (let q : ◌≡◌ {A = Option ℕ} (Some d) (Some c) = sym is.holder ∙ ap (λ k. (G.bucket k).holder) (sym e) ∙ h in cc) in
+        λ i h e. ne (let q : ◌≡◌ {A = Option ℕ} (Some d) (Some c) = sym is.holder
+        ∙ ap (λ k. (G.bucket k).holder) (sym e) ∙ h in cc) in
         record {
           tables = tables_stay env mix M G G' whole same;
           locks = λ i h. put-other G.bucket here change.bucket i (elsewhere i h);
@@ -268,7 +291,8 @@ module _ (env : Env) (mix : ℕ → ℕ → ℕ → ℕ) (d : ℕ) (change : Cha
               let used = bound_used env mix M G whole (key_of M n) (G.bound (key_of M n)) refl m listed in
               store.write.others (Node m ChainLink) used.0 (elim (subst (In m) at.bound_to listed) [
                 | inl e ↦ store.other_link m i (elsewhere i h) (ap G.node e ∙ first)
-                | inr k ↦ store.no_behind m (key_of M n) ((whole.owned.bound_to (key_of M n) n at.behind at.bound_to).each m k)
+                | inr k ↦ store.no_behind m (key_of M n)
+                    ((whole.owned.bound_to (key_of M n) n at.behind at.bound_to).each m k)
               ]);
           keys = λ n l used. key_stays n l;
           owners = λ n l used. store.write.others (Node n OwnerWord) l (store.no_owner n);
@@ -277,11 +301,15 @@ module _ (env : Env) (mix : ℕ → ℕ → ℕ → ℕ) (d : ℕ) (change : Cha
           raised = put-other G.raised d change.raised c ne;
           taken = owners_all (λ n o. is_taken_by c o ≡ is_taken_by c (G.node n))
               (is.one_changed.no_others c ne ∙ sym (was_not_out c change.one change.one_owner is.one_changed))
-              (is.other_changed.no_others c ne ∙ sym (was_not_out c change.other change.other_owner is.other_changed)) (λ n apart other. refl);
+              (is.other_changed.no_others c ne
+              ∙ sym (was_not_out c change.other change.other_owner is.other_changed))
+              (λ n apart other. refl);
           no_node = owners_all (λ n o. o ≡ Held c → G.node n ≡ Held c)
               (λ held. absurd (held_not_used change.one_owner c held is.one_changed.used))
-              (λ held. absurd (held_not_used change.other_owner c held is.other_changed.used)) (λ n apart other held. held);
-          no_lock = put-all (λ i b. b.holder ≡ Some c → (G.bucket i).holder ≡ Some c) G.bucket here change.bucket
+              (λ held. absurd (held_not_used change.other_owner c held is.other_changed.used))
+              (λ n apart other held. held);
+          no_lock = put-all (λ i b. b.holder ≡ Some c
+              → (G.bucket i).holder ≡ Some c) G.bucket here change.bucket
               (λ h. absurd (is.released c ne h)) (λ i apart h. h);
         }
 

@@ -32,15 +32,23 @@ pub segment_relinked : (links stored : ℕ → ℕ) (nodes behind : List ℕ) (l
     → last_of nodes ≡ Some last → stored last ≡ next → IsSegment stored next behind stop
     → ((node : ℕ) → In node nodes → node ≢ last → stored node ≡ links node) → IsDistinct nodes
     → IsSegment links first nodes middle → IsSegment stored first (nodes ++ behind) stop
-segment_relinked links stored [] behind last first middle next stop is link rest stays distinct segment = absurd (cc)
-segment_relinked links stored (node ∷ []) behind last first middle next stop is link rest stays distinct segment =
+segment_relinked links stored [] behind last first middle next stop is link rest stays distinct segment =
+    absurd (cc)
+segment_relinked links stored (node ∷ []) behind last first middle next stop is link rest stays distinct
+    segment =
     let same : node ≡ last = cc in
     (segment.0, subst (λ l. IsSegment stored l behind stop) (sym (ap stored same ∙ link)) rest)
-segment_relinked links stored (node ∷ more ∷ nodes) behind last first middle next stop is link rest stays distinct segment =
-    let differs : node ≢ last = λ e. in_and_not last (more ∷ nodes) (last_in (more ∷ nodes) last is) (subst (λ n. NotIn n (more ∷ nodes)) e distinct.0) in
-    let further = segment_relinked links stored (more ∷ nodes) behind last (links node) middle next stop is link rest
-    (λ other i. stays other (inr i)) distinct.1 segment.1 in
-    (segment.0, subst (λ l. IsSegment stored l (more ∷ (nodes ++ behind)) stop) (sym (stays node (inl refl) differs)) further)
+segment_relinked links stored (node ∷ more ∷ nodes) behind last first middle next stop is link rest stays
+    distinct segment =
+    let differs : node ≢ last = λ e. in_and_not last (more ∷ nodes) (last_in (more ∷ nodes) last is)
+    (subst (λ n. NotIn n (more ∷ nodes)) e distinct.0) in
+    let further = segment_relinked links stored (more ∷ nodes) behind last (links node) middle next stop
+    is link rest
+    (λ other i. stays other (inr i)) distinct.1 segment.1 in (
+      segment.0,
+      subst (λ l. IsSegment stored l (more ∷ (nodes ++ behind)) stop)
+          (sym (stays node (inl refl) differs)) further,
+    )
 
 -- ---- the bucket
 
@@ -90,7 +98,8 @@ module _ (env : Env) (mix : ℕ → ℕ → ℕ → ℕ) (M M' : Memory) (j link
       let nodes : front ++ (new ++ rear) ≡ new ++ rear = ap (λ xs. xs ++ (new ++ rear)) none in
       let kept : IsSegment (chain_of M') link (new ++ rear) (marker_of place) =
       IsSegment-members (chain_of M) (chain_of M') link (new ++ rear) (marker_of place)
-      (λ n i. write.others (Node n ChainLink) (can.among n (In-append_right n front (new ++ rear) i)) (λ e. cc)) can.behind in
+      (λ n i. write.others (Node n ChainLink) (can.among n (In-append_right n front (new ++ rear) i))
+      (λ e. cc)) can.behind in
       record {
         locked = record {
           word_is = write.same ∙ omega arith;
@@ -109,12 +118,14 @@ module _ (env : Env) (mix : ℕ → ℕ → ℕ → ℕ) (M M' : Memory) (j link
       let distinct = IsDistinct-left front (new ++ rear) can.distinct in
       let before_in = last_in front before last in
       let cut = IsSegment-cut (chain_of M) front node rear first (marker_of place)
-      (subst (λ nodes. IsSegment (chain_of M) first nodes (marker_of place)) can.split can.right.chained.segment) in
+      (subst (λ nodes. IsSegment (chain_of M) first nodes (marker_of place)) can.split
+      can.right.chained.segment) in
       let others : (n : ℕ) → In n (front ++ (new ++ rear)) → n ≢ before → chain_of M' n ≡ chain_of M n =
       λ n i ne. write.others (Node n ChainLink) (can.among n i) (λ e. ne (cc)) in
       let rest : IsSegment (chain_of M') link (new ++ rear) (marker_of place) =
       IsSegment-members (chain_of M) (chain_of M') link (new ++ rear) (marker_of place)
-      (λ n i. others n (In-append_right n front (new ++ rear) i) (IsDistinct-apart front (new ++ rear) before n can.distinct before_in i)) can.behind in
+      (λ n i. others n (In-append_right n front (new ++ rear) i)
+      (IsDistinct-apart front (new ++ rear) before n can.distinct before_in i)) can.behind in
       record {
         locked = record {
           word_is = write.others (PageWord j) can.within (λ e. cc) ∙ can.right.locked.word_is;
@@ -123,15 +134,20 @@ module _ (env : Env) (mix : ℕ → ℕ → ℕ → ℕ) (M M' : Memory) (j link
           none_armed = can.right.locked.none_armed;
         };
         chained = record {
-          segment = segment_relinked (chain_of M) (chain_of M') front (new ++ rear) before first (link_of node) link (marker_of place) last write.same rest
+          segment = segment_relinked (chain_of M) (chain_of M') front (new ++ rear) before first
+              (link_of node) link (marker_of place) last write.same rest
               (λ n i ne. others n (In-append_left n front (new ++ rear) i) ne) distinct cut.0;
           distinct = can.distinct;
         };
       }
 
   -- with either store the bucket is right again
-  pub relinked_right : (front : List ℕ) (node : ℕ) (rear new : List ℕ) (before : Option ℕ) → CanRelink front node rear new
-      → before ≡ last_of front → IsWrite env.geometry M M' (relink_address j before) (relink_value place link before)
+  pub relinked_right : (front : List ℕ) (node : ℕ) (rear new : List ℕ) (before : Option ℕ)
+      → CanRelink front node rear new
+      → before ≡ last_of front → IsWrite env.geometry M M' (relink_address j before)
+      (relink_value place link before)
       → BucketRight env mix M' j (relinked place link b (front ++ (new ++ rear)) before)
-  relinked_right front node rear new None can is write = at_word front node rear new can (last_none front (sym is)) write
-  relinked_right front node rear new (Some before) can is write = behind_node front node rear new before can (sym is) write
+  relinked_right front node rear new None can is write = at_word front node rear new can
+      (last_none front (sym is)) write
+  relinked_right front node rear new (Some before) can is write = behind_node front node rear new before
+      can (sym is) write

@@ -22,7 +22,8 @@ use Rattle.rht_core.proofs.Theory.Readiness.{Change, changed}
 use Rattle.rht_core.proofs.Moves.Rebinding.{IsStoreFor, IsChanged, IsRebound, rebind}
 use Rattle.rht_core.proofs.Moves.Relinking.{relink_address, relink_value, relinked, CanRelink, relinked_right, last_in}
 
-module _ (env : Env) (mix : ℕ → ℕ → ℕ → ℕ) (d port j m : ℕ) (front rear : List ℕ) (before : Option ℕ) (M M' : Memory) (G : Ghost) where
+module _ (env : Env) (mix : ℕ → ℕ → ℕ → ℕ) (d port j m : ℕ) (front rear : List ℕ) (before : Option ℕ)
+    (M M' : Memory) (G : Ghost) where
   -- The caller has locked the bucket, and has found in it the first node to which the port is bound, between these other nodes.
   pub record IsFoundIn (behind : List ℕ) : Type 0 where
     pub holder : (G.bucket j).holder ≡ Some d
@@ -59,35 +60,46 @@ module _ (env : Env) (mix : ℕ → ℕ → ℕ → ℕ) (d port j m : ℕ) (fro
     -- the links behind the node are those of the rest of the chain
     rest : IsSegment (chain_of M) (chain_of M m) rear (marker_of (place_at env mix j))
     rest =
-        (IsSegment-cut (chain_of M) front m rear (head_of (place_at env mix j) (G.bucket j).plain) (marker_of (place_at env mix j))
-        (subst (λ nodes. IsSegment (chain_of M) (head_of (place_at env mix j) (G.bucket j).plain) nodes (marker_of (place_at env mix j))) found.split bucket_right.chained.segment)).1
+        (IsSegment-cut (chain_of M) front m rear (head_of (place_at env mix j) (G.bucket j).plain)
+        (marker_of (place_at env mix j))
+        (subst (λ nodes. IsSegment (chain_of M) (head_of (place_at env mix j) (G.bucket j).plain) nodes
+        (marker_of (place_at env mix j))) found.split bucket_right.chained.segment)).1
 
     -- the other nodes of the bucket are first ones of other ports
     front_first : (n : ℕ) → In n front → G.node n ≡ First j
-    front_first n i = whole.owned.member j n (subst (In n) (sym found.split) (In-append_left n front (m ∷ rear) i))
+    front_first n i = whole.owned.member j n (subst (In n) (sym found.split)
+        (In-append_left n front (m ∷ rear) i))
 
     rear_first : (n : ℕ) → In n rear → G.node n ≡ First j
-    rear_first n i = whole.owned.member j n (subst (In n) (sym found.split) (In-append_right n front (m ∷ rear) (inr i)))
+    rear_first n i = whole.owned.member j n (subst (In n) (sym found.split)
+        (In-append_right n front (m ∷ rear) (inr i)))
 
     others_first : (n : ℕ) → In n (front ++ rear) → G.node n ≡ First j
-    others_first n i = elim (In-append_cases n front rear i) [ inl l ↦ front_first n l | inr r ↦ rear_first n r ]
+    others_first n i = elim (In-append_cases n front rear i) [
+      | inl l ↦ front_first n l
+      | inr r ↦
+          rear_first n r
+    ]
 
     -- the first node with the port's key is this one alone
     only_first : (n i : ℕ) → G.node n ≡ First i → key_of M n ≡ port → n ≡ m
     only_first n i f key =
         let other = whole.owned.first_at n i f in
-        let q : ◌≡◌ {A = List ℕ} (n ∷ other.behind) (m ∷ behind) = sym other.bound_to ∙ ap G.bound key ∙ found.bound_to in cc
+        let q : ◌≡◌ {A = List ℕ} (n ∷ other.behind) (m ∷ behind) = sym other.bound_to ∙ ap G.bound key
+        ∙ found.bound_to in cc
 
     -- ---- the store is on the bucket's word, or on the link of a node in it
 
     relink_store : (change : Change) (link : ℕ) → change.place ≡ j
         → IsWrite env.geometry M M' (relink_address j before) (relink_value (place_at env mix j) link before)
-        → IsStoreFor env mix d change M M' G (relink_address j before) (relink_value (place_at env mix j) link before)
+        → IsStoreFor env mix d change M M' G (relink_address j before)
+        (relink_value (place_at env mix j) link before)
     relink_store change link here write = go before found.last write
       where
         go : (b : Option ℕ) → b ≡ last_of front
             → IsWrite env.geometry M M' (relink_address j b) (relink_value (place_at env mix j) link b)
-            → IsStoreFor env mix d change M M' G (relink_address j b) (relink_value (place_at env mix j) link b)
+            → IsStoreFor env mix d change M M' G (relink_address j b)
+            (relink_value (place_at env mix j) link b)
         go None last write = record {
           write = write;
           no_table = record { current = λ e. cc; slots = λ s w h e. cc };
@@ -133,7 +145,8 @@ module _ (env : Env) (mix : ℕ → ℕ → ℕ → ℕ) (d port j m : ℕ) (fro
         go None e = cc
         go (Some p) e = ne (let q : ◌≡◌ {A = Option ℕ} (Some d) (Some c) = sym found.holder ∙ e in cc)
 
-    relinked-nodes : (link : ℕ) (nodes : List ℕ) → (relinked (place_at env mix j) link (G.bucket j) nodes before).nodes ≡ nodes
+    relinked-nodes : (link : ℕ) (nodes : List ℕ)
+        → (relinked (place_at env mix j) link (G.bucket j) nodes before).nodes ≡ nodes
     relinked-nodes link nodes = go before
       where
         go : (b : Option ℕ) → (relinked (place_at env mix j) link (G.bucket j) nodes b).nodes ≡ nodes
@@ -158,7 +171,8 @@ module _ (env : Env) (mix : ℕ → ℕ → ℕ → ℕ) (d port j m : ℕ) (fro
 
   module _ (whole : Whole env mix M G) (low : d < env.geometry.callers) (unraised : G.raised d ≡ false)
       (built : IsBuilt env mix (Taken d)) (link : ℕ) (link_is : chain_of M m ≡ link) (found : IsFoundIn [])
-      (write : IsWrite env.geometry M M' (relink_address j before) (relink_value (place_at env mix j) link before)) where
+      (write : IsWrite env.geometry M M' (relink_address j before)
+      (relink_value (place_at env mix j) link before)) where
     abbrev unlinked : Ghost
     unlinked = changed G d (unlinking link)
 
@@ -166,9 +180,11 @@ module _ (env : Env) (mix : ℕ → ℕ → ℕ → ℕ) (d port j m : ℕ) (fro
     unlinked-one = put-same (put G.node m (Taken d)) m (Taken d)
 
     unlinked-other : (n : ℕ) → n ≢ m → unlinked.node n ≡ G.node n
-    unlinked-other n ne = put-other (put G.node m (Taken d)) m (Taken d) n ne ∙ put-other G.node m (Taken d) n ne
+    unlinked-other n ne = put-other (put G.node m (Taken d)) m (Taken d) n ne
+        ∙ put-other G.node m (Taken d) n ne
 
-    unlinked_changed : IsChanged env mix d (unlinking link) M M' G (relink_address j before) (relink_value (place_at env mix j) link before) m (Taken d)
+    unlinked_changed : IsChanged env mix d (unlinking link) M M' G (relink_address j before)
+        (relink_value (place_at env mix j) link before) m (Taken d)
     unlinked_changed = record {
       before = inl (subst (In m) (sym found.bound_to) (inl refl));
       key_is = found.key_is;
@@ -177,30 +193,37 @@ module _ (env : Env) (mix : ℕ → ℕ → ℕ → ℕ) (d port j m : ℕ) (fro
       no_others = λ c ne. taken_by_one c d ne;
     }
 
-    unlinked_counted : firsts env mix unlinked + raisers env mix unlinked ≡ firsts env mix G + raisers env mix G
+    unlinked_counted : firsts env mix unlinked + raisers env mix unlinked ≡ firsts env mix G + raisers
+        env mix G
     unlinked_counted =
         let fewer : firsts env mix G ≡ firsts env mix unlinked + 1 =
-        count_below-more (λ n. is_first (unlinked.node n)) (λ n. is_first (G.node n)) m env.geometry.nodes (at whole [] found).among
-        (ap is_first unlinked-one) (ap is_first (first whole [] found)) (λ n ne. sym (ap is_first (unlinked-other n ne))) in
+        count_below-more (λ n. is_first (unlinked.node n)) (λ n. is_first (G.node n)) m
+        env.geometry.nodes (at whole [] found).among
+        (ap is_first unlinked-one) (ap is_first (first whole [] found))
+        (λ n ne. sym (ap is_first (unlinked-other n ne))) in
         let more : raisers env mix unlinked ≡ raisers env mix G + 1 =
-        count_below-more G.raised (put G.raised d true) d env.geometry.callers low unraised (put-same G.raised d true) (λ c ne. put-other G.raised d true c ne) in
+        count_below-more G.raised (put G.raised d true) d env.geometry.callers low unraised
+        (put-same G.raised d true) (λ c ne. put-other G.raised d true c ne) in
         omega (arith, fewer, more)
 
-    unlinked_bound : IsRebound env mix d (unlinking link) M M' G (relink_address j before) (relink_value (place_at env mix j) link before)
+    unlinked_bound : IsRebound env mix d (unlinking link) M M' G (relink_address j before)
+        (relink_value (place_at env mix j) link before)
     unlinked_bound = record {
       holder = found.holder;
       released = relinked-released whole [] found link (front ++ ([] ++ rear));
       one_changed = unlinked_changed;
       other_changed = unlinked_changed;
       right = relinked_right env mix M M' j link (G.bucket j) front m rear [] before (record {
-          right = bucket_right whole [] found;
-          split = found.split;
-          within = within whole [] found;
-          behind = subst (λ l. IsSegment (chain_of M) l rear (marker_of (place_at env mix j))) link_is (rest whole [] found);
-          distinct = IsDistinct-without front m rear (distinct whole [] found);
-          among = λ n i. (whole.owned.first_at n j (others_first whole [] found n i)).among;
-        }) found.last write;
-      seat = λ n behind b. let same : n ≡ m = (let q = sym b ∙ found.bound_to in cc) in rw same (first whole [] found);
+        right = bucket_right whole [] found;
+        split = found.split;
+        within = within whole [] found;
+        behind = subst (λ l. IsSegment (chain_of M) l rear (marker_of (place_at env mix j))) link_is
+            (rest whole [] found);
+        distinct = IsDistinct-without front m rear (distinct whole [] found);
+        among = λ n i. (whole.owned.first_at n j (others_first whole [] found n i)).among;
+      }) found.last write;
+      seat = λ n behind b. let same : n ≡ m = (let q = sym b
+          ∙ found.bound_to in cc) in rw same (first whole [] found);
       members = λ n i.
           let is = subst (In n) (relinked-nodes whole [] found link (front ++ ([] ++ rear))) i in
           let f = others_first whole [] found n is in
@@ -210,7 +233,11 @@ module _ (env : Env) (mix : ℕ → ℕ → ℕ → ℕ) (d port j m : ℕ) (fro
           subst (In n) (sym (relinked-nodes whole [] found link (front ++ ([] ++ rear))))
           (elim (In-append_cases n front (m ∷ rear) (subst (In n) found.split i)) [
             | inl l ↦ In-append_left n front rear l
-            | inr r ↦ elim r [ inl e ↦ absurd (other (ap (key_of M) e ∙ found.key_is)) | inr k ↦ In-append_right n front rear k ]
+            | inr r ↦ elim r [
+              | inl e ↦ absurd (other (ap (key_of M) e ∙ found.key_is))
+              | inr k ↦
+                  In-append_right n front rear k
+            ]
           ]);
       first_here = λ n i f key. elim (cases_eq n m) [
         | inl e ↦ absurd (let q = sym unlinked-one ∙ ap unlinked.node (sym e) ∙ f in cc)
@@ -220,7 +247,8 @@ module _ (env : Env) (mix : ℕ → ℕ → ℕ → ℕ) (d port j m : ℕ) (fro
         | inl e ↦ absurd (let q = sym unlinked-one ∙ ap unlinked.node (sym e) ∙ f in cc)
         | inr ne ↦
             let is = whole.owned.behind_in n p (sym (unlinked-other n ne) ∙ f) in
-            let q : ◌≡◌ {A = List ℕ} (is.first ∷ is.behind) (m ∷ []) = sym is.bound_to ∙ ap G.bound (sym is.key_is ∙ key) ∙ found.bound_to in
+            let q : ◌≡◌ {A = List ℕ} (is.first ∷ is.behind) (m ∷ []) = sym is.bound_to
+            ∙ ap G.bound (sym is.key_is ∙ key) ∙ found.bound_to in
             let none : is.behind ≡ [] = cc in
             absurd (subst (In n) none is.there)
       ];
@@ -231,7 +259,8 @@ module _ (env : Env) (mix : ℕ → ℕ → ℕ → ℕ) (d port j m : ℕ) (fro
 
     pub unlink : Made env mix d M G M' unlinked
     unlink =
-        rebind env mix d (unlinking link) M M' G (relink_address j before) (relink_value (place_at env mix j) link before) whole
+        rebind env mix d (unlinking link) M M' G (relink_address j before)
+        (relink_value (place_at env mix j) link before) whole
         (relink_store whole [] found (unlinking link) link refl write) unlinked_bound
 
   -- ---- another node comes into the place of the first one
@@ -268,9 +297,11 @@ module _ (env : Env) (mix : ℕ → ℕ → ℕ → ℕ) (d port j m : ℕ) (fro
     pub back_one : (p : ℕ) → owner ≡ Behind p → (p ≡ port) × In m tail
     pub single : env.config.kind ≡ Single → tail ≡ []
 
-  module _ (whole : Whole env mix M G) (behind : List ℕ) (found : IsFoundIn behind) (x : ℕ) (tail : List ℕ) (owner : Owner)
+  module _ (whole : Whole env mix M G) (behind : List ℕ) (found : IsFoundIn behind) (x : ℕ)
+      (tail : List ℕ) (owner : Owner)
       (can : CanReplace behind x tail owner)
-      (write : IsWrite env.geometry M M' (relink_address j before) (relink_value (place_at env mix j) (link_of x) before)) where
+      (write : IsWrite env.geometry M M' (relink_address j before)
+      (relink_value (place_at env mix j) (link_of x) before)) where
     abbrev change : Change
     change = replacing x tail owner
 
@@ -290,10 +321,12 @@ module _ (env : Env) (mix : ℕ → ℕ → ℕ → ℕ) (d port j m : ℕ) (fro
     replaced-new = put-same (put G.node m owner) x (First j)
 
     replaced-old : replaced.node m ≡ owner
-    replaced-old = put-other (put G.node m owner) x (First j) m (λ e. can.differs (sym e)) ∙ put-same G.node m owner
+    replaced-old = put-other (put G.node m owner) x (First j) m (λ e. can.differs (sym e))
+        ∙ put-same G.node m owner
 
     replaced-other : (n : ℕ) → n ≢ m → n ≢ x → replaced.node n ≡ G.node n
-    replaced-other n old new = put-other (put G.node m owner) x (First j) n new ∙ put-other G.node m owner n old
+    replaced-other n old new = put-other (put G.node m owner) x (First j) n new
+        ∙ put-other G.node m owner n old
 
     -- the other node was in no chain
     unchained : is_first (G.node x) ≡ false
@@ -314,7 +347,8 @@ module _ (env : Env) (mix : ℕ → ℕ → ℕ → ℕ) (d port j m : ℕ) (fro
         (NotIn-append m front rear (apart whole behind found).0 (apart whole behind found).1)
 
     replaced-stays : (n : ℕ) → In n (front ++ rear) → replaced.node n ≡ First j
-    replaced-stays n i = replaced-other n (others_not_old n i) (others_not_new n i) ∙ others_first whole behind found n i
+    replaced-stays n i = replaced-other n (others_not_old n i) (others_not_new n i)
+        ∙ others_first whole behind found n i
 
     new_cases : (n : ℕ) → In n new_nodes → In n (front ++ rear) ⊎ (n ≡ x)
     new_cases n i = elim (In-append_cases n front (x ∷ rear) i) [
@@ -327,7 +361,8 @@ module _ (env : Env) (mix : ℕ → ℕ → ℕ → ℕ) (d port j m : ℕ) (fro
     list_stays : (n : ℕ) → n < env.geometry.nodes → list_of M' n ≡ list_of M n
     list_stays n l = go before write
       where
-        go : (b : Option ℕ) → IsWrite env.geometry M M' (relink_address j b) (relink_value (place_at env mix j) (link_of x) b)
+        go : (b : Option ℕ) → IsWrite env.geometry M M' (relink_address j b)
+            (relink_value (place_at env mix j) (link_of x) b)
             → list_of M' n ≡ list_of M n
         go None w = w.others (Node n ListLink) l (λ e. cc)
         go (Some p) w = w.others (Node n ListLink) l (λ e. cc)
@@ -335,7 +370,8 @@ module _ (env : Env) (mix : ℕ → ℕ → ℕ → ℕ) (d port j m : ℕ) (fro
     key_stays : (n : ℕ) → n < env.geometry.nodes → key_of M' n ≡ key_of M n
     key_stays n l = go before write
       where
-        go : (b : Option ℕ) → IsWrite env.geometry M M' (relink_address j b) (relink_value (place_at env mix j) (link_of x) b)
+        go : (b : Option ℕ) → IsWrite env.geometry M M' (relink_address j b)
+            (relink_value (place_at env mix j) (link_of x) b)
             → key_of M' n ≡ key_of M n
         go None w = w.others (Node n KeyWord) l (λ e. cc)
         go (Some p) w = w.others (Node n KeyWord) l (λ e. cc)
@@ -351,7 +387,8 @@ module _ (env : Env) (mix : ℕ → ℕ → ℕ → ℕ) (d port j m : ℕ) (fro
       | inl old ↦ ap replaced.node old.0 ∙ replaced-old ∙ old.1
       | inr was ↦
           let is = (to whole behind found).each n was.0 in
-          replaced-other n (λ e. let q : First j ≡ Behind port = sym (first whole behind found) ∙ ap G.node (sym e) ∙ is in cc) was.1 ∙ is
+          replaced-other n (λ e. let q : First j ≡ Behind port = sym (first whole behind found)
+          ∙ ap G.node (sym e) ∙ is in cc) was.1 ∙ is
     ]
 
     -- ---- the change
@@ -367,7 +404,11 @@ module _ (env : Env) (mix : ℕ → ℕ → ℕ → ℕ) (d port j m : ℕ) (fro
 
     new_changed : IsChanged env mix d change M M' G a v x (First j)
     new_changed = record {
-      before = elim can.from [ inl held ↦ inr held | inr i ↦ inl (subst (In x) (sym found.bound_to) (inr i)) ];
+      before = elim can.from [
+        | inl held ↦ inr held
+        | inr i ↦ inl
+            (subst (In x) (sym found.bound_to) (inr i))
+      ];
       key_is = can.key_is;
       used = refl;
       built = tt;
@@ -376,26 +417,33 @@ module _ (env : Env) (mix : ℕ → ℕ → ℕ → ℕ) (d port j m : ℕ) (fro
 
     new_right : BucketRight env mix M' j change.bucket
     new_right = relinked_right env mix M M' j (link_of x) (G.bucket j) front m rear (x ∷ []) before (record {
-        right = bucket_right whole behind found;
-        split = found.split;
-        within = within whole behind found;
-        behind = (refl, subst (λ l. IsSegment (chain_of M) l rear (marker_of (place_at env mix j))) (sym can.chain_is) (rest whole behind found));
-        distinct = IsDistinct-with front x rear (IsDistinct-without front m rear (distinct whole behind found))
-            (not_in_from x front (λ i. no_first j (front_first whole behind found x i))) (not_in_from x rear (λ i. no_first j (rear_first whole behind found x i)));
-        among = λ n i. elim (new_cases n i) [
-          | inl was ↦ (whole.owned.first_at n j (others_first whole behind found n was)).among
-          | inr e ↦ subst (λ k. k < env.geometry.nodes) (sym e) can.among
-        ];
-      }) found.last write
+      right = bucket_right whole behind found;
+      split = found.split;
+      within = within whole behind found;
+      behind = (
+        refl,
+        subst (λ l. IsSegment (chain_of M) l rear (marker_of (place_at env mix j)))
+            (sym can.chain_is) (rest whole behind found),
+      );
+      distinct = IsDistinct-with front x rear (IsDistinct-without front m rear (distinct whole behind found))
+          (not_in_from x front (λ i. no_first j (front_first whole behind found x i)))
+          (not_in_from x rear (λ i. no_first j (rear_first whole behind found x i)));
+      among = λ n i. elim (new_cases n i) [
+        | inl was ↦ (whole.owned.first_at n j (others_first whole behind found n was)).among
+        | inr e ↦ subst (λ k. k < env.geometry.nodes) (sym e) can.among
+      ];
+    }) found.last write
 
     new_first : IsFirstAt env mix M' replaced x j
     new_first =
         let key : key_of M' x ≡ port = key_stays x can.among ∙ can.key_is in
         let home = subst (λ k. IsHomeOf env mix G k j) found.key_is (at whole behind found).at_home in
         record {
-          there = rw (put-same G.bucket j change.bucket) (rw (relinked-nodes whole behind found (link_of x) new_nodes) (in-middle x front rear));
+          there = rw (put-same G.bucket j change.bucket)
+              (rw (relinked-nodes whole behind found (link_of x) new_nodes) (in-middle x front rear));
           among = can.among;
-          at_home = rw key (IsHomeOf-same env mix G replaced port j (same_tables env mix G replaced.bucket replaced.node replaced.bound replaced.raised) home);
+          at_home = rw key (IsHomeOf-same env mix G replaced port j
+              (same_tables env mix G replaced.bucket replaced.node replaced.bound replaced.raised) home);
           behind = tail;
           bound_to = ap replaced.bound key ∙ put-same G.bound port (x ∷ tail);
         }
@@ -423,11 +471,13 @@ module _ (env : Env) (mix : ℕ → ℕ → ℕ → ℕ) (d port j m : ℕ) (fro
           there = back.1;
         }
 
-    still_behind : (n p : ℕ) → n ≢ x → G.node n ≡ Behind p → key_of M n ≡ port → IsBehindIn env mix M' replaced n p
+    still_behind : (n p : ℕ) → n ≢ x → G.node n ≡ Behind p → key_of M n ≡ port
+        → IsBehindIn env mix M' replaced n p
     still_behind n p ne f key =
         let is = whole.owned.behind_in n p f in
         let here : p ≡ port = sym is.key_is ∙ key in
-        let q : ◌≡◌ {A = List ℕ} (is.first ∷ is.behind) (m ∷ behind) = sym is.bound_to ∙ ap G.bound here ∙ found.bound_to in
+        let q : ◌≡◌ {A = List ℕ} (is.first ∷ is.behind) (m ∷ behind) = sym is.bound_to ∙ ap G.bound here
+        ∙ found.bound_to in
         let same : is.behind ≡ behind = cc in
         record {
           among = is.among;
@@ -438,18 +488,21 @@ module _ (env : Env) (mix : ℕ → ℕ → ℕ → ℕ) (d port j m : ℕ) (fro
           there = can.back n (subst (In n) same is.there) ne;
         }
 
-    replaced_counted : firsts env mix replaced + raisers env mix replaced ≡ firsts env mix G + raisers env mix G
+    replaced_counted : firsts env mix replaced + raisers env mix replaced ≡ firsts env mix G + raisers
+        env mix G
     replaced_counted =
         let between : ℕ → Bool = λ n. is_first (put G.node m owner n) in
         let fewer : firsts env mix G ≡ count_between between + 1 =
         count_below-more between (λ n. is_first (G.node n)) m env.geometry.nodes (at whole behind found).among
-        (ap is_first (put-same G.node m owner) ∙ can.no_first) (ap is_first (first whole behind found)) (λ n ne. sym (ap is_first (put-other G.node m owner n ne))) in
+        (ap is_first (put-same G.node m owner) ∙ can.no_first) (ap is_first (first whole behind found))
+        (λ n ne. sym (ap is_first (put-other G.node m owner n ne))) in
         let more : firsts env mix replaced ≡ count_between between + 1 =
         count_below-more between (λ n. is_first (replaced.node n)) x env.geometry.nodes can.among
         (ap is_first (put-other G.node m owner x can.differs) ∙ unchained) (ap is_first replaced-new)
         (λ n ne. ap is_first (put-other (put G.node m owner) x (First j) n ne)) in
         let same : raisers env mix replaced ≡ raisers env mix G =
-        count_below-same G.raised (put G.raised d (G.raised d)) env.geometry.callers (λ c l. put-all (λ k r. r ≡ G.raised k) G.raised d (G.raised d) refl (λ k ne. refl) c) in
+        count_below-same G.raised (put G.raised d (G.raised d)) env.geometry.callers
+        (λ c l. put-all (λ k r. r ≡ G.raised k) G.raised d (G.raised d) refl (λ k ne. refl) c) in
         omega (arith, fewer, more, same)
       where
         count_between : (ℕ → Bool) → ℕ
@@ -462,24 +515,33 @@ module _ (env : Env) (mix : ℕ → ℕ → ℕ → ℕ) (d port j m : ℕ) (fro
       one_changed = old_changed;
       other_changed = new_changed;
       right = new_right;
-      seat = λ n more b. let same : n ≡ m = (let q = sym b ∙ found.bound_to in cc) in rw same (first whole behind found);
-      members = λ n i. elim (new_cases n (subst (In n) (relinked-nodes whole behind found (link_of x) new_nodes) i)) [
-        | inl was ↦ replaced-stays n was
-        | inr e ↦ ap replaced.node e ∙ replaced-new
-      ];
+      seat = λ n more b. let same : n ≡ m = (let q = sym b
+          ∙ found.bound_to in cc) in rw same (first whole behind found);
+      members = λ n i. elim (new_cases n (subst (In n)
+          (relinked-nodes whole behind found (link_of x) new_nodes) i)) [
+            | inl was ↦ replaced-stays n was
+            | inr e ↦ ap replaced.node e ∙ replaced-new
+          ];
       others_stay = λ n i other.
           subst (In n) (sym (relinked-nodes whole behind found (link_of x) new_nodes))
           (elim (In-append_cases n front (m ∷ rear) (subst (In n) found.split i)) [
             | inl l ↦ In-append_left n front (x ∷ rear) l
-            | inr r ↦ elim r [ inl e ↦ absurd (other (ap (key_of M) e ∙ found.key_is)) | inr k ↦ In-append_right n front (x ∷ rear) (inr k) ]
+            | inr r ↦ elim r [
+              | inl e ↦ absurd (other (ap (key_of M) e ∙ found.key_is))
+              | inr k ↦
+                  In-append_right n front (x ∷ rear) (inr k)
+            ]
           ]);
       first_here = λ n i f key. elim (cases_eq n x) [
         | inl e ↦
-            let place : i ≡ j = (let q : First i ≡ First j = sym f ∙ ap replaced.node e ∙ replaced-new in cc) in
+            let place : i ≡ j = (let q : First i ≡ First j = sym f ∙ ap replaced.node e
+            ∙ replaced-new in cc) in
             rw e (rw place new_first)
         | inr ne ↦ elim (cases_eq n m) [
-          | inl e ↦ absurd (let q = sym can.no_first ∙ ap is_first (sym replaced-old ∙ ap replaced.node (sym e) ∙ f) in cc)
-          | inr other ↦ absurd (other (only_first whole behind found n i (sym (replaced-other n other ne) ∙ f) key))
+          | inl e ↦ absurd (let q = sym can.no_first ∙ ap is_first (sym replaced-old
+              ∙ ap replaced.node (sym e) ∙ f) in cc)
+          | inr other ↦ absurd (other (only_first whole behind found n i (sym (replaced-other n other ne)
+              ∙ f) key))
         ]
       ];
       behind_here = λ n p f key. elim (cases_eq n x) [
@@ -492,10 +554,12 @@ module _ (env : Env) (mix : ℕ → ℕ → ℕ → ℕ) (d port j m : ℕ) (fro
       bound_here = λ n more e.
           let same : x ≡ n = cc in
           let rest_is : tail ≡ more = cc in
-          subst (λ k. IsBoundTo env mix M' replaced port k more) same (subst (IsBoundTo env mix M' replaced port x) rest_is new_bound);
+          subst (λ k. IsBoundTo env mix M' replaced port k more) same
+          (subst (IsBoundTo env mix M' replaced port x) rest_is new_bound);
       single = λ one n more e. let rest_is : tail ≡ more = cc in sym rest_is ∙ can.single one;
       counted = replaced_counted;
     }
 
     pub replace : Made env mix d M G M' replaced
-    replace = rebind env mix d change M M' G a v whole (relink_store whole behind found change (link_of x) refl write) replaced_bound
+    replace = rebind env mix d change M M' G a v whole
+        (relink_store whole behind found change (link_of x) refl write) replaced_bound

@@ -24,26 +24,33 @@ module _ (env : Env) (mix : ℕ → ℕ → ℕ → ℕ) where
   fill d n w v M M' G whole has write =
       let others_node : (m : ℕ) (u : NodeWord) → m < env.geometry.nodes → m ≢ n → M' (Node m u) ≡ M (Node m u)
       = λ m u l ne. write.others (Node m u) l (λ e. ne (cc)) in
-      let other : (m : ℕ) → IsUsed (G.node m) → m ≢ n = λ m used e. held_not_used (G.node n) d has.mine (rw (sym e) used) in
+      let other : (m : ℕ) → IsUsed (G.node m) → m ≢ n = λ m used e. held_not_used (G.node n) d has.mine
+      (rw (sym e) used) in
       let words : UsedStay env mix M G M' = record {
         keys = λ m l used. others_node m KeyWord l (other m used);
         owners = λ m l used. others_node m OwnerWord l (other m used);
         lists = λ m l used. others_node m ListLink l (other m used);
-        chains = λ m j first. others_node m ChainLink (whole.owned.first_at m j first).among (other m (ap is_used first));
+        chains = λ m j first. others_node m ChainLink (whole.owned.first_at m j first).among
+            (other m (ap is_used first));
       } in
       record {
-        whole = Whole-frame env mix M M' G G (Node n w) v whole write (record { current = λ e. cc; slots = λ s u h e. cc }) (same_chains env mix G G.raised) words
-            (locks_stay env mix M M' G (Node n w) v whole write (λ j e. cc)) (arena_stays env mix M M' G (Node n w) v whole write G refl (λ i e. cc))
+        whole = Whole-frame env mix M M' G G (Node n w) v whole write
+            (record { current = λ e. cc; slots = λ s u h e. cc }) (same_chains env mix G G.raised) words
+            (locks_stay env mix M M' G (Node n w) v whole write (λ j e. cc))
+            (arena_stays env mix M M' G (Node n w) v whole write G refl (λ i e. cc))
             (write.others PortCount tt (λ e. cc) ∙ whole.counted);
-        others = λ c ne. Rely-same env mix c M M' G G whole (same_tables env mix G G.bucket G.node G.bound G.raised) refl refl refl refl words
+        others = λ c ne. Rely-same env mix c M M' G G whole
+            (same_tables env mix G G.bucket G.node G.bound G.raised) refl refl refl refl words
             (chains_stay env mix c M M' G (Node n w) v whole write (λ m used e. other m used (cc)))
-            (λ m u held. others_node m u held.among (λ e. ne (held_by_one (G.node n) c d (ap G.node (sym e) ∙ held.mine) has.mine)));
+            (λ m u held. others_node m u held.among (λ e. ne
+            (held_by_one (G.node n) c d (ap G.node (sym e) ∙ held.mine) has.mine)));
       }
 
   -- ---- the link in a chain of a node that is in none
 
   -- a node behind a port's first one is bound to no other port
-  listed_key : (M : Memory) (G : Ghost) → Whole env mix M G → (other port n : ℕ) → In n (G.bound other) → G.node n ≡ Behind port
+  listed_key : (M : Memory) (G : Ghost) → Whole env mix M G → (other port n : ℕ) → In n (G.bound other)
+      → G.node n ≡ Behind port
       → other ≡ port
   listed_key M G whole other port n i behind = go (G.bound other) refl i
     where
@@ -52,11 +59,13 @@ module _ (env : Env) (mix : ℕ → ℕ → ℕ → ℕ) where
       go (f ∷ rest) b (inl e) =
           let to = whole.owned.bound_to other f rest b in
           let q : Behind port ≡ First to.bucket = sym behind ∙ ap G.node e ∙ to.first in absurd (cc)
-      go (f ∷ rest) b (inr k) = behind_one (G.node n) other port ((whole.owned.bound_to other f rest b).each n k) behind
+      go (f ∷ rest) b (inr k) = behind_one (G.node n) other port
+          ((whole.owned.bound_to other f rest b).each n k) behind
 
   -- A node behind a port's first one gets the link that it has once it comes into the first one's place. The caller has locked
   -- the first one's bucket.
-  pub chain_behind : (d n port first j v : ℕ) (behind : List ℕ) (M M' : Memory) (G : Ghost) → Whole env mix M G → G.node n ≡ Behind port
+  pub chain_behind : (d n port first j v : ℕ) (behind : List ℕ) (M M' : Memory) (G : Ghost)
+      → Whole env mix M G → G.node n ≡ Behind port
       → G.bound port ≡ first ∷ behind → G.node first ≡ First j → (G.bucket j).holder ≡ Some d
       → IsWrite env.geometry M M' (Node n ChainLink) v → Made env mix d M G M' G
   chain_behind d n port first j v rest M M' G whole behind bound seat holder write =
@@ -66,13 +75,17 @@ module _ (env : Env) (mix : ℕ → ℕ → ℕ → ℕ) where
         keys = λ m l used. write.others (Node m KeyWord) l (λ e. cc);
         owners = λ m l used. write.others (Node m OwnerWord) l (λ e. cc);
         lists = λ m l used. write.others (Node m ListLink) l (λ e. cc);
-        chains = λ m j first. write.others (Node m ChainLink) (whole.owned.first_at m j first).among (λ e. unchained m j first (cc));
+        chains = λ m j first. write.others (Node m ChainLink) (whole.owned.first_at m j first).among
+            (λ e. unchained m j first (cc));
       } in
       record {
-        whole = Whole-frame env mix M M' G G (Node n ChainLink) v whole write (record { current = λ e. cc; slots = λ s u h e. cc }) (same_chains env mix G G.raised) words
-            (locks_stay env mix M M' G (Node n ChainLink) v whole write (λ j e. cc)) (arena_stays env mix M M' G (Node n ChainLink) v whole write G refl (λ i e. cc))
+        whole = Whole-frame env mix M M' G G (Node n ChainLink) v whole write
+            (record { current = λ e. cc; slots = λ s u h e. cc }) (same_chains env mix G G.raised) words
+            (locks_stay env mix M M' G (Node n ChainLink) v whole write (λ j e. cc))
+            (arena_stays env mix M M' G (Node n ChainLink) v whole write G refl (λ i e. cc))
             (write.others PortCount tt (λ e. cc) ∙ whole.counted);
-        others = λ c ne. Rely-same env mix c M M' G G whole (same_tables env mix G G.bucket G.node G.bound G.raised) refl refl refl refl words
+        others = λ c ne. Rely-same env mix c M M' G G whole
+            (same_tables env mix G G.bucket G.node G.bound G.raised) refl refl refl refl words
             (λ i k m h here b.
             let is = bound_used env mix M G whole (key_of M k) (G.bound (key_of M k)) refl m b in
             write.others (Node m ChainLink) is.0 (λ e. ne (holder_one i k m h here b (cc))))
@@ -82,13 +95,16 @@ module _ (env : Env) (mix : ℕ → ℕ → ℕ → ℕ) where
       }
     where
       -- who has locked a bucket in which the node's port has its first node is the caller
-      holder_one : {c : ℕ} → (i k m : ℕ) → (G.bucket i).holder ≡ Some c → In k (G.bucket i).nodes → In m (G.bound (key_of M k))
+      holder_one : {c : ℕ} → (i k m : ℕ) → (G.bucket i).holder ≡ Some c → In k (G.bucket i).nodes
+          → In m (G.bound (key_of M k))
           → m ≡ n → c ≡ d
       holder_one i k m h here b same =
           let f = whole.owned.member i k here in
           let at = whole.owned.first_at k i f in
-          let key : key_of M k ≡ port = listed_key M G whole (key_of M k) port n (subst (λ x. In x (G.bound (key_of M k))) same b) behind in
-          let q : ◌≡◌ {A = List ℕ} (k ∷ at.behind) (first ∷ rest) = sym at.bound_to ∙ ap G.bound key ∙ bound in
+          let key : key_of M k ≡ port = listed_key M G whole (key_of M k) port n
+          (subst (λ x. In x (G.bound (key_of M k))) same b) behind in
+          let q : ◌≡◌ {A = List ℕ} (k ∷ at.behind) (first ∷ rest) = sym at.bound_to ∙ ap G.bound key
+          ∙ bound in
           let one : k ≡ first = cc in
           let place : First i ≡ First j = sym f ∙ ap G.node one ∙ seat in
           let bucket : i ≡ j = cc in
@@ -98,17 +114,22 @@ module _ (env : Env) (mix : ℕ → ℕ → ℕ → ℕ) where
   -- ---- the bit of a node
 
   -- neither the old owner of a node nor the new one is a port
-  reowned_chains : (G : Ghost) (n : ℕ) (owner : Owner) → is_used (G.node n) ≡ false → is_used owner ≡ false → SameChains env mix G (with_owner G n owner)
+  reowned_chains : (G : Ghost) (n : ℕ) (owner : Owner) → is_used (G.node n) ≡ false
+      → is_used owner ≡ false → SameChains env mix G (with_owner G n owner)
   reowned_chains G n owner was now = record {
     tables = same_tables env mix G G.bucket (put G.node n owner) G.bound G.raised;
     nodes = λ j. refl;
     plain = λ j. refl;
     firsts_before =
-        λ m j. put-all (λ i o. o ≡ First j → G.node i ≡ First j) G.node n owner (λ f. let e = sym now ∙ ap is_used f in absurd (cc)) (λ i ne f. f) m;
-    firsts_after = λ m j f. put-other G.node n owner m (λ e. let q = sym was ∙ ap is_used (ap G.node (sym e) ∙ f) in cc) ∙ f;
+        λ m j. put-all (λ i o. o ≡ First j → G.node i ≡ First j) G.node n owner (λ f. let e = sym now
+        ∙ ap is_used f in absurd (cc)) (λ i ne f. f) m;
+    firsts_after = λ m j f. put-other G.node n owner m (λ e. let q = sym was
+        ∙ ap is_used (ap G.node (sym e) ∙ f) in cc) ∙ f;
     behind_before =
-        λ m port. put-all (λ i o. o ≡ Behind port → G.node i ≡ Behind port) G.node n owner (λ f. let e = sym now ∙ ap is_used f in absurd (cc)) (λ i ne f. f) m;
-    behind_after = λ m port f. put-other G.node n owner m (λ e. let q = sym was ∙ ap is_used (ap G.node (sym e) ∙ f) in cc) ∙ f;
+        λ m port. put-all (λ i o. o ≡ Behind port → G.node i ≡ Behind port) G.node n owner
+        (λ f. let e = sym now ∙ ap is_used f in absurd (cc)) (λ i ne f. f) m;
+    behind_after = λ m port f. put-other G.node n owner m (λ e. let q = sym was
+        ∙ ap is_used (ap G.node (sym e) ∙ f) in cc) ∙ f;
     bound = λ port. refl;
   }
 
@@ -116,7 +137,8 @@ module _ (env : Env) (mix : ℕ → ℕ → ℕ → ℕ) where
       → count_firsts env mix (with_owner G n owner) ≡ count_firsts env mix G
   reowned_firsts G n owner was now =
       count_below-same (λ m. is_first (G.node m)) (λ m. is_first (put G.node n owner m)) env.geometry.nodes
-      (λ m l. put-all (λ i o. is_first o ≡ is_first (G.node i)) G.node n owner (now ∙ sym was) (λ i ne. refl) m)
+      (λ m l. put-all (λ i o. is_first o ≡ is_first (G.node i)) G.node n owner (now
+      ∙ sym was) (λ i ne. refl) m)
 
   -- a bit of the map of nodes that has the value in the word that is written which it had
   map_bit_stays : (i value n : ℕ) (M M' : Memory) → IsWrite env.geometry M M' (NodeMap i) value
@@ -125,8 +147,10 @@ module _ (env : Env) (mix : ℕ → ℕ → ℕ → ℕ) where
       → bit_at (M' (NodeMap (n / 64))) (n % 64) ≡ bit_at (M (NodeMap (n / 64))) (n % 64)
   map_bit_stays i value n M M' write l same = elim (cases_eq (n / 64) i) [
     | inl e ↦
-        ap (λ x. bit_at (M' (NodeMap x)) (n % 64)) e ∙ ap (λ w. bit_at w (n % 64)) write.same ∙ same e ∙ ap (λ x. bit_at (M (NodeMap x)) (n % 64)) (sym e)
-    | inr other ↦ ap (λ w. bit_at w (n % 64)) (write.others (NodeMap (n / 64)) (omega arith) (λ e. other (cc)))
+        ap (λ x. bit_at (M' (NodeMap x)) (n % 64)) e ∙ ap (λ w. bit_at w (n % 64)) write.same ∙ same e
+        ∙ ap (λ x. bit_at (M (NodeMap x)) (n % 64)) (sym e)
+    | inr other ↦ ap (λ w. bit_at w (n % 64)) (write.others (NodeMap (n / 64)) (omega arith)
+        (λ e. other (cc)))
   ]
 
   -- the bits after one of them was changed together with the owner of its node
@@ -137,12 +161,15 @@ module _ (env : Env) (mix : ℕ → ℕ → ℕ → ℕ) where
       → ((k : ℕ) → k < 64 → k ≢ b → bit_at value k ≡ bit_at (M (NodeMap i)) k)
       → ArenaRight env mix M' (with_owner G (64 * i + b) owner)
   reowned_bits i b value owner M M' G whole at is_built write here others = record {
-    built = put-all (λ k o. IsBuilt env mix o) G.node (64 * i + b) owner is_built (λ k ne. whole.arena.built k);
-    bits = λ m l. put-all (λ n o. n < env.geometry.nodes → (bit_at (M' (NodeMap (n / 64))) (n % 64) ≡ 1) ↔ (o ≡ Free)) G.node (64 * i + b) owner
+    built = put-all (λ k o. IsBuilt env mix o) G.node (64 * i + b) owner is_built
+        (λ k ne. whole.arena.built k);
+    bits = λ m l. put-all (λ n o. n < env.geometry.nodes
+        → (bit_at (M' (NodeMap (n / 64))) (n % 64) ≡ 1) ↔ (o ≡ Free)) G.node (64 * i + b) owner
         (λ k. let word : (64 * i + b) / 64 ≡ i = omega (arith, at.within) in
         let bit : (64 * i + b) % 64 ≡ b = omega (arith, at.within) in
         rw word (rw bit (rw write.same here)))
-        (λ n ne k. rw (map_bit_stays i value n M M' write k (λ e. others (n % 64) (omega arith) (λ q. ne (omega arith)))) (whole.arena.bits n k))
+        (λ n ne k. rw (map_bit_stays i value n M M' write k
+        (λ e. others (n % 64) (omega arith) (λ q. ne (omega arith)))) (whole.arena.bits n k))
         m l;
   }
 
@@ -156,10 +183,14 @@ module _ (env : Env) (mix : ℕ → ℕ → ℕ → ℕ) where
       → Whole env mix M' (with_owner G (64 * i + b) owner)
   reowned i b value owner M M' G whole at is_built write was now here others =
       let n = 64 * i + b in
-      Whole-frame env mix M M' G (with_owner G n owner) (NodeMap i) value whole write (record { current = λ e. cc; slots = λ s u h e. cc }) (reowned_chains G n owner was now)
-      (used_stay env mix M M' G (NodeMap i) value whole write (λ m w e. cc)) (locks_stay env mix M M' G (NodeMap i) value whole write (λ j e. cc))
+      Whole-frame env mix M M' G (with_owner G n owner) (NodeMap i) value whole write
+      (record { current = λ e. cc; slots = λ s u h e. cc }) (reowned_chains G n owner was now)
+      (used_stay env mix M M' G (NodeMap i) value whole write (λ m w e. cc))
+      (locks_stay env mix M M' G (NodeMap i) value whole write (λ j e. cc))
       (reowned_bits i b value owner M M' G whole at is_built write here others)
-      (write.others PortCount tt (λ e. cc) ∙ whole.counted ∙ ap (λ x. x + raisers env mix G) (sym (reowned_firsts G n owner (unused-not_first (G.node n) was) (unused-not_first owner now))))
+      (write.others PortCount tt (λ e. cc) ∙ whole.counted
+      ∙ ap (λ x. x + raisers env mix G) (sym (reowned_firsts G n owner
+      (unused-not_first (G.node n) was) (unused-not_first owner now))))
 
   -- a write that leaves the bits of a word of the node map as they were
   pub retouch : (d i value : ℕ) (M M' : Memory) (G : Ghost) → Whole env mix M G
@@ -168,17 +199,21 @@ module _ (env : Env) (mix : ℕ → ℕ → ℕ → ℕ) where
   retouch d i value M M' G whole l write same =
       let words = used_stay env mix M M' G (NodeMap i) value whole write (λ m w e. cc) in
       record {
-        whole = Whole-frame env mix M M' G G (NodeMap i) value whole write (record { current = λ e. cc; slots = λ s u h e. cc }) (same_chains env mix G G.raised) words
+        whole = Whole-frame env mix M M' G G (NodeMap i) value whole write
+            (record { current = λ e. cc; slots = λ s u h e. cc }) (same_chains env mix G G.raised) words
             (locks_stay env mix M M' G (NodeMap i) value whole write (λ j e. cc))
             (record {
               built = whole.arena.built;
               bits =
-                  λ n k. rw (map_bit_stays i value n M M' write k (λ e. same (n % 64) (omega arith))) (whole.arena.bits n k);
+                  λ n k. rw (map_bit_stays i value n M M' write k (λ e. same (n % 64) (omega arith)))
+                  (whole.arena.bits n k);
             })
             (write.others PortCount tt (λ e. cc) ∙ whole.counted);
         others =
-            λ c ne. Rely-same env mix c M M' G G whole (same_tables env mix G G.bucket G.node G.bound G.raised) refl refl refl refl words
-            (chains_stay env mix c M M' G (NodeMap i) value whole write (λ m used e. cc)) (λ m w has. write.others (Node m w) has.among (λ e. cc));
+            λ c ne. Rely-same env mix c M M' G G whole
+            (same_tables env mix G G.bucket G.node G.bound G.raised) refl refl refl refl words
+            (chains_stay env mix c M M' G (NodeMap i) value whole write (λ m used e. cc))
+            (λ m w has. write.others (Node m w) has.among (λ e. cc));
       }
 
   -- the and that clears a bit which was set: the node was free
@@ -192,24 +227,33 @@ module _ (env : Env) (mix : ℕ → ℕ → ℕ → ℕ) where
       let bit : n % 64 ≡ b = omega (arith, at.within) in
       let free : G.node n ≡ Free = (whole.arena.bits n at.below).0 (rw word (rw bit found)) in
       let was : is_used (G.node n) ≡ false = ap is_used free in
-      let stay = used_stay env mix M M' G (NodeMap i) (bit_and (M (NodeMap i)) (bit_not w64 (bit_of b))) whole write (λ m w e. cc) in (
+      let stay = used_stay env mix M M' G (NodeMap i) (bit_and (M (NodeMap i)) (bit_not w64 (bit_of b)))
+      whole write (λ m w e. cc) in (
         record {
-          whole = reowned i b (bit_and (M (NodeMap i)) (bit_not w64 (bit_of b))) (Held d) M M' G whole at tt write was refl
-              ((λ set. absurd (omega (arith, bit_at-cleared (M (NodeMap i)) b at.within, set))), (λ e. absurd (cc)))
+          whole = reowned i b (bit_and (M (NodeMap i)) (bit_not w64 (bit_of b))) (Held d) M M' G whole at
+              tt write was refl (
+                (λ set. absurd (omega (arith, bit_at-cleared (M (NodeMap i)) b at.within, set))),
+                (λ e. absurd (cc)),
+              )
               (λ k l ne. bit_at-cleared_other (M (NodeMap i)) b k at.within l ne);
           others = λ c ne. record {
-            tables = tables_stay env mix M G (with_owner G n (Held d)) whole (same_tables env mix G G.bucket (put G.node n (Held d)) G.bound G.raised);
+            tables = tables_stay env mix M G (with_owner G n (Held d)) whole
+                (same_tables env mix G G.bucket (put G.node n (Held d)) G.bound G.raised);
             locks = λ j h. refl;
             lists = λ j m h i. refl;
-            chains = chains_stay env mix c M M' G (NodeMap i) (bit_and (M (NodeMap i)) (bit_not w64 (bit_of b))) whole write (λ m used e. cc);
+            chains = chains_stay env mix c M M' G (NodeMap i)
+                (bit_and (M (NodeMap i)) (bit_not w64 (bit_of b))) whole write (λ m used e. cc);
             keys = stay.keys;
             owners = stay.owners;
-            nodes = λ m has. put-other G.node n (Held d) m (λ e. let q = sym free ∙ ap G.node (sym e) ∙ has.mine in cc) ∙ has.mine;
+            nodes = λ m has. put-other G.node n (Held d) m (λ e. let q = sym free ∙ ap G.node (sym e)
+                ∙ has.mine in cc) ∙ has.mine;
             words = λ m has w. write.others (Node m w) has.among (λ e. cc);
             raised = refl;
-            taken = put-all (λ k o. is_taken_by c o ≡ is_taken_by c (G.node k)) G.node n (Held d) (sym (ap (is_taken_by c) free)) (λ k kn. refl);
+            taken = put-all (λ k o. is_taken_by c o ≡ is_taken_by c (G.node k)) G.node n (Held d)
+                (sym (ap (is_taken_by c) free)) (λ k kn. refl);
             no_node =
-                λ m. put-all (λ k o. o ≡ Held c → G.node k ≡ Held c) G.node n (Held d) (λ e. absurd (ne (cc))) (λ k kn h. h) m;
+                λ m. put-all (λ k o. o ≡ Held c → G.node k ≡ Held c) G.node n (Held d)
+                (λ e. absurd (ne (cc))) (λ k kn h. h) m;
             no_lock = λ j h. h;
           };
         },
@@ -227,25 +271,31 @@ module _ (env : Env) (mix : ℕ → ℕ → ℕ → ℕ) where
       let was : is_used (G.node n) ≡ false = ap is_used has.mine in
       let stay =
       used_stay env mix M M' G (NodeMap i) (bit_or (M (NodeMap i)) (bit_of b)) whole write (λ m w e. cc) in
-      let made = reowned i b (bit_or (M (NodeMap i)) (bit_of b)) Free M M' G whole (record { within = omega arith; below = omega (arith, has.among) }) tt write
+      let made = reowned i b (bit_or (M (NodeMap i)) (bit_of b)) Free M M' G whole
+      (record { within = omega arith; below = omega (arith, has.among) }) tt write
       (ap (λ m. is_used (G.node m)) parts ∙ was) refl
       ((λ set. refl), (λ e. bit_at-set (M (NodeMap i)) b))
       (λ k l ne. bit_at-set_other (M (NodeMap i)) b k ne) in
       record {
         whole = rw parts at made;
         others = λ c ne. record {
-          tables = tables_stay env mix M G (with_owner G n Free) whole (same_tables env mix G G.bucket (put G.node n Free) G.bound G.raised);
+          tables = tables_stay env mix M G (with_owner G n Free) whole
+              (same_tables env mix G G.bucket (put G.node n Free) G.bound G.raised);
           locks = λ j h. refl;
           lists = λ j m h i. refl;
-          chains = chains_stay env mix c M M' G (NodeMap i) (bit_or (M (NodeMap i)) (bit_of b)) whole write (λ m used e. cc);
+          chains = chains_stay env mix c M M' G (NodeMap i) (bit_or (M (NodeMap i)) (bit_of b)) whole
+              write (λ m used e. cc);
           keys = stay.keys;
           owners = stay.owners;
-          nodes = λ m held. put-other G.node n Free m (λ e. ne (held_by_one (G.node n) c d (ap G.node (sym e) ∙ held.mine) has.mine)) ∙ held.mine;
+          nodes = λ m held. put-other G.node n Free m
+              (λ e. ne (held_by_one (G.node n) c d (ap G.node (sym e) ∙ held.mine) has.mine)) ∙ held.mine;
           words = λ m held w. write.others (Node m w) held.among (λ e. cc);
           raised = refl;
-          taken = put-all (λ k o. is_taken_by c o ≡ is_taken_by c (G.node k)) G.node n Free (sym (ap (is_taken_by c) has.mine)) (λ k kn. refl);
+          taken = put-all (λ k o. is_taken_by c o ≡ is_taken_by c (G.node k)) G.node n Free
+              (sym (ap (is_taken_by c) has.mine)) (λ k kn. refl);
           no_node =
-              λ m. put-all (λ k o. o ≡ Held c → G.node k ≡ Held c) G.node n Free (λ e. absurd (cc)) (λ k kn h. h) m;
+              λ m. put-all (λ k o. o ≡ Held c → G.node k ≡ Held c) G.node n Free (λ e. absurd (cc))
+              (λ k kn h. h) m;
           no_lock = λ j h. h;
         };
       }

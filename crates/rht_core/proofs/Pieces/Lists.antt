@@ -21,20 +21,23 @@ segment_next links first [] ends node (inl e) = inl (ap links e ∙ ends)
 segment_next links first [] ends node (inr i) = absurd i
 segment_next links first (next ∷ nodes) segment node (inl e) =
     inr (record { node = next; there = inl refl; link_is = ap links e ∙ segment.0 })
-segment_next links first (next ∷ nodes) segment node (inr i) = elim (segment_next links next nodes segment.1 node i) [
-  | inl ends ↦ inl ends
-  | inr behind ↦ inr (record { node = behind.node; there = inr behind.there; link_is = behind.link_is })
-]
+segment_next links first (next ∷ nodes) segment node (inr i) =
+    elim (segment_next links next nodes segment.1 node i) [
+      | inl ends ↦ inl ends
+      | inr behind ↦ inr (record { node = behind.node; there = inr behind.there; link_is = behind.link_is })
+    ]
 
 module _ (env : Env) (mix : ℕ → ℕ → ℕ → ℕ) (M : Memory) (G : Ghost) (whole : Whole env mix M G) where
   -- behind each node to which a port is bound is the list's end or another of them
-  pub list_next : (port first : ℕ) (behind : List ℕ) → G.bound port ≡ first ∷ behind → (node : ℕ) → In node (first ∷ behind)
+  pub list_next : (port first : ℕ) (behind : List ℕ) → G.bound port ≡ first ∷ behind → (node : ℕ)
+      → In node (first ∷ behind)
       → (list_of M node ≡ 0) ⊎ IsNextOf behind (list_of M node)
   list_next port first behind b node i =
       segment_next (list_of M) first behind (whole.owned.bound_to port first behind b).list node i
 
   -- each of them is one of the nodes
-  pub list_among : (port first : ℕ) (behind : List ℕ) → G.bound port ≡ first ∷ behind → (node : ℕ) → In node (first ∷ behind)
+  pub list_among : (port first : ℕ) (behind : List ℕ) → G.bound port ≡ first ∷ behind → (node : ℕ)
+      → In node (first ∷ behind)
       → node < env.geometry.nodes
   list_among port first behind b node (inl e) =
       let to = whole.owned.bound_to port first behind b in

@@ -26,7 +26,8 @@ abbrev pub known_locate : ℕ → ℕ → LocateAt → KnownTable
 known_locate port slot locates.Shape = Passes port slot
 known_locate port slot (locates.Seed shape) = Shaped port slot shape
 
-module _ (env : Env) (mix : ℕ → ℕ → ℕ → ℕ) (c : ℕ) (h : Holding) (node : Option KnownNode) (bucket : KnownBucket) where
+module _ (env : Env) (mix : ℕ → ℕ → ℕ → ℕ) (c : ℕ) (h : Holding) (node : Option KnownNode)
+    (bucket : KnownBucket) where
   abbrev pub knowing : KnownTable → Memory → Ghost → Type 0
   knowing table M G = Knowing env mix c h (record { node = node; table = table; bucket = bucket }) M G
 
@@ -57,8 +58,13 @@ module _ (env : Env) (mix : ℕ → ℕ → ℕ → ℕ) (c : ℕ) (h : Holding)
     first_passed port =
         let right = whole.tables.each G.current whole.tables.current_in in
         let slot = (G.table G.current).slot in
-        let is : table_of (M CurrentTable) ≡ slot = (let word = whole.tables.current_is in omega (arith, right.slot_in, word)) in
-        rw is (record { table = right.has_slot; passed = rw right.index (passed_first env mix M G whole port) })
+        let is : table_of (M CurrentTable) ≡ slot = (let word = whole.tables.current_is in omega
+        (arith, right.slot_in, word)) in
+        rw is (record {
+          table = right.has_slot;
+          passed = rw right.index
+              (passed_first env mix M G whole port);
+        })
 
     -- the word in which the bucket of the port stands has a place in the table
     home-place : (port τ : ℕ) → τ < G.attached
@@ -67,21 +73,28 @@ module _ (env : Env) (mix : ℕ → ℕ → ℕ → ℕ) (c : ℕ) (h : Holding)
     home-place port τ l =
         let index = bucket_index (G.table τ).shape (hash_in env mix G port τ) in
         let placed = (whole.tables.each τ l).placed in
-        let below : index < 64 * env.geometry.pages = omega (arith, hash-below env mix M G whole port τ, placed.fits) in
+        let below : index < 64 * env.geometry.pages = omega
+        (arith, hash-below env mix M G whole port τ, placed.fits) in
         ap (λ t. cond t (Some (place_at env mix index)) None) (lt-ltb index (64 * env.geometry.pages) below)
 
     locate_step_at : (port slot : ℕ) (at : LocateAt) → knowing (known_locate port slot at) M G
         → let m : LocateModel = record { geometry = env.geometry; table = slot; at = at } in
-        Moved env mix c words G (locate_plan m) h h (LocateKnows port (locate_after mix port m (old_of words (locate_plan m))))
+        Moved env mix c words G (locate_plan m) h h (LocateKnows port
+        (locate_after mix port m (old_of words (locate_plan m))))
     locate_step_at port slot locates.Shape knows =
         let m : LocateModel = record { geometry = env.geometry; table = slot; at = locates.Shape } in
         let has = knows.means.table.table in
-        loads env mix c words G (locate_plan m) h h (LocateKnows port (locate_after mix port m (old_of words (locate_plan m)))) whole refl refl
+        loads env mix c words G (locate_plan m) h h (LocateKnows port
+        (locate_after mix port m (old_of words (locate_plan m)))) whole refl refl
         (record {
           only = knows.only;
           means = record {
             node = knows.means.node;
-            table = record { passing = knows.means.table; shape_is = sym (slot-word slot ShapeWord has ∙ (table-right slot has).shape_is) };
+            table = record {
+              passing = knows.means.table;
+              shape_is = sym (slot-word slot ShapeWord has
+                  ∙ (table-right slot has).shape_is);
+            };
             bucket = knows.means.bucket;
           };
         })
@@ -90,14 +103,17 @@ module _ (env : Env) (mix : ℕ → ℕ → ℕ → ℕ) (c : ℕ) (h : Holding)
         let passing = knows.means.table.passing in
         let has = passing.table in
         let τ = index_at G slot in
-        let seed : M (Slot slot SeedWord) ≡ (G.table τ).seed = slot-word slot SeedWord has ∙ (table-right slot has).seed_is in
+        let seed : M (Slot slot SeedWord) ≡ (G.table τ).seed = slot-word slot SeedWord has
+        ∙ (table-right slot has).seed_is in
         let index = bucket_index (G.table τ).shape (hash_in env mix G port τ) in
         let there : bucket_place env.geometry shape (bucket_of mix port shape (M (Slot slot SeedWord))) ≡ Some (place_at env mix index)
-        = ap (λ s. bucket_place env.geometry s (bucket_of mix port s (M (Slot slot SeedWord)))) (sym knows.means.table.shape_is)
+        = ap (λ s. bucket_place env.geometry s (bucket_of mix port s (M (Slot slot SeedWord))))
+        (sym knows.means.table.shape_is)
         ∙ ap (λ d. bucket_place env.geometry (G.table τ).shape (bucket_of mix port (G.table τ).shape d)) seed
         ∙ home-place port τ passing.passed.attached in
         let placed = (table-right slot has).placed in
-        loads env mix c words G (locate_plan m) h h (LocateKnows port (locate_after mix port m (old_of words (locate_plan m)))) whole refl refl
+        loads env mix c words G (locate_plan m) h h (LocateKnows port
+        (locate_after mix port m (old_of words (locate_plan m)))) whole refl refl
         (record {
           place = place_at env mix index;
           there = there;
@@ -109,18 +125,22 @@ module _ (env : Env) (mix : ℕ → ℕ → ℕ → ℕ) (c : ℕ) (h : Holding)
                 passing = passing;
                 shape_is = knows.means.table.shape_is;
                 bucket = (omega arith, omega (arith, hash-below env mix M G whole port τ, placed.fits));
-                here = home-index env mix M G whole port τ passing.passed.attached ∙ ap Some (sym (index-place_at env mix index));
+                here = home-index env mix M G whole port τ passing.passed.attached
+                    ∙ ap Some (sym (index-place_at env mix index));
               };
               bucket = knows.means.bucket;
             };
           };
         })
 
-    pub locate_step : (port : ℕ) (m : LocateModel) → IsLocateIn env.geometry m → knowing (known_locate port m.table m.at) M G
-        → Moved env mix c words G (locate_plan m) h h (LocateKnows port (locate_after mix port m (old_of words (locate_plan m))))
+    pub locate_step : (port : ℕ) (m : LocateModel) → IsLocateIn env.geometry m
+        → knowing (known_locate port m.table m.at) M G
+        → Moved env mix c words G (locate_plan m) h h
+        (LocateKnows port (locate_after mix port m (old_of words (locate_plan m))))
     locate_step port m is knows =
         subst (λ g. let here : LocateModel = record { geometry = g; table = m.table; at = m.at } in
-        Moved env mix c words G (locate_plan here) h h (LocateKnows port (locate_after mix port here (old_of words (locate_plan here)))))
+        Moved env mix c words G (locate_plan here) h h
+        (LocateKnows port (locate_after mix port here (old_of words (locate_plan here)))))
         (sym is.geometry_same) (locate_step_at port m.table m.at knows)
 
     -- ---- the future of a table
@@ -131,8 +151,15 @@ module _ (env : Env) (mix : ℕ → ℕ → ℕ → ℕ) (c : ℕ) (h : Holding)
     FutureIs port None = G.bound port ≡ []
     FutureIs port (Some next) = IsPassing env mix G port next
 
-    pub future_is : (port slot place : ℕ) (shape : Option ℕ) → Knowing env mix c h (record { node = node; table = AtHome port slot shape place; bucket = bucket }) M G
-        → NoKey M port (G.bucket (word_index env mix place)).nodes → FutureIs port (slot_of (M (Slot slot FutureWord)))
+    pub future_is : (port slot place : ℕ) (shape : Option ℕ)
+        → Knowing env mix c h (record {
+          node = node;
+          table = AtHome port slot shape place;
+          bucket =
+              bucket;
+        }) M G
+        → NoKey M port (G.bucket (word_index env mix place)).nodes
+        → FutureIs port (slot_of (M (Slot slot FutureWord)))
     future_is port slot place shape knows none =
         let at = knows.means.table in
         let τ = index_at G slot in
@@ -142,16 +169,20 @@ module _ (env : Env) (mix : ℕ → ℕ → ℕ → ℕ) (c : ℕ) (h : Holding)
           | inl more ↦
               let right = whole.tables.each (τ + 1) more in
               let next = (G.table (τ + 1)).slot in
-              let is : future_in env mix G τ ≡ future_of next = ap (λ t. cond t (future_of next) 0) (lt-ltb (τ + 1) G.attached more) in
+              let is : future_in env mix G τ ≡ future_of next = ap (λ t. cond t (future_of next) 0)
+              (lt-ltb (τ + 1) G.attached more) in
               let named : slot_of (future_of next) ≡ Some next = slot-named next right.slot_in in
               rw is (rw named (record {
                 table = right.has_slot;
-                passed = rw right.index (go_on env mix M G whole port τ (word_index env mix place) at.passing.passed at.here none more);
+                passed = rw right.index (go_on env mix M G whole port τ (word_index env mix place)
+                    at.passing.passed at.here none more);
               }))
           | inr last ↦
-              let is : future_in env mix G τ ≡ 0 = ap (λ t. cond t (future_of (G.table (τ + 1)).slot) 0) (le-ltb (τ + 1) G.attached last) in
+              let is : future_in env mix G τ ≡ 0 = ap (λ t. cond t (future_of (G.table (τ + 1)).slot) 0)
+              (le-ltb (τ + 1) G.attached last) in
               let attached = at.passing.passed.attached in
-              rw is (unbound_at_last env mix M G whole port τ (word_index env mix place) at.passing.passed at.here none (omega (arith, attached, last)))
+              rw is (unbound_at_last env mix M G whole port τ (word_index env mix place)
+              at.passing.passed at.here none (omega (arith, attached, last)))
         ])
       where
         slot-named : (next : ℕ) → next < 8 → slot_of (future_of next) ≡ Some next

@@ -13,13 +13,15 @@ use Rattle.rht_core.proofs.Theory.Frames.{same_tables, tables_stay}
 use Rattle.rht_core.proofs.Theory.Steps.{DropsLock, Holding, mem, Moved, moved}
 use Rattle.rht_core.proofs.Moves.Quiet.{drop_lock}
 
-module _ (env : Env) (mix : ℕ → ℕ → ℕ → ℕ) (c : ℕ) (h : Holding) (node : Option KnownNode) (table : KnownTable) where
+module _ (env : Env) (mix : ℕ → ℕ → ℕ → ℕ) (c : ℕ) (h : Holding) (node : Option KnownNode)
+    (table : KnownTable) where
   -- what the call holds with this lock, and what the caller knows with this known of the bucket
   abbrev pub holding : Option ℕ → Holding
   holding lock = record h { lock = lock }
 
   abbrev pub knowing : Option ℕ → KnownBucket → Memory → Ghost → Type 0
-  knowing lock bucket M G = Knowing env mix c (holding lock) (record { node = node; table = table; bucket = bucket }) M G
+  knowing lock bucket M G = Knowing env mix c (holding lock)
+      (record { node = node; table = table; bucket = bucket }) M G
 
   module _ (words : List ℕ) (G : Ghost) (all : length words ≡ words_in env.geometry)
       (whole : Whole env mix (mem env mix words) G) where
@@ -27,14 +29,19 @@ module _ (env : Env) (mix : ℕ → ℕ → ℕ → ℕ) (c : ℕ) (h : Holding)
     M = mem env mix words
 
     -- what is known of nodes and tables stays where a bucket has another holder
-    pub with-holder : (lock : Option ℕ) (place : ℕ) (bucket : KnownBucket) (holder : Option ℕ) (op : Op) (v : ℕ)
+    pub with-holder : (lock : Option ℕ) (place : ℕ) (bucket : KnownBucket) (holder : Option ℕ) (op : Op)
+        (v : ℕ)
         → knowing lock bucket M G
         → IsWrite env.geometry M (mem env mix (applied words op)) (PageWord (word_index env mix place)) v
         → (after : Option ℕ) (more : KnownBucket)
-        → ((i : ℕ) → (put G.bucket (word_index env mix place) (record (G.bucket (word_index env mix place)) { holder = holder }) i).holder ≡ Some c
+        → ((i : ℕ)
+        → (put G.bucket (word_index env mix place)
+        (record (G.bucket (word_index env mix place)) { holder = holder }) i).holder ≡ Some c
         → (after ≡ Some (place_at env mix i)) ⊎ (h.second ≡ Some (place_at env mix i)))
-        → BucketMeans env mix c (mem env mix (applied words op)) (with_holder G (word_index env mix place) holder) more
-        → knowing after more (mem env mix (applied words op)) (with_holder G (word_index env mix place) holder)
+        → BucketMeans env mix c (mem env mix (applied words op))
+        (with_holder G (word_index env mix place) holder) more
+        → knowing after more (mem env mix (applied words op))
+        (with_holder G (word_index env mix place) holder)
     with-holder lock place bucket holder op v knows write after more only means =
         let j = word_index env mix place in
         let M' = mem env mix (applied words op) in
@@ -42,15 +49,19 @@ module _ (env : Env) (mix : ℕ → ℕ → ℕ → ℕ) (c : ℕ) (h : Holding)
         record {
           only = record { nodes = knows.only.nodes; locks = only; raising = knows.only.raising };
           means = record {
-            node = NodeMeans-stay env mix c M M' G G' (λ n has. has.mine) (λ n has w. write.others (Node n w) has.among (λ e. cc)) node knows.means.node;
-            table = TableMeans-stay env mix c M M' G G' (tables_stay env mix M G G' whole (same_tables env mix G G'.bucket G.node G.bound G.raised)) table knows.means.table;
+            node = NodeMeans-stay env mix c M M' G G' (λ n has. has.mine)
+                (λ n has w. write.others (Node n w) has.among (λ e. cc)) node knows.means.node;
+            table = TableMeans-stay env mix c M M' G G'
+                (tables_stay env mix M G G' whole (same_tables env mix G G'.bucket G.node G.bound
+                G.raised)) table knows.means.table;
             bucket = means;
           };
         }
 
     -- the holder stores the bucket's word without the lock
     pub unlock_step : (place word : ℕ) → knowing (Some place) (Locks place word) M G
-        → Moved env mix c words G (Store place word) (holding (Some place)) (holding None) (knowing None Unlocked)
+        → Moved env mix c words G (Store place word) (holding (Some place)) (holding None)
+        (knowing None Unlocked)
     unlock_step place word knows =
         let op = Store place word in
         let lock = knows.means.bucket in
@@ -58,11 +69,15 @@ module _ (env : Env) (mix : ℕ → ℕ → ℕ → ℕ) (c : ℕ) (h : Holding)
         let is : place_at env mix j ≡ place = place_at-index env mix place lock.bucket in
         let M' = mem env mix (applied words op) in
         let within = index-within env mix place lock.bucket in
-        let write : IsWrite env.geometry M M' (PageWord j) word = is_write env.geometry words (PageWord j) op all within (sym is) in
+        let write : IsWrite env.geometry M M' (PageWord j) word = is_write env.geometry words
+        (PageWord j) op all within (sym is) in
         let right = (whole.buckets j within).locked in
         let b = record (G.bucket j) { holder = None } in
-        let old : old_of words op ≡ word + 1 = ap (λ p. slice_index words p) (sym is) ∙ right.word_is ∙ ap (λ p. p + lock_bit (G.bucket j).holder) lock.plain ∙ ap (λ x. word + lock_bit x) lock.holder in
-        moved env mix c words G op (holding (Some place)) (holding None) (knowing None Unlocked) (DropsLock j) whole tt tt
+        let old : old_of words op ≡ word + 1 = ap (λ p. slice_index words p) (sym is) ∙ right.word_is
+        ∙ ap (λ p. p + lock_bit (G.bucket j).holder) lock.plain
+        ∙ ap (λ x. word + lock_bit x) lock.holder in
+        moved env mix c words G op (holding (Some place)) (holding None) (knowing None Unlocked)
+        (DropsLock j) whole tt tt
         (drop_lock env mix c j word M M' G whole within lock.holder lock.plain write)
         (record {
           on = sym is;
@@ -72,10 +87,13 @@ module _ (env : Env) (mix : ℕ → ℕ → ℕ → ℕ) (c : ℕ) (h : Holding)
           holds = refl;
         })
         (with-holder (Some place) place (Locks place word) None op word knows write None Unlocked
-        (put-all (λ i bucket. bucket.holder ≡ Some c → (◌≡◌ {A = Option ℕ} None (Some (place_at env mix i))) ⊎ (h.second ≡ Some (place_at env mix i))) G.bucket j b
+        (put-all (λ i bucket. bucket.holder ≡ Some c
+        → (◌≡◌ {A = Option ℕ} None (Some (place_at env mix i)))
+        ⊎ (h.second ≡ Some (place_at env mix i))) G.bucket j b
         (λ holds. absurd (cc))
         (λ i ne holds. elim (knows.only.locks i holds) [
-          | inl first ↦ absurd (ne (let q : place ≡ place_at env mix i = cc in let r = is in omega (arith, q, r)))
+          | inl first ↦ absurd (ne (let q : place ≡ place_at env mix i = cc in let r = is in omega
+              (arith, q, r)))
           | inr second ↦ inr second
         ]))
         tt)

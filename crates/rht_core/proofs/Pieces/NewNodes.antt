@@ -65,7 +65,8 @@ made_by (at, Go) = node_of_new at
 made_by (at, Done made) = made
 
 -- who ends without a node, or goes on without one, had none
-pub made_none : (state : NewNodeAt) (word : ℕ) → made_by (new_node_after_at state word) ≡ None → node_of_new state ≡ None
+pub made_none : (state : NewNodeAt) (word : ℕ) → made_by (new_node_after_at state word) ≡ None
+    → node_of_new state ≡ None
 made_none (news.Taking take) word none = refl
 made_none (news.Key node) word none = absurd (cc)
 made_none (news.Owner node) word none = absurd (cc)
@@ -81,7 +82,8 @@ module _ (take : TakeNodeModel) (So : TakeNodeModel × Next (Option ℕ) → Typ
     (goes : (at : TakeNodeAt) → So (record take { at = at }, Go)) (ends : So (take, Done None)) where
   next_so : (index : ℕ) → So (next_word take index)
   next_so index =
-      by_test (λ t. So (cond t (record take { at = takes.MapWord (index + 1) }, Go) (take, Done None))) (nat_lt (index + 1) (map_words take.geometry.nodes))
+      by_test (λ t. So (cond t (record take { at = takes.MapWord (index + 1) }, Go) (take, Done None)))
+      (nat_lt (index + 1) (map_words take.geometry.nodes))
       (λ t. goes (takes.MapWord (index + 1))) (λ t. ends)
 
   claim_so : (index word : ℕ) → So (claim_among take index word)
@@ -90,13 +92,15 @@ module _ (take : TakeNodeModel) (So : TakeNodeModel × Next (Option ℕ) → Typ
       by_test (λ t. So (claim_in take index (cond t None (Some (trailing_zeros w64 free))))) (free == 0)
       (λ t. next_so index) (λ t. goes (takes.Claim index (trailing_zeros w64 free)))
 
-module _ (env : Env) (mix : ℕ → ℕ → ℕ → ℕ) (c : ℕ) (h : Holding) (table : KnownTable) (bucket : KnownBucket) where
+module _ (env : Env) (mix : ℕ → ℕ → ℕ → ℕ) (c : ℕ) (h : Holding) (table : KnownTable)
+    (bucket : KnownBucket) where
   -- what the call holds with this node, and what the caller knows with this known of it
   abbrev pub holding : Option ℕ → Holding
   holding node = record h { node = node }
 
   abbrev pub knowing : Option ℕ → Option KnownNode → Memory → Ghost → Type 0
-  knowing node known M G = Knowing env mix c (holding node) (record { node = known; table = table; bucket = bucket }) M G
+  knowing node known M G = Knowing env mix c (holding node)
+      (record { node = known; table = table; bucket = bucket }) M G
 
   module _ (words : List ℕ) (G : Ghost) (all : length words ≡ words_in env.geometry)
       (whole : Whole env mix (mem env mix words) G) where
@@ -104,16 +108,19 @@ module _ (env : Env) (mix : ℕ → ℕ → ℕ → ℕ) (c : ℕ) (h : Holding)
     M = mem env mix words
 
     -- what is known of tables and buckets stays where a node has another owner
-    tables-reowned : (node : ℕ → Owner) → TableMeans env mix G table → TableMeans env mix (record G { node = node }) table
+    tables-reowned : (node : ℕ → Owner) → TableMeans env mix G table
+        → TableMeans env mix (record G { node = node }) table
     tables-reowned node means =
         TableMeans-stay env mix c M M G (record G { node = node })
-        (tables_stay env mix M G (record G { node = node }) whole (same_tables env mix G G.bucket node G.bound G.raised)) table means
+        (tables_stay env mix M G (record G { node = node }) whole
+        (same_tables env mix G G.bucket node G.bound G.raised)) table means
 
     -- ---- a word of a node
 
     -- the words of the node that the caller has, after one of them was stored
     word-known : (known : KnownNode) (w : NodeWord) (value : ℕ) (M' : Memory) → NodeMeans env mix c M G known
-        → IsWrite env.geometry M M' (Node known.node w) value → NodeMeans env mix c M' G (with_word known w value)
+        → IsWrite env.geometry M M' (Node known.node w) value
+        → NodeMeans env mix c M' G (with_word known w value)
     word-known known w value M' means write = go w write
       where
         stays : (w u : NodeWord) (word : Option ℕ) → IsWrite env.geometry M M' (Node known.node w) value
@@ -122,7 +129,8 @@ module _ (env : Env) (mix : ℕ → ℕ → ℕ → ℕ) (c : ℕ) (h : Holding)
         stays w u None write differs is = tt
         stays w u (Some v) write differs is = write.others (Node known.node u) means.has.among differs ∙ is
 
-        go : (w : NodeWord) → IsWrite env.geometry M M' (Node known.node w) value → NodeMeans env mix c M' G (with_word known w value)
+        go : (w : NodeWord) → IsWrite env.geometry M M' (Node known.node w) value
+            → NodeMeans env mix c M' G (with_word known w value)
         go ChainLink write = record {
           has = means.has;
           chain = write.same;
@@ -153,26 +161,43 @@ module _ (env : Env) (mix : ℕ → ℕ → ℕ → ℕ) (c : ℕ) (h : Holding)
         }
 
     -- a word of a node that the caller has is stored
-    pub fill_step : IsPlain env mix bucket → (known : KnownNode) (w : NodeWord) (value : ℕ) → knowing (Some known.node) (Some known) M G
-        → Moved env mix c words G (Store (place_of env.geometry (Node known.node w)) value) (holding (Some known.node)) (holding (Some known.node)) (knowing (Some known.node) (Some (with_word known w value)))
+    pub fill_step : IsPlain env mix bucket → (known : KnownNode) (w : NodeWord) (value : ℕ)
+        → knowing (Some known.node) (Some known) M G
+        → Moved env mix c words G (Store (place_of env.geometry (Node known.node w)) value)
+        (holding (Some known.node)) (holding (Some known.node))
+        (knowing (Some known.node) (Some (with_word known w value)))
     fill_step plain known w value knows =
         let op = Store (place_of env.geometry (Node known.node w)) value in
         let M' = mem env mix (applied words op) in
         let has = knows.means.node.has in
         let write = is_write env.geometry words (Node known.node w) op all has.among refl in
-        let not_mine : (n : ℕ) → IsUsed (G.node n) → n ≢ known.node = λ n used e. held_not_used (G.node known.node) c has.mine (rw (sym e) used) in
-        moved env mix c words G op (holding (Some known.node)) (holding (Some known.node)) (knowing (Some known.node) (Some (with_word known w value))) Quiet whole tt tt
+        let not_mine : (n : ℕ) → IsUsed (G.node n) → n ≢ known.node = λ n used e. held_not_used
+        (G.node known.node) c has.mine (rw (sym e) used) in
+        moved env mix c words G op (holding (Some known.node)) (holding (Some known.node))
+        (knowing (Some known.node) (Some (with_word known w value))) Quiet whole tt tt
         (fill env mix c known.node w value M M' G whole has write)
-        (record { holds = refl; leaves = inr (record { node = known.node; word = w; has = refl; place = refl }) })
+        (record {
+          holds = refl;
+          leaves = inr (record {
+            node = known.node;
+            word = w;
+            has = refl;
+            place =
+                refl;
+          });
+        })
         (record {
           only = knows.only;
           means = record {
             node = word-known known w value M' knows.means.node write;
             table = knows.means.table;
-            bucket = BucketMeans-stay env mix c M M' G G (members_used env mix M G whole) (λ j holds. refl) (λ j n h i. refl)
-                (chains_stay env mix c M M' G (Node known.node w) value whole write (λ n used e. not_mine n used (cc)))
+            bucket = BucketMeans-stay env mix c M M' G G (members_used env mix M G whole)
+                (λ j holds. refl) (λ j n h i. refl)
+                (chains_stay env mix c M M' G (Node known.node w) value whole write
+                (λ n used e. not_mine n used (cc)))
                 (λ n l used. write.others (Node n KeyWord) l (λ e. not_mine n used (cc)))
-                (λ n l used. write.others (Node n OwnerWord) l (λ e. not_mine n used (cc))) (λ n. refl) bucket plain knows.means.bucket;
+                (λ n l used. write.others (Node n OwnerWord) l (λ e. not_mine n used (cc))) (λ n. refl)
+                bucket plain knows.means.bucket;
           };
         })
 
@@ -180,9 +205,11 @@ module _ (env : Env) (mix : ℕ → ℕ → ℕ → ℕ) (c : ℕ) (h : Holding)
 
     -- the and that clears the bit of a free node
     claim_taken : (index bit : ℕ) → IsBitIn env.geometry.nodes index bit
-        → bit_at (old_of words (And (place_of env.geometry (NodeMap index)) (bit_not w64 (bit_of bit)))) bit ≡ 1
+        → bit_at (old_of words (And (place_of env.geometry (NodeMap index)) (bit_not w64 (bit_of bit))))
+        bit ≡ 1
         → knowing None None M G
-        → Moved env mix c words G (And (place_of env.geometry (NodeMap index)) (bit_not w64 (bit_of bit))) (holding None) (holding (Some (64 * index + bit)))
+        → Moved env mix c words G (And (place_of env.geometry (NodeMap index))
+        (bit_not w64 (bit_of bit))) (holding None) (holding (Some (64 * index + bit)))
         (knowing (Some (64 * index + bit)) (Some (bare (64 * index + bit))))
     claim_taken index bit range free knows =
         let n = 64 * index + bit in
@@ -193,7 +220,8 @@ module _ (env : Env) (mix : ℕ → ℕ → ℕ → ℕ) (c : ℕ) (h : Holding)
         let write : IsWrite env.geometry M M' (NodeMap index) (bit_and word (bit_not w64 (bit_of bit))) =
         is_write env.geometry words (NodeMap index) op all low refl in
         let taken = take_node env mix c index bit M M' G whole range free write in
-        moved env mix c words G op (holding None) (holding (Some n)) (knowing (Some n) (Some (bare n))) (TakesNode n) whole taken.1 tt taken.0
+        moved env mix c words G op (holding None) (holding (Some n)) (knowing (Some n) (Some (bare n)))
+        (TakesNode n) whole taken.1 tt taken.0
         (record { taking = claims env.geometry index bit word range free; none = refl; holds = refl })
         (record {
           only = record {
@@ -203,22 +231,33 @@ module _ (env : Env) (mix : ℕ → ℕ → ℕ → ℕ) (c : ℕ) (h : Holding)
             raising = knows.only.raising;
           };
           means = record {
-            node = record { has = record { mine = put-same G.node n (Held c); among = range.below }; chain = tt; key = tt; owner = tt; list = tt };
+            node = record {
+              has = record { mine = put-same G.node n (Held c); among = range.below };
+              chain = tt;
+              key = tt;
+              owner = tt;
+              list = tt;
+            };
             table = tables-reowned (put G.node n (Held c)) knows.means.table;
-            bucket = BucketMeans-own env mix c M M' G (with_owner G n (Held c)) (members_used env mix M G whole) (λ j holds. refl) (λ j m h i. refl)
-                (chains_stay env mix c M M' G (NodeMap index) (bit_and word (bit_not w64 (bit_of bit))) whole write (λ m used e. cc))
+            bucket = BucketMeans-own env mix c M M' G (with_owner G n (Held c))
+                (members_used env mix M G whole) (λ j holds. refl) (λ j m h i. refl)
+                (chains_stay env mix c M M' G (NodeMap index) (bit_and word (bit_not w64 (bit_of bit)))
+                whole write (λ m used e. cc))
                 (λ m l used. write.others (Node m KeyWord) l (λ e. cc))
                 (λ m l used. write.others (Node m OwnerWord) l (λ e. cc))
-                (put-all (λ m o. is_taken_by c o ≡ is_taken_by c (G.node m)) G.node n (Held c) (sym (ap (is_taken_by c) taken.1)) (λ m ne. refl)) bucket
+                (put-all (λ m o. is_taken_by c o ≡ is_taken_by c (G.node m)) G.node n (Held c)
+                (sym (ap (is_taken_by c) taken.1)) (λ m ne. refl)) bucket
                 (λ x has. let none = knows.only.nodes x has.mine in absurd (cc)) knows.means.bucket;
           };
         })
 
     -- one that finds the bit clear leaves the word
     claim_lost : (index bit : ℕ) → IsBitIn env.geometry.nodes index bit
-        → bit_at (old_of words (And (place_of env.geometry (NodeMap index)) (bit_not w64 (bit_of bit)))) bit ≡ 0
+        → bit_at (old_of words (And (place_of env.geometry (NodeMap index)) (bit_not w64 (bit_of bit))))
+        bit ≡ 0
         → knowing None None M G
-        → Moved env mix c words G (And (place_of env.geometry (NodeMap index)) (bit_not w64 (bit_of bit))) (holding None) (holding None) (knowing None None)
+        → Moved env mix c words G (And (place_of env.geometry (NodeMap index))
+        (bit_not w64 (bit_of bit))) (holding None) (holding None) (knowing None None)
     claim_lost index bit range clear knows =
         let op = And (place_of env.geometry (NodeMap index)) (bit_not w64 (bit_of bit)) in
         let word = old_of words op in
@@ -239,8 +278,10 @@ module _ (env : Env) (mix : ℕ → ℕ → ℕ → ℕ) (c : ℕ) (h : Holding)
           means = record {
             node = tt;
             table = knows.means.table;
-            bucket = BucketMeans-own env mix c M M' G G (members_used env mix M G whole) (λ j holds. refl) (λ j m h i. refl)
-                (chains_stay env mix c M M' G (NodeMap index) (bit_and word (bit_not w64 (bit_of bit))) whole write (λ m used e. cc))
+            bucket = BucketMeans-own env mix c M M' G G (members_used env mix M G whole)
+                (λ j holds. refl) (λ j m h i. refl)
+                (chains_stay env mix c M M' G (NodeMap index) (bit_and word (bit_not w64 (bit_of bit)))
+                whole write (λ m used e. cc))
                 (λ m l used. write.others (Node m KeyWord) l (λ e. cc))
                 (λ m l used. write.others (Node m OwnerWord) l (λ e. cc)) (λ m. refl) bucket
                 (λ x has. let none = knows.only.nodes x has.mine in absurd (cc)) knows.means.bucket;
@@ -249,7 +290,8 @@ module _ (env : Env) (mix : ℕ → ℕ → ℕ → ℕ) (c : ℕ) (h : Holding)
 
     -- what an operation of the taking leads to
     abbrev pub TakeMoved : Op → TakeNodeModel × Next (Option ℕ) → Type 0
-    TakeMoved op r = Moved env mix c words G op (holding None) (holding (taken_by r)) (knowing (taken_by r) (known_taken r))
+    TakeMoved op r = Moved env mix c words G op (holding None) (holding (taken_by r))
+        (knowing (taken_by r) (known_taken r))
 
     -- of a taking in this table, state by state
     take_step_at : (at : TakeNodeAt) → IsTakeAtIn env.geometry at → knowing None None M G
@@ -258,41 +300,49 @@ module _ (env : Env) (mix : ℕ → ℕ → ℕ → ℕ) (c : ℕ) (h : Holding)
     take_step_at (takes.MapWord index) range knows =
         let take : TakeNodeModel = record { geometry = env.geometry; at = takes.MapWord index } in
         let op = take_node_plan take in
-        let step = loads env mix c words G op (holding None) (holding None) (knowing None None) whole refl refl knows in
+        let step = loads env mix c words G op (holding None) (holding None) (knowing None None) whole
+        refl refl knows in
         claim_so take (TakeMoved op) (λ at. step) step index (old_of words op)
     take_step_at (takes.Claim index bit) range knows =
         let take : TakeNodeModel = record { geometry = env.geometry; at = takes.Claim index bit } in
         let op = take_node_plan take in
         let word = old_of words op in
-        by_test (λ t. (bit_at word bit == 1) ≡ t → TakeMoved op (cond t (take, Done (Some (64 * index + bit))) (claim_among take index (bit_and word (bits_above bit))))) (bit_at word bit == 1)
+        by_test (λ t. (bit_at word bit == 1) ≡ t → TakeMoved op
+        (cond t (take, Done (Some (64 * index + bit)))
+        (claim_among take index (bit_and word (bits_above bit))))) (bit_at word bit == 1)
         (λ t e. claim_taken index bit range (eqb-true (bit_at word bit) 1 t) knows)
         (λ t e.
-        let clear : bit_at word bit ≡ 0 = (let less = bit_at-lt word bit in let ne = eqb-false (bit_at word bit) 1 t in omega (arith, less, ne)) in
+        let clear : bit_at word bit ≡ 0 = (let less = bit_at-lt word bit in let ne = eqb-false
+        (bit_at word bit) 1 t in omega (arith, less, ne)) in
         let step = claim_lost index bit range clear knows in
         claim_so take (TakeMoved op) (λ at. step) step index (bit_and word (bits_above bit))) refl
 
     pub take_step : (take : TakeNodeModel) → IsTakeIn env.geometry take → knowing None None M G
         → TakeMoved (take_node_plan take) (take_node_after take (old_of words (take_node_plan take)))
     take_step take is knows =
-        subst (λ g. let here : TakeNodeModel = record { geometry = g; at = take.at } in TakeMoved (take_node_plan here) (take_node_after here (old_of words (take_node_plan here))))
+        subst (λ g. let here : TakeNodeModel = record { geometry = g; at = take.at } in TakeMoved
+        (take_node_plan here) (take_node_after here (old_of words (take_node_plan here))))
         (sym is.geometry_same) (take_step_at take.at is.at_in knows)
 
     -- ---- a node is given back
 
     pub give_step : IsPlain env mix bucket → (known : KnownNode) → knowing (Some known.node) (Some known) M G
-        → Moved env mix c words G (Or (place_of env.geometry (NodeMap (known.node / 64))) (bit_of (known.node % 64))) (holding (Some known.node)) (holding None) (knowing None None)
+        → Moved env mix c words G (Or (place_of env.geometry (NodeMap (known.node / 64)))
+        (bit_of (known.node % 64))) (holding (Some known.node)) (holding None) (knowing None None)
     give_step plain known knows =
         let n = known.node in
         let op = Or (place_of env.geometry (NodeMap (n / 64))) (bit_of (n % 64)) in
         let M' = mem env mix (applied words op) in
         let has = knows.means.node.has in
         let write = is_write env.geometry words (NodeMap (n / 64)) op all (omega (arith, has.among)) refl in
-        moved env mix c words G op (holding (Some n)) (holding None) (knowing None None) (GivesNode n) whole knows.means.node.has.mine tt
+        moved env mix c words G op (holding (Some n)) (holding None) (knowing None None) (GivesNode n)
+        whole knows.means.node.has.mine tt
         (give_node env mix c n M M' G whole has write)
         (record { giving = refl; has = refl; holds = refl })
         (record {
           only = record {
-            nodes = put-all (λ m o. o ≡ Held c → ◌≡◌ {A = Option ℕ} None (Some m)) G.node n Free (λ e. absurd (cc))
+            nodes = put-all (λ m o. o ≡ Held c → ◌≡◌ {A = Option ℕ} None (Some m)) G.node n Free
+                (λ e. absurd (cc))
                 (λ m ne held. let q = knows.only.nodes m held in absurd (ne (cc)));
             locks = knows.only.locks;
             raising = knows.only.raising;
@@ -300,11 +350,15 @@ module _ (env : Env) (mix : ℕ → ℕ → ℕ → ℕ) (c : ℕ) (h : Holding)
           means = record {
             node = tt;
             table = tables-reowned (put G.node n Free) knows.means.table;
-            bucket = BucketMeans-stay env mix c M M' G (with_owner G n Free) (members_used env mix M G whole) (λ j holds. refl) (λ j m h i. refl)
-                (chains_stay env mix c M M' G (NodeMap (n / 64)) (bit_or (M (NodeMap (n / 64))) (bit_of (n % 64))) whole write (λ m used e. cc))
+            bucket = BucketMeans-stay env mix c M M' G (with_owner G n Free)
+                (members_used env mix M G whole) (λ j holds. refl) (λ j m h i. refl)
+                (chains_stay env mix c M M' G (NodeMap (n / 64))
+                (bit_or (M (NodeMap (n / 64))) (bit_of (n % 64))) whole write (λ m used e. cc))
                 (λ m l used. write.others (Node m KeyWord) l (λ e. cc))
                 (λ m l used. write.others (Node m OwnerWord) l (λ e. cc))
-                (put-all (λ m o. is_taken_by c o ≡ is_taken_by c (G.node m)) G.node n Free (sym (ap (is_taken_by c) knows.means.node.has.mine)) (λ m ne. refl)) bucket plain knows.means.bucket;
+                (put-all (λ m o. is_taken_by c o ≡ is_taken_by c (G.node m)) G.node n Free
+                (sym (ap (is_taken_by c) knows.means.node.has.mine)) (λ m ne. refl)) bucket plain
+                knows.means.bucket;
           };
         })
 
@@ -312,10 +366,12 @@ module _ (env : Env) (mix : ℕ → ℕ → ℕ → ℕ) (c : ℕ) (h : Holding)
 
     abbrev pub NewMoved : ℕ → ℕ → Op → NewNodeAt × Next (Option ℕ) → Type 0
     NewMoved key owner op r =
-        Moved env mix c words G op (holding None) (holding (made_by r)) (knowing (made_by r) (known_made key owner r))
+        Moved env mix c words G op (holding None) (holding (made_by r))
+        (knowing (made_by r) (known_made key owner r))
 
     taken_next : (key owner : ℕ) (op : Op) (r : TakeNodeModel × Next (Option ℕ)) → TakeMoved op r
-        → Moved env mix c words G op (holding None) (holding (made_by (node_taken r.0 r.1))) (knowing (made_by (node_taken r.0 r.1)) (known_made key owner (node_taken r.0 r.1)))
+        → Moved env mix c words G op (holding None) (holding (made_by (node_taken r.0 r.1)))
+        (knowing (made_by (node_taken r.0 r.1)) (known_made key owner (node_taken r.0 r.1)))
     taken_next key owner op (take, Go) step = step
     taken_next key owner op (take, Done None) step = step
     taken_next key owner op (take, Done (Some node)) step = step
@@ -324,19 +380,32 @@ module _ (env : Env) (mix : ℕ → ℕ → ℕ → ℕ) (c : ℕ) (h : Holding)
     abbrev pub NewStep : NewNodeModel → Type 0
     NewStep m =
         let r = new_node_after m (old_of words (new_node_plan m)) in
-        Moved env mix c words G (new_node_plan m) (holding (node_of_new m.at)) (holding (made_by (r.0.at, r.1))) (knowing (made_by (r.0.at, r.1)) (known_made m.key m.owner (r.0.at, r.1)))
+        Moved env mix c words G (new_node_plan m) (holding (node_of_new m.at))
+        (holding (made_by (r.0.at, r.1))) (knowing (made_by (r.0.at, r.1))
+        (known_made m.key m.owner (r.0.at, r.1)))
 
-    new_step_at : IsPlain env mix bucket → (key owner : ℕ) (at : NewNodeAt) → IsNewNodeIn env.geometry (record { geometry = env.geometry; key = key; owner = owner; at = at })
-        → knowing (node_of_new at) (known_at key owner at) M G → NewStep (record { geometry = env.geometry; key = key; owner = owner; at = at })
+    new_step_at : IsPlain env mix bucket → (key owner : ℕ) (at : NewNodeAt)
+        → IsNewNodeIn env.geometry (record { geometry = env.geometry; key = key; owner = owner; at = at })
+        → knowing (node_of_new at) (known_at key owner at) M G
+        → NewStep (record { geometry = env.geometry; key = key; owner = owner; at = at })
     new_step_at plain key owner (news.Taking take) is knows =
-        taken_next key owner (take_node_plan take) (take_node_after take (old_of words (take_node_plan take))) (take_step take is.at_in knows)
+        taken_next key owner (take_node_plan take) (take_node_after take
+        (old_of words (take_node_plan take))) (take_step take is.at_in knows)
     new_step_at plain key owner (news.Key node) is knows = fill_step plain (bare node) KeyWord key knows
-    new_step_at plain key owner (news.Owner node) is knows = fill_step plain (with_word (bare node) KeyWord key) OwnerWord owner knows
+    new_step_at plain key owner (news.Owner node) is knows = fill_step plain
+        (with_word (bare node) KeyWord key) OwnerWord owner knows
     new_step_at plain key owner (news.ListLink node) is knows =
         fill_step plain (with_word (with_word (bare node) KeyWord key) OwnerWord owner) ListLink 0 knows
 
-    pub new_node_step : IsPlain env mix bucket → (m : NewNodeModel) → IsNewNodeIn env.geometry m → knowing (node_of_new m.at) (known_at m.key m.owner m.at) M G
+    pub new_node_step : IsPlain env mix bucket → (m : NewNodeModel) → IsNewNodeIn env.geometry m
+        → knowing (node_of_new m.at) (known_at m.key m.owner m.at) M G
         → NewStep m
     new_node_step plain m is knows =
-        subst (λ g. NewStep (record { geometry = g; key = m.key; owner = m.owner; at = m.at })) (sym is.geometry_same)
-        (new_step_at plain m.key m.owner m.at (record { geometry_same = refl; key_in = is.key_in; owner_in = is.owner_in; at_in = is.at_in }) knows)
+        subst (λ g. NewStep (record { geometry = g; key = m.key; owner = m.owner; at = m.at }))
+        (sym is.geometry_same)
+        (new_step_at plain m.key m.owner m.at (record {
+          geometry_same = refl;
+          key_in = is.key_in;
+          owner_in = is.owner_in;
+          at_in = is.at_in;
+        }) knows)

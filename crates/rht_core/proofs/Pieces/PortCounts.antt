@@ -19,9 +19,11 @@ module _ (env : Env) (mix : ℕ → ℕ → ℕ → ℕ) (c : ℕ) (h : Holding)
   abbrev pub knowing : Bool → Memory → Ghost → Type 0
   knowing raised M G = Knowing env mix c (holding raised) known M G
 
-  pub raise_step : (words : List ℕ) (G : Ghost) → length words ≡ words_in env.geometry → Whole env mix (mem env mix words) G
+  pub raise_step : (words : List ℕ) (G : Ghost) → length words ≡ words_in env.geometry
+      → Whole env mix (mem env mix words) G
       → c < env.geometry.callers → knowing false (mem env mix words) G
-      → Moved env mix c words G (Add (place_of env.geometry PortCount) 1) (holding false) (holding true) (knowing true)
+      → Moved env mix c words G (Add (place_of env.geometry PortCount) 1) (holding false) (holding true)
+      (knowing true)
   raise_step words G all whole low knows =
       let op = Add (place_of env.geometry PortCount) 1 in
       let M = mem env mix words in
@@ -33,14 +35,28 @@ module _ (env : Env) (mix : ℕ → ℕ → ℕ → ℕ) (c : ℕ) (h : Holding)
       (count_up env mix c M M' G whole low knows.only.raising write)
       (record { adds = refl; low = refl; holds = refl })
       (record {
-        only = record { nodes = knows.only.nodes; locks = knows.only.locks; raising = put-same G.raised c true };
+        only = record {
+          nodes = knows.only.nodes;
+          locks = knows.only.locks;
+          raising = put-same G.raised c
+              true;
+        };
         means = record {
-          node = NodeMeans-stay env mix c M M' G G' (λ n has. has.mine) (λ n has w. write.others (Node n w) has.among (λ e. cc)) known.node knows.means.node;
-          table = TableMeans-stay env mix c M M' G G' (tables_stay env mix M G G' whole (same_tables env mix G G.bucket G.node G.bound G'.raised)) known.table knows.means.table;
-          bucket = BucketMeans-own env mix c M M' G G' (members_used env mix M G whole) (λ j holds. refl) (λ j n h i. refl)
-              (chains_stay env mix c M M' G PortCount ((M PortCount + 1) % 2 ^ 64) whole write (λ n used e. cc))
+          node = NodeMeans-stay env mix c M M' G G' (λ n has. has.mine)
+              (λ n has w. write.others (Node n w) has.among (λ e. cc)) known.node knows.means.node;
+          table = TableMeans-stay env mix c M M' G G'
+              (tables_stay env mix M G G' whole (same_tables env mix G G.bucket G.node G.bound
+              G'.raised)) known.table knows.means.table;
+          bucket = BucketMeans-own env mix c M M' G G' (members_used env mix M G whole) (λ j holds. refl)
+              (λ j n h i. refl)
+              (chains_stay env mix c M M' G PortCount ((M PortCount + 1) % 2 ^ 64) whole write
+              (λ n used e. cc))
               (λ n l used. write.others (Node n KeyWord) l (λ e. cc))
               (λ n l used. write.others (Node n OwnerWord) l (λ e. cc)) (λ n. refl) known.bucket
-              (λ n has. (record { mine = has.mine; among = has.among }, write.others (Node n ChainLink) has.among (λ e. cc))) knows.means.bucket;
+              (λ n has. (
+                record { mine = has.mine; among = has.among },
+                write.others (Node n ChainLink)
+                    has.among (λ e. cc),
+              )) knows.means.bucket;
         };
       })

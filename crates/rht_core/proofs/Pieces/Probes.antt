@@ -74,30 +74,46 @@ abbrev pub probed_by : ProbeAt × Next Probed → Option ℕ
 probed_by (at, Go) = lock_of_probe at
 probed_by (at, Done probed) = Some probed.bucket.place
 
-module _ (env : Env) (mix : ℕ → ℕ → ℕ → ℕ) (c : ℕ) (h : Holding) (node : Option KnownNode) (port slot : ℕ) (shape : Option ℕ) where
+module _ (env : Env) (mix : ℕ → ℕ → ℕ → ℕ) (c : ℕ) (h : Holding) (node : Option KnownNode)
+    (port slot : ℕ) (shape : Option ℕ) where
   -- what the call holds with this lock, and what the caller knows with this known of the bucket of the port at this place
   abbrev pub holding : Option ℕ → Holding
   holding lock = record h { lock = lock }
 
   abbrev pub knowing : Option ℕ → ℕ → KnownBucket → Memory → Ghost → Type 0
   knowing lock place bucket M G =
-      Knowing env mix c (holding lock) (record { node = node; table = AtHome port slot shape place; bucket = bucket }) M G
+      Knowing env mix c (holding lock) (record {
+        node = node;
+        table = AtHome port slot shape place;
+        bucket = bucket;
+      }) M G
 
   -- what is known where more is said of the bucket
-  known_more : (lock : Option ℕ) (place : ℕ) (bucket more : KnownBucket) (M : Memory) (G : Ghost) → knowing lock place bucket M G
+  known_more : (lock : Option ℕ) (place : ℕ) (bucket more : KnownBucket) (M : Memory) (G : Ghost)
+      → knowing lock place bucket M G
       → BucketMeans env mix c M G more → knowing lock place more M G
   known_more lock place bucket more M G knows means =
-      record { only = knows.only; means = record { node = knows.means.node; table = knows.means.table; bucket = means } }
+      record {
+        only = knows.only;
+        means = record {
+          node = knows.means.node;
+          table = knows.means.table;
+          bucket = means;
+        };
+      }
 
   -- ---- the walk
 
   abbrev pub WalkKnows : ℕ → ℕ → LockedWalkModel × Next Seen → Memory → Ghost → Type 0
-  WalkKnows place word (walk, Go) M G = knowing (Some place) place (known_walk place word port walk.before walk.at) M G × (walk.key ≡ port)
-  WalkKnows place word (walk, Done seen) M G = knowing (Some place) place (known_seen place word port seen) M G
+  WalkKnows place word (walk, Go) M G = knowing (Some place) place
+      (known_walk place word port walk.before walk.at) M G × (walk.key ≡ port)
+  WalkKnows place word (walk, Done seen) M G = knowing (Some place) place
+      (known_seen place word port seen) M G
 
   abbrev pub StartKnows : ℕ → ℕ → Start LockedWalkModel Seen → Memory → Ghost → Type 0
   StartKnows place word (starts.Running walk) M G = WalkKnows place word (walk, Go) M G
-  StartKnows place word (starts.Done seen) M G = knowing (Some place) place (known_seen place word port seen) M G
+  StartKnows place word (starts.Done seen) M G = knowing (Some place) place
+      (known_seen place word port seen) M G
 
   module _ (M : Memory) (G : Ghost) (whole : Whole env mix M G) (place word : ℕ) where
     abbrev j : ℕ
@@ -107,9 +123,11 @@ module _ (env : Env) (mix : ℕ → ℕ → ℕ → ℕ) (c : ℕ) (h : Holding)
     marker_ends : (link : ℕ) → link ≡ marker_of place → node_of env.geometry.nodes link ≡ None
     marker_ends link is = rw is (links_tell_apart.marker_names_no_node env.geometry.nodes place)
 
-    link_names : (link n : ℕ) → link ≡ link_of n → In n (G.bucket j).nodes → node_of env.geometry.nodes link ≡ Some n
+    link_names : (link n : ℕ) → link ≡ link_of n → In n (G.bucket j).nodes
+        → node_of env.geometry.nodes link ≡ Some n
     link_names link n is i =
-        rw is (links_tell_apart.link_names env.geometry.nodes n (whole.owned.first_at n j (whole.owned.member j n i)).among)
+        rw is (links_tell_apart.link_names env.geometry.nodes n
+        (whole.owned.first_at n j (whole.owned.member j n i)).among)
 
     -- the chain of a bucket that the caller has locked begins behind the word that it found
     chain_here : HoldsLock env mix c G place word
@@ -118,10 +136,12 @@ module _ (env : Env) (mix : ℕ → ℕ → ℕ → ℕ) (c : ℕ) (h : Holding)
         let at : place_at env mix j ≡ place = place_at-index env mix place lock.bucket in
         let segment = (whole.buckets j (index-within env mix place lock.bucket)).chained.segment in
         subst (λ w. IsSegment (chain_of M) (head_of place w) (G.bucket j).nodes (marker_of place)) lock.plain
-        (subst (λ p. IsSegment (chain_of M) (head_of p (G.bucket j).plain) (G.bucket j).nodes (marker_of p)) at segment)
+        (subst (λ p. IsSegment (chain_of M) (head_of p (G.bucket j).plain) (G.bucket j).nodes
+        (marker_of p)) at segment)
 
     -- the walk of a bucket that has just been locked
-    pub walk_start : knowing (Some place) place (Locks place word) M G → StartKnows place word (locked_walk_new env.geometry place word port) M G
+    pub walk_start : knowing (Some place) place (Locks place word) M G
+        → StartKnows place word (locked_walk_new env.geometry place word port) M G
     walk_start knows = go (G.bucket j).nodes refl (chain_here lock)
       where
         lock : HoldsLock env mix c G place word
@@ -130,21 +150,35 @@ module _ (env : Env) (mix : ℕ → ℕ → ℕ → ℕ) (c : ℕ) (h : Holding)
         first : ℕ
         first = head_of place word
 
-        go : (nodes : List ℕ) → (G.bucket j).nodes ≡ nodes → IsSegment (chain_of M) first (G.bucket j).nodes (marker_of place)
+        go : (nodes : List ℕ) → (G.bucket j).nodes ≡ nodes
+            → IsSegment (chain_of M) first (G.bucket j).nodes (marker_of place)
             → StartKnows place word (walk_from env.geometry port first (node_of env.geometry.nodes first)) M G
         go [] e s =
-            let stop : first ≡ marker_of place = subst (λ l. IsSegment (chain_of M) first l (marker_of place)) e s in
+            let stop : first ≡ marker_of place = subst
+            (λ l. IsSegment (chain_of M) first l (marker_of place)) e s in
             rw (marker_ends first stop)
-            (known_more (Some place) place (Locks place word) (Missed place word port) M G knows (record { lock = lock; none = rw e tt }))
+            (known_more (Some place) place (Locks place word) (Missed place word port) M G knows
+            (record { lock = lock; none = rw e tt }))
         go (m ∷ nodes) e s =
             let split = subst (λ l. IsSegment (chain_of M) first l (marker_of place)) e s in
             rw (link_names first m split.0 (rw e (inl refl))) (
               known_more (Some place) place (Locks place word) (Stands place word port m None) M G knows
-                  (record { lock = lock; stands = record { front = []; rear = nodes; split = e; passed = tt; last = refl } }),
+                  (record {
+                    lock = lock;
+                    stands = record {
+                      front = [];
+                      rear = nodes;
+                      split = e;
+                      passed =
+                          tt;
+                      last = refl;
+                    };
+                  }),
               refl,
             )
 
-    NoKey-more : (nodes : List ℕ) (n : ℕ) → NoKey M port nodes → key_of M n ≢ port → NoKey M port (nodes ++ n ∷ [])
+    NoKey-more : (nodes : List ℕ) (n : ℕ) → NoKey M port nodes → key_of M n ≢ port
+        → NoKey M port (nodes ++ n ∷ [])
     NoKey-more [] n none differs = (differs, tt)
     NoKey-more (other ∷ nodes) n none differs = (none.0, NoKey-more nodes n none.1 differs)
 
@@ -156,7 +190,8 @@ module _ (env : Env) (mix : ℕ → ℕ → ℕ → ℕ) (c : ℕ) (h : Holding)
     -- behind a node with another key the walk stands at the next one, or has missed the port
     walk_on : (n : ℕ) (walk : LockedWalkModel) → walk.geometry ≡ env.geometry → walk.key ≡ port
         → knowing (Some place) place (Differs place word port n walk.before) M G
-        → WalkKnows place word (followed walk n (chain_of M n) (node_of walk.geometry.nodes (chain_of M n))) M G
+        → WalkKnows place word (followed walk n (chain_of M n)
+        (node_of walk.geometry.nodes (chain_of M n))) M G
     walk_on n walk geometry key knows = go stands.rear stands.split (rw stands.split at chain_here lock)
       where
         lock : HoldsLock env mix c G place word
@@ -173,31 +208,37 @@ module _ (env : Env) (mix : ℕ → ℕ → ℕ → ℕ) (c : ℕ) (h : Holding)
 
         go : (rear : List ℕ) → (G.bucket j).nodes ≡ front ++ n ∷ rear
             → IsSegment (chain_of M) (head_of place word) (front ++ n ∷ stands.rear) (marker_of place)
-            → WalkKnows place word (followed walk n (chain_of M n) (node_of walk.geometry.nodes (chain_of M n))) M G
+            → WalkKnows place word (followed walk n (chain_of M n)
+            (node_of walk.geometry.nodes (chain_of M n))) M G
         go [] e s0 =
             let s = rw e at chain_here lock in
             let cut = IsSegment-cut (chain_of M) front n [] (head_of place word) (marker_of place) s in
             let ends : node_of walk.geometry.nodes (chain_of M n) ≡ None =
             rw geometry (marker_ends (chain_of M n) cut.1) in
-            rw ends (known_more (Some place) place (Differs place word port n walk.before) (Missed place word port) M G knows
+            rw ends (known_more (Some place) place (Differs place word port n walk.before)
+            (Missed place word port) M G knows
             (record { lock = lock; none = rw e (NoKey-more front n stands.passed differs) }))
         go (next ∷ rear) e s0 =
             let s = rw e at chain_here lock in
-            let cut = IsSegment-cut (chain_of M) front n (next ∷ rear) (head_of place word) (marker_of place) s in
-            let more : (G.bucket j).nodes ≡ (front ++ n ∷ []) ++ next ∷ rear = e ∙ sym (append_snoc front n (next ∷ rear)) in
+            let cut = IsSegment-cut (chain_of M) front n (next ∷ rear) (head_of place word)
+            (marker_of place) s in
+            let more : (G.bucket j).nodes ≡ (front ++ n ∷ []) ++ next ∷ rear = e
+            ∙ sym (append_snoc front n (next ∷ rear)) in
             let names : node_of walk.geometry.nodes (chain_of M n) ≡ Some next
-            = rw geometry (link_names (chain_of M n) next cut.1.0 (rw more (in-middle next (front ++ n ∷ []) rear))) in
+            = rw geometry (link_names (chain_of M n) next cut.1.0
+            (rw more (in-middle next (front ++ n ∷ []) rear))) in
             rw names (
-              known_more (Some place) place (Differs place word port n walk.before) (Stands place word port next (Some n)) M G knows (record {
-                lock = lock;
-                stands = record {
-                  front = front ++ n ∷ [];
-                  rear = rear;
-                  split = more;
-                  passed = NoKey-more front n stands.passed differs;
-                  last = last_of-more front n;
-                };
-              }),
+              known_more (Some place) place (Differs place word port n walk.before)
+                  (Stands place word port next (Some n)) M G knows (record {
+                    lock = lock;
+                    stands = record {
+                      front = front ++ n ∷ [];
+                      rear = rear;
+                      split = more;
+                      passed = NoKey-more front n stands.passed differs;
+                      last = last_of-more front n;
+                    };
+                  }),
               key,
             )
 
@@ -215,38 +256,76 @@ module _ (env : Env) (mix : ℕ → ℕ → ℕ → ℕ) (c : ℕ) (h : Holding)
     -- state by state
     walk_step_at : (place word : ℕ) (before : Option ℕ) (count : ℕ) (at : LockedWalkAt)
         → knowing (Some place) place (known_walk place word port before at) M G
-        → let walk : LockedWalkModel = record { geometry = env.geometry; key = port; before = before; length = count; at = at } in
-        WalkMoved place word (locked_walk_plan walk) (locked_walk_after walk (old_of words (locked_walk_plan walk)))
+        → let walk : LockedWalkModel = record {
+          geometry = env.geometry;
+          key = port;
+          before = before;
+          length = count;
+          at = at;
+        } in
+        WalkMoved place word (locked_walk_plan walk) (locked_walk_after walk
+        (old_of words (locked_walk_plan walk)))
     walk_step_at place word before count (walks.Key n) knows =
         let walk : LockedWalkModel =
         record { geometry = env.geometry; key = port; before = before; length = count; at = walks.Key n } in
         let op = locked_walk_plan walk in
         let key = old_of words op in
         let standing = knows.means.bucket in
-        by_test (λ t. (key == port) ≡ t → WalkMoved place word op (cond t (counted walk, Done (found_at (counted walk) n)) (record (counted walk) { at = walks.ChainLink n }, Go))) (key == port)
-        (λ t e. loads env mix c words G op (holding (Some place)) (holding (Some place)) (WalkKnows place word (counted walk, Done (found_at (counted walk) n))) whole refl refl
-        (known_more (Some place) place (Stands place word port n before) (Found place word port n before) M G knows
+        by_test (λ t. (key == port) ≡ t → WalkMoved place word op
+        (cond t (counted walk, Done (found_at (counted walk) n))
+        (record (counted walk) { at = walks.ChainLink n }, Go))) (key == port)
+        (λ t e. loads env mix c words G op (holding (Some place)) (holding (Some place))
+        (WalkKnows place word (counted walk, Done (found_at (counted walk) n))) whole refl refl
+        (known_more (Some place) place (Stands place word port n before) (Found place word port n before)
+        M G knows
         (record { standing = standing; key_is = eqb-true key port t })))
-        (λ t e. loads env mix c words G op (holding (Some place)) (holding (Some place)) (WalkKnows place word (record (counted walk) { at = walks.ChainLink n }, Go)) whole refl refl (
-          known_more (Some place) place (Stands place word port n before) (Differs place word port n before) M G knows
+        (λ t e. loads env mix c words G op (holding (Some place)) (holding (Some place))
+        (WalkKnows place word (record (counted walk) { at = walks.ChainLink n }, Go)) whole refl refl (
+          known_more (Some place) place (Stands place word port n before)
+              (Differs place word port n before) M G knows
               (record { standing = standing; differs = eqb-false key port t }),
           refl,
         )) refl
     walk_step_at place word before count (walks.ChainLink n) knows =
         let walk : LockedWalkModel =
-        record { geometry = env.geometry; key = port; before = before; length = count; at = walks.ChainLink n } in
+        record {
+          geometry = env.geometry;
+          key = port;
+          before = before;
+          length = count;
+          at =
+              walks.ChainLink n;
+        } in
         let op = locked_walk_plan walk in
-        loads env mix c words G op (holding (Some place)) (holding (Some place)) (WalkKnows place word (locked_walk_after walk (old_of words op))) whole refl refl
+        loads env mix c words G op (holding (Some place)) (holding (Some place))
+        (WalkKnows place word (locked_walk_after walk (old_of words op))) whole refl refl
         (walk_on M G whole place word n walk refl refl knows)
 
     pub walk_step : (place word : ℕ) (walk : LockedWalkModel) → walk.geometry ≡ env.geometry → walk.key ≡ port
         → knowing (Some place) place (known_walk place word port walk.before walk.at) M G
-        → WalkMoved place word (locked_walk_plan walk) (locked_walk_after walk (old_of words (locked_walk_plan walk)))
+        → WalkMoved place word (locked_walk_plan walk)
+        (locked_walk_after walk (old_of words (locked_walk_plan walk)))
     walk_step place word walk geometry key knows =
-        subst (λ k. let here : LockedWalkModel = record { geometry = walk.geometry; key = k; before = walk.before; length = walk.length; at = walk.at } in
-        WalkMoved place word (locked_walk_plan here) (locked_walk_after here (old_of words (locked_walk_plan here)))) (sym key)
-        (subst (λ g. let here : LockedWalkModel = record { geometry = g; key = port; before = walk.before; length = walk.length; at = walk.at } in
-        WalkMoved place word (locked_walk_plan here) (locked_walk_after here (old_of words (locked_walk_plan here)))) (sym geometry)
+        subst (λ k. let here : LockedWalkModel = record {
+          geometry = walk.geometry;
+          key = k;
+          before =
+              walk.before;
+          length = walk.length;
+          at = walk.at;
+        } in
+        WalkMoved place word (locked_walk_plan here) (locked_walk_after here
+        (old_of words (locked_walk_plan here)))) (sym key)
+        (subst (λ g. let here : LockedWalkModel = record {
+          geometry = g;
+          key = port;
+          before =
+              walk.before;
+          length = walk.length;
+          at = walk.at;
+        } in
+        WalkMoved place word (locked_walk_plan here) (locked_walk_after here
+        (old_of words (locked_walk_plan here)))) (sym geometry)
         (walk_step_at place word walk.before walk.length walk.at knows))
 
     -- ---- the lock
@@ -259,9 +338,11 @@ module _ (env : Env) (mix : ℕ → ℕ → ℕ → ℕ) (c : ℕ) (h : Holding)
     LockMoved op r = Moved env mix c words G op (holding None) (holding (locked_by r)) (LockKnows r)
 
     -- the exchange that finds the word that it looks for takes the lock
-    lock_taken_step : (place found : ℕ) → found % 2 ≡ 0 → old_of words (Exchange place found (found + 1)) ≡ found
+    lock_taken_step : (place found : ℕ) → found % 2 ≡ 0
+        → old_of words (Exchange place found (found + 1)) ≡ found
         → knowing None place Unlocked M G
-        → LockMoved (Exchange place found (found + 1)) (record { place = place; at = locks.Exchange found }, Done found)
+        → LockMoved (Exchange place found (found + 1))
+        (record { place = place; at = locks.Exchange found }, Done found)
     lock_taken_step place found even same knows =
         let op = Exchange place found (found + 1) in
         let at = knows.means.table in
@@ -272,9 +353,12 @@ module _ (env : Env) (mix : ℕ → ℕ → ℕ → ℕ) (c : ℕ) (h : Holding)
         let write : IsWrite env.geometry M M' (PageWord j) (found + 1)
         = subst (λ v. IsWrite env.geometry M M' (PageWord j) v) (exchanged here)
         (is_write env.geometry words (PageWord j) op all (index-within env mix place at.bucket) (sym is)) in
-        let taken = take_lock env mix c j found M M' G whole (index-within env mix place at.bucket) here even write in
+        let taken = take_lock env mix c j found M M' G whole (index-within env mix place at.bucket) here
+        even write in
         let b = record (G.bucket j) { holder = Some c } in
-        moved env mix c words G op (holding None) (holding (Some place)) (LockKnows (record { place = place; at = locks.Exchange found }, Done found)) (TakesLock j) whole tt tt taken.0
+        moved env mix c words G op (holding None) (holding (Some place))
+        (LockKnows (record { place = place; at = locks.Exchange found }, Done found)) (TakesLock j)
+        whole tt tt taken.0
         (record {
           on = sym is;
           even = rw same even;
@@ -282,17 +366,25 @@ module _ (env : Env) (mix : ℕ → ℕ → ℕ → ℕ) (c : ℕ) (h : Holding)
           none = refl;
           holds = ap (λ p. holding (Some p)) (sym is);
         })
-        (with-holder env mix c h node (AtHome port slot shape place) words G all whole None place Unlocked (Some c) op (found + 1) knows write (Some place) (Locks place found)
-        (put-all (λ i bucket. bucket.holder ≡ Some c → (Some place ≡ Some (place_at env mix i)) ⊎ (h.second ≡ Some (place_at env mix i))) G.bucket j b
+        (with-holder env mix c h node (AtHome port slot shape place) words G all whole None place
+        Unlocked (Some c) op (found + 1) knows write (Some place) (Locks place found)
+        (put-all (λ i bucket. bucket.holder ≡ Some c → (Some place ≡ Some (place_at env mix i))
+        ⊎ (h.second ≡ Some (place_at env mix i))) G.bucket j b
         (λ holds. inl (ap Some (sym is)))
         (λ i ne holds. elim (knows.only.locks i holds) [ inl none ↦ absurd (cc) | inr second ↦ inr second ]))
-        (record { bucket = at.bucket; holder = ap (λ x. x.holder) (put-same G.bucket j b); plain = ap (λ x. x.plain) (put-same G.bucket j b) ∙ taken.1 }))
+        (record {
+          bucket = at.bucket;
+          holder = ap (λ x. x.holder) (put-same G.bucket j b);
+          plain = ap
+              (λ x. x.plain) (put-same G.bucket j b) ∙ taken.1;
+        }))
       where
         exchanged_word : word_after found (Exchange place found (found + 1)) ≡ found + 1
         exchanged_word = rw (eq-eqb found found refl) refl
 
         exchanged : M (PageWord (word_index env mix place)) ≡ found
-            → word_after (word_at env.geometry words (PageWord (word_index env mix place))) (Exchange place found (found + 1)) ≡ found + 1
+            → word_after (word_at env.geometry words (PageWord (word_index env mix place)))
+            (Exchange place found (found + 1)) ≡ found + 1
         exchanged is = ap (λ w. word_after w (Exchange place found (found + 1))) is ∙ exchanged_word
 
     lock_step_at : (place : ℕ) (at : LockAt) → IsEven at → knowing None place Unlocked M G
@@ -300,15 +392,21 @@ module _ (env : Env) (mix : ℕ → ℕ → ℕ → ℕ) (c : ℕ) (h : Holding)
         LockMoved (lock_plan lock) (lock_after lock (old_of words (lock_plan lock)))
     lock_step_at place locks.Word even knows =
         let word = old_of words (Load place) in
-        by_test (λ t. LockMoved (Load place) (cond t (record { place = place; at = locks.Word }, Go) (record { place = place; at = locks.Exchange word }, Go))) (word % 2 == 1)
-        (λ t. loads env mix c words G (Load place) (holding None) (holding None) (LockKnows (record { place = place; at = locks.Word }, Go)) whole refl refl knows)
-        (λ t. loads env mix c words G (Load place) (holding None) (holding None) (LockKnows (record { place = place; at = locks.Exchange word }, Go)) whole refl refl knows)
+        by_test (λ t. LockMoved (Load place) (cond t (record { place = place; at = locks.Word }, Go)
+        (record { place = place; at = locks.Exchange word }, Go))) (word % 2 == 1)
+        (λ t. loads env mix c words G (Load place) (holding None) (holding None)
+        (LockKnows (record { place = place; at = locks.Word }, Go)) whole refl refl knows)
+        (λ t. loads env mix c words G (Load place) (holding None) (holding None)
+        (LockKnows (record { place = place; at = locks.Exchange word }, Go)) whole refl refl knows)
     lock_step_at place (locks.Exchange found) even knows =
         let op = Exchange place found (found + 1) in
         let word = old_of words op in
-        by_test (λ t. (word == found) ≡ t → LockMoved op (cond t (record { place = place; at = locks.Exchange found }, Done found) (record { place = place; at = locks.Word }, Go))) (word == found)
+        by_test (λ t. (word == found) ≡ t → LockMoved op
+        (cond t (record { place = place; at = locks.Exchange found }, Done found)
+        (record { place = place; at = locks.Word }, Go))) (word == found)
         (λ t e. lock_taken_step place found even (eqb-true word found t) knows)
-        (λ t e. loads env mix c words G op (holding None) (holding None) (LockKnows (record { place = place; at = locks.Word }, Go)) whole (rw t refl) refl knows) refl
+        (λ t e. loads env mix c words G op (holding None) (holding None)
+        (LockKnows (record { place = place; at = locks.Word }, Go)) whole (rw t refl) refl knows) refl
 
     pub lock_step : (lock : LockModel) → IsEven lock.at → knowing None lock.place Unlocked M G
         → LockMoved (lock_plan lock) (lock_after lock (old_of words (lock_plan lock)))
@@ -318,29 +416,37 @@ module _ (env : Env) (mix : ℕ → ℕ → ℕ → ℕ) (c : ℕ) (h : Holding)
 
     -- what is known once the probe goes on, and once it has ended
     abbrev pub ProbeKnows : ProbeAt × Next Probed → Memory → Ghost → Type 0
-    ProbeKnows (at, Go) M' G' = knowing (lock_of_probe at) (place_of_probe at) (known_probe port at) M' G' × IsProbeFor port at
+    ProbeKnows (at, Go) M' G' = knowing (lock_of_probe at) (place_of_probe at) (known_probe port at) M'
+        G' × IsProbeFor port at
     ProbeKnows (at, Done probed) M' G' =
-        knowing (Some probed.bucket.place) probed.bucket.place (known_seen probed.bucket.place probed.bucket.word port probed.seen) M' G'
+        knowing (Some probed.bucket.place) probed.bucket.place
+        (known_seen probed.bucket.place probed.bucket.word port probed.seen) M' G'
 
     abbrev pub ProbeMoved : Op → Option ℕ → ProbeAt × Next Probed → Type 0
     ProbeMoved op lock r = Moved env mix c words G op (holding lock) (holding (probed_by r)) (ProbeKnows r)
 
     -- the walk begins once the lock was taken
     started : (op : Op) (lock : LockModel) (word : ℕ) (start : Start LockedWalkModel Seen)
-        → Moved env mix c words G op (holding None) (holding (Some lock.place)) (StartKnows lock.place word start)
+        → Moved env mix c words G op (holding None) (holding (Some lock.place))
+        (StartKnows lock.place word start)
         → ProbeMoved op None (walk_or_seen lock (record { place = lock.place; word = word }) start)
     started op lock word (starts.Running walk) step = step
     started op lock word (starts.Done seen) step = step
 
-    lock_next : (op : Op) (r : LockModel × Next ℕ) → LockMoved op r → ProbeMoved op None (lock_taken env.geometry port r.0 r.1)
+    lock_next : (op : Op) (r : LockModel × Next ℕ) → LockMoved op r
+        → ProbeMoved op None (lock_taken env.geometry port r.0 r.1)
     lock_next op (lock, Go) step =
-        moved-map env mix c words G op (holding None) (holding None) (LockKnows (lock, Go)) (ProbeKnows (probes.Locking lock, Go)) (λ M' G' w k. (k, tt)) step
+        moved-map env mix c words G op (holding None) (holding None) (LockKnows (lock, Go))
+        (ProbeKnows (probes.Locking lock, Go)) (λ M' G' w k. (k, tt)) step
     lock_next op (lock, Done word) step =
         started op lock word (locked_walk_new env.geometry lock.place word port)
-        (moved-map env mix c words G op (holding None) (holding (Some lock.place)) (LockKnows (lock, Done word)) (StartKnows lock.place word (locked_walk_new env.geometry lock.place word port))
+        (moved-map env mix c words G op (holding None) (holding (Some lock.place))
+        (LockKnows (lock, Done word)) (StartKnows lock.place word
+        (locked_walk_new env.geometry lock.place word port))
         (λ M' G' w k. walk_start M' G' w lock.place word k) step)
 
-    walk_next : (op : Op) (bucket : Locked) (r : LockedWalkModel × Next Seen) → WalkMoved bucket.place bucket.word op r
+    walk_next : (op : Op) (bucket : Locked) (r : LockedWalkModel × Next Seen)
+        → WalkMoved bucket.place bucket.word op r
         → ProbeMoved op (Some bucket.place) (walk_taken bucket r.0 r.1)
     walk_next op bucket (walk, Go) step = step
     walk_next op bucket (walk, Done seen) step = step
@@ -355,13 +461,16 @@ module _ (env : Env) (mix : ℕ → ℕ → ℕ → ℕ) (c : ℕ) (h : Holding)
         → knowing (lock_of_probe at) (place_of_probe at) (known_probe port at) M G
         → ProbeStep (record { geometry = env.geometry; key = port; at = at })
     probe_step_at (probes.Locking lock) is for_port knows =
-        lock_next (lock_plan lock) (lock_after lock (old_of words (lock_plan lock))) (lock_step lock is.even knows)
+        lock_next (lock_plan lock) (lock_after lock (old_of words (lock_plan lock)))
+        (lock_step lock is.even knows)
     probe_step_at (probes.Walking bucket walk) is for_port knows =
-        walk_next (locked_walk_plan walk) bucket (locked_walk_after walk (old_of words (locked_walk_plan walk)))
+        walk_next (locked_walk_plan walk) bucket (locked_walk_after walk
+        (old_of words (locked_walk_plan walk)))
         (walk_step bucket.place bucket.word walk is.walk_in.geometry_same for_port knows)
 
     pub probe_step : (m : ProbeModel) → IsProbeIn env.geometry m → m.key ≡ port → IsProbeFor port m.at
         → knowing (lock_of_probe m.at) (place_of_probe m.at) (known_probe port m.at) M G → ProbeStep m
     probe_step m is key for_port knows =
         subst (λ k. ProbeStep (record { geometry = m.geometry; key = k; at = m.at })) (sym key)
-        (subst (λ g. ProbeStep (record { geometry = g; key = port; at = m.at })) (sym is.geometry_same) (probe_step_at m.at is.at_in for_port knows))
+        (subst (λ g. ProbeStep (record { geometry = g; key = port; at = m.at })) (sym is.geometry_same)
+        (probe_step_at m.at is.at_in for_port knows))

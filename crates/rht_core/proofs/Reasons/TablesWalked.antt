@@ -46,19 +46,23 @@ module _ (g : Geometry) where
   nodes_behind h = let order = parts_in_order h in omega (arith, order.page_map, order.nodes)
 
   bucket_behind : (place : ℕ) → IsBucketPlace g place → 280 ≤ place
-  bucket_behind place is = let order = parts_in_order g in omega (arith, is.0, order.page_map, order.nodes, order.pages)
+  bucket_behind place is = let order = parts_in_order g in omega
+      (arith, is.0, order.page_map, order.nodes, order.pages)
 
-  walk_loads : (did : Did) (h : Geometry) (state : LockedWalkAt) → did.op ≡ walk_plan_at h state → IsNoShapeLoad g did
+  walk_loads : (did : Did) (h : Geometry) (state : LockedWalkAt) → did.op ≡ walk_plan_at h state
+      → IsNoShapeLoad g did
   walk_loads did h (walks.Key node) is = behind_slots did _ is (omega (arith, nodes_behind h))
   walk_loads did h (walks.ChainLink node) is = behind_slots did _ is (omega (arith, nodes_behind h))
 
-  lock_loads : (did : Did) (place : ℕ) (state : LockAt) → IsBucketPlace g place → did.op ≡ lock_plan_at place state
+  lock_loads : (did : Did) (place : ℕ) (state : LockAt) → IsBucketPlace g place
+      → did.op ≡ lock_plan_at place state
       → IsNoShapeLoad g did
   lock_loads did place locks.Word there is = behind_slots did place is (bucket_behind place there)
   lock_loads did place (locks.Exchange word) there is = no_load did _ is (λ other load. cc)
 
   -- what locks a bucket and walks it
-  pub probe_loads : (did : Did) (state : ProbeAt) → IsProbeAtIn g state → did.op ≡ probe_plan_at state → IsNoShapeLoad g did
+  pub probe_loads : (did : Did) (state : ProbeAt) → IsProbeAtIn g state → did.op ≡ probe_plan_at state
+      → IsNoShapeLoad g did
   probe_loads did (probes.Locking lock) there is = lock_loads did lock.place lock.at there.place_in is
   probe_loads did (probes.Walking bucket walk) there is = walk_loads did walk.geometry walk.at is
 
@@ -70,7 +74,8 @@ module _ (g : Geometry) where
     before = walked.before;
     at = walked.at;
     behind = walked.behind ++ did ∷ [];
-    split = ap (λ l. l ++ did ∷ []) walked.split ∙ append_assoc walked.before (walked.at ∷ walked.behind) (did ∷ []);
+    split = ap (λ l. l ++ did ∷ []) walked.split ∙ append_assoc walked.before (walked.at ∷ walked.behind)
+        (did ∷ []);
     table_in = walked.table_in;
     loaded = walked.loaded;
     found = walked.found;
@@ -105,10 +110,12 @@ module _ (g : Geometry) where
   same_table mix port m locates.Shape word = refl
   same_table mix port m (locates.Seed shape) word = refl
 
-  pub locate-walked : (mix : ℕ → ℕ → ℕ → ℕ) (port : ℕ) (m : LocateModel) (state : LocateAt) (steps : List Did) (did : Did)
+  pub locate-walked : (mix : ℕ → ℕ → ℕ → ℕ) (port : ℕ) (m : LocateModel) (state : LocateAt)
+      (steps : List Did) (did : Did)
       → m.table < 8 → did.op ≡ locate_plan_at m.geometry m.table state → WalkedAt m.table state steps
       → WalkedNext m.table (locate_after_at mix port m state did.old) (steps ++ did ∷ [])
   locate-walked mix port m locates.Shape steps did below is walked = LastWalked-new m.table steps did below is
   locate-walked mix port m (locates.Seed shape) steps did below is walked =
       LastWalked-push m.table shape steps did
-      (elsewhere did (place_of g (Slot m.table SeedWord)) is (λ table in_it same. absurd (omega arith))) walked
+      (elsewhere did (place_of g (Slot m.table SeedWord)) is (λ table in_it same. absurd (omega arith)))
+      walked

@@ -56,7 +56,8 @@ aside-with P aside (Released kick) is = aside.released false kick is
 aside-with P aside reply is = is
 
 -- holds of the same answer
-pub same_reply : (P : Reply → Type 0) → IsKickAside P → (was now : Answer) → IsSameAnswer was now → P was.reply → P now.reply
+pub same_reply : (P : Reply → Type 0) → IsKickAside P → (was now : Answer) → IsSameAnswer was now
+    → P was.reply → P now.reply
 same_reply P aside was now same is =
     aside-with P aside now.reply (subst P (sym same.reply) (aside-without P aside was.reply is))
 
@@ -67,7 +68,8 @@ outs_of (Some answer) = one_if (takes_out answer.reply)
 
 outs_of-same : (was now : Answer) → IsSameAnswer was now → outs_of (Some now) ≡ outs_of (Some was)
 outs_of-same was now same =
-    same_reply (λ reply. one_if (takes_out reply) ≡ outs_of (Some was)) (record { bound = λ k l is. is; released = λ k l is. is }) was now same refl
+    same_reply (λ reply. one_if (takes_out reply) ≡ outs_of (Some was))
+    (record { bound = λ k l is. is; released = λ k l is. is }) was now same refl
 
 -- a call that needs a node is answered that there was none exactly where it has none, and no other call has a node
 abbrev pub TellsNode : Call → Option ℕ → Reply → Type 0
@@ -99,14 +101,19 @@ IsReplyTo-aside Work = record { bound = λ k l is. is; released = λ k l is. is 
 IsReplyTo-aside Tidy = record { bound = λ k l is. is; released = λ k l is. is }
 IsReplyTo-aside Count = record { bound = λ k l is. is; released = λ k l is. is }
 
-pub IsReplied-same : (call : Call) (was now : Answer) → IsSameAnswer was now → IsReplied call was → IsReplied call now
+pub IsReplied-same : (call : Call) (was now : Answer) → IsSameAnswer was now → IsReplied call was
+    → IsReplied call now
 IsReplied-same call was now same is = record {
   reply = same_reply (IsReplyTo call) (IsReplyTo-aside call) was now same is.reply;
   owners =
       subst (AreOwnersWith now.reply) (sym same.owners)
-      (same_reply (λ reply. AreOwnersWith reply was.owners) (record { bound = λ k l is. is; released = λ k l is. is }) was now same is.owners);
+      (same_reply (λ reply. AreOwnersWith reply was.owners)
+      (record { bound = λ k l is. is; released = λ k l is. is }) was now same is.owners);
   pairs =
-      same_reply (λ reply. ArePairsWith reply []) (record { bound = λ k l is. is; released = λ k l is. is }) was now same is.pairs;
+      same_reply (λ reply. ArePairsWith reply []) (record {
+        bound = λ k l is. is;
+        released = λ k l is. is;
+      }) was now same is.pairs;
 }
 
 -- and it tells of a node as well
@@ -127,9 +134,11 @@ TellsNode-aside Work has = record { bound = λ k l is. is; released = λ k l is.
 TellsNode-aside Tidy has = record { bound = λ k l is. is; released = λ k l is. is }
 TellsNode-aside Count has = record { bound = λ k l is. is; released = λ k l is. is }
 
-pub TellsNode-same : (call : Call) (has : Option ℕ) (was now : Answer) → IsSameAnswer was now → TellsNode call has was.reply
+pub TellsNode-same : (call : Call) (has : Option ℕ) (was now : Answer) → IsSameAnswer was now
+    → TellsNode call has was.reply
     → TellsNode call has now.reply
-TellsNode-same call has was now same is = same_reply (TellsNode call has) (TellsNode-aside call has) was now same is
+TellsNode-same call has was now same is = same_reply (TellsNode call has) (TellsNode-aside call has) was
+    now same is
 
 -- and it tells of the node that the call has
 pub record IsRight (call : Call) (has : Option ℕ) (answer : Answer) : Type 0 where
@@ -183,30 +192,37 @@ module _ (kind : Kind) (c : ℕ) (call : Call) where
     | inl keeps ↦ same was now keeps so
     | inr learns ↦ absurd (let none = learns.unknown in cc)
   ]
-  known_so So same before after (Some was) (Some now) (inr changes) told so = absurd (let none = changes.unknown in cc)
+  known_so So same before after (Some was) (Some now) (inr changes) told so = absurd
+      (let none = changes.unknown in cc)
 
   -- while none is known after it, none was before
-  pub unknown_before : (before after : Multimap) (was now : Option Answer) → Says before after was now → now ≡ None → was ≡ None
+  pub unknown_before : (before after : Multimap) (was now : Option Answer) → Says before after was now
+      → now ≡ None → was ≡ None
   unknown_before before after None now says none = refl
   unknown_before before after (Some was) (Some now) says none = absurd (cc)
   unknown_before before after (Some was) None (inl still) none = elim still.said [
     | inl keeps ↦ absurd keeps
     | inr learns ↦ absurd (let unknown = learns.unknown in cc)
   ]
-  unknown_before before after (Some was) None (inr changes) none = absurd (let unknown = changes.unknown in cc)
+  unknown_before before after (Some was) None (inr changes) none = absurd
+      (let unknown = changes.unknown in cc)
 
   -- ---- bindings that agree
 
-  IsLegalOn-agree : (bindings same : Multimap) (answer : Answer) → Agree same bindings → IsLegalOn bindings answer
+  IsLegalOn-agree : (bindings same : Multimap) (answer : Answer) → Agree same bindings
+      → IsLegalOn bindings answer
       → IsLegalOn same answer
   IsLegalOn-agree bindings same answer agree said =
       let entry = entry_of c call answer in
       record {
-        legal = IsLegalAt-answer_of kind bindings same entry (answer_of-Agree kind bindings same call (Agree-sym same bindings agree)) said.legal;
-        leaves = λ port. left_by-Agree kind same bindings entry agree port ∙ said.leaves port ∙ sym (agree port);
+        legal = IsLegalAt-answer_of kind bindings same entry
+            (answer_of-Agree kind bindings same call (Agree-sym same bindings agree)) said.legal;
+        leaves = λ port. left_by-Agree kind same bindings entry agree port ∙ said.leaves port
+            ∙ sym (agree port);
       }
 
-  IsSaidOn-agree : (bindings same : Multimap) (answer : Answer) → Agree same bindings → IsSaidOn bindings answer
+  IsSaidOn-agree : (bindings same : Multimap) (answer : Answer) → Agree same bindings
+      → IsSaidOn bindings answer
       → IsSaidOn same answer
   IsSaidOn-agree bindings same answer agree (inl said) = inl (IsLegalOn-agree bindings same answer agree said)
   IsSaidOn-agree bindings same answer agree (inr not_about) = inr not_about
@@ -230,13 +246,15 @@ module _ (kind : Kind) (c : ℕ) (call : Call) where
   abbrev pub Tells : Option ℕ → Multimap → Option Answer → Option Answer → Type 0
   Tells has bindings was now = KeepsAnswer was now ⊎ LearnsRightly has bindings was now
 
-  pub told-says : (has : Option ℕ) (bindings : Multimap) (was now : Option Answer) → Tells has bindings was now
+  pub told-says : (has : Option ℕ) (bindings : Multimap) (was now : Option Answer)
+      → Tells has bindings was now
       → SaysStill bindings was now
   told-says has bindings was now (inl keeps) = inl keeps
   told-says has bindings was now (inr tells) = inr tells.learns
 
   -- and it takes no node out of a list
-  pub told-outs : (has : Option ℕ) (bindings : Multimap) (was now : Option Answer) → Tells has bindings was now
+  pub told-outs : (has : Option ℕ) (bindings : Multimap) (was now : Option Answer)
+      → Tells has bindings was now
       → outs_of now ≡ outs_of was
   told-outs has bindings None now (inl keeps) = ap outs_of keeps
   told-outs has bindings (Some was) None (inl keeps) = absurd keeps
@@ -245,7 +263,8 @@ module _ (kind : Kind) (c : ℕ) (call : Call) where
       ap outs_of tells.learns.known ∙ ap one_if tells.takes_none ∙ sym (ap outs_of tells.learns.unknown)
 
   -- what is told is right
-  pub told-right : (has : Option ℕ) (bindings : Multimap) (was now : Option Answer) → Tells has bindings was now
+  pub told-right : (has : Option ℕ) (bindings : Multimap) (was now : Option Answer)
+      → Tells has bindings was now
       → (answer : Answer) → was ≡ None → now ≡ Some answer → IsRight call has answer
   told-right has bindings was now (inl keeps) answer unknown known =
       absurd (let none = subst (λ a. KeepsAnswer a now) unknown keeps in let both = sym none ∙ known in cc)

@@ -28,25 +28,32 @@ module _ (env : Env) (mix : ℕ → ℕ → ℕ → ℕ) where
     pub lists : WordStays env mix ListLink M G M'
     pub chains : (n j : ℕ) → G.node n ≡ First j → chain_of M' n ≡ chain_of M n
 
-  pub used_stay : (M M' : Memory) (G : Ghost) (a : Address) (v : ℕ) → Whole env mix M G → IsWrite env.geometry M M' a v
+  pub used_stay : (M M' : Memory) (G : Ghost) (a : Address) (v : ℕ) → Whole env mix M G
+      → IsWrite env.geometry M M' a v
       → ((n : ℕ) (w : NodeWord) → Node n w ≢ a) → UsedStay M G M'
   used_stay M M' G a v whole write not_node = record {
     keys = λ n l used. write.others (Node n KeyWord) l (not_node n KeyWord);
     owners = λ n l used. write.others (Node n OwnerWord) l (not_node n OwnerWord);
     lists = λ n l used. write.others (Node n ListLink) l (not_node n ListLink);
-    chains = λ n j first. write.others (Node n ChainLink) (whole.owned.first_at n j first).among (not_node n ChainLink);
+    chains = λ n j first. write.others (Node n ChainLink) (whole.owned.first_at n j first).among
+        (not_node n ChainLink);
   }
 
   -- so each word of a node in a chain does
-  pub first_stays : (M M' : Memory) (G : Ghost) → Whole env mix M G → UsedStay M G M' → (n j : ℕ) (w : NodeWord)
+  pub first_stays : (M M' : Memory) (G : Ghost) → Whole env mix M G → UsedStay M G M'
+      → (n j : ℕ) (w : NodeWord)
       → G.node n ≡ First j → M' (Node n w) ≡ M (Node n w)
   first_stays M M' G whole words n j ChainLink first = words.chains n j first
-  first_stays M M' G whole words n j KeyWord first = words.keys n (whole.owned.first_at n j first).among (ap is_used first)
-  first_stays M M' G whole words n j OwnerWord first = words.owners n (whole.owned.first_at n j first).among (ap is_used first)
-  first_stays M M' G whole words n j ListLink first = words.lists n (whole.owned.first_at n j first).among (ap is_used first)
+  first_stays M M' G whole words n j KeyWord first = words.keys n (whole.owned.first_at n j first).among
+      (ap is_used first)
+  first_stays M M' G whole words n j OwnerWord first = words.owners n
+      (whole.owned.first_at n j first).among (ap is_used first)
+  first_stays M M' G whole words n j ListLink first = words.lists n
+      (whole.owned.first_at n j first).among (ap is_used first)
 
   -- the links of the nodes to which the ports of a caller's buckets are bound, where the store is to no link of a node
-  pub chains_stay : (c : ℕ) (M M' : Memory) (G : Ghost) (a : Address) (v : ℕ) → Whole env mix M G → IsWrite env.geometry M M' a v
+  pub chains_stay : (c : ℕ) (M M' : Memory) (G : Ghost) (a : Address) (v : ℕ) → Whole env mix M G
+      → IsWrite env.geometry M M' a v
       → ((n : ℕ) → IsUsed (G.node n) → Node n ChainLink ≢ a) → ChainsStay env mix c M G M'
   chains_stay c M M' G a v whole write apart j n m h i b =
       let is = bound_used env mix M G whole (key_of M n) (G.bound (key_of M n)) refl m b in
@@ -74,7 +81,8 @@ module _ (env : Env) (mix : ℕ → ℕ → ℕ → ℕ) where
         later = λ j s. omega (arith, first);
       }
 
-  pub tables_stay : (M : Memory) (G G' : Ghost) → Whole env mix M G → SameTables G G' → TablesStay env mix G G'
+  pub tables_stay : (M : Memory) (G G' : Ghost) → Whole env mix M G → SameTables G G'
+      → TablesStay env mix G G'
   tables_stay M G G' whole same = record {
     tables = λ τ l. ap (λ t. t τ) same.table;
     attached = omega (arith, same.attached);
@@ -87,7 +95,8 @@ module _ (env : Env) (mix : ℕ → ℕ → ℕ → ℕ) where
       index_of slot s = index_at (record G { slot = slot }) s
 
   -- who has nodes doesn't matter for tables, nor what buckets and ports have, nor who has raised the count
-  pub same_tables : (G : Ghost) (bucket : ℕ → Bucket) (node : ℕ → Owner) (bound : ℕ → List ℕ) (raised : ℕ → Bool)
+  pub same_tables : (G : Ghost) (bucket : ℕ → Bucket) (node : ℕ → Owner) (bound : ℕ → List ℕ) (raised : ℕ
+      → Bool)
       → SameTables G (record G { bucket = bucket; node = node; bound = bound; raised = raised })
   same_tables G bucket node bound raised =
       record { table = refl; attached = refl; current = refl; slot = refl; page = refl }
@@ -117,11 +126,17 @@ module _ (env : Env) (mix : ℕ → ℕ → ℕ → ℕ) where
   pub still : (d : ℕ) (M : Memory) (G : Ghost) → Whole env mix M G → Made d M G M G
   still d M G whole = record {
     whole = whole;
-    others = λ c ne. Rely-same c M M G G whole (same_tables G G.bucket G.node G.bound G.raised) refl refl refl refl unwritten (λ j n m h i b. refl) (λ n w has. refl);
+    others = λ c ne. Rely-same c M M G G whole (same_tables G G.bucket G.node G.bound G.raised) refl refl
+        refl refl unwritten (λ j n m h i b. refl) (λ n w has. refl);
   }
     where
       unwritten : UsedStay M G M
-      unwritten = record { keys = λ n l used. refl; owners = λ n l used. refl; lists = λ n l used. refl; chains = λ n j first. refl }
+      unwritten = record {
+        keys = λ n l used. refl;
+        owners = λ n l used. refl;
+        lists = λ n l used. refl;
+        chains = λ n j first. refl;
+      }
 
   -- ---- the parts of the whole
 
@@ -139,9 +154,12 @@ module _ (env : Env) (mix : ℕ → ℕ → ℕ → ℕ) where
         has_slot = right.has_slot;
         index = right.index;
         live = right.live;
-        shape_is = write.others (Slot s ShapeWord) (right.slot_in, tt) (apart.slots s ShapeWord right.has_slot) ∙ right.shape_is;
-        seed_is = write.others (Slot s SeedWord) (right.slot_in, tt) (apart.slots s SeedWord right.has_slot) ∙ right.seed_is;
-        future_is = write.others (Slot s FutureWord) (right.slot_in, tt) (apart.slots s FutureWord right.has_slot) ∙ right.future_is;
+        shape_is = write.others (Slot s ShapeWord) (right.slot_in, tt)
+            (apart.slots s ShapeWord right.has_slot) ∙ right.shape_is;
+        seed_is = write.others (Slot s SeedWord) (right.slot_in, tt)
+            (apart.slots s SeedWord right.has_slot) ∙ right.seed_is;
+        future_is = write.others (Slot s FutureWord) (right.slot_in, tt)
+            (apart.slots s FutureWord right.has_slot) ∙ right.future_is;
         placed = right.placed;
       }
 
@@ -150,7 +168,8 @@ module _ (env : Env) (mix : ℕ → ℕ → ℕ → ℕ) where
   with_tables G table attached current slot page =
       record G { table = table; attached = attached; current = current; slot = slot; page = page }
 
-  TablesRight-same : (M : Memory) (G G' : Ghost) → SameTables G G' → TablesRight env mix M G → TablesRight env mix M G'
+  TablesRight-same : (M : Memory) (G G' : Ghost) → SameTables G G' → TablesRight env mix M G
+      → TablesRight env mix M G'
   TablesRight-same M G G' same right =
       let there : TablesRight env mix M (with_tables G' G.table G.attached G.current G.slot G.page) = record {
         one = right.one;
@@ -164,15 +183,26 @@ module _ (env : Env) (mix : ℕ → ℕ → ℕ → ℕ) where
           shape_is = r.shape_is;
           seed_is = r.seed_is;
           future_is = r.future_is;
-          placed = record { flat = r.placed.flat; fits = r.placed.fits; places = r.placed.places; pages = r.placed.pages };
+          placed = record {
+            flat = r.placed.flat;
+            fits = r.placed.fits;
+            places = r.placed.places;
+            pages =
+                r.placed.pages;
+          };
         };
         slots = λ s has. let is = right.slots s has in record { attached = is.attached; slot = is.slot };
       } in
-      subst (λ t. TablesRight env mix M (with_tables G' t G'.attached G'.current G'.slot G'.page)) (sym same.table)
-      (subst (λ a. TablesRight env mix M (with_tables G' G.table a G'.current G'.slot G'.page)) (sym same.attached)
-      (subst (λ c. TablesRight env mix M (with_tables G' G.table G.attached c G'.slot G'.page)) (sym same.current)
-      (subst (λ s. TablesRight env mix M (with_tables G' G.table G.attached G.current s G'.page)) (sym same.slot)
-      (subst (λ p. TablesRight env mix M (with_tables G' G.table G.attached G.current G.slot p)) (sym same.page) there))))
+      subst (λ t. TablesRight env mix M (with_tables G' t G'.attached G'.current G'.slot G'.page))
+      (sym same.table)
+      (subst (λ a. TablesRight env mix M (with_tables G' G.table a G'.current G'.slot G'.page))
+      (sym same.attached)
+      (subst (λ c. TablesRight env mix M (with_tables G' G.table G.attached c G'.slot G'.page))
+      (sym same.current)
+      (subst (λ s. TablesRight env mix M (with_tables G' G.table G.attached G.current s G'.page))
+      (sym same.slot)
+      (subst (λ p. TablesRight env mix M (with_tables G' G.table G.attached G.current G.slot p))
+      (sym same.page) there))))
 
   pub TablesRight-write : (M M' : Memory) (G G' : Ghost) (a : Address) (v : ℕ) → IsWrite env.geometry M M' a v
       → IsNoTableWord G a → SameTables G G' → TablesRight env mix M G → TablesRight env mix M' G'
@@ -203,7 +233,8 @@ module _ (env : Env) (mix : ℕ → ℕ → ℕ → ℕ) where
       let marker = marker_of (place_at env mix j) in
       record {
         segment =
-            rw nodes (rw plain (IsSegment-members (chain_of M) (chain_of M') first b.nodes marker links right.segment));
+            rw nodes (rw plain (IsSegment-members (chain_of M) (chain_of M') first b.nodes marker links
+            right.segment));
         distinct = rw nodes right.distinct;
       }
 
@@ -216,11 +247,13 @@ module _ (env : Env) (mix : ℕ → ℕ → ℕ → ℕ) where
   }
 
   -- with the same tables a port has the same homes
-  pub IsHomeOf-same : (G G' : Ghost) (port j : ℕ) → SameTables G G' → IsHomeOf env mix G port j → IsHomeOf env mix G' port j
+  pub IsHomeOf-same : (G G' : Ghost) (port j : ℕ) → SameTables G G' → IsHomeOf env mix G port j
+      → IsHomeOf env mix G' port j
   IsHomeOf-same G G' port j same home_of =
       let table : table_at G' j ≡ table_at G j = ap (λ p. table_at (record G { page = p }) j) same.page in
       record {
-        here = ap (home env mix G' port) table ∙ ap (λ t. home env mix (record G { table = t }) port (table_at G j)) same.table ∙ home_of.here;
+        here = ap (home env mix G' port) table
+            ∙ ap (λ t. home env mix (record G { table = t }) port (table_at G j)) same.table ∙ home_of.here;
         current = omega (arith, table, same.current, home_of.current);
         attached = omega (arith, table, same.attached, home_of.attached);
       }
@@ -249,7 +282,8 @@ module _ (env : Env) (mix : ℕ → ℕ → ℕ → ℕ) where
     bound = λ port. refl;
   }
 
-  Owned-frame : (M M' : Memory) (G G' : Ghost) → Whole env mix M G → SameChains G G' → UsedStay M G M' → Owned env mix M' G'
+  Owned-frame : (M M' : Memory) (G G' : Ghost) → Whole env mix M G → SameChains G G' → UsedStay M G M'
+      → Owned env mix M' G'
   Owned-frame M M' G G' whole same words =
       let owned = whole.owned in
       record {
@@ -284,7 +318,8 @@ module _ (env : Env) (mix : ℕ → ℕ → ℕ → ℕ) where
               first = same.firsts_after n to.bucket to.first;
               key_is = first_stays M M' G whole words n to.bucket KeyWord to.first ∙ to.key_is;
               list = rw link (IsSegment-members (list_of M) (list_of M') (list_of M n) behind 0
-                  (λ m i. words.lists m (owned.behind_in m port (to.each m i)).among (ap is_used (to.each m i))) to.list);
+                  (λ m i. words.lists m (owned.behind_in m port (to.each m i)).among
+                  (ap is_used (to.each m i))) to.list);
               distinct = to.distinct;
               each = λ m i. same.behind_after m port (to.each m i);
             };
@@ -305,7 +340,8 @@ module _ (env : Env) (mix : ℕ → ℕ → ℕ → ℕ) where
     buckets = λ j l. record {
       locked = locked j l;
       chained = ChainedRight-frame M M' j (G.bucket j) (G'.bucket j) (same.nodes j) (same.plain j)
-          (λ n i. first_stays M M' G whole words n j ChainLink (whole.owned.member j n i)) (whole.buckets j l).chained;
+          (λ n i. first_stays M M' G whole words n j ChainLink (whole.owned.member j n i))
+          (whole.buckets j l).chained;
     };
     owned = Owned-frame M M' G G' whole same words;
     arena = arena;
@@ -318,12 +354,14 @@ module _ (env : Env) (mix : ℕ → ℕ → ℕ → ℕ) where
     pub locks_stay : ((j : ℕ) → PageWord j ≢ a) → (j : ℕ) → j < 64 * env.geometry.pages
         → LockedRight env mix M' j (G.bucket j)
     locks_stay apart j l =
-        LockedRight-frame M M' j (G.bucket j) (write.others (PageWord j) l (apart j)) (whole.buckets j l).locked
+        LockedRight-frame M M' j (G.bucket j) (write.others (PageWord j) l (apart j))
+        (whole.buckets j l).locked
 
     -- and the map of nodes where none of its words is, and nodes have whom they had
     pub arena_stays : (G' : Ghost) → G'.node ≡ G.node → ((i : ℕ) → NodeMap i ≢ a) → ArenaRight env mix M' G'
     arena_stays G' same apart = record {
       built = λ n. rw (ap (λ o. o n) same) (whole.arena.built n);
       bits =
-          λ n l. rw (write.others (NodeMap (n / 64)) (omega arith) (apart (n / 64))) (rw (ap (λ o. o n) same) (whole.arena.bits n l));
+          λ n l. rw (write.others (NodeMap (n / 64)) (omega arith) (apart (n / 64)))
+          (rw (ap (λ o. o n) same) (whole.arena.bits n l));
     }

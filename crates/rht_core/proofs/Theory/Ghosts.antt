@@ -25,7 +25,11 @@ put-other f j v i ne = go (i == j) refl
 pub put-all : {A : Type 0} → (P : ℕ → A → Type 0) (f : ℕ → A) (j : ℕ) (v : A) → P j v
     → ((i : ℕ) → i ≢ j → P i (f i)) → (i : ℕ) → P i (put f j v i)
 put-all P f j v here other i =
-    elim (cases_eq i j) as (λ t. P i (put f j v i)) [ inl e ↦ rw (e, put-same f j v) here | inr ne ↦ rw (put-other f j v i ne) (other i ne) ]
+    elim (cases_eq i j) as (λ t. P i (put f j v i)) [
+      | inl e ↦ rw (e, put-same f j v) here
+      | inr ne ↦
+          rw (put-other f j v i ne) (other i ne)
+    ]
 
 -- ---- ghosts
 

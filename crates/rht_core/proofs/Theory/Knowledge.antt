@@ -115,7 +115,8 @@ pub record IsAmong (nodes : List ℕ) (node : ℕ) (before : Option ℕ) : Type 
   pub last : before ≡ last_of front
 
 -- no node before it has the owner
-pub record StandsInList (M : Memory) (nodes : List ℕ) (node : ℕ) (before : Option ℕ) (owner : ℕ) : Type 0 where
+pub record StandsInList (M : Memory) (nodes : List ℕ) (node : ℕ) (before : Option ℕ) (owner : ℕ) : Type
+    0 where
   pub among : IsAmong nodes node before
   pub none : NoOwner M owner among.front
 
@@ -124,7 +125,8 @@ pub record IsOtherOwner (M : Memory) (nodes : List ℕ) (node owner : ℕ) : Typ
   pub stands : StandsInList M nodes node before owner
   pub differs : owner_of (M (Node node OwnerWord)) ≢ owner
 
-pub record IsOwnersNode (M : Memory) (nodes : List ℕ) (node : ℕ) (before : Option ℕ) (owner : ℕ) : Type 0 where
+pub record IsOwnersNode (M : Memory) (nodes : List ℕ) (node : ℕ) (before : Option ℕ) (owner : ℕ) : Type
+    0 where
   pub stands : StandsInList M nodes node before owner
   pub owner_is : owner_of (M (Node node OwnerWord)) ≡ owner
 
@@ -136,7 +138,8 @@ pub record IsLeading (M : Memory) (first : ℕ) (behind : List ℕ) (second : Op
   pub owner_is : owner_of (M (Node first OwnerWord)) ≡ owner
   pub second_is : second ≡ first_of_list behind
 
-pub record IsLeadingTo (M : Memory) (first : ℕ) (behind : List ℕ) (second : Option ℕ) (link owner : ℕ) : Type 0 where
+pub record IsLeadingTo (M : Memory) (first : ℕ) (behind : List ℕ) (second : Option ℕ) (link owner : ℕ) :
+    Type 0 where
   pub leads : IsLeading M first behind second owner
   pub link_is : chain_of M first ≡ link
 
@@ -198,11 +201,13 @@ module _ (env : Env) (mix : ℕ → ℕ → ℕ → ℕ) where
     pub holder : (bucket_at G place).holder ≡ Some c
     pub plain : (bucket_at G place).plain ≡ word
 
-  pub record IsStanding (c : ℕ) (M : Memory) (G : Ghost) (place word key node : ℕ) (before : Option ℕ) : Type 0 where
+  pub record IsStanding (c : ℕ) (M : Memory) (G : Ghost) (place word key node : ℕ) (before : Option ℕ) :
+      Type 0 where
     pub lock : HoldsLock c G place word
     pub stands : StandsAt M (bucket_at G place).nodes key node before
 
-  pub record IsDiffering (c : ℕ) (M : Memory) (G : Ghost) (place word key node : ℕ) (before : Option ℕ) : Type 0 where
+  pub record IsDiffering (c : ℕ) (M : Memory) (G : Ghost) (place word key node : ℕ) (before : Option ℕ) :
+      Type 0 where
     pub standing : IsStanding c M G place word key node before
     pub differs : key_of M node ≢ key
 
@@ -210,7 +215,8 @@ module _ (env : Env) (mix : ℕ → ℕ → ℕ → ℕ) where
     pub lock : HoldsLock c G place word
     pub none : NoKey M key (bucket_at G place).nodes
 
-  pub record IsFound (c : ℕ) (M : Memory) (G : Ghost) (place word key node : ℕ) (before : Option ℕ) : Type 0 where
+  pub record IsFound (c : ℕ) (M : Memory) (G : Ghost) (place word key node : ℕ) (before : Option ℕ) :
+      Type 0 where
     pub standing : IsStanding c M G place word key node before
     pub key_is : key_of M node ≡ key
 
@@ -236,8 +242,10 @@ module _ (env : Env) (mix : ℕ → ℕ → ℕ → ℕ) where
   abbrev pub ListMeans : ℕ → Memory → Ghost → ℕ → List ℕ → KnownList → Type 0
   ListMeans c M G first behind (AtNode node before owner) = StandsInList M (first ∷ behind) node before owner
   ListMeans c M G first behind (Differing node owner) = IsOtherOwner M (first ∷ behind) node owner
-  ListMeans c M G first behind (Matching node before owner) = IsOwnersNode M (first ∷ behind) node before owner
-  ListMeans c M G first behind (CutsOut node before link owner) = IsCutOut M (first ∷ behind) node before link owner
+  ListMeans c M G first behind (Matching node before owner) = IsOwnersNode M (first ∷ behind) node before
+      owner
+  ListMeans c M G first behind (CutsOut node before link owner) = IsCutOut M (first ∷ behind) node before
+      link owner
   ListMeans c M G first behind (Leads second owner) = IsLeading M first behind second owner
   ListMeans c M G first behind (LeadsTo second link owner) = IsLeadingTo M first behind second link owner
   ListMeans c M G first behind (Promotes second owner) = IsPromoting M first behind second owner
@@ -247,7 +255,8 @@ module _ (env : Env) (mix : ℕ → ℕ → ℕ → ℕ) where
   ListMeans c M G first behind (CollectedTo node owners) = IsCollectedTo M (first ∷ behind) node owners
 
   -- the first node that has the key was found, and the key's port is bound to it and to these behind it
-  pub record IsInList (c : ℕ) (M : Memory) (G : Ghost) (place word key first : ℕ) (before : Option ℕ) (known : KnownList) : Type 0 where
+  pub record IsInList (c : ℕ) (M : Memory) (G : Ghost) (place word key first : ℕ) (before : Option ℕ)
+      (known : KnownList) : Type 0 where
     pub found : IsFound c M G place word key first before
     pub behind : List ℕ
     pub bound_to : G.bound key ≡ first ∷ behind
@@ -271,7 +280,8 @@ module _ (env : Env) (mix : ℕ → ℕ → ℕ → ℕ) where
   BucketMeans c M G (Found place word key node before) = IsFound c M G place word key node before
   BucketMeans c M G (Member place word key node) = IsMember c M G place word key node
   BucketMeans c M G (Listing place word key node owner) = IsListing c M G place word key node owner
-  BucketMeans c M G (InList place word key first before known) = IsInList c M G place word key first before known
+  BucketMeans c M G (InList place word key first before known) = IsInList c M G place word key first
+      before known
   BucketMeans c M G (TakenOut node) = HasTakenOut c G node
   BucketMeans c M G (LocksTakenOut place word node) = LocksAndTook c G place word node
 
@@ -330,7 +340,8 @@ module _ (env : Env) (mix : ℕ → ℕ → ℕ → ℕ) where
     pub passed : (port τ : ℕ) → Passed env mix G port τ → Passed env mix G' port τ
 
   -- nodes to which a port is bound are or were ports'
-  pub bound_used : (M : Memory) (G : Ghost) → Whole env mix M G → (port : ℕ) (bound : List ℕ) → G.bound port ≡ bound
+  pub bound_used : (M : Memory) (G : Ghost) → Whole env mix M G → (port : ℕ) (bound : List ℕ)
+      → G.bound port ≡ bound
       → (n : ℕ) → In n bound → (n < env.geometry.nodes) × IsUsed (G.node n)
   bound_used M G whole port [] b n i = absurd i
   bound_used M G whole port (first ∷ behind) b n (inl e) =
@@ -342,12 +353,14 @@ module _ (env : Env) (mix : ℕ → ℕ → ℕ → ℕ) where
 
   -- the links in chains of all nodes to which the ports of the nodes in buckets that the caller has locked are bound
   abbrev pub ChainsStay : ℕ → Memory → Ghost → Memory → Type 0
-  ChainsStay c M G M' = (j node other : ℕ) → (G.bucket j).holder ≡ Some c → In node (G.bucket j).nodes → In other (G.bound (key_of M node))
+  ChainsStay c M G M' = (j node other : ℕ) → (G.bucket j).holder ≡ Some c → In node (G.bucket j).nodes
+      → In other (G.bound (key_of M node))
       → M' (Node other ChainLink) ≡ M (Node other ChainLink)
 
   -- this word of each node that is or was a port's
   abbrev pub WordStays : NodeWord → Memory → Ghost → Memory → Type 0
-  WordStays word M G M' = (node : ℕ) → node < env.geometry.nodes → IsUsed (G.node node) → M' (Node node word) ≡ M (Node node word)
+  WordStays word M G M' = (node : ℕ) → node < env.geometry.nodes → IsUsed (G.node node)
+      → M' (Node node word) ≡ M (Node node word)
 
   pub record Rely (c : ℕ) (M : Memory) (G : Ghost) (M' : Memory) (G' : Ghost) : Type 0 where
     pub tables : TablesStay G G'
@@ -393,13 +406,16 @@ module _ (env : Env) (mix : ℕ → ℕ → ℕ → ℕ) where
   module _ (c : ℕ) (M M' : Memory) (G G' : Ghost) where
     -- of nodes: where the caller's stay its own, with their words
     module _ (mine : (node : ℕ) → HasNode c G node → G'.node node ≡ Held c)
-        (words : (node : ℕ) → HasNode c G node → (word : NodeWord) → M' (Node node word) ≡ M (Node node word)) where
+        (words : (node : ℕ) → HasNode c G node → (word : NodeWord)
+        → M' (Node node word) ≡ M (Node node word)) where
       known-stays : (node : ℕ) (word : NodeWord) (known : Option ℕ) → HasNode c G node
-          → IfSome known (λ value. M (Node node word) ≡ value) → IfSome known (λ value. M' (Node node word) ≡ value)
+          → IfSome known (λ value. M (Node node word) ≡ value)
+          → IfSome known (λ value. M' (Node node word) ≡ value)
       known-stays node word None has is = tt
       known-stays node word (Some value) has is = words node has word ∙ is
 
-      pub NodeMeans-stay : (known : Option KnownNode) → IfSome known (NodeMeans c M G) → IfSome known (NodeMeans c M' G')
+      pub NodeMeans-stay : (known : Option KnownNode) → IfSome known (NodeMeans c M G)
+          → IfSome known (NodeMeans c M' G')
       NodeMeans-stay None means = tt
       NodeMeans-stay (Some known) means = record {
         has = record { mine = mine known.node means.has; among = means.has.among };
@@ -417,18 +433,22 @@ module _ (env : Env) (mix : ℕ → ℕ → ℕ → ℕ) where
         passed = rw (stay.indices slot means.table) (stay.passed port (index_at G slot) means.passed);
       }
 
-      shape-stays : (slot : ℕ) (shape : Option ℕ) → has_table (G.slot slot) ≡ true → index_at G slot < G.attached
-          → IfSome shape (λ s. (G.table (index_at G slot)).shape ≡ s) → IfSome shape (λ s. (G'.table (index_at G' slot)).shape ≡ s)
+      shape-stays : (slot : ℕ) (shape : Option ℕ) → has_table (G.slot slot) ≡ true
+          → index_at G slot < G.attached
+          → IfSome shape (λ s. (G.table (index_at G slot)).shape ≡ s)
+          → IfSome shape (λ s. (G'.table (index_at G' slot)).shape ≡ s)
       shape-stays slot None has attached is = tt
       shape-stays slot (Some s) has attached is =
-          ap (λ τ. (G'.table τ).shape) (stay.indices slot has) ∙ ap (λ t. t.shape) (stay.tables (index_at G slot) attached) ∙ is
+          ap (λ τ. (G'.table τ).shape) (stay.indices slot has)
+          ∙ ap (λ t. t.shape) (stay.tables (index_at G slot) attached) ∙ is
 
       IsShaped-stay : (port slot shape : ℕ) → IsShaped G port slot shape → IsShaped G' port slot shape
       IsShaped-stay port slot shape means =
           let same = stay.tables (index_at G slot) means.passing.passed.attached in
           record {
             passing = IsPassing-stay port slot means.passing;
-            shape_is = shape-stays slot (Some shape) means.passing.table means.passing.passed.attached means.shape_is;
+            shape_is = shape-stays slot (Some shape) means.passing.table means.passing.passed.attached
+                means.shape_is;
           }
 
       pub TableMeans-stay : (known : KnownTable) → TableMeans G known → TableMeans G' known
@@ -448,7 +468,8 @@ module _ (env : Env) (mix : ℕ → ℕ → ℕ → ℕ) where
           }
 
     -- of buckets: where those that it has locked stay, and the keys of nodes in chains
-    module _ (members : MembersUsed G) (locks : (j : ℕ) → (G.bucket j).holder ≡ Some c → G'.bucket j ≡ G.bucket j)
+    module _ (members : MembersUsed G) (locks : (j : ℕ) → (G.bucket j).holder ≡ Some c
+        → G'.bucket j ≡ G.bucket j)
         (lists : (j node : ℕ) → (G.bucket j).holder ≡ Some c → In node (G.bucket j).nodes
         → G'.bound (key_of M node) ≡ G.bound (key_of M node))
         (chains : ChainsStay c M G M') (keys : WordStays KeyWord M G M') (owners : WordStays OwnerWord M G M')
@@ -459,16 +480,24 @@ module _ (env : Env) (mix : ℕ → ℕ → ℕ → ℕ) where
       HoldsLock-stay : (place word : ℕ) → HoldsLock c G place word → HoldsLock c G' place word
       HoldsLock-stay place word holds =
           let same = locks (word_index env mix place) holds.holder in
-          record { bucket = holds.bucket; holder = ap (λ b. b.holder) same ∙ holds.holder; plain = ap (λ b. b.plain) same ∙ holds.plain }
+          record {
+            bucket = holds.bucket;
+            holder = ap (λ b. b.holder) same
+                ∙ holds.holder;
+            plain = ap (λ b. b.plain) same ∙ holds.plain;
+          }
 
-      nodes-stay : (place word : ℕ) → HoldsLock c G place word → (bucket_at G' place).nodes ≡ (bucket_at G place).nodes
+      nodes-stay : (place word : ℕ) → HoldsLock c G place word
+          → (bucket_at G' place).nodes ≡ (bucket_at G place).nodes
       nodes-stay place word holds = ap (λ b. b.nodes) (locks (word_index env mix place) holds.holder)
 
       NoKey-stay : (key j : ℕ) (nodes : List ℕ) → ((node : ℕ) → In node nodes → In node (G.bucket j).nodes)
           → NoKey M key nodes → NoKey M' key nodes
-      NoKey-stay key j nodes all none = NoKey-same M M' key nodes (λ node i. key-stays_in j node (all node i)) none
+      NoKey-stay key j nodes all none = NoKey-same M M' key nodes
+          (λ node i. key-stays_in j node (all node i)) none
 
-      IsStanding-stay : (place word key node : ℕ) (before : Option ℕ) → IsStanding c M G place word key node before
+      IsStanding-stay : (place word key node : ℕ) (before : Option ℕ)
+          → IsStanding c M G place word key node before
           → IsStanding c M' G' place word key node before
       IsStanding-stay place word key node before means =
           let s = means.stands in
@@ -492,7 +521,8 @@ module _ (env : Env) (mix : ℕ → ℕ → ℕ → ℕ) where
           let j = word_index env mix place in
           key-stays_in j node (rw means.stands.split (in-middle node means.stands.front means.stands.rear))
 
-      IsMember-stay : (place word key node : ℕ) → IsMember c M G place word key node → IsMember c M' G' place word key node
+      IsMember-stay : (place word key node : ℕ) → IsMember c M G place word key node
+          → IsMember c M' G' place word key node
       IsMember-stay place word key node means =
           let j = word_index env mix place in
           record {
@@ -501,54 +531,72 @@ module _ (env : Env) (mix : ℕ → ℕ → ℕ → ℕ) where
             key_is = key-stays_in j node means.there ∙ means.key_is;
           }
 
-      NoOwner-stay : (owner : ℕ) (nodes : List ℕ) → ((node : ℕ) → In node nodes → M' (Node node OwnerWord) ≡ M (Node node OwnerWord))
+      NoOwner-stay : (owner : ℕ) (nodes : List ℕ) → ((node : ℕ) → In node nodes
+          → M' (Node node OwnerWord) ≡ M (Node node OwnerWord))
           → NoOwner M owner nodes → NoOwner M' owner nodes
       NoOwner-stay owner [] same none = tt
-      NoOwner-stay owner (node ∷ nodes) same none =
-          ((λ is. none.0 (ap owner_of (sym (same node (inl refl))) ∙ is)), NoOwner-stay owner nodes (λ other i. same other (inr i)) none.1)
+      NoOwner-stay owner (node ∷ nodes) same none = (
+        (λ is. none.0 (ap owner_of (sym (same node (inl refl))) ∙ is)),
+        NoOwner-stay owner nodes
+            (λ other i. same other (inr i)) none.1,
+      )
 
-      owners_of-stay : (nodes : List ℕ) → ((node : ℕ) → In node nodes → M' (Node node OwnerWord) ≡ M (Node node OwnerWord))
+      owners_of-stay : (nodes : List ℕ) → ((node : ℕ) → In node nodes
+          → M' (Node node OwnerWord) ≡ M (Node node OwnerWord))
           → owners_of M' nodes ≡ owners_of M nodes
       owners_of-stay [] same = refl
       owners_of-stay (node ∷ nodes) same =
           ap (λ w. owner_of w ∷ owners_of M' nodes) (same node (inl refl))
-          ∙ ap (λ rest. owner_of (M (Node node OwnerWord)) ∷ rest) (owners_of-stay nodes (λ other i. same other (inr i)))
+          ∙ ap (λ rest. owner_of (M (Node node OwnerWord)) ∷ rest)
+          (owners_of-stay nodes (λ other i. same other (inr i)))
 
       -- of a list: where the owners of its nodes stay, and their links in chains
       module _ (first : ℕ) (behind : List ℕ)
-          (owner_words : (node : ℕ) → In node (first ∷ behind) → M' (Node node OwnerWord) ≡ M (Node node OwnerWord))
+          (owner_words : (node : ℕ) → In node (first ∷ behind)
+          → M' (Node node OwnerWord) ≡ M (Node node OwnerWord))
           (links : (node : ℕ) → In node (first ∷ behind) → chain_of M' node ≡ chain_of M node) where
-        none-stays : (node : ℕ) (before : Option ℕ) (owner : ℕ) → (is : StandsInList M (first ∷ behind) node before owner)
+        none-stays : (node : ℕ) (before : Option ℕ) (owner : ℕ)
+            → (is : StandsInList M (first ∷ behind) node before owner)
             → NoOwner M' owner is.among.front
         none-stays node before owner is = NoOwner-stay owner is.among.front
-            (λ n i. owner_words n (subst (In n) (sym is.among.split) (In-append_left n is.among.front (node ∷ is.among.rear) i))) is.none
+            (λ n i. owner_words n (subst (In n) (sym is.among.split)
+            (In-append_left n is.among.front (node ∷ is.among.rear) i))) is.none
 
-        Stands-stay : (node : ℕ) (before : Option ℕ) (owner : ℕ) → StandsInList M (first ∷ behind) node before owner
+        Stands-stay : (node : ℕ) (before : Option ℕ) (owner : ℕ)
+            → StandsInList M (first ∷ behind) node before owner
             → StandsInList M' (first ∷ behind) node before owner
         Stands-stay node before owner is = record { among = is.among; none = none-stays node before owner is }
 
         owner-stays : (node : ℕ) (before : Option ℕ) → (among : IsAmong (first ∷ behind) node before)
             → owner_of (M' (Node node OwnerWord)) ≡ owner_of (M (Node node OwnerWord))
         owner-stays node before among =
-            ap owner_of (owner_words node (subst (In node) (sym among.split) (in-middle node among.front among.rear)))
+            ap owner_of (owner_words node (subst (In node) (sym among.split)
+            (in-middle node among.front among.rear)))
 
-        Matching-stay : (node : ℕ) (before : Option ℕ) (owner : ℕ) → IsOwnersNode M (first ∷ behind) node before owner
+        Matching-stay : (node : ℕ) (before : Option ℕ) (owner : ℕ)
+            → IsOwnersNode M (first ∷ behind) node before owner
             → IsOwnersNode M' (first ∷ behind) node before owner
         Matching-stay node before owner is = record {
           stands = Stands-stay node before owner is.stands;
           owner_is = owner-stays node before is.stands.among ∙ is.owner_is;
         }
 
-        Leads-stay : (second : Option ℕ) (owner : ℕ) → IsLeading M first behind second owner → IsLeading M' first behind second owner
+        Leads-stay : (second : Option ℕ) (owner : ℕ) → IsLeading M first behind second owner
+            → IsLeading M' first behind second owner
         Leads-stay second owner is =
-            record { owner_is = ap owner_of (owner_words first (inl refl)) ∙ is.owner_is; second_is = is.second_is }
+            record {
+              owner_is = ap owner_of (owner_words first (inl refl))
+                  ∙ is.owner_is;
+              second_is = is.second_is;
+            }
 
         -- the second node is one of the list
         second_in : (second : ℕ) (rest : List ℕ) → Some second ≡ first_of_list rest → In second rest
         second_in second [] is = absurd (cc)
         second_in second (node ∷ rest) is = inl (let same : second ≡ node = cc in same)
 
-        ListMeans-stay : (known : KnownList) → IsPlainList known → ListMeans c M G first behind known → ListMeans c M' G' first behind known
+        ListMeans-stay : (known : KnownList) → IsPlainList known → ListMeans c M G first behind known
+            → ListMeans c M' G' first behind known
         ListMeans-stay (AtNode node before owner) plain is = Stands-stay node before owner is
         ListMeans-stay (Differing node owner) plain is = record {
           before = is.before;
@@ -559,7 +607,14 @@ module _ (env : Env) (mix : ℕ → ℕ → ℕ → ℕ) where
         ListMeans-stay (CutsOut node before link owner) plain is =
             let stays = Matching-stay node (Some before) owner is.is in
             record {
-              is = record { stands = record { among = is.is.stands.among; none = none-stays node (Some before) owner is.is.stands }; owner_is = stays.owner_is };
+              is = record {
+                stands = record {
+                  among = is.is.stands.among;
+                  none = none-stays node
+                      (Some before) owner is.is.stands;
+                };
+                owner_is = stays.owner_is;
+              };
               link_is = is.link_is;
             }
         ListMeans-stay (Leads second owner) plain is = Leads-stay second owner is
@@ -567,7 +622,8 @@ module _ (env : Env) (mix : ℕ → ℕ → ℕ → ℕ) where
             record { leads = Leads-stay second owner is.leads; link_is = links first (inl refl) ∙ is.link_is }
         ListMeans-stay (Promotes second owner) plain is = record {
           leads = Leads-stay (Some second) owner is.leads;
-          alike = links second (inr (second_in second behind is.leads.second_is)) ∙ is.alike ∙ sym (links first (inl refl));
+          alike = links second (inr (second_in second behind is.leads.second_is)) ∙ is.alike
+              ∙ sym (links first (inl refl));
         }
         ListMeans-stay (FirstLink link) plain is = links first (inl refl) ∙ is
         ListMeans-stay (Replaces node) plain is = absurd plain
@@ -575,15 +631,21 @@ module _ (env : Env) (mix : ℕ → ℕ → ℕ → ℕ) where
           before = is.before;
           among = is.among;
           owners_are = is.owners_are ∙ sym (owners_of-stay is.among.front
-              (λ n i. owner_words n (subst (In n) (sym is.among.split) (In-append_left n is.among.front (node ∷ is.among.rear) i))));
+              (λ n i. owner_words n (subst (In n) (sym is.among.split)
+              (In-append_left n is.among.front (node ∷ is.among.rear) i))));
         }
         ListMeans-stay (CollectedTo node owners) plain is = record {
           before = is.before;
           among = is.among;
           owners_are = is.owners_are ∙ sym (owners_of-stay (is.among.front ++ node ∷ []) (λ n i.
-              owner_words n (subst (In n) (sym is.among.split) (elim (In-append_cases n is.among.front (node ∷ []) i) [
+              owner_words n (subst (In n) (sym is.among.split)
+              (elim (In-append_cases n is.among.front (node ∷ []) i) [
                 | inl l ↦ In-append_left n is.among.front (node ∷ is.among.rear) l
-                | inr r ↦ elim r [ inl e ↦ rw e (in-middle node is.among.front is.among.rear) | inr none ↦ absurd none ]
+                | inr r ↦ elim r [
+                  | inl e ↦ rw e (in-middle node is.among.front is.among.rear)
+                  | inr
+                      none ↦ absurd none
+                ]
               ]))));
         }
 
@@ -604,33 +666,42 @@ module _ (env : Env) (mix : ℕ → ℕ → ℕ → ℕ) where
           → G'.bound key ≡ G.bound key
       bound-stays place word key first before found =
           ap G'.bound (sym found.key_is)
-          ∙ lists (word_index env mix place) first found.standing.lock.holder (found_there place word key first before found)
+          ∙ lists (word_index env mix place) first found.standing.lock.holder
+          (found_there place word key first before found)
           ∙ ap G.bound found.key_is
 
-      list_links : (place word key first : ℕ) (before : Option ℕ) (behind : List ℕ) → IsFound c M G place word key first before
-          → G.bound key ≡ first ∷ behind → (node : ℕ) → In node (first ∷ behind) → chain_of M' node ≡ chain_of M node
+      list_links : (place word key first : ℕ) (before : Option ℕ) (behind : List ℕ)
+          → IsFound c M G place word key first before
+          → G.bound key ≡ first ∷ behind → (node : ℕ) → In node (first ∷ behind)
+          → chain_of M' node ≡ chain_of M node
       list_links place word key first before behind found bound node i =
-          chains (word_index env mix place) first node found.standing.lock.holder (found_there place word key first before found)
+          chains (word_index env mix place) first node found.standing.lock.holder
+          (found_there place word key first before found)
           (rw found.key_is (rw bound i))
 
-      list_owners : (key first : ℕ) (behind : List ℕ) → G.bound key ≡ first ∷ behind → (node : ℕ) → In node (first ∷ behind)
+      list_owners : (key first : ℕ) (behind : List ℕ) → G.bound key ≡ first ∷ behind → (node : ℕ)
+          → In node (first ∷ behind)
           → M' (Node node OwnerWord) ≡ M (Node node OwnerWord)
-      list_owners key first behind bound node i = let is = members.bound key node (rw bound i) in owners node is.0 is.1
+      list_owners key first behind bound node i = let is = members.bound key node (rw bound i) in owners
+          node is.0 is.1
 
       InList-stay : (place word key first : ℕ) (before : Option ℕ) (known : KnownList) → IsPlainList known
-          → IsInList c M G place word key first before known → IsInList c M' G' place word key first before known
+          → IsInList c M G place word key first before known
+          → IsInList c M' G' place word key first before known
       InList-stay place word key first before known plain means = record {
         found = IsFound-stay place word key first before means.found;
         behind = means.behind;
         bound_to = bound-stays place word key first before means.found ∙ means.bound_to;
         means = ListMeans-stay first means.behind (list_owners key first means.behind means.bound_to)
-            (list_links place word key first before means.behind means.found means.bound_to) known plain means.means;
+            (list_links place word key first before means.behind means.found means.bound_to) known plain
+            means.means;
       }
 
       -- the caller's own node leads on as the first one does, where it has the node still, with its link
       Replaces-stay : (place word key first : ℕ) (before : Option ℕ) (node : ℕ)
           → (HasNode c G node → HasNode c G' node × (chain_of M' node ≡ chain_of M node))
-          → IsInList c M G place word key first before (Replaces node) → IsInList c M' G' place word key first before (Replaces node)
+          → IsInList c M G place word key first before (Replaces node)
+          → IsInList c M' G' place word key first before (Replaces node)
       Replaces-stay place word key first before node own means =
           let mine = own means.means.has in
           record {
@@ -640,17 +711,20 @@ module _ (env : Env) (mix : ℕ → ℕ → ℕ → ℕ) where
             means = record {
               has = mine.0;
               alike = mine.1 ∙ means.means.alike
-                  ∙ sym (list_links place word key first before means.behind means.found means.bound_to first (inl refl));
+                  ∙ sym (list_links place word key first before means.behind means.found means.bound_to
+                  first (inl refl));
             };
           }
 
       TakenOut-stay : (node : ℕ) → HasTakenOut c G node → HasTakenOut c G' node
       TakenOut-stay node means = record { among = means.among; taken = taken node ∙ means.taken }
 
-      pub BucketMeans-stay : (known : KnownBucket) → IsPlain known → BucketMeans c M G known → BucketMeans c M' G' known
+      pub BucketMeans-stay : (known : KnownBucket) → IsPlain known → BucketMeans c M G known
+          → BucketMeans c M' G' known
       BucketMeans-stay Unlocked plain means = tt
       BucketMeans-stay (Locks place word) plain means = HoldsLock-stay place word means
-      BucketMeans-stay (Stands place word key node before) plain means = IsStanding-stay place word key node before means
+      BucketMeans-stay (Stands place word key node before) plain means = IsStanding-stay place word key
+          node before means
       BucketMeans-stay (Differs place word key node before) plain means = record {
         standing = IsStanding-stay place word key node before means.standing;
         differs = λ same. means.differs (sym (key-stays place word key node before means.standing) ∙ same);
@@ -660,7 +734,8 @@ module _ (env : Env) (mix : ℕ → ℕ → ℕ → ℕ) where
         none = rw (nodes-stay place word means.lock)
             (NoKey-stay key (word_index env mix place) (bucket_at G place).nodes (λ node i. i) means.none);
       }
-      BucketMeans-stay (Found place word key node before) plain means = IsFound-stay place word key node before means
+      BucketMeans-stay (Found place word key node before) plain means = IsFound-stay place word key node
+          before means
       BucketMeans-stay (Member place word key node) plain means = IsMember-stay place word key node means
       BucketMeans-stay (Listing place word key node owner) plain means =
           let j = word_index env mix place in
@@ -670,12 +745,14 @@ module _ (env : Env) (mix : ℕ → ℕ → ℕ → ℕ) where
             behind = means.behind;
             member = IsMember-stay place word key means.first means.member;
             bound_to =
-                ap G'.bound (sym means.member.key_is) ∙ lists j means.first means.member.lock.holder means.member.there
+                ap G'.bound (sym means.member.key_is)
+                ∙ lists j means.first means.member.lock.holder means.member.there
                 ∙ ap G.bound means.member.key_is ∙ means.bound_to;
             listed = means.listed;
             owner_is = ap owner_of (owners means.first is.0 is.1) ∙ means.owner_is;
           }
-      BucketMeans-stay (InList place word key first before known) plain means = InList-stay place word key first before known plain means
+      BucketMeans-stay (InList place word key first before known) plain means = InList-stay place word
+          key first before known plain means
       BucketMeans-stay (TakenOut node) plain means = TakenOut-stay node means
       BucketMeans-stay (LocksTakenOut place word node) plain means =
           record { lock = HoldsLock-stay place word means.lock; took = TakenOut-stay node means.took }
@@ -686,28 +763,38 @@ module _ (env : Env) (mix : ℕ → ℕ → ℕ → ℕ) where
           → BucketMeans c M G known → BucketMeans c M' G' known
       BucketMeans-own Unlocked own means = tt
       BucketMeans-own (Locks place word) own means = BucketMeans-stay (Locks place word) tt means
-      BucketMeans-own (Stands place word key node before) own means = BucketMeans-stay (Stands place word key node before) tt means
-      BucketMeans-own (Differs place word key node before) own means = BucketMeans-stay (Differs place word key node before) tt means
+      BucketMeans-own (Stands place word key node before) own means = BucketMeans-stay
+          (Stands place word key node before) tt means
+      BucketMeans-own (Differs place word key node before) own means = BucketMeans-stay
+          (Differs place word key node before) tt means
       BucketMeans-own (Missed place word key) own means = BucketMeans-stay (Missed place word key) tt means
-      BucketMeans-own (Found place word key node before) own means = BucketMeans-stay (Found place word key node before) tt means
-      BucketMeans-own (Member place word key node) own means = BucketMeans-stay (Member place word key node) tt means
-      BucketMeans-own (Listing place word key node owner) own means = BucketMeans-stay (Listing place word key node owner) tt means
+      BucketMeans-own (Found place word key node before) own means = BucketMeans-stay
+          (Found place word key node before) tt means
+      BucketMeans-own (Member place word key node) own means = BucketMeans-stay
+          (Member place word key node) tt means
+      BucketMeans-own (Listing place word key node owner) own means = BucketMeans-stay
+          (Listing place word key node owner) tt means
       BucketMeans-own (InList place word key first before known) own means = go known means
         where
-          go : (known : KnownList) → IsInList c M G place word key first before known → IsInList c M' G' place word key first before known
+          go : (known : KnownList) → IsInList c M G place word key first before known
+              → IsInList c M' G' place word key first before known
           go (AtNode node b owner) m = InList-stay place word key first before (AtNode node b owner) tt m
           go (Differing node owner) m = InList-stay place word key first before (Differing node owner) tt m
           go (Matching node b owner) m = InList-stay place word key first before (Matching node b owner) tt m
-          go (CutsOut node b link owner) m = InList-stay place word key first before (CutsOut node b link owner) tt m
+          go (CutsOut node b link owner) m = InList-stay place word key first before
+              (CutsOut node b link owner) tt m
           go (Leads second owner) m = InList-stay place word key first before (Leads second owner) tt m
-          go (LeadsTo second link owner) m = InList-stay place word key first before (LeadsTo second link owner) tt m
+          go (LeadsTo second link owner) m = InList-stay place word key first before
+              (LeadsTo second link owner) tt m
           go (Promotes second owner) m = InList-stay place word key first before (Promotes second owner) tt m
           go (FirstLink link) m = InList-stay place word key first before (FirstLink link) tt m
           go (Replaces node) m = Replaces-stay place word key first before node (own node) m
           go (Collected node owners) m = InList-stay place word key first before (Collected node owners) tt m
-          go (CollectedTo node owners) m = InList-stay place word key first before (CollectedTo node owners) tt m
+          go (CollectedTo node owners) m = InList-stay place word key first before
+              (CollectedTo node owners) tt m
       BucketMeans-own (TakenOut node) own means = BucketMeans-stay (TakenOut node) tt means
-      BucketMeans-own (LocksTakenOut place word node) own means = BucketMeans-stay (LocksTakenOut place word node) tt means
+      BucketMeans-own (LocksTakenOut place word node) own means = BucketMeans-stay
+          (LocksTakenOut place word node) tt means
 
   -- what is known outlives a step of anybody else, and so does that there is nothing more
   module _ (c : ℕ) (M M' : Memory) (G G' : Ghost) (members : MembersUsed G) (rely : Rely c M G M' G') where
@@ -715,8 +802,13 @@ module _ (env : Env) (mix : ℕ → ℕ → ℕ → ℕ) where
     Means-rely known means = record {
       node = NodeMeans-stay c M M' G G' rely.nodes rely.words known.node means.node;
       table = TableMeans-stay c M M' G G' rely.tables known.table means.table;
-      bucket = BucketMeans-own c M M' G G' members rely.locks rely.lists rely.chains rely.keys rely.owners rely.taken known.bucket
-          (λ node has. (record { mine = rely.nodes node has; among = has.among }, rely.words node has ChainLink)) means.bucket;
+      bucket = BucketMeans-own c M M' G G' members rely.locks rely.lists rely.chains rely.keys
+          rely.owners rely.taken known.bucket
+          (λ node has. (
+            record { mine = rely.nodes node has; among = has.among },
+            rely.words node has
+                ChainLink,
+          )) means.bucket;
     }
 
     pub Only-rely : (has lock second : Option ℕ) (raised : Bool) → HasOnly c G has lock second raised
@@ -729,11 +821,13 @@ module _ (env : Env) (mix : ℕ → ℕ → ℕ → ℕ) where
 
   -- ---- a caller that has this and no more, and knows that
 
-  pub record Knowing {A : Type 0} (c : ℕ) (h : held.Held A) (known : Known) (M : Memory) (G : Ghost) : Type 0 where
+  pub record Knowing {A : Type 0} (c : ℕ) (h : held.Held A) (known : Known) (M : Memory) (G : Ghost) :
+      Type 0 where
     pub only : Only c G h
     pub means : Means c M G known
 
-  pub Knowing-rely : {A : Type 0} → (c : ℕ) (M M' : Memory) (G G' : Ghost) (h : held.Held A) (known : Known) → MembersUsed G
+  pub Knowing-rely : {A : Type 0} → (c : ℕ) (M M' : Memory) (G G' : Ghost) (h : held.Held A)
+      (known : Known) → MembersUsed G
       → Rely c M G M' G' → Knowing c h known M G → Knowing c h known M' G'
   Knowing-rely c M M' G G' h known members rely knows = record {
     only = Only-rely c M M' G G' members rely h.node h.lock h.second h.raised knows.only;

@@ -24,10 +24,14 @@ pub NoKey-same : (M M' : Memory) (key : ℕ) (nodes : List ℕ)
     → ((node : ℕ) → In node nodes → key_of M' node ≡ key_of M node)
     → NoKey M key nodes → NoKey M' key nodes
 NoKey-same M M' key [] same none = tt
-NoKey-same M M' key (node ∷ nodes) same none =
-    ((λ is. none.0 (sym (same node (inl refl)) ∙ is)), NoKey-same M M' key nodes (λ other i. same other (inr i)) none.1)
+NoKey-same M M' key (node ∷ nodes) same none = (
+  (λ is. none.0 (sym (same node (inl refl)) ∙ is)),
+  NoKey-same M M' key nodes
+      (λ other i. same other (inr i)) none.1,
+)
 
-pub NoKey-in : (M : Memory) (key m : ℕ) (nodes : List ℕ) → NoKey M key nodes → In m nodes → key_of M m ≡ key → ⊥
+pub NoKey-in : (M : Memory) (key m : ℕ) (nodes : List ℕ) → NoKey M key nodes → In m nodes
+    → key_of M m ≡ key → ⊥
 NoKey-in M key m [] none i same = i
 NoKey-in M key m (node ∷ nodes) none (inl e) same = none.0 (ap (key_of M) (sym e) ∙ same)
 NoKey-in M key m (node ∷ nodes) none (inr i) same = NoKey-in M key m nodes none.1 i same
@@ -57,9 +61,11 @@ module _ (env : Env) (mix : ℕ → ℕ → ℕ → ℕ) where
     home-table port τ j l is =
         let index = 64 * (unpacked (G.table τ).shape).page + hash_in env mix G port τ in
         let same : index ≡ j = some-same index j (sym (home-index port τ l) ∙ is) in
-        ap (table_at G) (sym same) ∙ ap table_of_page ((whole.tables.each τ l).placed.pages (hash_in env mix G port τ) (hash-below port τ))
+        ap (table_at G) (sym same) ∙ ap table_of_page
+        ((whole.tables.each τ l).placed.pages (hash_in env mix G port τ) (hash-below port τ))
 
-    pub home-within : (port τ j : ℕ) → τ < G.attached → home env mix G port τ ≡ Some j → j < 64 * env.geometry.pages
+    pub home-within : (port τ j : ℕ) → τ < G.attached → home env mix G port τ ≡ Some j
+        → j < 64 * env.geometry.pages
     home-within port τ j l is =
         let index = 64 * (unpacked (G.table τ).shape).page + hash_in env mix G port τ in
         let same : index ≡ j = some-same index j (sym (home-index port τ l) ∙ is) in
@@ -109,7 +115,8 @@ module _ (env : Env) (mix : ℕ → ℕ → ℕ → ℕ) where
       not_here i s same =
           let is = seat_is port i s in
           let here : i ≡ j = some-same i j (sym is.here ∙ ap (home env mix G port) same ∙ at) in
-          NoKey-in M port is.node (G.bucket j).nodes none (subst (λ k. In is.node (G.bucket k).nodes) here is.there) is.key_is
+          NoKey-in M port is.node (G.bucket j).nodes none
+          (subst (λ k. In is.node (G.bucket k).nodes) here is.there) is.key_is
 
       -- where no table is behind this one, the port is bound nowhere
       pub unbound_at_last : τ + 1 ≡ G.attached → G.bound port ≡ []
@@ -138,7 +145,8 @@ module _ (env : Env) (mix : ℕ → ℕ → ℕ → ℕ) where
               | inl e ↦ none-some (ap (λ k. (G.bucket k).out) (same_place σ i e is) ∙ right.none_out) out
               | inr ne ↦ passed.gone σ i n behind l (omega arith) is b out
             ];
-            later = λ i s. let at_least = passed.later i s in let other = not_here i s in omega (arith, at_least, other);
+            later = λ i s. let at_least = passed.later i s in let other = not_here i s in omega
+                (arith, at_least, other);
           }
         where
           same_place : (σ i : ℕ) → σ ≡ τ → home env mix G port σ ≡ Some i → i ≡ j

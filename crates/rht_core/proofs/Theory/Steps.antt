@@ -188,7 +188,8 @@ module _ (env : Env) (mix : ℕ → ℕ → ℕ → ℕ) where
   Does Raises op old h h' = DoesRaise env.geometry op h h'
   Does (Links n port j) op old h h' = DoesLink env.geometry n (place_at env mix j) op h h'
   Does Lowers op old h h' = DoesLower env.geometry op h h'
-  Does (Rebinds change) op old h h' = DoesRebind env.geometry change.raised (place_at env mix change.place) op h h'
+  Does (Rebinds change) op old h h' = DoesRebind env.geometry change.raised
+      (place_at env mix change.place) op h h'
   Does (LinksBehind n) op old h h' = DoesLinkBehind env.geometry n op h h'
 
   -- An operation of a caller in a call, which holds this before it and that after it, with what it knows afterwards.
@@ -198,14 +199,16 @@ module _ (env : Env) (mix : ℕ → ℕ → ℕ → ℕ) where
     pub ready : ReadyFor c (mem words) G move
     pub made : Made env mix c (mem words) G (mem (applied words op)) (ghost_after c move G)
     pub does : Does move op (old_of words op) h h'
-    pub says : Says env.config.kind c call (owners (mem words) G) (owners (mem (applied words op)) (ghost_after c move G)) h.answer h'.answer
+    pub says : Says env.config.kind c call (owners (mem words) G)
+        (owners (mem (applied words op)) (ghost_after c move G)) h.answer h'.answer
     pub right : (answer : Answer) → h.answer ≡ None → h'.answer ≡ Some answer → IsRight call h.node answer
     pub in_time : HasNodeInTime h h'
     pub outs : outs env mix (ghost_after c move G) c + outs_of h.answer ≡ outs env mix G c + outs_of h'.answer
     pub knows : Knows (mem (applied words op)) (ghost_after c move G)
 
   -- the same step with more said of what the caller knows
-  pub step-map : (c : ℕ) (call : Call) (words : List ℕ) (G : Ghost) (op : Op) (h h' : Holding) (Knows More : Memory → Ghost → Type 0)
+  pub step-map : (c : ℕ) (call : Call) (words : List ℕ) (G : Ghost) (op : Op) (h h' : Holding)
+      (Knows More : Memory → Ghost → Type 0)
       → ((M : Memory) (G' : Ghost) → Whole env mix M G' → Knows M G' → More M G')
       → Step c call words G op h h' Knows → Step c call words G op h h' More
   step-map c call words G op h h' Knows More more step = record {
@@ -224,11 +227,13 @@ module _ (env : Env) (mix : ℕ → ℕ → ℕ → ℕ) where
 
   -- the owners of nodes whose owner words stay
   owners_in-same : (M M' : Memory) (bound : List ℕ)
-      → ((n : ℕ) → In n bound → M' (Node n OwnerWord) ≡ M (Node n OwnerWord)) → owners_in M' bound ≡ owners_in M bound
+      → ((n : ℕ) → In n bound → M' (Node n OwnerWord) ≡ M (Node n OwnerWord))
+      → owners_in M' bound ≡ owners_in M bound
   owners_in-same M M' [] same = refl
   owners_in-same M M' (n ∷ bound) same =
       ap (λ w. owner_of w ∷ owners_in M' bound) (same n (inl refl))
-      ∙ ap (λ rest. owner_of (M (Node n OwnerWord)) ∷ rest) (owners_in-same M M' bound (λ m i. same m (inr i)))
+      ∙ ap (λ rest. owner_of (M (Node n OwnerWord)) ∷ rest)
+      (owners_in-same M M' bound (λ m i. same m (inr i)))
 
   -- the owner of a node to which a port is bound outlives anybody's operation
   pub owners_in-stay : (d : ℕ) (M M' : Memory) (G G' : Ghost) → Whole env mix M G → Made env mix d M G M' G'
@@ -236,7 +241,8 @@ module _ (env : Env) (mix : ℕ → ℕ → ℕ → ℕ) where
   owners_in-stay d M M' G G' whole made port bound b =
       let other : suc d ≢ d = λ e. absurd (omega arith) in
       owners_in-same M M' bound (λ n i.
-      let is = bound_used env mix M G whole port bound b n i in (made.others (suc d) other).owners n is.0 is.1)
+      let is = bound_used env mix M G whole port bound b n i in (made.others (suc d) other).owners n is.0
+      is.1)
 
   -- so an operation that leaves what a port is bound to leaves its owners
   pub owners-stay : (d : ℕ) (M M' : Memory) (G G' : Ghost) → Whole env mix M G → Made env mix d M G M' G'
@@ -247,7 +253,8 @@ module _ (env : Env) (mix : ℕ → ℕ → ℕ → ℕ) where
   -- ---- operations that change no bindings
 
   -- An operation of a caller that leaves bindings, whatever is known of its call's answer.
-  pub record Moved (c : ℕ) (words : List ℕ) (G : Ghost) (op : Op) (h h' : Holding) (Knows : Memory → Ghost → Type 0)
+  pub record Moved (c : ℕ) (words : List ℕ) (G : Ghost) (op : Op) (h h' : Holding) (Knows : Memory
+      → Ghost → Type 0)
       : Type 0 where
     pub move : Move
     pub ready : ReadyFor c (mem words) G move
@@ -258,11 +265,14 @@ module _ (env : Env) (mix : ℕ → ℕ → ℕ → ℕ) where
     pub knows : Knows (mem (applied words op)) (ghost_after c move G)
 
   -- a node that the caller hasn't taken out, and hasn't then
-  pub reowned-outs : (c n : ℕ) (owner : Owner) (G : Ghost) → is_taken_by c (G.node n) ≡ false → is_taken_by c owner ≡ false
+  pub reowned-outs : (c n : ℕ) (owner : Owner) (G : Ghost) → is_taken_by c (G.node n) ≡ false
+      → is_taken_by c owner ≡ false
       → outs env mix (with_owner G n owner) c ≡ outs env mix G c
   reowned-outs c n owner G was now =
-      count_below-same (λ m. is_taken_by c (G.node m)) (λ m. is_taken_by c (put G.node n owner m)) env.geometry.nodes
-      (λ m l. put-all (λ i o. is_taken_by c o ≡ is_taken_by c (G.node i)) G.node n owner (now ∙ sym was) (λ i ne. refl) m)
+      count_below-same (λ m. is_taken_by c (G.node m)) (λ m. is_taken_by c (put G.node n owner m))
+      env.geometry.nodes
+      (λ m l. put-all (λ i o. is_taken_by c o ≡ is_taken_by c (G.node i)) G.node n owner (now
+      ∙ sym was) (λ i ne. refl) m)
 
   -- where a move binds no port otherwise, each port is bound to what it was
   abbrev LinksNone : Move → Type 0
@@ -277,7 +287,8 @@ module _ (env : Env) (mix : ℕ → ℕ → ℕ → ℕ) where
   LinksNone (Rebinds change) = ⊥
   LinksNone (LinksBehind n) = Unit {0}
 
-  same_bound : (c : ℕ) (move : Move) (G : Ghost) (port : ℕ) → LinksNone move → (ghost_after c move G).bound port ≡ G.bound port
+  same_bound : (c : ℕ) (move : Move) (G : Ghost) (port : ℕ) → LinksNone move
+      → (ghost_after c move G).bound port ≡ G.bound port
   same_bound c Quiet G port none = refl
   same_bound c (TakesNode n) G port none = refl
   same_bound c (GivesNode n) G port none = refl
@@ -303,7 +314,8 @@ module _ (env : Env) (mix : ℕ → ℕ → ℕ → ℕ) where
   same_outs c (Rebinds change) M G none ready = absurd none
   same_outs c (LinksBehind n) M G none ready = refl
 
-  pub moved : (c : ℕ) (words : List ℕ) (G : Ghost) (op : Op) (h h' : Holding) (Knows : Memory → Ghost → Type 0) (move : Move)
+  pub moved : (c : ℕ) (words : List ℕ) (G : Ghost) (op : Op) (h h' : Holding) (Knows : Memory → Ghost
+      → Type 0) (move : Move)
       → Whole env mix (mem words) G → ReadyFor c (mem words) G move → LinksNone move
       → Made env mix c (mem words) G (mem (applied words op)) (ghost_after c move G)
       → Does move op (old_of words op) h h' → Knows (mem (applied words op)) (ghost_after c move G)
@@ -313,12 +325,14 @@ module _ (env : Env) (mix : ℕ → ℕ → ℕ → ℕ) where
     ready = ready;
     made = made;
     does = does;
-    agree = λ port. owners-stay c (mem words) (mem (applied words op)) G (ghost_after c move G) whole made port (same_bound c move G port none);
+    agree = λ port. owners-stay c (mem words) (mem (applied words op)) G (ghost_after c move G) whole
+        made port (same_bound c move G port none);
     outs = same_outs c move (mem words) G none ready;
     knows = knows;
   }
 
-  pub moved-map : (c : ℕ) (words : List ℕ) (G : Ghost) (op : Op) (h h' : Holding) (Knows More : Memory → Ghost → Type 0)
+  pub moved-map : (c : ℕ) (words : List ℕ) (G : Ghost) (op : Op) (h h' : Holding) (Knows More : Memory
+      → Ghost → Type 0)
       → ((M : Memory) (G' : Ghost) → Whole env mix M G' → Knows M G' → More M G')
       → Moved c words G op h h' Knows → Moved c words G op h h' More
   moved-map c words G op h h' Knows More more step = record {
@@ -332,7 +346,8 @@ module _ (env : Env) (mix : ℕ → ℕ → ℕ → ℕ) where
   }
 
   -- an operation that leaves its word, and what follows from the words as they are
-  pub loads : (c : ℕ) (words : List ℕ) (G : Ghost) (op : Op) (h h' : Holding) (Knows : Memory → Ghost → Type 0)
+  pub loads : (c : ℕ) (words : List ℕ) (G : Ghost) (op : Op) (h h' : Holding) (Knows : Memory → Ghost
+      → Type 0)
       → Whole env mix (mem words) G → word_after (old_of words op) op ≡ old_of words op → HoldsSame h h'
       → Knows (mem words) G → Moved c words G op h h' Knows
   loads c words G op h h' Knows whole same holds knows = record {
@@ -346,18 +361,29 @@ module _ (env : Env) (mix : ℕ → ℕ → ℕ → ℕ) where
   }
 
   -- the same operation, with something else that is known after it
-  pub with_knowledge : (c : ℕ) (words : List ℕ) (G : Ghost) (op : Op) (h h' : Holding) (Knows More : Memory → Ghost → Type 0)
+  pub with_knowledge : (c : ℕ) (words : List ℕ) (G : Ghost) (op : Op) (h h' : Holding)
+      (Knows More : Memory → Ghost → Type 0)
       → (step : Moved c words G op h h' Knows) → More (mem (applied words op)) (ghost_after c step.move G)
       → Moved c words G op h h' More
   with_knowledge c words G op h h' Knows More step more =
-      record { move = step.move; ready = step.ready; made = step.made; does = step.does; agree = step.agree; outs = step.outs; knows = more }
+      record {
+        move = step.move;
+        ready = step.ready;
+        made = step.made;
+        does = step.does;
+        agree =
+            step.agree;
+        outs = step.outs;
+        knows = more;
+      }
 
   -- ---- with what is known of the answer
 
   abbrev pub with_answer : Holding → Option Answer → Holding
   with_answer h answer = record h { answer = answer }
 
-  does-answered : (move : Move) (op : Op) (old : ℕ) (h h' : Holding) (answer : Option Answer) → Does move op old h h'
+  does-answered : (move : Move) (op : Op) (old : ℕ) (h h' : Holding) (answer : Option Answer)
+      → Does move op old h h'
       → Does move op old h (with_answer h' answer)
   does-answered Quiet op old h h' answer does =
       record { holds = ap (λ x. with_answer x answer) does.holds; leaves = does.leaves }
@@ -388,9 +414,13 @@ module _ (env : Env) (mix : ℕ → ℕ → ℕ → ℕ) where
     raised = does.raised;
     holds = ap (λ x. with_answer x answer) does.holds;
   }
-
   does-answered Lowers op old h h' answer does =
-      record { subtracts = does.subtracts; high = does.high; holds = ap (λ x. with_answer x answer) does.holds }
+      record {
+        subtracts = does.subtracts;
+        high = does.high;
+        holds = ap (λ x. with_answer x answer)
+            does.holds;
+      }
   does-answered (Rebinds change) op old h h' answer does = record {
     behind_maps = does.behind_maps;
     lock = does.lock;
@@ -402,9 +432,11 @@ module _ (env : Env) (mix : ℕ → ℕ → ℕ → ℕ) where
       record { on = does.on; holds = ap (λ x. with_answer x answer) does.holds }
 
   -- an operation that leaves bindings is a step, with what it says of the answer on the bindings as they are
-  pub answered : (c : ℕ) (call : Call) (words : List ℕ) (G : Ghost) (op : Op) (h h' : Holding) (answer : Option Answer)
+  pub answered : (c : ℕ) (call : Call) (words : List ℕ) (G : Ghost) (op : Op) (h h' : Holding)
+      (answer : Option Answer)
       (Knows : Memory → Ghost → Type 0)
-      → Tells env.config.kind c call h.node (owners (mem words) G) h.answer answer → HasNodeInTime h (with_answer h' answer)
+      → Tells env.config.kind c call h.node (owners (mem words) G) h.answer answer
+      → HasNodeInTime h (with_answer h' answer)
       → Moved c words G op h h' Knows → Step c call words G op h (with_answer h' answer) Knows
   answered c call words G op h h' answer Knows tells in_time step = record {
     move = step.move;
@@ -413,23 +445,28 @@ module _ (env : Env) (mix : ℕ → ℕ → ℕ → ℕ) where
     does = does-answered step.move op (old_of words op) h h' answer step.does;
     says = inl (record {
       agree = step.agree;
-      said = SaysStill-agree env.config.kind c call (owners (mem words) G) (owners (mem (applied words op)) (ghost_after c step.move G))
-          h.answer answer step.agree (told-says env.config.kind c call h.node (owners (mem words) G) h.answer answer tells);
+      said = SaysStill-agree env.config.kind c call (owners (mem words) G)
+          (owners (mem (applied words op)) (ghost_after c step.move G))
+          h.answer answer step.agree (told-says env.config.kind c call h.node (owners (mem words) G)
+          h.answer answer tells);
     });
     right = told-right env.config.kind c call h.node (owners (mem words) G) h.answer answer tells;
     in_time = in_time;
     outs = ap (λ o. o + outs_of h.answer) step.outs
-        ∙ ap (λ o. outs env mix G c + o) (sym (told-outs env.config.kind c call h.node (owners (mem words) G) h.answer answer tells));
+        ∙ ap (λ o. outs env mix G c + o) (sym (told-outs env.config.kind c call h.node
+        (owners (mem words) G) h.answer answer tells));
     knows = step.knows;
   }
 
   -- a load, after which nothing more is known of the answer, or it is told
-  pub reads : (c : ℕ) (call : Call) (words : List ℕ) (G : Ghost) (op : Op) (h h' : Holding) (Knows : Memory → Ghost → Type 0)
+  pub reads : (c : ℕ) (call : Call) (words : List ℕ) (G : Ghost) (op : Op) (h h' : Holding)
+      (Knows : Memory → Ghost → Type 0)
       → Whole env mix (mem words) G → word_after (old_of words op) op ≡ old_of words op → HoldsSame h h'
       → Tells env.config.kind c call h.node (owners (mem words) G) h.answer h'.answer → Knows (mem words) G
       → Step c call words G op h h' Knows
   reads c call words G op h h' Knows whole same holds tells knows =
-      let step = answered c call words G op h h' h'.answer Knows tells (still_has (ap (λ (x : Holding). x.node) holds))
+      let step = answered c call words G op h h' h'.answer Knows tells
+      (still_has (ap (λ (x : Holding). x.node) holds))
       (loads c words G op h h' Knows whole same holds knows) in
       record {
         move = step.move;

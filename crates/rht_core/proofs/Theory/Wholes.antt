@@ -41,7 +41,8 @@ module _ (env : Env) (mix : ℕ → ℕ → ℕ → ℕ) where
   pub index-place_at : (j : ℕ) → word_index (place_at j) ≡ j
   index-place_at j = omega arith
 
-  pub index-within : (place : ℕ) → IsBucketPlace env.geometry place → word_index place < 64 * env.geometry.pages
+  pub index-within : (place : ℕ) → IsBucketPlace env.geometry place
+      → word_index place < 64 * env.geometry.pages
   index-within place is = omega (arith, is.0, is.1)
 
   -- the bucket to which a port belongs in a table: its number there, and which of the words of all pages is its word
@@ -58,7 +59,8 @@ module _ (env : Env) (mix : ℕ → ℕ → ℕ → ℕ) where
   -- The buckets of a flat table stand in a row from its first page on, and these pages are the table's.
   pub record PlacedRight (G : Ghost) (τ : ℕ) : Type 0 where
     pub flat : (unpacked (G.table τ).shape).nest ≡ 0
-    pub fits : 64 * (unpacked (G.table τ).shape).page + size_of (unpacked (G.table τ).shape) ≤ 64 * env.geometry.pages
+    pub fits : 64 * (unpacked (G.table τ).shape).page + size_of (unpacked (G.table τ).shape) ≤ 64 *
+        env.geometry.pages
     pub places : (b : ℕ) → b < size_of (unpacked (G.table τ).shape)
         → (G.table τ).place b ≡ Some (64 * (unpacked (G.table τ).shape).page + b)
     pub pages : (b : ℕ) → b < size_of (unpacked (G.table τ).shape)
@@ -142,7 +144,8 @@ module _ (env : Env) (mix : ℕ → ℕ → ℕ → ℕ) where
     pub first_at : (n j : ℕ) → G.node n ≡ First j → IsFirstAt M G n j
     pub behind_in : (n port : ℕ) → G.node n ≡ Behind port → IsBehindIn M G n port
     pub bound_to : (port n : ℕ) (behind : List ℕ) → G.bound port ≡ n ∷ behind → IsBoundTo M G port n behind
-    pub single : env.config.kind ≡ Single → (port n : ℕ) (behind : List ℕ) → G.bound port ≡ n ∷ behind → behind ≡ []
+    pub single : env.config.kind ≡ Single → (port n : ℕ) (behind : List ℕ) → G.bound port ≡ n ∷ behind
+        → behind ≡ []
 
   -- so far no node is on its way out of a chain, and one that was taken out of a list was so by one of the callers
   abbrev pub IsBuilt : Owner → Type 0

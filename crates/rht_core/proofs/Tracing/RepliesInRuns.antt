@@ -43,13 +43,16 @@ finds_next-alone : (port : ℕ) (next : FindAt × Next Reply) → EndsAlone (fin
 finds_next-alone port (state, Go) = tt
 finds_next-alone port (state, Done reply) = refl
 
-binds_next-alone : (port owner : ℕ) (once : Bool) (next : BindAt × Next Reply) → EndsAlone (binds_next port owner once next)
+binds_next-alone : (port owner : ℕ) (once : Bool) (next : BindAt × Next Reply)
+    → EndsAlone (binds_next port owner once next)
 binds_next-alone port owner once (state, Go) = tt
 binds_next-alone port owner once (state, Done reply) = refl
 
-job_after-alone : (mix : ℕ → ℕ → ℕ → ℕ) (env : Env) (job : Job) (old : ℕ) → EndsAlone (job_after mix env job old)
+job_after-alone : (mix : ℕ → ℕ → ℕ → ℕ) (env : Env) (job : Job) (old : ℕ)
+    → EndsAlone (job_after mix env job old)
 job_after-alone mix env (finds port state) old = finds_next-alone port (find.after_at mix env port state old)
-job_after-alone mix env (binds port owner once state) old = binds_next-alone port owner once (bind.after_at mix env port state old)
+job_after-alone mix env (binds port owner once state) old = binds_next-alone port owner once
+    (bind.after_at mix env port state old)
 
 module _ (M : Type 0) (mix : ℕ → ℕ → ℕ → ℕ) (env : Env) where
   -- the answer of the job's call, once it is known, is one of its kind
@@ -60,16 +63,20 @@ module _ (M : Type 0) (mix : ℕ → ℕ → ℕ → ℕ) (env : Env) where
   Answered call ending steps = EndsRight call ending
 
   -- an operation leaves it so, or tells one that is
-  answer-right : (job : Job) (did : Did) → Performs mix env job did → IfSome (held_of job).answer (IsReplied (call_of job))
+  answer-right : (job : Job) (did : Did) → Performs mix env job did
+      → IfSome (held_of job).answer (IsReplied (call_of job))
       → IfSome (held_next (job_after mix env job did.old)).answer (IsReplied (call_of job))
   answer-right job did performs holds =
       let step = performs.step in
-      known_so env.config.kind performs.caller (call_of job) (IsReplied (call_of job)) (IsReplied-same (call_of job)) _ _
+      known_so env.config.kind performs.caller (call_of job) (IsReplied (call_of job))
+      (IsReplied-same (call_of job)) _ _
       (held_of job).answer (held_next (job_after mix env job did.old)).answer step.says
       (λ answer unknown known. (step.right answer unknown known).replied) holds
 
-  leads-right : (job : Job) (all : List Did) (next : Job × Next Ending) → call_of next.0 ≡ call_of job → EndsAlone next
-      → IfSome (held_next next).answer (IsReplied (call_of job)) → LeadsOn M mix env Holds Answered job all next
+  leads-right : (job : Job) (all : List Did) (next : Job × Next Ending) → call_of next.0 ≡ call_of job
+      → EndsAlone next
+      → IfSome (held_next next).answer (IsReplied (call_of job))
+      → LeadsOn M mix env Holds Answered job all next
   leads-right job all (after, Go) same alone right =
       subst (λ call. IfSome (held_of after).answer (IsReplied call)) (sym same) right
   leads-right job all (after, Done ending) same alone right = record {
@@ -85,9 +92,11 @@ module _ (M : Type 0) (mix : ℕ → ℕ → ℕ → ℕ) (env : Env) where
       jobs_keep M mix env Holds Answered
       record {
         begins = λ call job is.
-            subst (λ (answer : Option Answer). IfSome answer (IsReplied (call_of job))) (sym (first_unknown env call job is)) tt;
+            subst (λ (answer : Option Answer). IfSome answer (IsReplied (call_of job)))
+            (sym (first_unknown env call job is)) tt;
         goes = λ job steps did performs holds.
-            leads-right job (steps ++ did ∷ []) (job_after mix env job did.old) (same_call mix env job did.old)
+            leads-right job (steps ++ did ∷ []) (job_after mix env job did.old)
+            (same_call mix env job did.old)
             (job_after-alone mix env job did.old) (answer-right job did performs holds);
       }
 
@@ -114,11 +123,14 @@ replies M mix env events admitted c =
     let is = remembers M mix env events admitted in
     let kept = runs-right M mix env events c admitted in
     let within : IsLocalIn env c (local_of r.world.core c) =
-    subst (λ (w : World M). IsLocalIn env c (local_of w.core c)) (sym is.world) ((runs-all M mix env events admitted).locals c) in
+    subst (λ (w : World M). IsLocalIn env c (local_of w.core c)) (sym is.world)
+    ((runs-all M mix env events admitted).locals c) in
     subst (λ (w : World M). AnswersIn env c (local_of w.core c) (w.books c)) is.world
     record {
-      finished = subst (AllByRecursion IsRightlyAnswered) (is.traces c).past (all-answered M mix env (r.traces c).past kept.past);
+      finished = subst (AllByRecursion IsRightlyAnswered) (is.traces c).past
+          (all-answered M mix env (r.traces c).past kept.past);
       progress =
-          book-of M mix env c (local_of r.world.core c).doing (r.world.books c) (r.traces c).steps within.doing kept.now;
+          book-of M mix env c (local_of r.world.core c).doing (r.world.books c) (r.traces c).steps
+          within.doing kept.now;
       lists = kept.lists;
     }

@@ -60,7 +60,12 @@ in_longer [] last more zero did is =
       stands = Contains-append_left last more did (subst (λ (s : List Did). Contains s did) same is.stands);
     }
 in_longer [] last more (suc number) did is = let none = is.call in absurd (cc)
-in_longer (first ∷ lists) last more zero did is = record { steps = is.steps; call = is.call; stands = is.stands }
+in_longer (first ∷ lists) last more zero did is = record {
+  steps = is.steps;
+  call = is.call;
+  stands =
+      is.stands;
+}
 in_longer (first ∷ lists) last more (suc number) did is =
     let behind =
     in_longer lists last more number did record { steps = is.steps; call = is.call; stands = is.stands } in
@@ -150,7 +155,8 @@ module _ (M : Type 0) (mix : ℕ → ℕ → ℕ → ℕ) (env : Env) where
       at_rest-book (job_of local.doing) ((R events).world.books c) _ (sym (nothing-job local.doing) ∙ idle)
       (runs-right M mix env events c admitted).now
 
-  idle-none : (events : List Event) (c : ℕ) → IsAdmitted env.config.kind events → is_idle (local_of (R events).world.core c) ≡ true
+  idle-none : (events : List Event) (c : ℕ) → IsAdmitted env.config.kind events
+      → is_idle (local_of (R events).world.core c) ≡ true
       → ((R events).traces c).steps ≡ []
   idle-none events c admitted idle =
       nil_from_length ((R events).traces c).steps
@@ -172,9 +178,11 @@ module _ (M : Type 0) (mix : ℕ → ℕ → ℕ → ℕ) (env : Env) where
   busy-call events c op admitted is =
       let core = (R events).world.core in
       let can = planned-some core.env core.enrolled core.locals c op is in
-      at_work-call (local_of core c) op (job_of (local_of core c).doing) _ _ can.plan refl (runs-right M mix env events c admitted).now
+      at_work-call (local_of core c) op (job_of (local_of core c).doing) _ _ can.plan refl
+      (runs-right M mix env events c admitted).now
 
-  module _ (events : List Event) (admitted : IsAdmitted env.config.kind events) (c : ℕ) (number : ℕ) (did : Did)
+  module _ (events : List Event) (admitted : IsAdmitted env.config.kind events) (c : ℕ) (number : ℕ)
+      (did : Did)
       (stood : IsStepOf ((R events).traces c) number did) where
     abbrev r : Traced M
     r = R events
@@ -186,10 +194,12 @@ module _ (M : Type 0) (mix : ℕ → ℕ → ℕ → ℕ) (env : Env) where
     begin-later : (d : ℕ) (call : Call) (machine : Option (Doing M))
         → beginning_in r.world.core d call ≡ machine
         → IsStepOf (traces_after mix r (Begin d call) c) number did
-    begin-later d call None is = unchanged _ (ap (λ (t : ℕ → Trace). t c) (trace_begin_none M mix r d call is))
+    begin-later d call None is = unchanged _ (ap (λ (t : ℕ → Trace). t c)
+        (trace_begin_none M mix r d call is))
     begin-later d call (Some machine) is = elim (cases_eq c d) [
       | inl same ↦
-          let can = beginning-some r.world.core.env r.world.core.enrolled r.world.core.locals d call machine is in
+          let can = beginning-some r.world.core.env r.world.core.enrolled r.world.core.locals d call
+          machine is in
           let idle = subst (λ k. is_idle (local_of r.world.core k) ≡ true) (sym same) can.idle in
           let begun : traces_after mix r (Begin d call) c ≡ trace_begun r.count (r.traces c) =
           subst (λ k. traces_after mix r (Begin d call) k ≡ trace_begun r.count (r.traces k)) (sym same)
@@ -210,9 +220,11 @@ module _ (M : Type 0) (mix : ℕ → ℕ → ℕ → ℕ) (env : Env) where
           let made : Did = record { index = r.count; op = op; old = old_of r.world.core.words op } in
           let next = local_after mix (local_of r.world.core c) made.old in
           let stepped : traces_after mix r (Step d) c ≡ trace_with M mix r c op =
-          subst (λ k. traces_after mix r (Step k) c ≡ trace_with M mix r c op) same (trace_step_self M mix r c op plan) in
+          subst (λ k. traces_after mix r (Step k) c ≡ trace_with M mix r c op) same
+          (trace_step_self M mix r c op plan) in
           subst (λ (t : Trace). IsStepOf t number did)
-          (sym (stepped ∙ ap (λ (o : Option Call). trace_did o made (ending_of next.0 next.1) (r.traces c)) busy.1))
+          (sym (stepped ∙ ap (λ (o : Option Call). trace_did o made (ending_of next.0 next.1)
+          (r.traces c)) busy.1))
           (older-in (r.traces c) made busy.0 (ending_of next.0 next.1) number did stood)
       | inr other ↦ unchanged _ (trace_step_other M mix r d c other)
     ]
@@ -232,7 +244,8 @@ module _ (M : Type 0) (mix : ℕ → ℕ → ℕ → ℕ) (env : Env) where
       (c : ℕ) (did : Did) → IsRecorded M mix env events c did
       → IsStepOf ((R events).traces c) (calls_ended M mix env (take did.index events) c) did
 
-  module _ (events : List Event) (admitted : IsAdmitted env.config.kind events) (event : Event) (c : ℕ) (did : Did)
+  module _ (events : List Event) (admitted : IsAdmitted env.config.kind events) (event : Event) (c : ℕ)
+      (did : Did)
       (recorded : IsRecorded M mix env (events ++ event ∷ []) c did) where
     abbrev more : List Event
     more = events ++ event ∷ []
@@ -241,17 +254,20 @@ module _ (M : Type 0) (mix : ℕ → ℕ → ℕ → ℕ) (env : Env) where
     older : AllStand events → did.index < length events
         → IsStepOf (traces_after mix (R events) event c) (calls_ended M mix env (take did.index more) c) did
     older each less =
-        let same : take did.index more ≡ take did.index events = take-push events event did.index (omega (arith, less)) in
+        let same : take did.index more ≡ take did.index events = take-push events event did.index
+        (omega (arith, less)) in
         let was : IsRecorded M mix env events c did = record {
           event = slice_get-shorter events event did.index (Step c) less recorded.event;
           plan =
               subst (λ (before : List Event). planned_in (run_of {M = M} mix env before).core c ≡ Some did.op)
               same recorded.plan;
           found =
-              subst (λ (before : List Event). old_of (run_of {M = M} mix env before).core.words did.op ≡ did.old) same recorded.found;
+              subst (λ (before : List Event). old_of (run_of {M = M} mix env before).core.words
+              did.op ≡ did.old) same recorded.found;
         } in
         later events admitted c (calls_ended M mix env (take did.index more) c) did
-        (subst (λ (before : List Event). IsStepOf ((R events).traces c) (calls_ended M mix env before c) did) (sym same) (each c did was))
+        (subst (λ (before : List Event). IsStepOf ((R events).traces c) (calls_ended M mix env before c)
+        did) (sym same) (each c did was))
         event
 
     -- one of the last event
@@ -271,18 +287,30 @@ module _ (M : Type 0) (mix : ℕ → ℕ → ℕ → ℕ) (env : Env) where
         sym (slice_get-push_last events event) ∙ ap (slice_get more) (sym last) ∙ recorded.event in cc in
         let busy = busy-call events c did.op admitted plan in
         let index : r.count ≡ did.index = count-traced_of M mix env events ∙ sym last in
-        let made : ◌≡◌ {A = Did} (record { index = r.count; op = did.op; old = old_of r.world.core.words did.op }) did =
+        let made : ◌≡◌ {A = Did} (record {
+          index = r.count;
+          op = did.op;
+          old = old_of r.world.core.words
+              did.op;
+        }) did =
         (λ i. record { index = index i; op = did.op; old = found i }) in
         let next = local_after mix (local_of r.world.core c) (old_of r.world.core.words did.op) in
         let stepped : traces_after mix r event c ≡ trace_did (Some busy.0) did (ending_of next.0 next.1) (r.traces c) =
         ap (λ (e : Event). traces_after mix r e c) is_step ∙ trace_step_self M mix r c did.op plan
-        ∙ ap (λ (o : Option Call). trace_did o (record { index = r.count; op = did.op; old = old_of r.world.core.words did.op }) (ending_of next.0 next.1) (r.traces c)) busy.1
+        ∙ ap (λ (o : Option Call). trace_did o (record {
+          index = r.count;
+          op = did.op;
+          old = old_of
+              r.world.core.words did.op;
+        }) (ending_of next.0 next.1) (r.traces c)) busy.1
         ∙ ap (λ (d : Did). trace_did (Some busy.0) d (ending_of next.0 next.1) (r.traces c)) made in
         let number : length (r.traces c).past ≡ calls_ended M mix env (take did.index more) c =
-        sym (length-map (r.traces c).past (λ (past : Past). past.done)) ∙ ap length (traces_of_books M mix env events c admitted).past
+        sym (length-map (r.traces c).past (λ (past : Past). past.done))
+        ∙ ap length (traces_of_books M mix env events c admitted).past
         ∙ ap (λ (w : World M). length (w.books c).finished) (sym world) in
         subst (λ (t : Trace). IsStepOf t (calls_ended M mix env (take did.index more) c) did) (sym stepped)
-        (subst (λ n. IsStepOf (trace_did (Some busy.0) did (ending_of next.0 next.1) (r.traces c)) n did) number
+        (subst (λ n. IsStepOf (trace_did (Some busy.0) did (ending_of next.0 next.1) (r.traces c)) n did)
+        number
         (newest-in (r.traces c) did busy.0 (ending_of next.0 next.1)))
 
   all_stand : (events : List Event) → IsAdmitted env.config.kind events → AllStand events
@@ -296,15 +324,18 @@ module _ (M : Type 0) (mix : ℕ → ℕ → ℕ → ℕ) (env : Env) where
       let stands : IsStepOf (traces_after mix (R events) event c) (calls_ended M mix env (take did.index (events ++ event ∷ [])) c) did =
       elim (cases_eq did.index (length events)) [
         | inl last ↦ newest events admitted event c did recorded last
-        | inr less ↦ older events admitted event c did recorded (each admitted) (omega (arith, within, longer, less))
+        | inr less ↦ older events admitted event c did recorded (each admitted)
+            (omega (arith, within, longer, less))
       ] in
-      subst (λ (r : Traced M). IsStepOf (r.traces c) (calls_ended M mix env (take did.index (events ++ event ∷ [])) c) did)
+      subst (λ (r : Traced M). IsStepOf (r.traces c) (calls_ended M mix env
+      (take did.index (events ++ event ∷ [])) c) did)
       (sym (traced_of-push M mix env events event)) stands)
 
 -- ---- no operation stands in two calls
 
 -- rising numbers may begin lower
-IsRising-lower : (from later : ℕ) (steps : List Did) → from ≤ later → IsRising later steps → IsRising from steps
+IsRising-lower : (from later : ℕ) (steps : List Did) → from ≤ later → IsRising later steps
+    → IsRising from steps
 IsRising-lower from later [] lower rising = tt
 IsRising-lower from later (did ∷ steps) lower rising = (omega (arith, lower, rising.0), rising.1)
 
@@ -325,8 +356,10 @@ rising-within from (did ∷ steps) rising =
     let behind = behind_steps (did.index + 1) steps in
     let here = from-behind (did.index + 1) steps rising.1 in (
       (rising.0, omega (arith, here)),
-      AllByRecursion-weaker (λ (d : Did). (did.index + 1 ≤ d.index) × (d.index < behind)) (λ (d : Did). (from ≤ d.index) × (d.index < behind))
-          (λ d within. (omega (arith, rising.0, within.0), within.1)) steps (rising-within (did.index + 1) steps rising.1),
+      AllByRecursion-weaker (λ (d : Did). (did.index + 1 ≤ d.index) × (d.index < behind))
+          (λ (d : Did). (from ≤ d.index) × (d.index < behind))
+          (λ d within. (omega (arith, rising.0, within.0), within.1)) steps
+          (rising-within (did.index + 1) steps rising.1),
     )
 
 -- each list begins behind the one before
@@ -339,7 +372,8 @@ AreRisingLists-lower : (from later : ℕ) (lists : List (List Did)) → from ≤
 AreRisingLists-lower from later [] lower rising = tt
 AreRisingLists-lower from later (steps ∷ lists) lower rising = (
   IsRising-lower from later steps lower rising.0,
-  AreRisingLists-lower (behind_steps from steps) (behind_steps later steps) lists (behind_steps-lower from later steps lower) rising.1,
+  AreRisingLists-lower (behind_steps from steps) (behind_steps later steps) lists
+      (behind_steps-lower from later steps lower) rising.1,
 )
 
 -- an operation of the first list lies within it
@@ -352,7 +386,8 @@ in_first from steps lists did rising is =
     All-contains P steps did (All-from_recursion P steps (rising-within from steps rising))
     (subst (λ (s : List Did). Contains s did) same is.stands)
 
-in_rest : (steps : List Did) (lists : List (List Did)) (number : ℕ) (did : Did) → IsIn (steps ∷ lists) (suc number) did
+in_rest : (steps : List Did) (lists : List (List Did)) (number : ℕ) (did : Did)
+    → IsIn (steps ∷ lists) (suc number) did
     → IsIn lists number did
 in_rest steps lists number did is = record { steps = is.steps; call = is.call; stands = is.stands }
 
@@ -362,7 +397,8 @@ at_least : (from : ℕ) (lists : List (List Did)) (number : ℕ) (did : Did) →
 at_least from [] number did rising is = let none = is.call in absurd (cc)
 at_least from (steps ∷ lists) zero did rising is = (in_first from steps lists did rising.0 is).0
 at_least from (steps ∷ lists) (suc number) did rising is =
-    let behind = at_least (behind_steps from steps) lists number did rising.1 (in_rest steps lists number did is) in
+    let behind = at_least (behind_steps from steps) lists number did rising.1
+    (in_rest steps lists number did is) in
     omega (arith, behind, from-behind from steps rising.0)
 
 -- so no operation is in two of them
@@ -373,15 +409,18 @@ in_one from [] one other did rising here there = let none = here.call in absurd 
 in_one from (steps ∷ lists) zero zero did rising here there = refl
 in_one from (steps ∷ lists) zero (suc other) did rising here there =
     let first = in_first from steps lists did rising.0 here in
-    let later = at_least (behind_steps from steps) lists other did rising.1 (in_rest steps lists other did there) in
+    let later = at_least (behind_steps from steps) lists other did rising.1
+    (in_rest steps lists other did there) in
     absurd (omega (arith, first.1, later))
 in_one from (steps ∷ lists) (suc one) zero did rising here there =
     let first = in_first from steps lists did rising.0 there in
-    let later = at_least (behind_steps from steps) lists one did rising.1 (in_rest steps lists one did here) in
+    let later = at_least (behind_steps from steps) lists one did rising.1
+    (in_rest steps lists one did here) in
     absurd (omega (arith, first.1, later))
 in_one from (steps ∷ lists) (suc one) (suc other) did rising here there =
     ap (λ n. suc n)
-    (in_one (behind_steps from steps) lists one other did rising.1 (in_rest steps lists one did here) (in_rest steps lists other did there))
+    (in_one (behind_steps from steps) lists one other did rising.1 (in_rest steps lists one did here)
+    (in_rest steps lists other did there))
 
 -- calls that come one behind the other have such lists
 calls-rising : (from : ℕ) (calls : List Past) (last : List Did) → AreInOrder from calls
@@ -391,8 +430,10 @@ calls-rising from [] last order rising = (rising, tt)
 calls-rising from (past ∷ calls) last order rising =
     let lower : from ≤ past.begin + 1 = omega (arith, order.0) in (
       IsRising-lower from (past.begin + 1) past.steps lower order.1,
-      AreRisingLists-lower (behind_steps from past.steps) (behind_call past) (map (λ past. past.steps) calls ++ last ∷ [])
-          (behind_steps-lower from (past.begin + 1) past.steps lower) (calls-rising (behind_call past) calls last order.2 rising),
+      AreRisingLists-lower (behind_steps from past.steps) (behind_call past)
+          (map (λ past. past.steps) calls ++ last ∷ [])
+          (behind_steps-lower from (past.begin + 1) past.steps lower)
+          (calls-rising (behind_call past) calls last order.2 rising),
     )
 
 module _ (M : Type 0) (mix : ℕ → ℕ → ℕ → ℕ) (env : Env) (events : List Event) (c : ℕ)
@@ -404,14 +445,18 @@ module _ (M : Type 0) (mix : ℕ → ℕ → ℕ → ℕ) (env : Env) (events : 
   book = (traced_of {M = M} mix env events).world.books c
 
   -- the operations of the call in progress come behind those of the past ones
-  last-rising : (job : Option Job) → IsAtJob M mix env (Holds M mix env) (Answered M mix env) job book trace.steps
+  last-rising : (job : Option Job) → IsAtJob M mix env (Holds M mix env) (Answered M mix env) job book
+      trace.steps
       → IsRising (behind_calls 0 trace.past) trace.steps
   last-rising None at =
-      let none = nil_from_length trace.steps ((traces_of_books M mix env events c admitted).steps ∙ at.steps) in
+      let none = nil_from_length trace.steps ((traces_of_books M mix env events c admitted).steps
+      ∙ at.steps) in
       subst (IsRising (behind_calls 0 trace.past)) (sym none) tt
   last-rising (Some job) at =
-      let progress = subst (λ (o : Option Call). IfSome o (IsInProgress events c trace)) at.call (at_events M mix env events admitted c).progress in
-      IsRising-lower (behind_calls 0 trace.past) (trace.begin + 1) trace.steps (omega (arith, progress.behind)) progress.rising
+      let progress = subst (λ (o : Option Call). IfSome o (IsInProgress events c trace)) at.call
+      (at_events M mix env events admitted c).progress in
+      IsRising-lower (behind_calls 0 trace.past) (trace.begin + 1) trace.steps
+      (omega (arith, progress.behind)) progress.rising
 
   all-rising : AreRisingLists 0 (steps_by_call trace)
   all-rising =
@@ -424,7 +469,8 @@ all_steps_traced M mix env events c did admitted recorded =
     record {
       there = there;
       only = λ other is.
-          in_one 0 (steps_by_call ((traced_of {M = M} mix env events).traces c)) _ other did (all-rising M mix env events c admitted)
+          in_one 0 (steps_by_call ((traced_of {M = M} mix env events).traces c)) _ other did
+          (all-rising M mix env events c admitted)
           (record { steps = there.steps; call = there.call; stands = there.stands })
           (record { steps = is.steps; call = is.call; stands = is.stands });
     }

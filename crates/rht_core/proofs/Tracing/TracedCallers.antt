@@ -58,7 +58,8 @@ module _ (M : Type 0) (mix : ℕ → ℕ → ℕ → ℕ) (env : Env) where
     pub index : did.index ≡ length events
     pub recorded : IsRecorded M mix env (events ++ Step c ∷ []) c did
     pub reply :
-        reply_of c (run_of mix env (take did.index (events ++ Step c ∷ []))) ≡ (local_after mix local did.old).1
+        reply_of c (run_of mix env (take did.index (events ++ Step c ∷ []))) ≡ (local_after mix local
+        did.old).1
 
   -- before the last event the world is the one that the events before it leave
   world_now : (events : List Event) (event : Event)
@@ -69,15 +70,23 @@ module _ (M : Type 0) (mix : ℕ → ℕ → ℕ → ℕ) (env : Env) where
 
   pub stays_in : (events : List Event) → StaysIn M mix env (R events).world.core
   stays_in events =
-      subst (λ (w : World M). StaysIn M mix env w.core) (sym (world-traced_of M mix env events)) (runs-in M mix env events)
+      subst (λ (w : World M). StaysIn M mix env w.core) (sym (world-traced_of M mix env events))
+      (runs-in M mix env events)
 
-  pub inv_now : (events : List Event) → IsAdmitted env.config.kind events → HasInv env mix M (R events).world.core
+  pub inv_now : (events : List Event) → IsAdmitted env.config.kind events
+      → HasInv env mix M (R events).world.core
   inv_now events admitted =
-      subst (λ (w : World M). HasInv env mix M w.core) (sym (world-traced_of M mix env events)) (has_inv env mix M events admitted)
+      subst (λ (w : World M). HasInv env mix M w.core) (sym (world-traced_of M mix env events))
+      (has_inv env mix M events admitted)
 
   -- the operation that is made next
   abbrev did_next : List Event → Op → Did
-  did_next events op = record { index = (R events).count; op = op; old = old_of (R events).world.core.words op }
+  did_next events op = record {
+    index = (R events).count;
+    op = op;
+    old = old_of
+        (R events).world.core.words op;
+  }
 
   did_next-made : (events : List Event) (c : ℕ) (op : Op) → IsAdmitted env.config.kind events
       → planned_by c (R events).world ≡ Some op
@@ -99,12 +108,14 @@ module _ (M : Type 0) (mix : ℕ → ℕ → ℕ → ℕ) (env : Env) where
         index = count-traced_of M mix env events;
         recorded = record {
           event =
-              ap (slice_get (events ++ Step c ∷ [])) (count-traced_of M mix env events) ∙ slice_get-push_last events (Step c);
+              ap (slice_get (events ++ Step c ∷ [])) (count-traced_of M mix env events)
+              ∙ slice_get-push_last events (Step c);
           plan = subst (λ (w : World M). planned_by c w ≡ Some op) (sym (world_now events (Step c))) is;
           found = ap (λ (w : World M). old_of w.core.words op) (world_now events (Step c));
         };
         reply =
-            ap (reply_of c) (world_now events (Step c)) ∙ ap (λ (o : Option Op). (with_step mix core c o).1.reply) is;
+            ap (reply_of c) (world_now events (Step c))
+            ∙ ap (λ (o : Option Op). (with_step mix core c o).1.reply) is;
       }
 
   -- ---- what callers keep
@@ -125,7 +136,8 @@ module _ (M : Type 0) (mix : ℕ → ℕ → ℕ → ℕ) (env : Env) where
           → IsMade events c view.local did
           → P events c view trace
           → let next = local_after mix view.local did.old in
-          P (events ++ Step c ∷ []) c (view_stepped mix did.old view) (trace_did view.book.call did (ending_of next.0 next.1) trace)
+          P (events ++ Step c ∷ []) c (view_stepped mix did.old view)
+          (trace_did view.book.call did (ending_of next.0 next.1) trace)
 
     abbrev AllKeep : List Event → Traced M → Type 0
     AllKeep events r = (k : ℕ) → P events k (view_of r.world k) (r.traces k)
@@ -158,19 +170,25 @@ module _ (M : Type 0) (mix : ℕ → ℕ → ℕ → ℕ) (env : Env) where
           (ap (λ (t : ℕ → Trace). t k) (trace_begin_none M mix r c call is))
       begins c call (Some machine) is k =
           let more = events ++ Begin c call ∷ [] in
-          let can = beginning-some r.world.core.env r.world.core.enrolled r.world.core.locals c call machine is in
+          let can = beginning-some r.world.core.env r.world.core.enrolled r.world.core.locals c call
+          machine is in
           let made = made_in M mix env r.world.core c call machine (stays_in events) can in
           let place = has_place M mix env r.world.core c (stays_in events) can.below in
           elim (cases_eq k c) [
             | inl same ↦
                 subst
-                (λ j. P more j (view_of (world_step mix r.world (Begin c call)) j) (traces_after mix r (Begin c call) j))
+                (λ j. P more j (view_of (world_step mix r.world (Begin c call)) j)
+                (traces_after mix r (Begin c call) j))
                 (sym same)
-                (put more c (view_begun call machine (view_of r.world c)) _ _ (trace_begun r.count (r.traces c))
-                (begin_self M mix r.world c call machine is place) (trace_begin_self M mix r c call machine is)
-                (kept.begins events c call machine r.count (view_of r.world c) (r.traces c) (count-traced_of M mix env events) can.idle made (each c)))
+                (put more c (view_begun call machine (view_of r.world c)) _ _
+                (trace_begun r.count (r.traces c))
+                (begin_self M mix r.world c call machine is place)
+                (trace_begin_self M mix r c call machine is)
+                (kept.begins events c call machine r.count (view_of r.world c) (r.traces c)
+                (count-traced_of M mix env events) can.idle made (each c)))
             | inr other ↦
-                stay (Begin c call) k _ _ (begin_other M mix r.world c call k other) (trace_begin_other M mix r c call k other)
+                stay (Begin c call) k _ _ (begin_other M mix r.world c call k other)
+                (trace_begin_other M mix r c call k other)
           ]
 
       steps : (c : ℕ) (op : Option Op) → planned_by c r.world ≡ op
@@ -185,11 +203,13 @@ module _ (M : Type 0) (mix : ℕ → ℕ → ℕ → ℕ) (env : Env) where
           let place = has_place M mix env r.world.core c (stays_in events) can.below in
           elim (cases_eq k c) [
             | inl same ↦
-                subst (λ j. P more j (view_of (world_step mix r.world (Step c)) j) (traces_after mix r (Step c) j))
+                subst (λ j. P more j (view_of (world_step mix r.world (Step c)) j)
+                (traces_after mix r (Step c) j))
                 (sym same)
                 (put more c (view_stepped mix did.old (view_of r.world c)) _ _ (trace_with M mix r c op)
                 (step_self M mix r.world c op is place) (trace_step_self M mix r c op is)
-                (kept.steps events c did (view_of r.world c) (r.traces c) (did_next-made events c op admitted is) (each c)))
+                (kept.steps events c did (view_of r.world c) (r.traces c)
+                (did_next-made events c op admitted is) (each c)))
             | inr other ↦
                 stay (Step c) k _ _ (step_other M mix r.world c k other) (trace_step_other M mix r c k other)
           ]
@@ -207,9 +227,11 @@ module _ (M : Type 0) (mix : ℕ → ℕ → ℕ → ℕ) (env : Env) where
     traced_callers_keep kept events c admitted =
         induct_by_last (λ es. IsAdmitted env.config.kind es → AllKeep es (R es))
         (λ none k.
-        each_replicate (λ (local : Local M). P [] k (record { local = local; book = new_book }) no_trace) env.geometry.callers k (fresh env)
+        each_replicate (λ (local : Local M). P [] k (record { local = local; book = new_book }) no_trace)
+        env.geometry.callers k (fresh env)
         (kept.opens k))
         (λ es event each all.
         let before = (AllByRecursion-cut (IsAdmittedEvent env.config.kind) es (event ∷ []) all).0 in
-        subst (AllKeep (es ++ event ∷ [])) (sym (traced_of-push M mix env es event)) (event_keeps kept es before (each before) event))
+        subst (AllKeep (es ++ event ∷ [])) (sym (traced_of-push M mix env es event))
+        (event_keeps kept es before (each before) event))
         events admitted c

@@ -52,18 +52,21 @@ has_reply (Some reply) = true
 
 module _ {M : Type 0} where
   -- whoever has a reply has ended a call
-  ended-replied : (local : Local M) (reply : Option Reply) → has_ended (ending_of local reply) ≡ has_reply reply
+  ended-replied : (local : Local M) (reply : Option Reply)
+      → has_ended (ending_of local reply) ≡ has_reply reply
   ended-replied local None = refl
   ended-replied local (Some reply) = refl
 
   -- a caller in a call has empty rooms
-  pub busy-none : (local : Local M) (book : Book) → is_idle local ≡ false → HasLists local book → HasNoLists local
+  pub busy-none : (local : Local M) (book : Book) → is_idle local ≡ false → HasLists local book
+      → HasNoLists local
   busy-none local book busy lists = record {
     owners = lists.owners ∙ ap (λ b. cond b (owners_with (last_or None book.finished)) []) busy;
     pairs = lists.pairs ∙ ap (λ b. cond b (pairs_with (last_or None book.finished)) []) busy;
   }
 
-  none-lists : (local : Local M) (book : Book) → is_idle local ≡ false → HasNoLists local → HasLists local book
+  none-lists : (local : Local M) (book : Book) → is_idle local ≡ false → HasNoLists local
+      → HasLists local book
   none-lists local book busy none = record {
     owners = none.owners ∙ ap (λ b. cond b (owners_with (last_or None book.finished)) []) (sym busy);
     pairs = none.pairs ∙ ap (λ b. cond b (pairs_with (last_or None book.finished)) []) (sym busy);
@@ -103,7 +106,8 @@ module _ (mix : ℕ → ℕ → ℕ → ℕ) (env : Env) where
     pub found : did.old ≡ old_of words did.op
     pub step :
         let r = job_after mix env job did.old in
-        Step env mix caller (call_of job) words ghost did.op (held_of job) (held_next r) (JobNext env mix caller r)
+        Step env mix caller (call_of job) words ghost did.op (held_of job) (held_next r)
+        (JobNext env mix caller r)
 
   -- the step of a caller is its job's
   pub record PerformsAs (doing : Option Job) (did : Did) : Type 0 where
@@ -130,7 +134,8 @@ module _ (mix : ℕ → ℕ → ℕ → ℕ) (env : Env) where
           knows = of.knows;
           found = known.found;
           step = subst (λ old. let r = job_after mix env of.job old in
-              Step env mix c (call_of of.job) known.core.words known.ghost did.op (held_of of.job) (held_next r) (JobNext env mix c r))
+              Step env mix c (call_of of.job) known.core.words known.ghost did.op (held_of of.job)
+              (held_next r) (JobNext env mix c r))
               (sym known.found) of.step;
         };
       }
@@ -192,7 +197,8 @@ module _ (M : Type 0) (mix : ℕ → ℕ → ℕ → ℕ) (env : Env) (Now : Job
       -- ---- an operation of a job
 
       -- what is kept once the job goes on, and once its call has ended
-      record IsKeptBy (book : Book) (trace : Trace) (did : Did) (left : Option Job × Option Ending) : Type 0 where
+      record IsKeptBy (book : Book) (trace : Trace) (did : Did) (left : Option Job × Option Ending) :
+          Type 0 where
         past : AllByRecursion IsEndedSo (trace_did book.call did left.1 trace).past
         now : IsAtJob left.0 (book_after left.1 book) (trace_did book.call did left.1 trace).steps
 
@@ -211,7 +217,8 @@ module _ (M : Type 0) (mix : ℕ → ℕ → ℕ → ℕ) (env : Env) (Now : Job
           } in
           record {
             past =
-                subst (λ (o : Option Call). AllByRecursion IsEndedSo (trace_did o did (Some ending) trace).past) (sym is)
+                subst (λ (o : Option Call). AllByRecursion IsEndedSo
+                (trace_did o did (Some ending) trace).past) (sym is)
                 (AllByRecursion-push IsEndedSo trace.past done past leads);
             now = record { call = refl; steps = refl };
           }
@@ -219,7 +226,8 @@ module _ (M : Type 0) (mix : ℕ → ℕ → ℕ → ℕ) (env : Env) (Now : Job
       steps-keeping : (events : List Event) (c : ℕ) (did : Did) (here : View M) (trace : Trace)
           → IsMade M mix env events c here.local did → IsKeeping here trace
           → let next = local_after mix here.local did.old in
-          IsKeeping (view_stepped mix did.old here) (trace_did here.book.call did (ending_of next.0 next.1) trace)
+          IsKeeping (view_stepped mix did.old here) (trace_did here.book.call did
+          (ending_of next.0 next.1) trace)
       steps-keeping events c did here trace made keeping =
           let next = local_after mix here.local did.old in
           let planning = performs-made mix env M events c here.local did made in
@@ -234,9 +242,11 @@ module _ (M : Type 0) (mix : ℕ → ℕ → ℕ → ℕ) (env : Env) (Now : Job
           let left = local_after-job mix env here.local job did.old none made.table planning.does in
           let kept =
           subst (IsKeptBy here.book trace did) (sym left)
-          (told-kept here.book trace did job after (same_call mix env job did.old) work.call keeping.past leads) in
+          (told-kept here.book trace did job after (same_call mix env job did.old) work.call keeping.past
+          leads) in
           let idle : is_idle next.0 ≡ has_reply next.1 =
-          nothing-job next.0.doing ∙ ap (λ l. is_no_job l.0) left ∙ left-told after ∙ ap (λ l. has_ended l.1) (sym left)
+          nothing-job next.0.doing ∙ ap (λ l. is_no_job l.0) left ∙ left-told after
+          ∙ ap (λ l. has_ended l.1) (sym left)
           ∙ ended-replied next.0 next.1 in
           record {
             past = kept.past;
@@ -256,7 +266,8 @@ module _ (M : Type 0) (mix : ℕ → ℕ → ℕ → ℕ) (env : Env) (Now : Job
           lists = record { owners = refl; pairs = refl };
         };
         stays = λ events event c here trace keeping. keeping;
-        begins = λ events c call machine index here trace now idle is. begins-keeping c call machine index here trace is;
+        begins = λ events c call machine index here trace now idle is. begins-keeping c call machine
+            index here trace is;
         steps = steps-keeping;
       }
 

@@ -31,7 +31,8 @@ module _ (M : Type 0) (mix : ℕ → ℕ → ℕ → ℕ) where
   traced_from-append r (event ∷ past) rest = traced_from-append (traced_step mix r event) past rest
 
   pub traced_of-push : (env : Env) (events : List Event) (event : Event)
-      → ◌≡◌ {A = Traced M} (traced_of mix env (events ++ event ∷ [])) (traced_step mix (traced_of mix env events) event)
+      → ◌≡◌ {A = Traced M} (traced_of mix env (events ++ event ∷ []))
+      (traced_step mix (traced_of mix env events) event)
   traced_of-push env events event = traced_from-append (traced_opening env) events (event ∷ [])
 
   -- the world beside the traces is the run's
@@ -46,15 +47,18 @@ module _ (M : Type 0) (mix : ℕ → ℕ → ℕ → ℕ) where
 
   pub count-traced_of : (env : Env) (events : List Event)
       → (traced_of {M = M} mix env events).count ≡ length events
-  count-traced_of env = induct_by_last (λ events. (traced_of {M = M} mix env events).count ≡ length events) refl
+  count-traced_of env = induct_by_last (λ events. (traced_of {M = M} mix env events).count ≡ length
+      events) refl
       (λ events event same.
-      ap (λ (r : Traced M). r.count) (traced_of-push env events event) ∙ ap (λ n. n + 1) same ∙ sym (length_push events event))
+      ap (λ (r : Traced M). r.count) (traced_of-push env events event) ∙ ap (λ n. n + 1) same
+      ∙ sym (length_push events event))
 
 -- ---- what an event does to a trace
 
 module _ (M : Type 0) (mix : ℕ → ℕ → ℕ → ℕ) (r : Traced M) (c : ℕ) where
   module _ (call : Call) where
-    pub trace_begin_none : beginning_in r.world.core c call ≡ None → traces_after mix r (Begin c call) ≡ r.traces
+    pub trace_begin_none : beginning_in r.world.core c call ≡ None
+        → traces_after mix r (Begin c call) ≡ r.traces
     trace_begin_none is = ap (traces_begun r c) is
 
     pub trace_begin_self : (machine : Doing M) → beginning_in r.world.core c call ≡ Some machine
@@ -78,13 +82,15 @@ module _ (M : Type 0) (mix : ℕ → ℕ → ℕ → ℕ) (r : Traced M) (c : �
   trace_with op =
       let old = old_of r.world.core.words op in
       let next = local_after mix (local_of r.world.core c) old in
-      trace_did (r.world.books c).call (record { index = r.count; op = op; old = old }) (ending_of next.0 next.1)
+      trace_did (r.world.books c).call (record { index = r.count; op = op; old = old })
+      (ending_of next.0 next.1)
       (r.traces c)
 
   pub trace_step_none : planned_in r.world.core c ≡ None → traces_after mix r (Step c) ≡ r.traces
   trace_step_none is = ap traces_with is
 
-  pub trace_step_self : (op : Op) → planned_in r.world.core c ≡ Some op → traces_after mix r (Step c) c ≡ trace_with op
+  pub trace_step_self : (op : Op) → planned_in r.world.core c ≡ Some op
+      → traces_after mix r (Step c) c ≡ trace_with op
   trace_step_self op is = ap (λ o. traces_with o c) is ∙ changed-same r.traces c (trace_with op)
 
   stepped_other : (k : ℕ) → k ≢ c → (op : Option Op) → traces_with op k ≡ r.traces k

@@ -80,9 +80,11 @@ module _ (M : Type 0) (mix : ℕ → ℕ → ℕ → ℕ) (env : Env) where
         let same = sym (take-push events event did.index (omega arith)) in
         record {
           event = slice_get-push events event did.index (Step c) is.event;
-          plan = subst (λ (before : List Event). planned_by c (run_of mix env before) ≡ Some did.op) same is.plan;
+          plan = subst (λ (before : List Event). planned_by c (run_of mix env before) ≡ Some did.op) same
+              is.plan;
           found =
-              subst (λ (before : List Event). old_of (run_of {M = M} mix env before).core.words did.op ≡ did.old) same is.found;
+              subst (λ (before : List Event). old_of (run_of {M = M} mix env before).core.words
+              did.op ≡ did.old) same is.found;
         }
 
     answered-more : (c : ℕ) (past : Past) → IsAnsweredAt M mix env events c past
@@ -96,7 +98,8 @@ module _ (M : Type 0) (mix : ℕ → ℕ → ℕ → ℕ) (env : Env) where
           last = is.last;
           steps_are = is.steps_are;
           reply =
-              subst (λ (before : List Event). reply_of M mix env c (run_of mix env before) ≡ Some past.done.reply)
+              subst (λ (before : List Event). reply_of M mix env c (run_of mix env before) ≡ Some
+              past.done.reply)
               (sym (take-push events event is.last.index (omega arith))) is.reply;
         }
 
@@ -143,7 +146,8 @@ module _ (M : Type 0) (mix : ℕ → ℕ → ℕ → ℕ) (env : Env) where
         steps = tt;
         progress = record {
           is = record {
-            began = ap (slice_get (events ++ Begin c call ∷ [])) is ∙ slice_get-push_last events (Begin c call);
+            began = ap (slice_get (events ++ Begin c call ∷ [])) is
+                ∙ slice_get-push_last events (Begin c call);
             behind = let ends = holds.past_ends in omega arith;
             rising = tt;
           };
@@ -155,7 +159,12 @@ module _ (M : Type 0) (mix : ℕ → ℕ → ℕ → ℕ) (env : Env) where
   goes_on : (events : List Event) (c : ℕ) (trace : Trace) (did : Did) (call : Call)
       → did.index ≡ length events
       → IsUnderWay events c trace call
-      → IsUnderWay (events ++ Step c ∷ []) c (record { begin = trace.begin; steps = trace.steps ++ did ∷ []; past = trace.past }) call
+      → IsUnderWay (events ++ Step c ∷ []) c (record {
+        begin = trace.begin;
+        steps =
+            trace.steps ++ did ∷ [];
+        past = trace.past;
+      }) call
   goes_on events c trace did call is way =
       let kept = under_way-more events (Step c) c trace call way in
       let longer = length_push events (Step c) in
@@ -176,11 +185,13 @@ module _ (M : Type 0) (mix : ℕ → ℕ → ℕ → ℕ) (env : Env) where
       → did.index ≡ length events → IsRecorded M mix env (events ++ Step c ∷ []) c did
       → reply_of M mix env c (run_of mix env (take did.index (events ++ Step c ∷ []))) ≡ reply
       → Holds events c call trace
-      → Holds (events ++ Step c ∷ []) c (book_after (ending_of next reply) book).call (trace_did call did (ending_of next reply) trace)
+      → Holds (events ++ Step c ∷ []) c (book_after (ending_of next reply) book).call
+      (trace_did call did (ending_of next reply) trace)
   did-holds events c call trace did next None book same is recorded gives holds =
       let kept = holds-more events (Step c) c call trace holds in
       let went =
-      IfSome_then call {P = IsUnderWay events c trace} {Q = IsUnderWay (events ++ Step c ∷ []) c (trace_did call did None trace)} holds.progress
+      IfSome_then call {P = IsUnderWay events c trace}
+      {Q = IsUnderWay (events ++ Step c ∷ []) c (trace_did call did None trace)} holds.progress
       (λ now way. goes_on events c trace did now is way) in
       record {
         past = kept.past;
@@ -188,7 +199,8 @@ module _ (M : Type 0) (mix : ℕ → ℕ → ℕ → ℕ) (env : Env) where
         past_ends = kept.past_ends;
         steps = AllByRecursion-push _ trace.steps did kept.steps recorded;
         progress =
-            subst (λ (o : Option Call). IfSome o (IsUnderWay (events ++ Step c ∷ []) c (trace_did call did None trace)))
+            subst (λ (o : Option Call). IfSome o (IsUnderWay (events ++ Step c ∷ []) c
+            (trace_did call did None trace)))
             (sym same) went;
       }
   did-holds events c None trace did next (Some reply) book same is recorded gives holds =
@@ -198,7 +210,8 @@ module _ (M : Type 0) (mix : ℕ → ℕ → ℕ → ℕ) (env : Env) where
         past = subst (AllByRecursion (IsPastCall M mix env (events ++ Step c ∷ []) c)) none kept.past;
         in_order = subst (AreInOrder 0) none kept.in_order;
         past_ends =
-            subst (λ (calls : List Past). behind_calls 0 calls ≤ length (events ++ Step c ∷ [])) none kept.past_ends;
+            subst (λ (calls : List Past). behind_calls 0 calls ≤ length (events ++ Step c ∷ [])) none
+            kept.past_ends;
         steps = tt;
         progress = tt;
       }
@@ -232,10 +245,12 @@ module _ (M : Type 0) (mix : ℕ → ℕ → ℕ → ℕ) (env : Env) where
         opens = λ c. record { past = tt; in_order = tt; past_ends = omega arith; steps = tt; progress = tt };
         stays = λ events event c here trace holds. holds-more events event c here.book.call trace holds;
         begins =
-            λ events c call machine index here trace now idle made holds. begin-holds events c call here.book.call trace index now holds;
+            λ events c call machine index here trace now idle made holds. begin-holds events c call
+            here.book.call trace index now holds;
         steps = λ events c did here trace made holds.
             let next = local_after mix here.local did.old in
-            did-holds events c here.book.call trace did next.0 next.1 here.book refl made.index made.recorded made.reply holds;
+            did-holds events c here.book.call trace did next.0 next.1 here.book refl made.index
+            made.recorded made.reply holds;
       }
 
 pub at_events : (M : Type 0) (mix : ℕ → ℕ → ℕ → ℕ) → AtEvents M mix
@@ -246,5 +261,6 @@ at_events M mix env events admitted c =
       in_order = holds.in_order;
       steps = holds.steps;
       progress =
-          IfSome_then ((traced_of {M = M} mix env events).world.books c).call holds.progress (λ call way. way.is);
+          IfSome_then ((traced_of {M = M} mix env events).world.books c).call holds.progress
+          (λ call way. way.is);
     }

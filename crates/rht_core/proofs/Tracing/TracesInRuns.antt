@@ -17,7 +17,8 @@ use Rattle.rht_core.proofs.Tracing.TracedCallers.{traced_callers_keep}
 
 -- the past call that is made of a finished one is of that one
 done-past : (begin : ℕ) (steps : List Did) (finished : List Finished)
-    → map (λ (past : Past). past.done) (map (λ (done : Finished). record { done = done; begin = begin; steps = steps }) finished) ≡ finished
+    → map (λ (past : Past). past.done) (map (λ (done : Finished).
+    record { done = done; begin = begin; steps = steps }) finished) ≡ finished
 done-past begin steps [] = refl
 done-past begin steps (done ∷ finished) =
     ap (λ (all : List Finished). done ∷ all) (done-past begin steps finished)
@@ -37,19 +38,22 @@ did-of did (Some ending) book trace of =
       past =
           map-append (λ (past : Past). past.done) trace.past
           (map (λ (done : Finished). record { done = done; begin = trace.begin; steps = steps }) ended)
-          ∙ ap (λ (all : List Finished). map (λ (past : Past). past.done) trace.past ++ all) (done-past trace.begin steps ended)
+          ∙ ap (λ (all : List Finished). map (λ (past : Past). past.done) trace.past ++ all)
+          (done-past trace.begin steps ended)
           ∙ ap (λ (all : List Finished). all ++ ended) of.past;
       steps = refl;
     }
 
 pub traces_of_books : (M : Type 0) (mix : ℕ → ℕ → ℕ → ℕ) (env : Env) (events : List Event) (c : ℕ)
-    → IsAdmitted env.config.kind events → let r : Traced M = traced_of mix env events in IsTraceOf (r.world.books c) (r.traces c)
+    → IsAdmitted env.config.kind events → let r : Traced M = traced_of mix env events in IsTraceOf
+    (r.world.books c) (r.traces c)
 traces_of_books M mix env =
     traced_callers_keep M mix env (λ past c here trace. IsTraceOf here.book trace)
     record {
       opens = λ c. record { past = refl; steps = refl };
       stays = λ past event c here trace of. of;
-      begins = λ past c call machine index here trace now idle made of. begun-of index call here.book trace of;
+      begins = λ past c call machine index here trace now idle made of. begun-of index call here.book
+          trace of;
       steps = λ past c did here trace made of.
           let next = local_after mix here.local did.old in
           did-of did (ending_of next.0 next.1) here.book trace of;

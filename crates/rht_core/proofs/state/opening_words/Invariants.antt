@@ -7,4 +7,5 @@ use Rattle.rht_core.proofs.state.opening_words.Given as goal
 -- the words before this place stand there
 abbrev pub invariant-loop-place : goal.invariant-loop-place
 invariant-loop-place l =
-    l.words.items ≡ map (λ place. opening_word l.env (address_at l.env.geometry place)) (range_with_len 0 l.place)
+    l.words.items ≡ map (λ place. opening_word l.env (address_at l.env.geometry place))
+    (range_with_len 0 l.place)

@@ -9,7 +9,8 @@ perform-requires g c = IsSound-reached g.row.M.Denot g.M.Mix.mix_of _ c.self.inv
 pub invariant_of-self : goal.invariant_of-self
 invariant_of-self g c =
     let kind = c.self.inside.env.config.kind in
-    let built = subst (λ (core : Core g.row.M.Denot). IsBuiltEvent core.env.config.kind c.args.event) (sym c.self.view_is) c.requires in
+    let built = subst (λ (core : Core g.row.M.Denot). IsBuiltEvent core.env.config.kind c.args.event)
+    (sym c.self.view_is) c.requires in
     let admitted : IsBuiltEvent kind c.args.event → IsAdmittedEvent kind c.args.event = search rules in
     let new = c.perform.new in
     let after : Core g.row.M.Denot = record {
@@ -18,5 +19,6 @@ invariant_of-self g c =
       enrolled = new.enrolled;
       locals = new.locals.items;
     } in
-    IsReached-more g.row.M.Denot g.M.Mix.mix_of _ after c.args.event c.perform.result (admitted built) c.perform.ensures
+    IsReached-more g.row.M.Denot g.M.Mix.mix_of _ after c.args.event c.perform.result (admitted built)
+    c.perform.ensures
     c.self.invariant
