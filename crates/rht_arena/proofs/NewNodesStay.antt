@@ -45,7 +45,8 @@ module _ (g : Geometry) where
   pub new_node_stays_at : (at : NewNodeAt) (word : ℕ) → IsNewNodeAtIn g at
       → NewNodeStays g (new_node_after_at at word)
   new_node_stays_at (at.Taking take) word within =
-      node_taken-in (take_node_after take word).0 (take_node_after take word).1 (take_stays g take word within)
+      node_taken-in (take_node_after take word).0 (take_node_after take word).1
+      (take_stays g take word within)
   new_node_stays_at (at.Key node) word within = record { at_in = within; node_in = tt }
   new_node_stays_at (at.Owner node) word within = record { at_in = within; node_in = tt }
   new_node_stays_at (at.ListLink node) word within = record { at_in = within; node_in = within }

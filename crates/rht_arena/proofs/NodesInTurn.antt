@@ -40,8 +40,10 @@ module _ (m : TakeNodeModel) (old : ℕ) (rest : Ran (Option ℕ)) (range : IsTa
   left = (take_node_after m old).0
 
   -- what its first operation sees
-  saw : (next : Next (Option ℕ)) → (take_node_after m old).1 ≡ next → SawFrom g (first_unseen m.at) step (left, next)
-  saw next is = subst (λ n. SawFrom g (first_unseen m.at) step (left, n)) is (take_after-from m m.at step refl range)
+  saw : (next : Next (Option ℕ)) → (take_node_after m old).1 ≡ next
+      → SawFrom g (first_unseen m.at) step (left, next)
+  saw next is = subst (λ n. SawFrom g (first_unseen m.at) step (left, n)) is
+      (take_after-from m m.at step refl range)
 
   -- where it finds none, then or later, they are seen in turn
   in_turn : (next : Next (Option ℕ)) → (take_node_after m old).1 ≡ next
@@ -62,17 +64,20 @@ module _ (m : TakeNodeModel) (old : ℕ) (rest : Ran (Option ℕ)) (range : IsTa
 
   -- where the nodes from one on are seen in turn, at which it stands or which is below, it finds none
   finds_none : (next : Next (Option ℕ)) → (take_node_after m old).1 ≡ next
-      → ((first : ℕ) → first ≤ first_unseen left.at → AreSeenInTurn g first rest.steps → rest.next ≡ Done None)
+      → ((first : ℕ) → first ≤ first_unseen left.at → AreSeenInTurn g first rest.steps
+      → rest.next ≡ Done None)
       → (first : ℕ) → first ≤ first_unseen m.at → AreSeenInTurn g first (went_on step next rest).steps
       → (went_on step next rest).next ≡ Done None
   finds_none Go is later first low turn =
-      later turn.end ((saw Go is).no_more turn.end (λ node l. turn.sees node (omega (arith, low, l)))) turn.behind
+      later turn.end ((saw Go is).no_more turn.end (λ node l. turn.sees node (omega (arith, low, l))))
+      turn.behind
   finds_none (Done None) is later first low turn = refl
   finds_none (Done (Some node)) is later first low turn =
       let short = saw (Done (Some node)) is turn.end (λ other l. turn.sees other (omega (arith, low, l))) in
       absurd (omega (arith, short, turn.behind))
 
-none-in_turn : (m : TakeNodeModel) (olds : List ℕ) → IsTakeAtIn m.geometry m.at → (taken m olds).next ≡ Done None
+none-in_turn : (m : TakeNodeModel) (olds : List ℕ) → IsTakeAtIn m.geometry m.at
+    → (taken m olds).next ≡ Done None
     → AreSeenInTurn m.geometry (first_unseen m.at) (taken m olds).steps
 none-in_turn m [] range none = absurd (cc)
 none-in_turn m (old ∷ olds) range none =
@@ -88,7 +93,8 @@ none-in_turn m (old ∷ olds) range none =
 in_turn-none : (m : TakeNodeModel) (olds : List ℕ) → IsTakeAtIn m.geometry m.at
     → (first : ℕ) → first ≤ first_unseen m.at → AreSeenInTurn m.geometry first (taken m olds).steps
     → (taken m olds).next ≡ Done None
-in_turn-none m [] range first low turn = absurd (omega (arith, low, turn, first_unseen-in m.geometry m.at range))
+in_turn-none m [] range first low turn = absurd (omega
+    (arith, low, turn, first_unseen-in m.geometry m.at range))
 in_turn-none m (old ∷ olds) range first low turn =
     let stays = take_after-in m old range in
     let left = (take_node_after m old).0 in
@@ -121,7 +127,8 @@ in_turn-seen : (g : Geometry) (first : ℕ) (steps : List Performed) → AreSeen
 in_turn-seen g first [] turn node low high = absurd (omega (arith, turn, low, high))
 in_turn-seen g first (step ∷ steps) turn node low high = elim (cases_lt node turn.end) [
   | inl here ↦ (0, step, omega arith, refl, turn.sees node low here)
-  | inr later ↦ Any-behind (SeesTaken g node) step steps (in_turn-seen g turn.end steps turn.behind node later high)
+  | inr later ↦ Any-behind (SeesTaken g node) step steps
+      (in_turn-seen g turn.end steps turn.behind node later high)
 ]
 
 pub none_only_where_taken : NoneOnlyWhereTaken

@@ -30,8 +30,10 @@ module _ (g : Geometry) where
   pub planned_give : (give : GiveNodeModel) → IsGiveIn g give → IsPlannedIn g (give_node_plan give)
   planned_give give within =
       let below = within.node_in in
-      subst (λ (h : Geometry). IsPlannedIn g (give_node_plan (record { geometry = h; node = give.node }))) (sym within.geometry_same)
-      (planned-at g _ (NodeMap (give.node / 64)) (omega arith) tt refl (bit_of-fits (give.node % 64) (omega arith)))
+      subst (λ (h : Geometry). IsPlannedIn g (give_node_plan
+      (record { geometry = h; node = give.node }))) (sym within.geometry_same)
+      (planned-at g _ (NodeMap (give.node / 64)) (omega arith) tt refl
+      (bit_of-fits (give.node % 64) (omega arith)))
 
   pub planned_new_node_at : (key owner : ℕ) (at : NewNodeAt) → IsWord key → IsWord owner → IsNewNodeAtIn g at
       → IsPlannedIn g (new_node_plan_at g key owner at)
@@ -46,5 +48,6 @@ module _ (g : Geometry) where
   -- a new node's words are stored in it
   pub planned_new_node : (m : NewNodeModel) → IsNewNodeIn g m → IsPlannedIn g (new_node_plan m)
   planned_new_node m within =
-      subst (λ (h : Geometry). IsPlannedIn g (new_node_plan_at h m.key m.owner m.at)) (sym within.geometry_same)
+      subst (λ (h : Geometry). IsPlannedIn g (new_node_plan_at h m.key m.owner m.at))
+      (sym within.geometry_same)
       (planned_new_node_at m.key m.owner m.at within.key_in within.owner_in within.at_in)

@@ -97,7 +97,8 @@ record LeftOf (take : TakeNodeModel) (step : Performed) (first index word : ℕ)
   clear : (bit : ℕ) → bit < 64 → first ≤ 64 * index + bit → bit_at word bit ≡ 0 → bit_at step.old bit ≡ 0
   set : (bit : ℕ) → bit < 64 → bit_at word bit ≡ 1 → (first ≤ 64 * index + bit) × (bit_at step.old bit ≡ 1)
 
-module _ (take : TakeNodeModel) (step : Performed) (first index word : ℕ) (left : LeftOf take step first index word) where
+module _ (take : TakeNodeModel) (step : Performed) (first index word : ℕ)
+    (left : LeftOf take step first index word) where
   abbrev g : Geometry
   g = take.geometry
 
@@ -134,14 +135,16 @@ module _ (take : TakeNodeModel) (step : Performed) (first index word : ℕ) (lef
       record {
         seen = subst (λ n. SeesAllTaken g first n step) end seen;
         no_more = λ further.
-            ends_before g first (64 * (index + 1)) further step left.high (sees_next_word g step index left.place);
+            ends_before g first (64 * (index + 1)) further step left.high
+            (sees_next_word g step index left.place);
       })
       (λ last.
       let past : map_words g.nodes ≤ index + 1 = ltb-false (index + 1) (map_words g.nodes) last in
       let until = g.nodes - 64 * index in
       let end : 64 * index + until ≡ g.nodes = omega (arith, range) in
       subst (λ n. SeesAllTaken g first n step) end
-      (sees_word until (omega (arith, past)) (λ bit low. none.clear bit (omega (arith, low, past)) (omega (arith, low)))))
+      (sees_word until (omega (arith, past)) (λ bit low. none.clear bit (omega (arith, low, past))
+      (omega (arith, low)))))
 
 -- each operation sees the nodes from the one at which the machine stands up to the next, and no further
 pub take_after-from : (take : TakeNodeModel) (state : TakeNodeAt) (step : Performed)
@@ -200,7 +203,8 @@ SawAllBelow g bound steps = (node : ℕ) → node < bound → Any (SeesTaken g n
 pub SawAllBelow-push : (g : Geometry) (bound : ℕ) (steps : List Performed) (step : Performed)
     → SawAllBelow g bound steps
     → SawAllBelow g bound (steps ++ step ∷ [])
-SawAllBelow-push g bound steps step saw node l = Any-append_left (SeesTaken g node) steps (step ∷ []) (saw node l)
+SawAllBelow-push g bound steps step saw node l = Any-append_left (SeesTaken g node) steps (step ∷ [])
+    (saw node l)
 
 -- and one more operation sees further
 SawAllBelow-further : (g : Geometry) (bound end : ℕ) (steps : List Performed) (step : Performed)
@@ -221,7 +225,8 @@ SawFrom-so_far : (g : Geometry) (first : ℕ) (steps : List Performed) (step : P
     → SawAllBelow g first steps → SawFrom g first step next → SawSoFar g (steps ++ step ∷ []) next
 SawFrom-so_far g first steps step (take, Go) saw from =
     SawAllBelow-further g first (first_unseen take.at) steps step saw from.seen
-SawFrom-so_far g first steps step (take, Done None) saw from = SawAllBelow-further g first g.nodes steps step saw from
+SawFrom-so_far g first steps step (take, Done None) saw from = SawAllBelow-further g first g.nodes steps
+    step saw from
 SawFrom-so_far g first steps step (take, Done (Some node)) saw from = tt
 
 -- each operation sees what is between the node at which the machine stands and the next
@@ -254,15 +259,18 @@ take_after-did : (take : TakeNodeModel) (state : TakeNodeAt) (old : ℕ) → old
     → IsTakeAtIn take.geometry state
     → DidBy take.geometry (record { op = plan_at take.geometry state; old = old }) (after_at take state old).1
 take_after-did take (MapWord index) old small range =
-    claim_in-did take (record { op = plan_at take.geometry (MapWord index); old = old }) index (lowest_free take.geometry.nodes index old) refl
+    claim_in-did take (record { op = plan_at take.geometry (MapWord index); old = old }) index
+    (lowest_free take.geometry.nodes index old) refl
 take_after-did take (Claim index bit) old small range =
     let above = bit_and old (bits_above bit) in
     let step : Performed = record { op = plan_at take.geometry (Claim index bit); old = old } in
-    cond_both {A = TakeNodeModel × Next (Option ℕ)} (eqb (bit_at old bit) 1) _ _ (λ next. DidBy take.geometry step next.1)
+    cond_both {A = TakeNodeModel × Next (Option ℕ)} (eqb (bit_at old bit) 1) _ _
+    (λ next. DidBy take.geometry step next.1)
     (λ set. claims take.geometry index bit old range (eqb-true (bit_at old bit) 1 set))
     (λ other.
     let clear : bit_at old bit ≡ 0 = omega (arith, eqb-false (bit_at old bit) 1 other, bit_at-lt old bit) in
-    claim_in-did take step index (lowest_free take.geometry.nodes index above) (cleared_already old bit range.within small clear))
+    claim_in-did take step index (lowest_free take.geometry.nodes index above)
+    (cleared_already old bit range.within small clear))
 
 -- ---- what the answer says
 
@@ -300,7 +308,14 @@ module _ (g : Geometry) (steps : List Performed) (m : TakeNodeModel) (old : ℕ)
   answers None is = All-push LeavesWord steps step kept.unchanged (did (Done None) is)
   answers (Some node) is =
       subst (λ (h : Geometry). IsAnsweredBy h (steps ++ step ∷ []) (Some node)) kept.geometry
-      (record { before = steps; last = step; are = refl; taking = did (Done (Some node)) is; unchanged = kept.unchanged })
+      (record {
+        before = steps;
+        last = step;
+        are = refl;
+        taking = did (Done (Some node)) is;
+        unchanged =
+            kept.unchanged;
+      })
 
 pub answers_say_what_was_done : AnswersSayWhatWasDone
 answers_say_what_was_done g olds answer known done =
@@ -308,5 +323,10 @@ answers_say_what_was_done g olds answer known done =
     (λ steps m old small kept is. goes_on g steps m old small kept is)
     (λ steps m old result small kept is. answers g steps m old small kept result is)
     [] (take_node_new g) olds answer known
-    (record { geometry = refl; in_range = omega (arith, g.within.nodes_within); unchanged = All-nil LeavesWord })
+    (record {
+      geometry = refl;
+      in_range = omega (arith, g.within.nodes_within);
+      unchanged = All-nil
+          LeavesWord;
+    })
     done

@@ -29,7 +29,8 @@ claim_in-no_node : (m : TakeNodeModel) (index node : ℕ) (lowest : Option ℕ)
     → (claim_in m index lowest).1 ≡ Done (Some node) → ⊥
 claim_in-no_node m index node (Some bit) done = cc
 claim_in-no_node m index node None done =
-    cond_both {A = TakeNodeModel × Next (Option ℕ)} (ltb (index + 1) (map_words m.geometry.nodes)) (record m { at = MapWord (index + 1) }, Go) (m, Done None)
+    cond_both {A = TakeNodeModel × Next (Option ℕ)} (ltb (index + 1) (map_words m.geometry.nodes))
+    (record m { at = MapWord (index + 1) }, Go) (m, Done None)
     (λ next. next.1 ≡ Done (Some node) → ⊥) (λ more is. cc) (λ last is. cc) done
 
 -- the operation of a machine that stands at this node takes it, where it finds the bit set
@@ -60,11 +61,13 @@ taken_at m (MapWord index) old node range done =
     absurd (claim_in-no_node m index node (lowest_free m.geometry.nodes index old) done)
 taken_at m (Claim index bit) old node range done =
     let above = bit_and old (bits_above bit) in
-    cond_both {A = TakeNodeModel × Next (Option ℕ)} (eqb (bit_at old bit) 1) (m, Done (Some (64 * index + bit))) (claim_among m index above)
+    cond_both {A = TakeNodeModel × Next (Option ℕ)} (eqb (bit_at old bit) 1)
+    (m, Done (Some (64 * index + bit))) (claim_among m index above)
     (λ next. next.1 ≡ Done (Some node) → IsTaking m.geometry node old (plan_at m.geometry (Claim index bit)))
     (λ set taken.
     let is : 64 * index + bit ≡ node = cc in
-    subst (λ n. IsTaking m.geometry n old (plan_at m.geometry (Claim index bit))) is (claims m.geometry index bit old range (eqb-true (bit_at old bit) 1 set)))
+    subst (λ n. IsTaking m.geometry n old (plan_at m.geometry (Claim index bit))) is
+    (claims m.geometry index bit old range (eqb-true (bit_at old bit) 1 set)))
     (λ clear other. absurd (claim_in-no_node m index node (lowest_free m.geometry.nodes index above) other))
     done
 

@@ -22,7 +22,11 @@ next_word-in : (take : TakeNodeModel) (index : ℕ) → IsTakeAtIn take.geometry
     → TakeStays take (next_word take index)
 next_word-in take index range =
     cond_both (nat_lt (index + 1) (map_words take.geometry.nodes)) _ _ (TakeStays take)
-    (λ t. record { geometry_same = refl; range = ltb-true (index + 1) (map_words take.geometry.nodes) t; node = tt })
+    (λ t. record {
+      geometry_same = refl;
+      range = ltb-true (index + 1) (map_words take.geometry.nodes) t;
+      node = tt;
+    })
     (λ f. record { geometry_same = refl; range = range; node = tt })
 
 claim_among-in : (take : TakeNodeModel) (index word : ℕ) → IsTakeAtIn take.geometry take.at

@@ -70,5 +70,6 @@ module _ (g : Geometry) (two : g.nodes ≡ 2) where
       let none_at_first : turn.end ≤ 0 = ends_before g 0 0 turn.end (loaded 1) (omega arith) free turn.sees in
       let one_at_most : then.end ≤ 1 =
       ends_before g turn.end 1 then.end (claimed 0 2) (omega (arith, none_at_first)) free_then then.sees in
-      let and_no_more : last.end ≤ 1 = ends_before g then.end 1 last.end (claimed 1 2) one_at_most free_last last.sees in
+      let and_no_more : last.end ≤ 1 = ends_before g then.end 1 last.end (claimed 1 2) one_at_most
+      free_last last.sees in
       absurd (omega (arith, and_no_more, last.behind, two))

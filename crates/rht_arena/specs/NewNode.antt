@@ -40,7 +40,8 @@ node_taken take (Done (Some node)) = (at.Key node, Go)
 
 -- what comes after a state that found this word
 abbrev pub new_node_after_at : NewNodeAt → ℕ → NewNodeAt × Next (Option ℕ)
-new_node_after_at (at.Taking take) word = node_taken (take_node_after take word).0 (take_node_after take word).1
+new_node_after_at (at.Taking take) word = node_taken (take_node_after take word).0
+    (take_node_after take word).1
 new_node_after_at (at.Key node) word = (at.Owner node, Go)
 new_node_after_at (at.Owner node) word = (at.ListLink node, Go)
 new_node_after_at (at.ListLink node) word = (at.ListLink node, Done (Some node))

@@ -31,7 +31,8 @@ take_node_plan m = plan_at m.geometry m.at
 -- behind this word comes the next one; where there is none, no node was free
 abbrev pub next_word : TakeNodeModel → ℕ → TakeNodeModel × Next (Option ℕ)
 next_word m index =
-    if nat_lt (index + 1) (map_words m.geometry.nodes) then (record m { at = MapWord (index + 1) }, Go) else (m, Done None)
+    if nat_lt (index + 1) (map_words m.geometry.nodes) then (record m { at = MapWord (index + 1) }, Go)
+    else (m, Done None)
 
 -- the lowest node of the map's word that is free there is claimed; where there is none, the next word is looked at
 abbrev pub claim_in : TakeNodeModel → ℕ → Option ℕ → TakeNodeModel × Next (Option ℕ)

@@ -61,14 +61,17 @@ module _ (g : Geometry) (words : List ℕ) (index word link : ℕ) (behind : Lis
       ap (λ w. head_of place w) changes.changed ∙ back in
       let segment : IsSegment (chain_in g (applied words (Store place value))) link behind stop =
       IsSegment-same (chain_in g words) (chain_in g (applied words (Store place value))) behind link stop
-      (λ k d l. changes.others (Node (get_or behind k d) ChainLink) (can.within k d l) (λ same. (cc))) can.rest in
+      (λ k d l. changes.others (Node (get_or behind k d) ChainLink) (can.within k d l) (λ same. (cc)))
+      can.rest in
       let chain : HasChain g (applied words (Store place value)) index behind stop =
-      subst (λ l. IsSegment (chain_in g (applied words (Store place value))) l behind stop) (sym first) segment in
+      subst (λ l. IsSegment (chain_in g (applied words (Store place value))) l behind stop) (sym first)
+      segment in
       record {
         at_once = chain;
         left = applied words (Store place value);
         ends =
-            ends_now relink_plan (λ machine old. relink_after machine) (relinking g index word [] link) words tt refl;
+            ends_now relink_plan (λ machine old. relink_after machine) (relinking g index word [] link)
+            words tt refl;
         chain = chain;
         unlocked = ap (λ w. w % 2) changes.changed ∙ plain_of-even place link back;
         others = λ other its apart off. changes.others other its apart;
@@ -90,7 +93,8 @@ module _ (g : Geometry) (words : List ℕ) (index word link : ℕ) (behind : Lis
       let segment : IsSegment (chain_in g linked) (head_of place (word_at g words (PageWord index))) all stop =
       IsSegment-relinked (chain_in g words) (chain_in g linked) last link stop behind change.changed can.rest
       node nodes (head_of place (word_at g words (PageWord index))) can.middle is
-      (λ k d l differ. change.others (Node (get_or all k d) ChainLink) (can.within k d l) (λ same. differ (cc))) can.distinct can.front in
+      (λ k d l differ. change.others (Node (get_or all k d) ChainLink) (can.within k d l)
+      (λ same. differ (cc))) can.distinct can.front in
       let unlocks : Op = Store place word in
       let ended = applied linked unlocks in
       let letting_go : ChangesOneWord g linked (PageWord index) unlocks =
@@ -99,11 +103,14 @@ module _ (g : Geometry) (words : List ℕ) (index word link : ℕ) (behind : Lis
       ap (λ w. head_of place w) letting_go.changed
       ∙ (sym (head_of-locked place word can.even) ∙ ap (λ w. head_of place w) (sym can.locked)) in
       let kept : IsSegment (chain_in g ended) (head_of place (word_at g words (PageWord index))) all stop =
-      IsSegment-same (chain_in g linked) (chain_in g ended) all (head_of place (word_at g words (PageWord index))) stop
-      (λ k d l. letting_go.others (Node (get_or all k d) ChainLink) (can.within k d l) (λ same. (cc))) segment in
+      IsSegment-same (chain_in g linked) (chain_in g ended) all
+      (head_of place (word_at g words (PageWord index))) stop
+      (λ k d l. letting_go.others (Node (get_or all k d) ChainLink) (can.within k d l) (λ same. (cc)))
+      segment in
       let m = relink_new g place word (Some last) link in
       record {
-        at_once = subst (λ w. IsSegment (chain_in g linked) (head_of place w) all stop) (sym bucket_stays) segment;
+        at_once = subst (λ w. IsSegment (chain_in g linked) (head_of place w) all stop)
+            (sym bucket_stays) segment;
         left = ended;
         ends =
             ends_later relink_plan (λ machine old. relink_after machine) m words tt ended refl
@@ -118,5 +125,6 @@ pub relinks_chains : RelinksChains
 relinks_chains g words index word [] link behind stop can = at_head g words index word link behind stop can
 relinks_chains g words index word (node ∷ nodes) link behind stop can =
     let last = last_of node nodes in
-    subst (λ before. IsRelinked g words index (node ∷ nodes) behind stop (relink_new g (place_of g (PageWord index)) word before link)) (sym last.1)
+    subst (λ before. IsRelinked g words index (node ∷ nodes) behind stop
+    (relink_new g (place_of g (PageWord index)) word before link)) (sym last.1)
     (behind_node g words index word link behind stop node nodes last.0 last.1 can)

@@ -17,7 +17,13 @@ module _ (key_of : ℕ → ℕ) (key : ℕ) (nodes : List ℕ) (stop : ℕ) wher
   -- what is seen where the first node with the key has this place
   abbrev seen_at : ℕ → Seen
   seen_at place =
-      record { found = Some (get_or nodes place 0); before = last_or None (take place nodes); length = place + 1; end = link_of (get_or nodes place 0) }
+      record {
+        found = Some (get_or nodes place 0);
+        before = last_or None (take place nodes);
+        length =
+            place + 1;
+        end = link_of (get_or nodes place 0);
+      }
 
   pub at_first : (first : ℕ) → position test nodes ≡ Some first
       → seen_at first ≡ seen_in key_of key nodes stop
@@ -33,7 +39,8 @@ module _ (key_of : ℕ → ℕ) (key : ℕ) (nodes : List ℕ) (stop : ℕ) wher
       let count : length (take place nodes) ≡ place = length-take-le place nodes (omega (arith, low)) in
       let counted : seen_at place ≡ seen_behind (before_first test nodes) stop (Some (get_or nodes place 0)) =
       ap (λ n. record (seen_at place) { length = n + 1 }) (sym count) in
-      subst (λ p. seen_at p ≡ seen_in key_of key nodes stop) same (counted ∙ ap (λ f. seen_behind (before_first test nodes) stop f) (sym found)))
+      subst (λ p. seen_at p ≡ seen_in key_of key nodes stop) same (counted
+      ∙ ap (λ f. seen_behind (before_first test nodes) stop f) (sym found)))
       (λ past is. absurd (cc))
 
   pub at_end : position test nodes ≡ None

@@ -11,16 +11,19 @@ module _ (key_of : ℕ → ℕ) (key : ℕ) where
 
   -- a node without the key is passed
   pub node_passed : (node : ℕ) (nodes : List ℕ) → test node ≡ false
-      → (find test (node ∷ nodes) ≡ find test nodes) × (before_first test (node ∷ nodes) ≡ node ∷ before_first test nodes)
+      → (find test (node ∷ nodes) ≡ find test nodes) × (before_first test
+      (node ∷ nodes) ≡ node ∷ before_first test nodes)
   node_passed node nodes other =
-      let further : position_or_len test (node ∷ nodes) ≡ suc (position_or_len test nodes) = rw other (omega arith) in
+      let further : position_or_len test (node ∷ nodes) ≡ suc (position_or_len test nodes) = rw other
+      (omega arith) in
       (rw other refl, ap (λ n. take n (node ∷ nodes)) further)
 
   -- none of the nodes has the key, or this is the first one that has it
   abbrev IsSplit : List ℕ → List ℕ → Option ℕ → Type 0
   IsSplit nodes passed None = All (λ other. key_of other ≢ key) passed × (nodes ≡ passed)
   IsSplit nodes passed (Some node) =
-      All (λ other. key_of other ≢ key) passed × (key_of node ≡ key) × (behind : List ℕ) × (nodes ≡ passed ++ node ∷ behind)
+      All (λ other. key_of other ≢ key) passed × (key_of node ≡ key) × (behind : List ℕ)
+      × (nodes ≡ passed ++ node ∷ behind)
 
   -- one more node, which has another key, before a list that is split
   one_more : (node : ℕ) (nodes passed : List ℕ) (found : Option ℕ) → key_of node ≢ key
@@ -37,7 +40,8 @@ module _ (key_of : ℕ → ℕ) (key : ℕ) where
     | inl is ↦ rw is (All-nil (λ n. key_of n ≢ key), eqb-true (key_of node) key is, nodes, refl)
     | inr other ↦
         let passed = node_passed node nodes other in
-        rw (passed.0, passed.1) (one_more node nodes (before_first test nodes) (find test nodes) (eqb-false (key_of node) key other) (splits nodes))
+        rw (passed.0, passed.1) (one_more node nodes (before_first test nodes) (find test nodes)
+        (eqb-false (key_of node) key other) (splits nodes))
   ]
 
   -- what is seen behind these nodes is so

@@ -10,7 +10,8 @@ use Rattle.rht_chain.specs.Laws.{DidAsItSays, LocksEvenWords}
 
 -- By cases on the state.
 did_at : (place : ℕ) (at : LockAt) (old : ℕ) → IsEven at
-    → DidAsItSays (record { place = place; at = at }) old (lock_after_at (record { place = place; at = at }) at old).1
+    → DidAsItSays (record { place = place; at = at }) old
+    (lock_after_at (record { place = place; at = at }) at old).1
 did_at place at.Word old even =
     let m : LockModel = record { place = place; at = at.Word } in
     cond_both {A = LockModel × Next ℕ} (eqb (old % 2) 1) (m, Go) (record m { at = at.Exchange old }, Go)

@@ -58,7 +58,8 @@ module _ (g : Geometry) where
   planned_relink_at : (relink : RelinkModel) (at : RelinkAt) → IsRelinkIn g relink → IsRelinkAtIn g at
       → IsRelinkWord at → IsPlannedIn g (relink_plan_at relink at)
   planned_relink_at relink (relink_at.ChainLink before) within here store =
-      subst (λ (h : Geometry). IsPlannedIn g (relink_plan_at (record relink { geometry = h }) (relink_at.ChainLink before)))
+      subst (λ (h : Geometry). IsPlannedIn g (relink_plan_at (record relink { geometry = h })
+      (relink_at.ChainLink before)))
       (sym within.geometry_same) (planned-at g _ (Node before ChainLink) here tt refl within.link_in)
   planned_relink_at relink (relink_at.Word word) within here store = planned_bucket g _ within.place_in store
 

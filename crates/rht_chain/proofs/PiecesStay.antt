@@ -41,18 +41,30 @@ pub record LockStays (g : Geometry) (next : LockModel × Next ℕ) : Type 0 wher
   pub found_in : IsFoundWord next.1
 
 module _ (g : Geometry) where
-  lock_after_at-in : (lock : LockModel) (at : LockAt) (word : ℕ) → IsLockIn g lock → IsLockWord at → IsWord word
+  lock_after_at-in : (lock : LockModel) (at : LockAt) (word : ℕ) → IsLockIn g lock → IsLockWord at
+      → IsWord word
       → LockStays g (lock_after_at lock at word)
   lock_after_at-in lock lock_at.Word word within here told =
       cond_both (word % 2 == 1) _ _ (LockStays g)
       (λ t. record { lock_in = within; found_in = tt })
       (λ f.
       let odd = eqb-false (word % 2) 1 f in
-      record { lock_in = record { place_in = within.place_in; even = omega (arith, odd); word_in = told }; found_in = tt })
+      record {
+        lock_in = record {
+          place_in = within.place_in;
+          even = omega (arith, odd);
+          word_in = told;
+        };
+        found_in = tt;
+      })
   lock_after_at-in lock (lock_at.Exchange found) word within here told =
       cond_both (word == found) _ _ (LockStays g)
       (λ t. record { lock_in = within; found_in = here })
-      (λ f. record { lock_in = record { place_in = within.place_in; even = tt; word_in = tt }; found_in = tt })
+      (λ f. record {
+        lock_in = record { place_in = within.place_in; even = tt; word_in = tt };
+        found_in =
+            tt;
+      })
 
   pub lock_stays : (lock : LockModel) (word : ℕ) → IsLockIn g lock → IsWord word
       → LockStays g (lock_after lock word)
@@ -97,7 +109,12 @@ walk_after_at-in : (walk : LockedWalkModel) (at : LockedWalkAt) (word : ℕ)
     → IsWalkAtIn walk.geometry walk.before walk.at → WalkKeeps walk (walk_after_at walk at word)
 walk_after_at-in walk (walk_at.Key node) word here range =
     cond_both (word == walk.key) _ _ (WalkKeeps walk)
-    (λ t. record { geometry_same = refl; range = range; seen = record { found_in = here.0; before_in = here.1 } })
+    (λ t. record {
+      geometry_same = refl;
+      range = range;
+      seen =
+          record { found_in = here.0; before_in = here.1 };
+    })
     (λ f. record { geometry_same = refl; range = here; seen = tt })
 walk_after_at-in walk (walk_at.ChainLink node) word here range =
     followed-in walk node word (node_of walk.geometry.nodes word) here.0 (node_of-in walk.geometry word)
@@ -118,7 +135,8 @@ walk_stays g walk word within =
     record {
       walk_in = record {
         geometry_same = same;
-        at_in = subst (λ h. IsWalkAtIn h (locked_walk_after walk word).0.before (locked_walk_after walk word).0.at) same keeps.range;
+        at_in = subst (λ h. IsWalkAtIn h (locked_walk_after walk word).0.before
+            (locked_walk_after walk word).0.at) same keeps.range;
       };
       seen_in = subst (λ h. IsNextIn h (locked_walk_after walk word).1) within.geometry_same keeps.seen;
     }
@@ -176,7 +194,11 @@ module _ (g : Geometry) (key : ℕ) where
     end_in = record { bucket_in = bucket_in; seen_in = record { found_in = tt; before_in = tt } };
   }
   walk_or_seen-in lock bucket head (Some node) lock_in bucket_in first_in = record {
-    at_in = record { bucket_in = bucket_in; walk_in = record { geometry_same = refl; at_in = (first_in, tt) } };
+    at_in = record {
+      bucket_in = bucket_in;
+      walk_in =
+          record { geometry_same = refl; at_in = (first_in, tt) };
+    };
     end_in = tt;
   }
 
@@ -185,7 +207,8 @@ module _ (g : Geometry) (key : ℕ) where
   lock_taken-in lock Go stays = record { at_in = stays.lock_in; end_in = tt }
   lock_taken-in lock (Done word) stays =
       let head = head_of lock.place word in
-      walk_or_seen-in lock (record { place = lock.place; word = word }) head (node_of g.nodes head) stays.lock_in
+      walk_or_seen-in lock (record { place = lock.place; word = word }) head (node_of g.nodes head)
+      stays.lock_in
       record { place_in = stays.lock_in.place_in; word_in = stays.found_in } (node_of-in g head)
 
   walk_taken-in : (bucket : Locked) (walk : LockedWalkModel) (next : Next Seen) → IsLockedIn g bucket

@@ -26,22 +26,31 @@ use Rattle.rht_chain.specs.Laws.{has_key, seen_in, seen_behind, EndsWith, WalksS
 abbrev seen_further : Option ℕ → ℕ → List ℕ → ℕ → Option ℕ → Seen
 seen_further last count passed stop None = not_found (last_or last passed) (count + length passed) stop
 seen_further last count passed stop (Some node) =
-    record { found = Some node; before = last_or last passed; length = count + length passed + 1; end = link_of node }
+    record {
+      found = Some node;
+      before = last_or last passed;
+      length = count + length passed + 1;
+      end =
+          link_of node;
+    }
 
 -- with no node before it, that is what is to be seen
 seen_further-none : (passed : List ℕ) (stop : ℕ) (found : Option ℕ)
     → seen_further None 0 passed stop found ≡ seen_behind passed stop found
 seen_further-none passed stop None = ap (λ n. not_found (last_or None passed) n stop) (omega arith)
 seen_further-none passed stop (Some node) =
-    ap (λ n. record { found = Some node; before = last_or None passed; length = n; end = link_of node }) (omega arith)
+    ap (λ n. record { found = Some node; before = last_or None passed; length = n; end = link_of node })
+    (omega arith)
 
 -- one more node is passed
 seen_further-more : (last : Option ℕ) (count node : ℕ) (passed : List ℕ) (stop : ℕ) (found : Option ℕ)
-    → seen_further last count (node ∷ passed) stop found ≡ seen_further (Some node) (count + 1) passed stop found
+    → seen_further last count (node ∷ passed) stop found ≡ seen_further (Some node) (count + 1) passed
+    stop found
 seen_further-more last count node passed stop None =
     ap (λ n. not_found (last_or (Some node) passed) n stop) (omega arith)
 seen_further-more last count node passed stop (Some n) =
-    ap (λ l. record { found = Some n; before = last_or (Some node) passed; length = l; end = link_of n }) (omega arith)
+    ap (λ l. record { found = Some n; before = last_or (Some node) passed; length = l; end = link_of n })
+    (omega arith)
 
 module _ (g : Geometry) (words : List ℕ) (key stop : ℕ) (stops : node_of g.nodes stop ≡ None) where
   abbrev test : ℕ → Bool
@@ -74,14 +83,16 @@ module _ (g : Geometry) (words : List ℕ) (key stop : ℕ) (stops : node_of g.n
       let from_next : EndsAlone locked_walk_plan locked_walk_after next (applied words (locked_walk_plan m)) seen words =
       subst (λ w. EndsAlone locked_walk_plan locked_walk_after next w seen words) (sym same) rest in
       ends_later locked_walk_plan locked_walk_after m words seen words (ap (λ p. p.1) is)
-      (subst (λ n. EndsAlone locked_walk_plan locked_walk_after n (applied words (locked_walk_plan m)) seen words) (sym (ap (λ p. p.0) is)) from_next)
+      (subst (λ n. EndsAlone locked_walk_plan locked_walk_after n (applied words (locked_walk_plan m))
+      seen words) (sym (ap (λ p. p.0) is)) from_next)
 
   -- a node without the key is passed
   passes : (last : Option ℕ) (count node : ℕ) (nodes : List ℕ) → test node ≡ false
       → seen_of last count (node ∷ nodes) ≡ seen_of (Some node) (count + 1) nodes
   passes last count node nodes other =
       let split = node_passed (key_in g words) key node nodes other in
-      (ap (λ p. seen_further last count p stop (find test (node ∷ nodes))) split.1 ∙ ap (λ f. seen_further last count (node ∷ before_first test nodes) stop f) split.0)
+      (ap (λ p. seen_further last count p stop (find test (node ∷ nodes))) split.1
+      ∙ ap (λ f. seen_further last count (node ∷ before_first test nodes) stop f) split.0)
       ∙ seen_further-more last count node (before_first test nodes) stop (find test nodes)
 
   -- Before the key of a node is loaded: `behind` is the walk behind it, where the key is another.
@@ -91,11 +102,18 @@ module _ (g : Geometry) (words : List ℕ) (key stop : ℕ) (stops : node_of g.n
   at_key node nodes last count few behind =
       let exact : one_more count ≡ count + 1 = omega (arith, few) in
       elim (cases_Bool (test node)) [
-        | inl is ↦ answers (walk_at last count (at.Key node)) (walk_at last (one_more count) (at.Key node)) (seen_of last count (node ∷ nodes))
-            (rw is (ap (λ n. (walk_at last (one_more count) (at.Key node), Done (record { found = Some node; before = last; length = n; end = link_of node }))) (exact ∙ omega arith)))
+        | inl is ↦ answers (walk_at last count (at.Key node))
+            (walk_at last (one_more count) (at.Key node)) (seen_of last count (node ∷ nodes))
+            (rw is (ap (λ n. (
+              walk_at last (one_more count) (at.Key node),
+              Done
+                  (record { found = Some node; before = last; length = n; end = link_of node }),
+            )) (exact
+            ∙ omega arith)))
         | inr other ↦
             rw (passes last count node nodes other)
-            (goes_on (walk_at last count (at.Key node)) (walk_at last (count + 1) (at.ChainLink node)) (seen_of (Some node) (count + 1) nodes)
+            (goes_on (walk_at last count (at.Key node)) (walk_at last (count + 1) (at.ChainLink node))
+            (seen_of (Some node) (count + 1) nodes)
             (rw other (ap (λ n. (walk_at last n (at.ChainLink node), Go)) exact))
             behind)
       ]
@@ -110,15 +128,19 @@ module _ (g : Geometry) (words : List ℕ) (key stop : ℕ) (stops : node_of g.n
       let none : node_of g.nodes link ≡ None = ap (λ l. node_of g.nodes l) segment ∙ stops in
       let ended = walk_at (Some node) count (at.ChainLink node) in
       answers (walk_at last count (at.ChainLink node)) ended (seen_of (Some node) count [])
-      (ap (λ o. followed (walk_at last count (at.ChainLink node)) node link o) none ∙ (ap (λ n. (ended, Done (not_found (Some node) n link))) (omega arith) ∙ ap (λ l. (ended, Done (not_found (Some node) (count + 0) l))) segment))
+      (ap (λ o. followed (walk_at last count (at.ChainLink node)) node link o) none
+      ∙ (ap (λ n. (ended, Done (not_found (Some node) n link))) (omega arith)
+      ∙ ap (λ l. (ended, Done (not_found (Some node) (count + 0) l))) segment))
   behind_node node (next ∷ nodes) last count segment within few =
       let link = chain_in g words node in
       let some : node_of g.nodes link ≡ Some next =
       ap (λ l. node_of g.nodes l) segment.0
       ∙ links_tell_apart.link_names g.nodes next (All-head (λ n. n < g.nodes) next nodes within) in
       let rest : Ends (walk_at (Some node) (count + 1) (at.ChainLink next)) (seen_of (Some next) (count + 1) nodes) =
-      behind_node next nodes (Some node) (count + 1) segment.1 (All-tail (λ n. n < g.nodes) next nodes within) (omega (arith, few)) in
-      goes_on (walk_at last count (at.ChainLink node)) (walk_at (Some node) count (at.Key next)) (seen_of (Some node) count (next ∷ nodes))
+      behind_node next nodes (Some node) (count + 1) segment.1
+      (All-tail (λ n. n < g.nodes) next nodes within) (omega (arith, few)) in
+      goes_on (walk_at last count (at.ChainLink node)) (walk_at (Some node) count (at.Key next))
+      (seen_of (Some node) count (next ∷ nodes))
       (ap (λ o. followed (walk_at last count (at.ChainLink node)) node link o) some)
       (at_key next nodes (Some node) count (omega (arith, few)) rest)
 
@@ -128,22 +150,28 @@ module _ (g : Geometry) (words : List ℕ) (key stop : ℕ) (stops : node_of g.n
       → All (λ n. n < g.nodes) nodes → count + length nodes + 1 < 2 ^ 32
       → Ends (walk_at last count (at.Key node)) (seen_of last count (node ∷ nodes))
   at_node node nodes last count segment within few =
-      at_key node nodes last count (omega (arith, few)) (behind_node node nodes last (count + 1) segment within (omega (arith, few)))
+      at_key node nodes last count (omega (arith, few))
+      (behind_node node nodes last (count + 1) segment within (omega (arith, few)))
 
   -- a chain that is begun at its first link
   pub starts_with : (first : ℕ) (nodes : List ℕ) → IsSegment (chain_in g words) first nodes stop
       → All (λ n. n < g.nodes) nodes → length nodes < 2 ^ 32
-      → EndsWith words (seen_in (key_in g words) key nodes stop) (walk_from g key first (node_of g.nodes first))
+      → EndsWith words (seen_in (key_in g words) key nodes stop)
+      (walk_from g key first (node_of g.nodes first))
   starts_with first [] segment within few =
       let none : node_of g.nodes first ≡ None = ap (λ l. node_of g.nodes l) segment ∙ stops in
-      subst (λ o. EndsWith words (not_found None 0 stop) (walk_from g key first o)) (sym none) (ap (λ l. not_found None 0 l) segment)
+      subst (λ o. EndsWith words (not_found None 0 stop) (walk_from g key first o)) (sym none)
+      (ap (λ l. not_found None 0 l) segment)
   starts_with first (node ∷ nodes) segment within few =
       let some : node_of g.nodes first ≡ Some node =
       ap (λ l. node_of g.nodes l) segment.0
       ∙ links_tell_apart.link_names g.nodes node (All-head (λ n. n < g.nodes) node nodes within) in
-      subst (λ o. EndsWith words (seen_in (key_in g words) key (node ∷ nodes) stop) (walk_from g key first o)) (sym some)
-      (subst (λ seen. Ends (walk_at None 0 (at.Key node)) seen) (seen_further-none (before_first test (node ∷ nodes)) stop (find test (node ∷ nodes)))
-      (at_node node nodes None 0 segment.1 (All-tail (λ n. n < g.nodes) node nodes within) (omega (arith, few))))
+      subst (λ o. EndsWith words (seen_in (key_in g words) key (node ∷ nodes) stop)
+      (walk_from g key first o)) (sym some)
+      (subst (λ seen. Ends (walk_at None 0 (at.Key node)) seen)
+      (seen_further-none (before_first test (node ∷ nodes)) stop (find test (node ∷ nodes)))
+      (at_node node nodes None 0 segment.1 (All-tail (λ n. n < g.nodes) node nodes within)
+      (omega (arith, few))))
 
 pub walks_see_their_chain : WalksSeeTheirChain
 walks_see_their_chain g words place word key nodes stop can =

@@ -32,7 +32,8 @@ IsWalking-same g words other nodes m same walking =
     let Same : ℕ → Type 0 = λ node. key_in g other node ≡ key_in g words node in
     let first = loaded_first walking.passed m.at walking.behind in
     let keys : All Same (loaded walking.passed m.at) =
-    (All-cut Same (loaded walking.passed m.at) first.0 (subst (λ list. All Same list) (walking.split ∙ first.1) same.keys)).0 in
+    (All-cut Same (loaded walking.passed m.at) first.0 (subst (λ list. All Same list) (walking.split
+    ∙ first.1) same.keys)).0 in
     record {
       geometry = walking.geometry;
       passed = walking.passed;
@@ -67,12 +68,14 @@ module _ (g : Geometry) (words : List ℕ) (key stop : ℕ) where
       → nodes ≡ passed ++ node ∷ behind → All HasOther passed → before ≡ last_or None passed
       → count ≡ length passed
       → let m = walk_at before (one_more count) (at.Key node) in
-      IsInChain g words key nodes stop (compared m node (key_in g words node)).0 (compared m node (key_in g words node)).1
+      IsInChain g words key nodes stop (compared m node (key_in g words node)).0
+      (compared m node (key_in g words node)).1
   key_loaded nodes passed node behind count before few split others before_is count_is =
       let m = walk_at before (one_more count) (at.Key node) in
       let exact : one_more count ≡ length passed + 1 =
       omega (arith, few, count_is, ap length split, length-append passed (node ∷ behind)) in
-      cond_both {A = LockedWalkModel × Next Seen} (eqb (key_in g words node) key) (m, Done (found_at m node)) (record m { at = at.ChainLink node }, Go)
+      cond_both {A = LockedWalkModel × Next Seen} (eqb (key_in g words node) key)
+      (m, Done (found_at m node)) (record m { at = at.ChainLink node }, Go)
       (λ next. IsInChain g words key nodes stop next.0 next.1)
       (λ has. record {
         passed = passed;
@@ -104,12 +107,14 @@ module _ (g : Geometry) (words : List ℕ) (key stop : ℕ) where
       → nodes ≡ passed ++ node ∷ behind → All HasOther (passed ++ node ∷ [])
       → count ≡ length (passed ++ node ∷ [])
       → let m = walk_at before count (at.ChainLink node) in let link = chain_in g words node in
-      IsInChain g words key nodes stop (followed m node link (node_of g.nodes link)).0 (followed m node link (node_of g.nodes link)).1
+      IsInChain g words key nodes stop (followed m node link (node_of g.nodes link)).0
+      (followed m node link (node_of g.nodes link)).1
   link_loaded nodes passed node [] count before stops segment within split others count_is =
       let m = walk_at before count (at.ChainLink node) in
       let link = chain_in g words node in
       let none : node_of g.nodes link ≡ None = ap (λ l. node_of g.nodes l) segment ∙ stops in
-      subst (λ o. IsInChain g words key nodes stop (followed m node link o).0 (followed m node link o).1) (sym none)
+      subst (λ o. IsInChain g words key nodes stop (followed m node link o).0 (followed m node link o).1)
+      (sym none)
       (record {
         others = subst (λ list. All HasOther list) (sym split) others;
         before = sym (ap (λ list. last_or None list) split ∙ last_or-push None passed node);
@@ -122,7 +127,8 @@ module _ (g : Geometry) (words : List ℕ) (key stop : ℕ) where
       let some : node_of g.nodes link ≡ Some next =
       ap (λ l. node_of g.nodes l) segment.0
       ∙ links_tell_apart.link_names g.nodes next (All-head (λ n. n < g.nodes) next behind within) in
-      subst (λ o. IsInChain g words key nodes stop (followed m node link o).0 (followed m node link o).1) (sym some) (
+      subst (λ o. IsInChain g words key nodes stop (followed m node link o).0 (followed m node link o).1)
+      (sym some) (
         refl,
         record {
           geometry = refl;
@@ -145,10 +151,13 @@ module _ (g : Geometry) (words : List ℕ) (key stop : ℕ) where
       key_loaded nodes passed node behind count before can.few split others before_is count_is
   stays_at link nodes passed behind count before (at.ChainLink node) can split others before_is count_is =
       let segment =
-      IsSegment-cut (chain_in g words) passed node behind link stop (subst (λ list. IsSegment (chain_in g words) link list stop) split can.segment) in
+      IsSegment-cut (chain_in g words) passed node behind link stop
+      (subst (λ list. IsSegment (chain_in g words) link list stop) split can.segment) in
       let within =
-      (All-cut (λ n. n < g.nodes) passed (node ∷ behind) (subst (λ list. All (λ n. n < g.nodes) list) split can.within)).1 in
-      link_loaded nodes passed node behind count before can.stops segment.1 (All-tail (λ n. n < g.nodes) node behind within) split others count_is
+      (All-cut (λ n. n < g.nodes) passed (node ∷ behind)
+      (subst (λ list. All (λ n. n < g.nodes) list) split can.within)).1 in
+      link_loaded nodes passed node behind count before can.stops segment.1
+      (All-tail (λ n. n < g.nodes) node behind within) split others count_is
 
   -- a chain is begun at its first link
   begins_at : (link : ℕ) (nodes : List ℕ) → IsSegment (chain_in g words) link nodes stop
@@ -162,18 +171,34 @@ module _ (g : Geometry) (words : List ℕ) (key stop : ℕ) where
       let some : node_of g.nodes link ≡ Some node =
       ap (λ l. node_of g.nodes l) segment.0
       ∙ links_tell_apart.link_names g.nodes node (All-head (λ n. n < g.nodes) node behind within) in
-      subst (λ o. BeginsInChain g words key (node ∷ behind) stop (walk_from g key link o)) (sym some)
-      (refl, record { geometry = refl; passed = []; behind = behind; split = refl; others = All-nil HasOther; before = refl; counted = refl })
+      subst (λ o. BeginsInChain g words key (node ∷ behind) stop (walk_from g key link o)) (sym some) (
+        refl,
+        record {
+          geometry = refl;
+          passed = [];
+          behind = behind;
+          split = refl;
+          others = All-nil
+              HasOther;
+          before = refl;
+          counted = refl;
+        },
+      )
 
 pub walks_stay_in_chain : WalksStayInChain
 walks_stay_in_chain = record {
   begins =
-      λ g words place word key nodes stop can. begins_at g words key stop (head_of place word) nodes can.segment can.within can.stops;
+      λ g words place word key nodes stop can. begins_at g words key stop (head_of place word) nodes
+      can.segment can.within can.stops;
   stays = λ g words link nodes stop m can walking.
-      subst (λ geometry. let next = stepped words (record m { geometry = geometry }) in IsInChain g words m.key nodes stop next.0 next.1)
+      subst (λ geometry. let next = stepped words (record m { geometry = geometry }) in IsInChain g words
+      m.key nodes stop next.0 next.1)
       (sym walking.geometry)
       (stays_at g words m.key stop link nodes walking.passed walking.behind m.length m.before m.at can
       walking.split walking.others walking.before walking.counted);
-  undisturbed = λ g words other link nodes stop m same can walking.
-      (CanWalk-same g words other link nodes stop same can, IsWalking-same g words other nodes m same walking);
+  undisturbed = λ g words other link nodes stop m same can walking. (
+    CanWalk-same g words other link nodes stop same can,
+    IsWalking-same g words other nodes m same
+        walking,
+  );
 }

@@ -156,7 +156,8 @@ pub record WalksStayInChain : Type 0 where
 
 -- A bucket is locked, whose word was this one, and is to get another chain: these of its nodes stay (`kept`), and behind
 -- them come those to which the link leads. No node stands twice, and the last link can be read from a bucket's word.
-pub record CanRelink (g : Geometry) (words : List ℕ) (index word : ℕ) (kept : List ℕ) (link : ℕ) (behind : List ℕ) (stop : ℕ) : Type 0 where
+pub record CanRelink (g : Geometry) (words : List ℕ) (index word : ℕ) (kept : List ℕ) (link : ℕ)
+    (behind : List ℕ) (stop : ℕ) : Type 0 where
   pub whole : length words ≡ words_in g
   pub bucket : index < 64 * g.pages
   pub even : word % 2 ≡ 0
@@ -178,7 +179,8 @@ HasNewChain g words index kept behind stop = HasChain g words index (kept ++ beh
 
 -- With its first operation the bucket has the new chain. At the end it has it, is unlocked, and no other word was
 -- changed than the bucket's and the link behind the last node that stays.
-pub record IsRelinked (g : Geometry) (words : List ℕ) (index : ℕ) (kept behind : List ℕ) (stop : ℕ) (m : RelinkModel) : Type 0 where
+pub record IsRelinked (g : Geometry) (words : List ℕ) (index : ℕ) (kept behind : List ℕ) (stop : ℕ)
+    (m : RelinkModel) : Type 0 where
   pub at_once : HasNewChain g (applied words (relink_plan m)) index kept behind stop
   pub left : List ℕ
   pub ends : EndsAlone relink_plan (λ machine old. relink_after machine) m words tt left

@@ -30,7 +30,8 @@ lock_plan m = lock_plan_at m.place m.at
 -- what comes after a state that found this word
 abbrev pub lock_after_at : LockModel → LockAt → ℕ → LockModel × Next ℕ
 lock_after_at m at.Word word = if word % 2 == 1 then (m, Go) else (record m { at = at.Exchange word }, Go)
-lock_after_at m (at.Exchange found) word = if word == found then (m, Done found) else (record m { at = at.Word }, Go)
+lock_after_at m (at.Exchange found) word = if word == found then (m, Done found) else
+    (record m { at = at.Word }, Go)
 
 abbrev pub lock_after : LockModel → ℕ → LockModel × Next ℕ
 lock_after m word = lock_after_at m m.at word

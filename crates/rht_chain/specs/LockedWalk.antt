@@ -56,7 +56,8 @@ found_at m node = record { found = Some node; before = m.before; length = m.leng
 
 -- where the node has the key the walk ends, and else its link is loaded
 abbrev pub compared : LockedWalkModel → ℕ → ℕ → LockedWalkModel × Next Seen
-compared m node key = if key == m.key then (m, Done (found_at m node)) else (record m { at = at.ChainLink node }, Go)
+compared m node key = if key == m.key then (m, Done (found_at m node)) else
+    (record m { at = at.ChainLink node }, Go)
 
 -- behind this node the walk goes on with the next one, where the link leads to one
 abbrev pub followed : LockedWalkModel → ℕ → ℕ → Option ℕ → LockedWalkModel × Next Seen

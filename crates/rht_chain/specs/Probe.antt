@@ -56,7 +56,8 @@ walk_taken bucket walk (Done seen) = (at.Walking bucket walk, Done (probed_in bu
 
 -- what comes after a state that found this word
 abbrev pub probe_after_at : Geometry → ℕ → ProbeAt → ℕ → ProbeAt × Next Probed
-probe_after_at g key (at.Locking lock) word = lock_taken g key (lock_after lock word).0 (lock_after lock word).1
+probe_after_at g key (at.Locking lock) word = lock_taken g key (lock_after lock word).0
+    (lock_after lock word).1
 probe_after_at g key (at.Walking bucket walk) word =
     walk_taken bucket (locked_walk_after walk word).0 (locked_walk_after walk word).1
 

@@ -25,7 +25,8 @@ listed_alike (pair ∷ pairs) port = elim (cases_eq port pair.0) [
 
 pub Lists-listed : (pairs : List (ℕ × ℕ)) → HasRisingPorts pairs → Lists (listed pairs) (bound_in pairs)
 Lists-listed pairs rising = record {
-  rising = IsStrictlyIncreasing-from_rises 0 (ports_of (listed pairs)) (ports_rise 0 pairs (from_zero pairs) rising);
+  rising = IsStrictlyIncreasing-from_rises 0 (ports_of (listed pairs))
+      (ports_rise 0 pairs (from_zero pairs) rising);
   bound = All-from_recursion (λ pair. pair.1 ≢ []) (listed pairs) (owners_each pairs);
   agree = listed_alike pairs;
 }

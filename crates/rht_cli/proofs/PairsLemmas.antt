@@ -46,7 +46,8 @@ module _ (port : ℕ) (front back : List (ℕ × ℕ)) (below : AllByRecursion (
   with_pair : (owner : ℕ)
       → bound_in (front ++ (port, owner) ∷ back) ≡ with_owners (bound_in (front ++ back)) port (owner ∷ [])
   with_pair owner = same_bindings _ _ (λ other. elim (cases_eq other port) [
-    | inl same ↦ rw (eq-eqb other port same, same) (said_below port front ((port, owner) ∷ back) below ∙ said_here port owner back)
+    | inl same ↦ rw (eq-eqb other port same, same) (said_below port front ((port, owner) ∷ back) below
+        ∙ said_here port owner back)
     | inr differs ↦ rw (ne_eqb other port differs) (said_beside other (port, owner) front back differs)
   ])
 
@@ -54,7 +55,8 @@ module _ (port : ℕ) (front back : List (ℕ × ℕ)) (below : AllByRecursion (
   without_pair : (owner : ℕ) → AllByRecursion (λ pair. port < pair.0) back
       → bound_in (front ++ back) ≡ with_owners (bound_in (front ++ (port, owner) ∷ back)) port []
   without_pair owner above = same_bindings _ _ (λ other. elim (cases_eq other port) [
-    | inl same ↦ rw (eq-eqb other port same, same) (said_below port front back below ∙ said_above port back above)
+    | inl same ↦ rw (eq-eqb other port same, same) (said_below port front back below
+        ∙ said_above port back above)
     | inr differs ↦ rw (ne_eqb other port differs) (sym (said_beside other (port, owner) front back differs))
   ])
 
@@ -62,7 +64,8 @@ module _ (port : ℕ) (front back : List (ℕ × ℕ)) (below : AllByRecursion (
 all_above : (low high : ℕ) (pairs : List (ℕ × ℕ)) → low ≤ high
     → AllByRecursion (λ pair. high < pair.0) pairs → AllByRecursion (λ pair. low < pair.0) pairs
 all_above low high pairs le all =
-    AllByRecursion-weaker (λ (pair : ℕ × ℕ). high < pair.0) (λ (pair : ℕ × ℕ). low < pair.0) (λ pair above. omega arith) pairs all
+    AllByRecursion-weaker (λ (pair : ℕ × ℕ). high < pair.0) (λ (pair : ℕ × ℕ). low < pair.0)
+    (λ pair above. omega arith) pairs all
 
 -- a pair at its place keeps the order
 HasRisingPorts-with : (pair : ℕ × ℕ) (front back : List (ℕ × ℕ))
@@ -70,23 +73,28 @@ HasRisingPorts-with : (pair : ℕ × ℕ) (front back : List (ℕ × ℕ))
     → HasRisingPorts (front ++ back) → HasRisingPorts (front ++ pair ∷ back)
 HasRisingPorts-with pair [] back below above rising = (above, rising)
 HasRisingPorts-with pair (first ∷ front) back below above rising =
-    let parts = AllByRecursion-cut (λ other. first.0 < other.0) front back rising.0 in
-    (AllByRecursion-append (λ other. first.0 < other.0) front (pair ∷ back) parts.0 (below.0, parts.1), HasRisingPorts-with pair front back below.1 above rising.1)
+    let parts = AllByRecursion-cut (λ other. first.0 < other.0) front back rising.0 in (
+      AllByRecursion-append (λ other. first.0 < other.0) front (pair ∷ back) parts.0 (below.0, parts.1),
+      HasRisingPorts-with pair front back below.1 above rising.1,
+    )
 
 -- and so does the list without a pair
 HasRisingPorts-without : (pair : ℕ × ℕ) (front back : List (ℕ × ℕ)) → HasRisingPorts (front ++ pair ∷ back)
     → HasRisingPorts (front ++ back)
 HasRisingPorts-without pair [] back rising = rising.1
 HasRisingPorts-without pair (first ∷ front) back rising =
-    let parts = AllByRecursion-cut (λ other. first.0 < other.0) front (pair ∷ back) rising.0 in
-    (AllByRecursion-append (λ other. first.0 < other.0) front back parts.0 parts.1.1, HasRisingPorts-without pair front back rising.1)
+    let parts = AllByRecursion-cut (λ other. first.0 < other.0) front (pair ∷ back) rising.0 in (
+      AllByRecursion-append (λ other. first.0 < other.0) front back parts.0 parts.1.1,
+      HasRisingPorts-without pair front back rising.1,
+    )
 
 -- in a gap of the port no pair has it
 pub unbound_at_gap : (pairs : List (ℕ × ℕ)) (port place : ℕ) → IsGap pairs port place
     → bound_in pairs port ≡ []
 unbound_at_gap pairs port place gap =
     ap (λ l. bound_in l port) (sym (take-append-drop place pairs))
-    ∙ said_below port (take place pairs) (drop place pairs) gap.below ∙ said_above port (drop place pairs) gap.above
+    ∙ said_below port (take place pairs) (drop place pairs) gap.below
+    ∙ said_above port (drop place pairs) gap.above
 
 -- a new pair in the gap binds the port alone
 pub bound_in-insert : (pairs : List (ℕ × ℕ)) (port place owner : ℕ) → IsGap pairs port place
@@ -99,12 +107,14 @@ bound_in-insert pairs port place owner gap =
 pub HasRisingPorts-insert : (pairs : List (ℕ × ℕ)) (port place owner : ℕ) → IsGap pairs port place
     → HasRisingPorts pairs → HasRisingPorts (insert pairs place (port, owner))
 HasRisingPorts-insert pairs port place owner gap rising =
-    HasRisingPorts-with (port, owner) (take place pairs) (drop place pairs) gap.below gap.above (subst HasRisingPorts (sym (take-append-drop place pairs)) rising)
+    HasRisingPorts-with (port, owner) (take place pairs) (drop place pairs) gap.below gap.above
+    (subst HasRisingPorts (sym (take-append-drop place pairs)) rising)
 
 -- a list is what stands before a pair, the pair, and what stands after it
 parted : (pairs : List (ℕ × ℕ)) (port place owner : ℕ) → IsAt pairs port place owner
     → pairs ≡ take place pairs ++ (port, owner) ∷ drop (place + 1) pairs
-parted pairs port place owner at = sym (take-append-drop place pairs) ∙ ap (λ l. take place pairs ++ l) at.here
+parted pairs port place owner at = sym (take-append-drop place pairs)
+    ∙ ap (λ l. take place pairs ++ l) at.here
 
 -- the list without the pair at a place
 removed : (pairs : List (ℕ × ℕ)) (place : ℕ) → remove pairs place ≡ take place pairs ++ drop (place + 1) pairs
@@ -123,7 +133,8 @@ pub bound_at : (pairs : List (ℕ × ℕ)) (port place owner : ℕ) → IsAt pai
     → bound_in pairs port ≡ owner ∷ []
 bound_at pairs port place owner at =
     ap (λ l. bound_in l port) (parted pairs port place owner at)
-    ∙ said_below port (take place pairs) ((port, owner) ∷ drop (place + 1) pairs) at.below ∙ said_here port owner (drop (place + 1) pairs)
+    ∙ said_below port (take place pairs) ((port, owner) ∷ drop (place + 1) pairs) at.below
+    ∙ said_here port owner (drop (place + 1) pairs)
 
 -- without it the port isn't bound, and nothing else changes
 pub bound_in-remove : (pairs : List (ℕ × ℕ)) (port place owner : ℕ) → IsAt pairs port place owner
@@ -138,7 +149,8 @@ pub HasRisingPorts-remove : (pairs : List (ℕ × ℕ)) (port place owner : ℕ)
     → HasRisingPorts pairs → HasRisingPorts (remove pairs place)
 HasRisingPorts-remove pairs port place owner at rising =
     subst HasRisingPorts (sym (removed pairs place))
-    (HasRisingPorts-without (port, owner) (take place pairs) (drop (place + 1) pairs) (subst HasRisingPorts (parted pairs port place owner at) rising))
+    (HasRisingPorts-without (port, owner) (take place pairs) (drop (place + 1) pairs)
+    (subst HasRisingPorts (parted pairs port place owner at) rising))
 
 -- a pair of another owner in its place: the port has that owner alone, and nothing else changes
 pub bound_in-set : (pairs : List (ℕ × ℕ)) (port place owner new : ℕ) → IsAt pairs port place owner
@@ -151,7 +163,8 @@ bound_in-set pairs port place owner new at =
     ∙ same_bindings _ _ (λ other. elim (cases_eq other port) [
       | inl same ↦ rw (eq-eqb other port same) refl
       | inr differs ↦ rw (ne_eqb other port differs)
-          (sym (ap (λ l. bound_in l other) (parted pairs port place owner at) ∙ said_beside other (port, owner) front back differs))
+          (sym (ap (λ l. bound_in l other) (parted pairs port place owner at)
+          ∙ said_beside other (port, owner) front back differs))
     ])
 
 -- and the order is kept
@@ -160,7 +173,8 @@ pub HasRisingPorts-set : (pairs : List (ℕ × ℕ)) (port place owner new : ℕ
 HasRisingPorts-set pairs port place owner new at rising =
     subst HasRisingPorts (sym (replaced pairs place (port, new) at.within))
     (HasRisingPorts-with (port, new) (take place pairs) (drop (place + 1) pairs) at.below at.above
-    (HasRisingPorts-without (port, owner) (take place pairs) (drop (place + 1) pairs) (subst HasRisingPorts (parted pairs port place owner at) rising)))
+    (HasRisingPorts-without (port, owner) (take place pairs) (drop (place + 1) pairs)
+    (subst HasRisingPorts (parted pairs port place owner at) rising)))
 
 -- owners that a port has anyway change nothing
 pub with_owners-same : (bindings : Multimap) (port : ℕ) (owners : List ℕ) → bindings port ≡ owners
@@ -200,7 +214,8 @@ rising_ports : (pairs : List (ℕ × ℕ)) → HasRisingPorts pairs → (i j : �
 rising_ports [] rising i j d le lt = absurd (omega arith)
 rising_ports (pair ∷ pairs) rising zero zero d le lt = omega arith
 rising_ports (pair ∷ pairs) rising zero (suc j) d le lt =
-    let above : pair.0 < (get_or pairs j d).0 = All-from_recursion (λ (other : ℕ × ℕ). pair.0 < other.0) pairs rising.0 j d (omega arith) in omega arith
+    let above : pair.0 < (get_or pairs j d).0 = All-from_recursion (λ (other : ℕ × ℕ). pair.0 < other.0)
+    pairs rising.0 j d (omega arith) in omega arith
 rising_ports (pair ∷ pairs) rising (suc i) zero d le lt = absurd (omega arith)
 rising_ports (pair ∷ pairs) rising (suc i) (suc j) d le lt =
     rising_ports pairs rising.1 i j d (omega arith) (omega arith)
@@ -208,7 +223,8 @@ rising_ports (pair ∷ pairs) rising (suc i) (suc j) d le lt =
 -- so a search for the first port that isn't lower may halve
 pub parted_by_port : (pairs : List (ℕ × ℕ)) (port : ℕ) → HasRisingPorts pairs
     → IsPartitionedBy (λ pair. ltb pair.0 port) pairs
-parted_by_port pairs port rising = IsPartitionedBy-ltb (λ (pair : ℕ × ℕ). pair.0) pairs port (rising_ports pairs rising)
+parted_by_port pairs port rising = IsPartitionedBy-ltb (λ (pair : ℕ × ℕ). pair.0) pairs port
+    (rising_ports pairs rising)
 
 -- what such a search finds is the port's place
 pub IsPlace-from_search : (pairs : List (ℕ × ℕ)) (port place : ℕ) → place ≤ length pairs
@@ -217,9 +233,11 @@ pub IsPlace-from_search : (pairs : List (ℕ × ℕ)) (port place : ℕ) → pla
 IsPlace-from_search pairs port place within found = record {
   within = within;
   below =
-      AllByRecursion-take (λ pair. pair.0 < port) pairs place within (λ k d low high. ltb-true _ _ (found.0 k d low high));
+      AllByRecursion-take (λ pair. pair.0 < port) pairs place within
+      (λ k d low high. ltb-true _ _ (found.0 k d low high));
   others =
-      AllByRecursion-drop (λ pair. port ≤ pair.0) pairs place (λ k d low high. ltb-false _ _ (found.1 k d low high));
+      AllByRecursion-drop (λ pair. port ≤ pair.0) pairs place
+      (λ k d low high. ltb-false _ _ (found.1 k d low high));
 }
 
 -- the pairs from a place on rise too
@@ -235,16 +253,19 @@ pub IsAt-from_place : (pairs : List (ℕ × ℕ)) (port place : ℕ) (pair : ℕ
 IsAt-from_place pairs port place pair rising is_place within read same =
     let parts : drop place pairs ≡ pair ∷ drop (place + 1) pairs =
     rw (add-one, drop-cons pairs place pair) (ap (λ x. x ∷ drop (suc place) pairs) read) in
-    let rises : HasRisingPorts (pair ∷ drop (place + 1) pairs) = subst HasRisingPorts parts (rising_dropped pairs place rising) in
+    let rises : HasRisingPorts (pair ∷ drop (place + 1) pairs) = subst HasRisingPorts parts
+    (rising_dropped pairs place rising) in
     record {
       within = within;
       below = is_place.below;
       here = subst (λ p. drop place pairs ≡ (p, pair.1) ∷ drop (place + 1) pairs) same parts;
-      above = subst (λ p. AllByRecursion (λ (other : ℕ × ℕ). p < other.0) (drop (place + 1) pairs)) same rises.0;
+      above = subst (λ p. AllByRecursion (λ (other : ℕ × ℕ). p < other.0) (drop (place + 1) pairs)) same
+          rises.0;
     }
 
 -- rising pairs of no lower ports, of which the first has another port, have higher ports
-all_higher : (port : ℕ) (pairs : List (ℕ × ℕ)) → HasRisingPorts pairs → AllByRecursion (λ pair. port ≤ pair.0) pairs
+all_higher : (port : ℕ) (pairs : List (ℕ × ℕ)) → HasRisingPorts pairs
+    → AllByRecursion (λ pair. port ≤ pair.0) pairs
     → ((pair : ℕ × ℕ) (more : List (ℕ × ℕ)) → pairs ≡ pair ∷ more → pair.0 ≡ port → ⊥)
     → AllByRecursion (λ pair. port < pair.0) pairs
 all_higher port [] rising others differs = tt
@@ -254,13 +275,15 @@ all_higher port (pair ∷ pairs) rising others differs =
     (higher, all_above port pair.0 pairs (omega arith) rising.0)
 
 -- where no pair is at the place, or one of another port, no pair is the port's
-pub IsGap-from_place : (pairs : List (ℕ × ℕ)) (port place : ℕ) → HasRisingPorts pairs → IsPlace pairs port place
+pub IsGap-from_place : (pairs : List (ℕ × ℕ)) (port place : ℕ) → HasRisingPorts pairs
+    → IsPlace pairs port place
     → ((pair : ℕ × ℕ) → place < length pairs → get_or pairs place pair ≡ pair → pair.0 ≡ port → ⊥)
     → IsGap pairs port place
 IsGap-from_place pairs port place rising is_place other = record {
   within = is_place.within;
   below = is_place.below;
-  above = all_higher port (drop place pairs) (rising_dropped pairs place rising) is_place.others (λ pair more parts same.
+  above = all_higher port (drop place pairs) (rising_dropped pairs place rising) is_place.others
+      (λ pair more parts same.
       let some : length (drop place pairs) ≡ suc (length more) = ap length parts in
       let within : place < length pairs = omega (arith, some, length-drop place pairs) in
       let read : get_or (drop place pairs) 0 pair ≡ pair = ap (λ l. get_or l 0 pair) parts in
@@ -282,13 +305,18 @@ pub below_place : (pairs : List (ℕ × ℕ)) (place : ℕ) (d : ℕ × ℕ) →
     → AllByRecursion (λ pair. pair.0 < (get_or pairs place d).0) (take place pairs)
 below_place pairs zero d rising within = tt
 below_place [] (suc place) d rising within = tt
-below_place (pair ∷ pairs) (suc place) d rising within =
-    (All-from_recursion (λ (other : ℕ × ℕ). pair.0 < other.0) pairs rising.0 place d (omega arith), below_place pairs place d rising.1 (omega arith))
+below_place (pair ∷ pairs) (suc place) d rising within = (
+  All-from_recursion (λ (other : ℕ × ℕ). pair.0 < other.0) pairs rising.0 place d (omega arith),
+  below_place pairs place d rising.1 (omega arith),
+)
 
 -- one more pair, as a closed table lists it
 pub listed-more : (pairs : List (ℕ × ℕ)) (place : ℕ) (d : ℕ × ℕ) → HasRisingPorts pairs → place < length pairs
-    → added (listed (take place pairs)) (get_or pairs place d).0 (get_or pairs place d).1 ≡ listed (take (place + 1) pairs)
+    → added (listed (take place pairs)) (get_or pairs place d).0 (get_or pairs place d).1 ≡ listed
+    (take (place + 1) pairs)
 listed-more pairs place d rising within =
-    added_behind (get_or pairs place d).0 (get_or pairs place d).1 (take place pairs) (below_place pairs place d rising within)
-    ∙ sym (map-append (λ (pair : ℕ × ℕ). (pair.0, pair.1 ∷ [])) (take place pairs) (get_or pairs place d ∷ []))
+    added_behind (get_or pairs place d).0 (get_or pairs place d).1 (take place pairs)
+    (below_place pairs place d rising within)
+    ∙ sym (map-append (λ (pair : ℕ × ℕ). (pair.0, pair.1 ∷ [])) (take place pairs)
+    (get_or pairs place d ∷ []))
     ∙ ap listed (sym (take_more pairs place d within))

@@ -34,7 +34,8 @@ module _ {S O : Type 0} (left : S → Option (List ℕ)) (sfaults : S → ℕ) (
   pub FailsBy-read : (o : O) (bytes : List ℕ) (error : ReadError) → IsRead (left s) (left s') bytes
       → IsReason bytes error
       → FailsBy left sfaults held ofaults Run s s' o o (of_read_error error)
-  FailsBy-read o bytes (reads.Fault fault) read reason = (IsFaultOf-read (left s) (left s') bytes fault read reason, refl)
+  FailsBy-read o bytes (reads.Fault fault) read reason =
+      (IsFaultOf-read (left s) (left s') bytes fault read reason, refl)
   FailsBy-read o bytes reads.Memory read reason = inl refl
 
   -- the text was put: it was written, or the sink failed and a prefix of it was

@@ -20,7 +20,8 @@ pub workers-sound : (config : Config) (commands : List (ℕ × Call))
     → AllByRecursion (IsWorkersCommand config.callers) commands
 workers-sound config [] sound = tt
 workers-sound config (command ∷ commands) sound =
-    let first_and_others = both_true (is_sound_command config command) (list_all (is_sound_command config) commands) sound in
+    let first_and_others = both_true (is_sound_command config command)
+    (list_all (is_sound_command config) commands) sound in
     let within_and_call = both_true _ (is_sound_call config command.1) first_and_others.0 in
     let bounds = both_true _ _ within_and_call.0 in (
       record { first = leb-true _ _ bounds.0; last = leb-true _ _ bounds.1 },

@@ -33,21 +33,24 @@ said_told : (bytes : List ℕ) (left_after : Option (List ℕ)) (said : Said)
     → IsScriptRead (Some bytes) left_after said
     → reading_of bytes ≡ Ok said
 said_told bytes left_after said read =
-    subst (λ l. reading_of l ≡ Ok said) (all_read bytes read.bytes left_after read.taken read.to_end) read.script
+    subst (λ l. reading_of l ≡ Ok said) (all_read bytes read.bytes left_after read.taken read.to_end)
+    read.script
 
 -- the first fault of what was read of told bytes is their own
 fault_told : (bytes : List ℕ) (left_after : Option (List ℕ)) (fault : ScriptFault)
     → IsNoScript (Some bytes) left_after fault
     → FirstFault bytes fault
 fault_told bytes left_after fault refused = elim refused.read.enough [
-  | inl whole ↦ subst (λ l. FirstFault l fault) (all_read bytes refused.bytes left_after refused.read.taken whole.0) refused.first
+  | inl whole ↦ subst (λ l. FirstFault l fault) (all_read bytes refused.bytes left_after
+      refused.read.taken whole.0) refused.first
   | inr long ↦
       let front = begins bytes refused.bytes left_after refused.read.taken in
       reading_of-front bytes refused.bytes front.0 front.1 (omega (arith, long)) ∙ refused.first
 ]
 
 -- told input isn't both whole and at fault
-pub not_both : (form : Form) (bytes : List ℕ) (rest left_after : Option (List ℕ)) (said : Said) (fault : ScriptFault)
+pub not_both : (form : Form) (bytes : List ℕ) (rest left_after : Option (List ℕ)) (said : Said)
+    (fault : ScriptFault)
     → IsInputOf form (Some bytes) rest said → IsFaultOf form (Some bytes) left_after fault → ⊥
 unfolding IsInputOf IsFaultOf
 not_both Run bytes rest left_after said fault input refused =
@@ -55,7 +58,8 @@ not_both Run bytes rest left_after said fault input refused =
     let faulty = fault_told bytes left_after fault refused in cc
 
 -- told input has one first fault
-pub one_fault : (form : Form) (bytes : List ℕ) (rest left_after : Option (List ℕ)) (first second : ScriptFault)
+pub one_fault : (form : Form) (bytes : List ℕ) (rest left_after : Option (List ℕ))
+    (first second : ScriptFault)
     → IsFaultOf form (Some bytes) rest first → IsFaultOf form (Some bytes) left_after second
     → second ≡ first
 unfolding IsFaultOf
@@ -95,7 +99,8 @@ IsFaultOf-told bytes fault first = elim (cases_lt (length bytes) 16777217) [
         record {
           bytes = front;
           read = record { taken = parts; enough = inr long };
-          first = sym (reading_of-front bytes front (drop 16777217 bytes) parts (omega (arith, long))) ∙ first;
+          first = sym (reading_of-front bytes front (drop 16777217 bytes) parts (omega (arith, long)))
+              ∙ first;
         },
       )
 ]

@@ -12,7 +12,8 @@ pub record IsRead (left left_after : Option (List ℕ)) (bytes : List ℕ) : Typ
   pub enough : (IsAtEnd left_after × (length bytes ≤ most_bytes)) ⊎ (length bytes ≡ most_bytes + 1)
 
 -- A piece of at most this length was read behind the other bytes; it is empty only at the end of the input.
-pub record IsMore (left left_after : Option (List ℕ)) (bytes bytes_after : List ℕ) (room : ℕ) (more : Bool) : Type 0 where
+pub record IsMore (left left_after : Option (List ℕ)) (bytes bytes_after : List ℕ) (room : ℕ)
+    (more : Bool) : Type 0 where
   pub piece : List ℕ
   pub taken : Consumes left left_after piece
   pub behind : bytes_after ≡ bytes ++ piece

@@ -9,7 +9,8 @@ use Rattle.rht_find.specs.Find.{plan_at, IsFindAtIn}
 use Rattle.rht_find.specs.declared.find.FindAt.{FindAt}
 use Rattle.rht_find.specs.declared.find.FindAt.TheVariants as at
 
-pub planned_find : (env : Env) (state : FindAt) → IsFindAtIn env state → IsPlannedIn env.geometry (plan_at env state)
+pub planned_find : (env : Env) (state : FindAt) → IsFindAtIn env state
+    → IsPlannedIn env.geometry (plan_at env state)
 planned_find env at.CurrentTable within = planned_load env.geometry CurrentTable tt tt
 planned_find env (at.Locating locate) within = planned_locate env.geometry locate within
 planned_find env (at.Probing table probe) within = planned_probe env.geometry probe within.probe_in

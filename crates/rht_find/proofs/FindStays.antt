@@ -30,12 +30,17 @@ module _ (mix : ℕ → ℕ → ℕ → ℕ) (env : Env) (port : ℕ) where
   abbrev g : Geometry
   g = env.geometry
 
-  bucket_or_missing-in : (locate : LocateModel) (place : Option ℕ) → IsLocateIn g locate → IsBucketOrNone g place
+  bucket_or_missing-in : (locate : LocateModel) (place : Option ℕ) → IsLocateIn g locate
+      → IsBucketOrNone g place
       → IsFindAtIn env (bucket_or_missing env port locate place).0
   bucket_or_missing-in locate None locate_in place_in = locate_in
   bucket_or_missing-in locate (Some place) locate_in place_in = record {
     table_in = locate_in.table_in;
-    probe_in = record { geometry_same = refl; at_in = record { place_in = place_in; even = tt; word_in = tt } };
+    probe_in = record {
+      geometry_same = refl;
+      at_in =
+          record { place_in = place_in; even = tt; word_in = tt };
+    };
   }
 
   located-in : (locate : LocateModel) (next : Next Located) → LocateStays g (locate, next)
@@ -55,7 +60,8 @@ module _ (mix : ℕ → ℕ → ℕ → ℕ) (env : Env) (port : ℕ) where
       → IsFindAtIn env (probed table probe next)
   probed-in table probe Go table_in stays = record { table_in = table_in; probe_in = stays.probe_in }
   probed-in table probe (Done end) table_in stays =
-      found_or_not-in table end.bucket end.seen.found table_in stays.end_in.bucket_in stays.end_in.seen_in.found_in
+      found_or_not-in table end.bucket end.seen.found table_in stays.end_in.bucket_in
+      stays.end_in.seen_in.found_in
 
   unlocking-in : (table : ℕ) (bucket : Locked) (next : Then Reply) → table < 8 → IsLockedIn g bucket
       → IsThenIn next → IsFindAtIn env (unlocking table bucket next)
@@ -97,6 +103,7 @@ module _ (mix : ℕ → ℕ → ℕ → ℕ) (env : Env) (port : ℕ) where
       (next_table-in (slot_of word) (slot_of-in word))
   find_stays (at.FirstOwner table bucket node) word within told = within
   find_stays (at.ListLink table bucket node owner) word within told =
-      list_followed-in table bucket owner (node_of g.nodes word) within.table_in within.bucket_in (node_of-in g word)
+      list_followed-in table bucket owner (node_of g.nodes word) within.table_in within.bucket_in
+      (node_of-in g word)
   find_stays (at.LaterOwner table bucket node owner) word within told = within
   find_stays (at.Unlocking table unlock next) word within told = unlocked-in table unlock next within

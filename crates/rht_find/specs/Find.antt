@@ -101,7 +101,8 @@ after_at mix env port (at.Locating locate) word =
 after_at mix env port (at.Probing table probe) word =
     (probed table (probe_after probe word).0 (probe_after probe word).1, Go)
 after_at mix env port (at.Future table bucket) word = (unlocking table bucket (next_table (slot_of word)), Go)
-after_at mix env port (at.FirstOwner table bucket node) word = (at.ListLink table bucket node (owner_of word), Go)
+after_at mix env port (at.FirstOwner table bucket node) word =
+    (at.ListLink table bucket node (owner_of word), Go)
 after_at mix env port (at.ListLink table bucket node owner) word =
     (list_followed table bucket owner (node_of env.geometry.nodes word), Go)
 after_at mix env port (at.LaterOwner table bucket node owner) word = (at.ListLink table bucket node owner, Go)

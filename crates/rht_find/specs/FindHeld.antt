@@ -24,7 +24,8 @@ held_of_find (at.Future table bucket) = holds_lock (Some bucket.place)
 held_of_find (at.FirstOwner table bucket node) = holds_lock (Some bucket.place)
 held_of_find (at.ListLink table bucket node owner) = holds_lock (Some bucket.place)
 held_of_find (at.LaterOwner table bucket node owner) = holds_lock (Some bucket.place)
-held_of_find (at.Unlocking table unlock next) = record holds_nothing { lock = Some unlock.place; answer = option_map plain (answer_behind next) }
+held_of_find (at.Unlocking table unlock next) = record holds_nothing
+    { lock = Some unlock.place; answer = option_map plain (answer_behind next) }
 
 -- and after an operation; once it has ended it holds nothing, and its answer is known
 abbrev pub held_next : FindModel × Next Reply → Held Answer

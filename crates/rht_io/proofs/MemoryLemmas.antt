@@ -25,4 +25,5 @@ pub filled-front : (left room : List ℕ) (n most : ℕ) → n ≤ length (take 
 filled-front left room n most within =
     append_assoc (take n left) _ _
     ∙ ap (λ l. take n left ++ l)
-    (sym (drop-append-le n (take most room) (drop most room) within) ∙ ap (drop n) (take-append-drop most room))
+    (sym (drop-append-le n (take most room) (drop most room) within)
+    ∙ ap (drop n) (take-append-drop most room))

@@ -25,8 +25,11 @@ take_of_longer (suc n) (x ∷ xs) ys =
 -- a text was put, and then a prefix of another
 pub AppendsPrefix-after : (a b c : Option (List ℕ)) (xs ys : List ℕ)
     → Appends a b xs → AppendsPrefix b c ys → AppendsPrefix a c (xs ++ ys)
-AppendsPrefix-after a b c xs ys put more =
-    (length xs + more.0, subst (Appends a c) (sym (take-append-add xs ys more.0)) (Appends-trans a b c xs (take more.0 ys) put more.1))
+AppendsPrefix-after a b c xs ys put more = (
+  length xs + more.0,
+  subst (Appends a c) (sym (take-append-add xs ys more.0))
+      (Appends-trans a b c xs (take more.0 ys) put more.1),
+)
 
 pub AppendsPrefix-longer : (a b : Option (List ℕ)) (xs ys : List ℕ) → AppendsPrefix a b xs
     → AppendsPrefix a b (xs ++ ys)
@@ -70,7 +73,8 @@ module _ {S E : Type 0} (held : S → Option (List ℕ)) (faults : S → ℕ) wh
   Puts-of_put a b xs put kept = record { whole = put; prefix = tt; failed = tt; kept = kept }
 
 -- a failure that is passed on, as by a `?`, says the same under another error
-pub Puts-passed_on : {S E F : Type 0} (held : S → Option (List ℕ)) (faults : S → ℕ) (a b : S) (q : Result (Unit {0}) E) (r : Result (Unit {0}) F) (xs : List ℕ)
+pub Puts-passed_on : {S E F : Type 0} (held : S → Option (List ℕ)) (faults : S
+    → ℕ) (a b : S) (q : Result (Unit {0}) E) (r : Result (Unit {0}) F) (xs : List ℕ)
     → IsErr q → IsErr r → Puts held faults a b q xs → Puts held faults a b r xs
 Puts-passed_on held faults a b (Ok done) r xs failed passed put = absurd (cc)
 Puts-passed_on held faults a b (Err e) (Ok done) xs failed passed put = absurd (cc)

@@ -13,7 +13,8 @@ abbrev pub AppendsPrefix : Option (List ℕ) → Option (List ℕ) → List ℕ 
 AppendsPrefix old new bytes = (n : ℕ) × Appends old new (take n bytes)
 
 -- The sink was put this text. On Failed it was put a prefix of it, and its faults rose.
-pub record Puts {S E : Type 0} (held : S → Option (List ℕ)) (faults : S → ℕ) (old new : S) (r : Result (Unit {0}) E) (text : List ℕ) : Type 0 where
+pub record Puts {S E : Type 0} (held : S → Option (List ℕ)) (faults : S
+    → ℕ) (old new : S) (r : Result (Unit {0}) E) (text : List ℕ) : Type 0 where
   pub whole : OnOk r (Appends (held old) (held new) text)
   pub prefix : OnErr r (AppendsPrefix (held old) (held new) text)
   pub failed : OnErr r (Rose (faults old) (faults new))

@@ -20,17 +20,22 @@ Agree-sym first second agree port = sym (agree port)
 -- a call has one answer on bindings that agree
 pub answer_of-Agree : (kind : Kind) (first second : Multimap) (call : Call) → Agree first second
     → answer_of kind first call ≡ answer_of kind second call
-answer_of-Agree kind first second call agree = answer_of-own_port kind first second call (λ port own. agree port)
+answer_of-Agree kind first second call agree = answer_of-own_port kind first second call
+    (λ port own. agree port)
 
 -- entries of one call that are answered on bindings that agree have the same reply, `kick` aside, and the same list
 pub IsAnswered-unique : (kind : Kind) (bindings same : Multimap) (first second : Entry) → Agree bindings same
     → first.call ≡ second.call → IsAnswered kind bindings first → IsAnswered kind same second
     → (without_kick first.reply ≡ without_kick second.reply) × (first.owners ≡ second.owners)
 IsAnswered-unique kind bindings same first second agree one_call answered answered' =
-    let one_answer = answer_of-Agree kind bindings same first.call agree ∙ ap (answer_of kind same) one_call in
+    let one_answer = answer_of-Agree kind bindings same first.call agree
+    ∙ ap (answer_of kind same) one_call in
     let answers = sym answered ∙ one_answer ∙ answered' in
-    let none = plain first.reply in
-    (ap (λ answer. (unwrap_or answer none).reply) answers, ap (λ answer. (unwrap_or answer none).owners) answers)
+    let none = plain first.reply in (
+      ap (λ answer. (unwrap_or answer none).reply) answers,
+      ap (λ answer. (unwrap_or answer none).owners)
+          answers,
+    )
 
 -- an entry leaves bindings that agree agreeing
 pub left_by-Agree : (kind : Kind) (first second : Multimap) (entry : Entry) → Agree first second
@@ -63,5 +68,6 @@ IsLegalFrom-Agree kind first second (entry ∷ history) agree legal =
     let agree_behind = left_by-Agree kind first second entry agree in
     let same = answer_of-Agree kind first second entry.call agree in (
       IsLegalAt-answer_of kind first second entry same legal.0,
-      IsLegalFrom-Agree kind (left_by kind first entry) (left_by kind second entry) history agree_behind legal.1,
+      IsLegalFrom-Agree kind (left_by kind first entry) (left_by kind second entry) history agree_behind
+          legal.1,
     )

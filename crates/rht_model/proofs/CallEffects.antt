@@ -47,7 +47,8 @@ pub IsSingle-with_owners : (bindings : Multimap) (port : ℕ) (owners : List ℕ
     → IsSingle bindings
     → IsSingle (with_owners bindings port owners)
 IsSingle-with_owners bindings port owners one single other =
-    cond_both (other == port) owners (bindings other) (λ list. length list ≤ 1) (λ here. one) (λ elsewhere. single other)
+    cond_both (other == port) owners (bindings other) (λ list. length list ≤ 1) (λ here. one)
+    (λ elsewhere. single other)
 
 -- where a port has at most one owner, a bind in a table of one owner each leaves it one
 pub length-owners_bound : (owner : ℕ) (owners : List ℕ) → length owners ≤ 1
@@ -60,7 +61,8 @@ pub length-owners_released : (owner : ℕ) (owners : List ℕ)
     → length (owners_released owner owners) ≤ length owners
 length-owners_released owner [] = omega arith
 length-owners_released owner (first ∷ others) =
-    cond_both (first == owner) others (first ∷ owners_released owner others) (λ list. length list ≤ length (first ∷ others))
+    cond_both (first == owner) others (first ∷ owners_released owner others)
+    (λ list. length list ≤ length (first ∷ others))
     (λ here. omega arith)
     (λ elsewhere. omega (arith, length-owners_released owner others))
 
@@ -69,7 +71,8 @@ pub length-owners_rebound : (owner new : ℕ) (owners : List ℕ)
     → length (owners_rebound owner new owners) ≡ length owners
 length-owners_rebound owner new [] = refl
 length-owners_rebound owner new (only ∷ []) =
-    cond_both (only == owner) (new ∷ []) (only ∷ []) (λ list. length list ≡ 1) (λ here. refl) (λ elsewhere. refl)
+    cond_both (only == owner) (new ∷ []) (only ∷ []) (λ list. length list ≡ 1) (λ here. refl)
+    (λ elsewhere. refl)
 length-owners_rebound owner new (first ∷ second ∷ others) = refl
 
 -- In a table of one owner each, no call gives a port two.

@@ -31,7 +31,8 @@ slice_get-ports_of (head ∷ heads) owners (suc i) default within =
 -- the pair at a place has the owners from where its own begin to where those of the next pair do
 pub slice_get-owners_of : (heads : List Head) (owners : List ℕ) (i : ℕ) → i < length heads
     → slice_get (owners_of (pairs_of heads owners)) i
-    ≡ Some (slice_range owners (first_start (drop i heads) (length owners)) (first_start (drop (suc i) heads) (length owners)))
+    ≡ Some (slice_range owners (first_start (drop i heads) (length owners))
+    (first_start (drop (suc i) heads) (length owners)))
 slice_get-owners_of [] owners i within = absurd (omega arith)
 slice_get-owners_of (head ∷ heads) owners zero within = refl
 slice_get-owners_of (head ∷ heads) owners (suc i) within = slice_get-owners_of heads owners i (omega arith)
@@ -43,7 +44,8 @@ first_start-le (head ∷ heads) end in_order = omega (arith, in_order.0, first_s
 
 -- the owners of the pair at a place end no earlier than they begin, and no later than the end
 pub range_in_order : (heads : List Head) (end i : ℕ) → IsInOrder heads end
-    → (first_start (drop i heads) end ≤ first_start (drop (suc i) heads) end) × (first_start (drop (suc i) heads) end ≤ end)
+    → (first_start (drop i heads) end ≤ first_start (drop (suc i) heads) end)
+    × (first_start (drop (suc i) heads) end ≤ end)
 range_in_order [] end zero in_order = (omega arith, omega arith)
 range_in_order [] end (suc i) in_order = (omega arith, omega arith)
 range_in_order (head ∷ heads) end zero in_order = (in_order.0, first_start-le heads end in_order.1)
@@ -54,7 +56,8 @@ first_start-begun : (head : Head) (heads : List Head) (port start end : ℕ)
     → first_start (begun (head ∷ heads) port start) end ≡ head.start
 first_start-begun head [] port start end =
     elim (head.port == port) as (λ b.
-    first_start (if b then head ∷ [] else head ∷ record { port = port; start = start } ∷ []) end ≡ head.start) [
+    first_start (if b then head ∷ [] else head ∷ record { port = port; start = start } ∷ [])
+    end ≡ head.start) [
       | true ↦ refl
       | false ↦ refl
     ]
@@ -71,8 +74,11 @@ IsInOrder-begun (head ∷ []) port end in_order =
       | true ↦ (omega (arith, in_order.0), tt)
       | false ↦ (in_order.0, (omega arith, tt))
     ]
-IsInOrder-begun (head ∷ next ∷ heads) port end in_order =
-    (rw (first_start-begun next heads port end (end + 1)) in_order.0, IsInOrder-begun (next ∷ heads) port end in_order.1)
+IsInOrder-begun (head ∷ next ∷ heads) port end in_order = (
+  rw (first_start-begun next heads port end (end + 1)) in_order.0,
+  IsInOrder-begun (next ∷ heads) port
+      end in_order.1,
+)
 
 -- a range that ends among the old owners has the same owners with one more at the end
 slice_range-push : (owners : List ℕ) (owner from to : ℕ) → to ≤ length owners
@@ -100,15 +106,18 @@ slice_range-pushed owners owner =
 
 -- By induction over the heads: only the last pair, and what comes after it, is told apart by the port.
 pub added-pairs_of : (heads : List Head) (owners : List ℕ) (port owner : ℕ) → IsInOrder heads (length owners)
-    → added (pairs_of heads owners) port owner ≡ pairs_of (begun heads port (length owners)) (owners ++ owner ∷ [])
+    → added (pairs_of heads owners) port owner ≡ pairs_of (begun heads port (length owners))
+    (owners ++ owner ∷ [])
 added-pairs_of [] owners port owner in_order =
     ap (λ range. (port, range) ∷ []) (sym (slice_range-pushed owners owner))
 added-pairs_of (head ∷ []) owners port owner in_order =
     let range = slice_range owners head.start (length owners) in
     elim (head.port == port) as (λ b.
     (if b then (head.port, range ++ owner ∷ []) ∷ [] else (head.port, range) ∷ (port, owner ∷ []) ∷ [])
-    ≡ pairs_of (if b then head ∷ [] else head ∷ record { port = port; start = length owners } ∷ []) (owners ++ owner ∷ [])) [
-      | true ↦ ap (λ new. (head.port, new) ∷ []) (sym (slice_range-push_end owners owner head.start in_order.0))
+    ≡ pairs_of (if b then head ∷ [] else head ∷ record { port = port; start = length owners } ∷ [])
+    (owners ++ owner ∷ [])) [
+      | true ↦ ap (λ new. (head.port, new) ∷ []) (sym
+          (slice_range-push_end owners owner head.start in_order.0))
       | false ↦
           let old = slice_range-push owners owner head.start (length owners) (omega arith) in
           let new = slice_range-pushed owners owner in
@@ -141,7 +150,8 @@ cons-if x false one other = refl
 -- another port stands after all others.
 pub begun-is : (heads : List Head) (port start : ℕ)
     → begun heads port start
-    ≡ (if option_eq nat_eq (last_port heads) (Some port) then heads else heads ++ record { port = port; start = start } ∷ [])
+    ≡ (if option_eq nat_eq (last_port heads) (Some port) then heads else
+    heads ++ record { port = port; start = start } ∷ [])
 begun-is [] port start = refl
 begun-is (head ∷ []) port start = refl
 begun-is (head ∷ next ∷ heads) port start =

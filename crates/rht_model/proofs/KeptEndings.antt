@@ -59,7 +59,11 @@ module _ (apart : List Whole) (whole : Whole) where
       → map (ending_of longer) (all ++ Apart (length apart) ∷ [])
       ≡ map (ending_of apart) all ++ replied whole.reply whole.owners.items whole.pairs.items ∷ []
   endings-new all are_kept =
-      rw (map_push (ending_of longer) all (Apart (length apart)), endings-longer all are_kept, ending_of-new) refl
+      rw (
+        map_push (ending_of longer) all (Apart (length apart)),
+        endings-longer all are_kept,
+        ending_of-new,
+      ) refl
 
   -- and each of them is kept
   pub AreKept-new : (all : List Kept) → AllByRecursion (IsKept apart) all

@@ -10,7 +10,8 @@ use Rattle.rht_model.proofs.Agreements.{IsLegalFrom-Agree, bindings_left-Agree}
 
 -- By induction over the first part: the second goes on from what the first leaves.
 pub bindings_left-append : (kind : Kind) (bindings : Multimap) (first second : List Entry)
-    → bindings_left kind bindings (first ++ second) ≡ bindings_left kind (bindings_left kind bindings first) second
+    → bindings_left kind bindings (first ++ second) ≡ bindings_left kind
+    (bindings_left kind bindings first) second
 bindings_left-append kind bindings [] second = refl
 bindings_left-append kind bindings (entry ∷ first) second =
     bindings_left-append kind (left_by kind bindings entry) first second
@@ -57,7 +58,11 @@ module _ (kind : Kind) (bindings : Multimap) (history one other : List Entry) wh
   pub bindings_left-behind : Agree (bindings_left kind point one) (bindings_left kind point other)
       → Agree (bindings_left kind bindings (history ++ one)) (bindings_left kind bindings (history ++ other))
   bindings_left-behind agree =
-      rw (bindings_left-append kind bindings history one, bindings_left-append kind bindings history other) agree
+      rw (
+        bindings_left-append kind bindings history one,
+        bindings_left-append kind bindings history
+            other,
+      ) agree
 
 module _ (kind : Kind) (bindings : Multimap) (first second more : List Entry) where
   -- both histories leave the same bindings
@@ -70,11 +75,13 @@ module _ (kind : Kind) (bindings : Multimap) (first second more : List Entry) wh
   IsLegalFrom-alike agree legal goes_on =
       let behind = (IsLegalFrom-parts kind bindings first more goes_on).1 in
       IsLegalFrom-append kind bindings second more legal
-      (IsLegalFrom-Agree kind (bindings_left kind bindings first) (bindings_left kind bindings second) more agree behind)
+      (IsLegalFrom-Agree kind (bindings_left kind bindings first) (bindings_left kind bindings second)
+      more agree behind)
 
   -- and leaves the same bindings
   pub bindings_left-alike : AgreeBefore
       → Agree (bindings_left kind bindings (first ++ more)) (bindings_left kind bindings (second ++ more))
   bindings_left-alike agree =
       rw (bindings_left-append kind bindings first more, bindings_left-append kind bindings second more)
-      (bindings_left-Agree kind (bindings_left kind bindings first) (bindings_left kind bindings second) more agree)
+      (bindings_left-Agree kind (bindings_left kind bindings first) (bindings_left kind bindings second)
+      more agree)

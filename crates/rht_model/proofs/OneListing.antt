@@ -77,7 +77,8 @@ same_pairs low (first ∷ firsts) (second ∷ seconds) rises others bound others
           let bound_behind_too = All-tail (λ pair. pair.1 ≢ []) second seconds others_bound in
           let agree_behind = Agree-tails first second firsts seconds same rises.1 others.1 agree in
           let tails =
-          same_pairs (suc first.0) firsts seconds rises.1 rises_too bound_behind bound_behind_too agree_behind in
+          same_pairs (suc first.0) firsts seconds rises.1 rises_too bound_behind bound_behind_too
+          agree_behind in
           ap (λ pair. pair ∷ firsts) (same_pair first second same owners) ∙ ap (λ pairs. second ∷ pairs) tails
       | inr (inl below) ↦
           let unlisted = listed_at-below second.0 (second ∷ seconds) first.0 (omega arith, others.1) below in
@@ -105,7 +106,8 @@ if_once false one other = refl
 
 -- two choices can be made in either order where they agree if both are made
 if_swapped : {X : Type 0} (test test' : Bool) (one one' other : X) → (test ≡ true → test' ≡ true → one ≡ one')
-    → (if test then one else if test' then one' else other) ≡ (if test' then one' else if test then one else other)
+    → (if test then one else if test' then one' else other) ≡ (if test' then one' else if test then one
+    else other)
 if_swapped true true one one' other same = same refl refl
 if_swapped true false one one' other same = refl
 if_swapped false true one one' other same = refl
@@ -130,7 +132,8 @@ module _ (bindings : Multimap) where
       → listed_at (with_bindings ports) port ≡ []
   listed_at-unbound [] port unbound = refl
   listed_at-unbound (first ∷ ports) port unbound =
-      cond_both (port == first) (bindings first) (listed_at (with_bindings ports) port) (λ owners. owners ≡ [])
+      cond_both (port == first) (bindings first) (listed_at (with_bindings ports) port)
+      (λ owners. owners ≡ [])
       (λ here. ap bindings (sym (eqb-true port first here)) ∙ unbound)
       (λ elsewhere. listed_at-unbound ports port unbound)
 
@@ -140,13 +143,15 @@ module _ (bindings : Multimap) where
   listed_at-contained [] port k within is = absurd (omega arith)
   listed_at-contained (first ∷ ports) port zero within is = rw (eq-eqb port first (sym is)) (ap bindings is)
   listed_at-contained (first ∷ ports) port (suc k) within is =
-      cond_both (port == first) (bindings first) (listed_at (with_bindings ports) port) (λ owners. owners ≡ bindings port)
+      cond_both (port == first) (bindings first) (listed_at (with_bindings ports) port)
+      (λ owners. owners ≡ bindings port)
       (λ here. ap bindings (sym (eqb-true port first here)))
       (λ elsewhere. listed_at-contained ports port k (omega arith) is)
 
   -- a port that is given twice running is listed as if given once
   listed_at-again : (number first : ℕ) (ports : List ℕ) (port : ℕ) → number ≡ first
-      → listed_at (with_bindings (first ∷ ports)) port ≡ listed_at (with_bindings (number ∷ first ∷ ports)) port
+      → listed_at (with_bindings (first ∷ ports)) port ≡ listed_at
+      (with_bindings (number ∷ first ∷ ports)) port
   listed_at-again number first ports port same =
       let rest = listed_at (with_bindings ports) port in
       let once = if port == first then bindings first else rest in
@@ -155,7 +160,8 @@ module _ (bindings : Multimap) where
 
   -- two ports are listed alike in either order
   listed_at-swapped : (number first : ℕ) (ports : List ℕ) (port : ℕ)
-      → listed_at (with_bindings (first ∷ number ∷ ports)) port ≡ listed_at (with_bindings (number ∷ first ∷ ports)) port
+      → listed_at (with_bindings (first ∷ number ∷ ports)) port ≡ listed_at
+      (with_bindings (number ∷ first ∷ ports)) port
   listed_at-swapped number first ports port =
       let rest = listed_at (with_bindings ports) port in
       if_swapped (port == first) (port == number) (bindings first) (bindings number) rest
@@ -163,7 +169,8 @@ module _ (bindings : Multimap) where
 
   -- By induction over the ports: the place at which a number goes in makes no difference.
   listed_at-inserted : (number : ℕ) (ports : List ℕ) (port : ℕ)
-      → listed_at (with_bindings (inserted number ports)) port ≡ listed_at (with_bindings (number ∷ ports)) port
+      → listed_at (with_bindings (inserted number ports)) port ≡ listed_at
+      (with_bindings (number ∷ ports)) port
   listed_at-inserted number [] port = refl
   listed_at-inserted number (first ∷ ports) port =
       let all = listed_at (with_bindings (number ∷ first ∷ ports)) port in
@@ -173,7 +180,8 @@ module _ (bindings : Multimap) where
       ∙ listed_at-swapped number first ports port in
       let at_or_behind = cond_both (number == first) (first ∷ ports) (first ∷ inserted number ports) Same
       (λ same. listed_at-again number first ports port (eqb-true number first same)) (λ other. behind) in
-      cond_both (nat_lt number first) (number ∷ first ∷ ports) _ Same (λ before. refl) (λ not_before. at_or_behind)
+      cond_both (nat_lt number first) (number ∷ first ∷ ports) _ Same (λ before. refl)
+      (λ not_before. at_or_behind)
 
   -- By induction over the ports: each is listed alike wherever it goes in.
   listed_at-rising : (ports : List ℕ) (port : ℕ)
@@ -188,17 +196,20 @@ module _ (bindings : Multimap) where
       → listed_at (with_bindings ports) port ≡ listed_at (with_bindings (first ∷ ports)) port
   listed_at-without first ports port none =
       let rest = listed_at (with_bindings ports) port in
-      let unbound = λ (here : port ≡ first). listed_at-unbound ports port (ap bindings here ∙ none) ∙ sym none in
+      let unbound = λ (here : port ≡ first). listed_at-unbound ports port (ap bindings here ∙ none)
+      ∙ sym none in
       cond_both (port == first) (bindings first) rest (λ owners. rest ≡ owners)
       (λ here. unbound (eqb-true port first here))
       (λ elsewhere. refl)
 
   -- By induction over the ports: those that are left out have no owners.
   listed_at-filter : (ports : List ℕ) (port : ℕ)
-      → listed_at (with_bindings (filter (is_bound bindings) ports)) port ≡ listed_at (with_bindings ports) port
+      → listed_at (with_bindings (filter (is_bound bindings) ports)) port ≡ listed_at
+      (with_bindings ports) port
   listed_at-filter [] port = refl
   listed_at-filter (first ∷ ports) port =
-      let kept = ap (λ others. if port == first then bindings first else others) (listed_at-filter ports port) in
+      let kept = ap (λ others. if port == first then bindings first else others)
+      (listed_at-filter ports port) in
       let none = λ (few : length (bindings first) ≤ 0). nil_from_length (bindings first) (omega arith) in
       let left_out = λ (few : length (bindings first) ≤ 0).
       listed_at-filter ports port ∙ listed_at-without first ports port (none few) in
@@ -212,7 +223,8 @@ module _ (bindings : Multimap) where
       → (bindings port ≢ [] → Contains ports port)
       → listed_at (listing_of ports bindings) port ≡ bindings port
   listed_at-listing_of ports port [] is among =
-      listed_at-filter (rising ports) port ∙ listed_at-rising ports port ∙ listed_at-unbound ports port is ∙ sym is
+      listed_at-filter (rising ports) port ∙ listed_at-rising ports port
+      ∙ listed_at-unbound ports port is ∙ sym is
   listed_at-listing_of ports port (owner ∷ owners) is among =
       let place = among (λ none. cc) in
       listed_at-filter (rising ports) port
@@ -228,7 +240,8 @@ Lists-listing_of ports bindings among =
     let all_rise = IsStrictlyIncreasing-from_rises 0 (rising ports) (RisesFrom-rising ports) in
     let rises = IsStrictlyIncreasing-filter (is_bound bindings) (rising ports) all_rise in
     let IsBound : ℕ → Type 0 = λ port. bindings port ≢ [] in
-    let each_bound = All-weaker (λ port. is_bound bindings port ≡ true) IsBound (is_bound-nonempty bindings) kept
+    let each_bound = All-weaker (λ port. is_bound bindings port ≡ true) IsBound
+    (is_bound-nonempty bindings) kept
     (filter_passes (is_bound bindings) (rising ports)) in
     record {
       rising = subst IsStrictlyIncreasing (sym (ports_of-with_bindings bindings kept)) rises;

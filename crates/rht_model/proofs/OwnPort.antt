@@ -18,7 +18,8 @@ pub answer_of-own_port : (kind : Kind) (first second : Multimap) (call : Call)
     → answer_of kind first call ≡ answer_of kind second call
 answer_of-own_port kind first second (Bind port owner once) same =
     ap (λ owners. Some (plain (bind_reply kind owners))) (same port refl)
-answer_of-own_port kind first second (Find port) same = ap (λ owners. Some (plain (find_reply owners))) (same port refl)
+answer_of-own_port kind first second (Find port) same = ap (λ owners. Some (plain (find_reply owners)))
+    (same port refl)
 answer_of-own_port kind first second (All port) same = rw (same port refl) refl
 answer_of-own_port kind first second (Release port owner) same =
     ap (λ owners. Some (plain (release_reply owner owners))) (same port refl)
@@ -32,7 +33,8 @@ answer_of-own_port kind first second Count same = refl
 -- owners that are made of those of the port are the same where the port has the same
 with_owners-own_port : (first second : Multimap) (port other : ℕ) (change : List ℕ → List ℕ)
     → first other ≡ second other
-    → with_owners first port (change (first port)) other ≡ with_owners second port (change (second port)) other
+    → with_owners first port (change (first port)) other ≡ with_owners second port (change (second port))
+    other
 with_owners-own_port first second port other change agree =
     elim (cases_eq other port) [
       | inl same ↦

@@ -103,7 +103,8 @@ module _ (port owner : ℕ) where
 
   -- Where it has no such pair, it stands for the bindings after the release as it is.
   pub bindings_in-unreleased : (pairs : List (ℕ × ℕ)) → position (is_pair port owner) pairs ≡ None
-      → bindings_in pairs ≡ with_owners (bindings_in pairs) port (owners_released owner (bindings_in pairs port))
+      → bindings_in pairs ≡ with_owners (bindings_in pairs) port
+      (owners_released owner (bindings_in pairs port))
   bindings_in-unreleased pairs none =
       changed pairs pairs (owners_released owner (bindings_in pairs port))
       (none_released pairs 0 (sym (position_from-zero (is_pair port owner) pairs) ∙ none))

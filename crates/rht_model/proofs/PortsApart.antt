@@ -23,20 +23,23 @@ is_port (Some other) port =
 module _ (kind : Kind) (bindings : Multimap) (first second : Entry)
     (apart : port_of first.call ≢ port_of second.call) where
   -- behind an entry of another port a call has the answer that it has without it
-  answer_of-behind : answer_of kind (left_by kind bindings first) second.call ≡ answer_of kind bindings second.call
+  answer_of-behind : answer_of kind (left_by kind bindings first) second.call ≡ answer_of kind bindings
+      second.call
   answer_of-behind =
       answer_of-own_port kind (left_by kind bindings first) bindings second.call
       (λ port own. left_by-other kind bindings first port (λ same. apart (same ∙ sym own)))
 
   -- an entry is legal behind one of another port exactly where it is without it
   IsLegalAt-behind : IsLegalAt kind bindings second → IsLegalAt kind (left_by kind bindings first) second
-  IsLegalAt-behind = IsLegalAt-answer_of kind bindings (left_by kind bindings first) second (sym answer_of-behind)
+  IsLegalAt-behind = IsLegalAt-answer_of kind bindings (left_by kind bindings first) second
+      (sym answer_of-behind)
 
   IsLegalAt-before : IsLegalAt kind (left_by kind bindings first) second → IsLegalAt kind bindings second
   IsLegalAt-before = IsLegalAt-answer_of kind (left_by kind bindings first) bindings second answer_of-behind
 
   -- Both orders leave the same bindings: of each port at most one of the two entries speaks.
-  left_by-swapped : Agree (left_by kind (left_by kind bindings first) second) (left_by kind (left_by kind bindings second) first)
+  left_by-swapped : Agree (left_by kind (left_by kind bindings first) second)
+      (left_by kind (left_by kind bindings second) first)
   left_by-swapped port =
       let after_first = left_by kind bindings first in
       let after_second = left_by kind bindings second in
@@ -45,7 +48,8 @@ module _ (kind : Kind) (bindings : Multimap) (first second : Entry)
       ∙ sym (left_by-other kind after_second first port differs) in
       let not_second = λ (differs : port_of second.call ≢ Some port).
       left_by-other kind after_first second port differs
-      ∙ sym (left_by-own_port kind after_second bindings first port (left_by-other kind bindings second port differs)) in
+      ∙ sym (left_by-own_port kind after_second bindings first port
+      (left_by-other kind bindings second port differs)) in
       elim (is_port (port_of first.call) port) [
         | inl same ↦ not_second (λ other. apart (same ∙ sym other))
         | inr differs ↦ not_first differs
@@ -68,6 +72,7 @@ IsLegalFrom-swapped kind bindings first second behind apart legal =
 -- and leave the same bindings
 pub bindings_left-swapped : (kind : Kind) (bindings : Multimap) (first second : Entry) (behind : List Entry)
     → port_of first.call ≢ port_of second.call
-    → Agree (bindings_left kind bindings (first ∷ second ∷ behind)) (bindings_left kind bindings (second ∷ first ∷ behind))
+    → Agree (bindings_left kind bindings (first ∷ second ∷ behind))
+    (bindings_left kind bindings (second ∷ first ∷ behind))
 bindings_left-swapped kind bindings first second behind apart =
     bindings_left-Agree kind _ _ behind (left_by-swapped kind bindings first second apart)

@@ -33,7 +33,8 @@ is_refusal-release_reply owner owners =
 is_refusal-rebind_reply : (owner : ℕ) (owners : List ℕ) → is_refusal (rebind_reply owner owners) ≡ false
 is_refusal-rebind_reply owner [] = refl
 is_refusal-rebind_reply owner (only ∷ []) =
-    cond_both (only == owner) Rebound Absent (λ reply. is_refusal reply ≡ false) (λ bound. refl) (λ absent. refl)
+    cond_both (only == owner) Rebound Absent (λ reply. is_refusal reply ≡ false) (λ bound. refl)
+    (λ absent. refl)
 is_refusal-rebind_reply owner (first ∷ second ∷ others) = refl
 
 -- whether a call's answer, if it has one, is a refusal
@@ -47,7 +48,8 @@ answers_refusal-answer_of kind bindings (Bind port owner once) = is_refusal-bind
 answers_refusal-answer_of kind bindings (Find port) = is_refusal-find_reply (bindings port)
 answers_refusal-answer_of kind bindings (All port) = refl
 answers_refusal-answer_of kind bindings (Release port owner) = is_refusal-release_reply owner (bindings port)
-answers_refusal-answer_of kind bindings (Rebind port owner new) = is_refusal-rebind_reply owner (bindings port)
+answers_refusal-answer_of kind bindings (Rebind port owner new) = is_refusal-rebind_reply owner
+    (bindings port)
 answers_refusal-answer_of kind bindings (Walk from limit) = refl
 answers_refusal-answer_of kind bindings Work = refl
 answers_refusal-answer_of kind bindings Tidy = refl
@@ -90,7 +92,8 @@ left_by-IsAnswered kind bindings entry answered =
 -- An entry that is refused leaves the bindings as they were.
 pub left_by-IsRefused : (kind : Kind) (bindings : Multimap) (entry : Entry) → IsRefused entry
     → left_by kind bindings entry ≡ bindings
-left_by-IsRefused kind bindings entry refused = rw (is_refusal-MayRefuse entry.call entry.reply refused.0) refl
+left_by-IsRefused kind bindings entry refused = rw (is_refusal-MayRefuse entry.call entry.reply
+    refused.0) refl
 
 -- An answered entry is no refused one.
 pub IsAnswered-not_refused : (kind : Kind) (bindings : Multimap) (entry : Entry)

@@ -23,7 +23,8 @@ pub RisesFrom-from_increasing : (low : ℕ) (ports : List ℕ) → (0 < length p
 RisesFrom-from_increasing low [] first rises = tt
 RisesFrom-from_increasing low (port ∷ ports) first rises = (
   first (omega arith),
-  RisesFrom-from_increasing (suc port) ports (λ some. rises 0 (omega arith)) (IsStrictlyIncreasing-tail port ports rises),
+  RisesFrom-from_increasing (suc port) ports (λ some. rises 0 (omega arith))
+      (IsStrictlyIncreasing-tail port ports rises),
 )
 
 -- By induction over the ports: at the first place the bound says it, and behind it the tail.
@@ -42,7 +43,8 @@ pub RisesFrom-inserted : (low number : ℕ) (ports : List ℕ) → low ≤ numbe
 RisesFrom-inserted low number [] above rises = (above, tt)
 RisesFrom-inserted low number (port ∷ ports) above rises =
     let later = λ (past : suc port ≤ number). RisesFrom-inserted (suc port) number ports past rises.1 in
-    let at_or_behind = λ (reaches : port ≤ number). cond_both (number == port) (port ∷ ports) (port ∷ inserted number ports) (RisesFrom low)
+    let at_or_behind = λ (reaches : port ≤ number). cond_both (number == port) (port ∷ ports)
+    (port ∷ inserted number ports) (RisesFrom low)
     (λ same. rises)
     (λ other. (rises.0, later (omega (arith, eqb-false number port other)))) in
     cond_both (nat_lt number port) (number ∷ port ∷ ports) _ (RisesFrom low)

@@ -44,7 +44,8 @@ owners_released-absent owner (first ∷ others) absent =
       | inl here ↦
           let found : true ≡ false = rw here at absent in
           cc
-      | inr elsewhere ↦ rw elsewhere (ap (λ list. first ∷ list) (owners_released-absent owner others (rw elsewhere at absent)))
+      | inr elsewhere ↦ rw elsewhere (ap (λ list. first ∷ list)
+          (owners_released-absent owner others (rw elsewhere at absent)))
     ]
 
 owners_released-unchanged : (owner : ℕ) (owners : List ℕ) → is_change (release_reply owner owners) ≡ false
@@ -103,7 +104,8 @@ left_by-unchanged kind bindings entry legal unchanged =
     elim legal as (λ _. Agree (left_by kind bindings entry) bindings) [
       | inl answered ↦
           let no_change = ap answers_change answered ∙ is_change-without_kick entry.reply ∙ unchanged in
-          rw (left_by-IsAnswered kind bindings entry answered) (bindings_after-unchanged kind bindings entry.call no_change)
+          rw (left_by-IsAnswered kind bindings entry answered)
+          (bindings_after-unchanged kind bindings entry.call no_change)
       | inr refused ↦ rw (left_by-IsRefused kind bindings entry refused) (Agree-refl bindings)
     ]
 
@@ -121,13 +123,15 @@ module _ (kind : Kind) (bindings : Multimap) (before behind : List Entry) (entry
     IsLegalFrom-behind kind bindings before behind (entry ∷ behind)
         (λ without. (
           legal,
-          IsLegalFrom-Agree kind here (left_by kind here entry) behind (Agree-sym (left_by kind here entry) here unchanged) without,
+          IsLegalFrom-Agree kind here (left_by kind here entry) behind
+              (Agree-sym (left_by kind here entry) here unchanged) without,
         )),
   )
 
   -- and leaves the same bindings
   pub bindings_left-added : Agree (left_by kind here entry) here
-      → Agree (bindings_left kind bindings (before ++ entry ∷ behind)) (bindings_left kind bindings (before ++ behind))
+      → Agree (bindings_left kind bindings (before ++ entry ∷ behind))
+      (bindings_left kind bindings (before ++ behind))
   bindings_left-added unchanged =
       bindings_left-behind kind bindings before (entry ∷ behind) behind
       (bindings_left-Agree kind (left_by kind here entry) here behind unchanged)

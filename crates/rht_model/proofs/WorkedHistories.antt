@@ -35,12 +35,16 @@ IsLegal-bound_and_released = (inl refl, (inl refl, (inl refl, (inl refl, tt))))
 -- in a table of one owner each, the second owner is told the first and can't release it
 abbrev bound_twice : List Entry
 bound_twice =
-    entry (Bind 80 100 false) (Bound false) ∷ entry (Bind 80 7 false) (Exists 100) ∷ entry (Release 80 7) Absent ∷ []
+    entry (Bind 80 100 false) (Bound false) ∷ entry (Bind 80 7 false) (Exists 100) ∷ entry (Release 80 7)
+    Absent ∷ []
 
 pub IsLegal-bound_twice : IsLegal Single bound_twice
 IsLegal-bound_twice = (inl refl, (inl refl, (inl refl, tt)))
 
-pub listing_of-bound_twice : listing_of (80 ∷ []) (bindings_left Single unbound bound_twice) ≡ (80, 100 ∷ []) ∷ []
+pub listing_of-bound_twice : listing_of (80 ∷ []) (bindings_left Single unbound bound_twice) ≡ (
+  80,
+  100 ∷ [],
+) ∷ []
 listing_of-bound_twice = refl
 
 -- in a table of lists the last owner is the first
@@ -58,10 +62,13 @@ three_owners =
     ∷ []
 
 pub IsLegal-three_owners : IsLegal listed three_owners
-IsLegal-three_owners =
-    (inl refl, (inl refl, (inl refl, (inl refl, (inl refl, (inl refl, (inl refl, (inl refl, (inl refl, tt)))))))))
+IsLegal-three_owners = (
+  inl refl,
+  (inl refl, (inl refl, (inl refl, (inl refl, (inl refl, (inl refl, (inl refl, (inl refl, tt)))))))),
+)
 
-pub listing_of-three_owners : listing_of (81 ∷ 80 ∷ 80 ∷ []) (bindings_left listed unbound three_owners) ≡ (80, 2 ∷ []) ∷ []
+pub listing_of-three_owners : listing_of (81 ∷ 80 ∷ 80 ∷ [])
+    (bindings_left listed unbound three_owners) ≡ (80, 2 ∷ []) ∷ []
 listing_of-three_owners = refl
 
 -- a refusal changes nothing

@@ -43,7 +43,8 @@ release_reply owner owners = if list_any (λ o. o == owner) owners then Released
 -- the owners without the first that is this one
 abbrev pub owners_released : ℕ → List ℕ → List ℕ
 owners_released owner [] = []
-owners_released owner (first ∷ others) = if first == owner then others else first ∷ owners_released owner others
+owners_released owner (first ∷ others) = if first == owner then others else first ∷ owners_released owner
+    others
 
 -- a rebind where the port has these owners: it wants the old owner to be the only one
 abbrev pub rebind_reply : ℕ → List ℕ → Reply
@@ -61,7 +62,11 @@ owners_rebound owner new (first ∷ second ∷ others) = first ∷ second ∷ ot
 abbrev pub answer_of : Kind → Multimap → Call → Option Answer
 answer_of kind bindings (Bind port owner once) = Some (plain (bind_reply kind (bindings port)))
 answer_of kind bindings (Find port) = Some (plain (find_reply (bindings port)))
-answer_of kind bindings (All port) = Some (record { reply = Listed (length (bindings port)); owners = bindings port })
+answer_of kind bindings (All port) = Some (record {
+  reply = Listed (length (bindings port));
+  owners =
+      bindings port;
+})
 answer_of kind bindings (Release port owner) = Some (plain (release_reply owner (bindings port)))
 answer_of kind bindings (Rebind port owner new) = Some (plain (rebind_reply owner (bindings port)))
 answer_of kind bindings _ = None
@@ -79,7 +84,8 @@ port_of _ = None
 abbrev pub bindings_after : Kind → Multimap → Call → Multimap
 bindings_after kind bindings (Bind port owner once) =
     with_owners bindings port (owners_bound kind owner (bindings port))
-bindings_after kind bindings (Release port owner) = with_owners bindings port (owners_released owner (bindings port))
+bindings_after kind bindings (Release port owner) = with_owners bindings port
+    (owners_released owner (bindings port))
 bindings_after kind bindings (Rebind port owner new) =
     with_owners bindings port (owners_rebound owner new (bindings port))
 bindings_after kind bindings _ = bindings

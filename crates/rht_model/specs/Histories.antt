@@ -16,7 +16,11 @@ without_kick reply = reply
 -- the entry's reply and list are the answer of its call on these bindings
 abbrev pub IsAnswered : Kind → Multimap → Entry → Type 0
 IsAnswered kind bindings entry =
-    answer_of kind bindings entry.call ≡ Some (record { reply = without_kick entry.reply; owners = entry.owners })
+    answer_of kind bindings entry.call ≡ Some (record {
+      reply = without_kick entry.reply;
+      owners =
+          entry.owners;
+    })
 
 -- the entry's reply is a refusal that its call may give
 abbrev pub IsRefused : Entry → Type 0
@@ -28,7 +32,8 @@ IsLegalAt kind bindings entry = IsAnswered kind bindings entry ⊎ IsRefused ent
 
 -- the bindings that an entry leaves
 abbrev pub left_by : Kind → Multimap → Entry → Multimap
-left_by kind bindings entry = if is_refusal entry.reply then bindings else bindings_after kind bindings entry.call
+left_by kind bindings entry = if is_refusal entry.reply then bindings else bindings_after kind bindings
+    entry.call
 
 -- from these bindings on, each entry is legal where it stands
 abbrev pub IsLegalFrom : Kind → Multimap → List Entry → Type 0

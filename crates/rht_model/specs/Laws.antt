@@ -54,11 +54,13 @@ ChangesByThreeReplies =
 abbrev pub ExtendsByOne : Type 0
 ExtendsByOne =
     (kind : Kind) (history : List Entry) (entry : Entry)
-    → IsLegal kind (history ++ entry ∷ []) ↔ (IsLegal kind history × IsLegalAt kind (bindings_left kind unbound history) entry)
+    → IsLegal kind (history ++ entry ∷ []) ↔ (IsLegal kind history
+    × IsLegalAt kind (bindings_left kind unbound history) entry)
 
 -- what a legal history begins with is legal
 abbrev pub HasLegalPrefixes : Type 0
-HasLegalPrefixes = (kind : Kind) (history more : List Entry) → IsLegal kind (history ++ more) → IsLegal kind history
+HasLegalPrefixes = (kind : Kind) (history more : List Entry) → IsLegal kind (history ++ more)
+    → IsLegal kind history
 
 -- legal histories that leave the same bindings go on alike, and again leave the same
 abbrev pub GoesOnAlike : Type 0

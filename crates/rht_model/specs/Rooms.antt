@@ -13,5 +13,9 @@ emptied room = record { items = []; limit = room.limit }
 -- the room with one item more, where it isn't full
 abbrev pub with_kept : {A : Type 0} → Kept A → A → Kept A
 with_kept room item =
-    if nat_lt (length room.items) room.limit then record { items = room.items ++ item ∷ []; limit = room.limit }
+    if nat_lt (length room.items) room.limit then record {
+      items = room.items ++ item ∷ [];
+      limit =
+          room.limit;
+    }
     else room

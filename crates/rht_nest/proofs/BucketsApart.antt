@@ -37,14 +37,22 @@ same_index : (g : Geometry) (shape bucket second other : ℕ) → HasBucket g (u
     → bucket_place g shape bucket ≡ bucket_place g second other
     → bucket_index shape bucket ≡ bucket_index second other
 same_index g shape bucket second other has others same =
-    let places : ◌≡◌ {A = Option ℕ} (Some (place_of g (PageWord (bucket_index shape bucket)))) (Some (place_of g (PageWord (bucket_index second other)))) =
+    let places : ◌≡◌ {A = Option ℕ} (Some (place_of g (PageWord (bucket_index shape bucket))))
+    (Some (place_of g (PageWord (bucket_index second other)))) =
     sym (placed g shape bucket has) ∙ same ∙ placed g second other others in
     let equal : place_of g (PageWord (bucket_index shape bucket)) ≡ place_of g (PageWord (bucket_index second other)) = cc in
     omega (arith, equal)
 
 pub buckets_never_meet : BucketsNeverMeet
 buckets_never_meet = record {
-  in_one = λ g shape bucket other has others same. omega (arith, same_index g shape bucket shape other has others same);
+  in_one = λ g shape bucket other has others same. omega
+      (arith, same_index g shape bucket shape other has others same);
   in_two = λ g shape bucket second other has others apart same.
-      absurd (omega (arith, same_index g shape bucket second other has others same, has.within, others.within, apart));
+      absurd (omega (
+        arith,
+        same_index g shape bucket second other has others same,
+        has.within,
+        others.within,
+        apart,
+      ));
 }

@@ -20,7 +20,8 @@ pub record LocateStays (g : Geometry) (next : LocateModel × Next Located) : Typ
   pub end_in : IsLocateEndIn g next.1
 
 module _ (mix : ℕ → ℕ → ℕ → ℕ) (port : ℕ) (g : Geometry) where
-  locate_stays_at : (m : LocateModel) (at : LocateAt) (word : ℕ) → IsLocateIn g m → IsLocateAtIn at → IsWord word
+  locate_stays_at : (m : LocateModel) (at : LocateAt) (word : ℕ) → IsLocateIn g m → IsLocateAtIn at
+      → IsWord word
       → LocateStays g (locate_after_at mix port m at word)
   locate_stays_at m at.Shape word within here told = record {
     locate_in = record { geometry_same = within.geometry_same; table_in = within.table_in; at_in = told };
@@ -33,7 +34,8 @@ module _ (mix : ℕ → ℕ → ℕ → ℕ) (port : ℕ) (g : Geometry) where
         end_in = record {
           shape_in = here;
           place_in =
-              subst (λ (h : Geometry). IsBucketOrNone g (bucket_place h shape bucket)) (sym within.geometry_same)
+              subst (λ (h : Geometry). IsBucketOrNone g (bucket_place h shape bucket))
+              (sym within.geometry_same)
               (bucket_is_in g shape bucket);
         };
       }

@@ -13,7 +13,8 @@ bucket_index shape bucket = 64 * (unpacked shape).page + bucket
 -- the place of a bucket's word in a table whose shape is packed into this word; none behind the last page
 abbrev pub bucket_place : Geometry → ℕ → ℕ → Option ℕ
 bucket_place g shape bucket =
-    if nat_lt (bucket_index shape bucket) (64 * g.pages) then Some (place_of g (PageWord (bucket_index shape bucket))) else None
+    if nat_lt (bucket_index shape bucket) (64 * g.pages) then Some
+    (place_of g (PageWord (bucket_index shape bucket))) else None
 
 -- the last of the pages' words
 abbrev pub last_place : Geometry → ℕ

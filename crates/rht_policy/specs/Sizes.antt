@@ -8,4 +8,5 @@ shrunk_size count least = max (if count == 0 then 0 else rounded_up (count * 3 /
 
 -- how many ports a table may hold: twice the greatest size where that is below 2^30; 0 is no greatest one
 abbrev pub most_ports : ℕ → ℕ
-most_ports greatest = if greatest == 0 then 2 ^ 31 else if nat_lt greatest (2 ^ 30) then 2 * greatest else 2 ^ 31
+most_ports greatest = if greatest == 0 then 2 ^ 31 else if nat_lt greatest (2 ^ 30) then 2 * greatest
+    else 2 ^ 31

@@ -43,8 +43,10 @@ module _ {S E : Type 0} (held : S → Option (List ℕ)) (faults : S → ℕ) wh
       let front = first.added.0 in
       record {
         added = tt;
-        prefix = subst (AppendsPrefix (held a) (held c)) (front_and_rest front between waited xs ys first.added.2)
-            (AppendsPrefix-after (held a) (held b) (held c) front (between ++ ys) first.added.1 second.prefix);
+        prefix = subst (AppendsPrefix (held a) (held c))
+            (front_and_rest front between waited xs ys first.added.2)
+            (AppendsPrefix-after (held a) (held b) (held c) front (between ++ ys) first.added.1
+            second.prefix);
         failed = Rose-after_kept (faults a) (faults b) (faults c) first.kept second.failed;
         kept = omega arith;
       }
@@ -72,7 +74,8 @@ module _ {S E : Type 0} (held : S → Option (List ℕ)) (faults : S → ℕ) wh
       → Adds held faults a b r [] waits text → OnOk r (waits ≡ []) → Puts held faults a b r text
   all_put a b (Ok done) waits text text_added none =
       let front = text_added.added.0 in
-      let whole : front ≡ text = sym (append-nil front) ∙ ap (λ l. front ++ l) (sym none) ∙ text_added.added.2 in
+      let whole : front ≡ text = sym (append-nil front) ∙ ap (λ l. front ++ l) (sym none)
+      ∙ text_added.added.2 in
       record {
         whole = subst (Appends (held a) (held b)) whole text_added.added.1;
         prefix = tt;
@@ -88,7 +91,8 @@ module _ {S E : Type 0} {held : S → Option (List ℕ)} {faults : S → ℕ} {a
   pub Adds-then : {c : S} {r : Result (Unit {0}) E} {waited between waits xs ys : List ℕ}
       → Adds {E = E} held faults a b (Ok tt) waited between xs → Adds held faults b c r between waits ys
       → Adds held faults a c r waited waits (xs ++ ys)
-  Adds-then {c = c} {r = r} {waited = waited} {between = between} {waits = waits} {xs = xs} {ys = ys} first second =
+  Adds-then {c = c} {r = r} {waited = waited} {between = between} {waits = waits} {xs = xs} {ys = ys}
+      first second =
       both held faults a b c r waited between waits xs ys first second
 
   -- a piece that failed is one of any longer text
@@ -100,7 +104,8 @@ module _ {S E : Type 0} {held : S → Option (List ℕ)} {faults : S → ℕ} {a
   -- a failure that is passed on, as by a `?`
   pub Adds-passed_on : {e : E} {r : Result (Unit {0}) E} {waited between waits xs : List ℕ}
       → Adds held faults a b (Err e) waited between xs → IsErr r → Adds held faults a b r waited waits xs
-  Adds-passed_on {e = e} {r = r} {waited = waited} {between = between} {waits = waits} {xs = xs} piece failed =
+  Adds-passed_on {e = e} {r = r} {waited = waited} {between = between} {waits = waits} {xs = xs} piece
+      failed =
       passed_on held faults a b e r waited between waits xs piece failed
 
   -- the same text
@@ -114,7 +119,8 @@ module _ {S E : Type 0} {held : S → Option (List ℕ)} {faults : S → ℕ} {a
       → Adds held faults a b r waited waits text → waited ≡ [] → OnOk r (waits ≡ [])
       → Puts held faults a b r text
   Puts-of_adds {r = r} {waited = waited} {waits = waits} {text = text} text_added none_before none_behind =
-      all_put held faults a b r waits text (subst (λ w. Adds held faults a b r w waits text) none_before text_added) none_behind
+      all_put held faults a b r waits text (subst (λ w. Adds held faults a b r w waits text) none_before
+      text_added) none_behind
 
   -- a text where nothing waited failed, and that is passed on
   pub Puts-of_failed_adds : {e : E} {r : Result (Unit {0}) E} {waited waits text : List ℕ}
@@ -126,13 +132,17 @@ module _ {S E : Type 0} {held : S → Option (List ℕ)} {faults : S → ℕ} {a
   pub Puts-of_put : {c : S} {r : Result (Unit {0}) E} {waited between waits text : List ℕ}
       → Adds {E = E} held faults a b (Ok tt) waited between text → Adds held faults b c r between waits []
       → waited ≡ [] → OnOk r (waits ≡ []) → Puts held faults a c r text
-  Puts-of_put {c = c} {r = r} {waited = waited} {between = between} {waits = waits} {text = text} added put none_before none_behind =
+  Puts-of_put {c = c} {r = r} {waited = waited} {between = between} {waits = waits} {text = text} added
+      put none_before none_behind =
       let both_added : Adds held faults a c r waited waits text =
-      subst (Adds held faults a c r waited waits) (append-nil text) (both held faults a b c r waited between waits text [] added put) in
-      all_put held faults a c r waits text (subst (λ w. Adds held faults a c r w waits text) none_before both_added) none_behind
+      subst (Adds held faults a c r waited waits) (append-nil text)
+      (both held faults a b c r waited between waits text [] added put) in
+      all_put held faults a c r waits text (subst (λ w. Adds held faults a c r w waits text) none_before
+      both_added) none_behind
 
 -- a text that was put between two states was put between the same states under other names
-pub Puts-between : {S E : Type 0} {held : S → Option (List ℕ)} {faults : S → ℕ} {a b c d : S} {r : Result (Unit {0}) E} {text : List ℕ}
+pub Puts-between : {S E : Type 0} {held : S → Option (List ℕ)} {faults : S
+    → ℕ} {a b c d : S} {r : Result (Unit {0}) E} {text : List ℕ}
     → a ≡ b → c ≡ d → Puts held faults a c r text → Puts held faults b d r text
 Puts-between {held = held} {faults = faults} {b = b} {c = c} {r = r} {text = text} before after put =
     subst (λ s. Puts held faults b s r text) after (subst (λ s. Puts held faults s c r text) before put)

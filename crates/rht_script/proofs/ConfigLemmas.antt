@@ -31,27 +31,38 @@ rounded_up-power size high power =
     IsLeastPower-unique size (rounded_up size) size (rounded_up-least size high)
     (record { power = power; above = omega arith; least = λ other other_power above. above })
 
-pub IsLeastSize-rounded_min : (number : ℕ) → IsWithinLimits min_limits number → IsLeastSize (rounded_min number)
+pub IsLeastSize-rounded_min : (number : ℕ) → IsWithinLimits min_limits number
+    → IsLeastSize (rounded_min number)
 IsLeastSize-rounded_min number within =
     let up = rounded_up-least number (omega arith) in
     let high : rounded_up number ≤ 65536 = up.least 65536 (16, refl) (omega arith) in
     elim (cases_lt 4 (rounded_up number)) [
       | inl above ↦
           let is : rounded_min number ≡ rounded_up number = omega arith in
-          rw is (record { within = (omega arith, high); rounded = rounded_up-power (rounded_up number) (omega arith) up.power })
+          rw is (record {
+            within = (omega arith, high);
+            rounded = rounded_up-power (rounded_up number)
+                (omega arith) up.power;
+          })
       | inr below ↦
           let is : rounded_min number ≡ 4 = omega arith in
-          rw is (record { within = (omega arith, omega arith); rounded = rounded_up-power 4 (omega arith) (2, refl) })
+          rw is (record {
+            within = (omega arith, omega arith);
+            rounded = rounded_up-power 4 (omega arith)
+                (2, refl);
+          })
     ]
 
 module _ (options : Options) (allowed : AreAllowed options) where
   pub hint_within : (configured options).hint ≤ hint_limits.greatest
   unfolding configured
-  hint_within = either_way (λ hint. hint ≤ hint_limits.greatest) options.hint 0 (at_most hint_limits options.hint allowed.hint) (omega arith)
+  hint_within = either_way (λ hint. hint ≤ hint_limits.greatest) options.hint 0
+      (at_most hint_limits options.hint allowed.hint) (omega arith)
 
   pub pages_within : IsWithinLimits page_limits (configured options).pages
   unfolding configured
-  pages_within = either_way (IsWithinLimits page_limits) options.pages 256 allowed.pages (omega arith, omega arith)
+  pages_within = either_way (IsWithinLimits page_limits) options.pages 256 allowed.pages
+      (omega arith, omega arith)
 
   pub IsSettled-configured : first_size (configured options) ≤ page_words * (configured options).pages
       → IsSettled (configured options)
@@ -64,10 +75,13 @@ module _ (options : Options) (allowed : AreAllowed options) where
     };
     hint = hint_within;
     least =
-        IsLeastSize-rounded_min (unwrap_or options.min 4) (either_way (IsWithinLimits min_limits) options.min 4 allowed.min (omega arith, omega arith));
+        IsLeastSize-rounded_min (unwrap_or options.min 4)
+        (either_way (IsWithinLimits min_limits) options.min 4 allowed.min (omega arith, omega arith));
     greatest = IsGreatestSize-zero;
     agree = λ some. absurd (some refl);
-    seed = either_way (λ seed. seed ≤ seed_limits.greatest) options.seed 1 (at_most seed_limits options.seed allowed.seed) (omega arith);
-    rewalks = either_way (λ rewalks. rewalks ≤ rewalk_limits.greatest) options.rewalks 8 (at_most rewalk_limits options.rewalks allowed.rewalks) (omega arith);
+    seed = either_way (λ seed. seed ≤ seed_limits.greatest) options.seed 1
+        (at_most seed_limits options.seed allowed.seed) (omega arith);
+    rewalks = either_way (λ rewalks. rewalks ≤ rewalk_limits.greatest) options.rewalks 8
+        (at_most rewalk_limits options.rewalks allowed.rewalks) (omega arith);
     starts = room;
   }

@@ -88,7 +88,8 @@ stops_later read GoesOn onward GoesOnward number line lines fault stop go later 
 
 module _ (table : TableLine) (fault : ScriptFault) where
   commands_stop : (number : ℕ) (lines : List (List ℕ)) → commands_from number table lines ≡ Err fault
-      → Stops (commands_from number table) (λ front. IsOk (commands_from number table front)) number lines fault
+      → Stops (commands_from number table) (λ front. IsOk (commands_from number table front)) number
+      lines fault
   commands_stop number [] stopped = absurd (cc)
   commands_stop number (line ∷ lines) stopped =
       let read_from = λ (n : ℕ). commands_from n table in
@@ -99,7 +100,8 @@ module _ (table : TableLine) (fault : ScriptFault) where
         | inr read ↦ elim (cases_Bool (is_skipped read.0)) [
           | inl skipped ↦
               let onward = rw skipped at read.2 in
-              stops_later (read_from number) (Goes number) (read_from (number + 1)) (Goes (number + 1)) number line lines fault
+              stops_later (read_from number) (Goes number) (read_from (number + 1)) (Goes (number + 1))
+              number line lines fault
               (λ other stop. rw (read.1, skipped) stop) (λ other go. rw (read.1, skipped) go)
               (commands_stop (number + 1) lines onward)
           | inr said ↦
@@ -110,7 +112,8 @@ module _ (table : TableLine) (fault : ScriptFault) where
                     (λ other. rw (read.1, said, wrong) refl) refl
                 | inr command ↦ elim (bind-err (commands_from (number + 1) table lines) _ fault command.2) [
                   | inl later ↦
-                      stops_later (read_from number) (Goes number) (read_from (number + 1)) (Goes (number + 1))
+                      stops_later (read_from number) (Goes number) (read_from (number + 1))
+                      (Goes (number + 1))
                       number line lines fault
                       (λ other stop. rw (read.1, said, command.1, stop) refl)
                       (λ other go. rw (read.1, said, command.1)
@@ -127,7 +130,8 @@ module _ (table : TableLine) (fault : ScriptFault) where
 -- the lines are a script, or end without a table line
 abbrev HaveNoFault : ℕ → List (List ℕ) → Type 0
 HaveNoFault number lines =
-    IsOk (said_from number lines) ⊎ (said_from number lines ≡ Err (fault_at (number + length lines) NoTableLine))
+    IsOk (said_from number lines) ⊎ (said_from number lines ≡ Err
+    (fault_at (number + length lines) NoTableLine))
 
 module _ (fault : ScriptFault) where
   -- below the table line commands decide
@@ -164,13 +168,16 @@ module _ (fault : ScriptFault) where
   said_stops number (line ∷ lines) stopped within =
       elim (bind-err (at_line number (words_at number line)) _ fault stopped) [
         | inl wrong ↦ stops_here (said_from number) (HaveNoFault number) number line lines fault
-            (line-at_line number (words_at number line) fault wrong) (λ other. rw wrong refl) (inr (at_end number))
+            (line-at_line number (words_at number line) fault wrong) (λ other. rw wrong refl)
+            (inr (at_end number))
         | inr read ↦ elim (cases_Bool (is_skipped read.0)) [
           | inl skipped ↦
               let onward = rw skipped at read.2 in
-              stops_later (said_from number) (HaveNoFault number) (said_from (number + 1)) (HaveNoFault (number + 1))
+              stops_later (said_from number) (HaveNoFault number) (said_from (number + 1))
+              (HaveNoFault (number + 1))
               number line lines fault
-              (λ other stop. rw (read.1, skipped) stop) (λ other. onto_skipped number line other read.0 read.1 skipped)
+              (λ other stop. rw (read.1, skipped) stop)
+              (λ other. onto_skipped number line other read.0 read.1 skipped)
               (said_stops (number + 1) lines onward (omega (arith, within)))
           | inr said ↦
               let asked = rw said at read.2 in
@@ -193,7 +200,8 @@ same_front : (front : List (List ℕ)) (line : List ℕ) (behind lines : List (L
     → take (length front + 1) lines ≡ take (length front + 1) (front ++ line ∷ behind)
     → lines ≡ front ++ line ∷ drop (length front + 1) lines
 same_front front line behind lines same =
-    let first : take (length front + 1) lines ≡ front ++ line ∷ [] = same ∙ take-append-add front (line ∷ behind) 1 in
+    let first : take (length front + 1) lines ≡ front ++ line ∷ [] = same
+    ∙ take-append-add front (line ∷ behind) 1 in
     sym (take-append-drop (length front + 1) lines)
     ∙ ap (λ (l : List (List ℕ)). l ++ drop (length front + 1) lines) first
     ∙ append_assoc front (line ∷ []) (drop (length front + 1) lines)
@@ -210,9 +218,11 @@ module _ (bytes : List ℕ) (fault : ScriptFault) (wrong : IsLineFault bytes fau
       let place : fault.line ≡ length stop.front + 1 = (let at = stop.place in omega arith) in
       let lines_are = stop.front ++ stop.line ∷ stop.behind in
       let first : take (length stop.front + 1) (lines_of other) ≡ take (length stop.front + 1) lines_are =
-      subst (λ n. take n (lines_of other) ≡ take n lines_are) place (same ∙ ap (take fault.line) stop.split) in
+      subst (λ n. take n (lines_of other) ≡ take n lines_are) place (same
+      ∙ ap (take fault.line) stop.split) in
       let lines = same_front stop.front stop.line stop.behind (lines_of other) first in
-      reading_of-lines other few ∙ ap (said_from 1) lines ∙ stop.alone (drop (length stop.front + 1) (lines_of other))
+      reading_of-lines other few ∙ ap (said_from 1) lines
+      ∙ stop.alone (drop (length stop.front + 1) (lines_of other))
 
   before : (front : List ℕ) → length front ≤ most_bytes
       → lines_of front ≡ take (fault.line - 1) (lines_of bytes) → HasNoLineFault front

@@ -18,8 +18,10 @@ module _ (number : ℕ) (line : List ℕ) where
 
   pub words_at-long : number ≤ most_lines → most_in_line < length line
       → words_at number line ≡ Err LineTooLong
-  words_at-long few long = rw (le-ltb most_lines number few) (rw (lt-ltb most_in_line (length line) long) refl)
+  words_at-long few long = rw (le-ltb most_lines number few)
+      (rw (lt-ltb most_in_line (length line) long) refl)
 
   pub words_at-right : number ≤ most_lines → length line ≤ most_in_line
       → words_at number line ≡ Ok (words_of line)
-  words_at-right few short = rw (le-ltb most_lines number few) (rw (le-ltb most_in_line (length line) short) refl)
+  words_at-right few short = rw (le-ltb most_lines number few)
+      (rw (le-ltb most_in_line (length line) short) refl)

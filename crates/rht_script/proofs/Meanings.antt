@@ -31,7 +31,8 @@ meaning_of-at_line number (Ok value) = refl
 meaning_of-at_line number (Err cause) = refl
 
 -- the meaning of a chain of readings is the chain of their meanings
-meaning_of-bind : {A B : Type 0} (read : Result A ScriptFault) (next : A → Result B ScriptFault) (meant : Result A ℕ)
+meaning_of-bind : {A B : Type 0} (read : Result A ScriptFault) (next : A
+    → Result B ScriptFault) (meant : Result A ℕ)
     (then : A → Result B ℕ)
     → meaning_of read ≡ meant → ((value : A) → meaning_of (next value) ≡ then value)
     → meaning_of (read >>= next) ≡ (meant >>= then)
@@ -42,13 +43,15 @@ meaning_of-bind (Err fault) next meant then first behind = rw (← first) refl
 commands_in : TableLine → List (List (List ℕ)) → Result (List (ℕ × Call)) ℕ
 commands_in table [] = Ok []
 commands_in table (words ∷ lines) =
-    coded (command_of table words) >>= (λ command. commands_in table lines >>= (λ commands. Ok (command ∷ commands)))
+    coded (command_of table words) >>= (λ command. commands_in table lines >>=
+    (λ commands. Ok (command ∷ commands)))
 
 -- what lines of these words say
 said_in : List (List (List ℕ)) → Result Said ℕ
 said_in [] = Err (code_of NoTableLine)
 said_in (words ∷ lines) =
-    coded (table_of words) >>= (λ table. commands_in table lines >>= (λ commands. Ok (said_of table commands)))
+    coded (table_of words) >>= (λ table. commands_in table lines >>=
+    (λ commands. Ok (said_of table commands)))
 
 -- ---- lines within the bounds
 
@@ -64,12 +67,15 @@ short_behind : (line : List ℕ) (lines : List (List ℕ)) → AreShort (line �
 short_behind line lines short = All-tail (λ line. length line ≤ most_in_line) line lines short
 
 -- the first line has the words that it has
-read_first : (number : ℕ) (line : List ℕ) (lines : List (List ℕ)) → number + length (line ∷ lines) ≤ most_lines + 1
+read_first : (number : ℕ) (line : List ℕ) (lines : List (List ℕ))
+    → number + length (line ∷ lines) ≤ most_lines + 1
     → AreShort (line ∷ lines) → words_at number line ≡ Ok (words_of line)
 read_first number line lines few short =
-    words_at-right number line (omega (arith, few)) (All-head (λ line. length line ≤ most_in_line) line lines short)
+    words_at-right number line (omega (arith, few)) (All-head (λ line. length line ≤ most_in_line) line
+    lines short)
 
-meaning_of-commands : (table : TableLine) (number : ℕ) (lines : List (List ℕ)) → number + length lines ≤ most_lines + 1
+meaning_of-commands : (table : TableLine) (number : ℕ) (lines : List (List ℕ))
+    → number + length lines ≤ most_lines + 1
     → AreShort lines
     → meaning_of (commands_from number table lines) ≡ commands_in table (words_kept lines)
 unfolding commands_in
@@ -85,7 +91,8 @@ meaning_of-commands table number (line ∷ lines) few short =
           rw (read, said)
           (meaning_of-bind (at_line number (command_of table words)) _ (coded (command_of table words)) _
           (meaning_of-at_line number (command_of table words)) (λ command.
-          meaning_of-bind (commands_from (number + 1) table lines) _ (commands_in table (words_kept lines)) _ onward
+          meaning_of-bind (commands_from (number + 1) table lines) _
+          (commands_in table (words_kept lines)) _ onward
           (λ commands. refl)))
     ]
 
@@ -98,16 +105,19 @@ meaning_of-said number (line ∷ lines) few short =
     let read = read_first number line lines few short in
     let others_short = short_behind line lines short in
     elim (cases_Bool (is_skipped words)) [
-      | inl skipped ↦ rw (read, skipped) (meaning_of-said (number + 1) lines (omega (arith, few)) others_short)
+      | inl skipped ↦ rw (read, skipped) (meaning_of-said (number + 1) lines (omega (arith, few))
+          others_short)
       | inr said ↦
           rw (read, said)
           (meaning_of-bind (at_line number (table_of words)) _ (coded (table_of words)) _
           (meaning_of-at_line number (table_of words)) (λ table.
           meaning_of-bind (commands_from (number + 1) table lines) _ (commands_in table (words_kept lines)) _
-          (meaning_of-commands table (number + 1) lines (omega (arith, few)) others_short) (λ commands. refl)))
+          (meaning_of-commands table (number + 1) lines (omega (arith, few)) others_short)
+          (λ commands. refl)))
     ]
 
-meaning_of-reading : (bytes : List ℕ) → IsWithinBounds bytes → meaning_of (reading_of bytes) ≡ said_in (words_said bytes)
+meaning_of-reading : (bytes : List ℕ) → IsWithinBounds bytes
+    → meaning_of (reading_of bytes) ≡ said_in (words_said bytes)
 meaning_of-reading bytes bounds =
     ap meaning_of (reading_of-lines bytes bounds.bytes_few)
     ∙ meaning_of-said 1 (lines_of bytes) (omega (arith, bounds.lines_few)) bounds.lines_short

@@ -26,7 +26,8 @@ module _ (test : ℕ → Bool) where
   whole (byte ∷ text) absent =
       let place = position_or_len test text in
       let pieces = slice_split test text in
-      (elim (test byte) as (λ here. suc (length text) ≤ cond (not here) (1 + place) 0 → cond here ([] ∷ pieces) (onto_first byte pieces) ≡ (byte ∷ text) ∷ []) [
+      (elim (test byte) as (λ here. suc (length text) ≤ cond (not here) (1 + place) 0
+      → cond here ([] ∷ pieces) (onto_first byte pieces) ≡ (byte ∷ text) ∷ []) [
         | true ↦ λ h. absurd (omega (arith, h))
         | false ↦ λ h. ap (onto_first byte) (whole text (omega (arith, h)))
       ]) absent
@@ -37,7 +38,8 @@ module _ (test : ℕ → Bool) where
   slice_split-position_none text absent =
       let place = position_or_len test text in
       whole text (elim (cases_Bool (nat_lt place (length text))) [
-        | inl within ↦ absurd (none-some place (sym absent ∙ cond-true (nat_lt place (length text)) (Some place) None within))
+        | inl within ↦ absurd (none-some place (sym absent
+            ∙ cond-true (nat_lt place (length text)) (Some place) None within))
         | inr past ↦ ltb-false place (length text) past
       ])
 
@@ -60,7 +62,11 @@ unfolding lines_of
 lines_of-position text end found =
     let behind = slice_split is_line_feed (drop (end + 1) text) in
     ap without_empty_end (slice_split-position is_line_feed text end found)
-    ∙ onto_pieces (take end text) behind (omega (arith, length-slice_split is_line_feed (drop (end + 1) text)))
+    ∙ onto_pieces (take end text) behind (omega (
+      arith,
+      length-slice_split is_line_feed
+          (drop (end + 1) text),
+    ))
 
 only_line : (text : List ℕ) → text ≢ [] → without_empty_end (text ∷ []) ≡ text ∷ []
 only_line [] some = absurd (some refl)
@@ -103,11 +109,13 @@ all_blank (byte ∷ text) absent =
 
 -- By induction too: the words are those from the first byte of a word on.
 from_letter : (text : List ℕ) → position_or_len is_letter text < length text
-    → (words_of text ≡ words_of (drop (position_or_len is_letter text) text)) × BeginsWord (drop (position_or_len is_letter text) text)
+    → (words_of text ≡ words_of (drop (position_or_len is_letter text) text))
+    × BeginsWord (drop (position_or_len is_letter text) text)
 from_letter [] within = absurd (omega (arith, within))
 from_letter (byte ∷ text) within =
     let place = position_or_len is_letter text in
-    (elim (is_blank byte) as (λ blank. cond (not (not blank)) (1 + place) 0 < suc (length text) → is_blank byte ≡ blank
+    (elim (is_blank byte) as (λ blank. cond (not (not blank)) (1 + place) 0 < suc (length text)
+    → is_blank byte ≡ blank
     → (words_of (byte ∷ text) ≡ words_of (drop (cond (not (not blank)) (1 + place) 0) (byte ∷ text)))
     × BeginsWord (drop (cond (not (not blank)) (1 + place) 0) (byte ∷ text))) [
       | true ↦ λ before blank.
@@ -122,7 +130,8 @@ pub words_of-position_none : (line : List ℕ) → position is_letter line ≡ N
 words_of-position_none line absent =
     let place = position_or_len is_letter line in
     all_blank line (elim (cases_Bool (nat_lt place (length line))) [
-      | inl within ↦ absurd (none-some place (sym absent ∙ cond-true (nat_lt place (length line)) (Some place) None within))
+      | inl within ↦ absurd (none-some place (sym absent
+          ∙ cond-true (nat_lt place (length line)) (Some place) None within))
       | inr past ↦ ltb-false place (length line) past
     ])
 
@@ -141,7 +150,8 @@ unfolding words_of
 is_skipped-letter [] begins = absurd begins
 is_skipped-letter (byte ∷ text) begins =
     rw (slice_split-cons_no is_blank byte text begins)
-    (elim (slice_split is_blank text) as (λ pieces. is_skipped (filter is_some_text (onto_first byte pieces)) ≡ (byte == 35)) [
+    (elim (slice_split is_blank text) as (λ pieces. is_skipped
+    (filter is_some_text (onto_first byte pieces)) ≡ (byte == 35)) [
       | [] ↦ refl
       | piece ∷ pieces ↦ refl
     ])

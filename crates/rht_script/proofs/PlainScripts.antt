@@ -98,16 +98,19 @@ module _ (table : TableLine) (callers : table.config.callers < 2 ^ 32) where
   commands_from-plain : (number : ℕ) (commands : List (ℕ × Call))
       → AllByRecursion (IsSayableCommand table.config) commands
       → number + length commands ≤ most_lines + 1
-      → commands_from number table (lines_of (flat_map (λ command. plain_line (command_words command)) commands)) ≡ Ok commands
+      → commands_from number table (lines_of (flat_map (λ command. plain_line (command_words command))
+      commands)) ≡ Ok commands
   commands_from-plain number [] sayable few = ap (commands_from number table) lines_of-empty
   commands_from-plain number (command ∷ commands) sayable few =
       let words = command_words command in
       let plain = command_words-plain command sayable.0 in
       let behind = flat_map (λ command. plain_line (command_words command)) commands in
       let read : words_at number (spaced_words words) ≡ Ok words =
-      words_at-right number (spaced_words words) (omega (arith, few)) (omega (arith, length-spaced words plain.0, plain.1))
+      words_at-right number (spaced_words words) (omega (arith, few))
+      (omega (arith, length-spaced words plain.0, plain.1))
       ∙ ap (λ (ws : List (List ℕ)). Ok ws) (words_of-spaced words plain.0) in
-      let said : is_skipped words ≡ false = is_comment-decimal command.0 (omega (arith, sayable.0.0, callers)) in
+      let said : is_skipped words ≡ false = is_comment-decimal command.0
+      (omega (arith, sayable.0.0, callers)) in
       let onward = commands_from-plain (number + 1) commands sayable.1 (omega (arith, few)) in
       ap (commands_from number table) (lines_of-plain words behind plain.0)
       ∙ rw (read, said, command_of-plain command sayable.0, onward) refl
@@ -116,20 +119,24 @@ module _ (table : TableLine) (callers : table.config.callers < 2 ^ 32) where
 
 -- each option with its value, as it is set
 set_number : (setting : ℕ → Setting) (limits : Limits) (name : List ℕ)
-    → ((value : List ℕ) → setting_of name value ≡ (number_of limits value >>= (λ number. Ok (setting number))))
+    → ((value : List ℕ)
+    → setting_of name value ≡ (number_of limits value >>= (λ number. Ok (setting number))))
     → (number : ℕ) → number < 2 ^ 32 → IsWithinLimits limits number
     → setting_of name (decimal number) ≡ Ok (setting number)
 set_number setting limits name is number small within =
     is (decimal number) ∙ rw (number_of-decimal number small limits within) refl
 
-set_min : (number : ℕ) → IsWithinLimits min_limits number → setting_of (codes "min") (decimal number) ≡ Ok (Min number)
+set_min : (number : ℕ) → IsWithinLimits min_limits number
+    → setting_of (codes "min") (decimal number) ≡ Ok (Min number)
 unfolding setting_of
-set_min number within = set_number Min min_limits (codes "min") (λ value. refl) number (omega (arith, within)) within
+set_min number within = set_number Min min_limits (codes "min") (λ value. refl) number
+    (omega (arith, within)) within
 
 set_hint : (number : ℕ) → IsWithinLimits hint_limits number
     → setting_of (codes "hint") (decimal number) ≡ Ok (Hint number)
 unfolding setting_of
-set_hint number within = set_number Hint hint_limits (codes "hint") (λ value. refl) number (omega (arith, within)) within
+set_hint number within = set_number Hint hint_limits (codes "hint") (λ value. refl) number
+    (omega (arith, within)) within
 
 set_pages : (number : ℕ) → IsWithinLimits page_limits number
     → setting_of (codes "pages") (decimal number) ≡ Ok (Pages number)
@@ -140,7 +147,8 @@ set_pages number within =
 set_seed : (number : ℕ) → IsWithinLimits seed_limits number
     → setting_of (codes "seed") (decimal number) ≡ Ok (Seed number)
 unfolding setting_of
-set_seed number within = set_number Seed seed_limits (codes "seed") (λ value. refl) number (omega (arith, within)) within
+set_seed number within = set_number Seed seed_limits (codes "seed") (λ value. refl) number
+    (omega (arith, within)) within
 
 set_rewalks : (number : ℕ) → IsWithinLimits rewalk_limits number
     → setting_of (codes "rewalks") (decimal number) ≡ Ok (Rewalks number)
@@ -173,7 +181,8 @@ made config nodes callers hint min max kind shrink = record config {
 
 -- a config is made of its own numbers
 made-same : (config : Config)
-    → made config config.nodes config.callers config.hint config.min config.max config.kind config.shrink ≡ config
+    → made config config.nodes config.callers config.hint config.min config.max config.kind
+    config.shrink ≡ config
 unfolding made
 made-same config = refl
 
@@ -194,13 +203,15 @@ module _ (config : Config) (sayable : IsSayableConfig config) where
   abbrev hint_said : Option ℕ
   hint_said = cond (config.hint == 0) None (Some config.hint)
 
-  options_from-hint : options_from (options_said config None) (hint_words config.hint) ≡ Ok (options_said config hint_said)
+  options_from-hint : options_from (options_said config None) (hint_words config.hint) ≡ Ok
+      (options_said config hint_said)
   options_from-hint = elim (cases_Bool (config.hint == 0)) [
     | inl none ↦ rw none refl
     | inr some ↦
         let positive : 1 ≤ config.hint = omega (arith, eqb-false config.hint 0 some) in
         rw some
-        (options_from-step (options_said config None) (Hint config.hint) (codes "hint") (decimal config.hint) []
+        (options_from-step (options_said config None) (Hint config.hint) (codes "hint")
+        (decimal config.hint) []
         (set_hint config.hint (positive, sayable.settled.hint)))
   ]
 
@@ -234,13 +245,15 @@ module _ (config : Config) (sayable : IsSayableConfig config) where
       let hint = unwrap_or hint_said plain_config.hint in
       let same : made config plain_config.nodes plain_config.callers hint (rounded_min config.min) plain_config.max plain_config.kind plain_config.shrink
       ≡ made config config.nodes config.callers config.hint config.min config.max config.kind config.shrink =
-      rw (hint_same, min_same, sayable.nodes, sayable.callers, sayable.max, sayable.kind, sayable.shrink) refl in
+      rw (hint_same, min_same, sayable.nodes, sayable.callers, sayable.max, sayable.kind, sayable.shrink)
+      refl in
       same ∙ made-same config
 
   config_of-plain : config_of (options_said config hint_said) ≡ Ok config
   unfolding config_of
   config_of-plain =
-      let room : has_room config ≡ true = le-leb (first_size config) (page_words * config.pages) sayable.settled.starts in
+      let room : has_room config ≡ true = le-leb (first_size config) (page_words * config.pages)
+      sayable.settled.starts in
       rw (configured-said, room) refl
 
   table_of-plain : table_of (table_words config) ≡ Ok (record { config = config; auto = true })
@@ -252,7 +265,8 @@ module _ (config : Config) (sayable : IsSayableConfig config) where
   hash_word-plain Mix = record { some = refl; bytes = refl; short = omega arith }
   hash_word-plain Low = record { some = refl; bytes = refl; short = omega arith }
 
-  hint_words-plain : AllByRecursion IsPlainWord (hint_words config.hint) × (length (hint_words config.hint) ≤ 2)
+  hint_words-plain : AllByRecursion IsPlainWord (hint_words config.hint)
+      × (length (hint_words config.hint) ≤ 2)
   hint_words-plain = elim (cases_Bool (config.hint == 0)) [
     | inl none ↦ rw none (tt, omega arith)
     | inr some ↦

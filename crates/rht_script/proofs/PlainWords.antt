@@ -33,13 +33,18 @@ is_ascii_digit-digit digit small =
 IsDigitsOf-decimal : (number : ℕ) → number < 2 ^ 64 → IsDigitsOf number (decimal number)
 IsDigitsOf-decimal =
     decimal_by_steps IsDigitsOf
-    (λ digit small. (and_from (is_ascii_digit (48 + digit)) true (is_ascii_digit-digit digit small) refl, omega arith))
+    (λ digit small. (
+      and_from (is_ascii_digit (48 + digit)) true (is_ascii_digit-digit digit small) refl,
+      omega arith,
+    ))
     (λ number digits large digits_are.
     let last = (48 + number % 10) ∷ [] in
     let small : number % 10 < 10 = omega arith in
     let value = fold-append (λ value digit. value * 10 + (digit - 48)) 0 digits last in
-    let digit = and_from (is_ascii_digit (48 + number % 10)) true (is_ascii_digit-digit (number % 10) small) refl in (
-      list_all-append is_ascii_digit digits last ∙ and_from (list_all is_ascii_digit digits) _ digits_are.0 digit,
+    let digit = and_from (is_ascii_digit (48 + number % 10)) true
+    (is_ascii_digit-digit (number % 10) small) refl in (
+      list_all-append is_ascii_digit digits last ∙ and_from (list_all is_ascii_digit digits) _
+          digits_are.0 digit,
       omega (arith, value, digits_are.1),
     ))
 
@@ -49,7 +54,8 @@ record BeginsWithDigit (word : List ℕ) : Type 0 where
   no_comment : is_comment word ≡ false
   no_schedule : is_schedule word ≡ false
 
-BeginsWithDigit-digits : (word : List ℕ) → 0 < length word → list_all is_ascii_digit word ≡ true → BeginsWithDigit word
+BeginsWithDigit-digits : (word : List ℕ) → 0 < length word → list_all is_ascii_digit word ≡ true
+    → BeginsWithDigit word
 BeginsWithDigit-digits [] some digits = absurd (omega (arith, some))
 BeginsWithDigit-digits (byte ∷ word) some digits =
     let first = (and_parts (is_ascii_digit byte) (list_all is_ascii_digit word) digits).0 in
@@ -80,7 +86,8 @@ pub record IsPlainWord (word : List ℕ) : Type 0 where
 is_plain_byte-digit : (byte : ℕ) → is_ascii_digit byte ≡ true → is_plain_byte byte ≡ true
 is_plain_byte-digit byte digit =
     let above : 48 ≤ byte = leb-true 48 byte (and_parts (nat_le 48 byte) (nat_le byte 57) digit).0 in
-    let other = λ (blank : ℕ) (low : blank < 48). ne_eqb byte blank (λ same. absurd (omega (arith, above, low, same))) in
+    let other = λ (blank : ℕ) (low : blank < 48). ne_eqb byte blank
+    (λ same. absurd (omega (arith, above, low, same))) in
     rw (other 32 (omega arith), other 9 (omega arith), other 13 (omega arith), other 10 (omega arith)) refl
 
 -- what passes one test passes a weaker one
@@ -89,7 +96,8 @@ list_all-weaker : (strong weak : ℕ → Bool) → ((byte : ℕ) → strong byte
 list_all-weaker strong weak each [] all = refl
 list_all-weaker strong weak each (byte ∷ bytes) all =
     let parts = and_parts (strong byte) (list_all strong bytes) all in
-    and_from (weak byte) (list_all weak bytes) (each byte parts.0) (list_all-weaker strong weak each bytes parts.1)
+    and_from (weak byte) (list_all weak bytes) (each byte parts.0)
+    (list_all-weaker strong weak each bytes parts.1)
 
 -- ---- numbers of 32 bits
 
@@ -124,11 +132,13 @@ module _ (number : ℕ) (small : number < 2 ^ 32) where
   is_number-decimal =
       let count = length (decimal number) in
       and_from _ (list_all is_ascii_digit (decimal number))
-      (and_from _ (nat_le count most_digits) (lt-ltb 0 count digits_some) (le-leb count most_digits (omega (arith, digits_few))))
+      (and_from _ (nat_le count most_digits) (lt-ltb 0 count digits_some)
+      (le-leb count most_digits (omega (arith, digits_few))))
       digits_are.0
 
   -- the number is read as it is
-  pub number_of-decimal : (limits : Limits) → IsWithinLimits limits number → number_of limits (decimal number) ≡ Ok number
+  pub number_of-decimal : (limits : Limits) → IsWithinLimits limits number
+      → number_of limits (decimal number) ≡ Ok number
   unfolding number_of
   number_of-decimal limits within =
       let is : is_within limits number ≡ true =
@@ -144,7 +154,8 @@ no_blanks [] plain = All-nil (λ byte. is_blank byte ≡ false)
 no_blanks (byte ∷ word) plain =
     let parts = and_parts (is_plain_byte byte) (list_all is_plain_byte word) plain in
     let first = (and_parts (not (is_blank byte)) (not (byte == 10)) parts.0).0 in
-    All-cons (λ byte. is_blank byte ≡ false) byte word (not-true (is_blank byte) first) (no_blanks word parts.1)
+    All-cons (λ byte. is_blank byte ≡ false) byte word (not-true (is_blank byte) first)
+    (no_blanks word parts.1)
 
 -- none of them is a line feed
 no_line_feeds : (word : List ℕ) → list_all is_plain_byte word ≡ true → All (λ byte. (byte == 10) ≡ false) word
@@ -152,14 +163,16 @@ no_line_feeds [] plain = All-nil (λ byte. (byte == 10) ≡ false)
 no_line_feeds (byte ∷ word) plain =
     let parts = and_parts (is_plain_byte byte) (list_all is_plain_byte word) plain in
     let first = (and_parts (not (is_blank byte)) (not (byte == 10)) parts.0).1 in
-    All-cons (λ byte. (byte == 10) ≡ false) byte word (not-true (byte == 10) first) (no_line_feeds word parts.1)
+    All-cons (λ byte. (byte == 10) ≡ false) byte word (not-true (byte == 10) first)
+    (no_line_feeds word parts.1)
 
 -- words in a row, with a space between each two
 abbrev pub spaced_words : List (List ℕ) → List ℕ
 spaced_words words = join_with_byte 32 words
 
 -- by induction: a space ends the first word, and the words behind it are those of what stands behind
-pub words_of-spaced : (words : List (List ℕ)) → AllByRecursion IsPlainWord words → words_of (spaced_words words) ≡ words
+pub words_of-spaced : (words : List (List ℕ)) → AllByRecursion IsPlainWord words
+    → words_of (spaced_words words) ≡ words
 unfolding words_of
 words_of-spaced [] plain = refl
 words_of-spaced (word ∷ []) plain =
@@ -197,6 +210,8 @@ unfolding lines_of plain_line
 lines_of-plain words text plain =
     let line = spaced_words words in
     let pieces = slice_split (λ byte. byte == 10) text in
-    ap (λ (bytes : List ℕ). without_empty_end (slice_split (λ byte. byte == 10) bytes)) (append_assoc line (10 ∷ []) text)
-    ∙ ap without_empty_end (slice_split_at (λ byte. byte == 10) line 10 text (no_line_feeds-spaced words plain) refl)
+    ap (λ (bytes : List ℕ). without_empty_end (slice_split (λ byte. byte == 10) bytes))
+    (append_assoc line (10 ∷ []) text)
+    ∙ ap without_empty_end (slice_split_at (λ byte. byte == 10) line 10 text
+    (no_line_feeds-spaced words plain) refl)
     ∙ onto_pieces line pieces (omega (arith, length-slice_split (λ byte. byte == 10) text))

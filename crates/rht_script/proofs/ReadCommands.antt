@@ -62,7 +62,8 @@ first_within : (limits : Limits) (words : List (List ℕ))
     → IfOk (number_first limits words) (λ read. is_within limits read.0 ≡ true)
 first_within limits [] = tt
 first_within limits (word ∷ words) =
-    IfOk-then (λ number. is_within limits number ≡ true) (λ (read : ℕ × List (List ℕ)). is_within limits read.0 ≡ true)
+    IfOk-then (λ number. is_within limits number ≡ true)
+    (λ (read : ℕ × List (List ℕ)). is_within limits read.0 ≡ true)
     (number_of limits word) _ (number_within limits word) (λ number within. within)
 
 -- the port, or the owner, is within its limits
@@ -88,7 +89,8 @@ module _ (Q : Call → Type 0) where
       IfOk-then (λ (read : ℕ × List (List ℕ)). IsOwner read.0) Q (number_first owner_limits words) next
       (first_within owner_limits words) holds
 
-module _ (Q : Call → Type 0) (bind : (port owner : ℕ) → IsPort port → IsOwner owner → Q (Bind port owner false))
+module _ (Q : Call → Type 0) (bind : (port owner : ℕ) → IsPort port → IsOwner owner
+    → Q (Bind port owner false))
     (find : (port : ℕ) → IsPort port → Q (Find port))
     (release : (port owner : ℕ) → IsPort port → IsOwner owner → Q (Release port owner)) where
   bind_holds : (words : List (List ℕ)) → IfOk (bind_of words) Q
@@ -121,7 +123,8 @@ module _ (Q : Call → Type 0) (bind : (port owner : ℕ) → IsPort port → Is
       (IfOk-cond Q (is_word verb (codes "release")) _ (Err UnknownWord) (release_holds words) tt))
 
 module _ (P : ℕ × Call → Type 0) (Q : Call → Type 0) (table : TableLine)
-    (both : (worker : ℕ) (call : Call) → is_within (worker_limits table.config) worker ≡ true → Q call → P (worker, call))
+    (both : (worker : ℕ) (call : Call) → is_within (worker_limits table.config) worker ≡ true → Q call
+    → P (worker, call))
     (each : (words : List (List ℕ)) → IfOk (call_of words) Q) where
   -- what holds of a worker's calls holds of a command line
   pub command_holds : (words : List (List ℕ)) → IfOk (command_of table words) P
@@ -130,7 +133,8 @@ module _ (P : ℕ × Call → Type 0) (Q : Call → Type 0) (table : TableLine)
   command_holds (worker ∷ words) =
       let limits = worker_limits table.config in
       IfOk-cond P (is_schedule worker) (Err UnknownWord) _ tt
-      (IfOk-then (λ number. is_within limits number ≡ true) P (number_of limits worker) _ (number_within limits worker) (λ number within.
+      (IfOk-then (λ number. is_within limits number ≡ true) P (number_of limits worker) _
+      (number_within limits worker) (λ number within.
       IfOk-then Q P (call_of words) _ (each words) (λ call holds. both number call within holds)))
 
 -- ---- all command lines
@@ -144,10 +148,12 @@ words_few : (number : ℕ) (line : List ℕ) → IfOk (words_at number line) (λ
 words_few number line = by_test (nat_lt most_lines number) refl
   where
     by_test : (many : Bool) → nat_lt most_lines number ≡ many
-        → IfOk (cond many (Err TooManyLines) (cond (nat_lt most_in_line (length line)) (Err LineTooLong) (Ok (words_of line)))) (λ words. number ≤ most_lines)
+        → IfOk (cond many (Err TooManyLines) (cond (nat_lt most_in_line (length line)) (Err LineTooLong)
+        (Ok (words_of line)))) (λ words. number ≤ most_lines)
     by_test true is = tt
     by_test false is =
-        IfOk-cond (λ words. number ≤ most_lines) (nat_lt most_in_line (length line)) (Err LineTooLong) (Ok (words_of line)) tt (ltb-false most_lines number is)
+        IfOk-cond (λ words. number ≤ most_lines) (nat_lt most_in_line (length line)) (Err LineTooLong)
+        (Ok (words_of line)) tt (ltb-false most_lines number is)
 
 module _ (P : ℕ × Call → Type 0) (table : TableLine)
     (each : (words : List (List ℕ)) → IfOk (command_of table words) P) where
@@ -156,14 +162,17 @@ module _ (P : ℕ × Call → Type 0) (table : TableLine)
       → IfOk (commands_from number table lines) (AreCommands P number)
   commands_hold number [] few = record { each = tt; few = omega arith }
   commands_hold number (line ∷ lines) few =
-      IfOk-then (λ (words : List (List ℕ)). number ≤ most_lines) (AreCommands P number) (at_line number (words_at number line)) _
-      (IfOk-at_line (λ words. number ≤ most_lines) number (words_at number line) (words_few number line)) (λ words here.
+      IfOk-then (λ (words : List (List ℕ)). number ≤ most_lines) (AreCommands P number)
+      (at_line number (words_at number line)) _
+      (IfOk-at_line (λ words. number ≤ most_lines) number (words_at number line) (words_few number line))
+      (λ words here.
       let behind = commands_hold (number + 1) lines (omega (arith, here)) in
       IfOk-cond (AreCommands P number) (is_skipped words) (commands_from (number + 1) table lines) _
       (earlier (commands_from (number + 1) table lines) behind)
       (IfOk-then P (AreCommands P number) (at_line number (command_of table words)) _
       (IfOk-at_line P number (command_of table words) (each words)) (λ command holds.
-      IfOk-then (AreCommands P (number + 1)) (AreCommands P number) (commands_from (number + 1) table lines) _ behind (λ commands are.
+      IfOk-then (AreCommands P (number + 1)) (AreCommands P number)
+      (commands_from (number + 1) table lines) _ behind (λ commands are.
       record { each = (holds, are.each); few = (let more = are.few in omega arith) }))))
     where
       earlier : (read : Result (List (ℕ × Call)) ScriptFault) → IfOk read (AreCommands P (number + 1))
@@ -174,7 +183,8 @@ module _ (P : ℕ × Call → Type 0) (table : TableLine)
 -- ---- a whole script
 
 module _ (P : Config → ℕ × Call → Type 0)
-    (each : (table : TableLine) (words : List (List ℕ)) → IfOk (command_of table words) (P table.config)) where
+    (each : (table : TableLine) (words : List (List ℕ))
+    → IfOk (command_of table words) (P table.config)) where
   -- what is said has such commands, and no more of them than a script may have lines below the table line
   abbrev AreSaid : Said → Type 0
   AreSaid said = AreCommands (P said.config) 2 said.commands
@@ -184,13 +194,16 @@ module _ (P : Config → ℕ × Call → Type 0)
       → IfOk (said_from number lines) AreSaid
   said_hold number [] first few = tt
   said_hold number (line ∷ lines) first few =
-      IfOk-then (λ (words : List (List ℕ)). number ≤ most_lines) AreSaid (at_line number (words_at number line)) _
-      (IfOk-at_line (λ words. number ≤ most_lines) number (words_at number line) (words_few number line)) (λ words here.
+      IfOk-then (λ (words : List (List ℕ)). number ≤ most_lines) AreSaid
+      (at_line number (words_at number line)) _
+      (IfOk-at_line (λ words. number ≤ most_lines) number (words_at number line) (words_few number line))
+      (λ words here.
       IfOk-cond AreSaid (is_skipped words) (said_from (number + 1) lines) _
       (said_hold (number + 1) lines (omega arith) (omega (arith, here)))
       (IfOk-after AreSaid (at_line number (table_of words)) _ (λ table.
       IfOk-then (AreCommands (P table.config) (number + 1)) AreSaid (commands_from (number + 1) table lines) _
-      (commands_hold (P table.config) table (each table) (number + 1) lines (omega (arith, here))) (λ commands are.
+      (commands_hold (P table.config) table (each table) (number + 1) lines (omega (arith, here)))
+      (λ commands are.
       record { each = are.each; few = (let more = are.few in omega arith) }))))
 
   pub reading_holds : (bytes : List ℕ) (said : Said) → reading_of bytes ≡ Ok said
@@ -198,4 +211,5 @@ module _ (P : Config → ℕ × Call → Type 0)
   unfolding reading_of
   reading_holds bytes said read =
       IfOk-at_ok AreSaid read
-      (IfOk-cond AreSaid (nat_lt most_bytes (length bytes)) _ (said_from 1 (lines_of bytes)) tt (said_hold 1 (lines_of bytes) (omega arith) (omega arith)))
+      (IfOk-cond AreSaid (nat_lt most_bytes (length bytes)) _ (said_from 1 (lines_of bytes)) tt
+      (said_hold 1 (lines_of bytes) (omega arith) (omega arith)))

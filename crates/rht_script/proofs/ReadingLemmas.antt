@@ -16,7 +16,8 @@ use Rattle.rht_script.specs.Reading.{IsReasonFor}
 
 module _ (bytes : List ℕ) where
   pub reading_of-long : most_bytes < length bytes
-      → reading_of bytes ≡ Err (fault_at (1 + count_by (λ byte. byte == 10) (take most_bytes bytes)) ScriptTooLong)
+      → reading_of bytes ≡ Err (fault_at (1 + count_by (λ byte. byte == 10) (take most_bytes bytes))
+      ScriptTooLong)
   unfolding reading_of
   reading_of-long long = rw (lt-ltb most_bytes (length bytes) long) refl
 

@@ -34,7 +34,8 @@ use Rattle.rht_script.proofs.ReadCommands.{IfOk-then, IfOk-after, IfOk-cond, IfO
 -- ---- numbers
 
 -- the test of limits, as a fact
-IsWithinLimits-test : (limits : Limits) (number : ℕ) → is_within limits number ≡ true → IsWithinLimits limits number
+IsWithinLimits-test : (limits : Limits) (number : ℕ) → is_within limits number ≡ true
+    → IsWithinLimits limits number
 IsWithinLimits-test limits number within =
     let parts = and_parts (nat_le limits.least number) (nat_le number limits.greatest) within in
     (leb-true limits.least number parts.0, leb-true number limits.greatest parts.1)
@@ -47,16 +48,22 @@ module _ (value : List ℕ) where
       → IfOk (numbered setting limits value) IsAllowed
   numbered_allowed setting limits allowed =
       IfOk-then (λ number. is_within limits number ≡ true) IsAllowed (number_of limits value) _
-      (number_within limits value) (λ number within. allowed number (IsWithinLimits-test limits number within))
+      (number_within limits value) (λ number within. allowed number
+      (IsWithinLimits-test limits number within))
 
   setting_allowed : (name : List ℕ) → IfOk (setting_of name value) IsAllowed
   unfolding setting_of
   setting_allowed name =
-      IfOk-cond IsAllowed (is_word name (codes "hint")) _ _ (numbered_allowed Hint hint_limits (λ number within. within))
-      (IfOk-cond IsAllowed (is_word name (codes "min")) _ _ (numbered_allowed Min min_limits (λ number within. within))
-      (IfOk-cond IsAllowed (is_word name (codes "pages")) _ _ (numbered_allowed Pages page_limits (λ number within. within))
-      (IfOk-cond IsAllowed (is_word name (codes "seed")) _ _ (numbered_allowed Seed seed_limits (λ number within. within))
-      (IfOk-cond IsAllowed (is_word name (codes "rewalks")) _ _ (numbered_allowed Rewalks rewalk_limits (λ number within. within))
+      IfOk-cond IsAllowed (is_word name (codes "hint")) _ _
+      (numbered_allowed Hint hint_limits (λ number within. within))
+      (IfOk-cond IsAllowed (is_word name (codes "min")) _ _
+      (numbered_allowed Min min_limits (λ number within. within))
+      (IfOk-cond IsAllowed (is_word name (codes "pages")) _ _
+      (numbered_allowed Pages page_limits (λ number within. within))
+      (IfOk-cond IsAllowed (is_word name (codes "seed")) _ _
+      (numbered_allowed Seed seed_limits (λ number within. within))
+      (IfOk-cond IsAllowed (is_word name (codes "rewalks")) _ _
+      (numbered_allowed Rewalks rewalk_limits (λ number within. within))
       (IfOk-cond IsAllowed (is_word name (codes "hash")) _ (Err UnknownWord)
       (IfOk-after IsAllowed (hash_of value) _ (λ hash. tt)) tt)))))
 
@@ -83,7 +90,8 @@ options_allowed options [] are = are
 options_allowed options (name ∷ []) are = tt
 options_allowed options (name ∷ value ∷ words) are =
     IfOk-then IsAllowed AreAllowed (setting_of name value) _ (setting_allowed value name)
-    (λ setting is. options_allowed (with_setting options setting) words (AreAllowed-with options setting are is))
+    (λ setting is. options_allowed (with_setting options setting) words
+    (AreAllowed-with options setting are is))
 
 no_options_allowed : AreAllowed no_options
 no_options_allowed = record { hint = tt; min = tt; pages = tt; seed = tt; rewalks = tt }
@@ -93,7 +101,8 @@ no_options_allowed = record { hint = tt; min = tt; pages = tt; seed = tt; rewalk
 config_sayable : (options : Options) → AreAllowed options → IfOk (config_of options) IsSayableConfig
 unfolding config_of configured
 config_sayable options are =
-    IfOk-cond IsSayableConfig options.twice (Err OptionsDisagree) _ tt (where_room (has_room (configured options)) refl)
+    IfOk-cond IsSayableConfig options.twice (Err OptionsDisagree) _ tt
+    (where_room (has_room (configured options)) refl)
   where
     where_room : (room : Bool) → has_room (configured options) ≡ room
         → IfOk (cond room (Ok (configured options)) (Err OptionsDisagree)) IsSayableConfig
@@ -117,7 +126,8 @@ record IsSayableTable (table : TableLine) : Type 0 where
 table_sayable : (words : List (List ℕ)) → IfOk (table_of words) IsSayableTable
 unfolding table_of
 table_sayable [] = tt
-table_sayable (table ∷ []) = IfOk-cond IsSayableTable (is_word table (codes "table")) _ (Err NoTableLine) tt tt
+table_sayable (table ∷ []) = IfOk-cond IsSayableTable (is_word table (codes "table")) _ (Err NoTableLine)
+    tt tt
 table_sayable (table ∷ kind ∷ words) =
     IfOk-cond IsSayableTable (is_word table (codes "table")) _ (Err NoTableLine)
     (IfOk-cond IsSayableTable (is_word kind (codes "single")) _ (Err UnknownWord)
@@ -141,7 +151,8 @@ said_sayable : (number : ℕ) (lines : List (List ℕ)) → IfOk (said_from numb
 said_sayable number [] = tt
 said_sayable number (line ∷ lines) =
     IfOk-after IsSayableAbove (at_line number (words_at number line)) _ (λ words.
-    IfOk-cond IsSayableAbove (is_skipped words) (said_from (number + 1) lines) _ (said_sayable (number + 1) lines)
+    IfOk-cond IsSayableAbove (is_skipped words) (said_from (number + 1) lines) _
+    (said_sayable (number + 1) lines)
     (IfOk-then IsSayableTable IsSayableAbove (at_line number (table_of words)) _
     (IfOk-at_line IsSayableTable number (table_of words) (table_sayable words)) (λ table is.
     IfOk-after IsSayableAbove (commands_from (number + 1) table lines) _ (λ commands.
@@ -165,7 +176,8 @@ unfolding reading_of
 says_sayable bytes said read =
     let lines = lines_of bytes in
     let above = IfOk-at_ok IsSayableAbove read
-    (IfOk-cond IsSayableAbove (nat_lt most_bytes (length bytes)) _ (said_from 1 lines) tt (said_sayable 1 lines)) in
+    (IfOk-cond IsSayableAbove (nat_lt most_bytes (length bytes)) _ (said_from 1 lines) tt
+    (said_sayable 1 lines)) in
     let are = reading_holds IsSayableCommand command_sayable bytes said read in
     record {
       config = above.config;
@@ -178,7 +190,8 @@ says_sayable bytes said read =
 -- ---- sound scripts
 
 -- a call for which there is a verb can be run
-is_sound_call-sayable : (config : Config) (call : Call) → IsSayableCall call → is_sound_call config call ≡ true
+is_sound_call-sayable : (config : Config) (call : Call) → IsSayableCall call
+    → is_sound_call config call ≡ true
 is_sound_call-sayable config (Bind port owner once) sayable = ap not sayable.2
 is_sound_call-sayable config (Find port) sayable = refl
 is_sound_call-sayable config (ListAll port) sayable = absurd sayable
@@ -196,14 +209,17 @@ is_sound_command-sayable config command sayable =
     let limits = worker_limits config in
     let within = sayable.0 in
     and_from (is_within limits command.0) (is_sound_call config command.1)
-    (and_from (nat_le limits.least command.0) (nat_le command.0 limits.greatest) (le-leb limits.least command.0 within.0) (le-leb command.0 limits.greatest within.1))
+    (and_from (nat_le limits.least command.0) (nat_le command.0 limits.greatest)
+    (le-leb limits.least command.0 within.0) (le-leb command.0 limits.greatest within.1))
     (is_sound_call-sayable config command.1 sayable.1)
 
 -- and a script that the bytes say is sound
-pub IsSoundScript-read : (bytes : List ℕ) (script : Script) → reading_of bytes ≡ Ok (said_by script) → IsSoundScript script
+pub IsSoundScript-read : (bytes : List ℕ) (script : Script) → reading_of bytes ≡ Ok (said_by script)
+    → IsSoundScript script
 IsSoundScript-read bytes script read =
     let sayable = says_sayable bytes (said_by script) read in
-    let each = All-weaker (IsSayableCommand script.config) (λ command. is_sound_command script.config command ≡ true)
+    let each = All-weaker (IsSayableCommand script.config)
+    (λ command. is_sound_command script.config command ≡ true)
     (is_sound_command-sayable script.config) script.commands.items sayable.commands in
     record {
       settled = sayable.config.settled;

@@ -110,7 +110,8 @@ lines_too_long : HaveFault 1 LineTooLong (too_long (codes "table single\n" ∷ c
 unfolding whole_reading
 lines_too_long = refl
 
-later_line_too_long : HaveFault 2 LineTooLong (below_table (too_long (codes "1 find 80\n" ∷ codes "# a" ∷ [])))
+later_line_too_long : HaveFault 2 LineTooLong (below_table
+    (too_long (codes "1 find 80\n" ∷ codes "# a" ∷ [])))
 unfolding whole_reading
 later_line_too_long = refl
 
@@ -133,7 +134,8 @@ no_room = refl
 
 -- that a line is too long comes before all that is wrong with its words
 too_long_before_words : HaveFault 1 LineTooLong (too_long
-    (codes "1 find 80\n" ∷ codes "table listed\n" ∷ codes "table single hint x\n" ∷ codes "table single hint 0\n"
+    (codes "1 find 80\n" ∷ codes "table listed\n" ∷ codes "table single hint x\n" ∷ codes
+    "table single hint 0\n"
     ∷ codes "table single hint 96 hint 96\n" ∷ []))
 unfolding whole_reading
 too_long_before_words = refl
@@ -239,7 +241,8 @@ unfolding whole_reading
 number_out_of_range_before_later_lines = refl
 
 -- so it is with a line that is too long, above or below
-too_long_before_later_lines : HaveFault 2 LineTooLong (below_table (too_long (codes "1 find 80\n1 lookup\n" ∷ [])))
+too_long_before_later_lines : HaveFault 2 LineTooLong
+    (below_table (too_long (codes "1 find 80\n1 lookup\n" ∷ [])))
 unfolding whole_reading
 too_long_before_later_lines = refl
 
@@ -263,7 +266,8 @@ unfolding whole_reading
 options = refl
 
 -- blank lines, comments and blanks, and numbers with leading zeros
-blanks : Says (codes "\n# a\n \t\r\n\ttable  single \r\n#b\n\n\t01 find\t00000000004294967295 \r\n") plain_config
+blanks : Says (codes "\n# a\n \t\r\n\ttable  single \r\n#b\n\n\t01 find\t00000000004294967295 \r\n")
+    plain_config
     ((1, Find 4294967295) ∷ [])
 unfolding whole_reading
 blanks = refl

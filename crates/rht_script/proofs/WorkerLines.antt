@@ -17,7 +17,8 @@ pub record HasLine (worker : ℕ) (endings : List Ending) (i : ℕ) (line : List
   pub same : line ≡ ending_line worker ending
 
 -- by induction over the endings
-pub line_at : (worker : ℕ) (endings : List Ending) (i : ℕ) (reply : Reply) (owners : List ℕ) (pairs : List (ℕ × ℕ))
+pub line_at : (worker : ℕ) (endings : List Ending) (i : ℕ) (reply : Reply) (owners : List ℕ)
+    (pairs : List (ℕ × ℕ))
     → i < length endings
     → IfSome (slice_get endings i) (λ ending. reply ≡ ending.answer.reply)
     → IfSome (slice_get endings i) (λ ending. owners ≡ ending.answer.owners)
@@ -32,7 +33,8 @@ line_at worker (ending ∷ endings) zero reply owners pairs within same_reply sa
       ∙ ap (λ ps. reply_line worker ending.answer.reply ending.answer.owners ps false) same_pairs;
 }
 line_at worker (ending ∷ endings) (suc i) reply owners pairs within same_reply same_owners same_pairs =
-    let behind = line_at worker endings i reply owners pairs (omega arith) same_reply same_owners same_pairs in
+    let behind = line_at worker endings i reply owners pairs (omega arith) same_reply same_owners
+    same_pairs in
     record { ending = behind.ending; here = behind.here; same = behind.same }
 
 -- workers are counted from 1
@@ -49,13 +51,17 @@ worker_at workers i endings within here =
 
 -- the lines of as many workers as there are, are those of all
 pub all_workers : (workers : List (List Ending)) (i : ℕ) → length workers ≤ i
-    → flat_map worker_text (take i (enumerate_from 1 workers)) ≡ flat_map worker_text (enumerate_from 1 workers)
+    → flat_map worker_text (take i (enumerate_from 1 workers)) ≡ flat_map worker_text
+    (enumerate_from 1 workers)
 all_workers workers i all =
-    ap (flat_map worker_text) (take_all i (enumerate_from 1 workers) (omega (arith, length-enumerate_from 1 workers)))
+    ap (flat_map worker_text) (take_all i (enumerate_from 1 workers)
+    (omega (arith, length-enumerate_from 1 workers)))
 
 -- the text of a run is the lines of its workers and those of what was closed
 pub run_text-parts : (workers : List (List Ending)) (closed : Closed)
     → closed.keys ≡ length closed.bindings.pairs
-    → flat_map worker_text (enumerate_from 1 workers) ++ closed_text closed ≡ run_text workers closed.bindings.pairs closed.size
+    → flat_map worker_text (enumerate_from 1 workers) ++ closed_text closed ≡ run_text workers
+    closed.bindings.pairs closed.size
 run_text-parts workers closed counted =
-    ap (λ keys. flat_map worker_text (enumerate_from 1 workers) ++ (flat_map port_line closed.bindings.pairs ++ last_line closed.size keys)) counted
+    ap (λ keys. flat_map worker_text (enumerate_from 1 workers) ++ (flat_map port_line
+    closed.bindings.pairs ++ last_line closed.size keys)) counted

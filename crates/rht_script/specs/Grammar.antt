@@ -70,7 +70,12 @@ commands_from number table (line ∷ lines) = do
 
 -- a table line and commands say this; no line says a schedule yet
 abbrev pub said_of : TableLine → List (ℕ × Call) → Said
-said_of table commands = record { config = table.config; auto = table.auto; commands = commands; schedule = [] }
+said_of table commands = record {
+  config = table.config;
+  auto = table.auto;
+  commands = commands;
+  schedule = [];
+}
 
 -- what is said with this table line, and the commands of these lines
 abbrev pub said_with : TableLine → ℕ → List (List ℕ) → Result Said ScriptFault

@@ -91,4 +91,5 @@ plain_line words = join_with_byte 32 words ++ codes "\n"
 -- a script that says this
 unfoldable pub plain_script : Said → List ℕ
 plain_script said =
-    plain_line (table_words said.config) ++ flat_map (λ command. plain_line (command_words command)) said.commands
+    plain_line (table_words said.config) ++ flat_map (λ command. plain_line (command_words command))
+    said.commands

@@ -37,9 +37,12 @@ event_limits = record { least = 1; greatest = 1000000 }
 
 -- the line of a schedule is a worker's, and its number is within its limits
 abbrev pub is_sound_line : Config → Sched → Bool
-is_sound_line config (Step worker number) = is_within (worker_limits config) worker && is_within event_limits number
-is_sound_line config (Skip worker number) = is_within (worker_limits config) worker && is_within event_limits number
-is_sound_line config (Finish worker number) = is_within (worker_limits config) worker && is_within event_limits number
+is_sound_line config (Step worker number) = is_within (worker_limits config) worker && is_within
+    event_limits number
+is_sound_line config (Skip worker number) = is_within (worker_limits config) worker && is_within
+    event_limits number
+is_sound_line config (Finish worker number) = is_within (worker_limits config) worker && is_within
+    event_limits number
 
 -- The config is settled, and each command and each line of the schedule fits it.
 pub record IsSoundScript (script : Script) : Type 0 where

@@ -42,20 +42,36 @@ setting_of name value =
 
 -- nothing is set
 abbrev pub no_options : Options
-no_options = record { hint = None; min = None; pages = None; seed = None; rewalks = None; hash = None; twice = false }
+no_options = record {
+  hint = None;
+  min = None;
+  pages = None;
+  seed = None;
+  rewalks = None;
+  hash = None;
+  twice = false;
+}
 
 -- the options with a further setting; one that was set already is set twice
 abbrev pub with_setting : Options → Setting → Options
 with_setting options (Hint number) =
     record options { hint = Some number; twice = options.twice || is_some options.hint }
-with_setting options (Min number) = record options { min = Some number; twice = options.twice || is_some options.min }
+with_setting options (Min number) = record options {
+  min = Some number;
+  twice = options.twice || is_some
+      options.min;
+}
 with_setting options (Pages number) =
     record options { pages = Some number; twice = options.twice || is_some options.pages }
 with_setting options (Seed number) =
     record options { seed = Some number; twice = options.twice || is_some options.seed }
 with_setting options (Rewalks number) =
     record options { rewalks = Some number; twice = options.twice || is_some options.rewalks }
-with_setting options (Hashing hash) = record options { hash = Some hash; twice = options.twice || is_some options.hash }
+with_setting options (Hashing hash) = record options {
+  hash = Some hash;
+  twice = options.twice || is_some
+      options.hash;
+}
 
 -- the options of these words, which are names each with its value
 abbrev pub options_from : Options → List (List ℕ) → Result Options Cause

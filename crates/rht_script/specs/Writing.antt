@@ -6,10 +6,12 @@ use Rattle.rht_io.specs.Told.{Rose, AppendsPrefix}
 
 -- a front of what waited and of the text behind it was put, and the rest waits
 abbrev pub PutsFront : Option (List ℕ) → Option (List ℕ) → List ℕ → List ℕ → List ℕ → Type 0
-PutsFront old new waited waits text = (front : List ℕ) × Appends old new front × (front ++ waits ≡ waited ++ text)
+PutsFront old new waited waits text = (front : List ℕ) × Appends old new front
+    × (front ++ waits ≡ waited ++ text)
 
 -- The text was added behind what waited. On Failed a prefix of both was put, and the sink's faults rose.
-pub record Adds {S E : Type 0} (held : S → Option (List ℕ)) (faults : S → ℕ) (old new : S) (r : Result (Unit {0}) E) (waited waits text : List ℕ) : Type 0 where
+pub record Adds {S E : Type 0} (held : S → Option (List ℕ)) (faults : S
+    → ℕ) (old new : S) (r : Result (Unit {0}) E) (waited waits text : List ℕ) : Type 0 where
   pub added : OnOk r (PutsFront (held old) (held new) waited waits text)
   pub prefix : OnErr r (AppendsPrefix (held old) (held new) (waited ++ text))
   pub failed : OnErr r (Rose (faults old) (faults new))

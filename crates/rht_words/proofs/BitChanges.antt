@@ -13,12 +13,25 @@ use Rattle.rht_words.specs.Laws.{ChangesOneBit}
 -- the word without one bit
 pub bit_at-cleared : (word bit : ℕ) → bit < 64 → bit_at (bit_and word (bit_not w64 (bit_of bit))) bit ≡ 0
 bit_at-cleared word bit low =
-    omega (arith, bit_at_and word (bit_not w64 (bit_of bit)) bit, bit_at_not w64 (bit_of bit) bit (pow_below bit 64 low) low, bit_at-pow_same bit)
+    omega (
+      arith,
+      bit_at_and word (bit_not w64 (bit_of bit)) bit,
+      bit_at_not w64 (bit_of bit) bit
+          (pow_below bit 64 low) low,
+      bit_at-pow_same bit,
+    )
 
 pub bit_at-cleared_other : (word bit other : ℕ) → bit < 64 → other < 64 → other ≢ bit
     → bit_at (bit_and word (bit_not w64 (bit_of bit))) other ≡ bit_at word other
 bit_at-cleared_other word bit other low l differ =
-    omega (arith, bit_at_and word (bit_not w64 (bit_of bit)) other, bit_at_not w64 (bit_of bit) other (pow_below bit 64 low) l, bit_at-pow_other bit other differ, bit_at-lt word other)
+    omega (
+      arith,
+      bit_at_and word (bit_not w64 (bit_of bit)) other,
+      bit_at_not w64 (bit_of bit) other
+          (pow_below bit 64 low) l,
+      bit_at-pow_other bit other differ,
+      bit_at-lt word other,
+    )
 
 -- clearing a bit that is clear changes nothing
 pub cleared_already : (word bit : ℕ) → bit < 64 → word < 2 ^ 64 → bit_at word bit ≡ 0

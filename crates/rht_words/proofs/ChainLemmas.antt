@@ -33,8 +33,12 @@ pub IsSegment-same : (chain stored : ℕ → ℕ) (nodes : List ℕ) (link stop 
 IsSegment-same chain stored [] link stop same segment = segment
 IsSegment-same chain stored (node ∷ nodes) link stop same segment =
     let behind =
-    IsSegment-same chain stored nodes (chain node) stop (All-tail (λ n. stored n ≡ chain n) node nodes same) segment.1 in
-    (segment.0, subst (λ l. IsSegment stored l nodes stop) (sym (All-head (λ n. stored n ≡ chain n) node nodes same)) behind)
+    IsSegment-same chain stored nodes (chain node) stop
+    (All-tail (λ n. stored n ≡ chain n) node nodes same) segment.1 in (
+      segment.0,
+      subst (λ l. IsSegment stored l nodes stop)
+          (sym (All-head (λ n. stored n ≡ chain n) node nodes same)) behind,
+    )
 
 -- a segment stays where the links behind its members do
 pub IsSegment-members : (chain stored : ℕ → ℕ) (link : ℕ) (nodes : List ℕ) (stop : ℕ)
@@ -42,7 +46,8 @@ pub IsSegment-members : (chain stored : ℕ → ℕ) (link : ℕ) (nodes : List 
     → IsSegment stored link nodes stop
 IsSegment-members chain stored link [] stop same segment = segment
 IsSegment-members chain stored link (node ∷ nodes) stop same segment =
-    let behind = IsSegment-members chain stored (chain node) nodes stop (λ other i. same other (inr i)) segment.1 in
+    let behind = IsSegment-members chain stored (chain node) nodes stop (λ other i. same other (inr i))
+    segment.1 in
     (segment.0, rw (same node (inl refl)) behind)
 
 -- The link behind the last node of a segment is stored, and what is behind it then is another segment. By induction
@@ -53,19 +58,26 @@ pub IsSegment-relinked : (chain stored : ℕ → ℕ) (last link stop : ℕ) (be
     → All (λ n. n ≢ last → stored n ≡ chain n) ((node ∷ nodes) ++ behind)
     → IsDistinct ((node ∷ nodes) ++ behind)
     → IsSegment chain first (node ∷ nodes) middle → IsSegment stored first ((node ∷ nodes) ++ behind) stop
-IsSegment-relinked chain stored last link stop behind links rest node [] first middle is others distinct front =
+IsSegment-relinked chain stored last link stop behind links rest node [] first middle is others distinct
+    front =
     let same : node ≡ last = cc in
     let kept = All-tail (λ n. n ≢ last → stored n ≡ chain n) node behind others in
     let off = NotIn-All node behind distinct.0 in
     let framed =
-    IsSegment-same chain stored behind link stop (λ k d l. kept k d l (λ e. off k d l (e ∙ sym same))) rest in
-    (front.0, subst (λ l. IsSegment stored l behind stop) (sym (subst (λ n. stored n ≡ link) (sym same) links)) framed)
-IsSegment-relinked chain stored last link stop behind links rest node (next ∷ nodes) first middle is others distinct front =
+    IsSegment-same chain stored behind link stop (λ k d l. kept k d l (λ e. off k d l (e ∙ sym same))) rest in (
+      front.0,
+      subst (λ l. IsSegment stored l behind stop)
+          (sym (subst (λ n. stored n ≡ link) (sym same) links)) framed,
+    )
+IsSegment-relinked chain stored last link stop behind links rest node (next ∷ nodes) first middle is
+    others distinct front =
     let Stays : ℕ → Type 0 = λ n. n ≢ last → stored n ≡ chain n in
     let differ : last ≢ node =
-    last_or-All (λ n. n ≢ node) next last nodes behind is (NotIn-All node ((next ∷ nodes) ++ behind) distinct.0) in
+    last_or-All (λ n. n ≢ node) next last nodes behind is
+    (NotIn-All node ((next ∷ nodes) ++ behind) distinct.0) in
     let stays : stored node ≡ chain node =
     All-head Stays node ((next ∷ nodes) ++ behind) others (λ e. differ (sym e)) in
     let further =
-    IsSegment-relinked chain stored last link stop behind links rest next nodes (chain node) middle is (All-tail Stays node ((next ∷ nodes) ++ behind) others) distinct.1 front.1 in
+    IsSegment-relinked chain stored last link stop behind links rest next nodes (chain node) middle is
+    (All-tail Stays node ((next ∷ nodes) ++ behind) others) distinct.1 front.1 in
     (front.0, subst (λ l. IsSegment stored l ((next ∷ nodes) ++ behind) stop) (sym stays) further)

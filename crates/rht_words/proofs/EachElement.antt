@@ -15,7 +15,8 @@ module _ {X : Type 0} (P : X → Type 0) where
   pub AllByRecursion-append : (xs ys : List X) → AllByRecursion P xs → AllByRecursion P ys
       → AllByRecursion P (xs ++ ys)
   AllByRecursion-append xs ys front behind =
-      recursion_from_All P (xs ++ ys) (All-append P xs ys (All-from_recursion P xs front) (All-from_recursion P ys behind))
+      recursion_from_All P (xs ++ ys) (All-append P xs ys (All-from_recursion P xs front)
+      (All-from_recursion P ys behind))
 
   pub AllByRecursion-push : (xs : List X) (x : X) → AllByRecursion P xs → P x
       → AllByRecursion P (xs ++ x ∷ [])
@@ -25,7 +26,8 @@ module _ {X : Type 0} (P : X → Type 0) where
   pub AllByRecursion-cut : (xs ys : List X) → AllByRecursion P (xs ++ ys)
       → AllByRecursion P xs × AllByRecursion P ys
   AllByRecursion-cut [] ys all = (tt, all)
-  AllByRecursion-cut (x ∷ xs) ys all = let parts = AllByRecursion-cut xs ys all.1 in ((all.0, parts.0), parts.1)
+  AllByRecursion-cut (x ∷ xs) ys all = let parts = AllByRecursion-cut xs ys all.1 in
+      ((all.0, parts.0), parts.1)
 
   pub All-cut : (xs ys : List X) → All P (xs ++ ys) → All P xs × All P ys
   All-cut xs ys all =
@@ -56,8 +58,11 @@ module _ {X : Type 0} (P : X → Type 0) where
       → AllByRecursion P (take i xs)
   AllByRecursion-take xs zero within all = tt
   AllByRecursion-take [] (suc i) within all = tt
-  AllByRecursion-take (x ∷ xs) (suc i) within all =
-      (all 0 x (omega arith) (omega arith), AllByRecursion-take xs i (omega arith) (λ k d low high. all (suc k) d (omega arith) (omega arith)))
+  AllByRecursion-take (x ∷ xs) (suc i) within all = (
+    all 0 x (omega arith) (omega arith),
+    AllByRecursion-take xs i (omega arith)
+        (λ k d low high. all (suc k) d (omega arith) (omega arith)),
+  )
 
   pub AllByRecursion-drop : (xs : List X) (i : ℕ) → AllWithin P xs i (length xs)
       → AllByRecursion P (drop i xs)
@@ -81,8 +86,14 @@ AllByRecursion-map P f each (x ∷ xs) = (each x, AllByRecursion-map P f each xs
 
 -- what is so of one of a list's elements is so of one of more
 pub Any-append_left : {X : Type 0} (P : X → Type 0) (xs ys : List X) → Any P xs → Any P (xs ++ ys)
-Any-append_left P xs ys some =
-    (some.0, some.1, omega (arith, length-append xs ys, some.2), get_or_append_left xs ys some.1 some.0 some.2 ∙ some.3, some.4)
+Any-append_left P xs ys some = (
+  some.0,
+  some.1,
+  omega (arith, length-append xs ys, some.2),
+  get_or_append_left xs ys some.1 some.0
+      some.2 ∙ some.3,
+  some.4,
+)
 
 pub Contains-cons : {X : Type 0} (first x : X) (xs : List X) → Contains xs x → Contains (first ∷ xs) x
 Contains-cons first x xs among = (suc among.0, omega (arith, among.1), among.2)

@@ -12,7 +12,13 @@ use Rattle.rht_words.proofs.LowestBits.{lowest_is_in}
 bit_at-free : (count index word bit : ℕ) → bit < 64 → 64 * index + bit < count
     → bit_at (bit_and word (map_bits count index)) bit ≡ bit_at word bit
 bit_at-free count index word bit low within =
-    omega (arith, bit_at_and word (map_bits count index) bit, bit_at_ones (min 64 (count - 64 * index)) bit (omega arith), bit_at-lt word bit)
+    omega (
+      arith,
+      bit_at_and word (map_bits count index) bit,
+      bit_at_ones (min 64 (count - 64 * index))
+          bit (omega arith),
+      bit_at-lt word bit,
+    )
 
 -- what there is where no bit is free, and where this one is the lowest that is
 pub record NoneIsFree (count index word : ℕ) : Type 0 where
@@ -27,7 +33,13 @@ pub record IsLowestFree (count index word bit : ℕ) : Type 0 where
 free_below : (count index word : ℕ) → bit_and word (map_bits count index) < 2 ^ 64
 free_below count index word =
     let used = min 64 (count - 64 * index) in
-    omega (arith, and_le_r word (map_bits count index), pow_pos used, pow_mono {i = used} {j = 64} (omega arith))
+    omega (
+      arith,
+      and_le_r word (map_bits count index),
+      pow_pos used,
+      pow_mono {i = used} {j = 64}
+          (omega arith),
+    )
 
 lowest_of : (count index word : ℕ) → 0 < bit_and word (map_bits count index)
     → bit_and word (map_bits count index) < 2 ^ 64
@@ -61,7 +73,8 @@ pub lowest_free-Some : (count index word bit : ℕ) → lowest_free count index 
     → IsLowestFree count index word bit
 lowest_free-Some count index word bit =
     let free = bit_and word (map_bits count index) in
-    cond_both (eqb free 0) None (Some (trailing_zeros w64 free)) (λ o. o ≡ Some bit → IsLowestFree count index word bit)
+    cond_both (eqb free 0) None (Some (trailing_zeros w64 free)) (λ o. o ≡ Some bit
+    → IsLowestFree count index word bit)
     (λ zero some. absurd (cc))
     (λ nonzero some.
     let is : trailing_zeros w64 free ≡ bit = cc in
@@ -73,4 +86,10 @@ lowest_free-Some count index word bit =
 pub bit_at-above : (word bit other : ℕ) → bit < other → other < 64
     → bit_at (bit_and word (bits_above bit)) other ≡ bit_at word other
 bit_at-above word bit other high low =
-    omega (arith, bit_at_and word (bits_above bit) other, bit_at_mask_inside (bit + 1) 64 other (omega arith) low, bit_at-lt word other)
+    omega (
+      arith,
+      bit_at_and word (bits_above bit) other,
+      bit_at_mask_inside (bit + 1) 64 other
+          (omega arith) low,
+      bit_at-lt word other,
+    )

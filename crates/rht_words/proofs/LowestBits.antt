@@ -19,6 +19,11 @@ lowest_is_in count index word some =
     let lowest = bit_at-trailing_zeros w64 free some (omega arith) in
     let below : trailing_zeros w64 free < used = elim (cases_lt (trailing_zeros w64 free) used) [
       | inl l ↦ l
-      | inr above ↦ absurd (omega (arith, lowest.1, bit_at_above free used (trailing_zeros w64 free) (omega arith) above))
+      | inr above ↦ absurd (omega (
+        arith,
+        lowest.1,
+        bit_at_above free used (trailing_zeros w64 free)
+            (omega arith) above,
+      ))
     ] in
     record { within = lowest.0; below = omega arith }

@@ -16,17 +16,22 @@ module _ {M R : Type 0} (plan : M → Op) (after : M → ℕ → M × Next R) wh
   -- What holds of the steps so far and of the machine is kept by each step (`keeps`), and gives at an answer what is
   -- to be shown (`ends`). `Old` is what is known of each old value.
   module _ (Old : ℕ → Type 0) (Kept : List Performed → M → Type 0) (Ended : List Performed → R → Type 0)
-      (keeps : (steps : List Performed) (m : M) (old : ℕ) → Old old → Kept steps m → (after m old).1 ≡ Go → Kept (steps ++ performed m old ∷ []) (after m old).0)
-      (ends : (steps : List Performed) (m : M) (old : ℕ) (answer : R) → Old old → Kept steps m → (after m old).1 ≡ Done answer → Ended (steps ++ performed m old ∷ []) answer) where
+      (keeps : (steps : List Performed) (m : M) (old : ℕ) → Old old → Kept steps m → (after m old).1 ≡ Go
+      → Kept (steps ++ performed m old ∷ []) (after m old).0)
+      (ends : (steps : List Performed) (m : M) (old : ℕ) (answer : R) → Old old → Kept steps m
+      → (after m old).1 ≡ Done answer → Ended (steps ++ performed m old ∷ []) answer) where
     -- one step, with what comes of the machine after it
     step_kept : (steps : List Performed) (m : M) (old : ℕ) (answer : R) (rest : Ran R) → Old old
         → Kept steps m
-        → (Kept (steps ++ performed m old ∷ []) (after m old).0 → rest.next ≡ Done answer → Ended ((steps ++ performed m old ∷ []) ++ rest.steps) answer)
+        → (Kept (steps ++ performed m old ∷ []) (after m old).0 → rest.next ≡ Done answer
+        → Ended ((steps ++ performed m old ∷ []) ++ rest.steps) answer)
         → (next : Next R) → (after m old).1 ≡ next → (went_on (performed m old) next rest).next ≡ Done answer
         → Ended (steps ++ (went_on (performed m old) next rest).steps) answer
     step_kept steps m old answer rest known kept later Go is done =
-        subst (λ s. Ended s answer) (append_assoc steps (performed m old ∷ []) rest.steps) (later (keeps steps m old known kept is) done)
-    step_kept steps m old answer rest known kept later (Done last) is done = ends steps m old answer known kept (cc)
+        subst (λ s. Ended s answer) (append_assoc steps (performed m old ∷ []) rest.steps)
+        (later (keeps steps m old known kept is) done)
+    step_kept steps m old answer rest known kept later (Done last) is done = ends steps m old answer
+        known kept (cc)
 
     -- By induction over the old values.
     pub kept_to_end : (steps : List Performed) (m : M) (olds : List ℕ) (answer : R) → All Old olds
@@ -35,7 +40,8 @@ module _ {M R : Type 0} (plan : M → Op) (after : M → ℕ → M × Next R) wh
     kept_to_end steps m [] answer known kept done = absurd (cc)
     kept_to_end steps m (old ∷ olds) answer known kept done =
         step_kept steps m old answer (ran plan after (after m old).0 olds) (All-head Old old olds known) kept
-        (λ k d. kept_to_end (steps ++ performed m old ∷ []) (after m old).0 olds answer (All-tail Old old olds known) k d)
+        (λ k d. kept_to_end (steps ++ performed m old ∷ []) (after m old).0 olds answer
+        (All-tail Old old olds known) k d)
         (after m old).1 refl done
 
   -- A machine that answers at its next operation ends there.

@@ -49,7 +49,11 @@ In-append_right x (y ∷ xs) ys i = inr (In-append_right x xs ys i)
 pub In-append_cases : (x : ℕ) (xs ys : List ℕ) → In x (xs ++ ys) → In x xs ⊎ In x ys
 In-append_cases x [] ys i = inr i
 In-append_cases x (y ∷ xs) ys (inl e) = inl (inl e)
-In-append_cases x (y ∷ xs) ys (inr i) = elim (In-append_cases x xs ys i) [ inl l ↦ inl (inr l) | inr r ↦ inr r ]
+In-append_cases x (y ∷ xs) ys (inr i) = elim (In-append_cases x xs ys i) [
+  | inl l ↦ inl (inr l)
+  | inr r ↦
+      inr r
+]
 
 pub NotIn-cut : (k : ℕ) (xs : List ℕ) (m : ℕ) (ys : List ℕ) → NotIn k (xs ++ m ∷ ys)
     → NotIn k xs × (k ≢ m) × NotIn k ys
@@ -70,14 +74,17 @@ pub IsDistinct-left : (xs ys : List ℕ) → IsDistinct (xs ++ ys) → IsDistinc
 IsDistinct-left [] ys distinct = tt
 IsDistinct-left (n ∷ xs) ys distinct = (NotIn-left n xs ys distinct.0, IsDistinct-left xs ys distinct.1)
 
-pub IsDistinct-apart : (xs ys : List ℕ) (left right : ℕ) → IsDistinct (xs ++ ys) → In left xs → In right ys → right ≢ left
+pub IsDistinct-apart : (xs ys : List ℕ) (left right : ℕ) → IsDistinct (xs ++ ys) → In left xs
+    → In right ys → right ≢ left
 IsDistinct-apart [] ys left right distinct i l same = i
 IsDistinct-apart (x ∷ xs) ys left right distinct (inl here) l same =
     in_and_not x (xs ++ ys) (In-append_right x xs ys (subst (λ n. In n ys) (same ∙ here) l)) distinct.0
-IsDistinct-apart (x ∷ xs) ys left right distinct (inr i) l same = IsDistinct-apart xs ys left right distinct.1 i l same
+IsDistinct-apart (x ∷ xs) ys left right distinct (inr i) l same = IsDistinct-apart xs ys left right
+    distinct.1 i l same
 
 -- a list without one of its numbers, and with one more that is none of it
-pub IsDistinct-without : (xs : List ℕ) (m : ℕ) (ys : List ℕ) → IsDistinct (xs ++ m ∷ ys) → IsDistinct (xs ++ ys)
+pub IsDistinct-without : (xs : List ℕ) (m : ℕ) (ys : List ℕ) → IsDistinct (xs ++ m ∷ ys)
+    → IsDistinct (xs ++ ys)
 IsDistinct-without [] m ys d = d.1
 IsDistinct-without (x ∷ xs) m ys d =
     let cut = NotIn-cut x xs m ys d.0 in (NotIn-append x xs ys cut.0 cut.2, IsDistinct-without xs m ys d.1)
@@ -133,7 +140,8 @@ flat_map-In f x (z ∷ ys) i = elim (In-append_cases x (f z) (flat_map f ys) i) 
 pub flat_map-same : (f h : ℕ → List ℕ) (xs : List ℕ) → ((x : ℕ) → In x xs → f x ≡ h x)
     → flat_map f xs ≡ flat_map h xs
 flat_map-same f h [] same = refl
-flat_map-same f h (x ∷ xs) same = rw (same x (inl refl)) (rw (flat_map-same f h xs (λ y i. same y (inr i))) refl)
+flat_map-same f h (x ∷ xs) same = rw (same x (inl refl))
+    (rw (flat_map-same f h xs (λ y i. same y (inr i))) refl)
 
 -- a number from the first of a range on, and below its end, is one of it
 pub In-range_with_len : (a n x : ℕ) → a ≤ x → x < a + n → In x (range_with_len a n)
@@ -236,7 +244,8 @@ length-count_below has bound (x ∷ xs) distinct below all =
       | inr ne ↦ without-other y ne ∙ all y (inr i)
     ]) in
     let more =
-    count_below-more without has x bound below.0 (without-same refl) (all x (inl refl)) (λ n ne. sym (without-other n ne)) in
+    count_below-more without has x bound below.0 (without-same refl) (all x (inl refl))
+    (λ n ne. sym (without-other n ne)) in
     omega (arith, rest, more)
   where
     subst_not_in : (x y : ℕ) (zs : List ℕ) → x ≡ y → NotIn x zs → NotIn y zs
@@ -272,5 +281,6 @@ pub count_by-range : (has : ℕ → Bool) (bound : ℕ)
     → count_by has (range_with_len 0 bound) ≡ count_below has bound
 count_by-range has zero = refl
 count_by-range has (suc n) =
-    ap (count_by has) (range-push 0 n n (omega arith)) ∙ sum_by_push (λ x. one_if (has x)) (range_with_len 0 n) n
+    ap (count_by has) (range-push 0 n n (omega arith))
+    ∙ sum_by_push (λ x. one_if (has x)) (range_with_len 0 n) n
     ∙ ap (λ below. below + one_if (has n)) (count_by-range has n)

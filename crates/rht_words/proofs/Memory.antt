@@ -18,7 +18,8 @@ pub record IsWrite (g : Geometry) (before after : Memory) (address : Address) (v
 -- an operation on the word of an address
 pub is_write : (g : Geometry) (words : List ℕ) (address : Address) (op : Op) → length words ≡ words_in g
     → IsAddress g address → op_place op ≡ place_of g address
-    → IsWrite g (word_at g words) (word_at g (applied words op)) address (word_after (word_at g words address) op)
+    → IsWrite g (word_at g words) (word_at g (applied words op)) address
+    (word_after (word_at g words address) op)
 is_write g words address op whole there is =
     let changes = changes_one_word g words address op whole there is in
     record { same = changes.changed; others = changes.others }

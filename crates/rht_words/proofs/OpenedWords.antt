@@ -43,7 +43,8 @@ zero_by_address env NextSerial there off = absurd (off.serial refl)
 zero_by_address env (Slot slot word) there off = cond_both (slot == 0) (first_slot env word) 0 (λ w. w ≡ 0)
     (λ first.
     let is : slot ≡ 0 = eqb-true slot 0 first in
-    first_slot-zero env word (λ e. off.shape (omega arith)) (λ e. off.seed (omega arith)) (λ e. off.state (omega arith)))
+    first_slot-zero env word (λ e. off.shape (omega arith)) (λ e. off.seed (omega arith))
+    (λ e. off.state (omega arith)))
     (λ later. refl)
 zero_by_address env (NodeMap index) there off =
     let parts = parts_in_order env.geometry in

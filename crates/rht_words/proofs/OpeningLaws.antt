@@ -30,7 +30,8 @@ stand_in_place env =
       count = length-map-range_with_len f 0 count;
       each = λ a there.
           let place = place_of env.geometry a in
-          get_or-map-range_with_len f 0 count place place 0 (place_of-below env.geometry a there) (omega arith) ∙ sym (opening_word-at env place a there refl);
+          get_or-map-range_with_len f 0 count place place 0 (place_of-below env.geometry a there)
+          (omega arith) ∙ sym (opening_word-at env place a there refl);
     }
 
 -- ---- the first table
@@ -89,7 +90,8 @@ opens_flat env =
     record {
       shape = unpacked-packed (exponent_of (first_size env.config)) (omega (arith, is.exponent, is.high));
       flat = refl;
-      size = ap (λ n. 2 ^ max 2 (min n 18)) is.exponent ∙ ap (λ n. 2 ^ n) (inside e is.low is.high) ∙ sym is.power;
+      size = ap (λ n. 2 ^ max 2 (min n 18)) is.exponent ∙ ap (λ n. 2 ^ n) (inside e is.low is.high)
+          ∙ sym is.power;
       holds = subst (λ size. size ≤ 64 * max 1 (size / 64)) (sym is.power) (held e);
       fits = first_pages-fit env;
     }
@@ -104,7 +106,8 @@ map_bits-set : (count number : ℕ) → number < count → bit_at (map_bits coun
 map_bits-set count number l = bit_at_ones (min 64 (count - 64 * (number / 64))) (number % 64) (omega arith)
 
 map_bits-clear : (count number : ℕ) → count ≤ number → bit_at (map_bits count (number / 64)) (number % 64) ≡ 0
-map_bits-clear count number l = bit_at_ones_above (min 64 (count - 64 * (number / 64))) (number % 64) (omega arith)
+map_bits-clear count number l = bit_at_ones_above (min 64 (count - 64 * (number / 64))) (number % 64)
+    (omega arith)
 
 -- a bit is 0 or 1, and not both
 not_set : (bit : ℕ) → bit ≡ 0 → bit ≡ 1 → ⊥
@@ -112,27 +115,36 @@ not_set bit zero one = omega arith
 
 -- the word of the page map has the bits from the first table's end to the map's
 page_bits : (env : Env) (index : ℕ)
-    → opening_word env (PageMap index) ≡ 2 ^ min 64 (env.geometry.pages - 64 * index) - 2 ^ min 64 (first_pages env - 64 * index)
+    → opening_word env (PageMap index) ≡ 2 ^ min 64 (env.geometry.pages - 64 * index) - 2 ^ min 64
+    (first_pages env - 64 * index)
 page_bits env index =
-    omega (arith, pow_pos (min 64 (first_pages env - 64 * index)), pow_pos (min 64 (env.geometry.pages - 64 * index)))
+    omega (
+      arith,
+      pow_pos (min 64 (first_pages env - 64 * index)),
+      pow_pos
+          (min 64 (env.geometry.pages - 64 * index)),
+    )
 
 page_set : (env : Env) (page : ℕ) → first_pages env ≤ page → page < env.geometry.pages
     → bit_at (opening_word env (PageMap (page / 64))) (page % 64) ≡ 1
 page_set env page low high =
     let index = page / 64 in
-    rw (page_bits env index) (bit_at_mask_inside (min 64 (first_pages env - 64 * index)) (min 64 (env.geometry.pages - 64 * index)) (page % 64) (omega arith) (omega arith))
+    rw (page_bits env index) (bit_at_mask_inside (min 64 (first_pages env - 64 * index))
+    (min 64 (env.geometry.pages - 64 * index)) (page % 64) (omega arith) (omega arith))
 
 page_taken : (env : Env) (page : ℕ) → page < first_pages env
     → bit_at (opening_word env (PageMap (page / 64))) (page % 64) ≡ 0
 page_taken env page l =
     let index = page / 64 in
-    rw (page_bits env index) (bit_at_mask_below (min 64 (first_pages env - 64 * index)) (min 64 (env.geometry.pages - 64 * index)) (page % 64) (omega arith))
+    rw (page_bits env index) (bit_at_mask_below (min 64 (first_pages env - 64 * index))
+    (min 64 (env.geometry.pages - 64 * index)) (page % 64) (omega arith))
 
 page_past : (env : Env) (page : ℕ) → env.geometry.pages ≤ page
     → bit_at (opening_word env (PageMap (page / 64))) (page % 64) ≡ 0
 page_past env page l =
     let index = page / 64 in
-    rw (page_bits env index) (bit_at_mask_above (min 64 (first_pages env - 64 * index)) (min 64 (env.geometry.pages - 64 * index)) (page % 64) (omega arith))
+    rw (page_bits env index) (bit_at_mask_above (min 64 (first_pages env - 64 * index))
+    (min 64 (env.geometry.pages - 64 * index)) (page % 64) (omega arith))
 
 pub opens_free : (env : Env) → OpensFree env
 opens_free env = record {

@@ -35,7 +35,8 @@ differ a b h = grind (arith, nat_tests)
 -- a choice by whether two numbers are equal
 by_equal : {A : Type 0} (P : A → Type 0) (a b : ℕ) (x y : A) → (a ≡ b → P x) → ((a ≡ b → ⊥) → P y)
     → P (cond (a == b) x y)
-by_equal P a b x y same other = cond_both (a == b) x y P (λ t. same (eqb-true a b t)) (λ f. other (eqb-false a b f))
+by_equal P a b x y same other = cond_both (a == b) x y P (λ t. same (eqb-true a b t))
+    (λ f. other (eqb-false a b f))
 
 -- each part of `address_at`, where the place lies in it
 at_first : (g : Geometry) (p : ℕ) → p < 8 → address_at g p ≡ first_address p
@@ -61,20 +62,43 @@ at_page_map : (g : Geometry) (p : ℕ) → page_map_at g ≤ p → p < nodes_at 
 unfolding address_at
 at_page_map g p low l =
     let parts = parts_in_order g in
-    rw (above p 8 (omega arith), above p 24 (omega arith), above p 280 (omega arith), above p (page_map_at g) low, below p (nodes_at g) l) refl
+    rw (
+      above p 8 (omega arith),
+      above p 24 (omega arith),
+      above p 280 (omega arith),
+      above p
+          (page_map_at g) low,
+      below p (nodes_at g) l,
+    ) refl
 
 at_node : (g : Geometry) (p : ℕ) → nodes_at g ≤ p → p < pages_at g
     → address_at g p ≡ Node ((p - nodes_at g) / 4) (node_word ((p - nodes_at g) % 4))
 unfolding address_at
 at_node g p low l =
     let parts = parts_in_order g in
-    rw (above p 8 (omega arith), above p 24 (omega arith), above p 280 (omega arith), above p (page_map_at g) (omega arith), above p (nodes_at g) low, below p (pages_at g) l) refl
+    rw (
+      above p 8 (omega arith),
+      above p 24 (omega arith),
+      above p 280 (omega arith),
+      above p
+          (page_map_at g) (omega arith),
+      above p (nodes_at g) low,
+      below p (pages_at g) l,
+    ) refl
 
 at_page : (g : Geometry) (p : ℕ) → pages_at g ≤ p → address_at g p ≡ PageWord (p - pages_at g)
 unfolding address_at
 at_page g p low =
     let parts = parts_in_order g in
-    rw (above p 8 (omega arith), above p 24 (omega arith), above p 280 (omega arith), above p (page_map_at g) (omega arith), above p (nodes_at g) (omega arith), above p (pages_at g) low) refl
+    rw (
+      above p 8 (omega arith),
+      above p 24 (omega arith),
+      above p 280 (omega arith),
+      above p
+          (page_map_at g) (omega arith),
+      above p (nodes_at g) (omega arith),
+      above p (pages_at g) low,
+    ) refl
 
 -- a word of a slot comes back from its distance behind the slot's first
 slot_address-slot_offset : (p slot : ℕ) (word : SlotWord) → IsSlotWord word
@@ -87,7 +111,16 @@ slot_address-slot_offset p slot SerialWord v = refl
 slot_address-slot_offset p slot StateWord v = refl
 slot_address-slot_offset p slot (LoadedSection caller) v =
     let o = 8 + caller in
-    rw (differ o 0 (omega arith), differ o 1 (omega arith), differ o 2 (omega arith), differ o 3 (omega arith), differ o 4 (omega arith), at_most 8 o (omega arith), below o 24 (omega arith))
+    rw (
+      differ o 0 (omega arith),
+      differ o 1 (omega arith),
+      differ o 2 (omega arith),
+      differ o 3
+          (omega arith),
+      differ o 4 (omega arith),
+      at_most 8 o (omega arith),
+      below o 24 (omega arith),
+    )
     (ap (λ c. Slot slot (LoadedSection c)) (omega arith))
 
 -- a word of a node comes back from its distance behind the node's first
@@ -116,14 +149,36 @@ slot_offset-below (LoadedSection caller) v = omega arith
 first_spare : (p : ℕ) → 5 ≤ p → first_address p ≡ Spare p
 unfolding first_address
 first_spare p low =
-    rw (differ p 0 (omega arith), differ p 1 (omega arith), differ p 2 (omega arith), differ p 3 (omega arith), differ p 4 (omega arith)) refl
+    rw (
+      differ p 0 (omega arith),
+      differ p 1 (omega arith),
+      differ p 2 (omega arith),
+      differ p 3
+          (omega arith),
+      differ p 4 (omega arith),
+    ) refl
 
 slot_spare : (p slot offset : ℕ) → IsSpareOffset offset → slot_address p slot offset ≡ Spare p
 unfolding slot_address
 slot_spare p slot offset (inl v) =
-    rw (differ offset 0 (omega arith), differ offset 1 (omega arith), differ offset 2 (omega arith), differ offset 3 (omega arith), differ offset 4 (omega arith), less offset 8 v.1) refl
+    rw (
+      differ offset 0 (omega arith),
+      differ offset 1 (omega arith),
+      differ offset 2 (omega arith),
+      differ offset 3 (omega arith),
+      differ offset 4 (omega arith),
+      less offset 8 v.1,
+    ) refl
 slot_spare p slot offset (inr v) =
-    rw (differ offset 0 (omega arith), differ offset 1 (omega arith), differ offset 2 (omega arith), differ offset 3 (omega arith), differ offset 4 (omega arith), at_most 8 offset (omega arith), above offset 24 v) refl
+    rw (
+      differ offset 0 (omega arith),
+      differ offset 1 (omega arith),
+      differ offset 2 (omega arith),
+      differ offset 3 (omega arith),
+      differ offset 4 (omega arith),
+      at_most 8 offset (omega arith),
+      above offset 24 v,
+    ) refl
 
 -- what stands at the place of a thing is that thing
 pub address_at-place_of : (g : Geometry) (a : Address) → IsAddress g a → address_at g (place_of g a) ≡ a
@@ -134,7 +189,8 @@ address_at-place_of g PortCount v = at_first g 2 (omega arith)
 address_at-place_of g NextSerial v = at_first g 3 (omega arith)
 address_at-place_of g EnrolledCallers v = at_first g 4 (omega arith)
 address_at-place_of g (Spare p) (inl v) = at_first g p v.1 ∙ first_spare p v.0
-address_at-place_of g (Spare p) (inr v) = at_slot g p v.0 v.1 ∙ slot_spare p ((p - 24) / 32) ((p - 24) % 32) v.2
+address_at-place_of g (Spare p) (inr v) = at_slot g p v.0 v.1
+    ∙ slot_spare p ((p - 24) / 32) ((p - 24) % 32) v.2
 address_at-place_of g (Section caller) v =
     at_section g (8 + caller) (omega arith) (omega arith) ∙ ap Section (omega arith)
 address_at-place_of g (Slot slot word) v =
@@ -143,7 +199,8 @@ address_at-place_of g (Slot slot word) v =
     let p = 24 + 32 * slot + o in
     let slot_is : (p - 24) / 32 ≡ slot = omega arith in
     let offset_is : (p - 24) % 32 ≡ o = omega arith in
-    at_slot g p (omega arith) (omega arith) ∙ rw (slot_is, offset_is) (slot_address-slot_offset p slot word v.1)
+    at_slot g p (omega arith) (omega arith) ∙ rw (slot_is, offset_is)
+    (slot_address-slot_offset p slot word v.1)
 address_at-place_of g (NodeMap i) v =
     let parts = parts_in_order g in
     at_node_map g (280 + i) (omega arith) (omega arith) ∙ ap NodeMap (omega arith)
@@ -157,13 +214,15 @@ address_at-place_of g (Node n word) v =
     let p = nodes_at g + 4 * n + o in
     let node_is : (p - nodes_at g) / 4 ≡ n = omega arith in
     let offset_is : (p - nodes_at g) % 4 ≡ o = omega arith in
-    at_node g p (omega arith) (omega arith) ∙ rw (node_is, offset_is) (ap (Node n) (node_word-node_offset word))
+    at_node g p (omega arith) (omega arith) ∙ rw (node_is, offset_is)
+    (ap (Node n) (node_word-node_offset word))
 address_at-place_of g (PageWord j) v = at_page g (pages_at g + j) (omega arith) ∙ ap PageWord (omega arith)
 
 -- one place is not the place of two things
 pub place_of-apart : (g : Geometry) (a b : Address) → IsAddress g a → IsAddress g b
     → place_of g a ≡ place_of g b → a ≡ b
-place_of-apart g a b va vb e = sym (address_at-place_of g a va) ∙ ap (address_at g) e ∙ address_at-place_of g b vb
+place_of-apart g a b va vb e = sym (address_at-place_of g a va) ∙ ap (address_at g) e
+    ∙ address_at-place_of g b vb
 
 -- each place is below the number of words
 pub place_of-below : (g : Geometry) (a : Address) → IsAddress g a → place_of g a < words_in g
@@ -179,7 +238,8 @@ place_of-below g (Slot slot word) v =
     let parts = parts_in_order g in let short = slot_offset-below word v.1 in omega arith
 place_of-below g (NodeMap i) v = let parts = parts_in_order g in omega arith
 place_of-below g (PageMap i) v = let parts = parts_in_order g in omega arith
-place_of-below g (Node n word) v = let parts = parts_in_order g in let short = node_offset-below word in omega arith
+place_of-below g (Node n word) v = let parts = parts_in_order g in let short = node_offset-below word in
+    omega arith
 place_of-below g (PageWord j) v = omega arith
 
 -- there are at most 525,656 words
@@ -211,15 +271,23 @@ found_slot : (g : Geometry) (p slot offset : ℕ) → slot < 8 → offset < 32 �
     → IsFound g p (slot_address p slot offset)
 unfolding slot_address
 found_slot g p slot offset s o e =
-    by_equal P offset 0 (Slot slot ShapeWord) _ (λ h. record { address = (s, tt); place_is = omega arith }) (λ n0.
-    by_equal P offset 1 (Slot slot SeedWord) _ (λ h. record { address = (s, tt); place_is = omega arith }) (λ n1.
-    by_equal P offset 2 (Slot slot FutureWord) _ (λ h. record { address = (s, tt); place_is = omega arith }) (λ n2.
-    by_equal P offset 3 (Slot slot SerialWord) _ (λ h. record { address = (s, tt); place_is = omega arith }) (λ n3.
-    by_equal P offset 4 (Slot slot StateWord) _ (λ h. record { address = (s, tt); place_is = omega arith }) (λ n4.
+    by_equal P offset 0 (Slot slot ShapeWord) _ (λ h.
+    record { address = (s, tt); place_is = omega arith }) (λ n0.
+    by_equal P offset 1 (Slot slot SeedWord) _ (λ h. record {
+      address = (s, tt);
+      place_is = omega arith;
+    }) (λ n1.
+    by_equal P offset 2 (Slot slot FutureWord) _ (λ h.
+    record { address = (s, tt); place_is = omega arith }) (λ n2.
+    by_equal P offset 3 (Slot slot SerialWord) _ (λ h.
+    record { address = (s, tt); place_is = omega arith }) (λ n3.
+    by_equal P offset 4 (Slot slot StateWord) _ (λ h.
+    record { address = (s, tt); place_is = omega arith }) (λ n4.
     elim (cases_lt offset 8) [
       | inl low ↦ rw (less offset 8 low) (spare (inl (omega arith, low)))
       | inr high ↦ elim (cases_lt offset 24) [
-        | inl kept ↦ rw (at_most 8 offset high, below offset 24 kept) record { address = (s, omega arith); place_is = omega arith }
+        | inl kept ↦ rw (at_most 8 offset high, below offset 24 kept)
+            record { address = (s, omega arith); place_is = omega arith }
         | inr past ↦ rw (at_most 8 offset high, above offset 24 past) (spare (inr past))
       ]
     ])))))
@@ -258,20 +326,27 @@ found_at g p l =
       | inl first ↦ IsFound-at g p _ _ (at_first g p first) (found_first g p first)
       | inr after8 ↦
           elim (cases_lt p 24) [
-            | inl section ↦ IsFound-at g p _ _ (at_section g p after8 section) record { address = omega arith; place_is = omega arith }
+            | inl section ↦ IsFound-at g p _ _ (at_section g p after8 section)
+                record { address = omega arith; place_is = omega arith }
             | inr after24 ↦
                 elim (cases_lt p 280) [
-                  | inl slot ↦ IsFound-at g p _ _ (at_slot g p after24 slot) (found_slot g p ((p - 24) / 32) ((p - 24) % 32) (omega arith) (omega arith) (omega arith))
+                  | inl slot ↦ IsFound-at g p _ _ (at_slot g p after24 slot)
+                      (found_slot g p ((p - 24) / 32) ((p - 24) % 32) (omega arith) (omega arith)
+                      (omega arith))
                   | inr after280 ↦
                       elim (cases_lt p (page_map_at g)) [
-                        | inl map ↦ IsFound-at g p _ _ (at_node_map g p after280 map) record { address = omega arith; place_is = omega arith }
+                        | inl map ↦ IsFound-at g p _ _ (at_node_map g p after280 map)
+                            record { address = omega arith; place_is = omega arith }
                         | inr after_map ↦
                             elim (cases_lt p (nodes_at g)) [
-                              | inl map ↦ IsFound-at g p _ _ (at_page_map g p after_map map) record { address = omega arith; place_is = omega arith }
+                              | inl map ↦ IsFound-at g p _ _ (at_page_map g p after_map map)
+                                  record { address = omega arith; place_is = omega arith }
                               | inr after_maps ↦
                                   elim (cases_lt p (pages_at g)) [
-                                    | inl node ↦ IsFound-at g p _ _ (at_node g p after_maps node) (found_node g p after_maps node)
-                                    | inr page ↦ IsFound-at g p _ _ (at_page g p page) record { address = omega arith; place_is = omega arith }
+                                    | inl node ↦ IsFound-at g p _ _ (at_node g p after_maps node)
+                                        (found_node g p after_maps node)
+                                    | inr page ↦ IsFound-at g p _ _ (at_page g p page)
+                                        record { address = omega arith; place_is = omega arith }
                                   ]
                             ]
                       ]

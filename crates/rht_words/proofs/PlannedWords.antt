@@ -78,7 +78,8 @@ bit_not-fits word = omega arith
 -- the first link of a chain is a word where its bucket's word is one
 pub head_of-fits : (place word : ℕ) → IsWord word → IsWord (head_of place word)
 head_of-fits place word fits =
-    cond_both (unlocked word == 0) (marker_of place) (unlocked word) IsWord (λ t. omega arith) (λ f. omega (arith, fits))
+    cond_both (unlocked word == 0) (marker_of place) (unlocked word) IsWord (λ t. omega arith)
+    (λ f. omega (arith, fits))
 
 -- and so is the bucket's word where its first link is one
 pub plain_of-fits : (place link : ℕ) → IsWord link → IsWord (plain_of place link)

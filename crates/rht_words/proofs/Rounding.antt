@@ -34,19 +34,39 @@ record IsFirst (count a n : ℕ) : Type 0 where
 first_power : (count a n : ℕ) → n ≤ 2 ^ (a + count) → IsFirst (suc count) a n
 first_power zero a n high =
     let end : n ≤ 2 ^ a = omega (arith, powers-rise (a + zero) a (omega arith)) in
-    record { exponent = a; is = rw (le-leb n (2 ^ a) end) refl; above = end; before = λ i low l. absurd (omega arith) }
+    record {
+      exponent = a;
+      is = rw (le-leb n (2 ^ a) end) refl;
+      above = end;
+      before = λ i low l. absurd
+          (omega arith);
+    }
 first_power (suc count) a n high = elim (cases_lt (2 ^ a) n) [
   | inl below ↦
       let rest =
-      first_power count (a + 1) n (omega (arith, powers-rise (a + suc count) (a + 1 + count) (omega arith))) in
+      first_power count (a + 1) n (omega (
+        arith,
+        powers-rise (a + suc count) (a + 1 + count)
+            (omega arith),
+      )) in
       record {
         exponent = rest.exponent;
         is = rw (lt-leb n (2 ^ a) below) rest.is;
         above = rest.above;
         before =
-            λ i low l. elim (cases_lt a i) [ inl later ↦ rest.before i (omega arith) l | inr same ↦ omega (arith, powers-rise i a same) ];
+            λ i low l. elim (cases_lt a i) [
+              | inl later ↦ rest.before i (omega arith) l
+              | inr same ↦ omega
+                  (arith, powers-rise i a same)
+            ];
       }
-  | inr above ↦ record { exponent = a; is = rw (le-leb n (2 ^ a) above) refl; above = above; before = λ i low l. absurd (omega arith) }
+  | inr above ↦ record {
+    exponent = a;
+    is = rw (le-leb n (2 ^ a) above) refl;
+    above = above;
+    before =
+        λ i low l. absurd (omega arith);
+  }
 ]
 
 -- rounding up gives the least power of two at or above
@@ -58,10 +78,11 @@ rounded_up-least n high =
     rw is record {
       power = (first.exponent, refl);
       above = first.above;
-      least = λ q power above. rw power.1 (powers-rise first.exponent power.0 (elim (cases_lt power.0 first.exponent) [
-        | inl earlier ↦ absurd (omega (arith, first.before power.0 (omega arith) earlier, power.1))
-        | inr later ↦ later
-      ]));
+      least = λ q power above. rw power.1 (powers-rise first.exponent power.0
+          (elim (cases_lt power.0 first.exponent) [
+            | inl earlier ↦ absurd (omega (arith, first.before power.0 (omega arith) earlier, power.1))
+            | inr later ↦ later
+          ]));
     }
 
 -- there is one least power of two at or above a number
@@ -81,7 +102,11 @@ IsLeastPower-next n p next = record {
   power = next.0;
   above = next.1;
   least =
-      λ q power above. elim (cases_lt q p) [ inr high ↦ high | inl low ↦ absurd (half_below n p q next power above low) ];
+      λ q power above. elim (cases_lt q p) [
+        | inr high ↦ high
+        | inl low ↦ absurd
+            (half_below n p q next power above low)
+      ];
 }
 
 -- what `next_power_of_two` answers is the rounded number
@@ -108,10 +133,17 @@ rounded_down-greatest n low high =
       power = (e - 1, refl);
       below = elim (cases_lt n (2 ^ (e - 1))) [
         | inr at ↦ at
-        | inl past ↦ absurd (omega (arith, up.least (2 ^ (e - 1)) (e - 1, refl) (omega arith), half, up.above))
+        | inl past ↦ absurd (omega (
+          arith,
+          up.least (2 ^ (e - 1)) (e - 1, refl) (omega arith),
+          half,
+          up.above,
+        ))
       ];
       greatest =
-          λ q power below. rw power.1 (powers-rise power.0 (e - 1) (lower power.0 (before above) (powers-fall power.0 e (omega (arith, power.1, up.power.1, up.above, below)))));
+          λ q power below. rw power.1 (powers-rise power.0 (e - 1)
+          (lower power.0 (before above) (powers-fall power.0 e
+          (omega (arith, power.1, up.power.1, up.above, below)))));
     }
 
 -- 0 rounded down is 0

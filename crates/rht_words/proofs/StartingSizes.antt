@@ -23,7 +23,8 @@ pub IsSizeUpTo-greatest : (size : ℕ) → size ≢ 0 → IsGreatestSize size �
 IsSizeUpTo-greatest size some greatest =
     let within = greatest.within some in
     record {
-      power = subst IsPowerOfTwo greatest.rounded (rounded_down-greatest size (omega arith) (omega arith)).power;
+      power = subst IsPowerOfTwo greatest.rounded (rounded_down-greatest size (omega arith)
+          (omega arith)).power;
       least = within.0;
       greatest = within.1;
     }
@@ -35,7 +36,8 @@ IsSizeUpTo-max : (bound power size : ℕ) → IsPowerOfTwo power → power ≤ b
     → IsSizeUpTo bound (max power size)
 IsSizeUpTo-max bound power size is_power within size_is = elim (cases_lt power size) [
   | inl below ↦ let is : max power size ≡ size = omega arith in rw is size_is
-  | inr above ↦ let is : max power size ≡ power = omega arith in rw is record { power = is_power; least = omega arith; greatest = within }
+  | inr above ↦ let is : max power size ≡ power = omega arith in rw is
+      record { power = is_power; least = omega arith; greatest = within }
 ]
 
 IsSizeUpTo-min : (bound m n : ℕ) → IsSizeUpTo bound m → IsSizeUpTo bound n → IsSizeUpTo bound (min m n)
@@ -73,9 +75,11 @@ IsPowerUpTo-wished_size hint few = cond_both (hint == 0) 64 (rounded_up (hint * 
 
 IsSizeUpTo-cut_size : (greatest size : ℕ) → IsGreatestSize greatest → IsSizeUpTo 131072 size
     → IsSizeUpTo 131072 (cut_size greatest size)
-IsSizeUpTo-cut_size greatest size is size_is = cond_both (greatest == 0) size (min size greatest) (IsSizeUpTo 131072)
+IsSizeUpTo-cut_size greatest size is size_is = cond_both (greatest == 0) size (min size greatest)
+    (IsSizeUpTo 131072)
     (λ none. size_is)
-    (λ some. IsSizeUpTo-min 131072 size greatest size_is (IsSizeUpTo-greatest greatest (eqb-false greatest 0 some) is))
+    (λ some. IsSizeUpTo-min 131072 size greatest size_is
+    (IsSizeUpTo-greatest greatest (eqb-false greatest 0 some) is))
 
 pub IsSizeUpTo-starting_size : (hint least greatest : ℕ) → hint ≤ 65536 → IsLeastSize least
     → IsGreatestSize greatest

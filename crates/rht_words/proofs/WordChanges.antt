@@ -33,7 +33,9 @@ changes_one_word g words address op whole there is =
     record {
       count = length-applied words op;
       changed =
-          (ap (λ p. get_or (applied words op) p 0) (sym is) ∙ applied-same words op inside) ∙ ap (λ p. word_after (get_or words p 0) op) is;
+          (ap (λ p. get_or (applied words op) p 0) (sym is) ∙ applied-same words op inside)
+          ∙ ap (λ p. word_after (get_or words p 0) op) is;
       others =
-          λ other its differ. applied-other words op (place_of g other) (λ same. differ (place_of-apart g other address its there (same ∙ is)));
+          λ other its differ. applied-other words op (place_of g other)
+          (λ same. differ (place_of-apart g other address its there (same ∙ is)));
     }

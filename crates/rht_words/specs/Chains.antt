@@ -20,4 +20,5 @@ IsSegment chain link (node ∷ nodes) stop = (link ≡ link_of node) × IsSegmen
 -- the bucket with this one of the pages' words has a chain of these nodes, and behind the last one is the link `stop`
 abbrev pub HasChain : Geometry → List ℕ → ℕ → List ℕ → ℕ → Type 0
 HasChain g words index nodes stop =
-    IsSegment (chain_in g words) (head_of (place_of g (PageWord index)) (word_at g words (PageWord index))) nodes stop
+    IsSegment (chain_in g words) (head_of (place_of g (PageWord index))
+    (word_at g words (PageWord index))) nodes stop

@@ -115,7 +115,8 @@ pub record OpensFree (env : Env) : Type 0 where
   pub nodes : (node : ℕ)
       → (bit_at (opening_word env (NodeMap (node / 64))) (node % 64) ≡ 1) ↔ (node < env.geometry.nodes)
   pub pages : (page : ℕ)
-      → (bit_at (opening_word env (PageMap (page / 64))) (page % 64) ≡ 1) ↔ ((first_pages env ≤ page) × (page < env.geometry.pages))
+      → (bit_at (opening_word env (PageMap (page / 64))) (page % 64) ≡ 1) ↔ ((first_pages env ≤ page)
+      × (page < env.geometry.pages))
 
 -- at opening all nodes are free, and all pages but those of the first table
 abbrev pub MapsOpenFree : Type 0

@@ -22,4 +22,5 @@ pub record IsBitIn (count index place : ℕ) : Type 0 where
 -- the lowest bit of a word that is set and stands for one of so many
 abbrev pub lowest_free : ℕ → ℕ → ℕ → Option ℕ
 lowest_free count index word =
-    if bit_and word (map_bits count index) == 0 then None else Some (trailing_zeros w64 (bit_and word (map_bits count index)))
+    if bit_and word (map_bits count index) == 0 then None else Some
+    (trailing_zeros w64 (bit_and word (map_bits count index)))

@@ -106,7 +106,8 @@ IsSpareOffset offset = ((5 ≤ offset) × (offset < 8)) ⊎ (24 ≤ offset)
 
 -- the word at this place is in no use
 abbrev pub IsSpare : ℕ → Type 0
-IsSpare place = ((5 ≤ place) × (place < 8)) ⊎ ((24 ≤ place) × (place < node_map_at) × IsSpareOffset ((place - 24) % 32))
+IsSpare place = ((5 ≤ place) × (place < 8)) ⊎ ((24 ≤ place) × (place < node_map_at)
+    × IsSpareOffset ((place - 24) % 32))
 
 -- the word is one of a slot
 abbrev pub IsSlotWord : SlotWord → Type 0
@@ -159,5 +160,6 @@ address_at g place =
     else if nat_lt place node_map_at then slot_address place ((place - 24) / 32) ((place - 24) % 32)
     else if nat_lt place (page_map_at g) then NodeMap (place - node_map_at)
     else if nat_lt place (nodes_at g) then PageMap (place - page_map_at g)
-    else if nat_lt place (pages_at g) then Node ((place - nodes_at g) / 4) (node_word ((place - nodes_at g) % 4))
+    else if nat_lt place (pages_at g) then Node ((place - nodes_at g) / 4)
+    (node_word ((place - nodes_at g) % 4))
     else PageWord (place - pages_at g)

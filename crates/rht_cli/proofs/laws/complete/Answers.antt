@@ -19,7 +19,8 @@ returns-clause-served g c said named script =
 pub returns-clause-refused : goal.returns-clause-refused
 returns-clause-refused g c fault named first =
     let input = IsFaultOf-told c.args.bytes.items fault first in
-    elim (c.run.ensures.refused Run c.args.bytes.items input.0 fault named (ap Some c.new-source.ensures) input.1 not_rose) [
+    elim (c.run.ensures.refused Run c.args.bytes.items input.0 fault named (ap Some c.new-source.ensures)
+    input.1 not_rose) [
       | inl two ↦ inl two.0
       | inr memory ↦ inr memory
     ]

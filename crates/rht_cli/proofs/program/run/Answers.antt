@@ -10,29 +10,39 @@ use Rattle.rht_cli.proofs.program.run.Goals as goal
 
 -- words are of one form
 one_form : (words items : List (String Global)) (form first : Form) → items ≡ words
-    → Some first ≡ form_of (map string_bytes items) → form_of (map string_bytes words) ≡ Some form → form ≡ first
+    → Some first ≡ form_of (map string_bytes items) → form_of (map string_bytes words) ≡ Some form
+    → form ≡ first
 one_form words items form first same found named =
     let both = sym named ∙ sym (ap (λ ws. form_of (map string_bytes ws)) same) ∙ sym found in cc
 
 pub returns-in-Some-clause-served : goal.returns-in-Some-clause-served
 returns-in-Some-clause-served g c form bytes rest said named told input reads writes =
-    let same = one_form c.args.words.now.items c.deref.result.now form c.in-Some.form c.deref.ensures.value (sym c.in-Some.is ∙ c.of.ensures) named in
-    let is : c.end.result ≡ status_of (ending_of c.serve.result) = c.end.ensures.status ∙ ap status_of c.ending_of.ensures in
-    elim (served_whole g.S.Source.left g.S.Source.faults g.O.Sink.held g.O.Sink.faults c.in-Some.form c.args.source.now c.serve.new.source c.args.out.now c.serve.new.out
-    bytes rest told c.serve.result c.serve.ensures said (subst (λ (f : Form). IsInputOf f (Some bytes) rest said) same input) reads writes) [
+    let same = one_form c.args.words.now.items c.deref.result.now form c.in-Some.form
+    c.deref.ensures.value (sym c.in-Some.is ∙ c.of.ensures) named in
+    let is : c.end.result ≡ status_of (ending_of c.serve.result) = c.end.ensures.status
+    ∙ ap status_of c.ending_of.ensures in
+    elim (served_whole g.S.Source.left g.S.Source.faults g.O.Sink.held g.O.Sink.faults c.in-Some.form
+    c.args.source.now c.serve.new.source c.args.out.now c.serve.new.out
+    bytes rest told c.serve.result c.serve.ensures said
+    (subst (λ (f : Form). IsInputOf f (Some bytes) rest said) same input) reads writes) [
       | inl whole ↦ inl (is ∙ whole)
       | inr memory ↦ inr (is ∙ memory)
     ]
 
 pub returns-in-Some-clause-refused : goal.returns-in-Some-clause-refused
 returns-in-Some-clause-refused g c form bytes rest fault named told refused reads =
-    let same = one_form c.args.words.now.items c.deref.result.now form c.in-Some.form c.deref.ensures.value (sym c.in-Some.is ∙ c.of.ensures) named in
-    let is : c.end.result ≡ status_of (ending_of c.serve.result) = c.end.ensures.status ∙ ap status_of c.ending_of.ensures in
-    elim (refused_fault g.S.Source.left g.S.Source.faults g.O.Sink.held g.O.Sink.faults c.in-Some.form c.args.source.now c.serve.new.source c.args.out.now c.serve.new.out
-    bytes rest told c.serve.result c.serve.ensures fault (subst (λ (f : Form). IsFaultOf f (Some bytes) rest fault) same refused) reads) [
+    let same = one_form c.args.words.now.items c.deref.result.now form c.in-Some.form
+    c.deref.ensures.value (sym c.in-Some.is ∙ c.of.ensures) named in
+    let is : c.end.result ≡ status_of (ending_of c.serve.result) = c.end.ensures.status
+    ∙ ap status_of c.ending_of.ensures in
+    elim (refused_fault g.S.Source.left g.S.Source.faults g.O.Sink.held g.O.Sink.faults c.in-Some.form
+    c.args.source.now c.serve.new.source c.args.out.now c.serve.new.out
+    bytes rest told c.serve.result c.serve.ensures fault
+    (subst (λ (f : Form). IsFaultOf f (Some bytes) rest fault) same refused) reads) [
       | inl two ↦ inl (
         is ∙ two.0,
-        subst (PutsLine (g.E.Sink.held c.args.err.now) (g.E.Sink.held c.end.new.err) (g.E.Sink.faults c.args.err.now) (g.E.Sink.faults c.end.new.err))
+        subst (PutsLine (g.E.Sink.held c.args.err.now) (g.E.Sink.held c.end.new.err)
+            (g.E.Sink.faults c.args.err.now) (g.E.Sink.faults c.end.new.err))
             (ap ending_line c.ending_of.ensures ∙ two.1) c.end.ensures.line,
       )
       | inr memory ↦ inr (is ∙ memory)

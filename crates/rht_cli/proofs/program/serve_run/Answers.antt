@@ -12,11 +12,14 @@ use Rattle.rht_cli.proofs.program.serve_run.Goals as goal
 
 pub returns-in_err-script : goal.returns-in_err-script
 returns-in_err-script g c =
-    let p = err_from_is_err_and c.from_residual-in_err-script.result c.from_residual-in_err-script.ensures.1 in
+    let p = err_from_is_err_and c.from_residual-in_err-script.result
+    c.from_residual-in_err-script.ensures.1 in
     let error = c.in_err-script.field-0.0 in
-    let reason = subst (λ (l : List ℕ). IsReason l error) c.deref.ensures.value c.in_err-script.ensures.reason in
+    let reason = subst (λ (l : List ℕ). IsReason l error) c.deref.ensures.value
+    c.in_err-script.ensures.reason in
     rw (p.1, p.2)
-    (FailsBy-read g.S.Source.left g.S.Source.faults g.O.Sink.held g.O.Sink.faults c.args.source.now c.read_all.new.source c.args.out.now
+    (FailsBy-read g.S.Source.left g.S.Source.faults g.O.Sink.held g.O.Sink.faults c.args.source.now
+    c.read_all.new.source c.args.out.now
     c.in_ok-bytes.bytes.items error c.in_ok-bytes.ensures.read reason)
 
 pub returns : goal.returns
@@ -29,10 +32,13 @@ returns g c =
     let script : reading_of bytes ≡ Ok said =
     subst (λ (l : List ℕ). reading_of l ≡ Ok said) c.deref.ensures.value c.in_ok-script.ensures.script in
     let left = g.S.Source.left in
-    let read = IsInputOf-read (left c.args.source.now) (left c.read_all.new.source) bytes said c.in_ok-bytes.ensures.read script in
+    let read = IsInputOf-read (left c.args.source.now) (left c.read_all.new.source) bytes said
+    c.in_ok-bytes.ensures.read script in
     let printed : IsTextOf Run said text =
-    subst (λ (workers : List (List Ending)). IsTextOf Run said (run_text workers pairs outcome.closed.size)) (sym c.deref-2.ensures.value)
+    subst (λ (workers : List (List Ending)). IsTextOf Run said
+    (run_text workers pairs outcome.closed.size)) (sym c.deref-2.ensures.value)
     (IsTextOf-outcome said outcome c.in_ok-outcome.ensures) in
     rw c.served_by.ensures
-    (Serves-put left g.S.Source.faults g.O.Sink.held g.O.Sink.faults c.args.source.now c.read_all.new.source c.args.out.now c.write_run.new.out
+    (Serves-put left g.S.Source.faults g.O.Sink.held g.O.Sink.faults c.args.source.now
+    c.read_all.new.source c.args.out.now c.write_run.new.out
     said text c.write_run.result read printed c.write_run.ensures)

@@ -32,9 +32,11 @@ loop-command-preserved c =
     let before = c.loop-command.replies.items in
     let after = c.answer_one.new.replies.items in
     let step : then ≡ bindings_after Single now command.1 =
-    IfOk-at_ok (λ done. then ≡ bindings_after Single now command.1) c.in_ok-answer_one.was c.answer_one.ensures.bindings in
+    IfOk-at_ok (λ done. then ≡ bindings_after Single now command.1) c.in_ok-answer_one.was
+    c.answer_one.ensures.bindings in
     let added : after ≡ gained 1 now (command ∷ []) before =
-    IfOk-at_ok (λ done. after ≡ gained 1 now (command ∷ []) before) c.in_ok-answer_one.was c.answer_one.ensures.replies in
+    IfOk-at_ok (λ done. after ≡ gained 1 now (command ∷ []) before) c.in_ok-answer_one.was
+    c.answer_one.ensures.replies in
     let same_length : length before ≡ length after =
     sym (ap length added ∙ length-gained 1 now (command ∷ []) before) in
     record {
@@ -42,7 +44,8 @@ loop-command-preserved c =
           ap (gained 1 then (drop (place + 1) commands)) added
           ∙ gained-step commands place first within now then step before
           ∙ c.loop-command.invariant.replies;
-      bindings = bindings_of-step commands place first within now then step ∙ c.loop-command.invariant.bindings;
+      bindings = bindings_of-step commands place first within now then step
+          ∙ c.loop-command.invariant.bindings;
       workers =
           subst (λ (n : ℕ). AllByRecursion (IsWorkersCommand n) (drop (place + 1) commands)) same_length
           (workers-next commands place first within _ c.loop-command.invariant.workers).1;
@@ -53,7 +56,9 @@ pub returns-clause-replies : goal.returns-clause-replies
 returns-clause-replies c =
     let commands = c.args.commands.now in
     let all : length commands ≤ c.loop-command.command-index = omega arith in
-    let none : drop c.loop-command.command-index commands ≡ [] = drop_all c.loop-command.command-index commands all in
+    let none : drop c.loop-command.command-index commands ≡ [] = drop_all c.loop-command.command-index
+    commands all in
     sym (gained-none 1 (bound_in c.loop-command.list) c.loop-command.replies.items)
-    ∙ ap (λ (l : List (ℕ × Call)). gained 1 (bound_in c.loop-command.list) l c.loop-command.replies.items) (sym none)
+    ∙ ap (λ (l : List (ℕ × Call)). gained 1 (bound_in c.loop-command.list) l
+    c.loop-command.replies.items) (sym none)
     ∙ c.loop-command.invariant.replies

@@ -18,6 +18,8 @@ returns-clause-replies c =
     let within : place < length workers = omega (arith, c.requires.first, c.requires.last) in
     let number : c.args.worker ≡ 1 + place = omega (arith, c.requires.first) in
     on_ok_weaker c.answer.result (λ added.
-    ap (slice_set workers place) (added ∙ ap (λ (endings : List Ending). endings ++ told (answer_of Single now c.args.call)) c.index_mut.ensures.value)
+    ap (slice_set workers place) (added
+    ∙ ap (λ (endings : List Ending). endings ++ told (answer_of Single now c.args.call))
+    c.index_mut.ensures.value)
     ∙ gained-one 1 c.args.worker place now c.args.call workers before number within)
     c.answer.ensures.replies

@@ -24,7 +24,8 @@ returns g c =
     let commands = script.commands.items in
     let none : bound_in c.new-list.result ≡ unbound = ap bound_in c.new-list.ensures in
     let left : bound_in c.answer_all.new.list ≡ bindings_of unbound commands =
-    c.in_ok-answer_all.ensures.bindings ∙ ap (λ (m : Multimap). bindings_of m c.deref.result.now) none ∙ ap (bindings_of unbound) c.deref.ensures.value in
+    c.in_ok-answer_all.ensures.bindings ∙ ap (λ (m : Multimap). bindings_of m c.deref.result.now) none
+    ∙ ap (bindings_of unbound) c.deref.ensures.value in
     record {
       replies =
           c.in_ok-answer_all.ensures.replies
@@ -32,7 +33,8 @@ returns g c =
           ∙ ap (λ l. gained 1 unbound l c.in_ok-replies.replies.items) c.deref.ensures.value
           ∙ ap (gained 1 unbound commands) c.in_ok-replies.ensures
           ∙ gained-replicate 1 script.config.callers unbound commands;
-      bound = subst (λ (m : Multimap). Lists c.in_ok-bindings.field-0.pairs m) left c.in_ok-bindings.ensures.pairs;
+      bound = subst (λ (m : Multimap). Lists c.in_ok-bindings.field-0.pairs m) left
+          c.in_ok-bindings.ensures.pairs;
       size = c.starting_size.ensures;
       keys = c.len.ensures ∙ sym c.in_ok-bindings.ensures.count;
     }

@@ -25,7 +25,8 @@ module _ {S E : Type 0} (held : S → Option (List ℕ)) (faults : S → ℕ) wh
   went_on : (old mid new : S) (n : ℕ) (put rest piece : List ℕ)
       → put ++ rest ≡ piece → Puts {E = E} held faults old mid (Ok tt) put
       → Appends (held mid) (held new) (take n rest) → faults mid ≤ faults new
-      → (more : List ℕ) × (more ++ take (length rest - n) (drop n rest) ≡ piece) × Puts {E = E} held faults old new (Ok tt) more
+      → (more : List ℕ) × (more ++ take (length rest - n) (drop n rest) ≡ piece)
+      × Puts {E = E} held faults old new (Ok tt) more
   went_on old mid new n put rest piece whole so_far grown kept =
       let front = take n rest in
       let parts : (put ++ front) ++ take (length rest - n) (drop n rest) ≡ piece =

@@ -10,6 +10,8 @@ returns c kind before behind first second apart legal =
     let here = bindings_left kind unbound before in
     let one = first ∷ second ∷ behind in
     let other = second ∷ first ∷ behind in (
-      IsLegalFrom-behind kind unbound before one other (IsLegalFrom-swapped kind here first second behind apart) legal,
-      bindings_left-behind kind unbound before one other (bindings_left-swapped kind here first second behind apart),
+      IsLegalFrom-behind kind unbound before one other
+          (IsLegalFrom-swapped kind here first second behind apart) legal,
+      bindings_left-behind kind unbound before one other
+          (bindings_left-swapped kind here first second behind apart),
     )

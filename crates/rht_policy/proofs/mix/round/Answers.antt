@@ -8,5 +8,6 @@ pub returns : goal.returns
 unfolding after_round
 returns c =
     let rotated : c.rotate_left.result ≡ rotated_left c.args.other c.args.by =
-    c.rotate_left.ensures ∙ rotate_left-sum c.args.other c.args.by c.ranges.other.fits c.requires.some c.requires.few in
+    c.rotate_left.ensures ∙ rotate_left-sum c.args.other c.args.by c.ranges.other.fits c.requires.some
+    c.requires.few in
     ap (λ r. (bit_xor c.args.word c.args.other + (4294967296 - r)) % 4294967296) rotated

@@ -6,8 +6,10 @@ use Rattle.rht_policy.proofs.sizes.shrunk.Goals as goal
 
 pub returns-clause-formula : goal.returns-clause-formula
 returns-clause-formula c =
-    c.max.ensures ∙ ap (λ r. max r c.args.min) c.rounded_up.ensures ∙ rounded-shrunk_size c.args.count c.args.min c.requires.min
+    c.max.ensures ∙ ap (λ r. max r c.args.min) c.rounded_up.ensures
+    ∙ rounded-shrunk_size c.args.count c.args.min c.requires.min
 
 pub returns-clause-size : goal.returns-clause-size
 returns-clause-size c =
-    subst (IsSizeUpTo 131072) (sym (returns-clause-formula c)) (IsSizeUpTo-shrunk_size c.args.count c.args.min c.requires.count c.requires.min)
+    subst (IsSizeUpTo 131072) (sym (returns-clause-formula c))
+    (IsSizeUpTo-shrunk_size c.args.count c.args.min c.requires.count c.requires.min)

@@ -2,7 +2,8 @@ use Rattle.rht_script.proofs.AddedPieces.{Adds-then, Adds-longer, Adds-passed_on
 use Rattle.rht_script.proofs.writer.add_closed.Goals as goal
 
 pub returns-in_err-add_ports-clause-text : goal.returns-in_err-add_ports-clause-text
-returns-in_err-add_ports-clause-text g c = Adds-passed_on (Adds-longer _ c.in_err-add_ports.ensures.text) c.from_residual.ensures.0
+returns-in_err-add_ports-clause-text g c = Adds-passed_on (Adds-longer _ c.in_err-add_ports.ensures.text)
+    c.from_residual.ensures.0
 
 pub returns-clause-text : goal.returns-clause-text
 returns-clause-text g c = Adds-then c.in_ok-add_ports.ensures.text c.add_last_line.ensures.text

@@ -17,10 +17,12 @@ returns-in_err-add-clause-text g c =
 pub returns-in_err-add_owners-clause-text : goal.returns-in_err-add_owners-clause-text
 returns-in_err-add_owners-clause-text g c =
     let port = Adds-same c.in_ok-add_named.ensures.text (ap (named (codes "port")) c.into.ensures) in
-    Adds-passed_on (Adds-longer _ (Adds-then (Adds-then port c.in_ok-add.ensures.text) c.in_err-add_owners.ensures.text))
+    Adds-passed_on (Adds-longer _ (Adds-then (Adds-then port c.in_ok-add.ensures.text)
+    c.in_err-add_owners.ensures.text))
     c.from_residual-in_err-add_owners.ensures.0
 
 pub returns-clause-text : goal.returns-clause-text
 returns-clause-text g c =
     let port = Adds-same c.in_ok-add_named.ensures.text (ap (named (codes "port")) c.into.ensures) in
-    Adds-then (Adds-then (Adds-then port c.in_ok-add.ensures.text) c.in_ok-add_owners.ensures.text) c.end_line.ensures.text
+    Adds-then (Adds-then (Adds-then port c.in_ok-add.ensures.text) c.in_ok-add_owners.ensures.text)
+    c.end_line.ensures.text

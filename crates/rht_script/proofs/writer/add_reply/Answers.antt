@@ -3,16 +3,19 @@ use Rattle.rht_script.proofs.writer.add_reply.Goals as goal
 
 pub returns-in_err-add_number-clause-text : goal.returns-in_err-add_number-clause-text
 returns-in_err-add_number-clause-text g c =
-    Adds-passed_on (Adds-longer _ (Adds-longer _ (Adds-longer _ c.in_err-add_number.ensures.text))) c.from_residual.ensures.0
+    Adds-passed_on (Adds-longer _ (Adds-longer _ (Adds-longer _ c.in_err-add_number.ensures.text)))
+    c.from_residual.ensures.0
 
 pub returns-in_err-add-clause-text : goal.returns-in_err-add-clause-text
 returns-in_err-add-clause-text g c =
-    Adds-passed_on (Adds-longer _ (Adds-longer _ (Adds-then c.in_ok-add_number.ensures.text c.in_err-add.ensures.text))) c.from_residual-in_err-add.ensures.0
+    Adds-passed_on (Adds-longer _ (Adds-longer _ (Adds-then c.in_ok-add_number.ensures.text
+    c.in_err-add.ensures.text))) c.from_residual-in_err-add.ensures.0
 
 pub returns-in_err-add_answer-clause-text : goal.returns-in_err-add_answer-clause-text
 returns-in_err-add_answer-clause-text g c =
     let head = Adds-then c.in_ok-add_number.ensures.text c.in_ok-add.ensures.text in
-    Adds-passed_on (Adds-longer _ (Adds-then head c.in_err-add_answer.ensures.text)) c.from_residual-in_err-add_answer.ensures.0
+    Adds-passed_on (Adds-longer _ (Adds-then head c.in_err-add_answer.ensures.text))
+    c.from_residual-in_err-add_answer.ensures.0
 
 pub returns-clause-text : goal.returns-clause-text
 returns-clause-text g c =

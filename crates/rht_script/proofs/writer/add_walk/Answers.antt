@@ -4,7 +4,8 @@ use Rattle.rht_script.proofs.AddedPieces.{Adds-then, Adds-same, Adds-longer, Add
 use Rattle.rht_script.proofs.writer.add_walk.Goals as goal
 
 pub returns-in_err-add-clause-text : goal.returns-in_err-add-clause-text
-returns-in_err-add-clause-text g c = Adds-passed_on (Adds-longer _ c.in_err-add.ensures.text) c.from_residual.ensures.0
+returns-in_err-add-clause-text g c = Adds-passed_on (Adds-longer _ c.in_err-add.ensures.text)
+    c.from_residual.ensures.0
 
 pub returns-in_err-add_pairs-clause-text : goal.returns-in_err-add_pairs-clause-text
 returns-in_err-add_pairs-clause-text g c =

@@ -10,4 +10,5 @@ returns-in_err-add_closed g c =
 pub returns : goal.returns
 returns g c =
     Puts-between c.new-text.ensures.unchanged (search rules)
-    (Puts-of_put c.in_ok-add_closed.ensures.text c.put.ensures.text c.new-text.ensures.none c.put.ensures.none)
+    (Puts-of_put c.in_ok-add_closed.ensures.text c.put.ensures.text c.new-text.ensures.none
+    c.put.ensures.none)

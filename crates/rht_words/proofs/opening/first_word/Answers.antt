@@ -10,14 +10,17 @@ returns-then-place-next_serial c = opening_word-at c.args.env c.args.place NextS
 
 pub returns-then-place-shape : goal.returns-then-place-shape
 returns-then-place-shape c =
-    c.into.ensures ∙ ap packed c.first_shape.ensures ∙ opening_word-at c.args.env c.args.place (Slot 0 ShapeWord) (omega arith, tt) (omega arith)
+    c.into.ensures ∙ ap packed c.first_shape.ensures ∙ opening_word-at c.args.env c.args.place
+    (Slot 0 ShapeWord) (omega arith, tt) (omega arith)
 
 pub returns-then-place-seed : goal.returns-then-place-seed
 returns-then-place-seed c =
-    c.into-then-place-seed.ensures ∙ opening_word-at c.args.env c.args.place (Slot 0 SeedWord) (omega arith, tt) (omega arith)
+    c.into-then-place-seed.ensures ∙ opening_word-at c.args.env c.args.place (Slot 0 SeedWord)
+    (omega arith, tt) (omega arith)
 
 pub returns-then-place-state : goal.returns-then-place-state
-returns-then-place-state c = opening_word-at c.args.env c.args.place (Slot 0 StateWord) (omega arith, tt) (omega arith)
+returns-then-place-state c = opening_word-at c.args.env c.args.place (Slot 0 StateWord) (omega arith, tt)
+    (omega arith)
 
 pub returns-else-place-state : goal.returns-else-place-state
 returns-else-place-state c =

@@ -13,12 +13,14 @@ overflow_cast-place-then-place-nodes c = omega (arith, words_in-few c.args.env.g
 pub returns-then-place-page_map : goal.returns-then-place-page_map
 returns-then-place-page_map c =
     let parts = parts_in_order c.args.env.geometry in
-    c.map_bits.ensures ∙ opening_word-at c.args.env c.args.place (NodeMap (c.args.place - c.node_map-node_map.result)) (omega arith) (omega arith)
+    c.map_bits.ensures ∙ opening_word-at c.args.env c.args.place
+    (NodeMap (c.args.place - c.node_map-node_map.result)) (omega arith) (omega arith)
 
 pub returns-then-place-nodes : goal.returns-then-place-nodes
 returns-then-place-nodes c =
     let parts = parts_in_order c.args.env.geometry in
-    c.page_bits.ensures ∙ opening_word-at c.args.env c.args.place (PageMap (c.args.place - c.page_map-page_map.result)) (omega arith) (omega arith)
+    c.page_bits.ensures ∙ opening_word-at c.args.env c.args.place
+    (PageMap (c.args.place - c.page_map-page_map.result)) (omega arith) (omega arith)
 
 pub returns-else-place-nodes : goal.returns-else-place-nodes
 returns-else-place-nodes c =

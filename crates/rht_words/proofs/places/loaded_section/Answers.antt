@@ -5,4 +5,9 @@ use Rattle.rht_words.proofs.places.loaded_section.Goals as goal
 
 pub returns-clause-within : goal.returns-clause-within
 returns-clause-within c =
-    λ g slots callers. omega (arith, c.slot_start.ensures, place_of-below g (Slot c.args.slot (LoadedSection c.args.caller)) (slots, callers))
+    λ g slots callers. omega (
+      arith,
+      c.slot_start.ensures,
+      place_of-below g
+          (Slot c.args.slot (LoadedSection c.args.caller)) (slots, callers),
+    )

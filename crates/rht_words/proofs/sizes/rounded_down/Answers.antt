@@ -10,4 +10,5 @@ returns-then-number-eq0 c = rw c.if-number-eq0.true refl
 
 pub returns-else-number-eq0 : goal.returns-else-number-eq0
 returns-else-number-eq0 c =
-    one_shl c.ilog2.result 32 c.ilog2.ensures.bound ∙ rounded_down-power _ c.ilog2.result (omega arith) c.ilog2.ensures.power_le c.ilog2.ensures.next_power_gt
+    one_shl c.ilog2.result 32 c.ilog2.ensures.bound ∙ rounded_down-power _ c.ilog2.result (omega arith)
+    c.ilog2.ensures.power_le c.ilog2.ensures.next_power_gt

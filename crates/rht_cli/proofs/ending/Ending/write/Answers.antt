@@ -6,5 +6,6 @@ use Rattle.rht_cli.proofs.ending.Ending.write.Goals as goal
 
 pub returns-in-Usage : goal.returns-in-Usage
 returns-in-Usage g c =
-    subst (λ (e : Ending). Puts g.E.Sink.held g.E.Sink.faults c.args.err.now c.put_all.new.out c.put_all.result (ending_line e))
+    subst (λ (e : Ending). Puts g.E.Sink.held g.E.Sink.faults c.args.err.now c.put_all.new.out
+    c.put_all.result (ending_line e))
     (sym c.in-Usage.is) c.put_all.ensures

@@ -15,4 +15,5 @@ pub returns-else-first-port : goal.returns-else-first-port
 returns-else-first-port c =
     let pairs = c.args.pairs.now in
     IsGap-from_place pairs c.args.port c.args.place c.requires.rising c.requires.place
-    (λ pair within read same. c.if-first-port.false (ap (λ (p : ℕ × ℕ). p.0) (get_or_default pairs c.args.place (0, 0) pair within ∙ read) ∙ same))
+    (λ pair within read same. c.if-first-port.false (ap (λ (p : ℕ × ℕ). p.0)
+    (get_or_default pairs c.args.place (0, 0) pair within ∙ read) ∙ same))

@@ -9,4 +9,5 @@ returns c =
     let port = c.args.port in
     let found = c.partition_point.ensures in
     IsPlace-from_search pairs port _ found.bound
-    (IsPartitionPoint-from_clause (λ (pair : ℕ × ℕ). ltb pair.0 port) pairs _ found.partitioned (parted_by_port pairs port c.requires) (λ a r f called. search rules))
+    (IsPartitionPoint-from_clause (λ (pair : ℕ × ℕ). ltb pair.0 port) pairs _ found.partitioned
+    (parted_by_port pairs port c.requires) (λ a r f called. search rules))

@@ -9,7 +9,8 @@ put_in_room : {E : Type 0} (r : Result ℕ E) (left left' room front : List ℕ)
     → IfOk r (λ n. front ≡ filled left (take most room) n)
     → IfOk r (λ n. front ++ drop most room ≡ filled left' room n)
 put_in_room (Ok n) left left' room front most same count put =
-    ap (λ l. l ++ drop most room) put ∙ filled-front left room n most (omega arith) ∙ ap (λ l. filled l room n) same
+    ap (λ l. l ++ drop most room) put ∙ filled-front left room n most (omega arith)
+    ∙ ap (λ l. filled l room n) same
 put_in_room (Err e) left left' room front most same count put = tt
 
 pub returns-clause-room : goal.returns-clause-room

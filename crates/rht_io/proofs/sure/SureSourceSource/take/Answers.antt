@@ -19,10 +19,14 @@ gave given n items passed left room new view same count put =
     let is_left = left_of given items passed left view same in
     let counted : n ≡ min (length left) (length room) = rw is_left at count in
     let filled_so : new ≡ filled left room n = rw is_left at put in
-    let rest : drop (given + n) items ≡ drop n left = sym (drop-drop n given items) ∙ ap (drop n) view in
-    (gives-front n left _ room new (omega arith) filled_so rest, gives-all n left _ room new counted filled_so rest)
+    let rest : drop (given + n) items ≡ drop n left = sym (drop-drop n given items) ∙ ap (drop n) view in (
+      gives-front n left _ room new (omega arith) filled_so rest,
+      gives-all n left _ room new counted
+          filled_so rest,
+    )
 
 pub returns-clause-bytes : goal.returns-clause-bytes
 returns-clause-bytes c =
-    gave c.self.inside.given c.copy_front-n.result _ _ _ c.args.room.now _ c.self.view_is c.deref.ensures.value
+    gave c.self.inside.given c.copy_front-n.result _ _ _ c.args.room.now _ c.self.view_is
+    c.deref.ensures.value
     c.copy_front-n.ensures.count c.copy_front-n.ensures.room

@@ -5,4 +5,9 @@ use Rattle.rht_words.proofs.geometry.Geometry.owner.Goals as goal
 
 pub returns-clause-within : goal.returns-clause-within
 returns-clause-within c =
-    λ below. omega (arith, c.node_start.ensures.place, place_of-below c.args.self (Node c.args.node OwnerWord) below)
+    λ below. omega (
+      arith,
+      c.node_start.ensures.place,
+      place_of-below c.args.self
+          (Node c.args.node OwnerWord) below,
+    )

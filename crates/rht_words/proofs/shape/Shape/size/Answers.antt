@@ -7,4 +7,5 @@ pub returns-clause-size : goal.returns-clause-size
 returns-clause-size c = search rules
 
 pub returns-clause-within : goal.returns-clause-within
-returns-clause-within c = subst (IsSizeUpTo 262144) (sym (returns-clause-size c)) (IsSizeUpTo-size_of c.args.self)
+returns-clause-within c = subst (IsSizeUpTo 262144) (sym (returns-clause-size c))
+    (IsSizeUpTo-size_of c.args.self)

@@ -10,12 +10,14 @@ pub loop-pair-preserved : goal.loop-pair-preserved
 loop-pair-preserved c =
     let pairs = c.deref-pair-items.result.now in
     let place = c.loop-pair.pair-index in
-    let rising : HasRisingPorts pairs = subst HasRisingPorts (sym c.deref-pair-items.ensures.value) c.self.invariant in
+    let rising : HasRisingPorts pairs = subst HasRisingPorts (sym c.deref-pair-items.ensures.value)
+    c.self.invariant in
     let within : place < length pairs = omega arith in
     let pair = get_or pairs place (0, 0) in
     record {
       pairs =
-          c.add.ensures.pairs ∙ ap (λ (l : List (ℕ × List ℕ)). added l pair.0 pair.1) c.loop-pair.invariant.pairs ∙ listed-more pairs place (0, 0) rising within;
+          c.add.ensures.pairs ∙ ap (λ (l : List (ℕ × List ℕ)). added l pair.0 pair.1)
+          c.loop-pair.invariant.pairs ∙ listed-more pairs place (0, 0) rising within;
       room = omega arith;
     }
 
@@ -23,7 +25,8 @@ pub returns-clause-pairs : goal.returns-clause-pairs
 returns-clause-pairs c =
     let pairs = c.args.self.now in
     let items = c.deref-pair-items.result.now in
-    let rising : HasRisingPorts items = subst HasRisingPorts (sym c.deref-pair-items.ensures.value) c.self.invariant in
+    let rising : HasRisingPorts items = subst HasRisingPorts (sym c.deref-pair-items.ensures.value)
+    c.self.invariant in
     let all : length items ≤ c.loop-pair.pair-index = omega arith in
     let whole : c.loop-pair.bindings.pairs ≡ listed items =
     c.loop-pair.invariant.pairs ∙ ap listed (take_all c.loop-pair.pair-index items all) in

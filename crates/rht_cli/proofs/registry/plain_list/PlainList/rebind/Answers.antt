@@ -12,13 +12,15 @@ invariant_of-self c =
     subst (IsOwnedAt c.args.self.now c.args.port c.args.owner) c.in-Some.is c.place_of_owner.ensures in
     let items = ap (λ (l : List (ℕ × ℕ)). slice_set l place (c.args.port, c.args.new)) c.self.view_is in
     subst HasRisingPorts (sym items)
-    (HasRisingPorts-set c.args.self.now c.args.port place c.args.owner c.args.new at (subst HasRisingPorts c.self.view_is c.self.invariant))
+    (HasRisingPorts-set c.args.self.now c.args.port place c.args.owner c.args.new at
+    (subst HasRisingPorts c.self.view_is c.self.invariant))
 
 pub returns-in-Some-clause-reply : goal.returns-in-Some-clause-reply
 returns-in-Some-clause-reply c =
     let at : IsAt c.args.self.now c.args.port c.in-Some.place c.args.owner =
     subst (IsOwnedAt c.args.self.now c.args.port c.args.owner) c.in-Some.is c.place_of_owner.ensures in
-    (rebound-own c.args.owner c.args.new _ (bound_at c.args.self.now c.args.port c.in-Some.place c.args.owner at)).0
+    (rebound-own c.args.owner c.args.new _ (bound_at c.args.self.now c.args.port c.in-Some.place
+    c.args.owner at)).0
 
 pub returns-in-Some-clause-bindings : goal.returns-in-Some-clause-bindings
 returns-in-Some-clause-bindings c =
@@ -26,7 +28,8 @@ returns-in-Some-clause-bindings c =
     let at : IsAt c.args.self.now c.args.port place c.args.owner =
     subst (IsOwnedAt c.args.self.now c.args.port c.args.owner) c.in-Some.is c.place_of_owner.ensures in
     let items = ap (λ (l : List (ℕ × ℕ)). slice_set l place (c.args.port, c.args.new)) c.self.view_is in
-    let owners = (rebound-own c.args.owner c.args.new _ (bound_at c.args.self.now c.args.port place c.args.owner at)).1 in
+    let owners = (rebound-own c.args.owner c.args.new _
+    (bound_at c.args.self.now c.args.port place c.args.owner at)).1 in
     ap bound_in items ∙ bound_in-set c.args.self.now c.args.port place c.args.owner c.args.new at
     ∙ ap (with_owners (bound_in c.args.self.now) c.args.port) owners
 

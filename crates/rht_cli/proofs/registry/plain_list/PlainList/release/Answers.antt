@@ -12,7 +12,8 @@ invariant_of-self c =
     subst (IsOwnedAt c.args.self.now c.args.port c.args.owner) c.in-Some.is c.place_of_owner.ensures in
     let items = c.remove.ensures.items ∙ ap (λ (l : List (ℕ × ℕ)). remove l place) c.self.view_is in
     subst HasRisingPorts (sym items)
-    (HasRisingPorts-remove c.args.self.now c.args.port place c.args.owner at (subst HasRisingPorts c.self.view_is c.self.invariant))
+    (HasRisingPorts-remove c.args.self.now c.args.port place c.args.owner at
+    (subst HasRisingPorts c.self.view_is c.self.invariant))
 
 pub returns-in-Some-clause-reply : goal.returns-in-Some-clause-reply
 returns-in-Some-clause-reply c =
@@ -26,7 +27,8 @@ returns-in-Some-clause-bindings c =
     let at : IsAt c.args.self.now c.args.port place c.args.owner =
     subst (IsOwnedAt c.args.self.now c.args.port c.args.owner) c.in-Some.is c.place_of_owner.ensures in
     let items = c.remove.ensures.items ∙ ap (λ (l : List (ℕ × ℕ)). remove l place) c.self.view_is in
-    let owners = (released-own c.args.owner _ (bound_at c.args.self.now c.args.port place c.args.owner at)).1 in
+    let owners = (released-own c.args.owner _ (bound_at c.args.self.now c.args.port place c.args.owner
+    at)).1 in
     ap bound_in items ∙ bound_in-remove c.args.self.now c.args.port place c.args.owner at
     ∙ ap (with_owners (bound_in c.args.self.now) c.args.port) owners
 

@@ -10,8 +10,11 @@ use Rattle.rht_script.proofs.reader.cursors.Lines.next.Goals as goal
 
 pub returns-then-is_empty : goal.returns-then-is_empty
 returns-then-is_empty c =
-    let text = c.self.inside.rest.now in
-    (sym (ap (λ (unread : Unread). unread.lines) c.self.view_is) ∙ lines_of-none text (eqb-true _ _ (sym c.is_empty.ensures ∙ c.if-is_empty.true)), refl)
+    let text = c.self.inside.rest.now in (
+      sym (ap (λ (unread : Unread). unread.lines) c.self.view_is)
+          ∙ lines_of-none text (eqb-true _ _ (sym c.is_empty.ensures ∙ c.if-is_empty.true)),
+      refl,
+    )
 
 pub returns-then-number-gt-MOST_LINES : goal.returns-then-number-gt-MOST_LINES
 returns-then-number-gt-MOST_LINES c =
@@ -22,7 +25,8 @@ returns-then-number-gt-MOST_LINES c =
         lines = lines_of c.first_line.result.1.now;
         first = sym (ap (λ (unread : Unread). unread.lines) c.self.view_is) ∙ c.first_line.ensures;
         wrong = rw (words_at-many before.number line (omega arith))
-            (ap (λ (fault : ScriptFault). Err fault) (sym (c.at.ensures ∙ ap (λ number. fault_at number TooManyLines) c.number-number.ensures)));
+            (ap (λ (fault : ScriptFault). Err fault) (sym (c.at.ensures
+            ∙ ap (λ number. fault_at number TooManyLines) c.number-number.ensures)));
       },
       refl,
     )
@@ -37,7 +41,8 @@ returns-then-line-gt-MOST_IN_LINE c =
         first = sym (ap (λ (unread : Unread). unread.lines) c.self.view_is) ∙ c.first_line.ensures;
         wrong = rw (words_at-long before.number line (omega arith) (omega arith))
             (ap (λ (fault : ScriptFault). Err fault)
-            (sym (c.at-then-line-gt-MOST_IN_LINE.ensures ∙ ap (λ number. fault_at number LineTooLong) c.number-number.ensures)));
+            (sym (c.at-then-line-gt-MOST_IN_LINE.ensures
+            ∙ ap (λ number. fault_at number LineTooLong) c.number-number.ensures)));
       },
       refl,
     )

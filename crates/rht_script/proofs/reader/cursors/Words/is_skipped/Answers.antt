@@ -5,7 +5,8 @@ use Rattle.rht_script.proofs.reader.cursors.Words.is_skipped.Goals as goal
 
 pub returns-in-Some : goal.returns-in-Some
 returns-in-Some c =
-    sym (is_skipped-position c.self.inside.rest.now c.in-Some.start (sym c.letter_at.ensures ∙ c.in-Some.is)) ∙ ap is_skipped c.self.view_is
+    sym (is_skipped-position c.self.inside.rest.now c.in-Some.start (sym c.letter_at.ensures
+    ∙ c.in-Some.is)) ∙ ap is_skipped c.self.view_is
 
 pub returns-in-None : goal.returns-in-None
 returns-in-None c =

@@ -14,7 +14,8 @@ pub loop-pair-preserved : goal.loop-pair-preserved
 loop-pair-preserved g c =
     let within : c.loop-pair.pair-index < length c.args.pairs.now = omega arith in
     record {
-      text = Adds-item pair_text c.args.pairs.now c.loop-pair.pair-index _ (slice_get-get_or _ _ (0, 0) within)
+      text = Adds-item pair_text c.args.pairs.now c.loop-pair.pair-index _
+          (slice_get-get_or _ _ (0, 0) within)
           c.loop-pair.invariant.text c.in_ok-add_pair.ensures.text;
       same_sink = c.in_ok-add_pair.ensures.same_sink ∙ c.loop-pair.invariant.same_sink;
     }

@@ -8,7 +8,8 @@ use Rattle.rht_script.proofs.writer.pieces.Writer.add_pairs.Given as goal
 -- the pairs so far were added
 abbrev pub invariant-loop-pair : goal.invariant-loop-pair
 invariant-loop-pair g l = record {
-  text : Adds {E = Failed} g.O.Sink.held g.O.Sink.faults l.initial.self.out.now l.self.out.now (Ok tt) l.initial.self.waiting l.self.waiting
+  text : Adds {E = Failed} g.O.Sink.held g.O.Sink.faults l.initial.self.out.now l.self.out.now (Ok tt)
+      l.initial.self.waiting l.self.waiting
       (flat_map pair_text (take l.pair-index l.pairs));
   same_sink : l.self.out.ghost_name ≡ l.initial.self.out.ghost_name;
 }
