@@ -8,6 +8,8 @@ pub mod Runs
 pub mod Traces
 -- what the words stand for
 pub mod StandsFor
+-- what the words say at a table's closing
+pub mod Closing
 -- what calls are answered
 pub mod Replies
 -- what holds of every run
