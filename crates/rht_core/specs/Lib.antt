@@ -24,3 +24,5 @@ pub mod Counts
 pub mod Numbered
 -- when a history fits a run
 pub mod RunHistories
+-- when finished calls serve commands, and what of a run is printed
+pub mod Serving
