@@ -8,6 +8,8 @@ pub mod Runs
 pub mod Traces
 -- what the words stand for
 pub mod StandsFor
+-- what the words say at a table's closing
+pub mod Closing
 -- what calls are answered
 pub mod Replies
 -- what holds of every run
@@ -22,3 +24,5 @@ pub mod Counts
 pub mod Numbered
 -- when a history fits a run
 pub mod RunHistories
+-- when finished calls serve commands, and what of a run is printed
+pub mod Serving

@@ -14,7 +14,7 @@ use rht_words::{
 use std::alloc::{AllocError, Global};
 
 /// At most so many tables are in force, one in each slot.
-const SLOTS: u32 = 8;
+pub(crate) const SLOTS: u32 = 8;
 
 /// The owners of a port, the first owner first. The one refusal is want of memory.
 pub fn owners_of(

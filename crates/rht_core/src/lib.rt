@@ -7,6 +7,7 @@
 
 mod book;
 mod bound;
+mod closing;
 mod event;
 pub mod laws;
 mod local;

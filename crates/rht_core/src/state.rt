@@ -1,16 +1,18 @@
 //! One run on plain words, event by event.
 
-ghost use Rattle.std.specs.Prelude.{◌≡◌, ◌<◌, ◌≤◌, length, replicate, true, None, IfOk};
+ghost use Rattle.std.specs.Prelude.{ℕ, ◌≡◌, ◌<◌, ◌≤◌, length, replicate, true, None, IfOk};
 ghost use Rattle.rht_words.specs.Operations.{old_of, applied};
 ghost use Rattle.rht_words.specs.Opening.{opening_words};
 ghost use Rattle.rht_words.specs.Places.{words_in};
 ghost use Rattle.rht_words.specs.Settled.{IsSettled};
 ghost use Rattle.rht_core.specs.Runs.{core_of, core_step, local_of, begun, planned, with_step, enrolling, enrolled_after, has_done, IsSound, IsBuiltEvent, IsOpened};
 ghost use Rattle.rht_core.specs.Locals.{fresh, is_idle};
+ghost use Rattle.rht_core.specs.Closing.{current_size, IsClosedOf};
 
+use crate::closing::{current_size, listing};
 use crate::event::{Event, Stepped};
 use crate::local::{Doing, Local};
-use rht_model::Call;
+use rht_model::{Call, Closed};
 use rht_policy::Mix;
 use rht_words::{Config, Env, Op, apply, opening_word, places};
 use std::alloc::{AllocError, Global};
@@ -87,6 +89,31 @@ impl<M: Mix> State<M> {
         ensures idle { self.now.enrolled ≤ caller → is_idle result.now ≡ true }
     {
         &self.locals[caller as usize]
+    }
+
+    /// The size of the current table, in buckets.
+    pub fn size(&self) -> u32
+        ensures { result ≡ current_size self.now.env.geometry self.now.words }
+    {
+        current_size(self.env.geometry, &self.words)
+    }
+
+    /// What is bound, in order of ports, the size of the current table, and how many ports are
+    /// bound. The one refusal is want of memory. It is no function of the kernel, where a table
+    /// goes with all that is in it.
+    pub fn closed(&self) -> Result<Closed, AllocError>
+        requires idle { (caller : ℕ) → caller < self.now.env.geometry.callers
+            → is_idle (local_of self.now caller) ≡ true }
+        requires alone { self.now.env.geometry.callers ≡ 1 }
+        ensures { IfOk result (IsClosedOf self.now.env.geometry self.now.words) }
+    {
+        let bindings = listing(*self.words.allocator(), self.env.geometry, &self.words)?;
+        let keys = bindings.len() as u32;
+        Ok(Closed {
+            bindings,
+            size: self.size(),
+            keys,
+        })
     }
 }
 

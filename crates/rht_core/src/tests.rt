@@ -8,7 +8,7 @@ ghost use Rattle.rht_words.specs.declared.config.Kind.{Kind};
 ghost use Rattle.rht_core.specs.Runs.{IsBuiltEvent};
 
 use super::{Event, State, Stepped, owners_of};
-use rht_model::{Call, Reply};
+use rht_model::{Call, Closed, Reply};
 use rht_policy::{Lookup3, Low, Mix};
 use rht_words::{Config, Geometry, Hash, Kind, Op, Port};
 use std::alloc::Global;
@@ -412,6 +412,82 @@ fn two_callers_at_one_bucket(rt: HostRuntime) -> Result<(), Fail> {
             ends(0, &exists, bind(5, 3), Reply::Exists { owner: 9 }),
         ],
     )
+}
+
+/// A caller is given a call, without an operation.
+fn begin<M: Mix>(rt: &impl Abort, state: &mut State<M>, caller: u32, call: Call)
+    ensures { state.new.env ≡ state.old.env }
+{
+    let event = Event::Begin { caller, call };
+    assert!(rt; is_built(event), "at {call:?}");
+    let stepped = state.step(event);
+    assert_eq!(rt; stepped, NOTHING, "at {call:?}");
+}
+
+/// Performs a caller's next operation, and answers the reply where that ends its call.
+fn reply_of_step<M: Mix>(state: &mut State<M>, caller: u32) -> Option<Reply>
+    ensures { state.new.env ≡ state.old.env }
+{
+    state.step(Event::Step { caller }).reply
+}
+
+/// Runs a caller's call to its reply.
+fn reply_to<M: Mix>(rt: &impl Abort, state: &mut State<M>, caller: u32, call: Call) -> Option<Reply>
+    ensures { state.new.env ≡ state.old.env }
+{
+    begin(rt, state, caller, call);
+    for _ in 0..100 {
+        let reply = reply_of_step(state, caller);
+        if reply.is_some() {
+            return reply;
+        }
+    }
+    None
+}
+
+/// What a small table holds at its closing, when its caller has made these calls.
+fn closed_after(rt: &impl Abort, alloc: Global, calls: &[Call]) -> Result<Closed, Fail> {
+    let config = small();
+    assert!(rt; config.is_settled());
+    assert!(rt; config.callers == 1);
+    let mut state = State::<Low>::open(alloc, config)?;
+    state.step(Event::Enroll);
+    for call in calls {
+        reply_to(rt, &mut state, 0, *call);
+    }
+    assert!(rt; state.local(0).is_idle());
+    assert_eq!(rt; state.size(), 64);
+    Ok(state.closed()?)
+}
+
+#[test]
+fn a_closed_table_lists_what_is_bound(rt: HostRuntime) -> Result<(), Fail> {
+    let nothing = closed_after(&rt, rt.alloc(), &[])?;
+    assert_eq!(rt;
+        (nothing.size, nothing.keys, nothing.bindings.len()),
+        (64, 0, 0)
+    );
+    // Ports 69 and 5 are in bucket 5, port 1000 in bucket 40, and port 2 in bucket 2.
+    let calls = [
+        bind(1000, 9),
+        bind(5, 9),
+        bind(69, 7),
+        bind(5, 3),
+        FIND_5,
+        bind(2, 1),
+    ];
+    let closed = closed_after(&rt, rt.alloc(), &calls)?;
+    let want: [(Port, &[u32]); 4] = [(2, &[1]), (5, &[9]), (69, &[7]), (1000, &[9])];
+    assert_eq!(rt;
+        (closed.size, closed.keys, closed.bindings.len()),
+        (64, 4, 4)
+    );
+    for (i, (port, owners)) in want.iter().enumerate() {
+        assert!(rt; i < closed.bindings.len());
+        assert_eq!(rt; closed.bindings.port(i), *port, "at {i}");
+        assert_eq!(rt; closed.bindings.owners(i), *owners, "at {i}");
+    }
+    Ok(())
 }
 
 #[test]

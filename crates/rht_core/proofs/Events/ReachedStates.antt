@@ -48,7 +48,7 @@ module _ (M : Type 0) (mix : ℕ → ℕ → ℕ → ℕ) where
   step-env core c None = refl
   step-env core c (Some op) = refl
 
-  event-env : (core : Core M) (event : Event) → (core_step mix core event).0.env ≡ core.env
+  pub event-env : (core : Core M) (event : Event) → (core_step mix core event).0.env ≡ core.env
   event-env core Enroll = refl
   event-env core (Begin c call) = refl
   event-env core (Step c) = step-env core c (planned_in core c)

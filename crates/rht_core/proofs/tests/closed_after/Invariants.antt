@@ -1,0 +1,6 @@
+use Rattle.std.proofs.Common.{◌≡◌}
+use Rattle.rht_core.proofs.tests.closed_after.Given as goal
+
+-- the table has one caller
+abbrev pub invariant-loop-call : goal.invariant-loop-call
+invariant-loop-call g l = l.state.env.geometry.callers ≡ 1
