@@ -1,6 +1,6 @@
 -- When the calls that a caller has finished serve the commands of a worker with replies, and what of a run is printed: the replies,
 -- and what is bound at the end.
-use Rattle.std.specs.Prelude.{◌≡◌, ℕ, ◌+◌, ◌<◌, ◌==◌, if◌then◌else◌, Bool, true, List, [], ◌∷◌, ◌++◌, length, slice_index_or}
+use Rattle.std.specs.Prelude.{◌≡◌, ℕ, ◌+◌, ◌<◌, ◌==◌, if◌then◌else◌, true, List, [], ◌∷◌, ◌++◌, length, slice_index_or}
 use Rattle.rht_words.specs.declared.config.Config.{Config}
 use Rattle.rht_words.specs.declared.env.Env.{Env}
 use Rattle.rht_model.specs.declared.bindings.Closed.{Closed}

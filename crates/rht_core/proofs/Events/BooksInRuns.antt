@@ -1,6 +1,6 @@
 -- In every run each caller works at the call of its book, and its calls have taken as many nodes out of lists as its book says.
 -- This goes with the invariant event by event, since it speaks of the ghost.
-use Rattle.std.proofs.Common.{◌≡◌, ◌≢◌, ℕ, ◌+◌, List, [], ◌∷◌, ◌++◌, true, cond, Option, Some, None, refl, sym, ap, ◌∙◌, subst, inl, inr, arith}
+use Rattle.std.proofs.Common.{◌≡◌, ℕ, ◌+◌, List, ◌++◌, true, Option, Some, None, refl, sym, ap, ◌∙◌, subst, inl, inr, arith}
 use Rattle.std.specs.Prelude.{count_by, option_map}
 use Rattle.std.proofs.lemmas.Bool.{cases_eq}
 use Rattle.std.proofs.lemmas.List.Sums.{sum_by_push}
@@ -23,7 +23,7 @@ use Rattle.rht_core.specs.declared.local.Local.{Local}
 use Rattle.rht_core.specs.Counts.{takes_out}
 use Rattle.rht_core.specs.Jobs.{Job, call_of, job_after, job_of, told, held_of, held_next}
 use Rattle.rht_core.specs.Locals.{is_idle, machine_of, local_after, ending_of}
-use Rattle.rht_core.specs.Runs.{Core, World, View, view_of, local_of, beginning_in, planned_in, book_begun, book_after, finished_with, world_step, run_of, opening, IsAdmitted, IsAdmittedEvent}
+use Rattle.rht_core.specs.Runs.{World, View, view_of, local_of, beginning_in, planned_in, book_begun, book_after, finished_with, world_step, run_of, opening, IsAdmitted, IsAdmittedEvent}
 use Rattle.rht_core.specs.Laws.{view_begun, view_stepped}
 use Rattle.rht_core.proofs.Theory.Ghosts.{Ghost, is_taken_by, Free}
 use Rattle.rht_core.proofs.Theory.Wholes.{outs}
@@ -32,7 +32,7 @@ use Rattle.rht_core.proofs.Events.Worlds.{run_keeps_admitted, beginning-some, pl
 use Rattle.rht_core.proofs.Events.SoundRuns.{has_place, made_in}
 use Rattle.rht_core.proofs.Events.RangesInRuns.{AllIn, event-all, opens-all}
 use Rattle.rht_core.proofs.Events.JobsOfCallers.{first_job-machine, first_unknown, same_call, left-job, nothing-job, is_no_job, doing_after-reply}
-use Rattle.rht_core.proofs.Events.Invariants.{Inv, StepOuts, Kept, kept, step_of}
+use Rattle.rht_core.proofs.Events.Invariants.{Inv, StepOuts, kept, step_of}
 use Rattle.rht_core.proofs.Events.InvariantRuns.{opening_ghost, opening_inv, idle_at_opening}
 
 -- how many of a caller's calls that have ended took a node out of a list

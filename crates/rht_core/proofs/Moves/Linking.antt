@@ -5,7 +5,7 @@ use Rattle.std.proofs.lemmas.Bool.Decides.{nat_tests}
 use Rattle.rht_words.specs.declared.env.Env.{Env}
 use Rattle.rht_words.specs.Links.{link_of, head_of, marker_of}
 use Rattle.rht_words.specs.Chains.{IsSegment}
-use Rattle.rht_words.specs.Places.{PortCount, NodeMap, Node, NodeWord, ChainLink, KeyWord, OwnerWord, ListLink, PageWord}
+use Rattle.rht_words.specs.Places.{PortCount, NodeMap, Node, NodeWord, ChainLink, KeyWord, ListLink, PageWord}
 use Rattle.rht_words.proofs.Memory.{Memory, IsWrite}
 use Rattle.rht_words.specs.Members.{In, NotIn}
 use Rattle.rht_words.proofs.Members.{not_in_from, count_below-more}

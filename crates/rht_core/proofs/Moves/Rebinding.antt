@@ -1,6 +1,6 @@
 -- The store by which a caller that has locked a port's bucket changes what the port is bound to. What it does to other buckets,
 -- ports and callers is shown here once; what it does to the port and to its bucket is asked of each such store.
-use Rattle.std.proofs.Common.{◌≡◌, ◌≢◌, ◌⊎◌, ◌↔◌, ℕ, ◌+◌, ◌*◌, ◌/◌, ◌%◌, ◌<◌, List, [], ◌∷◌, Option, Some, None, false, refl, sym, ◌∙◌, ap, subst, inl, inr, arith}
+use Rattle.std.proofs.Common.{◌≡◌, ◌≢◌, ◌⊎◌, ◌↔◌, ℕ, ◌+◌, ◌*◌, ◌/◌, ◌%◌, ◌<◌, List, [], ◌∷◌, Option, Some, false, refl, sym, ◌∙◌, ap, subst, inl, inr, arith}
 use Rattle.std.specs.Int.{bit_at}
 use Rattle.std.proofs.lemmas.Bool.{cases_eq}
 use Rattle.rht_words.specs.declared.env.Env.{Env}
@@ -9,8 +9,8 @@ use Rattle.rht_words.specs.Places.{Address, PortCount, NodeMap, Node, NodeWord, 
 use Rattle.rht_words.specs.Members.{In}
 use Rattle.rht_words.proofs.Memory.{Memory, IsWrite}
 use Rattle.rht_words.proofs.ChainLemmas.{IsSegment-members}
-use Rattle.rht_core.proofs.Theory.Ghosts.{put, put-same, put-other, put-all, Bucket, Owner, Free, Held, First, Behind, Ghost, is_used, is_taken_by, IsUsed, held_not_used, held_by_one}
-use Rattle.rht_core.proofs.Theory.Wholes.{chain_of, list_of, key_of, IsHomeOf, BucketRight, IsFirstAt, IsBehindIn, IsBoundTo, Owned, ArenaRight, IsBuilt, Whole, firsts, raisers}
+use Rattle.rht_core.proofs.Theory.Ghosts.{put, put-same, put-other, put-all, Owner, Free, Held, First, Behind, Ghost, is_used, is_taken_by, IsUsed, held_not_used, held_by_one}
+use Rattle.rht_core.proofs.Theory.Wholes.{list_of, key_of, BucketRight, IsFirstAt, IsBehindIn, IsBoundTo, Owned, ArenaRight, IsBuilt, Whole, firsts, raisers}
 use Rattle.rht_core.proofs.Theory.Knowledge.{bound_used}
 use Rattle.rht_core.proofs.Theory.Frames.{Made, Others, IsNoTableWord, SameTables, same_tables, tables_stay, TablesRight-write, IsHomeOf-same, BucketRight-frame}
 use Rattle.rht_core.proofs.Theory.Readiness.{Change, changed}

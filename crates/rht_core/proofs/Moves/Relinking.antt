@@ -1,6 +1,6 @@
 -- The store that gives a locked bucket another chain: where a node stood there stands another one, or none. With no node before it
 -- the store is on the bucket's word, which it unlocks; else on the link of the node before.
-use Rattle.std.proofs.Common.{◌≡◌, ◌≢◌, ℕ, ◌+◌, ◌*◌, ◌%◌, ◌<◌, List, [], ◌∷◌, ◌++◌, Option, Some, None, refl, sym, ◌∙◌, ap, subst, inl, inr, arith}
+use Rattle.std.proofs.Common.{◌≡◌, ◌≢◌, ℕ, ◌*◌, ◌%◌, ◌<◌, List, [], ◌∷◌, ◌++◌, Option, Some, None, refl, sym, ◌∙◌, ap, subst, inl, inr, arith}
 use Rattle.std.proofs.lemmas.Bool.Decides.{nat_tests}
 use Rattle.rht_words.specs.declared.env.Env.{Env}
 use Rattle.rht_words.specs.Links.{link_of, head_of, plain_of, marker_of}
@@ -11,7 +11,7 @@ use Rattle.rht_words.proofs.Memory.{Memory, IsWrite}
 use Rattle.rht_words.proofs.LinksRead.{heads_come_back}
 use Rattle.rht_words.proofs.ChainLemmas.{IsSegment-cut, IsSegment-members}
 use Rattle.rht_words.proofs.Members.{in_and_not, In-append_left, In-append_right, IsDistinct-left, IsDistinct-apart}
-use Rattle.rht_core.proofs.Theory.Ghosts.{Bucket, lock_bit}
+use Rattle.rht_core.proofs.Theory.Ghosts.{Bucket}
 use Rattle.rht_core.proofs.Theory.Wholes.{chain_of, place_at, BucketRight}
 use Rattle.rht_core.proofs.Theory.Knowledge.{last_of}
 

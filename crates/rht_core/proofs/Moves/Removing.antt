@@ -1,26 +1,24 @@
 -- The stores that take a port's first node out of its chain: the node goes and the port is unbound, or another node comes into its
 -- place. And the store that takes a node out of the list behind it.
-use Rattle.std.proofs.Common.{◌≡◌, ◌≢◌, ◌⊎◌, ℕ, suc, ◌+◌, ◌*◌, ◌<◌, List, [], ◌∷◌, ◌++◌, length, Option, Some, None, Bool, true, false, refl, sym, ◌∙◌, ap, subst, inl, inr, arith}
-use Rattle.std.proofs.Math.Seq.{append_snoc}
+use Rattle.std.proofs.Common.{◌≡◌, ◌≢◌, ◌⊎◌, ℕ, ◌+◌, ◌*◌, ◌<◌, List, [], ◌∷◌, ◌++◌, Option, Some, None, Bool, true, false, refl, sym, ◌∙◌, ap, subst, inl, inr, arith}
 use Rattle.std.proofs.lemmas.Bool.{cases_eq}
-use Rattle.std.proofs.lemmas.List.{append-nil}
 use Rattle.rht_words.specs.declared.env.Env.{Env}
 use Rattle.rht_words.specs.declared.config.Kind.TheVariants.{Single}
 use Rattle.rht_words.specs.Links.{link_of, marker_of, head_of}
 use Rattle.rht_words.specs.Chains.{IsSegment}
-use Rattle.rht_words.specs.Places.{Address, Node, NodeWord, ChainLink, KeyWord, OwnerWord, ListLink, PageWord}
+use Rattle.rht_words.specs.Places.{Address, Node, KeyWord, ListLink}
 use Rattle.rht_words.specs.Members.{In, NotIn, IsDistinct}
 use Rattle.rht_words.proofs.Memory.{Memory, IsWrite}
 use Rattle.rht_words.proofs.ChainLemmas.{IsSegment-cut, IsSegment-members}
 use Rattle.rht_words.proofs.Members.{not_in_from, in_and_not, in-middle, In-append_left, In-append_right, In-append_cases, NotIn-append, IsDistinct-cut, IsDistinct-without, IsDistinct-with, count_below, count_below-more, count_below-same}
-use Rattle.rht_core.proofs.Theory.Ghosts.{put, put-same, put-other, put-all, Bucket, Owner, Held, First, Behind, Taken, Ghost, is_first, is_used, is_taken_by, taken_by_one, held_not_used, table_at}
+use Rattle.rht_core.proofs.Theory.Ghosts.{put, put-same, put-other, put-all, Owner, Held, First, Behind, Taken, Ghost, is_first, is_used, is_taken_by, taken_by_one, held_not_used, table_at}
 use Rattle.rht_core.proofs.Theory.Wholes.{chain_of, list_of, key_of, place_at, IsHomeOf, BucketRight, IsFirstAt, IsBehindIn, IsBoundTo, IsBuilt, Whole, firsts, raisers}
 use Rattle.rht_core.proofs.Theory.Passed.{home-within}
-use Rattle.rht_core.proofs.Theory.Knowledge.{last_of, HasNode}
+use Rattle.rht_core.proofs.Theory.Knowledge.{last_of}
 use Rattle.rht_core.proofs.Theory.Frames.{Made, same_tables, IsHomeOf-same}
 use Rattle.rht_core.proofs.Theory.Readiness.{Change, changed}
 use Rattle.rht_core.proofs.Moves.Rebinding.{IsStoreFor, IsChanged, IsRebound, rebind}
-use Rattle.rht_core.proofs.Moves.Relinking.{relink_address, relink_value, relinked, CanRelink, relinked_right, last_in}
+use Rattle.rht_core.proofs.Moves.Relinking.{relink_address, relink_value, relinked, relinked_right, last_in}
 
 module _ (env : Env) (mix : ℕ → ℕ → ℕ → ℕ) (d port j m : ℕ) (front rear : List ℕ) (before : Option ℕ)
     (M M' : Memory) (G : Ghost) where

@@ -1,6 +1,6 @@
 -- The moves of nodes: a word of a node that the caller has is written, a free node is taken, one that the caller has is given back.
 -- Others see nothing of them but that a node is or isn't free.
-use Rattle.std.proofs.Common.{◌≡◌, ◌≢◌, ◌↔◌, ℕ, ◌+◌, ◌*◌, ◌/◌, ◌%◌, ◌<◌, List, [], ◌∷◌, Option, Some, false, refl, sym, ◌∙◌, ap, subst, inl, inr, bit_and, bit_or, arith}
+use Rattle.std.proofs.Common.{◌≡◌, ◌≢◌, ◌↔◌, ℕ, ◌+◌, ◌*◌, ◌/◌, ◌%◌, ◌<◌, List, [], ◌∷◌, Some, false, refl, sym, ◌∙◌, ap, subst, inl, inr, bit_and, bit_or, arith}
 use Rattle.std.specs.Int.{bit_at, bit_not, w64}
 use Rattle.std.proofs.lemmas.Bool.{cases_eq}
 use Rattle.rht_words.specs.declared.env.Env.{Env}

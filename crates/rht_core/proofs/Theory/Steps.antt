@@ -18,7 +18,7 @@ use Rattle.rht_model.specs.declared.history.Call.{Call}
 use Rattle.rht_model.specs.Multimap.{Multimap, Agree}
 use Rattle.rht_model.specs.Answers.{Answer}
 use Rattle.rht_arena.specs.Laws.{map_place, map_bit, IsTaking}
-use Rattle.rht_core.proofs.Theory.Ghosts.{put, put-all, Owner, Free, Held, Ghost, is_used, is_taken_by, IsUsed, with_holder, with_owner, with_raised}
+use Rattle.rht_core.proofs.Theory.Ghosts.{put, put-all, Owner, Free, Held, Ghost, is_taken_by, with_holder, with_owner, with_raised}
 use Rattle.rht_core.proofs.Theory.Wholes.{place_at, outs, Whole}
 use Rattle.rht_core.proofs.Theory.Knowledge.{bound_used}
 use Rattle.rht_core.proofs.Theory.Frames.{Made, still}
