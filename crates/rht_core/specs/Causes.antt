@@ -77,10 +77,11 @@ pub record KicksRightly (env : Env) (kick : Bool) (steps : List Did) : Type 0 wh
   pub counted : Any (IsDueBy env shape kick) walked.behind
 
 module _ (M : Type 0) (mix : ℕ → ℕ → ℕ → ℕ) where
-  -- at the event of this operation, the ports bound and the other callers in mid-call were at least so many
+  -- at the event of this operation, the ports bound were at most so many, and with the other callers in mid-call at least
   pub record CountedAt (env : Env) (events : List Event) (c count : ℕ) (did : Did) : Type 0 where
     pub bound : ℕ
     pub are_bound : AreBound (stands_for env.geometry (run_of {M = M} mix env (take did.index events)).core.words) bound
+    pub few : bound ≤ count
     pub enough : count ≤ bound + others_in_call (run_of {M = M} mix env (take did.index events)).core c
 
   -- the operation loaded this count of ports, which is as many as the table may hold or more, and so many there were
@@ -89,6 +90,35 @@ module _ (M : Type 0) (mix : ℕ → ℕ → ℕ → ℕ) where
     pub found : did.old ≡ count
     pub full : most_ports env.config.max ≤ count
     pub counted : CountedAt env events c count did
+
+  -- the operation loaded this count of ports, and so many there were
+  pub record SawCount (env : Env) (events : List Event) (c count : ℕ) (did : Did) : Type 0 where
+    pub loaded : did.op ≡ Load (place_of env.geometry PortCount)
+    pub found : did.old ≡ count
+    pub counted : CountedAt env events c count did
+
+  -- why a reading of the count ended with this reply
+  abbrev pub CountCause : Env → List Event → ℕ → Past → Reply → Type 0
+  CountCause env events c past (Counted count) = Any (SawCount env events c count) past.steps
+  CountCause env events c past (Found owner) = ⊥
+  CountCause env events c past Missing = ⊥
+  CountCause env events c past (Bound kick) = ⊥
+  CountCause env events c past (Exists owner) = ⊥
+  CountCause env events c past (Listed len) = ⊥
+  CountCause env events c past (Released kick) = ⊥
+  CountCause env events c past Absent = ⊥
+  CountCause env events c past Rebound = ⊥
+  CountCause env events c past (TooBig count) = ⊥
+  CountCause env events c past (Again table) = ⊥
+  CountCause env events c past (Busy root last) = ⊥
+  CountCause env events c past (NoTable size) = ⊥
+  CountCause env events c past NoNode = ⊥
+  CountCause env events c past (Pending caller section) = ⊥
+  CountCause env events c past Elsewhere = ⊥
+  CountCause env events c past (Walked len next) = ⊥
+  CountCause env events c past (Moved again) = ⊥
+  CountCause env events c past Idle = ⊥
+  CountCause env events c past (Clear returned) = ⊥
 
   -- why a bind ended with this reply; the refusals of a table that grows have no cause yet
   abbrev pub BindCause : Env → List Event → ℕ → Past → Reply → Type 0
@@ -124,7 +154,7 @@ module _ (M : Type 0) (mix : ℕ → ℕ → ℕ → ℕ) where
   CauseOf env events c past (Walk from limit) reply = ⊥
   CauseOf env events c past Work reply = ⊥
   CauseOf env events c past Tidy reply = ⊥
-  CauseOf env events c past Count reply = ⊥
+  CauseOf env events c past Count reply = CountCause env events c past reply
 
   -- a call that has ended has the cause of its reply
   abbrev pub HasCause : Env → List Event → ℕ → Past → Type 0

@@ -21,18 +21,23 @@ use Rattle.rht_find.specs.declared.find.FindAt.{FindAt}
 use Rattle.rht_find.specs.declared.find.FindAt.TheVariants.{CurrentTable}
 use Rattle.rht_bind.specs.Bind as bind
 use Rattle.rht_bind.specs.declared.bind.BindAt.{BindAt}
+use Rattle.rht_model.specs.declared.history.Reply.TheVariants.{Counted}
+use Rattle.rht_core.specs.PortCounts.{count_plan_in}
 use Rattle.rht_core.specs.declared.local.Doing.{Doing}
-use Rattle.rht_core.specs.declared.local.Doing.TheVariants.{Idle, Finding, Binding}
+use Rattle.rht_core.specs.declared.local.Doing.TheVariants.{Idle, Finding, Binding, Counting}
 
--- a look-up of a port, and a bind of a port to an owner, with the state in which it is
+-- a look-up of a port, and a bind of a port to an owner, with the state in which it is; and a reading of how many ports are
+-- bound
 pub data Job : Type 0 where
   finds : (port : ℕ) (state : FindAt) → Job
   binds : (port owner : ℕ) (once : Bool) (state : BindAt) → Job
+  counts : Job
 
 -- the call that it does
 abbrev pub call_of : Job → Call
 call_of (finds port state) = Find port
 call_of (binds port owner once state) = Bind port owner once
+call_of counts = Count
 
 -- the job with which a call begins; none for a call of which there is no machine yet
 abbrev pub first_bind : Env → ℕ → ℕ → Bool → Kind → Option Job
@@ -48,12 +53,13 @@ first_job env (Rebind port owner new) = None
 first_job env (Walk from limit) = None
 first_job env Work = None
 first_job env Tidy = None
-first_job env Count = None
+first_job env Count = Some counts
 
 -- the operation that it performs next
 abbrev pub job_plan : Env → Job → Op
 job_plan env (finds port state) = find.plan_at env state
 job_plan env (binds port owner once state) = bind.plan_at env state
+job_plan env counts = count_plan_in env
 
 -- the job goes on in this state, or its call has ended with this reply and no list
 abbrev pub finds_next : ℕ → FindAt × Next Reply → Job × Next Ending
@@ -69,12 +75,14 @@ abbrev pub job_after : (ℕ → ℕ → ℕ → ℕ) → Env → Job → ℕ →
 job_after mix env (finds port state) old = finds_next port (find.after_at mix env port state old)
 job_after mix env (binds port owner once state) old =
     binds_next port owner once (bind.after_at mix env port state old)
+job_after mix env counts old = (counts, Done (plain_ending (Counted old)))
 
 -- the job of what a caller does
 abbrev pub job_of : {M : Type 0} → Doing M → Option Job
 job_of Idle = None
 job_of (Finding m) = Some (finds m.port m.at)
 job_of (Binding m) = Some (binds m.port m.owner m.once m.at)
+job_of (Counting m) = Some counts
 
 -- what is left of a job after an operation, and how its call has ended where it has
 abbrev pub told : Job × Next Ending → Option Job × Option Ending
@@ -87,6 +95,7 @@ told (job, Done ending) = (None, Some ending)
 abbrev pub held_of : Job → Held Answer
 held_of (finds port state) = held_of_find state
 held_of (binds port owner once state) = held_of_bind state
+held_of counts = held.holds_nothing
 
 -- and after an operation; once the call has ended it holds nothing, and its answer is known
 abbrev pub held_next : Job × Next Ending → Held Answer

@@ -1,3 +1,5 @@
+-- the reading of how many ports are bound
+pub mod PortCounts
 -- what a caller is doing
 pub mod Locals
 -- what a caller does, said without its table

@@ -7,15 +7,17 @@ use Rattle.rht_words.specs.declared.env.Env.{Env}
 use Rattle.rht_words.specs.declared.config.Kind.{Kind}
 use Rattle.rht_words.specs.declared.config.Kind.TheVariants.{Single, Listed}
 use Rattle.rht_model.specs.declared.history.Call.{Call}
-use Rattle.rht_model.specs.declared.history.Call.TheVariants.{Bind, Find}
+use Rattle.rht_model.specs.declared.history.Call.TheVariants.{Bind, Find, Count}
 use Rattle.rht_model.specs.declared.history.Reply.{Reply}
 use Rattle.rht_model.specs.Rooms.{Kept, emptied}
 use Rattle.rht_model.specs.Endings.{Ending}
 use Rattle.rht_find.specs.Find.{FindModel, find_new, find_plan, find_after}
 use Rattle.rht_bind.specs.Bind.{BindModel, bind_new, bind_plan, bind_after}
+use Rattle.rht_core.specs.declared.count.PortCount.{PortCount}
+use Rattle.rht_core.specs.PortCounts.{count_plan, count_after}
 use Rattle.rht_core.specs.declared.local.Local.{Local}
 use Rattle.rht_core.specs.declared.local.Doing.{Doing}
-use Rattle.rht_core.specs.declared.local.Doing.TheVariants.{Idle, Finding, Binding}
+use Rattle.rht_core.specs.declared.local.Doing.TheVariants.{Idle, Finding, Binding, Counting}
 
 -- ---- what a caller is doing
 
@@ -25,6 +27,7 @@ module _ {M : Type 0} where
   does_nothing Idle = true
   does_nothing (Finding m) = false
   does_nothing (Binding m) = false
+  does_nothing (Counting m) = false
 
   -- a bind is built for tables of one owner each alone
   abbrev pub binding_of : Env → ℕ → ℕ → ℕ → Bool → Kind → Option (Doing M)
@@ -35,6 +38,7 @@ module _ {M : Type 0} where
   abbrev pub machine_of : Env → ℕ → Call → Option (Doing M)
   machine_of env caller (Find port) = Some (Finding (find_new env caller port))
   machine_of env caller (Bind port owner once) = binding_of env caller port owner once env.config.kind
+  machine_of env caller Count = Some (Counting (record { env = env }))
   machine_of env caller _ = None
 
   -- the operation that it performs next
@@ -42,6 +46,7 @@ module _ {M : Type 0} where
   doing_plan Idle = None
   doing_plan (Finding m) = Some (find_plan m)
   doing_plan (Binding m) = Some (bind_plan m)
+  doing_plan (Counting m) = Some (count_plan m)
 
   -- the caller is idle once its call has a reply
   abbrev pub found_next : FindModel × Next Reply → Doing M × Option Reply
@@ -52,17 +57,23 @@ module _ {M : Type 0} where
   bound_next (m, Go) = (Binding m, None)
   bound_next (m, Done reply) = (Idle, Some reply)
 
+  abbrev pub counted_next : PortCount × Next Reply → Doing M × Option Reply
+  counted_next (m, Go) = (Counting m, None)
+  counted_next (m, Done reply) = (Idle, Some reply)
+
   -- what it does after its operation found this value, and the reply where the call has ended
   abbrev pub doing_after : (ℕ → ℕ → ℕ → ℕ) → Doing M → ℕ → Doing M × Option Reply
   doing_after mix Idle old = (Idle, None)
   doing_after mix (Finding m) old = found_next (find_after mix m old)
   doing_after mix (Binding m) old = bound_next (bind_after mix m old)
+  doing_after mix (Counting m) old = counted_next (count_after m old)
 
   -- it does this in the table of this environment
   abbrev pub IsDoingOf : Env → Doing M → Type 0
   IsDoingOf env Idle = Unit {0}
   IsDoingOf env (Finding m) = m.env ≡ env
   IsDoingOf env (Binding m) = m.env ≡ env
+  IsDoingOf env (Counting m) = m.env ≡ env
 
 -- ---- a caller with its rooms
 

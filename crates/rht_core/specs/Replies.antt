@@ -12,8 +12,9 @@ use Rattle.rht_find.specs.Find.{FindModel}
 use Rattle.rht_bind.specs.Bind.{BindModel}
 use Rattle.rht_core.specs.declared.book.Book.{Book}
 use Rattle.rht_core.specs.declared.local.Local.{Local}
+use Rattle.rht_core.specs.declared.count.PortCount.{PortCount}
 use Rattle.rht_core.specs.declared.local.Doing.{Doing}
-use Rattle.rht_core.specs.declared.local.Doing.TheVariants.{Idle, Finding, Binding}
+use Rattle.rht_core.specs.declared.local.Doing.TheVariants.{Idle, Finding, Binding, Counting}
 use Rattle.rht_core.specs.Locals.{is_idle}
 
 -- ---- the replies of each call
@@ -118,12 +119,17 @@ pub record IsBookOfBind (env : Env) (c : ℕ) (m : BindModel) (book : Book) : Ty
   pub same_caller : m.caller ≡ c
   pub call : book.call ≡ Some (Bind m.port m.owner m.once)
 
+pub record IsBookOfCount (env : Env) (m : PortCount) (book : Book) : Type 0 where
+  pub same_env : m.env ≡ env
+  pub call : book.call ≡ Some Count
+
 module _ {M : Type 0} where
   -- what a caller does is what its book says
   abbrev pub IsBookOf : Env → ℕ → Doing M → Book → Type 0
   IsBookOf env c Idle book = IsBookOfIdle book
   IsBookOf env c (Finding m) book = IsBookOfFind env c m book
   IsBookOf env c (Binding m) book = IsBookOfBind env c m book
+  IsBookOf env c (Counting m) book = IsBookOfCount env m book
 
 -- ---- the rooms
 

@@ -8,6 +8,7 @@
 mod book;
 mod bound;
 mod closing;
+mod count;
 mod event;
 pub mod laws;
 mod local;
@@ -15,6 +16,7 @@ mod state;
 
 pub use book::Book;
 pub use bound::owners_of;
+pub use count::PortCount;
 pub use event::{Event, Stepped};
 pub use local::{Doing, Local};
 pub use state::State;

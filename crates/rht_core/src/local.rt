@@ -6,6 +6,7 @@ ghost use Rattle.rht_words.specs.Places.{words_in};
 ghost use Rattle.rht_words.specs.declared.env.Env.{Env};
 ghost use Rattle.rht_core.specs.Locals.{does_nothing, is_idle, machine_of, doing_plan, plan_of, doing_after, local_after, begin_with, fresh, IsDoingOf, IsLocalOf};
 
+use crate::count::PortCount;
 use rht_bind::Bind;
 use rht_find::Find;
 use rht_model::{Call, Reply, Room};
@@ -22,6 +23,8 @@ pub enum Doing<M: Mix> {
     Finding(Find<M>),
     /// It binds a port.
     Binding(Bind<M>),
+    /// It reads how many ports are bound.
+    Counting(PortCount),
 }
 
 impl<M: Mix> Doing<M> {
@@ -31,12 +34,12 @@ impl<M: Mix> Doing<M> {
     {
         match self {
             Doing::Idle => true,
-            Doing::Finding(_) | Doing::Binding(_) => false,
+            Doing::Finding(_) | Doing::Binding(_) | Doing::Counting(_) => false,
         }
     }
 
     /// What a caller does that is given this call. `None` for a call of which there is no machine
-    /// yet: `bind` in a table of lists, and all calls but `bind` and `find`.
+    /// yet: `bind` in a table of lists, and all calls but `bind`, `find` and `count`.
     pub fn of_call(env: Env, caller: u32, call: Call) -> Option<Doing<M>>
         ensures machine { result ≡ machine_of env caller call }
         ensures env { IfSome result (IsDoingOf env) }
@@ -46,6 +49,7 @@ impl<M: Mix> Doing<M> {
             Call::Bind { port, owner, once } if env.config.kind == Kind::Single => {
                 Some(Doing::Binding(Bind::new(env, caller, port, owner, once)))
             }
+            Call::Count => Some(Doing::Counting(PortCount { env })),
             _ => None,
         }
     }
@@ -59,6 +63,7 @@ impl<M: Mix> Doing<M> {
             Doing::Idle => None,
             Doing::Finding(find) => Some(find.plan()),
             Doing::Binding(bind) => Some(bind.plan()),
+            Doing::Counting(count) => Some(count.plan()),
         }
     }
 
@@ -71,6 +76,7 @@ impl<M: Mix> Doing<M> {
             Doing::Idle => return None,
             Doing::Finding(find) => find.take(old),
             Doing::Binding(bind) => bind.take(old),
+            Doing::Counting(count) => count.take(old),
         };
         match next {
             Next::Go => None,

@@ -10,6 +10,10 @@ pub record Kept (A : Type 0) : Type 0 where
 abbrev pub emptied : {A : Type 0} → Kept A → Kept A
 emptied room = record { items = []; limit = room.limit }
 
+-- no room: it may have no items
+abbrev pub no_room : {A : Type 0} → Kept A
+no_room = record { items = []; limit = 0 }
+
 -- the room with one item more, where it isn't full
 abbrev pub with_kept : {A : Type 0} → Kept A → A → Kept A
 with_kept room item =

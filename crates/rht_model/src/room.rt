@@ -1,7 +1,7 @@
 //! Room for a list that comes beside a reply. It takes all its memory at once, in `with_limit`.
 
 ghost use Rattle.std.specs.Prelude.{◌≡◌, ◌+◌, ◌<◌, ◌≤◌, [], ◌∷◌, ◌++◌, length, IfOk, vec_len, vec_capacity};
-ghost use Rattle.rht_model.specs.Rooms.{emptied, with_kept};
+ghost use Rattle.rht_model.specs.Rooms.{emptied, no_room, with_kept};
 
 use std::alloc::{AllocError, Global};
 use std::marker::Model;
@@ -64,6 +64,15 @@ impl<T: Drop> Room<T> {
         ensures { self.new ≡ emptied self.old }
     {
         self.items.clear();
+    }
+
+    /// Takes the room with its items, and leaves one for no items, which takes no memory.
+    pub fn take(&mut self) -> Room<T>
+        ensures taken { result ≡ self.old }
+        ensures left { self.new ≡ no_room }
+    {
+        let items = Vec::new(*self.items.allocator());
+        std::mem::replace(self, Room { items, limit: 0 })
     }
 
     /// How many items there are.

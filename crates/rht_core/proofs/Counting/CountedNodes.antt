@@ -16,7 +16,7 @@ use Rattle.rht_words.proofs.Memory.{Memory, is_write}
 use Rattle.rht_bind.specs.BindHeld.{held_of_bind}
 use Rattle.rht_bind.specs.declared.bind.BindAt.{BindAt}
 use Rattle.rht_bind.specs.declared.bind.BindAt.TheVariants as at
-use Rattle.rht_core.specs.Jobs.{Job, finds, binds, job_of, held_of}
+use Rattle.rht_core.specs.Jobs.{Job, finds, binds, counts, job_of, held_of}
 use Rattle.rht_core.specs.declared.event.Event.{Event}
 use Rattle.rht_core.specs.declared.event.Event.TheVariants.{Step}
 use Rattle.rht_core.specs.Runs.{Core, World, local_of, planned_in, core_step, run_of, IsAdmitted, IsAdmittedEvent}
@@ -59,6 +59,7 @@ module _ (env : Env) (mix : ℕ → ℕ → ℕ → ℕ) (c : ℕ) (M : Memory) 
   job-own : (job : Job) → JobKnows env mix c job M G → (held_of job).raised ≡ true → OwnNode env G c
   job-own (finds port state) knows is = let none = find_raises state in absurd (cc)
   job-own (binds port owner once state) knows is = bind-own port owner once state knows is
+  job-own counts knows is = absurd (cc)
 
   -- who has raised the count has a node of its own
   raised-own : (job : Option Job) → Knows env mix c job M G → G.raised c ≡ true → OwnNode env G c

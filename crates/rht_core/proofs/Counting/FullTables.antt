@@ -27,7 +27,7 @@ use Rattle.rht_bind.specs.declared.bind.BindAt.TheVariants as at
 use Rattle.rht_core.specs.declared.event.Event.{Event}
 use Rattle.rht_core.specs.Locals.{is_idle}
 use Rattle.rht_core.specs.Runs.{Core, local_of, planned_in, run_of, IsAdmitted, IsAdmittedEvent}
-use Rattle.rht_core.specs.Jobs.{Job, finds, binds, job_of, job_plan, held_of}
+use Rattle.rht_core.specs.Jobs.{Job, finds, binds, counts, job_of, job_plan, held_of}
 use Rattle.rht_core.specs.Traces.{Did}
 use Rattle.rht_core.specs.Laws.{IsRecorded}
 use Rattle.rht_core.specs.Causes.{others_in_call, CountedAt}
@@ -104,6 +104,7 @@ load-unraised : (env : Env) (job : Job) (place : ℕ) → job_plan env job ≡ L
     → (held_of job).raised ≡ false
 load-unraised env (finds port state) place is = find_raises state
 load-unraised env (binds port owner once state) place is = bind_loads-unraised env place state is
+load-unraised env counts place is = refl
 
 module _ (M : Type 0) (mix : ℕ → ℕ → ℕ → ℕ) (env : Env) where
   -- the callers that have raised the count are others in mid-call
@@ -124,7 +125,8 @@ module _ (M : Type 0) (mix : ℕ → ℕ → ℕ → ℕ) (env : Env) where
 
   -- ---- the load of the count
 
-  -- what such an operation found is no more than the ports bound at its event and the other callers in mid-call there
+  -- what such an operation found is no less than the ports bound at its event, and no more than these and the other callers
+  -- in mid-call there
   pub counted_at : (events : List Event) (c count : ℕ) (did : Did) → IsAdmitted env.config.kind events
       → did.op ≡ Load (place_of env.geometry PortCount) → did.old ≡ count
       → IsRecorded M mix env events c did → CountedAt M mix env events c count did
@@ -145,5 +147,6 @@ module _ (M : Type 0) (mix : ℕ → ℕ → ℕ → ℕ) (env : Env) where
       record {
         bound = firsts env mix G;
         are_bound = firsts-AreBound env mix core.words G has.inv.whole;
+        few = omega arith;
         enough = omega arith;
       }

@@ -6,19 +6,20 @@ use Rattle.rht_words.specs.declared.env.Env.{Env}
 use Rattle.rht_words.specs.declared.config.Kind.{Kind}
 use Rattle.rht_words.specs.declared.config.Kind.TheVariants.{Single, Listed}
 use Rattle.rht_model.specs.declared.history.Call.{Call}
-use Rattle.rht_model.specs.declared.history.Call.TheVariants.{Bind, Find}
+use Rattle.rht_model.specs.declared.history.Call.TheVariants.{Bind, Find, Count}
 use Rattle.rht_find.specs.Find.{find_new}
 use Rattle.rht_bind.specs.Bind.{bind_new}
 use Rattle.rht_core.specs.declared.local.Local.{Local}
 use Rattle.rht_core.specs.declared.local.Doing.{Doing}
-use Rattle.rht_core.specs.declared.local.Doing.TheVariants.{Idle, Finding, Binding}
+use Rattle.rht_core.specs.declared.local.Doing.TheVariants.{Idle, Finding, Binding, Counting}
 use Rattle.rht_core.specs.Locals.{does_nothing, is_idle, machine_of, binding_of, doing_plan, plan_of}
 
 module _ (M : Type 0) where
-  -- A call begins as a look-up or as a bind. What is so of these two is so of whatever begins.
+  -- A call begins as a look-up, a bind or a reading of the count. What is so of these is so of whatever begins.
   module _ (env : Env) (c : ℕ) (So : Call → Doing M → Type 0)
       (find : (port : ℕ) → So (Find port) (Finding (find_new env c port)))
       (bind : (port owner : ℕ) (once : Bool) → env.config.kind ≡ Single → So (Bind port owner once) (Binding (bind_new env c port owner once)))
+      (count : So Count (Counting (record { env = env })))
     where
       abbrev BeginsSo : Call → Option (Doing M) → Type 0
       BeginsSo call None = Unit {0}
@@ -32,6 +33,7 @@ module _ (M : Type 0) where
       machine-so : (call : Call) → BeginsSo call (machine_of env c call)
       machine-so (Find port) = find port
       machine-so (Bind port owner once) = binding-so port owner once env.config.kind refl
+      machine-so Count = count
       machine-so _ = tt
 
       pub begins_so : (call : Call) (machine : Doing M) → machine_of env c call ≡ Some machine
@@ -43,6 +45,7 @@ module _ (M : Type 0) where
   nothing_plans Idle idle = refl
   nothing_plans (Finding m) idle = absurd (cc)
   nothing_plans (Binding m) idle = absurd (cc)
+  nothing_plans (Counting m) idle = absurd (cc)
 
   pub idle_plans : (local : Local M) → is_idle local ≡ true → plan_of local ≡ None
   idle_plans local idle = nothing_plans local.doing idle

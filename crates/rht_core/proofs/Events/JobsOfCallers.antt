@@ -8,7 +8,7 @@ use Rattle.rht_words.specs.declared.env.Env.{Env}
 use Rattle.rht_words.specs.declared.machine.Next.{Next}
 use Rattle.rht_words.specs.declared.machine.Next.TheVariants.{Go, Done}
 use Rattle.rht_model.specs.declared.history.Call.{Call}
-use Rattle.rht_model.specs.declared.history.Call.TheVariants.{Bind, Find}
+use Rattle.rht_model.specs.declared.history.Call.TheVariants.{Bind, Find, Count}
 use Rattle.rht_model.specs.declared.history.Reply.{Reply}
 use Rattle.rht_model.specs.Endings.{Ending}
 use Rattle.rht_find.specs.Find as find
@@ -20,11 +20,13 @@ use Rattle.rht_words.specs.declared.config.Kind.TheVariants.{Single, Listed}
 use Rattle.rht_bind.specs.Bind as bind
 use Rattle.rht_bind.specs.Bind.{BindModel}
 use Rattle.rht_bind.specs.declared.bind.BindAt.{BindAt}
+use Rattle.rht_model.specs.declared.history.Reply.TheVariants.{Counted}
+use Rattle.rht_core.specs.PortCounts.{count_plan_in}
 use Rattle.rht_core.specs.declared.local.Local.{Local}
 use Rattle.rht_core.specs.declared.local.Doing.{Doing}
-use Rattle.rht_core.specs.declared.local.Doing.TheVariants.{Idle, Finding, Binding}
+use Rattle.rht_core.specs.declared.local.Doing.TheVariants.{Idle, Finding, Binding, Counting}
 use Rattle.rht_core.specs.Locals.{fresh, does_nothing, machine_of, doing_plan, doing_after, local_after, ending_of, found_next, bound_next, IsDoingOf, IsLocalOf}
-use Rattle.rht_core.specs.Jobs.{Job, finds, binds, call_of, first_job, first_bind, job_plan, job_after, finds_next, binds_next, job_of, told, held_of}
+use Rattle.rht_core.specs.Jobs.{Job, finds, binds, counts, call_of, first_job, first_bind, job_plan, job_after, finds_next, binds_next, job_of, told, held_of}
 use Rattle.rht_core.proofs.Events.CallBeginnings.{begins_so}
 
 -- there is no job
@@ -57,6 +59,7 @@ pub same_call : (mix : ℕ → ℕ → ℕ → ℕ) (env : Env) (job : Job) (old
 same_call mix env (finds port state) old = finds_next-call port (find.after_at mix env port state old)
 same_call mix env (binds port owner once state) old =
     binds_next-call port owner once (bind.after_at mix env port state old)
+same_call mix env counts old = refl
 
 -- a job leaves either no ending, and goes on, or an ending, and no job
 pub left-told : (next : Job × Next Ending) → is_no_job (told next).0 ≡ has_ended (told next).1
@@ -72,6 +75,7 @@ first_bind-unknown env port owner once Listed job is = absurd (cc)
 pub first_unknown : (env : Env) (call : Call) (job : Job) → first_job env call ≡ Some job → (held_of job).answer ≡ None
 first_unknown env (Find port) job is = let here : finds port CurrentTable ≡ job = cc in ap (λ j. (held_of j).answer) (sym here)
 first_unknown env (Bind port owner once) job is = first_bind-unknown env port owner once env.config.kind job is
+first_unknown env Count job is = let here : counts ≡ job = cc in ap (λ j. (held_of j).answer) (sym here)
 first_unknown env _ job is = absurd (cc)
 
 -- and it has no node
@@ -83,6 +87,7 @@ first_bind-without env port owner once Listed job is = absurd (cc)
 pub first_without : (env : Env) (call : Call) (job : Job) → first_job env call ≡ Some job → (held_of job).node ≡ None
 first_without env (Find port) job is = let here : finds port CurrentTable ≡ job = cc in ap (λ j. (held_of j).node) (sym here)
 first_without env (Bind port owner once) job is = first_bind-without env port owner once env.config.kind job is
+first_without env Count job is = let here : counts ≡ job = cc in ap (λ j. (held_of j).node) (sym here)
 first_without env _ job is = absurd (cc)
 
 -- the job that is left of what a caller does is the one that is left of its job
@@ -111,6 +116,8 @@ module _ (M : Type 0) where
       bound-left m (bind.after_at mix m.env m.port m.at old)
       ∙ ap (λ (e : Env). (told (job_after mix e (binds m.port m.owner m.once m.at) old)).0) of
       ∙ ap (λ (j : Job). (told (job_after mix env j old)).0) here
+  left-job mix env (Counting m) job old of is =
+      let here : counts ≡ job = cc in ap (λ (j : Job). (told (job_after mix env j old)).0) here
 
 module _ {M : Type 0} where
   -- who is in no call has no job
@@ -118,6 +125,7 @@ module _ {M : Type 0} where
   nothing-job Idle = refl
   nothing-job (Finding m) = refl
   nothing-job (Binding m) = refl
+  nothing-job (Counting m) = refl
 
   -- ---- the beginning of a call
 
@@ -138,6 +146,7 @@ module _ {M : Type 0} where
         does = refl;
         asked = refl;
       })
+      (record { job = _; first = refl; does = refl; asked = refl })
 
   -- ---- an operation
 
@@ -164,6 +173,9 @@ module _ {M : Type 0} where
         does = refl;
         plan = subst (λ (e : Env). op ≡ bind.plan_at e m.at) of here;
       }
+  plan-job env (Counting m) op of plan =
+      let here : op ≡ count_plan_in m.env = cc in
+      record { job = counts; does = refl; plan = subst (λ (e : Env). op ≡ count_plan_in e) of here }
 
   module _ (local : Local M) (none : HasNoLists local) where
     -- the job that a caller has after this has become of what it does, and how its call has ended
@@ -193,6 +205,10 @@ module _ {M : Type 0} where
         let here : binds m.port m.owner m.once m.at ≡ job = cc in
         bound-told m (bind.after_at mix m.env m.port m.at old)
         ∙ ap (λ (e : Env). told (job_after mix e (binds m.port m.owner m.once m.at) old)) of
+        ∙ ap (λ (j : Job). told (job_after mix env j old)) here
+    doing_after-job mix env (Counting m) job old of is =
+        let here : counts ≡ job = cc in
+        (λ i. (None, Some record { answer = record { reply = Counted old; owners = none.owners i }; pairs = none.pairs i }))
         ∙ ap (λ (j : Job). told (job_after mix env j old)) here
 
   -- the reply is that with which its call has ended, whatever is in its rooms

@@ -33,9 +33,10 @@ use Rattle.rht_bind.proofs.BindStays.{bind_stays}
 use Rattle.rht_bind.proofs.BindPlanned.{planned_bind}
 use Rattle.rht_core.specs.declared.event.Event.{Event}
 use Rattle.rht_core.specs.declared.event.Event.TheVariants.{Enroll, Begin, Step}
+use Rattle.rht_core.specs.PortCounts.{count_plan_in}
 use Rattle.rht_core.specs.declared.local.Local.{Local}
 use Rattle.rht_core.specs.declared.local.Doing.{Doing}
-use Rattle.rht_core.specs.declared.local.Doing.TheVariants.{Idle, Finding, Binding}
+use Rattle.rht_core.specs.declared.local.Doing.TheVariants.{Idle, Finding, Binding, Counting}
 use Rattle.rht_core.specs.Locals.{fresh, machine_of, begin_with, doing_plan, plan_of, doing_after, local_after, found_next, bound_next}
 use Rattle.rht_core.specs.Runs.{Core, World, local_of, beginning_in, with_machine, planned_in, with_step, enrolling, world_step, run_of, opening, IsAdmitted, IsAdmittedCall, IsAdmittedEvent}
 use Rattle.rht_core.specs.Laws.{IsDoingIn, IsLocalIn, InRange, WordsFit, IsOfCaller, IsEnrolledKept, Enrolled}
@@ -63,6 +64,10 @@ opening_word-fits env (PageMap index) = omega (arith, map_bits-fits env.geometry
 opening_word-fits env _ = omega arith
 
 -- ---- what a caller does
+
+-- the reading of the count is on one of the words
+planned_count : (env : Env) → IsPlannedIn env.geometry (count_plan_in env)
+planned_count env = record { within = omega arith; apart = λ same. absurd (omega arith); fits = omega arith }
 
 -- a map of nodes has a first word
 first_map_word : (g : Geometry) → 0 < map_words g.nodes
@@ -92,6 +97,7 @@ module _ (M : Type 0) where
           at_in = record { geometry_same = refl; at_in = first_map_word env.geometry };
         };
       })
+      (λ admitted. refl)
 
   found_next-in : (env : Env) (c : ℕ) (m : FindModel) (next : Next Reply) → IsFindIn env c m
       → IsDoingIn env c (found_next {M = M} (m, next)).0
@@ -127,6 +133,7 @@ module _ (M : Type 0) where
         owner_in = within.owner_in;
         at_in = subst (λ (e : Env). IsBindAtIn e (bind_after mix m old).0.at) within.same_env next;
       }
+  doing_after-in mix env c (Counting m) old within told = tt
 
   plan_of-in : (env : Env) (c : ℕ) (doing : Doing M) → IsDoingIn env c doing → PlanIn env (doing_plan doing)
   plan_of-in env c Idle within = tt
@@ -136,6 +143,8 @@ module _ (M : Type 0) where
   plan_of-in env c (Binding m) within =
       subst (λ (e : Env). IsPlannedIn env.geometry (bind_plan_at e m.at)) (sym within.same_env)
       (planned_bind env m.at within.at_in)
+  plan_of-in env c (Counting m) within =
+      subst (λ (e : Env). IsPlannedIn env.geometry (count_plan_in e)) (sym within) (planned_count env)
 
   plans-in : (env : Env) (c : ℕ) (local : Local M) (op : Op) → IsLocalIn env c local
       → plan_of local ≡ Some op → IsPlannedIn env.geometry op

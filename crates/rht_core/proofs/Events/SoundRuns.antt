@@ -23,7 +23,7 @@ use Rattle.rht_core.specs.declared.event.Event.{Event}
 use Rattle.rht_core.specs.declared.event.Event.TheVariants.{Enroll, Begin, Step}
 use Rattle.rht_core.specs.declared.local.Local.{Local}
 use Rattle.rht_core.specs.declared.local.Doing.{Doing}
-use Rattle.rht_core.specs.declared.local.Doing.TheVariants.{Idle, Finding, Binding}
+use Rattle.rht_core.specs.declared.local.Doing.TheVariants.{Idle, Finding, Binding, Counting}
 use Rattle.rht_core.specs.Locals.{fresh, machine_of, begin_with, doing_after, local_after, found_next, bound_next, IsDoingOf, IsLocalOf}
 use Rattle.rht_core.specs.Runs.{Core, World, local_of, beginning_in, with_machine, planned_in, with_step, enrolling, enrolled_after, world_step, run_of, opening, opening_core, IsSound}
 use Rattle.rht_core.proofs.Events.CallBeginnings.{begins_so}
@@ -37,7 +37,7 @@ module _ (M : Type 0) where
       → IsDoingOf env machine
   begins-of env c =
       begins_so M env c (λ call machine. IsDoingOf env machine) (λ port. refl)
-      (λ port owner once single. refl)
+      (λ port owner once single. refl) refl
 
   found_next-of : (env : Env) (m : FindModel) (next : Next Reply) → m.env ≡ env
       → IsDoingOf env (found_next {M = M} (m, next)).0
@@ -57,6 +57,7 @@ module _ (M : Type 0) where
       (find_after mix m old).1 of
   doing_after-of mix env (Binding m) old of = bound_next-of env (bind_after mix m old).0
       (bind_after mix m old).1 of
+  doing_after-of mix env (Counting m) old of = tt
 
 -- ---- runs
 

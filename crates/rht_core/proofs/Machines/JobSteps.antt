@@ -1,6 +1,6 @@
 -- What a caller in a call knows by its job, and that each of its operations leads from what it knows to what it knows next.
 -- The inductions over runs go through this one step, with no case of a machine.
-use Rattle.std.proofs.Common.{◌≡◌, ℕ, ◌^◌, ◌<◌, List, length, Bool}
+use Rattle.std.proofs.Common.{◌≡◌, ℕ, ◌^◌, ◌<◌, List, length, Bool, refl, inr}
 use Rattle.rht_words.specs.declared.env.Env.{Env}
 use Rattle.rht_words.specs.declared.config.Kind.TheVariants.{Single}
 use Rattle.rht_words.specs.declared.machine.Next.{Next}
@@ -9,7 +9,10 @@ use Rattle.rht_words.specs.Held as held
 use Rattle.rht_words.specs.Operations.{old_of}
 use Rattle.rht_words.specs.Places.{words_in}
 use Rattle.rht_words.proofs.Memory.{Memory}
+use Rattle.rht_model.specs.declared.history.Call.TheVariants.{Count}
 use Rattle.rht_model.specs.declared.history.Reply.{Reply}
+use Rattle.rht_model.specs.declared.history.Reply.TheVariants.{Counted}
+use Rattle.rht_model.specs.Answers.{plain}
 use Rattle.rht_model.specs.Endings.{Ending}
 use Rattle.rht_find.specs.Find.{IsFindAtIn}
 use Rattle.rht_find.specs.Find as find_at
@@ -17,11 +20,12 @@ use Rattle.rht_find.specs.declared.find.FindAt.{FindAt}
 use Rattle.rht_bind.specs.Bind.{IsBindAtIn}
 use Rattle.rht_bind.specs.Bind as bind_at
 use Rattle.rht_bind.specs.declared.bind.BindAt.{BindAt}
-use Rattle.rht_core.specs.Jobs.{Job, finds, binds, call_of, job_plan, finds_next, binds_next, job_after, held_of, held_next}
+use Rattle.rht_core.specs.PortCounts.{count_plan_in}
+use Rattle.rht_core.specs.Jobs.{Job, finds, binds, counts, call_of, job_plan, finds_next, binds_next, job_after, held_of, held_next}
 use Rattle.rht_core.proofs.Theory.Ghosts.{Ghost}
 use Rattle.rht_core.proofs.Theory.Wholes.{Whole}
 use Rattle.rht_core.proofs.Theory.Knowledge.{Known, MembersUsed, Rely, Knowing, Knowing-rely}
-use Rattle.rht_core.proofs.Theory.Steps.{mem, Holding, Step, step-map}
+use Rattle.rht_core.proofs.Theory.Steps.{mem, Holding, Step, step-map, reads}
 use Rattle.rht_core.proofs.Machines.FindSteps.{known_nothing, known_of_find, fits_find, find_holds, FindNext, find_step}
 use Rattle.rht_core.proofs.Machines.BindSteps.{known_of_bind, fits_bind, bind_holds, BindNext, bind_step}
 
@@ -29,6 +33,7 @@ use Rattle.rht_core.proofs.Machines.BindSteps.{known_of_bind, fits_bind, bind_ho
 abbrev pub known_of : Job → Known
 known_of (finds port state) = known_of_find port state
 known_of (binds port owner once state) = known_of_bind port owner state
+known_of counts = known_nothing
 
 -- nothing is held
 abbrev pub holds_no : Holding
@@ -43,16 +48,19 @@ pub record IsBindingIn (env : Env) (owner : ℕ) (state : BindAt) : Type 0 where
 abbrev pub IsJobBuilt : Env → Job → Type 0
 IsJobBuilt env (finds port state) = Unit {0}
 IsJobBuilt env (binds port owner once state) = env.config.kind ≡ Single
+IsJobBuilt env counts = Unit {0}
 
 module _ (env : Env) (mix : ℕ → ℕ → ℕ → ℕ) (c : ℕ) where
   -- all that the job names is the table's
   abbrev pub JobIn : Job → Type 0
   JobIn (finds port state) = IsFindAtIn env state
   JobIn (binds port owner once state) = IsBindingIn env owner state
+  JobIn counts = Unit {0}
 
   abbrev pub fits_job : Job → Type 0
   fits_job (finds port state) = fits_find port state
   fits_job (binds port owner once state) = fits_bind env mix c port owner once state
+  fits_job counts = Unit {0}
 
   pub record JobKnows (job : Job) (M : Memory) (G : Ghost) : Type 0 where
     pub built : IsJobBuilt env job
@@ -108,3 +116,12 @@ module _ (env : Env) (mix : ℕ → ℕ → ℕ → ℕ) (c : ℕ) where
     job_step (binds port owner once state) within knows =
         binds_so knows.built port owner once state (bind_at.after_at mix env port state (old_of words (bind_at.plan_at env state)))
         (bind_step env mix c port owner once knows.built within.owner_in low words G all whole state within.at_in (record { knowing = knows.knowing; fits = knows.fits }))
+    job_step counts within knows =
+        let old = old_of words (count_plan_in env) in
+        reads env mix c Count words G (count_plan_in env) held.holds_nothing (held.ended_with (plain (Counted old)))
+        (JobNext (job_after mix env counts old)) whole refl refl (inr (record {
+          learns = record { unknown = refl; answer = plain (Counted old); known = refl; said = inr refl };
+          right = record { replied = record { reply = tt; owners = refl; pairs = refl }; tells = refl };
+          takes_none = refl;
+        }))
+        (record { only = knows.knowing.only; means = knows.knowing.means })

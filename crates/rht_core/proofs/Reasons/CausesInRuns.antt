@@ -32,7 +32,7 @@ use Rattle.rht_words.specs.Links.{slot_of}
 use Rattle.rht_model.specs.declared.history.Call.{Call}
 use Rattle.rht_model.specs.declared.history.Call.TheVariants.{Bind, Find, All, Release, Rebind, Walk, Work, Tidy, Count}
 use Rattle.rht_model.specs.declared.history.Reply.{Reply}
-use Rattle.rht_model.specs.declared.history.Reply.TheVariants.{Bound, Exists, Found, Missing, TooBig, NoNode}
+use Rattle.rht_model.specs.declared.history.Reply.TheVariants.{Bound, Exists, Found, Missing, TooBig, NoNode, Counted}
 use Rattle.rht_model.specs.Endings.{Ending}
 use Rattle.rht_arena.specs.TakeNode.{TakeNodeModel, take_node_after, IsTakeAtIn, IsTakeIn}
 use Rattle.rht_arena.specs.NewNode.{NewNodeModel, new_node_plan_at, new_node_after_at, node_taken, IsNewNodeAtIn}
@@ -57,12 +57,12 @@ use Rattle.rht_bind.specs.declared.bind.Claimed.{Claimed}
 use Rattle.rht_bind.specs.declared.bind.BindAt.{BindAt}
 use Rattle.rht_bind.specs.declared.bind.BindAt.TheVariants as at
 use Rattle.rht_core.specs.declared.event.Event.{Event}
-use Rattle.rht_core.specs.Jobs.{Job, finds, binds, first_job, first_bind, finds_next, binds_next, job_after}
+use Rattle.rht_core.specs.Jobs.{Job, finds, binds, counts, first_job, first_bind, finds_next, binds_next, job_after}
 use Rattle.rht_core.specs.Replies.{IsFindReply, IsReplyTo}
 use Rattle.rht_core.specs.Traces.{Did, Past, performed_of, traced_of}
 use Rattle.rht_core.specs.Runs.{IsAdmitted}
 use Rattle.rht_core.specs.Laws.{IsRecorded, IsPastCall}
-use Rattle.rht_core.specs.Causes.{FindCause, IsNoShapeLoad, LastWalked, IsDueBy, KicksRightly, SawFull, BindCause, CauseOf, HasCause, Causes}
+use Rattle.rht_core.specs.Causes.{FindCause, IsNoShapeLoad, LastWalked, IsDueBy, KicksRightly, SawFull, SawCount, BindCause, CountCause, CauseOf, HasCause, Causes}
 use Rattle.rht_words.specs.Machines.{GoesOrEnds}
 use Rattle.rht_core.proofs.Tracing.RepliesInRuns.{Holds, Answered, runs-right}
 use Rattle.rht_core.proofs.Theory.Ghosts.{Ghost}
@@ -105,6 +105,15 @@ module _ (env : Env) where
   SawFor (Exists owner) steps = Unit {0}
   SawFor _ steps = ⊥
 
+  -- the operation loaded this count of ports
+  pub record LoadedCount (count : ℕ) (did : Did) : Type 0 where
+    pub loaded : did.op ≡ Load (place_of env.geometry PortCount)
+    pub found : did.old ≡ count
+
+  abbrev SawForCount : Reply → List Did → Type 0
+  SawForCount (Counted count) steps = Any (LoadedCount count) steps
+  SawForCount _ steps = ⊥
+
   -- and for any call to have it; a look-up has nothing to show, and of the others there is no machine yet
   abbrev pub SawOf : Call → Reply → List Did → Type 0
   SawOf (Bind port owner once) reply steps = SawFor reply steps
@@ -115,7 +124,7 @@ module _ (env : Env) where
   SawOf (Walk from limit) reply steps = ⊥
   SawOf Work reply steps = ⊥
   SawOf Tidy reply steps = ⊥
-  SawOf Count reply steps = ⊥
+  SawOf Count reply steps = SawForCount reply steps
 
   abbrev SawForReply : Option Reply → List Did → Type 0
   SawForReply reply steps = IfSome reply (λ r. SawFor r steps)
@@ -141,10 +150,11 @@ module _ (env : Env) where
   SawAt (at.Unlocking node table unlock next) steps = SawForReply (answer_behind next) steps
   SawAt (at.Giving give reply) steps = SawFor reply steps
 
-  -- of a look-up nothing is kept
+  -- of a look-up nothing is kept, nor of a reading of the count before it ends
   abbrev JobSaw : Job → List Did → Type 0
   JobSaw (finds port state) steps = Unit {0}
   JobSaw (binds port owner once state) steps = SawAt state steps
+  JobSaw counts steps = Unit {0}
 
   -- what it has seen once it goes on, and once it has answered
   abbrev SawNext : List Did → BindAt × Next Reply → Type 0
@@ -346,6 +356,8 @@ module _ (M : Type 0) (mix : ℕ → ℕ → ℕ → ℕ) (env : Env) where
   job-leads (binds port owner once state) steps did performs saw =
       bind-leads port owner once state (steps ++ did ∷ []) (after_at mix env port state did.old)
       (bind-saw env mix port owner once state steps did performs saw)
+  job-leads counts steps did performs saw =
+      Any-push (LoadedCount env did.old) steps did (record { loaded = performs.planned; found = refl })
 
   -- below the first node there is none
   first_bind-saw : (port owner : ℕ) (once : Bool) (kind : Kind) (job : Job) → first_bind env port owner once kind ≡ Some job
@@ -358,6 +370,7 @@ module _ (M : Type 0) (mix : ℕ → ℕ → ℕ → ℕ) (env : Env) where
   first_job-saw : (call : Call) (job : Job) → first_job env call ≡ Some job → JobSaw env job []
   first_job-saw (Find port) job is = subst (λ j. JobSaw env j []) (let here : finds port CurrentTable ≡ job = cc in here) tt
   first_job-saw (Bind port owner once) job is = first_bind-saw port owner once env.config.kind job is
+  first_job-saw Count job is = subst (λ j. JobSaw env j []) (let here : counts ≡ job = cc in here) tt
   first_job-saw _ job is = absurd (cc)
 
   -- what the operations of each call that has ended have seen
@@ -386,6 +399,21 @@ module _ (M : Type 0) (mix : ℕ → ℕ → ℕ → ℕ) (env : Env) where
             found = full.found;
             full = full.full;
             counted = counted_at M mix env events c count did admitted full.loaded full.found was;
+          },
+        )
+
+    counted-saw : (count : ℕ) (steps : List Did) → AllByRecursion IsRecordedHere steps
+        → Any (LoadedCount env count) steps → Any (SawCount M mix env events c count) steps
+    counted-saw count steps recorded (k, did, within, is, saw) =
+        let was = subst IsRecordedHere is (All-from_recursion IsRecordedHere steps recorded k did within) in (
+          k,
+          did,
+          within,
+          is,
+          record {
+            loaded = saw.loaded;
+            found = saw.found;
+            counted = counted_at M mix env events c count did admitted saw.loaded saw.found was;
           },
         )
 
@@ -427,10 +455,16 @@ module _ (M : Type 0) (mix : ℕ → ℕ → ℕ → ℕ) (env : Env) where
     bind-cause past (TooBig count) saw recorded = full-saw count past.steps recorded saw
     bind-cause past _ saw recorded = absurd saw
 
+    count-cause : (past : Past) (reply : Reply) → SawForCount env reply past.steps → AllByRecursion IsRecordedHere past.steps
+        → CountCause M mix env events c past reply
+    count-cause past (Counted count) saw recorded = counted-saw count past.steps recorded saw
+    count-cause past _ saw recorded = absurd saw
+
     cause_of : (past : Past) (call : Call) (reply : Reply) → SawOf env call reply past.steps → IsReplyTo call reply
         → AllByRecursion IsRecordedHere past.steps → CauseOf M mix env events c past call reply
     cause_of past (Bind port owner once) reply saw right recorded = bind-cause past reply saw recorded
     cause_of past (Find port) reply saw right recorded = find-cause env reply right
+    cause_of past Count reply saw right recorded = count-cause past reply saw recorded
     cause_of past _ reply saw right recorded = absurd saw
 
     all_caused : (calls : List Past)

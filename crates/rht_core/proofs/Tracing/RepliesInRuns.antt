@@ -19,8 +19,8 @@ use Rattle.rht_bind.specs.declared.bind.BindAt.{BindAt}
 use Rattle.rht_core.specs.declared.event.Event.{Event}
 use Rattle.rht_core.specs.declared.book.Book.{Book}
 use Rattle.rht_core.specs.declared.local.Doing.{Doing}
-use Rattle.rht_core.specs.declared.local.Doing.TheVariants.{Idle, Finding, Binding}
-use Rattle.rht_core.specs.Jobs.{Job, finds, binds, call_of, finds_next, binds_next, job_after, job_of, held_of, held_next}
+use Rattle.rht_core.specs.declared.local.Doing.TheVariants.{Idle, Finding, Binding, Counting}
+use Rattle.rht_core.specs.Jobs.{Job, finds, binds, counts, call_of, finds_next, binds_next, job_after, job_of, held_of, held_next}
 use Rattle.rht_core.specs.Runs.{World, IsAdmitted, view_of, local_of}
 use Rattle.rht_core.specs.Traces.{Did, Past, Traced, traced_of}
 use Rattle.rht_core.specs.Replies.{ArePairsWith, IsRightlyAnswered, IsBookOf, AnswersIn}
@@ -53,6 +53,7 @@ job_after-alone : (mix : ℕ → ℕ → ℕ → ℕ) (env : Env) (job : Job) (o
 job_after-alone mix env (finds port state) old = finds_next-alone port (find.after_at mix env port state old)
 job_after-alone mix env (binds port owner once state) old = binds_next-alone port owner once
     (bind.after_at mix env port state old)
+job_after-alone mix env counts old = refl
 
 module _ (M : Type 0) (mix : ℕ → ℕ → ℕ → ℕ) (env : Env) where
   -- the answer of the job's call, once it is known, is one of its kind
@@ -109,6 +110,7 @@ module _ (M : Type 0) (mix : ℕ → ℕ → ℕ → ℕ) (env : Env) where
       record { same_env = within.same_env; same_caller = within.same_caller; call = at.call }
   book-of c (Binding m) book steps within at =
       record { same_env = within.same_env; same_caller = within.same_caller; call = at.call }
+  book-of c (Counting m) book steps within at = record { same_env = within; call = at.call }
 
   -- the calls of a trace are those of its book
   all-answered : (calls : List Past) → AllByRecursion (IsEndedSo M mix env Holds Answered) calls
