@@ -1,8 +1,7 @@
 -- A call of the one caller: it begins where the caller is in none, each operation leaves it in progress or ends it with the reply,
 -- and then it is the last of those that have ended. A caller with no call in its book is idle.
-use Rattle.std.proofs.Common.{◌≡◌, ◌≢◌, ℕ, suc, ◌+◌, ◌<◌, ◌≤◌, ◌==◌, Bool, true, false, List, [], ◌∷◌, ◌++◌, length, refl, sym, ◌∙◌, ap, subst, append_assoc, cond, arith}
+use Rattle.std.proofs.Common.{◌≡◌, ℕ, ◌<◌, ◌≤◌, true, List, [], ◌∷◌, ◌++◌, length, refl, sym, ◌∙◌, ap, subst, append_assoc, cond, arith}
 use Rattle.std.specs.Prelude.{Option, Some, None, is_some, nat_lt, ◌&&◌}
-use Rattle.std.specs.List.{AllByRecursion}
 use Rattle.std.proofs.lemmas.Bool.{lt-ltb}
 use Rattle.rht_words.specs.declared.op.Op.{Op}
 use Rattle.rht_words.specs.declared.env.Env.{Env}
@@ -22,7 +21,7 @@ use Rattle.rht_core.specs.Jobs.{Job, job_of}
 use Rattle.rht_core.specs.Locals.{is_idle, machine_of, local_after, ending_of}
 use Rattle.rht_core.specs.Runs.{Core, World, View, local_of, beginning_in, planned_in, with_step, core_step, world_step, run_of, view_of, book_after, finished_with, IsAdmitted, IsAdmittedEvent}
 use Rattle.rht_core.specs.Traces.{Did, Traced, traced_of}
-use Rattle.rht_core.specs.Serving.{AreForCommand, Serves}
+use Rattle.rht_core.specs.Serving.{Serves}
 use Rattle.rht_core.proofs.Events.Worlds.{run_of-push, begin_self, step_none, step_self}
 use Rattle.rht_core.proofs.Events.SoundRuns.{has_place, runs-in, step-count}
 use Rattle.rht_core.proofs.Events.ReachedStates.{event-env}
@@ -30,7 +29,7 @@ use Rattle.rht_core.proofs.Events.JobsOfCallers.{is_no_job, nothing-job}
 use Rattle.rht_core.proofs.Tracing.TracedRuns.{world-traced_of}
 use Rattle.rht_core.proofs.Tracing.TracedJobs.{IsAtJob}
 use Rattle.rht_core.proofs.Tracing.RepliesInRuns.{Holds, Answered, runs-right}
-use Rattle.rht_registry.specs.Served.{IsRunTo, HasServed}
+use Rattle.rht_registry.specs.Served.{IsRunTo}
 
 -- one command more, behind the others
 pub Serves-push : (calls : List Call) (endings : List Ending) (done : List Finished) (call : Call) (ending : Ending)

@@ -1,6 +1,5 @@
 -- At opening no caller has enrolled, so the first who does is caller 0.
-use Rattle.std.proofs.Common.{◌≡◌, ◌<◌, ◌+◌, ℕ, [], ◌∷◌, refl, sym, ◌∙◌, ap, subst, cond, arith}
-use Rattle.std.specs.Prelude.{max, nat_lt}
+use Rattle.std.proofs.Common.{◌≡◌, ◌<◌, ℕ, [], ◌∷◌, refl, sym, ◌∙◌, ap, subst, arith}
 use Rattle.std.proofs.lemmas.Bool.{lt-ltb}
 use Rattle.rht_words.specs.declared.env.Env.{Env}
 use Rattle.rht_words.specs.Places.{EnrolledCallers}
@@ -8,8 +7,7 @@ use Rattle.rht_words.specs.Opening.{opening_words}
 use Rattle.rht_words.specs.Operations.{old_of}
 use Rattle.rht_words.proofs.OpeningLaws.{stand_in_place}
 use Rattle.rht_core.specs.declared.event.Event.TheVariants.{Enroll}
-use Rattle.rht_core.specs.Runs.{Core, World, opening_core, core_step, run_of, enrolling, enrolled_after}
-use Rattle.rht_registry.specs.Served.{IsRunTo, HasServed}
+use Rattle.rht_core.specs.Runs.{Core, opening_core, core_step, enrolling, enrolled_after}
 use Rattle.rht_registry.proofs.registry.opened.Goals as goal
 
 -- the word of enrolled callers is 0 then

@@ -1,9 +1,8 @@
 use Rattle.std.proofs.Common.{◌≡◌, ℕ, false, refl, ap, ◌∙◌, sym, subst}
-use Rattle.std.specs.List.{AllByRecursion}
 use Rattle.rht_words.specs.declared.config.Config.{Config}
 use Rattle.rht_words.specs.declared.config.Kind.TheVariants.{Single}
 use Rattle.rht_model.specs.declared.history.Call.{Call}
-use Rattle.rht_model.specs.declared.history.Call.TheVariants.{Bind, Find}
+use Rattle.rht_model.specs.declared.history.Call.TheVariants.{Bind}
 use Rattle.rht_core.specs.Locals.{machine_of, binding_of}
 use Rattle.std.specs.Prelude.{true, is_some}
 use Rattle.rht_registry.specs.Outcomes.{IsBuiltCommand}
