@@ -1,0 +1,13 @@
+//! The workers of a script: their commands done by the callers of a table, and what they leave.
+//!
+//! Stands on `rht_core`, whose table runs on plain words here, and on `rht_script`. So far a script
+//! has one worker.
+//! Read `specs/Outcomes.antt` first.
+#![tactic(auto)]
+
+mod registry;
+
+pub use registry::{Outcome, run_workers};
+
+#[cfg(test)]
+mod tests;
