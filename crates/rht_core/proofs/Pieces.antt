@@ -10,3 +10,5 @@ pub mod Probes
 pub mod PortCounts
 -- along the list of a port's nodes
 pub mod Lists
+-- the way to a port
+pub mod Seeks
