@@ -223,7 +223,7 @@ module _ (env : Env) (mix : ℕ → ℕ → ℕ → ℕ) where
   -- ---- what the words stand for
 
   -- the owners of nodes whose owner words stay
-  owners_in-same : (M M' : Memory) (bound : List ℕ)
+  pub owners_in-same : (M M' : Memory) (bound : List ℕ)
       → ((n : ℕ) → In n bound → M' (Node n OwnerWord) ≡ M (Node n OwnerWord)) → owners_in M' bound ≡ owners_in M bound
   owners_in-same M M' [] same = refl
   owners_in-same M M' (n ∷ bound) same =
