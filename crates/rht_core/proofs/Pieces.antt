@@ -12,3 +12,5 @@ pub mod PortCounts
 pub mod Lists
 -- the way to a port
 pub mod Seeks
+-- the stores of a relinking
+pub mod Relinks
