@@ -12,5 +12,7 @@ pub mod PortCounts
 pub mod Lists
 -- the way to a port
 pub mod Seeks
+-- behind a store that changes what a port is bound to
+pub mod Rebounds
 -- the stores of a relinking
 pub mod Relinks

@@ -8,7 +8,6 @@ use Rattle.rht_words.specs.Links.{plain_of}
 use Rattle.rht_words.specs.Operations.{op_place, applied}
 use Rattle.rht_words.specs.Places.{Node, NodeWord, ChainLink, PageWord, IsBucketPlace, nodes_at, words_in}
 use Rattle.rht_words.proofs.Memory.{Memory, IsWrite, is_write}
-use Rattle.rht_words.proofs.PlacesApart.{parts_in_order}
 use Rattle.rht_chain.specs.LockedWalk.{IsNodeOrNone}
 use Rattle.rht_chain.specs.Relink.{RelinkModel, relink_new, relink_plan, relink_at}
 use Rattle.rht_chain.specs.declared.relink.RelinkAt.{RelinkAt}
@@ -20,6 +19,7 @@ use Rattle.rht_core.proofs.Theory.Knowledge.{HasOnly, HoldsLock}
 use Rattle.rht_core.proofs.Theory.Steps.{mem}
 use Rattle.rht_core.proofs.Theory.Readiness.{Change, changed}
 use Rattle.rht_core.proofs.Moves.Relinking.{relink_address, relink_value, relinked}
+use Rattle.rht_core.proofs.Pieces.Rebounds.{node_behind_maps, bucket_behind_maps}
 
 -- ---- how a relinking stands
 
@@ -85,8 +85,8 @@ module _ (env : Env) (mix : ℕ → ℕ → ℕ → ℕ) (c place word link : �
     relink_behind_maps = go before
       where
         go : (b : Option ℕ) → nodes_at env.geometry ≤ op_place (relink_plan (relink_new env.geometry place word b link))
-        go None = let order = parts_in_order env.geometry in omega (arith, bucket.0, order.pages)
-        go (Some node) = omega arith
+        go None = bucket_behind_maps env.geometry place bucket
+        go (Some node) = node_behind_maps env.geometry node ChainLink
 
   -- a word of a node that is no link in a chain stays
   pub relink_leaves : (M M' : Memory)
@@ -106,33 +106,13 @@ module _ (env : Env) (mix : ℕ → ℕ → ℕ → ℕ) (c place word link : �
     abbrev G' : Ghost
     G' = changed G c change
 
-    holder_left : change.bucket.holder ≡ Some c → lock_left place before ≡ Some place
+    -- the caller has the lock then only where it isn't dropped
+    pub holder_left : change.bucket.holder ≡ Some c → lock_left place before ≡ Some place
     holder_left holds = go before (ap (λ b. b.holder) (sym relinks) ∙ holds)
       where
         go : (b : Option ℕ) → (relinked (place_at env mix j) link (G.bucket j) nodes b).holder ≡ Some c → lock_left place b ≡ Some place
         go None holds = absurd (cc)
         go (Some node) holds = refl
-
-    -- nothing but the lock, where that isn't dropped: a node that it had is one of those that have other owners now
-    pub only_left : (has : Option ℕ) (raised : Bool) → change.one_owner ≢ Held c → change.other_owner ≢ Held c
-        → ((n : ℕ) → has ≡ Some n → (n ≡ change.one) ⊎ (n ≡ change.other))
-        → HasOnly env mix c G has (Some place) None raised → HasOnly env mix c G' None (lock_left place before) None change.raised
-    only_left has raised one other mine only =
-        let is = place_at-index env mix place lock.bucket in
-        record {
-          nodes = put-all (λ n o. o ≡ Held c → ◌≡◌ {A = Option ℕ} None (Some n)) (put G.node change.one change.one_owner) change.other change.other_owner
-              (λ e. absurd (other e))
-              (λ n apart. put-all (λ m o. m ≢ change.other → o ≡ Held c → ◌≡◌ {A = Option ℕ} None (Some m)) G.node change.one change.one_owner
-              (λ ne e. absurd (one e))
-              (λ m ne far held. absurd (elim (mine m (only.nodes m held)) [ inl e ↦ ne e | inr e ↦ far e ])) n apart);
-          locks = put-all (λ i b. b.holder ≡ Some c → (lock_left place before ≡ Some (place_at env mix i)) ⊎ (◌≡◌ {A = Option ℕ} None (Some (place_at env mix i)))) G.bucket change.place change.bucket
-              (λ holds. inl (holder_left holds ∙ ap Some (sym is ∙ ap (place_at env mix) (sym there))))
-              (λ i ne holds. elim (only.locks i holds) [
-                | inl first ↦ absurd (ne (let q : place ≡ place_at env mix i = cc in let r = is in omega (arith, q, r, there)))
-                | inr second ↦ absurd (cc)
-              ]);
-          raising = put-same G.raised c change.raised;
-        }
 
     -- with a node before, the bucket is locked still
     pub lock_kept : (node : ℕ) → before ≡ Some node → HoldsLock env mix c G' place word

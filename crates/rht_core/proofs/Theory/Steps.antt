@@ -12,13 +12,13 @@ use Rattle.rht_words.specs.Ports.{owner_of}
 use Rattle.rht_words.specs.Operations.{op_place, old_of, word_after, applied}
 use Rattle.rht_words.specs.Places.{PortCount, Node, NodeWord, ChainLink, OwnerWord, nodes_at, place_of, word_at}
 use Rattle.rht_words.specs.Members.{In}
-use Rattle.rht_words.proofs.Members.{count_below-same, count_below-more}
+use Rattle.rht_words.proofs.Members.{count_below-same}
 use Rattle.rht_words.proofs.Memory.{Memory}
 use Rattle.rht_model.specs.declared.history.Call.{Call}
 use Rattle.rht_model.specs.Multimap.{Multimap, Agree}
 use Rattle.rht_model.specs.Answers.{Answer}
 use Rattle.rht_arena.specs.Laws.{map_place, map_bit, IsTaking}
-use Rattle.rht_core.proofs.Theory.Ghosts.{put, put-same, put-other, put-all, Owner, Free, Held, Ghost, is_used, is_taken_by, IsUsed, with_holder, with_owner, with_raised}
+use Rattle.rht_core.proofs.Theory.Ghosts.{put, put-all, Owner, Free, Held, Ghost, is_used, is_taken_by, IsUsed, with_holder, with_owner, with_raised}
 use Rattle.rht_core.proofs.Theory.Wholes.{place_at, outs, Whole}
 use Rattle.rht_core.proofs.Theory.Knowledge.{bound_used}
 use Rattle.rht_core.proofs.Theory.Frames.{Made, still}
@@ -223,7 +223,7 @@ module _ (env : Env) (mix : ℕ → ℕ → ℕ → ℕ) where
   -- ---- what the words stand for
 
   -- the owners of nodes whose owner words stay
-  owners_in-same : (M M' : Memory) (bound : List ℕ)
+  pub owners_in-same : (M M' : Memory) (bound : List ℕ)
       → ((n : ℕ) → In n bound → M' (Node n OwnerWord) ≡ M (Node n OwnerWord)) → owners_in M' bound ≡ owners_in M bound
   owners_in-same M M' [] same = refl
   owners_in-same M M' (n ∷ bound) same =
@@ -263,31 +263,6 @@ module _ (env : Env) (mix : ℕ → ℕ → ℕ → ℕ) where
   reowned-outs c n owner G was now =
       count_below-same (λ m. is_taken_by c (G.node m)) (λ m. is_taken_by c (put G.node n owner m)) env.geometry.nodes
       (λ m l. put-all (λ i o. is_taken_by c o ≡ is_taken_by c (G.node i)) G.node n owner (now ∙ sym was) (λ i ne. refl) m)
-
-  -- A change by which the caller takes one node out of a list. The other node is that one, or the caller had taken it out where it has
-  -- then.
-  pub changed-outs : (c : ℕ) (change : Change) (G : Ghost) → change.one < env.geometry.nodes
-      → is_taken_by c (G.node change.one) ≡ false → is_taken_by c change.one_owner ≡ true
-      → (change.other ≡ change.one → is_taken_by c change.other_owner ≡ true)
-      → (change.other ≢ change.one → is_taken_by c change.other_owner ≡ is_taken_by c (G.node change.other))
-      → outs env mix (changed G c change) c ≡ outs env mix G c + 1
-  changed-outs c change G among was is same apart =
-      count_below-more (λ m. is_taken_by c (G.node m)) (λ m. is_taken_by c (put between change.other change.other_owner m)) change.one
-      env.geometry.nodes among was out others
-    where
-      between : ℕ → Owner
-      between = put G.node change.one change.one_owner
-
-      out : is_taken_by c (put between change.other change.other_owner change.one) ≡ true
-      out =
-          put-all (λ m o. m ≡ change.one → is_taken_by c o ≡ true) between change.other change.other_owner same
-          (λ m ne e. ap (λ k. is_taken_by c (between k)) e ∙ ap (is_taken_by c) (put-same G.node change.one change.one_owner) ∙ is) change.one refl
-
-      others : (n : ℕ) → n ≢ change.one
-          → is_taken_by c (put between change.other change.other_owner n) ≡ is_taken_by c (G.node n)
-      others =
-          put-all (λ m o. m ≢ change.one → is_taken_by c o ≡ is_taken_by c (G.node m)) between change.other change.other_owner apart
-          (λ m ne other. ap (is_taken_by c) (put-other G.node change.one change.one_owner m other))
 
   -- where a move binds no port otherwise, each port is bound to what it was
   abbrev LinksNone : Move → Type 0
