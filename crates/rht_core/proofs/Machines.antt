@@ -2,5 +2,7 @@
 pub mod FindSteps
 -- a bind, operation by operation
 pub mod BindSteps
+-- a listing of owners, operation by operation
+pub mod AllSteps
 -- a job, operation by operation
 pub mod JobSteps

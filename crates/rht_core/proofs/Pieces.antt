@@ -14,3 +14,5 @@ pub mod Lists
 pub mod Seeks
 -- behind a store that changes what a port is bound to
 pub mod Rebounds
+-- the stores of a relinking
+pub mod Relinks

@@ -1,5 +1,5 @@
 -- Along the list of a port's nodes: which node a list link leads to.
-use Rattle.std.proofs.Common.{◌≡◌, ◌⊎◌, ℕ, ◌<◌, ◌≤◌, List, [], ◌∷◌, ◌++◌, length, Option, true, refl, sym, ap, ◌∙◌, subst, inl, inr, arith}
+use Rattle.std.proofs.Common.{◌≡◌, ◌⊎◌, ℕ, ◌<◌, ◌≤◌, List, [], ◌∷◌, length, Option, true, refl, sym, ap, ◌∙◌, subst, inl, inr, arith}
 use Rattle.rht_words.specs.declared.env.Env.{Env}
 use Rattle.rht_words.specs.Chains.{IsSegment}
 use Rattle.rht_words.specs.Links.{link_of, node_of}
@@ -7,10 +7,10 @@ use Rattle.rht_words.specs.Members.{In}
 use Rattle.rht_words.proofs.ChainLemmas.{IsSegment-cut}
 use Rattle.rht_words.proofs.LinksRead.{links_tell_apart}
 use Rattle.rht_words.proofs.Memory.{Memory}
-use Rattle.rht_words.proofs.Members.{In-AllByRecursion, count_below, count_below-most, length-count_below}
+use Rattle.rht_words.proofs.Members.{in-middle, In-AllByRecursion, count_below-most, length-count_below}
 use Rattle.rht_core.proofs.Theory.Ghosts.{Ghost}
-use Rattle.rht_core.proofs.Theory.Wholes.{list_of, Whole}
-use Rattle.rht_core.proofs.Theory.Knowledge.{IsAmong, list_link, first_of_list}
+use Rattle.rht_core.proofs.Theory.Wholes.{list_of, word_index, Whole}
+use Rattle.rht_core.proofs.Theory.Knowledge.{IsAmong, IsFound, list_link, first_of_list}
 
 -- the next one of these nodes
 pub record IsNextOf (nodes : List ℕ) (link : ℕ) : Type 0 where
@@ -71,3 +71,13 @@ module _ (env : Env) (mix : ℕ → ℕ → ℕ → ℕ) (M : Memory) (G : Ghost
       (In-AllByRecursion (λ n. n < env.geometry.nodes) (first ∷ behind) (λ n i. list_among port first behind b n i)) (λ n i. refl) in
       let most = count_below-most (λ n. true) env.geometry.nodes in
       omega (arith, few, most)
+
+  -- a port that was found is bound to the node with its key, and to others behind it
+  pub found_list : (c place word port node : ℕ) (before : Option ℕ) → IsFound env mix c M G place word port node before
+      → (behind : List ℕ) × (G.bound port ≡ node ∷ behind)
+  found_list c place word port node before found =
+      let j = word_index env mix place in
+      let stands = found.standing.stands in
+      let there : In node (G.bucket j).nodes = subst (In node) (sym stands.split) (in-middle node stands.front stands.rear) in
+      let first = whole.owned.first_at node j (whole.owned.member j node there) in
+      (first.behind, ap G.bound (sym found.key_is) ∙ first.bound_to)

@@ -52,16 +52,19 @@ taken_more c m x bound owner node l was other =
     ])
 
 module _ (env : Env) (mix : ℕ → ℕ → ℕ → ℕ) (c : ℕ) (G : Ghost) where
-  -- the caller had this lock and no node; it has the lock still, or none, and no node
-  pub only_rebound : (change : Change) (place : ℕ) (lock : Option ℕ) (raised : Bool) → place_at env mix change.place ≡ place
+  -- The caller had this lock, and no node but one that the change gives to the port or takes from it. It has the lock still, or none,
+  -- and no node.
+  pub only_left : (change : Change) (place : ℕ) (has lock : Option ℕ) (raised : Bool) → place_at env mix change.place ≡ place
       → change.one_owner ≢ Held c → change.other_owner ≢ Held c
+      → ((n : ℕ) → has ≡ Some n → (n ≡ change.one) ⊎ (n ≡ change.other))
       → (change.bucket.holder ≡ Some c → lock ≡ Some place)
-      → HasOnly env mix c G None (Some place) None raised → HasOnly env mix c (changed G c change) None lock None change.raised
-  only_rebound change place lock raised is one other holder only = record {
+      → HasOnly env mix c G has (Some place) None raised → HasOnly env mix c (changed G c change) None lock None change.raised
+  only_left change place has lock raised is one other given holder only = record {
     nodes = put-all (λ n o. o ≡ Held c → ◌≡◌ {A = Option ℕ} None (Some n)) (put G.node change.one change.one_owner) change.other change.other_owner
         (λ e. absurd (other e))
-        (λ n ne. put-all (λ n o. o ≡ Held c → ◌≡◌ {A = Option ℕ} None (Some n)) G.node change.one change.one_owner
-        (λ e. absurd (one e)) (λ m apart. only.nodes m) n);
+        (λ n apart. put-all (λ m o. m ≢ change.other → o ≡ Held c → ◌≡◌ {A = Option ℕ} None (Some m)) G.node change.one change.one_owner
+        (λ ne e. absurd (one e))
+        (λ m ne far held. absurd (elim (given m (only.nodes m held)) [ inl e ↦ ne e | inr e ↦ far e ])) n apart);
     locks = put-all (λ i b. b.holder ≡ Some c → (lock ≡ Some (place_at env mix i)) ⊎ (◌≡◌ {A = Option ℕ} None (Some (place_at env mix i)))) G.bucket change.place change.bucket
         (λ e. inl (holder e ∙ ap Some (sym is)))
         (λ i ne holds. elim (only.locks i holds) [
@@ -70,6 +73,14 @@ module _ (env : Env) (mix : ℕ → ℕ → ℕ → ℕ) (c : ℕ) (G : Ghost) w
         ]);
     raising = put-same G.raised c change.raised;
   }
+
+  -- the same of a caller that had no node
+  pub only_rebound : (change : Change) (place : ℕ) (lock : Option ℕ) (raised : Bool) → place_at env mix change.place ≡ place
+      → change.one_owner ≢ Held c → change.other_owner ≢ Held c
+      → (change.bucket.holder ≡ Some c → lock ≡ Some place)
+      → HasOnly env mix c G None (Some place) None raised → HasOnly env mix c (changed G c change) None lock None change.raised
+  only_rebound change place lock raised is one other holder only =
+      only_left change place None lock raised is one other (λ n none. absurd (cc)) holder only
 
   -- nodes to which a port was bound keep their owners
   pub owners_kept : (M M' : Memory) (G' : Ghost) → Whole env mix M G → Made env mix c M G M' G' → (port : ℕ) (nodes : List ℕ)
