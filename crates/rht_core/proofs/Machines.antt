@@ -6,3 +6,5 @@ pub mod BindSteps
 pub mod AllSteps
 -- a job, operation by operation
 pub mod JobSteps
+-- a release, operation by operation
+pub mod ReleaseSteps
