@@ -4,5 +4,7 @@ pub mod FindSteps
 pub mod BindSteps
 -- a listing of owners, operation by operation
 pub mod AllSteps
+-- a rebind, operation by operation
+pub mod RebindSteps
 -- a job, operation by operation
 pub mod JobSteps
