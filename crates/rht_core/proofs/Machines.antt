@@ -4,6 +4,8 @@ pub mod FindSteps
 pub mod BindSteps
 -- a listing of owners, operation by operation
 pub mod AllSteps
+-- a rebind, operation by operation
+pub mod RebindSteps
 -- a job, operation by operation
 pub mod JobSteps
 -- a release, operation by operation

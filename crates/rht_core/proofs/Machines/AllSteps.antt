@@ -1,4 +1,5 @@
--- What a listing knows in each state, and that each of its operations leads from what it knows to what it knows next.
+-- What a listing knows in each state, and that each of its operations leads from what it knows to what it
+-- knows next.
 use Rattle.std.proofs.Common.{◌≡◌, ℕ, suc, ◌+◌, List, [], ◌∷◌, ◌++◌, length, nat_lt, Option, Some, None, cond, refl, sym, ◌∙◌, ap, subst, inl, arith}
 use Rattle.std.proofs.lemmas.Bool.{lt-ltb}
 use Rattle.std.proofs.lemmas.List.{append_assoc, length-append, length-map, map-append}
@@ -8,7 +9,7 @@ use Rattle.rht_words.specs.declared.machine.Next.TheVariants.{Go, Done}
 use Rattle.rht_words.specs.Held as held
 use Rattle.rht_words.specs.Links.{link_of, node_of}
 use Rattle.rht_words.specs.Ports.{owner_of}
-use Rattle.rht_words.specs.Operations.{old_of}
+use Rattle.rht_words.specs.Operations.{old_of, word_after}
 use Rattle.rht_words.specs.Places.{Node, OwnerWord, ListLink, words_in}
 use Rattle.rht_words.specs.Chains.{IsSegment}
 use Rattle.rht_words.specs.Members.{In}
@@ -18,6 +19,7 @@ use Rattle.rht_words.proofs.Members.{in-middle}
 use Rattle.rht_model.specs.declared.history.Call.{Call}
 use Rattle.rht_model.specs.declared.history.Call.TheVariants as calls
 use Rattle.rht_model.specs.Multimap.{Multimap}
+use Rattle.rht_model.specs.Answers.{Answer}
 use Rattle.rht_model.specs.Rooms.{Kept, with_kept}
 use Rattle.rht_release.specs.All.{plan_at, after_at, room_after, sought, list_followed, IsAllAtIn}
 use Rattle.rht_release.specs.AllHeld.{listing_of, held_of_all, holds_lock}
@@ -28,37 +30,45 @@ use Rattle.rht_release.specs.declared.all.AllAt.TheVariants as at
 use Rattle.rht_core.proofs.Theory.Ghosts.{Ghost}
 use Rattle.rht_core.proofs.Theory.Wholes.{list_of, Whole}
 use Rattle.rht_core.proofs.Theory.Knowledge.{Nowhere, KnownBucket, Locks, InList, KnownList, Collected, CollectedTo, Known, Knowing, last_of}
-use Rattle.rht_core.proofs.Theory.Answering.{IsLegalOn, IsRight, keeps, learns}
-use Rattle.rht_core.proofs.Theory.Steps.{Holding, by_test, mem, owners, owners_in, moved-map, Step, step-map, answered, reads, still_has}
+use Rattle.rht_core.proofs.Theory.Answering.{IsLegalOn, IsRight, Tells, keeps, learns}
+use Rattle.rht_core.proofs.Theory.Steps.{Holding, by_test, mem, owners, owners_in, moved-map, Step, step-map, answered, reads, HoldsSame, still_has}
 use Rattle.rht_core.proofs.Pieces.Locks.{unlock_step}
 use Rattle.rht_core.proofs.Pieces.Lists.{list_among, list_few, list_rest, found_list}
 use Rattle.rht_core.proofs.Pieces.Seeks as seeks
 use Rattle.rht_core.proofs.Machines.FindSteps.{known_nothing}
 
 module _ (port : ℕ) where
-  -- what is known of the list of the port that was found
-  abbrev in_list : FoundPort → KnownList → KnownBucket
-  in_list found known = InList found.bucket.place found.bucket.word port found.node found.before known
+  -- what is known of a bucket that it has locked, and of the list of the port that it found there
+  abbrev in_bucket : KnownBucket → Known
+  in_bucket bucket = seeks.knows_of port None Nowhere bucket
+
+  abbrev in_list : FoundPort → KnownList → Known
+  in_list found known =
+      in_bucket (InList found.bucket.place found.bucket.word port found.node found.before known)
 
   -- what a listing that has kept these owners knows in a state
   abbrev pub known_of_all : List ℕ → AllAt → Known
   known_of_all owners (at.Seeking seek) = seeks.known_of_seek port None seek.at
-  known_of_all owners (at.Owner found node) = seeks.knows_of port None Nowhere (in_list found (Collected node owners))
-  known_of_all owners (at.ListLink found node) = seeks.knows_of port None Nowhere (in_list found (CollectedTo node owners))
-  known_of_all owners (at.Unlocking table unlock) = seeks.knows_of port None Nowhere (Locks unlock.place unlock.word)
+  known_of_all owners (at.Owner found node) = in_list found (Collected node owners)
+  known_of_all owners (at.ListLink found node) = in_list found (CollectedTo node owners)
+  known_of_all owners (at.Unlocking table unlock) = in_bucket (Locks unlock.place unlock.word)
 
-  -- how its pieces are for the port, and its room
+  -- how its pieces are for the port, and its room: it is empty until the port was found
   abbrev pub fits_all : Kept ℕ → AllAt → Type 0
   fits_all room (at.Seeking seek) = seeks.fits_seek port seek.at × (room.items ≡ [])
   fits_all room (at.Owner found node) = Unit {0}
   fits_all room (at.ListLink found node) = Unit {0}
   fits_all room (at.Unlocking table unlock) = Unit {0}
 
+-- the room with this owner behind the others
+abbrev with_owner : Kept ℕ → ℕ → Kept ℕ
+with_owner room owner = record { items = room.items ++ owner ∷ []; limit = room.limit }
+
 -- an operation leaves the room's limit
 pub room_after-limit : (at : AllAt) (room : Kept ℕ) (word : ℕ) → (room_after at room word).limit ≡ room.limit
 room_after-limit (at.Seeking seek) room word = refl
 room_after-limit (at.Owner found node) room word =
-    by_test (λ t. (cond t (record { items = room.items ++ owner_of word ∷ []; limit = room.limit }) room).limit ≡ room.limit)
+    by_test (λ t. (cond t (with_owner room (owner_of word)) room).limit ≡ room.limit)
     (nat_lt (length room.items) room.limit) (λ t. refl) (λ f. refl)
 room_after-limit (at.ListLink found node) room word = refl
 room_after-limit (at.Unlocking table unlock) room word = refl
@@ -78,7 +88,8 @@ module _ (env : Env) (mix : ℕ → ℕ → ℕ → ℕ) (c : ℕ) (port : ℕ) 
 
   abbrev pub AllNext : Kept ℕ → AllAt × Next (Unit {0}) → Memory → Ghost → Type 0
   AllNext room (at, Go) M G = AllKnows room at M G
-  AllNext room (at, Done done) M G = Knowing env mix c (held.ended_with (listing_of room.items)) known_nothing M G
+  AllNext room (at, Done done) M G =
+      Knowing env mix c (held.ended_with (listing_of room.items)) known_nothing M G
 
   module _ (room : Kept ℕ) (roomy : room.limit ≡ env.geometry.nodes) (words : List ℕ) (G : Ghost)
       (all : length words ≡ words_in env.geometry) (whole : Whole env mix (mem env mix words) G) where
@@ -91,44 +102,62 @@ module _ (env : Env) (mix : ℕ → ℕ → ℕ → ℕ) (c : ℕ) (port : ℕ) 
 
     -- what an operation leads to from a state, with this room then
     abbrev AllMoved : AllAt → Kept ℕ → AllAt × Next (Unit {0}) → Type 0
-    AllMoved at after r = Step env mix c call words G (plan_at env at) (held_of_all room.items at) (all_holds after r) (AllNext after r)
+    AllMoved at after r =
+        Step env mix c call words G (plan_at env at) (held_of_all room.items at) (all_holds after r) (AllNext after r)
 
     abbrev pub AllStep : AllAt → Type 0
     AllStep at =
         let word = old_of words (plan_at env at) in
         AllMoved at (room_after at room word) (after_at mix env port at word)
 
+    -- a load, with what it tells of the answer
+    goes_on : (at next : AllAt) (after : Kept ℕ)
+        → word_after (old_of words (plan_at env at)) (plan_at env at) ≡ old_of words (plan_at env at)
+        → HoldsSame (held_of_all room.items at) (held_of_all after.items next)
+        → Tells env.config.kind c call (held_of_all room.items at).node now (held_of_all room.items at).answer
+        (held_of_all after.items next).answer
+        → AllKnows after next M G → AllMoved at after (next, Go)
+    goes_on at next after same holds tells knows =
+        reads env mix c call words G (plan_at env at) (held_of_all room.items at) (held_of_all after.items next)
+        (AllNext after (next, Go)) whole same holds tells knows
+
     -- a listing is answered with the owners of the port
     listing_right : (owners : List ℕ) → IsRight call None (listing_of owners)
-    listing_right owners = record { replied = record { reply = tt; owners = refl; pairs = refl }; tells = refl }
+    listing_right owners =
+        record { replied = record { reply = tt; owners = refl; pairs = refl }; tells = refl }
 
-    listing_legal : (owners : List ℕ) → now port ≡ owners → IsLegalOn env.config.kind c call now (listing_of owners)
-    listing_legal owners is = record { legal = inl (ap (λ list. Some (listing_of list)) is); leaves = λ p. refl }
+    listing_legal : (owners : List ℕ) → now port ≡ owners
+        → IsLegalOn env.config.kind c call now (listing_of owners)
+    listing_legal owners is =
+        record { legal = inl (ap (λ list. Some (listing_of list)) is); leaves = λ p. refl }
 
     -- ---- the owners
 
+    -- the owner of a node
+    abbrev owner_at : ℕ → ℕ
+    owner_at node = owner_of (M (Node node OwnerWord))
+
     -- the owner that was loaded is kept: of the nodes of the list one is left, so there is room
     kept : (found : FoundPort) (node : ℕ) → AllKnows room (at.Owner found node) M G
-        → with_kept room (owner_of (M (Node node OwnerWord))) ≡ record { items = room.items ++ owner_of (M (Node node OwnerWord)) ∷ []; limit = room.limit }
+        → with_kept room (owner_at node) ≡ with_owner room (owner_at node)
     kept found node known =
         let here = known.knowing.means.bucket in
         let is = here.means in
         let few = list_few env mix M G whole port found.node here.behind here.bound_to in
         let many : length (found.node ∷ here.behind) ≡ length is.among.front + suc (length is.among.rear) =
         ap length is.among.split ∙ length-append is.among.front (node ∷ is.among.rear) in
-        let far : length room.items ≡ length is.among.front = ap length is.owners_are ∙ length-map is.among.front (λ n. owner_of (M (Node n OwnerWord))) in
-        ap (λ t. cond t (record { items = room.items ++ owner_of (M (Node node OwnerWord)) ∷ []; limit = room.limit }) room)
+        let far : length room.items ≡ length is.among.front =
+        ap length is.owners_are ∙ length-map is.among.front owner_at in
+        ap (λ t. cond t (with_owner room (owner_at node)) room)
         (lt-ltb (length room.items) room.limit (omega (arith, few, many, far, roomy)))
 
-    owner_kept : (found : FoundPort) (node : ℕ) → AllKnows room (at.Owner found node) M G → AllStep (at.Owner found node)
+    owner_kept : (found : FoundPort) (node : ℕ) → AllKnows room (at.Owner found node) M G
+        → AllStep (at.Owner found node)
     owner_kept found node known =
-        let owner = owner_of (M (Node node OwnerWord)) in
         let here = known.knowing.means.bucket in
         let is = here.means in
-        let after : Kept ℕ = record { items = room.items ++ owner ∷ []; limit = room.limit } in
-        let next = at.ListLink found node in
-        subst (λ k. AllMoved (at.Owner found node) k (next, Go)) (sym (kept found node known))
-        (reads env mix c call words G (plan_at env (at.Owner found node)) (holds_lock found.bucket.place) (holds_lock found.bucket.place) (AllNext after (next, Go)) whole refl refl (inl refl)
+        subst (λ after. AllMoved (at.Owner found node) after (at.ListLink found node, Go)) (sym (kept found node known))
+        (goes_on (at.Owner found node) (at.ListLink found node) (with_owner room (owner_at node)) refl refl (inl refl)
         (record {
           knowing = record {
             only = known.knowing.only;
@@ -142,8 +171,8 @@ module _ (env : Env) (mix : ℕ → ℕ → ℕ → ℕ) (c : ℕ) (port : ℕ) 
                 means = record {
                   before = is.before;
                   among = is.among;
-                  owners_are = ap (λ owners. owners ++ owner ∷ []) is.owners_are
-                      ∙ sym (map-append (λ n. owner_of (M (Node n OwnerWord))) is.among.front (node ∷ []));
+                  owners_are = ap (λ owners. owners ++ owner_at node ∷ []) is.owners_are
+                      ∙ sym (map-append owner_at is.among.front (node ∷ []));
                 };
               };
             };
@@ -153,43 +182,51 @@ module _ (env : Env) (mix : ℕ → ℕ → ℕ → ℕ) (c : ℕ) (port : ℕ) 
 
     -- ---- the links of the list
 
+    -- where the listing goes on behind a node, by the word that it has loaded
+    abbrev behind_link : FoundPort → ℕ → AllAt
+    behind_link found link = list_followed found (node_of env.geometry.nodes link)
+
     -- behind the last node all owners are kept
     list_ends : (found : FoundPort) (node : ℕ) → (known : AllKnows room (at.ListLink found node) M G)
-        → M (Node node ListLink) ≡ 0 → known.knowing.means.bucket.means.among.rear ≡ [] → AllStep (at.ListLink found node)
+        → M (Node node ListLink) ≡ 0 → known.knowing.means.bucket.means.among.rear ≡ []
+        → AllStep (at.ListLink found node)
     list_ends found node known end none =
         let here = known.knowing.means.bucket in
         let is = here.means in
-        let next = list_followed found None in
-        let ends : list_followed found (node_of env.geometry.nodes (M (Node node ListLink))) ≡ next =
-        ap (λ link. list_followed found (node_of env.geometry.nodes link)) end in
-        let bound : now port ≡ room.items =
-        ap (owners_in env mix M) (here.bound_to ∙ is.among.split ∙ ap (λ rear. is.among.front ++ node ∷ rear) none) ∙ sym is.owners_are in
-        subst (λ s. AllMoved (at.ListLink found node) room (s, Go)) (sym ends)
-        (reads env mix c call words G (plan_at env (at.ListLink found node)) (holds_lock found.bucket.place) (held_of_all room.items next) (AllNext room (next, Go)) whole refl refl
-        (learns env.config.kind c call None now (listing_of room.items) (listing_right room.items) refl (listing_legal room.items bound))
+        let nodes : G.bound port ≡ is.among.front ++ node ∷ [] =
+        here.bound_to ∙ is.among.split ∙ ap (λ rear. is.among.front ++ node ∷ rear) none in
+        let bound : now port ≡ room.items = ap (owners_in env mix M) nodes ∙ sym is.owners_are in
+        subst (λ next. AllMoved (at.ListLink found node) room (next, Go)) (sym (ap (behind_link found) end))
+        (goes_on (at.ListLink found node) (list_followed found None) room refl refl
+        (learns env.config.kind c call None now (listing_of room.items) (listing_right room.items) refl
+        (listing_legal room.items bound))
         (record {
-          knowing = record { only = known.knowing.only; means = record { node = tt; table = tt; bucket = here.found.standing.lock } };
+          knowing = record {
+            only = known.knowing.only;
+            means = record { node = tt; table = tt; bucket = here.found.standing.lock };
+          };
           fits = tt;
         }))
 
     -- and before it goes on to the next one
-    list_goes_on : (found : FoundPort) (node next : ℕ) (rear : List ℕ) → (known : AllKnows room (at.ListLink found node) M G)
+    list_goes_on : (found : FoundPort) (node next : ℕ) (rear : List ℕ)
+        → (known : AllKnows room (at.ListLink found node) M G)
         → M (Node node ListLink) ≡ link_of next → known.knowing.means.bucket.means.among.rear ≡ next ∷ rear
         → AllStep (at.ListLink found node)
     list_goes_on found node next rear known link some =
         let here = known.knowing.means.bucket in
         let is = here.means in
-        let split : found.node ∷ here.behind ≡ (is.among.front ++ node ∷ []) ++ next ∷ rear =
-        is.among.split ∙ ap (λ list. is.among.front ++ node ∷ list) some ∙ sym (append_assoc is.among.front (node ∷ []) (next ∷ rear)) in
-        let there = subst (In next) (sym split) (in-middle next (is.among.front ++ node ∷ []) rear) in
+        let front = is.among.front ++ node ∷ [] in
+        let split : found.node ∷ here.behind ≡ front ++ next ∷ rear =
+        is.among.split ∙ ap (λ list. is.among.front ++ node ∷ list) some
+        ∙ sym (append_assoc is.among.front (node ∷ []) (next ∷ rear)) in
+        let there = subst (In next) (sym split) (in-middle next front rear) in
         let among = list_among env mix M G whole port found.node here.behind here.bound_to next there in
-        let later = at.Owner found next in
-        let goes : list_followed found (node_of env.geometry.nodes (M (Node node ListLink))) ≡ later =
-        ap (λ l. list_followed found (node_of env.geometry.nodes l)) link
+        let goes : behind_link found (M (Node node ListLink)) ≡ at.Owner found next =
+        ap (behind_link found) link
         ∙ ap (list_followed found) (links_tell_apart.link_names env.geometry.nodes next among) in
-        subst (λ s. AllMoved (at.ListLink found node) room (s, Go)) (sym goes)
-        (reads env mix c call words G (plan_at env (at.ListLink found node)) (holds_lock found.bucket.place) (holds_lock found.bucket.place) (AllNext room (later, Go)) whole refl refl (inl refl)
-        (record {
+        subst (λ later. AllMoved (at.ListLink found node) room (later, Go)) (sym goes)
+        (goes_on (at.ListLink found node) (at.Owner found next) room refl refl (inl refl) (record {
           knowing = record {
             only = known.knowing.only;
             means = record {
@@ -200,8 +237,8 @@ module _ (env : Env) (mix : ℕ → ℕ → ℕ → ℕ) (c : ℕ) (port : ℕ) 
                 behind = here.behind;
                 bound_to = here.bound_to;
                 means = record {
-                  before = last_of (is.among.front ++ node ∷ []);
-                  among = record { front = is.among.front ++ node ∷ []; rear = rear; split = split; last = refl };
+                  before = last_of front;
+                  among = record { front = front; rear = rear; split = split; last = refl };
                   owners_are = is.owners_are;
                 };
               };
@@ -211,21 +248,29 @@ module _ (env : Env) (mix : ℕ → ℕ → ℕ → ℕ) (c : ℕ) (port : ℕ) 
         }))
 
     -- which of the two the link says
-    link_next : (found : FoundPort) (node : ℕ) → (known : AllKnows room (at.ListLink found node) M G) (rear : List ℕ)
-        → known.knowing.means.bucket.means.among.rear ≡ rear → IsSegment (list_of M) (list_of M node) rear 0
-        → AllStep (at.ListLink found node)
+    link_next : (found : FoundPort) (node : ℕ) → (known : AllKnows room (at.ListLink found node) M G)
+        → (rear : List ℕ) → known.knowing.means.bucket.means.among.rear ≡ rear
+        → IsSegment (list_of M) (list_of M node) rear 0 → AllStep (at.ListLink found node)
     link_next found node known [] is segment = list_ends found node known segment is
-    link_next found node known (next ∷ rear) is segment = list_goes_on found node next rear known segment.0 is
+    link_next found node known (next ∷ rear) is segment =
+        list_goes_on found node next rear known segment.0 is
 
     -- ---- the way to the port
 
+    -- the answer where the port is bound to nothing
+    abbrev absent : Answer
+    absent = listing_of room.items
+
     -- no owner is kept before the first node
-    found_knows : (found : FoundPort) → room.items ≡ [] → (M' : Memory) (G' : Ghost) → Whole env mix M' G'
-        → seeks.knowing env mix c call port None None (listing_of room.items) (Some found.bucket.place) None (seeks.home_of port found) (seeks.known_port port found) M' G'
+    found_knows : (seek : SeekModel) (found : FoundPort) → room.items ≡ [] → (M' : Memory) (G' : Ghost)
+        → Whole env mix M' G'
+        → seeks.SeekNext env mix c call port None None absent (seek.at, Done (Some found)) M' G'
         → AllKnows room (at.Owner found found.node) M' G'
-    found_knows found none M' G' w k =
+    found_knows seek found none M' G' w k =
         let there = k.means.bucket in
-        let list = found_list env mix M' G' w c found.bucket.place found.bucket.word port found.node found.before there in
+        let bucket = found.bucket in
+        let list =
+        found_list env mix M' G' w c bucket.place bucket.word port found.node found.before there in
         record {
           knowing = record {
             only = k.only;
@@ -249,32 +294,40 @@ module _ (env : Env) (mix : ℕ → ℕ → ℕ → ℕ) (c : ℕ) (port : ℕ) 
 
     -- where the port was found its owners are loaded
     seek_next : (seek : SeekModel) (r : SeekModel × Next (Option FoundPort)) → room.items ≡ []
-        → Step env mix c call words G (seek_plan seek) (seeks.held_of_seek None (listing_of room.items) seek.at) (seeks.seek_holds None (listing_of room.items) (r.0.at, r.1))
-        (seeks.SeekNext env mix c call port None None (listing_of room.items) (r.0.at, r.1))
+        → Step env mix c call words G (seek_plan seek) (held_of_all room.items (at.Seeking seek))
+        (seeks.seek_holds None absent (r.0.at, r.1))
+        (seeks.SeekNext env mix c call port None None absent (r.0.at, r.1))
         → AllMoved (at.Seeking seek) room (sought r.0 r.1)
     seek_next seek (next, Go) none step =
-        step-map env mix c call words G (seek_plan seek) (held_of_all room.items (at.Seeking seek)) (held_of_all room.items (at.Seeking next)) _ (AllNext room (at.Seeking next, Go))
+        step-map env mix c call words G (seek_plan seek) (held_of_all room.items (at.Seeking seek))
+        (held_of_all room.items (at.Seeking next)) _ (AllNext room (at.Seeking next, Go))
         (λ M' G' w k. record { knowing = k.knowing; fits = (k.fits, none) }) step
     seek_next seek (next, Done None) none step = step
     seek_next seek (next, Done (Some found)) none step =
-        let first = at.Owner found found.node in
-        step-map env mix c call words G (seek_plan seek) (held_of_all room.items (at.Seeking seek)) (holds_lock found.bucket.place) _ (AllNext room (first, Go))
-        (λ M' G' w k. found_knows found none M' G' w k) step
+        step-map env mix c call words G (seek_plan seek) (held_of_all room.items (at.Seeking seek))
+        (holds_lock found.bucket.place) _ (AllNext room (at.Owner found found.node, Go))
+        (found_knows next found none) step
 
-    -- each operation of a listing leads from what it knows to what it knows next
+    -- ---- each operation leads from what the listing knows to what it knows next
     pub all_step : (at : AllAt) → IsAllAtIn env at → AllKnows room at M G → AllStep at
     all_step (at.Seeking seek) is known =
-        seek_next seek (seek_after mix port seek (old_of words (seek_plan seek))) known.fits.1
-        (seeks.seek_step env mix c call port None None (listing_of room.items) words G all whole
-        (λ unbound. listing_legal room.items (unbound ∙ sym known.fits.1)) (listing_right room.items) refl seek is (record { knowing = known.knowing; fits = known.fits.0 }))
+        let none = known.fits.1 in
+        seek_next seek (seek_after mix port seek (old_of words (seek_plan seek))) none
+        (seeks.seek_step env mix c call port None None absent words G all whole
+        (λ unbound. listing_legal room.items (unbound ∙ sym none)) (listing_right room.items) refl seek is
+        (record { knowing = known.knowing; fits = known.fits.0 }))
     all_step (at.Owner found node) is known = owner_kept found node known
     all_step (at.ListLink found node) is known =
         let here = known.knowing.means.bucket in
-        link_next found node known here.means.among.rear refl
-        (list_rest env mix M G whole port found.node here.behind here.bound_to node here.means.before here.means.among)
+        let among = here.means.among in
+        link_next found node known among.rear refl
+        (list_rest env mix M G whole port found.node here.behind here.bound_to node here.means.before among)
     all_step (at.Unlocking table unlock) is known =
-        let told : Holding = record held.holds_nothing { answer = Some (listing_of room.items) } in
-        answered env mix c call words G (plan_at env (at.Unlocking table unlock)) (held_of_all room.items (at.Unlocking table unlock)) told (Some (listing_of room.items))
-        (AllNext room (at.Unlocking table unlock, Done tt)) (inl (keeps (Some (listing_of room.items)))) (still_has refl)
-        (moved-map env mix c words G (plan_at env (at.Unlocking table unlock)) (record told { lock = Some unlock.place }) told _ (AllNext room (at.Unlocking table unlock, Done tt)) (λ M' G' w k. k)
+        let state = at.Unlocking table unlock in
+        let answer = Some (listing_of room.items) in
+        let told : Holding = record held.holds_nothing { answer = answer } in
+        answered env mix c call words G (plan_at env state) (held_of_all room.items state) told answer
+        (AllNext room (state, Done tt)) (inl (keeps answer)) (still_has refl)
+        (moved-map env mix c words G (plan_at env state) (held_of_all room.items state) told _
+        (AllNext room (state, Done tt)) (λ M' G' w k. k)
         (unlock_step env mix c told None Nowhere words G all whole unlock.place unlock.word known.knowing))

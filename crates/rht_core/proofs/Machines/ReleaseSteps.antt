@@ -26,7 +26,8 @@ use Rattle.rht_model.specs.declared.history.Call.TheVariants as calls
 use Rattle.rht_model.specs.declared.history.Reply.{Reply}
 use Rattle.rht_model.specs.declared.history.Reply.TheVariants.{Released, Absent}
 use Rattle.rht_model.specs.Multimap.{Multimap}
-use Rattle.rht_model.specs.Answers.{Answer, plain, release_reply, owners_released}
+use Rattle.rht_model.specs.Answers.{Answer, plain, release_reply, owners_released, bindings_after}
+use Rattle.rht_model.proofs.CallEffects.{with_owners-same, with_owners-other}
 use Rattle.rht_model.proofs.ReleasedOwners.{release_reply-there, owners_released-there, release_reply-none, owners_released-none, without_differs}
 use Rattle.rht_release.specs.Release.{plan_at, after_at, sought, owner_compared, list_followed, unlocking, cut_or_chain, unlink_or_promote, promoting, kicks, IsReleaseAtIn}
 use Rattle.rht_release.specs.ReleaseHeld.{held_of_release, holds_bucket, holds_removed, holds_relinking}
@@ -191,9 +192,9 @@ module _ (env : Env) (mix : ℕ → ℕ → ℕ → ℕ) (c : ℕ) (port owner :
       legal = inl (ap (λ reply. Some (plain reply)) (release_reply-none owner (now port) none));
       leaves = λ other. elim (cases_eq other port) [
         | inl e ↦
-            ap (λ t. cond t (owners_released owner (now port)) (now other)) (eq-eqb other port e)
+            ap (bindings_after env.config.kind now call) e ∙ with_owners-same now port (owners_released owner (now port))
             ∙ owners_released-none owner (now port) none ∙ ap now (sym e)
-        | inr ne ↦ ap (λ t. cond t (owners_released owner (now port)) (now other)) (ne_eqb other port ne)
+        | inr ne ↦ with_owners-other now port other (owners_released owner (now port)) ne
       ];
     }
 
@@ -414,11 +415,12 @@ module _ (env : Env) (mix : ℕ → ℕ → ℕ → ℕ) (c : ℕ) (port owner :
               ∙ ap (λ reply. Some (plain reply)) (release_reply-there owner before_it behind_it none);
           bindings = λ other. elim (cases_eq other port) [
             | inl e ↦
-                ap (owners env mix M' G') e ∙ is ∙ sym (owners_released-there owner before_it behind_it none)
-                ∙ sym (ap (λ t. cond t (owners_released owner (now port)) (now other)) (eq-eqb other port e) ∙ ap (owners_released owner) was)
+                ap (owners env mix M' G') e ∙ is
+                ∙ sym (ap (bindings_after env.config.kind now call) e ∙ with_owners-same now port (owners_released owner (now port))
+                ∙ ap (owners_released owner) was ∙ owners_released-there owner before_it behind_it none)
             | inr ne ↦
                 owners-stay env mix c M M' G G' whole takes.made other (put-other G.bound port (front ++ rear) other ne)
-                ∙ sym (ap (λ t. cond t (owners_released owner (now port)) (now other)) (ne_eqb other port ne))
+                ∙ sym (with_owners-other now port other (owners_released owner (now port)) ne)
           ];
           port = port;
           differs = λ e. without_differs owner before_it behind_it (sym is ∙ e ∙ was);
@@ -561,7 +563,7 @@ module _ (env : Env) (mix : ℕ → ℕ → ℕ → ℕ) (c : ℕ) (port owner :
         (record {
           only = only;
           there = place_at-index env mix place lock.bucket;
-          behind_maps = relink_behind_maps env mix c place word link found.before words all lock.bucket before_in;
+          behind_maps = relink_behind_maps env mix place word link found.before words all lock.bucket before_in;
           bound_to = bound;
           none = tt;
           owner_is = owner_is;
@@ -571,8 +573,8 @@ module _ (env : Env) (mix : ℕ → ℕ → ℕ → ℕ) (c : ℕ) (port owner :
           not_held = not_held;
           made = made;
           left = left found.before;
-          holder = holder_left env mix c place word link found.before G lock change nodes refl refl;
-          means = λ took. means (mem env mix (applied words (relink_op found link))) (changed G c change) found.before took (lock_kept env mix c place word link found.before G lock change nodes refl refl);
+          holder = holder_left env mix place word link found.before c G lock change nodes refl refl;
+          means = λ took. means (mem env mix (applied words (relink_op found link))) (changed G c change) found.before took (lock_kept env mix place word link found.before c G lock change nodes refl refl);
         })
       where
         left : (b : Option ℕ) → (lock_left found.bucket.place b ≡ Some found.bucket.place) ⊎ (lock_left found.bucket.place b ≡ None)
@@ -600,7 +602,7 @@ module _ (env : Env) (mix : ℕ → ℕ → ℕ → ℕ) (c : ℕ) (port owner :
         first_out found link [] (s.front ++ s.rear) found.node (Taken c) true true refl k.only is.found bound leads.owner_is before_in (inl (refl, refl)) (λ e. cc)
         (unlink env mix c port j found.node s.front s.rear found.before M (mem env mix (applied words (relink_op found link))) G whole low k.only.raising low link is.means.link_is
         (record { holder = lock.holder; split = s.split; last = s.last; key_is = is.found.key_is; bound_to = bound })
-        (relink_write env mix c found.bucket.place found.bucket.word link found.before words all lock.bucket before_in))
+        (relink_write env mix found.bucket.place found.bucket.word link found.before words all lock.bucket before_in))
       where
         none_behind : (nodes : List ℕ) → None ≡ first_of_list nodes → nodes ≡ []
         none_behind [] is = refl
@@ -649,7 +651,7 @@ module _ (env : Env) (mix : ℕ → ℕ → ℕ → ℕ) (c : ℕ) (port owner :
               back_one = λ p e. absurd (cc);
               single = λ one. absurd (let none = whole.owned.single one port m (second ∷ tail) bound in cc);
             })
-            (relink_write env mix c found.bucket.place found.bucket.word (link_of second) found.before words all lock.bucket before_in))
+            (relink_write env mix found.bucket.place found.bucket.word (link_of second) found.before words all lock.bucket before_in))
 
     -- ---- the states of a relinking
 

@@ -1,6 +1,6 @@
 -- The stores of a relinking in a locked bucket: what the first one writes, which lock is left behind it, and how a machine's relinking
 -- stands.
-use Rattle.std.proofs.Common.{◌≡◌, ◌≢◌, ◌⊎◌, ℕ, ◌<◌, ◌≤◌, List, length, Option, Some, None, Bool, true, false, refl, sym, ap, ◌∙◌, subst, inl, inr, arith}
+use Rattle.std.proofs.Common.{◌≡◌, ◌≢◌, ℕ, ◌<◌, ◌≤◌, List, length, Option, Some, None, Bool, true, false, refl, sym, ap, ◌∙◌, subst}
 use Rattle.rht_words.specs.declared.env.Env.{Env}
 use Rattle.rht_words.specs.declared.geometry.Geometry.{Geometry}
 use Rattle.rht_words.specs.declared.op.Op.{Op}
@@ -13,9 +13,9 @@ use Rattle.rht_chain.specs.Relink.{RelinkModel, relink_new, relink_plan, relink_
 use Rattle.rht_chain.specs.declared.relink.RelinkAt.{RelinkAt}
 use Rattle.rht_chain.specs.declared.relink.RelinkAt.TheVariants.{ChainLink as AtLink, Word}
 use Rattle.rht_release.specs.FoundPort.{has_relinked}
-use Rattle.rht_core.proofs.Theory.Ghosts.{put, put-all, put-same, Held, Ghost}
+use Rattle.rht_core.proofs.Theory.Ghosts.{put, put-same, Ghost}
 use Rattle.rht_core.proofs.Theory.Wholes.{place_at, word_index, place_at-index, index-within}
-use Rattle.rht_core.proofs.Theory.Knowledge.{HasOnly, HoldsLock}
+use Rattle.rht_core.proofs.Theory.Knowledge.{HoldsLock}
 use Rattle.rht_core.proofs.Theory.Steps.{mem}
 use Rattle.rht_core.proofs.Theory.Readiness.{Change, changed}
 use Rattle.rht_core.proofs.Moves.Relinking.{relink_address, relink_value, relinked}
@@ -56,7 +56,7 @@ abbrev pub lock_left : ℕ → Option ℕ → Option ℕ
 lock_left place None = None
 lock_left place (Some node) = Some place
 
-module _ (env : Env) (mix : ℕ → ℕ → ℕ → ℕ) (c place word link : ℕ) (before : Option ℕ) where
+module _ (env : Env) (mix : ℕ → ℕ → ℕ → ℕ) (place word link : ℕ) (before : Option ℕ) where
   abbrev pub first_store : Op
   first_store = relink_plan (relink_new env.geometry place word before link)
 
@@ -101,7 +101,7 @@ module _ (env : Env) (mix : ℕ → ℕ → ℕ → ℕ) (c place word link : �
 
   -- ---- what the caller has behind it
 
-  module _ (G : Ghost) (lock : HoldsLock env mix c G place word) (change : Change) (nodes : List ℕ) (there : change.place ≡ j)
+  module _ (c : ℕ) (G : Ghost) (lock : HoldsLock env mix c G place word) (change : Change) (nodes : List ℕ) (there : change.place ≡ j)
       (relinks : change.bucket ≡ relinked (place_at env mix j) link (G.bucket j) nodes before) where
     abbrev G' : Ghost
     G' = changed G c change
