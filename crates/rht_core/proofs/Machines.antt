@@ -2,5 +2,11 @@
 pub mod FindSteps
 -- a bind, operation by operation
 pub mod BindSteps
+-- a listing of owners, operation by operation
+pub mod AllSteps
+-- a rebind, operation by operation
+pub mod RebindSteps
 -- a job, operation by operation
 pub mod JobSteps
+-- a release, operation by operation
+pub mod ReleaseSteps

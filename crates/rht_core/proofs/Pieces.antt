@@ -10,3 +10,9 @@ pub mod Probes
 pub mod PortCounts
 -- along the list of a port's nodes
 pub mod Lists
+-- the way to a port
+pub mod Seeks
+-- behind a store that changes what a port is bound to
+pub mod Rebounds
+-- the stores of a relinking
+pub mod Relinks

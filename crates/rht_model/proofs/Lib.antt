@@ -24,3 +24,5 @@ pub mod Refusals
 pub mod UnchangedBindings
 -- an ending that is kept stays as it was when others are
 pub mod KeptEndings
+-- what a release answers and leaves, by where its owner stands
+pub mod ReleasedOwners

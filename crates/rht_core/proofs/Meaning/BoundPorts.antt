@@ -21,7 +21,7 @@ use Rattle.rht_core.specs.StandsFor.{in_force, chain_from, bucket_nodes, table_n
 use Rattle.rht_core.proofs.Theory.Ghosts.{Ghost, lock_bit, table_at, some-same}
 use Rattle.rht_core.proofs.Theory.Wholes.{chain_of, list_of, key_of, home, hash_in, place_at, future_in, Whole}
 use Rattle.rht_core.proofs.Theory.Passed.{hash-below, home-index}
-use Rattle.rht_core.proofs.Pieces.Lists.{list_among}
+use Rattle.rht_core.proofs.Pieces.Lists.{list_among, list_few}
 use Rattle.rht_core.proofs.Theory.Steps.{mem, owners, owners_in}
 
 -- the first of a list
@@ -201,15 +201,11 @@ module _ (env : Env) (mix : ℕ → ℕ → ℕ → ℕ) (words : List ℕ) (G :
       go (n ∷ behind) b =
           let to = whole.owned.bound_to port n behind b in
           let among = list_among env mix M G whole port n behind b in
-          let few =
-          length-count_below (λ n. true) g.nodes (n ∷ behind) to.distinct
-          (In-AllByRecursion (λ m. m < g.nodes) (n ∷ behind) among) (λ m i. refl) in
-          let most = count_below-most (λ n. true) g.nodes in
+          let few = list_few env mix M G whole port n behind b in
           let some : g.nodes ≡ suc (g.nodes - 1) = omega (arith, g.within.nodes_within.0) in
           ap (list_from g words g.nodes) (first_bound port (n ∷ behind) b)
           ∙ ap (λ fuel. list_from g words fuel (Some n)) some
-          ∙ ap (λ rest. n ∷ rest) (list_met (g.nodes - 1) (list_of M n) behind
-          (omega (arith, few, most, some)) (λ m i. among m (inr i)) to.list)
+          ∙ ap (λ rest. n ∷ rest) (list_met (g.nodes - 1) (list_of M n) behind (omega (arith, few, some)) (λ m i. among m (inr i)) to.list)
           ∙ sym b
 
   -- so the owners of each port are those of the nodes to which it is bound

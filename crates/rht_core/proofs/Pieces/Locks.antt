@@ -8,7 +8,7 @@ use Rattle.rht_words.specs.Places.{Node, PageWord, words_in}
 use Rattle.rht_words.proofs.Memory.{Memory, IsWrite, is_write}
 use Rattle.rht_core.proofs.Theory.Ghosts.{put, put-all, Ghost, lock_bit, with_holder}
 use Rattle.rht_core.proofs.Theory.Wholes.{place_at, word_index, place_at-index, index-within, Whole}
-use Rattle.rht_core.proofs.Theory.Knowledge.{KnownNode, KnownTable, KnownBucket, Unlocked, Locks, BucketMeans, TableMeans-stay, NodeMeans-stay, Knowing}
+use Rattle.rht_core.proofs.Theory.Knowledge.{KnownNode, KnownTable, KnownBucket, Unlocked, Locks, TakenOut, LocksTakenOut, HoldsLock, BucketMeans, TableMeans-stay, NodeMeans-stay, Knowing}
 use Rattle.rht_core.proofs.Theory.Frames.{same_tables, tables_stay}
 use Rattle.rht_core.proofs.Theory.Steps.{DropsLock, Holding, mem, Moved, moved}
 use Rattle.rht_core.proofs.Moves.Quiet.{drop_lock}
@@ -58,13 +58,12 @@ module _ (env : Env) (mix : ℕ → ℕ → ℕ → ℕ) (c : ℕ) (h : Holding)
           };
         }
 
-    -- the holder stores the bucket's word without the lock
-    pub unlock_step : (place word : ℕ) → knowing (Some place) (Locks place word) M G
-        → Moved env mix c words G (Store place word) (holding (Some place)) (holding None)
-        (knowing None Unlocked)
-    unlock_step place word knows =
+    -- the holder stores the bucket's word without the lock, and this is known of the bucket then
+    unlock_to : (place word : ℕ) (bucket after : KnownBucket) → HoldsLock env mix c G place word → knowing (Some place) bucket M G
+        → ((M' : Memory) → BucketMeans env mix c M' (with_holder G (word_index env mix place) None) after)
+        → Moved env mix c words G (Store place word) (holding (Some place)) (holding None) (knowing None after)
+    unlock_to place word bucket after lock knows means =
         let op = Store place word in
-        let lock = knows.means.bucket in
         let j = word_index env mix place in
         let is : place_at env mix j ≡ place = place_at-index env mix place lock.bucket in
         let M' = mem env mix (applied words op) in
@@ -73,11 +72,8 @@ module _ (env : Env) (mix : ℕ → ℕ → ℕ → ℕ) (c : ℕ) (h : Holding)
         (PageWord j) op all within (sym is) in
         let right = (whole.buckets j within).locked in
         let b = record (G.bucket j) { holder = None } in
-        let old : old_of words op ≡ word + 1 = ap (λ p. slice_index words p) (sym is) ∙ right.word_is
-        ∙ ap (λ p. p + lock_bit (G.bucket j).holder) lock.plain
-        ∙ ap (λ x. word + lock_bit x) lock.holder in
-        moved env mix c words G op (holding (Some place)) (holding None) (knowing None Unlocked)
-        (DropsLock j) whole tt tt
+        let old : old_of words op ≡ word + 1 = ap (λ p. slice_index words p) (sym is) ∙ right.word_is ∙ ap (λ p. p + lock_bit (G.bucket j).holder) lock.plain ∙ ap (λ x. word + lock_bit x) lock.holder in
+        moved env mix c words G op (holding (Some place)) (holding None) (knowing None after) (DropsLock j) whole tt tt
         (drop_lock env mix c j word M M' G whole within lock.holder lock.plain write)
         (record {
           on = sym is;
@@ -86,14 +82,24 @@ module _ (env : Env) (mix : ℕ → ℕ → ℕ → ℕ) (c : ℕ) (h : Holding)
           has = ap Some (sym is);
           holds = refl;
         })
-        (with-holder (Some place) place (Locks place word) None op word knows write None Unlocked
-        (put-all (λ i bucket. bucket.holder ≡ Some c
-        → (◌≡◌ {A = Option ℕ} None (Some (place_at env mix i)))
-        ⊎ (h.second ≡ Some (place_at env mix i))) G.bucket j b
+        (with-holder (Some place) place bucket None op word knows write None after
+        (put-all (λ i bucket. bucket.holder ≡ Some c → (◌≡◌ {A = Option ℕ} None (Some (place_at env mix i))) ⊎ (h.second ≡ Some (place_at env mix i))) G.bucket j b
         (λ holds. absurd (cc))
         (λ i ne holds. elim (knows.only.locks i holds) [
           | inl first ↦ absurd (ne (let q : place ≡ place_at env mix i = cc in let r = is in omega
               (arith, q, r)))
           | inr second ↦ inr second
         ]))
-        tt)
+        (means M'))
+
+    pub unlock_step : (place word : ℕ) → knowing (Some place) (Locks place word) M G
+        → Moved env mix c words G (Store place word) (holding (Some place)) (holding None) (knowing None Unlocked)
+    unlock_step place word knows = unlock_to place word (Locks place word) Unlocked knows.means.bucket knows (λ M'. tt)
+
+    -- a node that the caller has taken out of a list stays so
+    pub unlock_taken : (place word n : ℕ) → knowing (Some place) (LocksTakenOut place word n) M G
+        → Moved env mix c words G (Store place word) (holding (Some place)) (holding None) (knowing None (TakenOut n))
+    unlock_taken place word n knows =
+        let is = knows.means.bucket in
+        unlock_to place word (LocksTakenOut place word n) (TakenOut n) is.lock knows
+        (λ M'. record { among = is.took.among; taken = is.took.taken })

@@ -37,8 +37,8 @@ pub data KnownTable : Type 0 where
 -- Of the list of a port whose first node was found. It stands at a node, behind another one or none, and no owner before it is
 -- this one; nor is the node's; or the node's is, and then which link is behind it. The first node has the owner, and which one is
 -- second; then which link is behind the first one in the chain; and that the second one leads on as the first one does. Which link
--- is behind the first one; and that the caller's own node leads on as that does. The owners of the nodes before this one, and those
--- up to this one.
+-- is behind the first one; and that the caller's own node leads on as that does, where the first one has this owner and is the only
+-- one, or whoever has it. The owners of the nodes before this one, and those up to this one.
 pub data KnownList : Type 0 where
   AtNode : ℕ → Option ℕ → ℕ → KnownList
   Differing : ℕ → ℕ → KnownList
@@ -49,6 +49,7 @@ pub data KnownList : Type 0 where
   Promotes : ℕ → ℕ → KnownList
   FirstLink : ℕ → KnownList
   Replaces : ℕ → KnownList
+  Succeeds : ℕ → ℕ → KnownList
   Collected : ℕ → List ℕ → KnownList
   CollectedTo : ℕ → List ℕ → KnownList
 
@@ -239,6 +240,11 @@ module _ (env : Env) (mix : ℕ → ℕ → ℕ → ℕ) where
     pub has : HasNode c G node
     pub alike : chain_of M node ≡ chain_of M first
 
+  -- and the first one has this owner, and is the only one
+  pub record IsSucceeding (c : ℕ) (M : Memory) (G : Ghost) (first : ℕ) (behind : List ℕ) (node owner : ℕ) : Type 0 where
+    pub leads : IsLeading M first behind None owner
+    pub replaces : IsReplacing c M G first node
+
   abbrev pub ListMeans : ℕ → Memory → Ghost → ℕ → List ℕ → KnownList → Type 0
   ListMeans c M G first behind (AtNode node before owner) = StandsInList M (first ∷ behind) node before owner
   ListMeans c M G first behind (Differing node owner) = IsOtherOwner M (first ∷ behind) node owner
@@ -251,6 +257,7 @@ module _ (env : Env) (mix : ℕ → ℕ → ℕ → ℕ) where
   ListMeans c M G first behind (Promotes second owner) = IsPromoting M first behind second owner
   ListMeans c M G first behind (FirstLink link) = chain_of M first ≡ link
   ListMeans c M G first behind (Replaces node) = IsReplacing c M G first node
+  ListMeans c M G first behind (Succeeds node owner) = IsSucceeding c M G first behind node owner
   ListMeans c M G first behind (Collected node owners) = IsCollected M (first ∷ behind) node owners
   ListMeans c M G first behind (CollectedTo node owners) = IsCollectedTo M (first ∷ behind) node owners
 
@@ -296,6 +303,7 @@ module _ (env : Env) (mix : ℕ → ℕ → ℕ → ℕ) where
   IsPlainList (Promotes second owner) = Unit {0}
   IsPlainList (FirstLink link) = Unit {0}
   IsPlainList (Replaces node) = ⊥
+  IsPlainList (Succeeds node owner) = ⊥
   IsPlainList (Collected node owners) = Unit {0}
   IsPlainList (CollectedTo node owners) = Unit {0}
 
@@ -627,6 +635,7 @@ module _ (env : Env) (mix : ℕ → ℕ → ℕ → ℕ) where
         }
         ListMeans-stay (FirstLink link) plain is = links first (inl refl) ∙ is
         ListMeans-stay (Replaces node) plain is = absurd plain
+        ListMeans-stay (Succeeds node owner) plain is = absurd plain
         ListMeans-stay (Collected node owners) plain is = record {
           before = is.before;
           among = is.among;
@@ -716,6 +725,22 @@ module _ (env : Env) (mix : ℕ → ℕ → ℕ → ℕ) where
             };
           }
 
+      -- and the first one keeps its owner, and is the only one still
+      Succeeds-stay : (place word key first : ℕ) (before : Option ℕ) (node owner : ℕ)
+          → (HasNode c G node → HasNode c G' node × (chain_of M' node ≡ chain_of M node))
+          → IsInList c M G place word key first before (Succeeds node owner) → IsInList c M' G' place word key first before (Succeeds node owner)
+      Succeeds-stay place word key first before node owner own means =
+          let leads = InList-stay place word key first before (Leads None owner) tt
+          (record { found = means.found; behind = means.behind; bound_to = means.bound_to; means = means.means.leads }) in
+          let replaces = Replaces-stay place word key first before node own
+          (record { found = means.found; behind = means.behind; bound_to = means.bound_to; means = means.means.replaces }) in
+          record {
+            found = leads.found;
+            behind = leads.behind;
+            bound_to = leads.bound_to;
+            means = record { leads = leads.means; replaces = replaces.means };
+          }
+
       TakenOut-stay : (node : ℕ) → HasTakenOut c G node → HasTakenOut c G' node
       TakenOut-stay node means = record { among = means.among; taken = taken node ∙ means.taken }
 
@@ -789,6 +814,7 @@ module _ (env : Env) (mix : ℕ → ℕ → ℕ → ℕ) where
           go (Promotes second owner) m = InList-stay place word key first before (Promotes second owner) tt m
           go (FirstLink link) m = InList-stay place word key first before (FirstLink link) tt m
           go (Replaces node) m = Replaces-stay place word key first before node (own node) m
+          go (Succeeds node owner) m = Succeeds-stay place word key first before node owner (own node) m
           go (Collected node owners) m = InList-stay place word key first before (Collected node owners) tt m
           go (CollectedTo node owners) m = InList-stay place word key first before
               (CollectedTo node owners) tt m

@@ -226,9 +226,8 @@ module _ (env : Env) (mix : ℕ → ℕ → ℕ → ℕ) where
   -- ---- what the words stand for
 
   -- the owners of nodes whose owner words stay
-  owners_in-same : (M M' : Memory) (bound : List ℕ)
-      → ((n : ℕ) → In n bound → M' (Node n OwnerWord) ≡ M (Node n OwnerWord))
-      → owners_in M' bound ≡ owners_in M bound
+  pub owners_in-same : (M M' : Memory) (bound : List ℕ)
+      → ((n : ℕ) → In n bound → M' (Node n OwnerWord) ≡ M (Node n OwnerWord)) → owners_in M' bound ≡ owners_in M bound
   owners_in-same M M' [] same = refl
   owners_in-same M M' (n ∷ bound) same =
       ap (λ w. owner_of w ∷ owners_in M' bound) (same n (inl refl))

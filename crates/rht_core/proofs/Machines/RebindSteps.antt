@@ -1,0 +1,617 @@
+-- What a rebind knows in each state, and that each of its operations leads from what it knows to what it knows next.
+use Rattle.std.proofs.Common.{◌≡◌, ◌≢◌, ◌⊎◌, ℕ, ◌+◌, ◌^◌, ◌<◌, ◌==◌, List, [], ◌∷◌, ◌++◌, length, Option, Some, None, Bool, true, false, cond, refl, sym, ◌∙◌, ap, subst, inl, inr, arith}
+use Rattle.std.proofs.lemmas.Bool.{cases_eq, eq-eqb, eqb-true}
+use Rattle.std.proofs.Math.Nat.{mod-eq_of_lt}
+use Rattle.rht_words.specs.declared.env.Env.{Env}
+use Rattle.rht_words.specs.declared.op.Op.{Op}
+use Rattle.rht_words.specs.declared.config.Kind.TheVariants.{Single}
+use Rattle.rht_words.specs.declared.machine.Next.{Next}
+use Rattle.rht_words.specs.declared.machine.Next.TheVariants.{Go, Done}
+use Rattle.rht_words.specs.Held as held
+use Rattle.rht_words.specs.Links.{link_of}
+use Rattle.rht_words.specs.Ports.{owner_of}
+use Rattle.rht_words.specs.Operations.{old_of, word_after, applied}
+use Rattle.rht_words.specs.Places.{Node, ChainLink, OwnerWord, words_in}
+use Rattle.rht_words.specs.Members.{In}
+use Rattle.rht_words.proofs.Memory.{Memory, IsWrite}
+use Rattle.rht_words.proofs.Members.{in-middle}
+use Rattle.rht_arena.specs.GiveNode.{give_node_plan}
+use Rattle.rht_arena.specs.NewNode.{NewNodeModel, new_node_plan, new_node_after, node_of_new}
+use Rattle.rht_chain.specs.LockedWalk.{IsNodeOrNone}
+use Rattle.rht_chain.specs.Relink.{RelinkModel}
+use Rattle.rht_model.specs.declared.history.Call.{Call}
+use Rattle.rht_model.specs.declared.history.Call.TheVariants as calls
+use Rattle.rht_model.specs.declared.history.Reply.{Reply}
+use Rattle.rht_model.specs.declared.history.Reply.TheVariants.{Rebound, Absent, NoNode}
+use Rattle.rht_model.specs.Multimap.{Multimap, Agree}
+use Rattle.rht_model.specs.Answers.{Answer, plain, rebind_reply, owners_rebound, bindings_after}
+use Rattle.rht_model.proofs.CallEffects.{with_owners-same, with_owners-other}
+use Rattle.rht_release.specs.FoundPort.{has_relinked, relink_of}
+use Rattle.rht_release.specs.Rebind.{plan_at, after_at, filled, giving, sought, owner_compared, replacing, IsRebindAtIn}
+use Rattle.rht_release.specs.RebindHeld.{held_of_rebind, holds_found, holds_replacing}
+use Rattle.rht_release.specs.Seek.{SeekModel, seek_new, seek_plan, seek_after}
+use Rattle.rht_release.specs.declared.found_port.FoundPort.{FoundPort}
+use Rattle.rht_release.specs.declared.rebind.RebindAt.{RebindAt}
+use Rattle.rht_release.specs.declared.rebind.RebindAt.TheVariants as at
+use Rattle.rht_core.specs.Replies.{IsRebindReply, AreOwnersWith, ArePairsWith}
+use Rattle.rht_core.proofs.Theory.Ghosts.{put-same, put-other, First, Taken, Ghost, is_taken_by, held_not_first, taken_by_one}
+use Rattle.rht_core.proofs.Theory.Wholes.{word_index, place_at, place_at-index, outs, Whole}
+use Rattle.rht_core.proofs.Theory.Knowledge.{HasOnly, HoldsLock, KnownNode, Nowhere, KnownBucket, Unlocked, Locks, InList, KnownList, Leads, LeadsTo, Succeeds, Known, Knowing, first_of_list}
+use Rattle.rht_core.proofs.Theory.Frames.{Made}
+use Rattle.rht_core.proofs.Theory.Readiness.{Change, changed}
+use Rattle.rht_core.proofs.Theory.Answering.{KeepsAnswer, IsLegalOn, IsRight, Says, keeps, learns}
+use Rattle.rht_core.proofs.Theory.Steps.{Rebinds, Holding, HoldsSame, by_test, mem, owners, owners_in, owners-stay, Moved, moved-map, Step, step-map, answered, reads, still_has}
+use Rattle.rht_core.proofs.Moves.Relinking.{relink_address, relink_value}
+use Rattle.rht_core.proofs.Moves.Removing as removing
+use Rattle.rht_core.proofs.Moves.Removing.{IsFoundIn, CanReplace}
+use Rattle.rht_core.proofs.Pieces.NewNodes as nodes
+use Rattle.rht_core.proofs.Pieces.Locks.{unlock_step}
+use Rattle.rht_core.proofs.Pieces.Lists.{list_among, found_list}
+use Rattle.rht_core.proofs.Pieces.Seeks as seeks
+use Rattle.rht_core.proofs.Pieces.Rebounds.{taken_more, only_left}
+use Rattle.rht_core.proofs.Pieces.Relinks.{relinking, unstored, relinking_so, lock_left, first_store, relink_write, relink_behind_maps, relink_leaves, holder_left, lock_kept}
+use Rattle.rht_core.proofs.Machines.FindSteps.{known_nothing}
+
+module _ (port owner new : ℕ) where
+  -- the node with all its words, but for its link in a chain
+  abbrev own : ℕ → KnownNode
+  own n = nodes.filled n port new
+
+  -- what it knows of its node, and of the bucket that it has locked
+  abbrev knows_of : ℕ → KnownBucket → Known
+  knows_of n bucket = record { node = Some (own n); table = Nowhere; bucket = bucket }
+
+  abbrev in_list : FoundPort → KnownList → KnownBucket
+  in_list found known = InList found.bucket.place found.bucket.word port found.node found.before known
+
+  -- before the store that puts its node in the place of the old one, and behind it
+  abbrev known_replacing : ℕ → FoundPort → Bool → Known
+  known_replacing n found false = knows_of n (in_list found (Succeeds n owner))
+  known_replacing n found true =
+      record { node = None; table = Nowhere; bucket = Locks found.bucket.place found.bucket.word }
+
+  -- what a rebind knows in a state
+  abbrev pub known_of_rebind : RebindAt → Known
+  known_of_rebind (at.Filling made) =
+      record { node = nodes.known_at port new made.at; table = Nowhere; bucket = Unlocked }
+  known_of_rebind (at.Seeking n seek) = seeks.known_of_seek port (Some (own n)) seek.at
+  known_of_rebind (at.Owner n found) = knows_of n (seeks.known_port port found)
+  known_of_rebind (at.ChainLink n found) = knows_of n (in_list found (Leads None owner))
+  known_of_rebind (at.Link n found link) = knows_of n (in_list found (LeadsTo None link owner))
+  known_of_rebind (at.Replacing n found relink) = known_replacing n found (has_relinked found.before relink.at)
+  known_of_rebind (at.Unlocking n table unlock) = knows_of n (Locks unlock.place unlock.word)
+  known_of_rebind (at.Giving give) = knows_of give.node Unlocked
+
+module _ (env : Env) (mix : ℕ → ℕ → ℕ → ℕ) (c : ℕ) (port owner new : ℕ) where
+  abbrev call : Call
+  call = calls.Rebind port owner new
+
+  -- the relinking that puts its node in the place of the old one
+  abbrev replaces : ℕ → FoundPort → Bool → RelinkModel
+  replaces n found stored =
+      relinking env.geometry found.bucket.place found.bucket.word found.before (link_of n) stored
+
+  -- how its pieces are for the port and the owner
+  abbrev pub fits_rebind : RebindAt → Type 0
+  fits_rebind (at.Filling made) = (made.key ≡ port) × (made.owner ≡ new)
+  fits_rebind (at.Seeking n seek) = seeks.fits_seek port seek.at
+  fits_rebind (at.Owner n found) = Unit {0}
+  fits_rebind (at.ChainLink n found) = Unit {0}
+  fits_rebind (at.Link n found link) = Unit {0}
+  fits_rebind (at.Replacing n found relink) = relink ≡ replaces n found (has_relinked found.before relink.at)
+  fits_rebind (at.Unlocking n table unlock) = Unit {0}
+  fits_rebind (at.Giving give) = Unit {0}
+
+  pub record RebindKnows (at : RebindAt) (M : Memory) (G : Ghost) : Type 0 where
+    pub knowing : Knowing env mix c (held_of_rebind at) (known_of_rebind port owner new at) M G
+    pub fits : fits_rebind at
+
+  -- what it holds and knows after an operation
+  abbrev pub rebind_holds : RebindAt × Next (Reply × Option ℕ) → Holding
+  rebind_holds (at, Go) = held_of_rebind at
+  rebind_holds (at, Done end) = held.ended_with (plain end.0)
+
+  abbrev pub RebindNext : RebindAt × Next (Reply × Option ℕ) → Memory → Ghost → Type 0
+  RebindNext (at, Go) M G = RebindKnows at M G
+  RebindNext (at, Done end) M G = Knowing env mix c (held.ended_with (plain end.0)) known_nothing M G
+
+  module _ (single : env.config.kind ≡ Single) (small : new < 2 ^ 32) (low : c < env.geometry.callers)
+      (words : List ℕ) (G : Ghost) (all : length words ≡ words_in env.geometry)
+      (whole : Whole env mix (mem env mix words) G) where
+    abbrev M : Memory
+    M = mem env mix words
+
+    -- the owners of each port now
+    abbrev now : Multimap
+    now = owners env mix M G
+
+    -- what an operation leads to from a state
+    abbrev RebindMoved : RebindAt → RebindAt × Next (Reply × Option ℕ) → Type 0
+    RebindMoved at r =
+        Step env mix c call words G (plan_at env at) (held_of_rebind at) (rebind_holds r) (RebindNext r)
+
+    abbrev pub RebindStep : RebindAt → Type 0
+    RebindStep at = RebindMoved at (after_at mix env port owner at (old_of words (plan_at env at)))
+
+    -- a load of which the answer isn't known
+    goes_on : (at next : RebindAt)
+        → word_after (old_of words (plan_at env at)) (plan_at env at) ≡ old_of words (plan_at env at)
+        → HoldsSame (held_of_rebind at) (held_of_rebind next)
+        → KeepsAnswer (held_of_rebind at).answer (held_of_rebind next).answer
+        → RebindKnows next M G → RebindMoved at (next, Go)
+    goes_on at next same holds says knows =
+        reads env mix c call words G (plan_at env at) (held_of_rebind at) (held_of_rebind next) (RebindNext (next, Go))
+        whole same holds (inl says) knows
+
+    -- ---- the answers
+
+    -- a rebind that has a node is answered so
+    with_node : (n : ℕ) (reply : Reply) → IsRebindReply reply → AreOwnersWith reply [] → ArePairsWith reply []
+        → reply ≢ NoNode → IsRight call (Some n) (plain reply)
+    with_node n reply is owners pairs other = record {
+      replied = record { reply = is; owners = owners; pairs = pairs };
+      tells = (λ none. absurd (cc), λ no_node. absurd (other no_node));
+    }
+
+    absent_right : (n : ℕ) → IsRight call (Some n) (plain Absent)
+    absent_right n = with_node n Absent tt refl refl (λ e. cc)
+
+    -- where no node is free, whatever is bound
+    no_node_legal : IsLegalOn env.config.kind c call now (plain NoNode)
+    no_node_legal = record { legal = inr (tt, refl); leaves = λ p. refl }
+
+    -- where a port has these owners, of which the old one isn't the only one
+    absent_legal : (bound : List ℕ) → now port ≡ bound → rebind_reply owner bound ≡ Absent
+        → owners_rebound owner new bound ≡ bound → IsLegalOn env.config.kind c call now (plain Absent)
+    absent_legal bound is reply same = record {
+      legal = inl (ap (λ reply. Some (plain reply)) (ap (rebind_reply owner) is ∙ reply));
+      leaves = λ other. elim (cases_eq other port) [
+        | inl e ↦
+            ap (bindings_after env.config.kind now call) e ∙ with_owners-same now port (owners_rebound owner new (now port))
+            ∙ ap (owners_rebound owner new) is ∙ same ∙ sym is ∙ ap now (sym e)
+        | inr ne ↦ with_owners-other now port other (owners_rebound owner new (now port)) ne
+      ];
+    }
+
+    -- ---- the new node
+
+    -- what it holds while the node is made
+    abbrev holds_new : Option ℕ → Holding
+    holds_new node = record held.holds_nothing { node = node }
+
+    -- a node was taken, and its words stored; or there was none
+    node_made : (new_node : NewNodeModel) (r : NewNodeModel × Next (Option ℕ)) → r.0.key ≡ port → r.0.owner ≡ new
+        → (nodes.made_by (r.0.at, r.1) ≡ None → node_of_new new_node.at ≡ None)
+        → Moved env mix c words G (new_node_plan new_node) (holds_new (node_of_new new_node.at)) (holds_new (nodes.made_by (r.0.at, r.1)))
+        (nodes.knowing env mix c held.holds_nothing Nowhere Unlocked (nodes.made_by (r.0.at, r.1)) (nodes.known_made port new (r.0.at, r.1)))
+        → RebindMoved (at.Filling new_node) (filled env.geometry r.0 r.1)
+    node_made new_node (next, Go) key own had step =
+        answered env mix c call words G (new_node_plan new_node) (holds_new (node_of_new new_node.at)) (holds_new (node_of_new next.at)) None (RebindNext (at.Filling next, Go))
+        (inl refl) (record { taken = λ node none some. refl; gone = λ node some none. absurd (let before = had none in cc) })
+        (moved-map env mix c words G (new_node_plan new_node) (holds_new (node_of_new new_node.at)) (holds_new (node_of_new next.at)) _ (RebindNext (at.Filling next, Go))
+        (λ M' G' w k. record { knowing = k; fits = (key, own) }) step)
+    node_made new_node (next, Done None) key own had step =
+        answered env mix c call words G (new_node_plan new_node) (holds_new (node_of_new new_node.at)) (holds_new None) (Some (plain NoNode)) (RebindNext (at.Filling next, Done (NoNode, None)))
+        (learns env.config.kind c call (node_of_new new_node.at) now (plain NoNode)
+        (record { replied = record { reply = tt; owners = refl; pairs = refl }; tells = (λ none. refl, λ no_node. had refl) }) refl no_node_legal)
+        (record { taken = λ node none some. absurd (cc); gone = λ node some none told. absurd (cc) })
+        (moved-map env mix c words G (new_node_plan new_node) (holds_new (node_of_new new_node.at)) (holds_new None) _ (RebindNext (at.Filling next, Done (NoNode, None)))
+        (λ M' G' w k. record { only = k.only; means = k.means }) step)
+    node_made new_node (next, Done (Some n)) key own had step =
+        let seeking = at.Seeking n (seek_new env.geometry) in
+        answered env mix c call words G (new_node_plan new_node) (holds_new (node_of_new new_node.at)) (holds_new (Some n)) None (RebindNext (seeking, Go))
+        (inl refl) (record { taken = λ node none some. refl; gone = λ node some none. absurd (cc) })
+        (moved-map env mix c words G (new_node_plan new_node) (holds_new (node_of_new new_node.at)) (holds_new (Some n)) _ (RebindNext (seeking, Go))
+        (λ M' G' w k. record { knowing = k; fits = tt }) step)
+
+    -- ---- the way to the port
+
+    seek_next : (n : ℕ) (seek : SeekModel) (r : SeekModel × Next (Option FoundPort))
+        → Step env mix c call words G (seek_plan seek) (seeks.held_of_seek (Some n) (plain Absent) seek.at) (seeks.seek_holds (Some n) (plain Absent) (r.0.at, r.1))
+        (seeks.SeekNext env mix c call port (Some n) (Some (own port owner new n)) (plain Absent) (r.0.at, r.1))
+        → RebindMoved (at.Seeking n seek) (sought env.geometry n r.0 r.1, Go)
+    seek_next n seek (next, Go) step =
+        step-map env mix c call words G (seek_plan seek) (held_of_rebind (at.Seeking n seek)) (held_of_rebind (at.Seeking n next)) _ (RebindNext (at.Seeking n next, Go))
+        (λ M' G' w k. record { knowing = k.knowing; fits = k.fits }) step
+    seek_next n seek (next, Done None) step =
+        step-map env mix c call words G (seek_plan seek) (held_of_rebind (at.Seeking n seek)) (held_of_rebind (giving env.geometry n)) _ (RebindNext (giving env.geometry n, Go))
+        (λ M' G' w k. record { knowing = k; fits = tt }) step
+    seek_next n seek (next, Done (Some found)) step =
+        step-map env mix c call words G (seek_plan seek) (held_of_rebind (at.Seeking n seek)) (held_of_rebind (at.Owner n found)) _ (RebindNext (at.Owner n found, Go))
+        (λ M' G' w k. record {
+          knowing = record { only = k.only; means = record { node = k.means.node; table = tt; bucket = k.means.bucket } };
+          fits = tt;
+        }) step
+
+    -- ---- the old owner
+
+    -- the port that was found has one node
+    record IsAlone (m : ℕ) : Type 0 where
+      behind : List ℕ
+      bound_to : G.bound port ≡ m ∷ behind
+      alone : behind ≡ []
+
+    alone_in : (n : ℕ) (found : FoundPort) → RebindKnows (at.Owner n found) M G → IsAlone found.node
+    alone_in n found known =
+        let list = found_list env mix M G whole c found.bucket.place found.bucket.word port found.node found.before known.knowing.means.bucket in
+        record { behind = list.0; bound_to = list.1; alone = whole.owned.single single port found.node list.0 list.1 }
+
+    owner_next : (n : ℕ) (found : FoundPort) → RebindKnows (at.Owner n found) M G → RebindStep (at.Owner n found)
+    owner_next n found known =
+        let first = owner_of (M (Node found.node OwnerWord)) in
+        let list = alone_in n found known in
+        let bound : now port ≡ first ∷ [] =
+        ap (owners_in env mix M) (list.bound_to ∙ ap (λ behind. found.node ∷ behind) list.alone) in
+        by_test (λ t. RebindMoved (at.Owner n found) (owner_compared n found t, Go)) (first == owner)
+        (λ same. goes_on (at.Owner n found) (at.ChainLink n found) refl refl refl (record {
+          knowing = record {
+            only = known.knowing.only;
+            means = record {
+              node = known.knowing.means.node;
+              table = tt;
+              bucket = record {
+                found = known.knowing.means.bucket;
+                behind = list.behind;
+                bound_to = list.bound_to;
+                means = record { owner_is = eqb-true first owner same; second_is = sym (ap first_of_list list.alone) };
+              };
+            };
+          };
+          fits = tt;
+        }))
+        (λ other.
+        let next = owner_compared n found false in
+        reads env mix c call words G (plan_at env (at.Owner n found)) (holds_found n found) (held_of_rebind next) (RebindNext (next, Go)) whole refl refl
+        (learns env.config.kind c call (Some n) now (plain Absent) (absent_right n) refl
+        (absent_legal (first ∷ []) bound (ap (λ t. cond t Rebound Absent) other) (ap (λ t. cond t (new ∷ []) (first ∷ [])) other)))
+        (record {
+          knowing = record {
+            only = known.knowing.only;
+            means = record { node = known.knowing.means.node; table = tt; bucket = known.knowing.means.bucket.standing.lock };
+          };
+          fits = tt;
+        }))
+
+    -- ---- the node gets the link of the old one
+
+    -- what is held and known of a replacement that stands so
+    abbrev ReplacingKnows : ℕ → FoundPort → RelinkModel → Bool → Memory → Ghost → Type 0
+    ReplacingKnows n found relink stored M' G' =
+        Knowing env mix c (holds_replacing n found stored) (known_replacing port owner new n found stored) M' G'
+        × (relink ≡ replaces n found stored)
+
+    linked : (n : ℕ) (found : FoundPort) (link : ℕ) → RebindKnows (at.Link n found link) M G → RebindStep (at.Link n found link)
+    linked n found link known =
+        let op = plan_at env (at.Link n found link) in
+        let place = found.bucket.place in
+        let relink = relink_of env.geometry found (link_of n) in
+        let bucket = in_list port owner new found (LeadsTo None link owner) in
+        let fill = nodes.fill_step env mix c (record held.holds_nothing { lock = Some place }) Nowhere bucket words G all whole tt (own port owner new n) ChainLink link known.knowing in
+        let step : Step env mix c call words G op (holds_found n found) (holds_found n found) (ReplacingKnows n found relink false) =
+        answered env mix c call words G op (holds_found n found) (holds_found n found) None (ReplacingKnows n found relink false) (inl refl) (still_has refl)
+        (moved-map env mix c words G op (holds_found n found) (holds_found n found) _ (ReplacingKnows n found relink false)
+        (λ M' G' w k. let node = k.means.node in let is = k.means.bucket in (
+          record {
+            only = k.only;
+            means = record {
+              node = record { has = node.has; chain = tt; key = node.key; owner = node.owner; list = node.list };
+              table = tt;
+              bucket = record {
+                found = is.found;
+                behind = is.behind;
+                bound_to = is.bound_to;
+                means = record {
+                  leads = is.means.leads;
+                  replaces = record { has = node.has; alike = node.chain ∙ sym is.means.link_is };
+                };
+              };
+            };
+          },
+          refl,
+        )) fill) in
+        let next = replacing env.geometry n found in
+        step-map env mix c call words G op (holds_found n found) (held_of_rebind next)
+        (ReplacingKnows n found relink (has_relinked found.before relink.at)) (RebindNext (next, Go))
+        (λ M' G' w k. record { knowing = k.0; fits = k.1 })
+        (subst (λ t. Step env mix c call words G op (holds_found n found) (holds_replacing n found t) (ReplacingKnows n found relink t))
+        (sym (unstored place (link_of n) found.before)) step)
+
+    -- ---- the store that puts the node in the place of the old one
+
+    module _ (n : ℕ) (found : FoundPort) (before_in : IsNodeOrNone env.geometry found.before)
+        (k : Knowing env mix c (holds_found n found) (known_replacing port owner new n found false) M G) where
+      abbrev m : ℕ
+      m = found.node
+
+      abbrev j : ℕ
+      j = word_index env mix found.bucket.place
+
+      abbrev op : Op
+      op = first_store env mix found.bucket.place found.bucket.word (link_of n) found.before
+
+      abbrev M' : Memory
+      M' = mem env mix (applied words op)
+
+      abbrev front : List ℕ
+      front = k.means.bucket.found.standing.stands.front
+
+      abbrev rear : List ℕ
+      rear = k.means.bucket.found.standing.stands.rear
+
+      lock : HoldsLock env mix c G found.bucket.place found.bucket.word
+      lock = k.means.bucket.found.standing.lock
+
+      bound : G.bound port ≡ m ∷ []
+      bound =
+          let list = k.means.bucket in
+          list.bound_to ∙ ap (λ behind. m ∷ behind) (whole.owned.single single port m list.behind list.bound_to)
+
+      in_bucket : IsFoundIn env mix c port j m front rear found.before M M' G []
+      in_bucket =
+          let here = k.means.bucket.found in
+          record {
+            holder = lock.holder;
+            split = here.standing.stands.split;
+            last = here.standing.stands.last;
+            key_is = here.key_is;
+            bound_to = bound;
+          }
+
+      first : G.node m ≡ First j
+      first = whole.owned.member j m (subst (In m) (sym in_bucket.split) (in-middle m front rear))
+
+      apart : n ≢ m
+      apart e = held_not_first (G.node n) c j k.means.node.has.mine (ap G.node e ∙ first)
+
+      can : CanReplace env mix c port j m front rear found.before M M' G [] n [] (Taken c)
+      can =
+          let node = k.means.node in
+          record {
+            among = node.has.among;
+            differs = apart;
+            key_is = node.key;
+            chain_is = k.means.bucket.means.replaces.alike;
+            from = inl node.has.mine;
+            list = node.list;
+            distinct = (tt, tt);
+            used = refl;
+            built = low;
+            no_first = refl;
+            no_others = λ d ne. taken_by_one d c ne;
+            listed = λ x i. absurd i;
+            back = λ x i ne. absurd i;
+            back_one = λ p e. absurd (cc);
+            single = λ one. refl;
+          }
+
+      write : IsWrite env.geometry M M' (relink_address j found.before) (relink_value (place_at env mix j) (link_of n) found.before)
+      write =
+          relink_write env mix found.bucket.place found.bucket.word (link_of n) found.before words all lock.bucket before_in
+
+      abbrev change : Change
+      change = removing.replacing env mix c port j m front rear found.before M M' G n [] (Taken c)
+
+      abbrev G' : Ghost
+      G' = changed G c change
+
+      made : Made env mix c M G M' G'
+      made = removing.replace env mix c port j m front rear found.before M M' G whole [] in_bucket n [] (Taken c) can write
+
+      -- ---- what is bound
+
+      was : now port ≡ owner ∷ []
+      was = ap (owners_in env mix M) bound ∙ ap (λ o. o ∷ []) k.means.bucket.means.leads.owner_is
+
+      is_now : owners env mix M' G' port ≡ new ∷ []
+      is_now =
+          let node = k.means.node in
+          let word : M' (Node n OwnerWord) ≡ new =
+          relink_leaves env mix found.bucket.place found.bucket.word (link_of n) found.before M M' write n OwnerWord node.has.among (λ e. cc)
+          ∙ node.owner in
+          ap (owners_in env mix M') (put-same G.bound port (n ∷ []))
+          ∙ ap (λ o. o ∷ []) (ap owner_of word ∙ mod-eq_of_lt {n = new} {m = 2 ^ 32} small)
+
+      others_same : (other : ℕ) → other ≢ port → owners env mix M' G' other ≡ now other
+      others_same other ne = owners-stay env mix c M M' G G' whole made other (put-other G.bound port (n ∷ []) other ne)
+
+      -- on bindings where the old owner is the only one, the rebind is answered so and leaves the new one
+      reply_on : (list : List ℕ) → list ≡ owner ∷ [] → rebind_reply owner list ≡ Rebound
+      reply_on list is = ap (rebind_reply owner) is ∙ ap (λ t. cond t Rebound Absent) (eq-eqb owner owner refl)
+
+      leaves_on : (list : List ℕ) → list ≡ owner ∷ [] → owners_rebound owner new list ≡ new ∷ []
+      leaves_on list is =
+          ap (owners_rebound owner new) is ∙ ap (λ t. cond t (new ∷ []) (owner ∷ [])) (eq-eqb owner owner refl)
+
+      bindings : Agree (owners env mix M' G') (bindings_after env.config.kind now call)
+      bindings other = elim (cases_eq other port) [
+        | inl e ↦
+            ap (owners env mix M' G') e ∙ is_now ∙ sym (leaves_on (now port) was)
+            ∙ sym (with_owners-same now port (owners_rebound owner new (now port))) ∙ ap (bindings_after env.config.kind now call) (sym e)
+        | inr ne ↦
+            others_same other ne ∙ sym (with_owners-other now port other (owners_rebound owner new (now port)) ne)
+      ]
+
+      -- an owner that takes its own place changes nothing
+      says : Says env.config.kind c call now (owners env mix M' G') None (Some (plain Rebound))
+      says = elim (cases_eq new owner) [
+        | inl e ↦ inl (record {
+          agree = λ other. elim (cases_eq other port) [
+            | inl q ↦ ap (owners env mix M' G') q ∙ is_now ∙ ap (λ o. o ∷ []) e ∙ sym was ∙ ap now (sym q)
+            | inr ne ↦ others_same other ne
+          ];
+          said = inr (record { unknown = refl; answer = plain Rebound; known = refl; said = inl (legal_after e) });
+        })
+        | inr ne ↦ inr (record {
+          unknown = refl;
+          answer = plain Rebound;
+          known = refl;
+          answered = ap (λ reply. Some (plain reply)) (reply_on (now port) was);
+          bindings = bindings;
+          port = port;
+          differs = λ e. ne (let q : ◌≡◌ {A = List ℕ} (new ∷ []) (owner ∷ []) = sym is_now ∙ e ∙ was in cc);
+        })
+      ]
+        where
+          legal_after : new ≡ owner → IsLegalOn env.config.kind c call (owners env mix M' G') (plain Rebound)
+          legal_after e =
+              let after = owners env mix M' G' in
+              let same : after port ≡ owner ∷ [] = is_now ∙ ap (λ o. o ∷ []) e in
+              record {
+                legal = inl (ap (λ reply. Some (plain reply)) (reply_on (after port) same));
+                leaves = λ other. elim (cases_eq other port) [
+                  | inl q ↦
+                      ap (bindings_after env.config.kind after call) q ∙ with_owners-same after port (owners_rebound owner new (after port))
+                      ∙ leaves_on (after port) same ∙ sym is_now ∙ ap after (sym q)
+                  | inr ne ↦ with_owners-other after port other (owners_rebound owner new (after port)) ne
+                ];
+              }
+
+      -- ---- the store
+
+      abbrev holds_left : Holding
+      holds_left =
+          record held.holds_nothing { lock = lock_left found.bucket.place found.before; answer = Some (plain Rebound) }
+
+      one_out : outs env mix G' c + 0 ≡ outs env mix G c + 1
+      one_out =
+          let among = list_among env mix M G whole port m [] bound m (inl refl) in
+          let more = taken_more c m n env.geometry.nodes (First j) G.node among (ap (is_taken_by c) first)
+          (inr (apart, ap (is_taken_by c) k.means.node.has.mine, refl)) in
+          omega (arith, more)
+
+      left_lock : (b : Option ℕ) → (lock_left found.bucket.place b ≡ Some found.bucket.place) ⊎ (lock_left found.bucket.place b ≡ None)
+      left_lock None = inr refl
+      left_lock (Some node) = inl refl
+
+      only : HasOnly env mix c G' None (lock_left found.bucket.place found.before) None false
+      only =
+          let is = place_at-index env mix found.bucket.place lock.bucket in
+          let holder =
+          holder_left env mix found.bucket.place found.bucket.word (link_of n) found.before c G lock change (front ++ n ∷ rear) refl refl in
+          let left =
+          only_left env mix c G change found.bucket.place (Some n) (lock_left found.bucket.place found.before) false is (λ e. cc) (λ e. cc) (λ x q. inr (cc)) holder k.only in
+          record { nodes = left.nodes; locks = left.locks; raising = left.raising ∙ k.only.raising }
+
+      still_locked : (node : ℕ) → found.before ≡ Some node → HoldsLock env mix c G' found.bucket.place found.bucket.word
+      still_locked =
+          lock_kept env mix found.bucket.place found.bucket.word (link_of n) found.before c G lock change (front ++ n ∷ rear) refl refl
+
+      replaced : (Knows : Memory → Ghost → Type 0) → Knows M' G' → Step env mix c call words G op (holds_found n found) holds_left Knows
+      replaced Knows knows = record {
+        move = Rebinds change;
+        ready = tt;
+        made = made;
+        does = record {
+          behind_maps = relink_behind_maps env mix found.bucket.place found.bucket.word (link_of n) found.before words all lock.bucket before_in;
+          lock = ap Some (sym (place_at-index env mix found.bucket.place lock.bucket));
+          left_lock = left_lock found.before;
+          left_node = inr refl;
+          raised_is = sym k.only.raising;
+        };
+        says = says;
+        right = λ answer unknown known.
+            subst (IsRight call (Some n)) (let same : ◌≡◌ {A = Option Answer} (Some (plain Rebound)) (Some answer) = known in cc)
+            (with_node n Rebound tt refl refl (λ e. cc));
+        in_time = record { taken = λ node none some. absurd (cc); gone = λ node some none told. absurd (cc) };
+        outs = one_out;
+        knows = knows;
+      }
+
+    -- what a replacement leads to that stands so, with this node before the old one or none
+    abbrev LeadsOn : ℕ → FoundPort → Option ℕ → RelinkModel → Type 0
+    LeadsOn n found before relink =
+        let state = at.Replacing n (record found { before = before }) relink in
+        IsNodeOrNone env.geometry before
+        → Knowing env mix c (held_of_rebind state) (known_of_rebind port owner new state) M G → RebindStep state
+
+    -- the store that puts the node in the place of the old one
+    first_leads : (n : ℕ) (found : FoundPort) (before : Option ℕ)
+        → LeadsOn n found before (replaces n (record found { before = before }) false)
+    first_leads n found None within k =
+        let here : FoundPort = record found { before = None } in
+        let end : RebindAt × Next (Reply × Option ℕ) = (at.Replacing n here (replaces n here false), Done (Rebound, Some found.node)) in
+        replaced n here within k (RebindNext end)
+        (record { only = only n here within k; means = record { node = tt; table = tt; bucket = tt } })
+    first_leads n found (Some node) within k =
+        let here : FoundPort = record found { before = Some node } in
+        let next = at.Replacing n here (replaces n here true) in
+        replaced n here within k (RebindNext (next, Go))
+        (record {
+          knowing = record {
+            only = only n here within k;
+            means = record { node = tt; table = tt; bucket = still_locked n here within k node refl };
+          };
+          fits = refl;
+        })
+
+    -- and the one behind it, which unlocks the bucket
+    second_leads : (n : ℕ) (found : FoundPort) (node : ℕ)
+        → LeadsOn n found (Some node) (replaces n (record found { before = Some node }) true)
+    second_leads n found node within k =
+        let here : FoundPort = record found { before = Some node } in
+        let state = at.Replacing n here (replaces n here true) in
+        let end : RebindAt × Next (Reply × Option ℕ) = (state, Done (Rebound, Some found.node)) in
+        let told : Holding = record held.holds_nothing { answer = Some (plain Rebound) } in
+        answered env mix c call words G (plan_at env state) (held_of_rebind state) told (Some (plain Rebound)) (RebindNext end)
+        (inl (keeps (Some (plain Rebound)))) (still_has refl)
+        (moved-map env mix c words G (plan_at env state) (held_of_rebind state) told _ (RebindNext end) (λ M' G' w k. k)
+        (unlock_step env mix c told None Nowhere words G all whole found.bucket.place found.bucket.word k))
+
+    replacing_step : (n : ℕ) (found : FoundPort) (relink : RelinkModel) → IsNodeOrNone env.geometry found.before
+        → RebindKnows (at.Replacing n found relink) M G → RebindStep (at.Replacing n found relink)
+    replacing_step n found relink within known =
+        relinking_so env.geometry found.bucket.place found.bucket.word (link_of n) (LeadsOn n found) (first_leads n found)
+        (second_leads n found) found.before relink known.fits within known.knowing
+
+    -- ---- each operation leads from what the rebind knows to what it knows next
+    pub rebind_step : (at : RebindAt) → IsRebindAtIn env at → RebindKnows at M G → RebindStep at
+    rebind_step (at.Filling new_node) is known =
+        let r = new_node_after new_node (old_of words (new_node_plan new_node)) in
+        let Made : ℕ → ℕ → Type 0 = λ key o. Moved env mix c words G (new_node_plan new_node) (holds_new (node_of_new new_node.at)) (holds_new (nodes.made_by (r.0.at, r.1)))
+        (nodes.knowing env mix c held.holds_nothing Nowhere Unlocked (nodes.made_by (r.0.at, r.1)) (nodes.known_made key o (r.0.at, r.1))) in
+        let Knows : ℕ → ℕ → Type 0 = λ key o. nodes.knowing env mix c held.holds_nothing Nowhere Unlocked (node_of_new new_node.at) (nodes.known_at key o new_node.at) M G in
+        let knows : Knows new_node.key new_node.owner =
+        subst (λ key. Knows key new_node.owner) (sym known.fits.0) (subst (λ o. Knows port o) (sym known.fits.1) known.knowing) in
+        let step : Made new_node.key new_node.owner = nodes.new_node_step env mix c held.holds_nothing Nowhere Unlocked words G all whole tt new_node is knows in
+        node_made new_node r known.fits.0 known.fits.1 (nodes.made_none new_node.at (old_of words (new_node_plan new_node)))
+        (subst (λ key. Made key new) known.fits.0 (subst (λ o. Made new_node.key o) known.fits.1 step))
+    rebind_step (at.Seeking n seek) is known =
+        seek_next n seek (seek_after mix port seek (old_of words (seek_plan seek)))
+        (seeks.seek_step env mix c call port (Some n) (Some (own port owner new n)) (plain Absent) words G all whole
+        (λ unbound. absent_legal [] unbound refl refl) (absent_right n) refl seek is.seek_in (record { knowing = known.knowing; fits = known.fits }))
+    rebind_step (at.Owner n found) is known = owner_next n found known
+    rebind_step (at.ChainLink n found) is known =
+        let here = known.knowing.means.bucket in
+        goes_on (at.ChainLink n found) (at.Link n found (M (Node found.node ChainLink))) refl refl refl (record {
+          knowing = record {
+            only = known.knowing.only;
+            means = record {
+              node = known.knowing.means.node;
+              table = tt;
+              bucket = record {
+                found = here.found;
+                behind = here.behind;
+                bound_to = here.bound_to;
+                means = record { leads = here.means; link_is = refl };
+              };
+            };
+          };
+          fits = tt;
+        })
+    rebind_step (at.Link n found link) is known = linked n found link known
+    rebind_step (at.Replacing n found relink) is known = replacing_step n found relink is.found_in.before_in known
+    rebind_step (at.Unlocking n table unlock) is known =
+        let told : Holding = record held.holds_nothing { node = Some n; answer = Some (plain Absent) } in
+        let next = giving env.geometry n in
+        answered env mix c call words G (plan_at env (at.Unlocking n table unlock)) (held_of_rebind (at.Unlocking n table unlock)) told (Some (plain Absent))
+        (RebindNext (next, Go)) (inl (keeps (Some (plain Absent)))) (still_has refl)
+        (moved-map env mix c words G (plan_at env (at.Unlocking n table unlock)) (record told { lock = Some unlock.place }) told _ (RebindNext (next, Go))
+        (λ M' G' w k. record { knowing = k; fits = tt })
+        (unlock_step env mix c told (Some (own port owner new n)) Nowhere words G all whole unlock.place unlock.word known.knowing))
+    rebind_step (at.Giving give) is known =
+        let told : Holding = record held.holds_nothing { answer = Some (plain Absent) } in
+        subst (λ g. Step env mix c call words G (give_node_plan (record { geometry = g; node = give.node })) (record told { node = Some give.node }) told (Knowing env mix c told known_nothing))
+        (sym is.geometry_same)
+        (answered env mix c call words G (give_node_plan (record { geometry = env.geometry; node = give.node })) (record told { node = Some give.node }) told (Some (plain Absent)) (Knowing env mix c told known_nothing)
+        (inl (keeps (Some (plain Absent)))) (record { taken = λ node none some. absurd (cc); gone = λ node some none told. absurd (cc) })
+        (nodes.give_step env mix c told Nowhere Unlocked words G all whole tt (own port owner new give.node) known.knowing))
