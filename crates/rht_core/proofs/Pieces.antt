@@ -10,3 +10,5 @@ pub mod Probes
 pub mod PortCounts
 -- along the list of a port's nodes
 pub mod Lists
+-- a node is put in front of the list of a port
+pub mod ListFronts
