@@ -29,6 +29,7 @@ use Rattle.rht_chain.specs.declared.probe.Probed.{Probed}
 use Rattle.rht_chain.specs.Relink.{RelinkModel, relink_new, relink_at, has_relinked}
 use Rattle.rht_chain.specs.declared.relink.RelinkAt.{RelinkAt}
 use Rattle.rht_chain.specs.declared.relink.RelinkAt.TheVariants as relinks
+use Rattle.rht_chain.specs.declared.locked.Locked.{Locked}
 use Rattle.rht_chain.specs.declared.locked.Then.TheVariants.{Table, Answer}
 use Rattle.rht_model.specs.declared.history.Call.{Call}
 use Rattle.rht_model.specs.declared.history.Call.TheVariants as calls
@@ -88,8 +89,8 @@ module _ (port owner : ℕ) where
   abbrev in_front : FoundList → KnownNode
   in_front list = nodes.with_word (own list.claimed.node) ListLink (link_of list.first)
 
-  abbrev found : FoundList → KnownBucket
-  found list = Found list.claimed.bucket.place list.claimed.bucket.word port list.first list.before
+  abbrev first_found : FoundList → KnownBucket
+  first_found list = Found list.claimed.bucket.place list.claimed.bucket.word port list.first list.before
 
   abbrev of_list : FoundList → KnownList → KnownBucket
   of_list list = InList list.claimed.bucket.place list.claimed.bucket.word port list.first list.before
@@ -107,8 +108,8 @@ module _ (port owner : ℕ) where
   known_of_bind (at.Locating n locate) = knows_of (own n) (known_locate port locate.table locate.at) Unlocked
   known_of_bind (at.Probing n table shape probe) = knows_of (own n) (AtHome port table (Some shape) (place_of_probe probe.at)) (known_probe port probe.at)
   known_of_bind (at.FoundOwner claimed found) = knows_of (own claimed.node) (at_home claimed) (Member claimed.bucket.place claimed.bucket.word port found)
-  known_of_bind (at.ListLink list) = knows_of (own list.claimed.node) (at_home list.claimed) (found list)
-  known_of_bind (at.ChainLink list) = knows_of (in_front list) (at_home list.claimed) (found list)
+  known_of_bind (at.ListLink list) = knows_of (own list.claimed.node) (at_home list.claimed) (first_found list)
+  known_of_bind (at.ChainLink list) = knows_of (in_front list) (at_home list.claimed) (first_found list)
   known_of_bind (at.LinkBehind list link) = knows_of (in_front list) (at_home list.claimed) (of_list list (FirstLink link))
   known_of_bind (at.Replacing list relink) = known_replacing list (has_relinked list.before relink.at)
   known_of_bind (at.Future claimed length) = knows_of (own claimed.node) (at_home claimed) (missed claimed)
@@ -531,113 +532,135 @@ module _ (env : Env) (mix : ℕ → ℕ → ℕ → ℕ) (c : ℕ) (port owner :
 
     front_linked : (list : FoundList) (link : ℕ) → BindKnows (at.LinkBehind list link) M G → BindStep (at.LinkBehind list link)
     front_linked list link known =
-        let n = list.claimed.node in
-        let bucket = list.claimed.bucket in
-        let first = begins bucket.place bucket.word (link_of n) list.before in
+        let claimed = list.claimed in
+        let place = claimed.bucket.place in
+        let first = begins place claimed.bucket.word (link_of claimed.node) list.before in
         let there = replacing env list in
         let op = plan_at env (at.LinkBehind list link) in
-        subst (λ stored. Step env mix c call words G op (holds_claimed list.claimed) (holds_replacing list.claimed stored) (BindNext (there, Go))) (sym first.0)
-        (answered env mix c call words G op (holds_claimed list.claimed) (holds_claimed list.claimed) None (BindNext (there, Go)) (inl refl) (still_has refl)
-        (moved-map env mix c words G op (holds_claimed list.claimed) (holds_claimed list.claimed) _ (BindNext (there, Go))
-        (λ M' G' w k. let is = k.means.bucket in record {
-          knowing = subst (λ stored. Knowing env mix c (holds_replacing list.claimed stored) (known_replacing port owner list stored) M' G') (sym first.0) (record {
-            only = k.only;
-            means = record {
-              node = record { has = k.means.node.has; chain = tt; key = k.means.node.key; owner = k.means.node.owner; list = k.means.node.list };
-              table = tt;
-              bucket = record {
-                found = is.found;
-                behind = is.behind;
-                bound_to = is.bound_to;
-                means = record { has = k.means.node.has; alike = k.means.node.chain ∙ sym is.means };
-              };
-            };
-          });
+        subst (λ t. Step env mix c call words G op (holds_claimed claimed) (holds_replacing claimed t) (BindNext (there, Go))) (sym first.0)
+        (answered env mix c call words G op (holds_claimed claimed) (holds_claimed claimed) None (BindNext (there, Go)) (inl refl)
+        (still_has refl)
+        (moved-map env mix c words G op (holds_claimed claimed) (holds_claimed claimed) _ (BindNext (there, Go))
+        (λ M' G' w k. let is = k.means.bucket in let node = k.means.node in record {
+          knowing =
+              subst (λ t. Knowing env mix c (holds_replacing claimed t) (known_replacing port owner list t) M' G') (sym first.0) (record {
+                only = k.only;
+                means = record {
+                  node = record { has = node.has; chain = tt; key = node.key; owner = node.owner; list = node.list };
+                  table = tt;
+                  bucket = record {
+                    found = is.found;
+                    behind = is.behind;
+                    bound_to = is.bound_to;
+                    means = record { has = node.has; alike = node.chain ∙ sym is.means };
+                  };
+                };
+              });
           fits = record { listed = known.fits; relink_is = refl; at_is = first.1 };
         })
-        (nodes.fill_step env mix c (holds_node None (Some bucket.place)) (at_home port owner list.claimed) (of_list port owner list (FirstLink link)) words G all whole tt (in_front port owner list) ChainLink link known.knowing)))
+        (nodes.fill_step env mix c (holds_node None (Some place)) (at_home port owner claimed) (of_list port owner list (FirstLink link))
+        words G all whole tt (in_front port owner list) ChainLink link known.knowing)))
 
-    -- what a bind holds behind the store, and knows
+    -- what a bind holds behind the store
     abbrev holds_front : Option ℕ → Holding
     holds_front lock = record held.holds_nothing { lock = lock; answer = Some (plain (Bound false)) }
 
-    front_stored : (list : FoundList) (op : Op) (After : Memory → Ghost → Type 0) → env.config.kind ≡ Listed
-        → (k : Knowing env mix c (holds_claimed list.claimed) (known_replacing port owner list false) M G)
-        → nodes_at env.geometry ≤ op_place op
-        → IsWrite env.geometry M (mem env mix (applied words op)) (relink_address (word_index env mix list.claimed.bucket.place) list.before)
-        (relink_value (place_at env mix (word_index env mix list.claimed.bucket.place)) (link_of list.claimed.node) list.before)
-        → (let front = fronted env mix c port list.claimed.bucket.place list.claimed.bucket.word list.first list.claimed.node list.before M (mem env mix (applied words op)) G whole k.means.bucket in
-        HasOnly env mix c front None (lock_left list.claimed.bucket.place list.before) None false
-        → ((p : ℕ) → list.before ≡ Some p → HoldsLock env mix c front list.claimed.bucket.place list.claimed.bucket.word)
-        → After (mem env mix (applied words op)) front)
-        → Step env mix c call words G op (holds_claimed list.claimed) (holds_front (lock_left list.claimed.bucket.place list.before)) After
-    front_stored list op After listed k behind_maps write knows =
-        let n = list.claimed.node in
-        let place = list.claimed.bucket.place in
-        let j = word_index env mix place in
-        let M' = mem env mix (applied words op) in
-        let is = k.means.bucket in
-        let node = k.means.node in
-        let rest = list.first ∷ is.behind in
-        let back : place_at env mix j ≡ place = place_at-index env mix place is.found.standing.lock.bucket in
-        let front = fronted env mix c port place list.claimed.bucket.word list.first n list.before M M' G whole is in
-        let made = front_made env mix c port place list.claimed.bucket.word list.first n list.before M M' G whole is listed node.key node.list write in
-        let before : now port ≡ owners_in env mix M rest = ap (owners_in env mix M) is.bound_to in
-        let owner_word = front_owner list op is.means.has.among write ∙ node.owner in
-        let here : owners_in env mix M' (n ∷ rest) ≡ owner ∷ now port =
-        ap (λ o. o ∷ owners_in env mix M' rest) (ap owner_of owner_word ∙ mod-eq_of_lt {n = owner} {m = 2 ^ 32} small)
-        ∙ ap (λ list. owner ∷ list) (owners_in-stay env mix c M M' G front whole made port rest is.bound_to ∙ sym before) in
-        let after : owners_in env mix M' (n ∷ rest) ≡ owners_bound env.config.kind owner (now port)
-        = here ∙ sym (ap (λ kind. owners_bound kind owner (now port)) listed) in
-        record {
-          move = Rebinds (change env mix c port place list.claimed.bucket.word list.first n list.before M M' G whole is);
-          ready = tt;
-          made = made;
-          does = record {
-            behind_maps = behind_maps;
-            lock = ap Some (sym back);
-            left_lock = left_lock place list.before;
-            left_node = inr refl;
-            raised_is = sym k.only.raising;
-          };
-          says = inr (record {
-            unknown = refl;
-            answer = plain (Bound false);
-            known = refl;
-            answered = ap (λ kind. Some (plain (bind_reply kind (now port)))) listed;
-            bindings = stored_bindings (n ∷ rest) M' front made refl after;
-            port = port;
-            differs = λ e. longer owner (now port) (sym here ∙ sym (ap (owners_in env mix M') (put-same G.bound port (n ∷ rest))) ∙ e);
-          });
-          right = λ answer unknown known.
-              subst (IsRight call (Some n)) (let same : ◌≡◌ {A = Option answers.Answer} (Some (plain (Bound false))) (Some answer) = known in cc)
-              (with_node n (Bound false) tt refl refl (λ e. cc));
-          in_time = record { taken = λ node none some. absurd (cc); gone = λ node some none told. absurd (cc) };
-          outs = ap (λ o. o + 0) (front_outs env mix c port place list.claimed.bucket.word list.first n list.before M M' G whole is);
-          knows = knows
-              (front_only env mix c port place list.claimed.bucket.word list.first n list.before M M' G whole is (record { nodes = k.only.nodes; locks = k.only.locks; raising = k.only.raising }))
-              (front_locks env mix c port place list.claimed.bucket.word list.first n list.before M M' G whole is);
-        }
-      where
-        left_lock : (place : ℕ) (before : Option ℕ) → (lock_left place before ≡ Some place) ⊎ (lock_left place before ≡ None)
-        left_lock place None = inr refl
-        left_lock place (Some node) = inl refl
+    module _ (list : FoundList) (op : Op)
+        (k : Knowing env mix c (holds_claimed list.claimed) (known_replacing port owner list false) M G) where
+      abbrev bucket : Locked
+      bucket = list.claimed.bucket
 
-        longer : (o : ℕ) (list : List ℕ) → o ∷ list ≡ list → ⊥
-        longer o list e = let same = ap length e in absurd (omega (arith, same))
+      abbrev stored : Memory
+      stored = mem env mix (applied words op)
 
-        front_owner : (list : FoundList) (op : Op) → list.claimed.node < env.geometry.nodes
-            → IsWrite env.geometry M (mem env mix (applied words op)) (relink_address (word_index env mix list.claimed.bucket.place) list.before)
-            (relink_value (place_at env mix (word_index env mix list.claimed.bucket.place)) (link_of list.claimed.node) list.before)
-            → mem env mix (applied words op) (Node list.claimed.node OwnerWord) ≡ M (Node list.claimed.node OwnerWord)
-        front_owner list op l write = go list.before write
-          where
-            go : (before : Option ℕ)
-                → IsWrite env.geometry M (mem env mix (applied words op)) (relink_address (word_index env mix list.claimed.bucket.place) before)
-                (relink_value (place_at env mix (word_index env mix list.claimed.bucket.place)) (link_of list.claimed.node) before)
-                → mem env mix (applied words op) (Node list.claimed.node OwnerWord) ≡ M (Node list.claimed.node OwnerWord)
-            go None w = w.others (Node list.claimed.node OwnerWord) l (λ e. cc)
-            go (Some p) w = w.others (Node list.claimed.node OwnerWord) l (λ e. cc)
+      abbrev front : Ghost
+      front =
+          fronted env mix c port bucket.place bucket.word list.first list.claimed.node list.before M stored G whole k.means.bucket
+
+      -- the store is that of the link to the node, in the place before the first one
+      abbrev IsFrontWrite : Option ℕ → Type 0
+      IsFrontWrite before =
+          let j = word_index env mix bucket.place in
+          IsWrite env.geometry M stored (relink_address j before) (relink_value (place_at env mix j) (link_of list.claimed.node) before)
+
+      -- what the caller has behind it: no node, and the lock where a node is before
+      record LeftInFront : Type 0 where
+        only : HasOnly env mix c front None (lock_left bucket.place list.before) None false
+        locks : (node : ℕ) → list.before ≡ Some node → HoldsLock env mix c front bucket.place bucket.word
+
+      front_left : LeftInFront
+      front_left =
+          let is = k.means.bucket in
+          let n = list.claimed.node in
+          record {
+            only =
+                front_only env mix c port bucket.place bucket.word list.first n list.before M stored G whole is
+                (record { nodes = k.only.nodes; locks = k.only.locks; raising = k.only.raising });
+            locks = front_locks env mix c port bucket.place bucket.word list.first n list.before M stored G whole is;
+          }
+
+      left_lock : (before : Option ℕ) → (lock_left bucket.place before ≡ Some bucket.place) ⊎ (lock_left bucket.place before ≡ None)
+      left_lock None = inr refl
+      left_lock (Some node) = inl refl
+
+      -- it is no owner's word
+      front_owner : (before : Option ℕ) → IsFrontWrite before
+          → stored (Node list.claimed.node OwnerWord) ≡ M (Node list.claimed.node OwnerWord)
+      front_owner None write = write.others (Node list.claimed.node OwnerWord) k.means.node.has.among (λ e. cc)
+      front_owner (Some node) write = write.others (Node list.claimed.node OwnerWord) k.means.node.has.among (λ e. cc)
+
+      longer : (o : ℕ) (owners : List ℕ) → o ∷ owners ≡ owners → ⊥
+      longer o owners e = let same = ap length e in absurd (omega (arith, same))
+
+      front_stored : (After : Memory → Ghost → Type 0) → env.config.kind ≡ Listed → nodes_at env.geometry ≤ op_place op
+          → IsFrontWrite list.before → (LeftInFront → After stored front)
+          → Step env mix c call words G op (holds_claimed list.claimed) (holds_front (lock_left bucket.place list.before)) After
+      front_stored After listed behind_maps write knows =
+          let n = list.claimed.node in
+          let is = k.means.bucket in
+          let rest = list.first ∷ is.behind in
+          let back = place_at-index env mix bucket.place is.found.standing.lock.bucket in
+          let made =
+          front_made env mix c port bucket.place bucket.word list.first n list.before M stored G whole is listed k.means.node.key
+          k.means.node.list write in
+          let before : now port ≡ owners_in env mix M rest = ap (owners_in env mix M) is.bound_to in
+          let first : owner_of (stored (Node n OwnerWord)) ≡ owner =
+          ap owner_of (front_owner list.before write ∙ k.means.node.owner) ∙ mod-eq_of_lt {n = owner} {m = 2 ^ 32} small in
+          let here : owners_in env mix stored (n ∷ rest) ≡ owner ∷ now port =
+          ap (λ o. o ∷ owners_in env mix stored rest) first
+          ∙ ap (λ others. owner ∷ others) (owners_in-stay env mix c M stored G front whole made port rest is.bound_to ∙ sym before) in
+          record {
+            move = Rebinds (change env mix c port bucket.place bucket.word list.first n list.before M stored G whole is);
+            ready = tt;
+            made = made;
+            does = record {
+              behind_maps = behind_maps;
+              lock = ap Some (sym back);
+              left_lock = left_lock list.before;
+              left_node = inr refl;
+              raised_is = sym k.only.raising;
+            };
+            says = inr (record {
+              unknown = refl;
+              answer = plain (Bound false);
+              known = refl;
+              answered = ap (λ kind. Some (plain (bind_reply kind (now port)))) listed;
+              bindings = stored_bindings (n ∷ rest) stored front made refl
+                  (here ∙ sym (ap (λ kind. owners_bound kind owner (now port)) listed));
+              port = port;
+              differs = λ e.
+                  longer owner (now port) (sym here ∙ sym (ap (owners_in env mix stored) (put-same G.bound port (n ∷ rest))) ∙ e);
+            });
+            right = λ answer unknown known.
+                subst (IsRight call (Some n))
+                (let same : ◌≡◌ {A = Option answers.Answer} (Some (plain (Bound false))) (Some answer) = known in cc)
+                (with_node n (Bound false) tt refl refl (λ e. cc));
+            in_time = record { taken = λ node none some. absurd (cc); gone = λ node some none told. absurd (cc) };
+            outs =
+                ap (λ o. o + 0)
+                (front_outs env mix c port bucket.place bucket.word list.first n list.before M stored G whole is);
+            knows = knows front_left;
+          }
 
     -- state by state: the store of the link, which without a node before unlocks the bucket, or the unlocking behind it
     front_at : (claimed : Claimed) (first : ℕ) (before : Option ℕ) (state : RelinkAt)
@@ -645,44 +668,46 @@ module _ (env : Env) (mix : ℕ → ℕ → ℕ → ℕ) (c : ℕ) (port owner :
         IsBindAtIn env (at.Replacing list (front_relink list state)) → BindKnows (at.Replacing list (front_relink list state)) M G
         → BindStep (at.Replacing list (front_relink list state))
     front_at claimed first None (relinks.ChainLink node) is known = absurd known.fits.at_is
-    front_at claimed first None (relinks.Word stored) is known =
+    front_at claimed first None (relinks.Word word) is known =
         let list : FoundList = record { claimed = claimed; first = first; before = None } in
-        let op = Store claimed.bucket.place stored in
+        let op = Store claimed.bucket.place word in
         let j = word_index env mix claimed.bucket.place in
-        let bucket = known.knowing.means.bucket.found.standing.lock.bucket in
-        let back : place_at env mix j ≡ claimed.bucket.place = place_at-index env mix claimed.bucket.place bucket in
-        let value : stored ≡ plain_of (place_at env mix j) (link_of claimed.node) =
+        let there = known.knowing.means.bucket.found.standing.lock.bucket in
+        let back : place_at env mix j ≡ claimed.bucket.place = place_at-index env mix claimed.bucket.place there in
+        let value : word ≡ plain_of (place_at env mix j) (link_of claimed.node) =
         known.fits.at_is ∙ ap (λ p. plain_of p (link_of claimed.node)) (sym back) in
-        front_stored list op (BindNext (at.Replacing list (front_relink list (relinks.Word stored)), Done (Bound false))) known.fits.listed known.knowing
-        (let order = parts_in_order env.geometry in omega (arith, back, order.nodes, order.pages))
+        front_stored list op known.knowing (BindNext (at.Replacing list (front_relink list (relinks.Word word)), Done (Bound false)))
+        known.fits.listed (let order = parts_in_order env.geometry in omega (arith, back, order.nodes, order.pages))
         (subst (IsWrite env.geometry M (mem env mix (applied words op)) (PageWord j)) value
-        (is_write env.geometry words (PageWord j) op all (index-within env mix claimed.bucket.place bucket) (sym back)))
-        (λ only locks. record { only = only; means = record { node = tt; table = tt; bucket = tt } })
+        (is_write env.geometry words (PageWord j) op all (index-within env mix claimed.bucket.place there) (sym back)))
+        (λ left. record { only = left.only; means = record { node = tt; table = tt; bucket = tt } })
     front_at claimed first (Some before) (relinks.ChainLink node) is known =
         let list : FoundList = record { claimed = claimed; first = first; before = Some before } in
         let op = Store (place_of env.geometry (Node node ChainLink)) (link_of claimed.node) in
-        front_stored list op (BindNext (at.Replacing list (front_relink list (relinks.Word claimed.bucket.word)), Go)) known.fits.listed known.knowing
-        (omega arith)
+        let next = at.Replacing list (front_relink list (relinks.Word claimed.bucket.word)) in
+        front_stored list op known.knowing (BindNext (next, Go)) known.fits.listed (omega arith)
         (subst (λ m. IsWrite env.geometry M (mem env mix (applied words op)) (Node m ChainLink) (link_of claimed.node)) known.fits.at_is
         (is_write env.geometry words (Node node ChainLink) op all is.relink_in.at_in refl))
-        (λ only locks. record {
-          knowing = record { only = only; means = record { node = tt; table = tt; bucket = locks before refl } };
+        (λ left. record {
+          knowing = record { only = left.only; means = record { node = tt; table = tt; bucket = left.locks before refl } };
           fits = record { listed = known.fits.listed; relink_is = refl; at_is = refl };
         })
-    front_at claimed first (Some before) (relinks.Word stored) is known =
+    front_at claimed first (Some before) (relinks.Word word) is known =
         let list : FoundList = record { claimed = claimed; first = first; before = Some before } in
+        let place = claimed.bucket.place in
         let told = holds_front None in
-        let r = at.Replacing list (front_relink list (relinks.Word stored)) in
-        subst (λ word. Step env mix c call words G (Store claimed.bucket.place word) (holds_front (Some claimed.bucket.place)) told (BindNext (r, Done (Bound false)))) (sym known.fits.at_is)
-        (answered env mix c call words G (Store claimed.bucket.place claimed.bucket.word) (holds_front (Some claimed.bucket.place)) told (Some (plain (Bound false))) (BindNext (r, Done (Bound false)))
-        (inl (keeps (Some (plain (Bound false))))) (still_has refl)
-        (unlock_step env mix c told None Nowhere words G all whole claimed.bucket.place claimed.bucket.word known.knowing))
+        let Ended : Memory → Ghost → Type 0 =
+        BindNext (at.Replacing list (front_relink list (relinks.Word word)), Done (Bound false)) in
+        subst (λ v. Step env mix c call words G (Store place v) (holds_front (Some place)) told Ended) (sym known.fits.at_is)
+        (answered env mix c call words G (Store place claimed.bucket.word) (holds_front (Some place)) told
+        (Some (plain (Bound false))) Ended (inl (keeps (Some (plain (Bound false))))) (still_has refl)
+        (unlock_step env mix c told None Nowhere words G all whole place claimed.bucket.word known.knowing))
 
-    front_step : (list : FoundList) (relink : RelinkModel) → IsBindAtIn env (at.Replacing list relink) → BindKnows (at.Replacing list relink) M G
-        → BindStep (at.Replacing list relink)
+    front_step : (list : FoundList) (relink : RelinkModel) → IsBindAtIn env (at.Replacing list relink)
+        → BindKnows (at.Replacing list relink) M G → BindStep (at.Replacing list relink)
     front_step list relink is known =
-        subst (λ r. IsBindAtIn env (at.Replacing list r) → BindKnows (at.Replacing list r) M G → BindStep (at.Replacing list r)) (sym known.fits.relink_is)
-        (front_at list.claimed list.first list.before relink.at) is known
+        subst (λ r. let here = at.Replacing list r in IsBindAtIn env here → BindKnows here M G → BindStep here)
+        (sym known.fits.relink_is) (front_at list.claimed list.first list.before relink.at) is known
 
     -- ---- each operation leads from what the bind knows to what it knows next
     pub bind_step : (at : BindAt) → IsBindAtIn env at → BindKnows at M G → BindStep at
@@ -718,7 +743,7 @@ module _ (env : Env) (mix : ℕ → ℕ → ℕ → ℕ) (c : ℕ) (port owner :
         answered env mix c call words G (plan_at env (at.ListLink list)) (holds_claimed claimed) (holds_claimed claimed) None (BindNext (at.ChainLink list, Go)) (inl refl) (still_has refl)
         (moved-map env mix c words G (plan_at env (at.ListLink list)) (holds_claimed claimed) (holds_claimed claimed) _ (BindNext (at.ChainLink list, Go))
         (λ M' G' w k. record { knowing = k; fits = known.fits })
-        (nodes.fill_step env mix c (holds_node None (Some claimed.bucket.place)) (at_home port owner claimed) (found port owner list) words G all whole tt (own port owner claimed.node) ListLink (link_of list.first) known.knowing))
+        (nodes.fill_step env mix c (holds_node None (Some claimed.bucket.place)) (at_home port owner claimed) (first_found port owner list) words G all whole tt (own port owner claimed.node) ListLink (link_of list.first) known.knowing))
     bind_step (at.ChainLink list) is known = front_loaded list known
     bind_step (at.LinkBehind list link) is known = front_linked list link known
     bind_step (at.Replacing list relink) is known = front_step list relink is known

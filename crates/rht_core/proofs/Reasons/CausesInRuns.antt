@@ -58,7 +58,7 @@ use Rattle.rht_bind.specs.declared.bind.FoundList.{FoundList}
 use Rattle.rht_bind.specs.declared.bind.BindAt.{BindAt}
 use Rattle.rht_bind.specs.declared.bind.BindAt.TheVariants as at
 use Rattle.rht_core.specs.declared.event.Event.{Event}
-use Rattle.rht_core.specs.Jobs.{Job, finds, binds, first_job, first_bind, finds_next, binds_next, job_after}
+use Rattle.rht_core.specs.Jobs.{Job, finds, binds, first_job, finds_next, binds_next, job_after}
 use Rattle.rht_core.specs.Replies.{IsFindReply, IsReplyTo}
 use Rattle.rht_core.specs.Traces.{Did, Past, performed_of, traced_of}
 use Rattle.rht_core.specs.Runs.{IsAdmitted}
@@ -396,16 +396,11 @@ module _ (M : Type 0) (mix : ℕ → ℕ → ℕ → ℕ) (env : Env) where
       (bind-saw env mix port owner once state steps did performs saw)
 
   -- below the first node there is none
-  first_bind-saw : (port owner : ℕ) (once : Bool) (kind : Kind) (job : Job) → first_bind env port owner once kind ≡ Some job
-      → JobSaw env job []
-  first_bind-saw port owner once Single job is =
-      let here : binds port owner once (first_state env port owner) ≡ job = cc in
-      subst (λ j. JobSaw env j []) here (λ node l. absurd (omega arith))
-  first_bind-saw port owner once Listed job is = absurd (cc)
-
   first_job-saw : (call : Call) (job : Job) → first_job env call ≡ Some job → JobSaw env job []
   first_job-saw (Find port) job is = subst (λ j. JobSaw env j []) (let here : finds port CurrentTable ≡ job = cc in here) tt
-  first_job-saw (Bind port owner once) job is = first_bind-saw port owner once env.config.kind job is
+  first_job-saw (Bind port owner once) job is =
+      let here : binds port owner once (first_state env port owner) ≡ job = cc in
+      subst (λ j. JobSaw env j []) here (λ node l. absurd (omega arith))
   first_job-saw _ job is = absurd (cc)
 
   -- what the operations of each call that has ended have seen
