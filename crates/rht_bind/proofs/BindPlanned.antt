@@ -2,9 +2,9 @@
 -- ports. What it stores are words.
 use Rattle.std.proofs.Common.{refl, arith}
 use Rattle.rht_words.specs.declared.env.Env.{Env}
-use Rattle.rht_words.specs.Places.{CurrentTable, PortCount, Slot, FutureWord, Node, ChainLink, OwnerWord}
+use Rattle.rht_words.specs.Places.{CurrentTable, PortCount, Slot, FutureWord, Node, ChainLink, OwnerWord, ListLink}
 use Rattle.rht_words.specs.Planned.{IsPlannedIn}
-use Rattle.rht_words.proofs.PlannedWords.{planned-at, planned_load, head_of-fits}
+use Rattle.rht_words.proofs.PlannedWords.{planned-at, planned_load, head_of-fits, link_of-fits}
 use Rattle.rht_nest.proofs.Locates.{planned_locate}
 use Rattle.rht_arena.proofs.NodesPlanned.{planned_new_node, planned_give}
 use Rattle.rht_chain.proofs.PiecesPlanned.{planned_probe, planned_relink, planned_unlock}
@@ -19,6 +19,13 @@ planned_bind env (at.Locating node locate) within = planned_locate env.geometry 
 planned_bind env (at.Probing node table shape probe) within = planned_probe env.geometry probe within.probe_in
 planned_bind env (at.FoundOwner claimed found) within =
     planned_load env.geometry (Node found OwnerWord) within.found_in tt
+planned_bind env (at.ListLink list) within =
+    planned-at env.geometry _ (Node list.claimed.node ListLink) within.claimed_in.node_in tt refl
+    (link_of-fits env.geometry list.first within.first_in)
+planned_bind env (at.ChainLink list) within = planned_load env.geometry (Node list.first ChainLink) within.first_in tt
+planned_bind env (at.LinkBehind list link) within =
+    planned-at env.geometry _ (Node list.claimed.node ChainLink) within.list_in.claimed_in.node_in tt refl within.link_in
+planned_bind env (at.Replacing list relink) within = planned_relink env.geometry relink within.relink_in
 planned_bind env (at.Future claimed length) within =
     planned_load env.geometry (Slot claimed.table FutureWord) (within.table_in, tt) tt
 planned_bind env (at.Count claimed) within = planned_load env.geometry PortCount tt tt

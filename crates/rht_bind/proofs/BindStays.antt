@@ -4,6 +4,8 @@ use Rattle.std.proofs.Common.{ℕ, ◌<◌, refl, arith}
 use Rattle.std.specs.Prelude.{Bool, Option, Some, None, min}
 use Rattle.std.proofs.lemmas.Bool.{cond_both}
 use Rattle.rht_words.specs.declared.env.Env.{Env}
+use Rattle.rht_words.specs.declared.config.Kind.{Kind}
+use Rattle.rht_words.specs.declared.config.Kind.TheVariants as kinds
 use Rattle.rht_words.specs.declared.geometry.Geometry.{Geometry}
 use Rattle.rht_words.specs.declared.machine.Next.{Next}
 use Rattle.rht_words.specs.declared.machine.Next.TheVariants.{Go, Done}
@@ -26,8 +28,9 @@ use Rattle.rht_chain.specs.declared.locked.Then.{Then}
 use Rattle.rht_chain.specs.declared.locked.Then.TheVariants.{Table, Answer}
 use Rattle.rht_chain.proofs.PiecesStay.{ProbeIsIn, probe_stays, relink_begins, relink_stays}
 use Rattle.rht_model.specs.declared.history.Reply.{Reply}
-use Rattle.rht_bind.specs.Bind.{after_at, filled, bucket_or_no_table, located, owner_or_future, probed, unlocking, future_or_count, checked_count, kicks, publishing, published, unlocked, IsClaimedIn, IsBindAtIn}
+use Rattle.rht_bind.specs.Bind.{after_at, filled, bucket_or_no_table, located, bound_already, found_or_future, probed, replacing, replaced, unlocking, future_or_count, checked_count, kicks, publishing, published, unlocked, IsClaimedIn, IsListIn, IsReplacingIn, IsBindAtIn}
 use Rattle.rht_bind.specs.declared.bind.Claimed.{Claimed}
+use Rattle.rht_bind.specs.declared.bind.FoundList.{FoundList}
 use Rattle.rht_bind.specs.declared.bind.BindAt.{BindAt}
 use Rattle.rht_bind.specs.declared.bind.BindAt.TheVariants as at
 
@@ -59,20 +62,43 @@ module _ (mix : ℕ → ℕ → ℕ → ℕ) (env : Env) (port : ℕ) where
       bucket-in node locate.table there.shape there.place node_in stays.locate_in.table_in stays.end_in.shape_in
       stays.end_in.place_in
 
-  seen-in : (claimed : Claimed) (found : Option ℕ) (length : ℕ) → IsClaimedIn g claimed → IsNodeOrNone g found
-      → IsBindAtIn env (owner_or_future claimed found length)
-  seen-in claimed None length claimed_in found_in = claimed_in
-  seen-in claimed (Some found) length claimed_in found_in =
-      record { claimed_in = claimed_in; found_in = found_in }
+  bound-in : (kind : Kind) (claimed : Claimed) (first : ℕ) (before : Option ℕ) → IsClaimedIn g claimed → first < g.nodes
+      → IsNodeOrNone g before → IsBindAtIn env (bound_already kind claimed first before)
+  bound-in kinds.Single claimed first before claimed_in first_in before_in =
+      record { claimed_in = claimed_in; found_in = first_in }
+  bound-in kinds.Listed claimed first before claimed_in first_in before_in =
+      record { claimed_in = claimed_in; first_in = first_in; before_in = before_in }
 
-  probed-in : (node table shape : ℕ) (probe : ProbeModel) (next : Next Probed) → node < g.nodes → table < 8
-      → IsWord shape → ProbeIsIn g (probe, next) → IsBindAtIn env (probed node table shape probe next)
-  probed-in node table shape probe Go node_in table_in shape_in stays =
+  seen-in : (kind : Kind) (claimed : Claimed) (found before : Option ℕ) (length : ℕ) → IsClaimedIn g claimed
+      → IsNodeOrNone g found → IsNodeOrNone g before → IsBindAtIn env (found_or_future kind claimed found before length)
+  seen-in kind claimed None before length claimed_in found_in before_in = claimed_in
+  seen-in kind claimed (Some first) before length claimed_in found_in before_in =
+      bound-in kind claimed first before claimed_in found_in before_in
+
+  probed-in : (kind : Kind) (node table shape : ℕ) (probe : ProbeModel) (next : Next Probed) → node < g.nodes → table < 8
+      → IsWord shape → ProbeIsIn g (probe, next) → IsBindAtIn env (probed kind node table shape probe next)
+  probed-in kind node table shape probe Go node_in table_in shape_in stays =
       record { node_in = node_in; table_in = table_in; shape_in = shape_in; probe_in = stays.probe_in }
-  probed-in node table shape probe (Done end) node_in table_in shape_in stays =
-      seen-in (record { node = node; table = table; shape = shape; bucket = end.bucket }) end.seen.found end.seen.length
-      record { node_in = node_in; table_in = table_in; shape_in = shape_in; bucket_in = stays.end_in.bucket_in }
-      stays.end_in.seen_in.found_in
+  probed-in kind node table shape probe (Done end) node_in table_in shape_in stays =
+      seen-in kind (record { node = node; table = table; shape = shape; bucket = end.bucket }) end.seen.found end.seen.before
+      end.seen.length record { node_in = node_in; table_in = table_in; shape_in = shape_in; bucket_in = stays.end_in.bucket_in }
+      stays.end_in.seen_in.found_in stays.end_in.seen_in.before_in
+
+  replacing-in : (list : FoundList) → IsListIn g list → IsBindAtIn env (replacing env list)
+  replacing-in list within =
+      let bucket = list.claimed.bucket in
+      let bucket_in = within.claimed_in.bucket_in in
+      record {
+        list_in = within;
+        relink_in =
+            relink_begins g bucket.place bucket.word list.before (link_of list.claimed.node) bucket_in.place_in
+            bucket_in.word_in within.before_in (link_of-fits g list.claimed.node within.claimed_in.node_in);
+      }
+
+  replaced-in : (list : FoundList) (relink : RelinkModel) (next : Next (Unit {0})) → IsReplacingIn g list relink
+      → IsBindAtIn env (replaced list relink next).0
+  replaced-in list relink Go within = within
+  replaced-in list relink (Done done) within = within
 
   unlocking-in : (claimed : Claimed) (next : Then Reply) → IsClaimedIn g claimed → IsThenIn next
       → IsBindAtIn env (unlocking claimed next)
@@ -130,9 +156,15 @@ module _ (mix : ℕ → ℕ → ℕ → ℕ) (env : Env) (port : ℕ) where
       located-in node (locate_after mix port locate word).0 (locate_after mix port locate word).1 within.node_in
       (locate_stays mix port g locate word within.locate_in told)
   bind_stays (at.Probing node table shape probe) word within told =
-      probed-in node table shape (probe_after probe word).0 (probe_after probe word).1 within.node_in within.table_in
-      within.shape_in (probe_stays g probe word within.probe_in told)
+      probed-in env.config.kind node table shape (probe_after probe word).0 (probe_after probe word).1 within.node_in
+      within.table_in within.shape_in (probe_stays g probe word within.probe_in told)
   bind_stays (at.FoundOwner claimed found) word within told = unlocking-in claimed _ within.claimed_in tt
+  bind_stays (at.ListLink list) word within told = within
+  bind_stays (at.ChainLink list) word within told = record { list_in = within; link_in = told }
+  bind_stays (at.LinkBehind list link) word within told = replacing-in list within.list_in
+  bind_stays (at.Replacing list relink) word within told =
+      replaced-in list (relink_after relink).0 (relink_after relink).1
+      record { list_in = within.list_in; relink_in = relink_stays g relink within.relink_in }
   bind_stays (at.Future claimed length) word within told =
       future-in claimed (slot_of word) within (slot_of-in word)
   bind_stays (at.Count claimed) word within told = count-in claimed word within

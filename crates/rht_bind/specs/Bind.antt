@@ -1,16 +1,18 @@
 -- The binding of a port to an owner: what each state performs, and what comes after it.
-use Rattle.std.specs.Prelude.{◌≡◌, ℕ, ◌+◌, ◌^◌, ◌<◌, Bool, min, Option, None, Some, if◌then◌else◌}
+use Rattle.std.specs.Prelude.{◌≡◌, ℕ, ◌+◌, ◌^◌, ◌<◌, Bool, false, min, Option, None, Some, if◌then◌else◌}
 use Rattle.rht_words.specs.declared.op.Op.{Op}
 use Rattle.rht_words.specs.declared.op.Op.TheVariants.{Load, Store, Add}
 use Rattle.rht_words.specs.declared.machine.Next.{Next}
 use Rattle.rht_words.specs.declared.machine.Next.TheVariants.{Go, Done}
 use Rattle.rht_words.specs.declared.env.Env.{Env}
+use Rattle.rht_words.specs.declared.config.Kind.{Kind}
+use Rattle.rht_words.specs.declared.config.Kind.TheVariants as kinds
 use Rattle.rht_words.specs.declared.geometry.Geometry.{Geometry}
 use Rattle.rht_words.specs.Links.{table_of, slot_of, link_of, head_of}
 use Rattle.rht_words.specs.Planned.{IsWord}
 use Rattle.rht_words.specs.Ports.{word_of, owner_of}
 use Rattle.rht_words.specs.Shapes.{size_of, unpacked}
-use Rattle.rht_words.specs.Places.{CurrentTable, PortCount, Slot, FutureWord, Node, ChainLink, OwnerWord, place_of}
+use Rattle.rht_words.specs.Places.{CurrentTable, PortCount, Slot, FutureWord, Node, ChainLink, OwnerWord, ListLink, place_of}
 use Rattle.rht_policy.specs.Thresholds.{is_above_75, is_above_max}
 use Rattle.rht_nest.specs.Locate.{LocateModel, locate_new, locate_plan, locate_after, IsLocateIn}
 use Rattle.rht_nest.specs.declared.locate.Located.{Located}
@@ -22,11 +24,13 @@ use Rattle.rht_chain.specs.Relink.{RelinkModel, relink_new, relink_plan, relink_
 use Rattle.rht_chain.specs.Unlock.{unlock_plan, IsUnlockIn}
 use Rattle.rht_chain.specs.declared.unlock.Unlock.{Unlock}
 use Rattle.rht_chain.specs.Locked.{IsLockedIn, IsThenIn}
+use Rattle.rht_chain.specs.LockedWalk.{IsNodeOrNone}
 use Rattle.rht_chain.specs.declared.locked.Then.{Then}
 use Rattle.rht_chain.specs.declared.locked.Then.TheVariants.{Table, Answer}
 use Rattle.rht_model.specs.declared.history.Reply.{Reply}
 use Rattle.rht_model.specs.declared.history.Reply.TheVariants.{Bound, Exists, TooBig, NoTable, NoNode}
 use Rattle.rht_bind.specs.declared.bind.Claimed.{Claimed}
+use Rattle.rht_bind.specs.declared.bind.FoundList.{FoundList}
 use Rattle.rht_bind.specs.declared.bind.BindAt.{BindAt}
 use Rattle.rht_bind.specs.declared.bind.BindAt.TheVariants as at
 
@@ -54,6 +58,10 @@ plan_at env (at.CurrentTable node) = Load (place_of env.geometry CurrentTable)
 plan_at env (at.Locating node locate) = locate_plan locate
 plan_at env (at.Probing node table shape probe) = probe_plan probe
 plan_at env (at.FoundOwner claimed found) = Load (place_of env.geometry (Node found OwnerWord))
+plan_at env (at.ListLink list) = Store (place_of env.geometry (Node list.claimed.node ListLink)) (link_of list.first)
+plan_at env (at.ChainLink list) = Load (place_of env.geometry (Node list.first ChainLink))
+plan_at env (at.LinkBehind list link) = Store (place_of env.geometry (Node list.claimed.node ChainLink)) link
+plan_at env (at.Replacing list relink) = relink_plan relink
 plan_at env (at.Future claimed length) = Load (place_of env.geometry (Slot claimed.table FutureWord))
 plan_at env (at.Count claimed) = Load (place_of env.geometry PortCount)
 plan_at env (at.Link claimed) =
@@ -91,16 +99,33 @@ abbrev pub located : Env → ℕ → ℕ → LocateModel → Next Located → Bi
 located env port node locate Go = at.Locating node locate
 located env port node locate (Done there) = bucket_or_no_table env port node locate.table there.shape there.place
 
--- where the port was found its owner is loaded, and else the table's future
-abbrev pub owner_or_future : Claimed → Option ℕ → ℕ → BindAt
-owner_or_future claimed None length = at.Future claimed length
-owner_or_future claimed (Some found) length = at.FoundOwner claimed found
+-- of a port that is bound already the owner is loaded; in a table of lists the node goes in front of its list
+abbrev pub bound_already : Kind → Claimed → ℕ → Option ℕ → BindAt
+bound_already kinds.Single claimed first before = at.FoundOwner claimed first
+bound_already kinds.Listed claimed first before = at.ListLink (record { claimed = claimed; first = first; before = before })
+
+-- where the port was found it is bound already, and else the table's future is loaded
+abbrev pub found_or_future : Kind → Claimed → Option ℕ → Option ℕ → ℕ → BindAt
+found_or_future kind claimed None before length = at.Future claimed length
+found_or_future kind claimed (Some first) before length = bound_already kind claimed first before
 
 -- what comes after an operation in the bucket
-abbrev pub probed : ℕ → ℕ → ℕ → ProbeModel → Next Probed → BindAt
-probed node table shape probe Go = at.Probing node table shape probe
-probed node table shape probe (Done end) =
-    owner_or_future (record { node = node; table = table; shape = shape; bucket = end.bucket }) end.seen.found end.seen.length
+abbrev pub probed : Kind → ℕ → ℕ → ℕ → ProbeModel → Next Probed → BindAt
+probed kind node table shape probe Go = at.Probing node table shape probe
+probed kind node table shape probe (Done end) =
+    let claimed : Claimed = record { node = node; table = table; shape = shape; bucket = end.bucket } in
+    found_or_future kind claimed end.seen.found end.seen.before end.seen.length
+
+-- the node takes the place of the list's first one in the chain
+abbrev pub replacing : Env → FoundList → BindAt
+replacing env list =
+    let bucket = list.claimed.bucket in
+    at.Replacing list (relink_new env.geometry bucket.place bucket.word list.before (link_of list.claimed.node))
+
+-- with the last store the owner is the port's first one, and the bucket unlocked; no count was raised
+abbrev pub replaced : FoundList → RelinkModel → Next (Unit {0}) → BindAt × Next Reply
+replaced list relink Go = (at.Replacing list relink, Go)
+replaced list relink (Done done) = (at.Replacing list relink, Done (Bound false))
 
 -- the bucket is unlocked without a change, and then the bind goes on or gives its node back
 abbrev pub unlocking : Claimed → Then Reply → BindAt
@@ -144,8 +169,12 @@ after_at mix env port (at.CurrentTable node) word = (locating env node (table_of
 after_at mix env port (at.Locating node locate) word =
     (located env port node (locate_after mix port locate word).0 (locate_after mix port locate word).1, Go)
 after_at mix env port (at.Probing node table shape probe) word =
-    (probed node table shape (probe_after probe word).0 (probe_after probe word).1, Go)
+    (probed env.config.kind node table shape (probe_after probe word).0 (probe_after probe word).1, Go)
 after_at mix env port (at.FoundOwner claimed found) word = (unlocking claimed (Answer (Exists (owner_of word))), Go)
+after_at mix env port (at.ListLink list) word = (at.ChainLink list, Go)
+after_at mix env port (at.ChainLink list) word = (at.LinkBehind list word, Go)
+after_at mix env port (at.LinkBehind list link) word = (replacing env list, Go)
+after_at mix env port (at.Replacing list relink) word = replaced list (relink_after relink).0 (relink_after relink).1
 after_at mix env port (at.Future claimed length) word = (future_or_count claimed (slot_of word), Go)
 after_at mix env port (at.Count claimed) word = (checked_count env claimed word, Go)
 after_at mix env port (at.Link claimed) word = (at.Raise claimed, Go)
@@ -187,6 +216,22 @@ pub record IsFoundIn (g : Geometry) (claimed : Claimed) (found : ℕ) : Type 0 w
   pub claimed_in : IsClaimedIn g claimed
   pub found_in : found < g.nodes
 
+-- and so is a list that it has found there
+pub record IsListIn (g : Geometry) (list : FoundList) : Type 0 where
+  pub claimed_in : IsClaimedIn g list.claimed
+  pub first_in : list.first < g.nodes
+  pub before_in : IsNodeOrNone g list.before
+
+-- its node gets this link
+pub record IsLinkingIn (g : Geometry) (list : FoundList) (link : ℕ) : Type 0 where
+  pub list_in : IsListIn g list
+  pub link_in : IsWord link
+
+-- its node goes in front of the list
+pub record IsReplacingIn (g : Geometry) (list : FoundList) (relink : RelinkModel) : Type 0 where
+  pub list_in : IsListIn g list
+  pub relink_in : IsRelinkIn g relink
+
 -- it links its node into a bucket of a table
 pub record IsPublishingIn (g : Geometry) (node table : ℕ) (relink : RelinkModel) : Type 0 where
   pub node_in : node < g.nodes
@@ -207,6 +252,10 @@ IsBindAtIn env (at.CurrentTable node) = node < env.geometry.nodes
 IsBindAtIn env (at.Locating node locate) = IsLocatingIn env.geometry node locate
 IsBindAtIn env (at.Probing node table shape probe) = IsProbingIn env.geometry node table shape probe
 IsBindAtIn env (at.FoundOwner claimed found) = IsFoundIn env.geometry claimed found
+IsBindAtIn env (at.ListLink list) = IsListIn env.geometry list
+IsBindAtIn env (at.ChainLink list) = IsListIn env.geometry list
+IsBindAtIn env (at.LinkBehind list link) = IsLinkingIn env.geometry list link
+IsBindAtIn env (at.Replacing list relink) = IsReplacingIn env.geometry list relink
 IsBindAtIn env (at.Future claimed length) = IsClaimedIn env.geometry claimed
 IsBindAtIn env (at.Count claimed) = IsClaimedIn env.geometry claimed
 IsBindAtIn env (at.Link claimed) = IsClaimedIn env.geometry claimed

@@ -1,6 +1,6 @@
--- What a bind holds in each of its states: its node until it is linked or given back, the lock of a bucket, the count once
--- it is raised, and its answer once it is known.
-use Rattle.std.specs.Prelude.{ℕ, Option, None, Some, option_map, true}
+-- What a bind holds in each of its states: its node until it is linked, put in front of a list or given back, the lock of a
+-- bucket, the count once it is raised, and its answer once it is known.
+use Rattle.std.specs.Prelude.{ℕ, Bool, true, false, Option, None, Some, option_map, if◌then◌else◌}
 use Rattle.rht_words.specs.Held.{Held, holds_nothing, ended_with}
 use Rattle.rht_words.specs.declared.machine.Next.{Next}
 use Rattle.rht_words.specs.declared.machine.Next.TheVariants.{Go, Done}
@@ -8,7 +8,9 @@ use Rattle.rht_arena.specs.NewNode.{node_of_new}
 use Rattle.rht_chain.specs.Locked.{answer_behind}
 use Rattle.rht_chain.specs.Probe.{lock_of_probe}
 use Rattle.rht_model.specs.Answers.{Answer, plain}
+use Rattle.rht_chain.specs.Relink.{has_relinked}
 use Rattle.rht_model.specs.declared.history.Reply.{Reply}
+use Rattle.rht_model.specs.declared.history.Reply.TheVariants.{Bound}
 use Rattle.rht_bind.specs.Bind.{BindModel}
 use Rattle.rht_bind.specs.declared.bind.Claimed.{Claimed}
 use Rattle.rht_bind.specs.declared.bind.BindAt.{BindAt}
@@ -21,6 +23,12 @@ holds_node node lock = record holds_nothing { node = node; lock = lock }
 abbrev pub holds_claimed : Claimed → Held Answer
 holds_claimed claimed = holds_node (Some claimed.node) (Some claimed.bucket.place)
 
+-- while it puts its node in front of a list: the node before the store of the link, and the answer behind it
+abbrev pub holds_replacing : Claimed → Bool → Held Answer
+holds_replacing claimed stored =
+    if stored then record holds_nothing { lock = Some claimed.bucket.place; answer = Some (plain (Bound false)) }
+    else holds_claimed claimed
+
 -- what it holds in a state
 abbrev pub held_of_bind : BindAt → Held Answer
 held_of_bind (at.Filling new) = holds_node (node_of_new new.at) None
@@ -28,6 +36,10 @@ held_of_bind (at.CurrentTable node) = holds_node (Some node) None
 held_of_bind (at.Locating node locate) = holds_node (Some node) None
 held_of_bind (at.Probing node table shape probe) = holds_node (Some node) (lock_of_probe probe.at)
 held_of_bind (at.FoundOwner claimed found) = holds_claimed claimed
+held_of_bind (at.ListLink list) = holds_claimed list.claimed
+held_of_bind (at.ChainLink list) = holds_claimed list.claimed
+held_of_bind (at.LinkBehind list link) = holds_claimed list.claimed
+held_of_bind (at.Replacing list relink) = holds_replacing list.claimed (has_relinked list.before relink.at)
 held_of_bind (at.Future claimed length) = holds_claimed claimed
 held_of_bind (at.Count claimed) = holds_claimed claimed
 held_of_bind (at.Link claimed) = holds_claimed claimed

@@ -7,17 +7,19 @@ ghost use Rattle.rht_words.specs.Planned.{IsWord};
 ghost use Rattle.rht_nest.specs.Locate.{locate_after, IsBucketOrNone, IsLocateIn};
 ghost use Rattle.rht_arena.specs.NewNode.{new_node_after};
 ghost use Rattle.rht_chain.specs.Locked.{IsThenIn};
+ghost use Rattle.rht_chain.specs.LockedWalk.{IsNodeOrNone};
 ghost use Rattle.rht_chain.specs.Probe.{probe_after};
 ghost use Rattle.rht_chain.specs.Relink.{relink_after};
-ghost use Rattle.rht_bind.specs.Bind.{bind_new, bind_plan, bind_after, after_at, filled, locating, giving, bucket_or_no_table, located, owner_or_future, probed, unlocking, future_or_count, checked_count, kicks, publishing, published, unlocked, IsBindAtIn, IsClaimedIn};
+ghost use Rattle.rht_bind.specs.Bind.{bind_new, bind_plan, bind_after, after_at, filled, locating, giving, bucket_or_no_table, located, bound_already, found_or_future, probed, replacing, replaced, unlocking, future_or_count, checked_count, kicks, publishing, published, unlocked, IsBindAtIn, IsClaimedIn};
 
 use rht_arena::{GiveNode, NewNode};
-use rht_chain::{Locked, Probe, Relink, Then, Unlock};
+use rht_chain::{Locked, Probe, Relink, Seen, Then, Unlock};
 use rht_model::Reply;
 use rht_nest::Locate;
 use rht_policy::{Mix, above_75, above_max};
 use rht_words::{
-    Env, Next, Op, Port, Shape, head_of, link_of, owner_of, places, slot_of, table_of, word_of,
+    Env, Kind, Next, Op, Port, Shape, head_of, link_of, owner_of, places, slot_of, table_of,
+    word_of,
 };
 use std::marker::{Model, PhantomData};
 
@@ -32,6 +34,17 @@ pub struct Claimed {
     pub shape: u64,
     /// The bucket that it has locked.
     pub bucket: Locked,
+}
+
+/// The list of a port that a bind has found in a table of lists. Its node is to go in front of it.
+#[derive(Clone, Copy, Debug, PartialEq, Eq)]
+pub struct FoundList {
+    /// What it holds in the port's bucket.
+    pub claimed: Claimed,
+    /// The first node of the list.
+    pub first: u32,
+    /// The node before that one in the chain; none where it is the bucket's first.
+    pub before: Option<u32>,
 }
 
 /// Where a bind stands. Each state but those that hold a piece has one operation.
@@ -57,10 +70,31 @@ pub enum BindAt {
         shape: u64,
         probe: Probe,
     },
-    /// Loads the owner of the node that was found. The port is bound to it at this moment.
+    /// Loads the owner of the node that was found, in a table of one owner for each port. The port
+    /// is bound to it at this moment.
     FoundOwner {
         claimed: Claimed,
         found: u32,
+    },
+    /// Stores in the node, as its list link, that to the first node of the list that was found. This
+    /// and the three states behind it are those of tables of lists. Nobody else sees the node yet.
+    ListLink {
+        list: FoundList,
+    },
+    /// Loads the link behind the list's first node in the chain.
+    ChainLink {
+        list: FoundList,
+    },
+    /// Stores that link in the node.
+    LinkBehind {
+        list: FoundList,
+        link: u64,
+    },
+    /// Puts the node in the place of the list's first one in the chain, and unlocks the bucket. Its
+    /// owner is the port's first one from the first store on.
+    Replacing {
+        list: FoundList,
+        relink: Relink,
     },
     /// Loads the future of a table in which the port wasn't found, in a chain of this length. Where
     /// there is none, no table binds the port, and none will while this bucket is locked.
@@ -103,7 +137,7 @@ pub enum BindAt {
 
 /// A bind of one port to one owner. The answers are `Bound`, `Exists`, `NoNode` and `TooBig`, and
 /// `NoTable` where the port's bucket is missing, which it is in no run yet. The kernel's
-/// counterpart is `rhashtable_lookup_insert_key`.
+/// counterparts are `rhashtable_lookup_insert_key` and, in a table of lists, `rhltable_insert_key`.
 #[derive(Drop)]
 pub struct Bind<M: Mix> {
     env: Env,
@@ -166,6 +200,14 @@ impl<M: Mix> Bind<M> {
             BindAt::Locating { locate, .. } => locate.plan(),
             BindAt::Probing { probe, .. } => probe.plan(),
             BindAt::FoundOwner { found, .. } => Op::load(geometry.owner(found)),
+            BindAt::ListLink { list } => {
+                Op::store(geometry.list_link(list.claimed.node), link_of(list.first))
+            }
+            BindAt::ChainLink { list } => Op::load(geometry.chain_link(list.first)),
+            BindAt::LinkBehind { list, link } => {
+                Op::store(geometry.chain_link(list.claimed.node), link)
+            }
+            BindAt::Replacing { relink, .. } => relink.plan(),
             BindAt::Future { claimed, .. } => Op::load(places::future(claimed.table)),
             BindAt::Count { .. } => Op::load(places::port_count()),
             BindAt::Link { claimed } => {
@@ -206,11 +248,15 @@ fn after<M: Mix>(env: Env, port: Port, at: &BindAt, old: u64) -> (BindAt, Next<R
             table,
             shape,
             probe,
-        } => probed(node, table, shape, probe, old),
+        } => probed(env.config.kind, node, table, shape, probe, old),
         BindAt::FoundOwner { claimed, .. } => {
             let owner = owner_of(old);
             unlocking(claimed, Then::Answer(Reply::Exists { owner }))
         }
+        BindAt::ListLink { list } => BindAt::ChainLink { list },
+        BindAt::ChainLink { list } => BindAt::LinkBehind { list, link: old },
+        BindAt::LinkBehind { list, .. } => replacing(env, list),
+        BindAt::Replacing { list, relink } => return replaced(list, relink),
         BindAt::Future { claimed, .. } => future_or_count(claimed, slot_of(old)),
         BindAt::Count { claimed } => checked_count(env, claimed, old),
         BindAt::Link { claimed } => BindAt::Raise { claimed },
@@ -296,8 +342,8 @@ pub fn bucket_or_no_table(
 
 /// After an operation in the bucket: where it has ended, what was seen is looked at.
 #[inline(always)]
-fn probed(node: u32, table: u32, shape: u64, probe: Probe, old: u64) -> BindAt
-    ensures { result ≡ probed node table shape (probe_after probe old).0 (probe_after probe old).1 }
+fn probed(kind: Kind, node: u32, table: u32, shape: u64, probe: Probe, old: u64) -> BindAt
+    ensures { result ≡ probed kind node table shape (probe_after probe old).0 (probe_after probe old).1 }
 {
     let (probe, next) = probe.after(old);
     match next {
@@ -314,19 +360,69 @@ fn probed(node: u32, table: u32, shape: u64, probe: Probe, old: u64) -> BindAt
                 shape,
                 bucket: end.bucket,
             };
-            owner_or_future(claimed, end.seen.found, end.seen.length)
+            found_or_future(kind, claimed, end.seen)
         }
     }
 }
 
-/// Where the port was found its owner is loaded, and else the table's future.
+/// Where the port was found it is bound already, and else the table's future is loaded.
 #[inline(always)]
-pub fn owner_or_future(claimed: Claimed, found: Option<u32>, length: u32) -> BindAt
-    ensures { result ≡ owner_or_future claimed found length }
+pub fn found_or_future(kind: Kind, claimed: Claimed, seen: Seen) -> BindAt
+    ensures { result ≡ found_or_future kind claimed seen.found seen.before seen.length }
 {
-    match found {
-        Some(found) => BindAt::FoundOwner { claimed, found },
+    let Seen { before, length, .. } = seen;
+    match seen.found {
+        Some(first) => bound_already(kind, claimed, first, before),
         None => BindAt::Future { claimed, length },
+    }
+}
+
+/// Of a port that is bound already the owner is loaded, where it can have but one; in a table of
+/// lists the node goes in front of its list.
+#[inline(always)]
+pub fn bound_already(kind: Kind, claimed: Claimed, first: u32, before: Option<u32>) -> BindAt
+    ensures { result ≡ bound_already kind claimed first before }
+{
+    match kind {
+        Kind::Single => BindAt::FoundOwner {
+            claimed,
+            found: first,
+        },
+        Kind::Listed => BindAt::ListLink {
+            list: FoundList {
+                claimed,
+                first,
+                before,
+            },
+        },
+    }
+}
+
+/// The putting of the node in the place of the list's first one.
+#[inline(always)]
+pub fn replacing(env: Env, list: FoundList) -> BindAt
+    requires { IsNodeOrNone env.geometry list.before }
+    ensures { result ≡ replacing env list }
+{
+    let Locked { place, word } = list.claimed.bucket;
+    let link = link_of(list.claimed.node);
+    BindAt::Replacing {
+        list,
+        relink: Relink::new(env.geometry, place, word, list.before, link),
+    }
+}
+
+/// After a store of the replacement. With the last one the bind has its answer; it has raised no
+/// count, so no table is due to grow by it.
+#[inline(always)]
+fn replaced(list: FoundList, relink: Relink) -> (BindAt, Next<Reply>)
+    ensures { result ≡ replaced list (relink_after relink).0 (relink_after relink).1 }
+{
+    let (relink, next) = relink.after();
+    let at = BindAt::Replacing { list, relink };
+    match next {
+        Next::Go => (at, Next::Go),
+        Next::Done(()) => (at, Next::Done(Reply::Bound { kick: false })),
     }
 }
 

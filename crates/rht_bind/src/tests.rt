@@ -4,7 +4,7 @@
 use super::Bind;
 use rht_model::Reply;
 use rht_policy::Low;
-use rht_words::{Config, Env, Hash, Op, assert_performs};
+use rht_words::{Config, Env, Hash, Kind, Op, assert_performs};
 use std::process::Abort;
 
 /// The operations that take node 0 and fill it, with what each finds, and behind them the load that
@@ -20,22 +20,27 @@ fn node_0_filled() -> [(Op, u64); 6] {
     ]
 }
 
-/// With at most so many buckets, a bind of port 5 to owner 9 performs these operations and then
-/// those, which find these words. The last one has this reply.
-fn assert_bind(
-    rt: &impl Abort,
-    max: u32,
-    filling: &[(Op, u64)],
-    steps: &[(Op, u64)],
-    reply: Reply,
-) {
-    let config = Config {
+/// A table of 8 nodes and 4 pages, with at most so many buckets.
+fn small(kind: Kind, max: u32) -> Config {
+    Config {
+        kind,
         nodes: 8,
         pages: 4,
         max,
         hash: Hash::Low,
         ..Config::plain()
-    };
+    }
+}
+
+/// In this table a bind of port 5 to owner 9 performs these operations and then those, which find
+/// these words. The last one has this reply.
+fn assert_bind(
+    rt: &impl Abort,
+    config: Config,
+    filling: &[(Op, u64)],
+    steps: &[(Op, u64)],
+    reply: Reply,
+) {
     assert!(rt; config.is_settled(), "at {config:?}");
     let bind = Bind::<Low>::new(Env::new(config), 0, 5, 9, false);
     assert_performs!(rt; bind, filling, steps => reply);
@@ -43,9 +48,10 @@ fn assert_bind(
 
 #[test]
 fn binds_that_get_no_bucket(rt: HostRuntime) {
+    let single = small(Kind::Single, 0);
     // The one free node is taken by another caller meanwhile.
     let no_node = [(Op::load(280), 1), (Op::and(280, !1), 0)];
-    assert_bind(&rt, 0, &no_node, &[], Reply::NoNode);
+    assert_bind(&rt, single, &no_node, &[], Reply::NoNode);
     // Four buckets from page 5 on, which there isn't: the bucket is missing.
     let no_table = [
         (Op::load(24), 5_122),
@@ -54,7 +60,7 @@ fn binds_that_get_no_bucket(rt: HostRuntime) {
     ];
     assert_bind(
         &rt,
-        0,
+        single,
         &node_0_filled(),
         &no_table,
         Reply::NoTable { size: 4 },
@@ -85,7 +91,14 @@ fn binds_that_are_not_made(rt: HostRuntime) {
         (Op::store(319, 4), 5),
         (Op::or(280, 8), 0),
     ];
-    assert_bind(&rt, 0, &node_3_filled, &exists, Reply::Exists { owner: 7 });
+    let single = small(Kind::Single, 0);
+    assert_bind(
+        &rt,
+        single,
+        &node_3_filled,
+        &exists,
+        Reply::Exists { owner: 7 },
+    );
     // With at most 4 buckets there may be at most 2 * 4 ports. Port 5 has bucket 1.
     let too_big = [
         (Op::load(24), 2), // 4 buckets
@@ -99,7 +112,7 @@ fn binds_that_are_not_made(rt: HostRuntime) {
     ];
     assert_bind(
         &rt,
-        4,
+        small(Kind::Single, 4),
         &node_0_filled(),
         &too_big,
         Reply::TooBig { count: 8 },
@@ -120,7 +133,10 @@ fn binds_that_are_made(rt: HostRuntime) {
         (Op::add(2, 1), 48),
         (Op::store(319, 2), 1),
     ];
-    assert_bind(&rt, 0, &node_0_filled(), &kick, Reply::Bound { kick: true });
+    for kind in [Kind::Single, Kind::Listed] {
+        let reply = Reply::Bound { kick: true };
+        assert_bind(&rt, small(kind, 0), &node_0_filled(), &kick, reply);
+    }
     // The future table is in slot 1. With 97 of 128 it would be too full.
     let future = [
         (Op::load(24), 6),
@@ -141,11 +157,43 @@ fn binds_that_are_made(rt: HostRuntime) {
         (Op::add(2, 1), 95),
         (Op::store(447, 2), 1),
     ];
-    assert_bind(
-        &rt,
-        0,
-        &node_0_filled(),
-        &future,
-        Reply::Bound { kick: false },
-    );
+    for kind in [Kind::Single, Kind::Listed] {
+        let reply = Reply::Bound { kick: false };
+        assert_bind(&rt, small(kind, 0), &node_0_filled(), &future, reply);
+    }
+}
+
+#[test]
+fn binds_in_front_of_a_list(rt: HostRuntime) {
+    let listed = small(Kind::Listed, 0);
+    // Node 1 has the port, and is the bucket's first node.
+    let first = [
+        (Op::load(24), 6),
+        (Op::load(25), 1),
+        (Op::load(319), 4),
+        (Op::exchange(319, 4, 5), 4),
+        (Op::load(287), 5),
+        (Op::store(285, 4), 0),
+        (Op::load(286), 639),
+        (Op::store(282, 639), 0),
+        (Op::store(319, 2), 5),
+    ];
+    let bound = Reply::Bound { kick: false };
+    assert_bind(&rt, listed, &node_0_filled(), &first, bound);
+    // Node 2, which has another key, is before it, and node 3 behind it.
+    let between = [
+        (Op::load(24), 6),
+        (Op::load(25), 1),
+        (Op::load(319), 6),
+        (Op::exchange(319, 6, 7), 6),
+        (Op::load(291), 69),
+        (Op::load(290), 4),
+        (Op::load(287), 5),
+        (Op::store(285, 4), 0),
+        (Op::load(286), 8),
+        (Op::store(282, 8), 0),
+        (Op::store(290, 2), 4),
+        (Op::store(319, 6), 7),
+    ];
+    assert_bind(&rt, listed, &node_0_filled(), &between, bound);
 }

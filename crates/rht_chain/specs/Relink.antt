@@ -1,5 +1,5 @@
 -- Giving the place before a node another link: what each state performs, and what comes after it.
-use Rattle.std.specs.Prelude.{◌≡◌, ℕ, ◌<◌, ◌⊎◌, Option, None, Some}
+use Rattle.std.specs.Prelude.{◌≡◌, ℕ, ◌<◌, ◌⊎◌, Bool, true, false, Option, None, Some}
 use Rattle.rht_words.specs.declared.op.Op.{Op}
 use Rattle.rht_words.specs.declared.op.Op.TheVariants.{Store}
 use Rattle.rht_words.specs.declared.machine.Next.{Next}
@@ -44,6 +44,14 @@ relink_after_at m (at.Word word) = (m, Done tt)
 
 abbrev pub relink_after : RelinkModel → RelinkModel × Next (Unit {0})
 relink_after m = relink_after_at m m.at
+
+-- a change with this node before has stored the link, and has still to unlock the bucket; with none before, one store
+-- does both
+abbrev pub has_relinked : Option ℕ → RelinkAt → Bool
+has_relinked None (at.ChainLink before) = false
+has_relinked None (at.Word word) = false
+has_relinked (Some node) (at.ChainLink before) = false
+has_relinked (Some node) (at.Word word) = true
 
 -- the node before is one of the nodes
 abbrev pub IsRelinkAtIn : Geometry → RelinkAt → Type 0

@@ -16,3 +16,5 @@ pub mod Seeks
 pub mod Rebounds
 -- the stores of a relinking
 pub mod Relinks
+-- a node is put in front of the list of a port
+pub mod ListFronts

@@ -1,10 +1,11 @@
 -- Why calls were answered as they were: a table of causes, by call and by reply, over the call's own operations.
 -- Each row says what the operations of a call that ended with this reply have to show. A row with nothing to show says so; a
 -- row that no call meets yet, and each reply that isn't one of the call's, can have no cause.
-use Rattle.std.specs.Prelude.{◌≡◌, ◌≢◌, ℕ, ◌+◌, ◌<◌, ◌≤◌, ◌==◌, ◌&&◌, not, Bool, List, ◌∷◌, ◌++◌, map, take, count_by}
+use Rattle.std.specs.Prelude.{◌≡◌, ◌≢◌, ◌↔◌, ℕ, ◌+◌, ◌<◌, ◌≤◌, ◌==◌, ◌&&◌, not, Bool, true, List, ◌∷◌, ◌++◌, map, take, count_by}
 use Rattle.std.specs.List.{AllByRecursion, Any, range_with_len}
 use Rattle.rht_words.specs.declared.op.Op.TheVariants.{Load, Add}
 use Rattle.rht_words.specs.declared.env.Env.{Env}
+use Rattle.rht_words.specs.declared.config.Kind.TheVariants.{Single}
 use Rattle.rht_words.specs.declared.geometry.Geometry.{Geometry}
 use Rattle.rht_words.specs.Places.{PortCount, Slot, ShapeWord, place_of}
 use Rattle.rht_words.specs.Shapes.{unpacked, size_of}
@@ -64,17 +65,24 @@ pub record LastWalked (g : Geometry) (table shape : ℕ) (steps : List Did) : Ty
   pub found : at.old ≡ shape
   pub last : AllByRecursion (IsNoShapeLoad g) behind
 
--- the operation raised the count of ports, and a table of this shape is due to grow by the raised count exactly where this says so
-pub record IsDueBy (env : Env) (shape : ℕ) (due : Bool) (did : Did) : Type 0 where
-  pub raised : did.op ≡ Add (place_of env.geometry PortCount) 1
-  pub by_count : due ≡ is_above_75 (did.old + 1) (size_of (unpacked shape)) env.config.max
+-- the operation raised the count of ports
+abbrev pub IsRaise : Geometry → Did → Type 0
+IsRaise g did = did.op ≡ Add (place_of g PortCount) 1
 
--- behind the last table that it walked a bind raised the count, and says whether that table is due to grow
+-- and by the raised count a table of this shape is due to grow
+pub record IsDueBy (env : Env) (shape : ℕ) (did : Did) : Type 0 where
+  pub raised : IsRaise env.geometry did
+  pub due : is_above_75 (did.old + 1) (size_of (unpacked shape)) env.config.max ≡ true
+
+-- A bind says that there is something to do for `work` exactly where, behind the last table that it walked, it raised the count
+-- and that table is due to grow by this. In a table of one owner each it did raise the count; in one of lists a port that is
+-- bound already raises none.
 pub record KicksRightly (env : Env) (kick : Bool) (steps : List Did) : Type 0 where
   pub table : ℕ
   pub shape : ℕ
   pub walked : LastWalked env.geometry table shape steps
-  pub counted : Any (IsDueBy env shape kick) walked.behind
+  pub kicks : (kick ≡ true) ↔ Any (IsDueBy env shape) walked.behind
+  pub raised : env.config.kind ≡ Single → Any (IsRaise env.geometry) walked.behind
 
 module _ (M : Type 0) (mix : ℕ → ℕ → ℕ → ℕ) where
   -- at the event of this operation, the ports bound were at most so many, and with the other callers in mid-call at least

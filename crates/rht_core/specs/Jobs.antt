@@ -3,8 +3,6 @@
 use Rattle.std.specs.Prelude.{ℕ, Bool, Option, Some, None}
 use Rattle.rht_words.specs.declared.op.Op.{Op}
 use Rattle.rht_words.specs.declared.env.Env.{Env}
-use Rattle.rht_words.specs.declared.config.Kind.{Kind}
-use Rattle.rht_words.specs.declared.config.Kind.TheVariants.{Single, Listed}
 use Rattle.rht_words.specs.declared.machine.Next.{Next}
 use Rattle.rht_words.specs.declared.machine.Next.TheVariants.{Go, Done}
 use Rattle.rht_model.specs.declared.history.Call.{Call}
@@ -40,13 +38,9 @@ call_of (binds port owner once state) = Bind port owner once
 call_of counts = Count
 
 -- the job with which a call begins; none for a call of which there is no machine yet
-abbrev pub first_bind : Env → ℕ → ℕ → Bool → Kind → Option Job
-first_bind env port owner once Single = Some (binds port owner once (bind.first_state env port owner))
-first_bind env port owner once Listed = None
-
 abbrev pub first_job : Env → Call → Option Job
 first_job env (Find port) = Some (finds port CurrentTable)
-first_job env (Bind port owner once) = first_bind env port owner once env.config.kind
+first_job env (Bind port owner once) = Some (binds port owner once (bind.first_state env port owner))
 first_job env (All port) = None
 first_job env (Release port owner) = None
 first_job env (Rebind port owner new) = None

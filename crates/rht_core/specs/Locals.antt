@@ -4,8 +4,6 @@ use Rattle.rht_words.specs.declared.op.Op.{Op}
 use Rattle.rht_words.specs.declared.machine.Next.{Next}
 use Rattle.rht_words.specs.declared.machine.Next.TheVariants.{Go, Done}
 use Rattle.rht_words.specs.declared.env.Env.{Env}
-use Rattle.rht_words.specs.declared.config.Kind.{Kind}
-use Rattle.rht_words.specs.declared.config.Kind.TheVariants.{Single, Listed}
 use Rattle.rht_model.specs.declared.history.Call.{Call}
 use Rattle.rht_model.specs.declared.history.Call.TheVariants.{Bind, Find, Count}
 use Rattle.rht_model.specs.declared.history.Reply.{Reply}
@@ -29,15 +27,10 @@ module _ {M : Type 0} where
   does_nothing (Binding m) = false
   does_nothing (Counting m) = false
 
-  -- a bind is built for tables of one owner each alone
-  abbrev pub binding_of : Env → ℕ → ℕ → ℕ → Bool → Kind → Option (Doing M)
-  binding_of env caller port owner once Single = Some (Binding (bind_new env caller port owner once))
-  binding_of env caller port owner once Listed = None
-
   -- what a caller does that is given a call; none where there is no such machine yet
   abbrev pub machine_of : Env → ℕ → Call → Option (Doing M)
   machine_of env caller (Find port) = Some (Finding (find_new env caller port))
-  machine_of env caller (Bind port owner once) = binding_of env caller port owner once env.config.kind
+  machine_of env caller (Bind port owner once) = Some (Binding (bind_new env caller port owner once))
   machine_of env caller Count = Some (Counting (record { env = env }))
   machine_of env caller _ = None
 

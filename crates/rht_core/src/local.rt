@@ -11,7 +11,7 @@ use rht_bind::Bind;
 use rht_find::Find;
 use rht_model::{Call, Reply, Room};
 use rht_policy::Mix;
-use rht_words::{Env, Kind, Next, Op, Port};
+use rht_words::{Env, Next, Op, Port};
 use std::alloc::{AllocError, Global};
 
 /// What a caller is doing: nothing, or one of the machines.
@@ -39,14 +39,14 @@ impl<M: Mix> Doing<M> {
     }
 
     /// What a caller does that is given this call. `None` for a call of which there is no machine
-    /// yet: `bind` in a table of lists, and all calls but `bind`, `find` and `count`.
+    /// yet: all but `bind`, `find` and `count`.
     pub fn of_call(env: Env, caller: u32, call: Call) -> Option<Doing<M>>
         ensures machine { result ≡ machine_of env caller call }
         ensures env { IfSome result (IsDoingOf env) }
     {
         match call {
             Call::Find { port } => Some(Doing::Finding(Find::new(env, caller, port))),
-            Call::Bind { port, owner, once } if env.config.kind == Kind::Single => {
+            Call::Bind { port, owner, once } => {
                 Some(Doing::Binding(Bind::new(env, caller, port, owner, once)))
             }
             Call::Count => Some(Doing::Counting(PortCount { env })),

@@ -133,7 +133,8 @@ fn linked() -> [(Op, u64); 5] {
     ]
 }
 
-/// A run so far: the table, and the ports that it has bound, with their owners.
+/// A run so far: the table, and the ports that it has bound, with their owners; the one that was
+/// bound last is the first.
 #[derive(Drop)]
 struct Run<M: Mix> {
     state: State<M>,
@@ -174,7 +175,7 @@ fn assert_bound<M: Mix>(rt: &impl Abort, alloc: Global, run: &Run<M>) -> Result<
 /// The call has had this reply.
 fn ended<M: Mix>(run: &mut Run<M>, call: Call, reply: Reply) -> Result<(), Fail> {
     if let (Call::Bind { port, owner, .. }, Reply::Bound { .. }) = (call, reply) {
-        run.bound.push((port, owner))?;
+        run.bound.insert(0, (port, owner))?;
     }
     Ok(())
 }
@@ -298,6 +299,60 @@ fn one_bind_and_one_find(rt: HostRuntime) -> Result<(), Fail> {
 }
 
 #[test]
+fn a_list_grows_at_its_front(rt: HostRuntime) -> Result<(), Fail> {
+    let locked = [(Op::load(319), 0), (Op::exchange(319, 0, 1), 0)];
+    // Node 1 comes into the place of node 0, which is behind it in the list.
+    let in_front = [
+        (Op::load(319), 2),
+        (Op::exchange(319, 2, 3), 2),
+        (Op::load(283), 5),
+        (Op::store(289, 2), 0),
+        (Op::load(282), 639),
+        (Op::store(286, 639), 0),
+        (Op::store(319, 4), 3),
+    ];
+    let found = [
+        (Op::load(319), 4),
+        (Op::exchange(319, 4, 5), 4),
+        (Op::load(287), 5),
+        (Op::load(288), 3),
+        (Op::load(289), 2),
+        (Op::load(284), 9),
+        (Op::load(285), 0),
+        (Op::store(319, 4), 5),
+    ];
+    let config = Config {
+        kind: Kind::Listed,
+        ..small()
+    };
+    assert_run::<Low>(
+        &rt,
+        rt.alloc(),
+        config,
+        &[
+            enrolls(0),
+            begins(0, bind(5, 9)),
+            steps(0, &filled(255, 0, 5, 9)),
+            steps(0, &located(1)),
+            steps(0, &locked),
+            ends(0, &linked(), bind(5, 9), BOUND),
+            begins(0, bind(5, 3)),
+            steps(0, &filled(254, 1, 5, 3)),
+            steps(0, &located(1)),
+            ends(0, &in_front, bind(5, 3), BOUND),
+            begins(0, FIND_5),
+            steps(0, &[(Op::load(0), 0)]),
+            steps(0, &located(1)),
+            ends(0, &found, FIND_5, Reply::Found { owner: 3 }),
+            // The node of port 69 is before those of port 5 in the chain; one owner may come twice.
+            replies(bind(69, 7), BOUND),
+            replies(bind(5, 3), BOUND),
+            replies(FIND_5, Reply::Found { owner: 3 }),
+        ],
+    )
+}
+
+#[test]
 fn calls_without_a_machine_are_not_begun(rt: HostRuntime) -> Result<(), Fail> {
     let release = Call::Release { port: 5, owner: 9 };
     let walk = Call::Walk {
@@ -305,18 +360,16 @@ fn calls_without_a_machine_are_not_begun(rt: HostRuntime) -> Result<(), Fail> {
         limit: 1,
     };
     let cases = [
-        (Kind::Listed, bind(5, 9)),
-        (Kind::Single, Call::All { port: 5 }),
-        (Kind::Single, release),
-        (Kind::Single, walk),
-        (Kind::Single, Call::Work),
-        (Kind::Single, Call::Tidy),
-        (Kind::Single, Call::Count),
+        Call::All { port: 5 },
+        release,
+        walk,
+        Call::Work,
+        Call::Tidy,
+        Call::Count,
     ];
-    for (kind, call) in cases {
-        let config = Config { kind, ..small() };
+    for call in cases {
         let rows = [enrolls(0), begins(0, call), idles(0)];
-        assert_run::<Low>(&rt, rt.alloc(), config, &rows)?;
+        assert_run::<Low>(&rt, rt.alloc(), small(), &rows)?;
     }
     Ok(())
 }

@@ -1,12 +1,10 @@
 -- A port that was found in a bucket, which stays locked.
-use Rattle.std.specs.Prelude.{ℕ, ◌<◌, Bool, true, false, Option, None, Some}
+use Rattle.std.specs.Prelude.{ℕ, ◌<◌}
 use Rattle.rht_words.specs.declared.geometry.Geometry.{Geometry}
 use Rattle.rht_words.specs.Planned.{IsWord}
 use Rattle.rht_chain.specs.Locked.{IsLockedIn}
 use Rattle.rht_chain.specs.LockedWalk.{IsNodeOrNone}
 use Rattle.rht_chain.specs.Relink.{RelinkModel, relink_new}
-use Rattle.rht_chain.specs.declared.relink.RelinkAt.{RelinkAt}
-use Rattle.rht_chain.specs.declared.relink.RelinkAt.TheVariants.{ChainLink, Word}
 use Rattle.rht_chain.specs.declared.unlock.Unlock.{Unlock}
 use Rattle.rht_release.specs.declared.found_port.FoundPort.{FoundPort}
 
@@ -17,14 +15,6 @@ relink_of g found link = relink_new g found.bucket.place found.bucket.word found
 -- the bucket is unlocked without a change
 abbrev pub unlock_of : FoundPort → Unlock
 unlock_of found = record { place = found.bucket.place; word = found.bucket.word }
-
--- a relinking with this node before has stored the link, and has still to unlock the bucket; with none
--- before, one store does both
-abbrev pub has_relinked : Option ℕ → RelinkAt → Bool
-has_relinked None (ChainLink before) = false
-has_relinked None (Word word) = false
-has_relinked (Some node) (ChainLink before) = false
-has_relinked (Some node) (Word word) = true
 
 -- the slot, the bucket and the nodes are the table's, and what is kept of the words are words
 pub record IsFoundPortIn (g : Geometry) (found : FoundPort) : Type 0 where

@@ -9,7 +9,7 @@ use Rattle.rht_arena.specs.NewNode.{node_of_new}
 use Rattle.rht_model.specs.Answers.{Answer, plain}
 use Rattle.rht_model.specs.declared.history.Reply.{Reply}
 use Rattle.rht_model.specs.declared.history.Reply.TheVariants.{Rebound, Absent}
-use Rattle.rht_release.specs.FoundPort.{has_relinked}
+use Rattle.rht_chain.specs.Relink.{has_relinked}
 use Rattle.rht_release.specs.Seek.{lock_of_seek, answer_of_seek}
 use Rattle.rht_release.specs.Rebind.{RebindModel}
 use Rattle.rht_release.specs.declared.found_port.FoundPort.{FoundPort}

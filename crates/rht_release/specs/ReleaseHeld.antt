@@ -10,7 +10,7 @@ use Rattle.rht_words.specs.declared.machine.Next.TheVariants.{Go, Done}
 use Rattle.rht_model.specs.Answers.{Answer, plain}
 use Rattle.rht_model.specs.declared.history.Reply.{Reply}
 use Rattle.rht_model.specs.declared.history.Reply.TheVariants.{Released, Absent}
-use Rattle.rht_release.specs.FoundPort.{has_relinked}
+use Rattle.rht_chain.specs.Relink.{has_relinked}
 use Rattle.rht_release.specs.Seek.{lock_of_seek, answer_of_seek}
 use Rattle.rht_release.specs.Release.{ReleaseModel, removed_reply}
 use Rattle.rht_release.specs.declared.found_port.FoundPort.{FoundPort}

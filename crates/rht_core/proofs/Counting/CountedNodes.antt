@@ -13,6 +13,7 @@ use Rattle.rht_words.proofs.EachElement.{AllByRecursion-push}
 use Rattle.rht_words.specs.declared.env.Env.{Env}
 use Rattle.rht_words.specs.Places.{PortCount, place_of, word_at}
 use Rattle.rht_words.proofs.Memory.{Memory, is_write}
+use Rattle.rht_chain.specs.Relink.{has_relinked}
 use Rattle.rht_bind.specs.BindHeld.{held_of_bind}
 use Rattle.rht_bind.specs.declared.bind.BindAt.{BindAt}
 use Rattle.rht_bind.specs.declared.bind.BindAt.TheVariants as at
@@ -22,7 +23,7 @@ use Rattle.rht_core.specs.declared.event.Event.TheVariants.{Step}
 use Rattle.rht_core.specs.Runs.{Core, World, local_of, planned_in, core_step, run_of, IsAdmitted, IsAdmittedEvent}
 use Rattle.rht_core.specs.Traces.{Did}
 use Rattle.rht_core.specs.Laws.{IsRecorded}
-use Rattle.rht_core.proofs.Counting.FullTables.{find_raises, taken}
+use Rattle.rht_core.proofs.Counting.FullTables.{find_raises, front_raises, taken}
 use Rattle.rht_core.proofs.Events.Worlds.{run_of-push}
 use Rattle.rht_core.proofs.Theory.Ghosts.{Ghost}
 use Rattle.rht_core.proofs.Theory.Steps.{mem}
@@ -41,6 +42,11 @@ module _ (env : Env) (mix : ℕ → ℕ → ℕ → ℕ) (c : ℕ) (M : Memory) 
   bind-own port owner once (at.Locating node locate) knows is = absurd (cc)
   bind-own port owner once (at.Probing node table shape probe) knows is = absurd (cc)
   bind-own port owner once (at.FoundOwner claimed found) knows is = absurd (cc)
+  bind-own port owner once (at.ListLink list) knows is = absurd (cc)
+  bind-own port owner once (at.ChainLink list) knows is = absurd (cc)
+  bind-own port owner once (at.LinkBehind list link) knows is = absurd (cc)
+  bind-own port owner once (at.Replacing list relink) knows is =
+      let none = front_raises list.claimed (has_relinked list.before relink.at) in absurd (cc)
   bind-own port owner once (at.Future claimed length) knows is = absurd (cc)
   bind-own port owner once (at.Count claimed) knows is = absurd (cc)
   bind-own port owner once (at.Link claimed) knows is = absurd (cc)

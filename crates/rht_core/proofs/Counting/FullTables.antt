@@ -14,14 +14,15 @@ use Rattle.rht_words.specs.Operations.{old_of}
 use Rattle.rht_words.specs.Places.{PortCount, place_of}
 use Rattle.rht_words.proofs.Memory.{Memory}
 use Rattle.rht_words.proofs.Members.{count_below, count_below-le, count_by-range}
-use Rattle.rht_chain.specs.Relink.{RelinkModel, relink_plan_at}
+use Rattle.rht_chain.specs.Relink.{RelinkModel, relink_plan_at, has_relinked}
 use Rattle.rht_chain.specs.declared.relink.RelinkAt.{RelinkAt}
 use Rattle.rht_chain.specs.declared.relink.RelinkAt.TheVariants as relinks
 use Rattle.rht_find.specs.FindHeld.{held_of_find}
 use Rattle.rht_find.specs.declared.find.FindAt.{FindAt}
 use Rattle.rht_find.specs.declared.find.FindAt.TheVariants as find_at
 use Rattle.rht_bind.specs.Bind.{plan_at}
-use Rattle.rht_bind.specs.BindHeld.{held_of_bind}
+use Rattle.rht_bind.specs.BindHeld.{held_of_bind, holds_replacing}
+use Rattle.rht_bind.specs.declared.bind.Claimed.{Claimed}
 use Rattle.rht_bind.specs.declared.bind.BindAt.{BindAt}
 use Rattle.rht_bind.specs.declared.bind.BindAt.TheVariants as at
 use Rattle.rht_core.specs.declared.event.Event.{Event}
@@ -76,9 +77,13 @@ find_raises (find_at.ListLink table bucket node owner) = refl
 find_raises (find_at.LaterOwner table bucket node owner) = refl
 find_raises (find_at.Unlocking table unlock next) = refl
 
+-- nor does a bind that puts its node in front of a list
+pub front_raises : (claimed : Claimed) (stored : Bool) → (holds_replacing claimed stored).raised ≡ false
+front_raises claimed false = refl
+front_raises claimed true = refl
+
 -- what stores the link into a bucket loads nothing
-pub relink_stores : (relink : RelinkModel) (state : RelinkAt) (place : ℕ)
-    → relink_plan_at relink state ≢ Load place
+relink_stores : (relink : RelinkModel) (state : RelinkAt) (place : ℕ) → relink_plan_at relink state ≢ Load place
 relink_stores relink (relinks.ChainLink before) place is = cc
 relink_stores relink (relinks.Word word) place is = cc
 
@@ -90,6 +95,10 @@ bind_loads-unraised e place (at.CurrentTable node) is = refl
 bind_loads-unraised e place (at.Locating node locate) is = refl
 bind_loads-unraised e place (at.Probing node table shape probe) is = refl
 bind_loads-unraised e place (at.FoundOwner claimed found) is = refl
+bind_loads-unraised e place (at.ListLink list) is = refl
+bind_loads-unraised e place (at.ChainLink list) is = refl
+bind_loads-unraised e place (at.LinkBehind list link) is = refl
+bind_loads-unraised e place (at.Replacing list relink) is = front_raises list.claimed (has_relinked list.before relink.at)
 bind_loads-unraised e place (at.Future claimed length) is = refl
 bind_loads-unraised e place (at.Count claimed) is = refl
 bind_loads-unraised e place (at.Link claimed) is = refl

@@ -3,8 +3,6 @@
 use Rattle.std.proofs.Common.{◌≡◌, ℕ, Bool, true, refl, subst}
 use Rattle.std.specs.Prelude.{Option, Some, None}
 use Rattle.rht_words.specs.declared.env.Env.{Env}
-use Rattle.rht_words.specs.declared.config.Kind.{Kind}
-use Rattle.rht_words.specs.declared.config.Kind.TheVariants.{Single, Listed}
 use Rattle.rht_model.specs.declared.history.Call.{Call}
 use Rattle.rht_model.specs.declared.history.Call.TheVariants.{Bind, Find, Count}
 use Rattle.rht_find.specs.Find.{find_new}
@@ -12,27 +10,22 @@ use Rattle.rht_bind.specs.Bind.{bind_new}
 use Rattle.rht_core.specs.declared.local.Local.{Local}
 use Rattle.rht_core.specs.declared.local.Doing.{Doing}
 use Rattle.rht_core.specs.declared.local.Doing.TheVariants.{Idle, Finding, Binding, Counting}
-use Rattle.rht_core.specs.Locals.{does_nothing, is_idle, machine_of, binding_of, doing_plan, plan_of}
+use Rattle.rht_core.specs.Locals.{does_nothing, is_idle, machine_of, doing_plan, plan_of}
 
 module _ (M : Type 0) where
   -- A call begins as a look-up, a bind or a reading of the count. What is so of these is so of whatever begins.
   module _ (env : Env) (c : ℕ) (So : Call → Doing M → Type 0)
       (find : (port : ℕ) → So (Find port) (Finding (find_new env c port)))
-      (bind : (port owner : ℕ) (once : Bool) → env.config.kind ≡ Single → So (Bind port owner once) (Binding (bind_new env c port owner once)))
+      (bind : (port owner : ℕ) (once : Bool) → So (Bind port owner once) (Binding (bind_new env c port owner once)))
       (count : So Count (Counting (record { env = env })))
     where
       abbrev BeginsSo : Call → Option (Doing M) → Type 0
       BeginsSo call None = Unit {0}
       BeginsSo call (Some machine) = So call machine
 
-      binding-so : (port owner : ℕ) (once : Bool) (kind : Kind) → env.config.kind ≡ kind
-          → BeginsSo (Bind port owner once) (binding_of env c port owner once kind)
-      binding-so port owner once Single is = bind port owner once is
-      binding-so port owner once Listed is = tt
-
       machine-so : (call : Call) → BeginsSo call (machine_of env c call)
       machine-so (Find port) = find port
-      machine-so (Bind port owner once) = binding-so port owner once env.config.kind refl
+      machine-so (Bind port owner once) = bind port owner once
       machine-so Count = count
       machine-so _ = tt
 

@@ -81,18 +81,8 @@ module _ (env : Env) (mix : ℕ → ℕ → ℕ → ℕ) where
         → machine_of env c call ≡ Some machine → KnowsNothing env mix c M G → Knows c (job_of machine) M G
     begun_knows c call machine M G is knows =
         begins_so L env c (λ asked first. Knows c (job_of first) M G)
-        (λ port. record {
-          built = tt;
-          knowing = record { only = knows.only; means = knows.means };
-          fits =
-              tt;
-        })
-        (λ port owner once single. record {
-          built = single;
-          knowing =
-              record { only = knows.only; means = knows.means };
-          fits = (refl, refl);
-        })
+        (λ port. record { built = tt; knowing = record { only = knows.only; means = knows.means }; fits = tt })
+        (λ port owner once. record { built = tt; knowing = record { only = knows.only; means = knows.means }; fits = (refl, refl) })
         (record { built = tt; knowing = record { only = knows.only; means = knows.means }; fits = tt })
         call machine is
 

@@ -15,8 +15,6 @@ use Rattle.rht_find.specs.Find as find
 use Rattle.rht_find.specs.Find.{FindModel}
 use Rattle.rht_find.specs.declared.find.FindAt.{FindAt}
 use Rattle.rht_find.specs.declared.find.FindAt.TheVariants.{CurrentTable}
-use Rattle.rht_words.specs.declared.config.Kind.{Kind}
-use Rattle.rht_words.specs.declared.config.Kind.TheVariants.{Single, Listed}
 use Rattle.rht_bind.specs.Bind as bind
 use Rattle.rht_bind.specs.Bind.{BindModel}
 use Rattle.rht_bind.specs.declared.bind.BindAt.{BindAt}
@@ -26,7 +24,7 @@ use Rattle.rht_core.specs.declared.local.Local.{Local}
 use Rattle.rht_core.specs.declared.local.Doing.{Doing}
 use Rattle.rht_core.specs.declared.local.Doing.TheVariants.{Idle, Finding, Binding, Counting}
 use Rattle.rht_core.specs.Locals.{fresh, does_nothing, machine_of, doing_plan, doing_after, local_after, ending_of, found_next, bound_next, IsDoingOf, IsLocalOf}
-use Rattle.rht_core.specs.Jobs.{Job, finds, binds, counts, call_of, first_job, first_bind, job_plan, job_after, finds_next, binds_next, job_of, told, held_of}
+use Rattle.rht_core.specs.Jobs.{Job, finds, binds, counts, call_of, first_job, job_plan, job_after, finds_next, binds_next, job_of, told, held_of}
 use Rattle.rht_core.proofs.Events.CallBeginnings.{begins_so}
 
 -- there is no job
@@ -67,26 +65,18 @@ left-told (job, Go) = refl
 left-told (job, Done ending) = refl
 
 -- nothing is known of the answer of a first job
-first_bind-unknown : (env : Env) (port owner : ℕ) (once : Bool) (kind : Kind) (job : Job)
-    → first_bind env port owner once kind ≡ Some job → (held_of job).answer ≡ None
-first_bind-unknown env port owner once Single job is = let here : binds port owner once (bind.first_state env port owner) ≡ job = cc in ap (λ j. (held_of j).answer) (sym here)
-first_bind-unknown env port owner once Listed job is = absurd (cc)
-
 pub first_unknown : (env : Env) (call : Call) (job : Job) → first_job env call ≡ Some job → (held_of job).answer ≡ None
 first_unknown env (Find port) job is = let here : finds port CurrentTable ≡ job = cc in ap (λ j. (held_of j).answer) (sym here)
-first_unknown env (Bind port owner once) job is = first_bind-unknown env port owner once env.config.kind job is
+first_unknown env (Bind port owner once) job is =
+    let here : binds port owner once (bind.first_state env port owner) ≡ job = cc in ap (λ j. (held_of j).answer) (sym here)
 first_unknown env Count job is = let here : counts ≡ job = cc in ap (λ j. (held_of j).answer) (sym here)
 first_unknown env _ job is = absurd (cc)
 
 -- and it has no node
-first_bind-without : (env : Env) (port owner : ℕ) (once : Bool) (kind : Kind) (job : Job)
-    → first_bind env port owner once kind ≡ Some job → (held_of job).node ≡ None
-first_bind-without env port owner once Single job is = let here : binds port owner once (bind.first_state env port owner) ≡ job = cc in ap (λ j. (held_of j).node) (sym here)
-first_bind-without env port owner once Listed job is = absurd (cc)
-
 pub first_without : (env : Env) (call : Call) (job : Job) → first_job env call ≡ Some job → (held_of job).node ≡ None
 first_without env (Find port) job is = let here : finds port CurrentTable ≡ job = cc in ap (λ j. (held_of j).node) (sym here)
-first_without env (Bind port owner once) job is = first_bind-without env port owner once env.config.kind job is
+first_without env (Bind port owner once) job is =
+    let here : binds port owner once (bind.first_state env port owner) ≡ job = cc in ap (λ j. (held_of j).node) (sym here)
 first_without env Count job is = let here : counts ≡ job = cc in ap (λ j. (held_of j).node) (sym here)
 first_without env _ job is = absurd (cc)
 
@@ -140,12 +130,7 @@ module _ {M : Type 0} where
       → IsFirst env call doing
   first_job-machine env c =
       begins_so M env c (IsFirst env) (λ port. record { job = _; first = refl; does = refl; asked = refl })
-      (λ port owner once single. record {
-        job = _;
-        first = ap (first_bind env port owner once) single;
-        does = refl;
-        asked = refl;
-      })
+      (λ port owner once. record { job = _; first = refl; does = refl; asked = refl })
       (record { job = _; first = refl; does = refl; asked = refl })
 
   -- ---- an operation

@@ -85,7 +85,7 @@ module _ (M : Type 0) where
   begins-in env c =
       begins_so M env c (λ call machine. IsAdmittedCall call → IsDoingIn env c machine)
       (λ port admitted. record { same_env = refl; same_caller = refl; port_in = admitted; at_in = tt })
-      (λ port owner once single admitted. record {
+      (λ port owner once admitted. record {
         same_env = refl;
         same_caller = refl;
         port_in = admitted.0;

@@ -36,8 +36,7 @@ module _ (M : Type 0) where
   begins-of : (env : Env) (c : ℕ) (call : Call) (machine : Doing M) → machine_of env c call ≡ Some machine
       → IsDoingOf env machine
   begins-of env c =
-      begins_so M env c (λ call machine. IsDoingOf env machine) (λ port. refl)
-      (λ port owner once single. refl) refl
+      begins_so M env c (λ call machine. IsDoingOf env machine) (λ port. refl) (λ port owner once. refl) refl
 
   found_next-of : (env : Env) (m : FindModel) (next : Next Reply) → m.env ≡ env
       → IsDoingOf env (found_next {M = M} (m, next)).0

@@ -1,20 +1,24 @@
 -- What a bind knows in each state, and that each of its operations leads from what it knows to what it knows next.
-use Rattle.std.proofs.Common.{◌≡◌, ◌≢◌, ◌⊎◌, ℕ, ◌+◌, ◌^◌, ◌<◌, List, [], ◌∷◌, length, min, Option, Some, None, Bool, true, false, cond, refl, sym, ◌∙◌, ap, subst, inl, inr, arith}
+use Rattle.std.proofs.Common.{◌≡◌, ◌≢◌, ◌⊎◌, ℕ, ◌+◌, ◌^◌, ◌<◌, ◌≤◌, List, [], ◌∷◌, length, min, Option, Some, None, Bool, true, false, cond, refl, sym, ◌∙◌, ap, subst, inl, inr, arith}
 use Rattle.std.proofs.lemmas.Bool.{cases_eq, eq-eqb, ne_eqb}
 use Rattle.std.proofs.lemmas.Bool.Decides.{nat_tests}
 use Rattle.std.proofs.Math.Nat.{mod-eq_of_lt}
 use Rattle.rht_words.specs.declared.env.Env.{Env}
+use Rattle.rht_words.specs.declared.op.Op.{Op}
 use Rattle.rht_words.specs.declared.op.Op.TheVariants.{Store}
-use Rattle.rht_words.specs.declared.config.Kind.TheVariants.{Single}
+use Rattle.rht_words.specs.declared.config.Kind.{Kind}
+use Rattle.rht_words.specs.declared.config.Kind.TheVariants.{Single, Listed}
 use Rattle.rht_words.specs.declared.machine.Next.{Next}
 use Rattle.rht_words.specs.declared.machine.Next.TheVariants.{Go, Done}
 use Rattle.rht_words.specs.Held as held
 use Rattle.rht_words.specs.Links.{table_of, slot_of, link_of, head_of, plain_of}
 use Rattle.rht_words.specs.Ports.{owner_of}
-use Rattle.rht_words.specs.Operations.{old_of, word_after, applied}
-use Rattle.rht_words.specs.Places.{CurrentTable, PortCount, Slot, FutureWord, Node, ChainLink, OwnerWord, PageWord, words_in}
+use Rattle.rht_words.specs.Operations.{op_place, old_of, word_after, applied}
+use Rattle.rht_words.specs.Places.{CurrentTable, PortCount, Slot, FutureWord, Node, ChainLink, OwnerWord, ListLink, PageWord, nodes_at, place_of, words_in}
 use Rattle.rht_words.proofs.Memory.{Memory, IsWrite, is_write}
+use Rattle.rht_words.specs.Members.{In}
 use Rattle.rht_words.proofs.Members.{in-middle}
+use Rattle.rht_words.proofs.PlacesApart.{parts_in_order}
 use Rattle.rht_policy.specs.Thresholds.{is_above_max}
 use Rattle.rht_arena.specs.GiveNode.{give_node_plan}
 use Rattle.rht_arena.specs.NewNode.{NewNodeModel, new_node_plan, new_node_after, node_of_new}
@@ -22,7 +26,10 @@ use Rattle.rht_nest.specs.Locate.{LocateModel, locate_new, locate_plan, locate_a
 use Rattle.rht_nest.specs.declared.locate.Located.{Located}
 use Rattle.rht_chain.specs.Probe.{ProbeModel, probe_new, probe_plan, probe_after, lock_of_probe}
 use Rattle.rht_chain.specs.declared.probe.Probed.{Probed}
-use Rattle.rht_chain.specs.Relink.{RelinkModel, relink_new}
+use Rattle.rht_chain.specs.Relink.{RelinkModel, relink_new, relink_at, has_relinked}
+use Rattle.rht_chain.specs.declared.relink.RelinkAt.{RelinkAt}
+use Rattle.rht_chain.specs.declared.relink.RelinkAt.TheVariants as relinks
+use Rattle.rht_chain.specs.declared.locked.Locked.{Locked}
 use Rattle.rht_chain.specs.declared.locked.Then.TheVariants.{Table, Answer}
 use Rattle.rht_model.specs.declared.history.Call.{Call}
 use Rattle.rht_model.specs.declared.history.Call.TheVariants as calls
@@ -31,21 +38,24 @@ use Rattle.rht_model.specs.declared.history.Reply.TheVariants.{Bound, Exists, To
 use Rattle.rht_model.specs.Multimap.{Multimap, Agree}
 use Rattle.rht_model.specs.Answers.{plain, bind_reply, owners_bound}
 use Rattle.rht_model.specs.Answers as answers
-use Rattle.rht_bind.specs.Bind.{plan_at, after_at, filled, located, owner_or_future, probed, unlocking, future_or_count, checked_count, publishing, kicks, giving, IsBindAtIn}
-use Rattle.rht_bind.specs.BindHeld.{held_of_bind, holds_node, holds_claimed}
+use Rattle.rht_bind.specs.Bind.{plan_at, after_at, filled, located, bound_already, found_or_future, probed, replacing, unlocking, future_or_count, checked_count, publishing, kicks, giving, IsBindAtIn}
+use Rattle.rht_bind.specs.BindHeld.{held_of_bind, holds_node, holds_claimed, holds_replacing}
 use Rattle.rht_bind.specs.declared.bind.Claimed.{Claimed}
+use Rattle.rht_bind.specs.declared.bind.FoundList.{FoundList}
 use Rattle.rht_bind.specs.declared.bind.BindAt.{BindAt}
 use Rattle.rht_bind.specs.declared.bind.BindAt.TheVariants as at
 use Rattle.rht_core.proofs.Theory.Ghosts.{put, put-same, put-other, put-all, Held, First, Ghost, is_taken_by, index_at, table_at}
-use Rattle.rht_core.proofs.Theory.Wholes.{key_of, home, place_at, word_index, place_at-index, index-within, Whole}
+use Rattle.rht_core.proofs.Theory.Wholes.{chain_of, key_of, home, place_at, word_index, place_at-index, index-within, Whole}
 use Rattle.rht_core.proofs.Theory.Passed.{home-table, unbound_at_last}
-use Rattle.rht_core.proofs.Theory.Knowledge.{HasOnly, KnownNode, KnownTable, Nowhere, Passes, AtHome, KnownBucket, Unlocked, Locks, Missed, Member, Known, IsMember, Knowing}
+use Rattle.rht_core.proofs.Theory.Knowledge.{HasOnly, KnownNode, KnownTable, Nowhere, Passes, AtHome, KnownBucket, Unlocked, Locks, Missed, Found, Member, InList, KnownList, FirstLink, Replaces, Known, HoldsLock, IsMember, Knowing}
 use Rattle.rht_core.proofs.Theory.Frames.{Made}
 use Rattle.rht_core.specs.Replies.{IsBindReply, AreOwnersWith, ArePairsWith}
 use Rattle.rht_core.proofs.Theory.Answering.{KeepsAnswer, IsLegalOn, IsRight, keeps, learns}
-use Rattle.rht_core.proofs.Theory.Steps.{Links, Holding, HoldsSame, by_test, mem, owners, owners_in, owners-stay, ghost_after, Moved, moved-map, with_knowledge, still_has, reowned-outs, Step, answered, reads}
+use Rattle.rht_core.proofs.Theory.Steps.{Links, Rebinds, Holding, HoldsSame, by_test, mem, owners, owners_in, owners-stay, owners_in-stay, ghost_after, Moved, moved-map, with_knowledge, still_has, reowned-outs, Step, answered, reads}
 use Rattle.rht_core.proofs.Theory.Readiness.{linked_bucket, IsReady}
 use Rattle.rht_core.proofs.Moves.Linking.{link_head}
+use Rattle.rht_core.proofs.Moves.Relinking.{relink_address, relink_value}
+use Rattle.rht_core.proofs.Pieces.ListFronts.{lock_left, change, fronted, front_made, front_only, front_locks, front_outs}
 use Rattle.rht_core.proofs.Pieces.NewNodes as nodes
 use Rattle.rht_core.proofs.Pieces.Locates.{known_locate, first_passed, locate_step, LocateKnows, FutureIs, future_is}
 use Rattle.rht_core.proofs.Pieces.Locks.{unlock_step}
@@ -75,6 +85,22 @@ module _ (port owner : ℕ) where
   abbrev missed : Claimed → KnownBucket
   missed claimed = Missed claimed.bucket.place claimed.bucket.word port
 
+  -- the node with the link to the first one of the port's list, and what is known of that list
+  abbrev in_front : FoundList → KnownNode
+  in_front list = nodes.with_word (own list.claimed.node) ListLink (link_of list.first)
+
+  abbrev first_found : FoundList → KnownBucket
+  first_found list = Found list.claimed.bucket.place list.claimed.bucket.word port list.first list.before
+
+  abbrev of_list : FoundList → KnownList → KnownBucket
+  of_list list = InList list.claimed.bucket.place list.claimed.bucket.word port list.first list.before
+
+  -- while the node is put in front of the list: before the store of the link, and behind it
+  abbrev known_replacing : FoundList → Bool → Known
+  known_replacing list false = knows_of (in_front list) Nowhere (of_list list (Replaces list.claimed.node))
+  known_replacing list true =
+      record { node = None; table = Nowhere; bucket = Locks list.claimed.bucket.place list.claimed.bucket.word }
+
   -- what a bind knows in a state
   abbrev pub known_of_bind : BindAt → Known
   known_of_bind (at.Filling new) = record { node = nodes.known_at port owner new.at; table = Nowhere; bucket = Unlocked }
@@ -82,6 +108,10 @@ module _ (port owner : ℕ) where
   known_of_bind (at.Locating n locate) = knows_of (own n) (known_locate port locate.table locate.at) Unlocked
   known_of_bind (at.Probing n table shape probe) = knows_of (own n) (AtHome port table (Some shape) (place_of_probe probe.at)) (known_probe port probe.at)
   known_of_bind (at.FoundOwner claimed found) = knows_of (own claimed.node) (at_home claimed) (Member claimed.bucket.place claimed.bucket.word port found)
+  known_of_bind (at.ListLink list) = knows_of (own list.claimed.node) (at_home list.claimed) (first_found list)
+  known_of_bind (at.ChainLink list) = knows_of (in_front list) (at_home list.claimed) (first_found list)
+  known_of_bind (at.LinkBehind list link) = knows_of (in_front list) (at_home list.claimed) (of_list list (FirstLink link))
+  known_of_bind (at.Replacing list relink) = known_replacing list (has_relinked list.before relink.at)
   known_of_bind (at.Future claimed length) = knows_of (own claimed.node) (at_home claimed) (missed claimed)
   known_of_bind (at.Count claimed) = knows_of (own claimed.node) (at_home claimed) (missed claimed)
   known_of_bind (at.Link claimed) = knows_of (own claimed.node) (at_home claimed) (missed claimed)
@@ -95,13 +125,34 @@ module _ (env : Env) (mix : ℕ → ℕ → ℕ → ℕ) (c : ℕ) (port owner :
   abbrev call : Call
   call = calls.Bind port owner once
 
-  -- how its pieces are for the port and the owner
+  -- the relinking that puts the node in front of the list, at this state of it; the state is one for this place before it
+  abbrev pub front_relink : FoundList → RelinkAt → RelinkModel
+  front_relink list state =
+      let bucket = list.claimed.bucket in
+      record (relink_new env.geometry bucket.place bucket.word list.before (link_of list.claimed.node)) { at = state }
+
+  abbrev pub IsRelinkAtOf : ℕ → ℕ → ℕ → Option ℕ → RelinkAt → Type 0
+  IsRelinkAtOf place word link None (relinks.ChainLink node) = ⊥
+  IsRelinkAtOf place word link None (relinks.Word stored) = stored ≡ plain_of place link
+  IsRelinkAtOf place word link (Some before) (relinks.ChainLink node) = node ≡ before
+  IsRelinkAtOf place word link (Some before) (relinks.Word stored) = stored ≡ word
+
+  pub record IsRelinkFor (list : FoundList) (relink : RelinkModel) : Type 0 where
+    pub listed : env.config.kind ≡ Listed
+    pub relink_is : relink ≡ front_relink list relink.at
+    pub at_is : IsRelinkAtOf list.claimed.bucket.place list.claimed.bucket.word (link_of list.claimed.node) list.before relink.at
+
+  -- how its pieces are for the port, the owner and the kind of the table
   abbrev pub fits_bind : BindAt → Type 0
   fits_bind (at.Filling new) = (new.key ≡ port) × (new.owner ≡ owner)
   fits_bind (at.CurrentTable n) = Unit {0}
   fits_bind (at.Locating n locate) = Unit {0}
   fits_bind (at.Probing n table shape probe) = (probe.key ≡ port) × IsProbeFor port probe.at
-  fits_bind (at.FoundOwner claimed found) = Unit {0}
+  fits_bind (at.FoundOwner claimed found) = env.config.kind ≡ Single
+  fits_bind (at.ListLink list) = env.config.kind ≡ Listed
+  fits_bind (at.ChainLink list) = env.config.kind ≡ Listed
+  fits_bind (at.LinkBehind list link) = env.config.kind ≡ Listed
+  fits_bind (at.Replacing list relink) = IsRelinkFor list relink
   fits_bind (at.Future claimed length) = Unit {0}
   fits_bind (at.Count claimed) = Unit {0}
   fits_bind (at.Link claimed) = Unit {0}
@@ -123,7 +174,7 @@ module _ (env : Env) (mix : ℕ → ℕ → ℕ → ℕ) (c : ℕ) (port owner :
   BindNext (at, Go) M G = BindKnows at M G
   BindNext (at, Done reply) M G = Knowing env mix c (held.ended_with (plain reply)) known_nothing M G
 
-  module _ (single : env.config.kind ≡ Single) (small : owner < 2 ^ 32) (low : c < env.geometry.callers)
+  module _ (small : owner < 2 ^ 32) (low : c < env.geometry.callers)
       (words : List ℕ) (G : Ghost) (all : length words ≡ words_in env.geometry)
       (whole : Whole env mix (mem env mix words) G) where
     abbrev M : Memory
@@ -203,11 +254,10 @@ module _ (env : Env) (mix : ℕ → ℕ → ℕ → ℕ) (c : ℕ) (port owner :
         (record { knowing = record { only = is.knows.only; means = is.knows.means }; fits = (refl, tt) })))
 
     -- the end of a walk
-    seen_knows : (claimed : Claimed) (count : ℕ) (before found : Option ℕ) (M' : Memory) (G' : Ghost)
-        → Knowing env mix c (holds_claimed claimed) (knows_of port owner (own port owner claimed.node) (at_home port owner claimed) (known_found claimed.bucket.place claimed.bucket.word port before found)) M' G'
-        → BindKnows (owner_or_future claimed found count) M' G'
-    seen_knows claimed count before None M' G' k = record { knowing = k; fits = tt }
-    seen_knows claimed count before (Some found) M' G' k =
+    bound_knows : (kind : Kind) → env.config.kind ≡ kind → (claimed : Claimed) (first : ℕ) (before : Option ℕ) (M' : Memory) (G' : Ghost)
+        → Knowing env mix c (holds_claimed claimed) (knows_of port owner (own port owner claimed.node) (at_home port owner claimed) (Found claimed.bucket.place claimed.bucket.word port first before)) M' G'
+        → BindKnows (bound_already kind claimed first before) M' G'
+    bound_knows Single single claimed first before M' G' k =
         let is = k.means.bucket in
         record {
           knowing = record {
@@ -217,34 +267,46 @@ module _ (env : Env) (mix : ℕ → ℕ → ℕ → ℕ) (c : ℕ) (port owner :
               table = k.means.table;
               bucket = record {
                 lock = is.standing.lock;
-                there = rw is.standing.stands.split (in-middle found is.standing.stands.front is.standing.stands.rear);
+                there = rw is.standing.stands.split (in-middle first is.standing.stands.front is.standing.stands.rear);
                 key_is = is.key_is;
               };
             };
           };
-          fits = tt;
+          fits = single;
         }
+    bound_knows Listed listed claimed first before M' G' k = record { knowing = k; fits = listed }
 
-    seen_holds : (claimed : Claimed) (count : ℕ) (found : Option ℕ)
-        → held_of_bind (owner_or_future claimed found count) ≡ holds_claimed claimed
-    seen_holds claimed count None = refl
-    seen_holds claimed count (Some found) = refl
+    seen_knows : (claimed : Claimed) (found before : Option ℕ) (count : ℕ) (M' : Memory) (G' : Ghost)
+        → Knowing env mix c (holds_claimed claimed) (knows_of port owner (own port owner claimed.node) (at_home port owner claimed) (known_found claimed.bucket.place claimed.bucket.word port before found)) M' G'
+        → BindKnows (found_or_future env.config.kind claimed found before count) M' G'
+    seen_knows claimed None before count M' G' k = record { knowing = k; fits = tt }
+    seen_knows claimed (Some first) before count M' G' k = bound_knows env.config.kind refl claimed first before M' G' k
+
+    bound_holds : (kind : Kind) (claimed : Claimed) (first : ℕ) (before : Option ℕ)
+        → held_of_bind (bound_already kind claimed first before) ≡ holds_claimed claimed
+    bound_holds Single claimed first before = refl
+    bound_holds Listed claimed first before = refl
+
+    seen_holds : (claimed : Claimed) (found before : Option ℕ) (count : ℕ)
+        → held_of_bind (found_or_future env.config.kind claimed found before count) ≡ holds_claimed claimed
+    seen_holds claimed None before count = refl
+    seen_holds claimed (Some first) before count = bound_holds env.config.kind claimed first before
 
     walked : (n table shape : ℕ) (probe : ProbeModel) (r : ProbeModel × Next Probed) → r.0.key ≡ port
         → Moved env mix c words G (probe_plan probe) (holds_node (Some n) (lock_of_probe probe.at)) (holds_node (Some n) (probed_by (r.0.at, r.1)))
         (ProbeKnows env mix c (holds_node (Some n) None) (Some (own port owner n)) port table (Some shape) words G all whole (r.0.at, r.1))
-        → BindMoved (at.Probing n table shape probe) (probed n table shape r.0 r.1, Go)
+        → BindMoved (at.Probing n table shape probe) (probed env.config.kind n table shape r.0 r.1, Go)
     walked n table shape probe (next, Go) key step =
         answered env mix c call words G (probe_plan probe) (holds_node (Some n) (lock_of_probe probe.at)) (holds_node (Some n) (lock_of_probe next.at)) None (BindNext (at.Probing n table shape next, Go)) (inl refl) (still_has refl)
         (moved-map env mix c words G (probe_plan probe) (holds_node (Some n) (lock_of_probe probe.at)) (holds_node (Some n) (lock_of_probe next.at)) _ (BindNext (at.Probing n table shape next, Go))
         (λ M' G' w k. record { knowing = k.0; fits = (key, k.1) }) step)
     walked n table shape probe (next, Done end) key step =
         let claimed : Claimed = record { node = n; table = table; shape = shape; bucket = end.bucket } in
-        let there = owner_or_future claimed end.seen.found end.seen.length in
-        rw (seen_holds claimed end.seen.length end.seen.found)
+        let there = found_or_future env.config.kind claimed end.seen.found end.seen.before end.seen.length in
+        rw (seen_holds claimed end.seen.found end.seen.before end.seen.length)
         (answered env mix c call words G (probe_plan probe) (holds_node (Some n) (lock_of_probe probe.at)) (holds_claimed claimed) None (BindNext (there, Go)) (inl refl) (still_has refl)
         (moved-map env mix c words G (probe_plan probe) (holds_node (Some n) (lock_of_probe probe.at)) (holds_claimed claimed) _ (BindNext (there, Go))
-        (λ M' G' w k. seen_knows claimed end.seen.length end.seen.before end.seen.found M' G' k) step))
+        (λ M' G' w k. seen_knows claimed end.seen.found end.seen.before end.seen.length M' G' k) step))
 
     -- the future of a table in which the port was looked for in vain
     future_next : (claimed : Claimed) (count : ℕ) (future : Option ℕ)
@@ -279,17 +341,19 @@ module _ (env : Env) (mix : ℕ → ℕ → ℕ → ℕ) (c : ℕ) (port owner :
         (learns env.config.kind c call (Some claimed.node) now (plain (TooBig count)) (with_node claimed.node (TooBig count) tt refl refl (λ e. cc)) refl (refusal (TooBig count) tt refl)) (unlocking_knows claimed (TooBig count) known.knowing))
         (λ t. goes_on (at.Count claimed) (at.Link claimed) refl refl refl (record { knowing = known.knowing; fits = tt }))
 
-    -- the port is bound to the owner of a node of its bucket that has its key, and to no other
-    bound_here : (place word node : ℕ) → IsMember env mix c M G place word port node → now port ≡ owner_of (M (Node node OwnerWord)) ∷ []
-    bound_here place word node is =
+    -- in a table of one owner each the port is bound to the owner of a node of its bucket that has its key, and to no other
+    bound_here : env.config.kind ≡ Single → (place word node : ℕ) → IsMember env mix c M G place word port node
+        → now port ≡ owner_of (M (Node node OwnerWord)) ∷ []
+    bound_here single place word node is =
         let j = word_index env mix place in
         let at = whole.owned.first_at node j (whole.owned.member j node is.there) in
         let alone = whole.owned.single single (key_of M node) node at.behind at.bound_to in
         ap (owners_in env mix M) (ap G.bound (sym is.key_is) ∙ at.bound_to ∙ ap (λ behind. node ∷ behind) alone)
 
-    -- a port that is bound exists, and a bind leaves it
-    exists : (first : ℕ) → now port ≡ first ∷ [] → IsLegalOn env.config.kind c call now (plain (Exists first))
-    exists first bound = record {
+    -- a port that is bound exists there, and a bind leaves it
+    exists : env.config.kind ≡ Single → (first : ℕ) → now port ≡ first ∷ []
+        → IsLegalOn env.config.kind c call now (plain (Exists first))
+    exists single first bound = record {
       legal = inl (ap (λ kind. Some (plain (bind_reply kind (now port)))) single ∙ ap (λ list. Some (plain (bind_reply Single list))) bound);
       leaves = λ other. elim (cases_eq other port) [
         | inl e ↦
@@ -305,7 +369,8 @@ module _ (env : Env) (mix : ℕ → ℕ → ℕ → ℕ) (c : ℕ) (port owner :
         let is = known.knowing.means.bucket in
         let answer = unlocking claimed (Answer (Exists first)) in
         reads env mix c call words G (plan_at env (at.FoundOwner claimed found)) (holds_claimed claimed) (held_of_bind answer) (BindNext (answer, Go)) whole refl refl
-        (learns env.config.kind c call (Some claimed.node) now (plain (Exists first)) (with_node claimed.node (Exists first) tt refl refl (λ e. cc)) refl (exists first (bound_here claimed.bucket.place claimed.bucket.word found is)))
+        (learns env.config.kind c call (Some claimed.node) now (plain (Exists first)) (with_node claimed.node (Exists first) tt refl refl (λ e. cc)) refl
+        (exists known.fits first (bound_here known.fits claimed.bucket.place claimed.bucket.word found is)))
         (record {
           knowing = record { only = known.knowing.only; means = record { node = known.knowing.means.node; table = tt; bucket = is.lock } };
           fits = tt;
@@ -340,17 +405,25 @@ module _ (env : Env) (mix : ℕ → ℕ → ℕ → ℕ) (c : ℕ) (port owner :
           raised = k.only.raising;
         }
 
-    -- the port is bound to the owner from then on, and all others to what they were
-    published_bindings : (n j : ℕ) (M' : Memory) → IsReady env mix c n port j M G
-        → (made : Made env mix c M G M' (ghost_after env mix c (Links n port j) G)) → owner_of (M' (Node n OwnerWord)) ≡ owner
-        → Agree (owners env mix M' (ghost_after env mix c (Links n port j) G)) (answers.bindings_after env.config.kind now call)
-    published_bindings n j M' ready made word other = elim (cases_eq other port) [
+    -- a port that isn't bound gets its first owner in a table of either kind
+    first_owner : (kind : Kind) → owners_bound kind owner [] ≡ owner ∷ []
+    first_owner Single = refl
+    first_owner Listed = refl
+
+    first_reply : (kind : Kind) → bind_reply kind [] ≡ Bound false
+    first_reply Single = refl
+    first_reply Listed = refl
+
+    -- from a store on by which the port has these owners, it has those that a bind is to give it, and all others what they had
+    stored_bindings : (bound : List ℕ) (M' : Memory) (G' : Ghost) → Made env mix c M G M' G' → G'.bound ≡ put G.bound port bound
+        → owners_in env mix M' bound ≡ owners_bound env.config.kind owner (now port)
+        → Agree (owners env mix M' G') (answers.bindings_after env.config.kind now call)
+    stored_bindings bound M' G' made is here other = elim (cases_eq other port) [
       | inl e ↦
-          ap (owners_in env mix M') (ap (put G.bound port (n ∷ [])) e ∙ put-same G.bound port (n ∷ [])) ∙ ap (λ o. o ∷ []) word
-          ∙ sym (ap (λ t. cond t (owners_bound env.config.kind owner (now port)) (now other)) (eq-eqb other port e)
-          ∙ ap (λ kind. owners_bound kind owner (now port)) single ∙ ap (λ list. owners_bound Single owner (owners_in env mix M list)) ready.unbound)
+          ap (owners_in env mix M') (ap (λ f. f other) is ∙ ap (put G.bound port bound) e ∙ put-same G.bound port bound) ∙ here
+          ∙ sym (ap (λ t. cond t (owners_bound env.config.kind owner (now port)) (now other)) (eq-eqb other port e))
       | inr ne ↦
-          owners-stay env mix c M M' G (ghost_after env mix c (Links n port j) G) whole made other (put-other G.bound port (n ∷ []) other ne)
+          owners-stay env mix c M M' G G' whole made other (ap (λ f. f other) is ∙ put-other G.bound port bound other ne)
           ∙ sym (ap (λ t. cond t (owners_bound env.config.kind owner (now port)) (now other)) (ne_eqb other port ne))
     ]
 
@@ -389,8 +462,9 @@ module _ (env : Env) (mix : ℕ → ℕ → ℕ → ℕ) (c : ℕ) (port owner :
         let node = known.knowing.means.node in
         let owner_word : owner_of (M' (Node n OwnerWord)) ≡ owner =
         ap owner_of (write.others (Node n OwnerWord) node.has.among (λ e. cc) ∙ node.owner) ∙ mod-eq_of_lt {n = owner} {m = 2 ^ 32} small in
-        let bindings = published_bindings n j M' ready made owner_word in
         let none : now port ≡ [] = ap (owners_in env mix M) ready.unbound in
+        let bindings = stored_bindings (n ∷ []) M' (ghost_after env mix c (Links n port j) G) made refl
+        (ap (λ o. o ∷ []) owner_word ∙ sym (first_owner env.config.kind) ∙ ap (owners_bound env.config.kind owner) (sym none)) in
         record {
           move = Links n port j;
           ready = ready;
@@ -400,7 +474,7 @@ module _ (env : Env) (mix : ℕ → ℕ → ℕ → ℕ) (c : ℕ) (port owner :
             unknown = refl;
             answer = plain (Bound kick);
             known = refl;
-            answered = ap (λ kind. Some (plain (bind_reply kind (now port)))) single ∙ ap (λ list. Some (plain (bind_reply Single list))) none;
+            answered = ap (λ list. Some (plain (bind_reply env.config.kind list))) none ∙ ap (λ reply. Some (plain reply)) (first_reply env.config.kind);
             bindings = bindings;
             port = port;
             differs = λ e. let q : ◌≡◌ {A = List ℕ} (owner_of (M' (Node n OwnerWord)) ∷ []) [] = sym (ap (owners_in env mix M') (put-same G.bound port (n ∷ []))) ∙ e ∙ none in cc;
@@ -421,6 +495,219 @@ module _ (env : Env) (mix : ℕ → ℕ → ℕ → ℕ) (c : ℕ) (port owner :
     publish_step n table relink kick known =
         subst (λ r. BindStep (at.Publish n table r kick)) (sym known.fits)
         (publish_at n table relink.place relink.word kick (record { knowing = record { only = known.knowing.only; means = known.knowing.means }; fits = refl }))
+
+    -- ---- the store that puts the node in front of a list
+
+    -- the link of the list was loaded
+    front_loaded : (list : FoundList) → BindKnows (at.ChainLink list) M G → BindStep (at.ChainLink list)
+    front_loaded list known =
+        let link = chain_of M list.first in
+        let is = known.knowing.means.bucket in
+        let stands = is.standing.stands in
+        let j = word_index env mix list.claimed.bucket.place in
+        let there : In list.first (G.bucket j).nodes = rw stands.split (in-middle list.first stands.front stands.rear) in
+        let owned = whole.owned.first_at list.first j (whole.owned.member j list.first there) in
+        goes_on (at.ChainLink list) (at.LinkBehind list link) refl refl refl (record {
+          knowing = record {
+            only = known.knowing.only;
+            means = record {
+              node = known.knowing.means.node;
+              table = known.knowing.means.table;
+              bucket = record {
+                found = is;
+                behind = owned.behind;
+                bound_to = ap G.bound (sym is.key_is) ∙ owned.bound_to;
+                means = refl;
+              };
+            };
+          };
+          fits = known.fits;
+        })
+
+    -- the relinking begins before its store of the link
+    begins : (place word link : ℕ) (before : Option ℕ)
+        → (has_relinked before (relink_at place link before) ≡ false) × IsRelinkAtOf place word link before (relink_at place link before)
+    begins place word link None = (refl, refl)
+    begins place word link (Some node) = (refl, refl)
+
+    front_linked : (list : FoundList) (link : ℕ) → BindKnows (at.LinkBehind list link) M G → BindStep (at.LinkBehind list link)
+    front_linked list link known =
+        let claimed = list.claimed in
+        let place = claimed.bucket.place in
+        let first = begins place claimed.bucket.word (link_of claimed.node) list.before in
+        let there = replacing env list in
+        let op = plan_at env (at.LinkBehind list link) in
+        subst (λ t. Step env mix c call words G op (holds_claimed claimed) (holds_replacing claimed t) (BindNext (there, Go))) (sym first.0)
+        (answered env mix c call words G op (holds_claimed claimed) (holds_claimed claimed) None (BindNext (there, Go)) (inl refl)
+        (still_has refl)
+        (moved-map env mix c words G op (holds_claimed claimed) (holds_claimed claimed) _ (BindNext (there, Go))
+        (λ M' G' w k. let is = k.means.bucket in let node = k.means.node in record {
+          knowing =
+              subst (λ t. Knowing env mix c (holds_replacing claimed t) (known_replacing port owner list t) M' G') (sym first.0) (record {
+                only = k.only;
+                means = record {
+                  node = record { has = node.has; chain = tt; key = node.key; owner = node.owner; list = node.list };
+                  table = tt;
+                  bucket = record {
+                    found = is.found;
+                    behind = is.behind;
+                    bound_to = is.bound_to;
+                    means = record { has = node.has; alike = node.chain ∙ sym is.means };
+                  };
+                };
+              });
+          fits = record { listed = known.fits; relink_is = refl; at_is = first.1 };
+        })
+        (nodes.fill_step env mix c (holds_node None (Some place)) (at_home port owner claimed) (of_list port owner list (FirstLink link))
+        words G all whole tt (in_front port owner list) ChainLink link known.knowing)))
+
+    -- what a bind holds behind the store
+    abbrev holds_front : Option ℕ → Holding
+    holds_front lock = record held.holds_nothing { lock = lock; answer = Some (plain (Bound false)) }
+
+    module _ (list : FoundList) (op : Op)
+        (k : Knowing env mix c (holds_claimed list.claimed) (known_replacing port owner list false) M G) where
+      abbrev bucket : Locked
+      bucket = list.claimed.bucket
+
+      abbrev stored : Memory
+      stored = mem env mix (applied words op)
+
+      abbrev front : Ghost
+      front =
+          fronted env mix c port bucket.place bucket.word list.first list.claimed.node list.before M stored G whole k.means.bucket
+
+      -- the store is that of the link to the node, in the place before the first one
+      abbrev IsFrontWrite : Option ℕ → Type 0
+      IsFrontWrite before =
+          let j = word_index env mix bucket.place in
+          IsWrite env.geometry M stored (relink_address j before) (relink_value (place_at env mix j) (link_of list.claimed.node) before)
+
+      -- what the caller has behind it: no node, and the lock where a node is before
+      record LeftInFront : Type 0 where
+        only : HasOnly env mix c front None (lock_left bucket.place list.before) None false
+        locks : (node : ℕ) → list.before ≡ Some node → HoldsLock env mix c front bucket.place bucket.word
+
+      front_left : LeftInFront
+      front_left =
+          let is = k.means.bucket in
+          let n = list.claimed.node in
+          record {
+            only =
+                front_only env mix c port bucket.place bucket.word list.first n list.before M stored G whole is
+                (record { nodes = k.only.nodes; locks = k.only.locks; raising = k.only.raising });
+            locks = front_locks env mix c port bucket.place bucket.word list.first n list.before M stored G whole is;
+          }
+
+      left_lock : (before : Option ℕ) → (lock_left bucket.place before ≡ Some bucket.place) ⊎ (lock_left bucket.place before ≡ None)
+      left_lock None = inr refl
+      left_lock (Some node) = inl refl
+
+      -- it is no owner's word
+      front_owner : (before : Option ℕ) → IsFrontWrite before
+          → stored (Node list.claimed.node OwnerWord) ≡ M (Node list.claimed.node OwnerWord)
+      front_owner None write = write.others (Node list.claimed.node OwnerWord) k.means.node.has.among (λ e. cc)
+      front_owner (Some node) write = write.others (Node list.claimed.node OwnerWord) k.means.node.has.among (λ e. cc)
+
+      longer : (o : ℕ) (owners : List ℕ) → o ∷ owners ≡ owners → ⊥
+      longer o owners e = let same = ap length e in absurd (omega (arith, same))
+
+      front_stored : (After : Memory → Ghost → Type 0) → env.config.kind ≡ Listed → nodes_at env.geometry ≤ op_place op
+          → IsFrontWrite list.before → (LeftInFront → After stored front)
+          → Step env mix c call words G op (holds_claimed list.claimed) (holds_front (lock_left bucket.place list.before)) After
+      front_stored After listed behind_maps write knows =
+          let n = list.claimed.node in
+          let is = k.means.bucket in
+          let rest = list.first ∷ is.behind in
+          let back = place_at-index env mix bucket.place is.found.standing.lock.bucket in
+          let made =
+          front_made env mix c port bucket.place bucket.word list.first n list.before M stored G whole is listed k.means.node.key
+          k.means.node.list write in
+          let before : now port ≡ owners_in env mix M rest = ap (owners_in env mix M) is.bound_to in
+          let first : owner_of (stored (Node n OwnerWord)) ≡ owner =
+          ap owner_of (front_owner list.before write ∙ k.means.node.owner) ∙ mod-eq_of_lt {n = owner} {m = 2 ^ 32} small in
+          let here : owners_in env mix stored (n ∷ rest) ≡ owner ∷ now port =
+          ap (λ o. o ∷ owners_in env mix stored rest) first
+          ∙ ap (λ others. owner ∷ others) (owners_in-stay env mix c M stored G front whole made port rest is.bound_to ∙ sym before) in
+          record {
+            move = Rebinds (change env mix c port bucket.place bucket.word list.first n list.before M stored G whole is);
+            ready = tt;
+            made = made;
+            does = record {
+              behind_maps = behind_maps;
+              lock = ap Some (sym back);
+              left_lock = left_lock list.before;
+              left_node = inr refl;
+              raised_is = sym k.only.raising;
+            };
+            says = inr (record {
+              unknown = refl;
+              answer = plain (Bound false);
+              known = refl;
+              answered = ap (λ kind. Some (plain (bind_reply kind (now port)))) listed;
+              bindings = stored_bindings (n ∷ rest) stored front made refl
+                  (here ∙ sym (ap (λ kind. owners_bound kind owner (now port)) listed));
+              port = port;
+              differs = λ e.
+                  longer owner (now port) (sym here ∙ sym (ap (owners_in env mix stored) (put-same G.bound port (n ∷ rest))) ∙ e);
+            });
+            right = λ answer unknown known.
+                subst (IsRight call (Some n))
+                (let same : ◌≡◌ {A = Option answers.Answer} (Some (plain (Bound false))) (Some answer) = known in cc)
+                (with_node n (Bound false) tt refl refl (λ e. cc));
+            in_time = record { taken = λ node none some. absurd (cc); gone = λ node some none told. absurd (cc) };
+            outs =
+                ap (λ o. o + 0)
+                (front_outs env mix c port bucket.place bucket.word list.first n list.before M stored G whole is);
+            knows = knows front_left;
+          }
+
+    -- state by state: the store of the link, which without a node before unlocks the bucket, or the unlocking behind it
+    front_at : (claimed : Claimed) (first : ℕ) (before : Option ℕ) (state : RelinkAt)
+        → let list : FoundList = record { claimed = claimed; first = first; before = before } in
+        IsBindAtIn env (at.Replacing list (front_relink list state)) → BindKnows (at.Replacing list (front_relink list state)) M G
+        → BindStep (at.Replacing list (front_relink list state))
+    front_at claimed first None (relinks.ChainLink node) is known = absurd known.fits.at_is
+    front_at claimed first None (relinks.Word word) is known =
+        let list : FoundList = record { claimed = claimed; first = first; before = None } in
+        let op = Store claimed.bucket.place word in
+        let j = word_index env mix claimed.bucket.place in
+        let there = known.knowing.means.bucket.found.standing.lock.bucket in
+        let back : place_at env mix j ≡ claimed.bucket.place = place_at-index env mix claimed.bucket.place there in
+        let value : word ≡ plain_of (place_at env mix j) (link_of claimed.node) =
+        known.fits.at_is ∙ ap (λ p. plain_of p (link_of claimed.node)) (sym back) in
+        front_stored list op known.knowing (BindNext (at.Replacing list (front_relink list (relinks.Word word)), Done (Bound false)))
+        known.fits.listed (let order = parts_in_order env.geometry in omega (arith, back, order.nodes, order.pages))
+        (subst (IsWrite env.geometry M (mem env mix (applied words op)) (PageWord j)) value
+        (is_write env.geometry words (PageWord j) op all (index-within env mix claimed.bucket.place there) (sym back)))
+        (λ left. record { only = left.only; means = record { node = tt; table = tt; bucket = tt } })
+    front_at claimed first (Some before) (relinks.ChainLink node) is known =
+        let list : FoundList = record { claimed = claimed; first = first; before = Some before } in
+        let op = Store (place_of env.geometry (Node node ChainLink)) (link_of claimed.node) in
+        let next = at.Replacing list (front_relink list (relinks.Word claimed.bucket.word)) in
+        front_stored list op known.knowing (BindNext (next, Go)) known.fits.listed (omega arith)
+        (subst (λ m. IsWrite env.geometry M (mem env mix (applied words op)) (Node m ChainLink) (link_of claimed.node)) known.fits.at_is
+        (is_write env.geometry words (Node node ChainLink) op all is.relink_in.at_in refl))
+        (λ left. record {
+          knowing = record { only = left.only; means = record { node = tt; table = tt; bucket = left.locks before refl } };
+          fits = record { listed = known.fits.listed; relink_is = refl; at_is = refl };
+        })
+    front_at claimed first (Some before) (relinks.Word word) is known =
+        let list : FoundList = record { claimed = claimed; first = first; before = Some before } in
+        let place = claimed.bucket.place in
+        let told = holds_front None in
+        let Ended : Memory → Ghost → Type 0 =
+        BindNext (at.Replacing list (front_relink list (relinks.Word word)), Done (Bound false)) in
+        subst (λ v. Step env mix c call words G (Store place v) (holds_front (Some place)) told Ended) (sym known.fits.at_is)
+        (answered env mix c call words G (Store place claimed.bucket.word) (holds_front (Some place)) told
+        (Some (plain (Bound false))) Ended (inl (keeps (Some (plain (Bound false))))) (still_has refl)
+        (unlock_step env mix c told None Nowhere words G all whole place claimed.bucket.word known.knowing))
+
+    front_step : (list : FoundList) (relink : RelinkModel) → IsBindAtIn env (at.Replacing list relink)
+        → BindKnows (at.Replacing list relink) M G → BindStep (at.Replacing list relink)
+    front_step list relink is known =
+        subst (λ r. let here = at.Replacing list r in IsBindAtIn env here → BindKnows here M G → BindStep here)
+        (sym known.fits.relink_is) (front_at list.claimed list.first list.before relink.at) is known
 
     -- ---- each operation leads from what the bind knows to what it knows next
     pub bind_step : (at : BindAt) → IsBindAtIn env at → BindKnows at M G → BindStep at
@@ -451,6 +738,15 @@ module _ (env : Env) (mix : ℕ → ℕ → ℕ → ℕ) (c : ℕ) (port owner :
         walked n table shape probe (probe_after probe (old_of words (probe_plan probe))) known.fits.0
         (probe_step env mix c (holds_node (Some n) None) (Some (own port owner n)) port table (Some shape) words G all whole probe is.probe_in known.fits.0 known.fits.1 known.knowing)
     bind_step (at.FoundOwner claimed found) is known = found_next claimed found known
+    bind_step (at.ListLink list) is known =
+        let claimed = list.claimed in
+        answered env mix c call words G (plan_at env (at.ListLink list)) (holds_claimed claimed) (holds_claimed claimed) None (BindNext (at.ChainLink list, Go)) (inl refl) (still_has refl)
+        (moved-map env mix c words G (plan_at env (at.ListLink list)) (holds_claimed claimed) (holds_claimed claimed) _ (BindNext (at.ChainLink list, Go))
+        (λ M' G' w k. record { knowing = k; fits = known.fits })
+        (nodes.fill_step env mix c (holds_node None (Some claimed.bucket.place)) (at_home port owner claimed) (first_found port owner list) words G all whole tt (own port owner claimed.node) ListLink (link_of list.first) known.knowing))
+    bind_step (at.ChainLink list) is known = front_loaded list known
+    bind_step (at.LinkBehind list link) is known = front_linked list link known
+    bind_step (at.Replacing list relink) is known = front_step list relink is known
     bind_step (at.Future claimed count) is known =
         future_next claimed count (slot_of (M (Slot claimed.table FutureWord)))
         (future_is env mix c (holds_claimed claimed) (Some (own port owner claimed.node)) (missed port owner claimed) words G whole port claimed.table claimed.bucket.place (Some claimed.shape)

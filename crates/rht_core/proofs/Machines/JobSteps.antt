@@ -2,7 +2,6 @@
 -- The inductions over runs go through this one step, with no case of a machine.
 use Rattle.std.proofs.Common.{◌≡◌, ℕ, ◌^◌, ◌<◌, List, length, Bool, refl, inr}
 use Rattle.rht_words.specs.declared.env.Env.{Env}
-use Rattle.rht_words.specs.declared.config.Kind.TheVariants.{Single}
 use Rattle.rht_words.specs.declared.machine.Next.{Next}
 use Rattle.rht_words.specs.declared.machine.Next.TheVariants.{Go, Done}
 use Rattle.rht_words.specs.Held as held
@@ -44,10 +43,10 @@ pub record IsBindingIn (env : Env) (owner : ℕ) (state : BindAt) : Type 0 where
   pub owner_in : owner < 2 ^ 32
   pub at_in : IsBindAtIn env state
 
--- a bind is built for tables of one owner for each port alone
+-- each job is built for tables of one owner for each port and of lists
 abbrev pub IsJobBuilt : Env → Job → Type 0
 IsJobBuilt env (finds port state) = Unit {0}
-IsJobBuilt env (binds port owner once state) = env.config.kind ≡ Single
+IsJobBuilt env (binds port owner once state) = Unit {0}
 IsJobBuilt env counts = Unit {0}
 
 module _ (env : Env) (mix : ℕ → ℕ → ℕ → ℕ) (c : ℕ) where
@@ -100,13 +99,13 @@ module _ (env : Env) (mix : ℕ → ℕ → ℕ → ℕ) (c : ℕ) where
         (λ M G' w k. record { built = tt; knowing = k.knowing; fits = k.fits }) step
     finds_so port state (next, Done reply) step = step
 
-    binds_so : env.config.kind ≡ Single → (port owner : ℕ) (once : Bool) (state : BindAt) (r : BindAt × Next Reply)
+    binds_so : (port owner : ℕ) (once : Bool) (state : BindAt) (r : BindAt × Next Reply)
         → Step env mix c (call_of (binds port owner once state)) words G (bind_at.plan_at env state) (held_of (binds port owner once state)) (bind_holds env mix c port owner once r) (BindNext env mix c port owner once r)
         → Step env mix c (call_of (binds port owner once state)) words G (bind_at.plan_at env state) (held_of (binds port owner once state)) (held_next (binds_next port owner once r)) (JobNext (binds_next port owner once r))
-    binds_so single port owner once state (next, Go) step =
+    binds_so port owner once state (next, Go) step =
         step-map env mix c (call_of (binds port owner once state)) words G (bind_at.plan_at env state) (held_of (binds port owner once state)) (held_of (binds port owner once next)) _ (JobNext (binds port owner once next, Go))
-        (λ M G' w k. record { built = single; knowing = k.knowing; fits = k.fits }) step
-    binds_so single port owner once state (next, Done reply) step = step
+        (λ M G' w k. record { built = tt; knowing = k.knowing; fits = k.fits }) step
+    binds_so port owner once state (next, Done reply) step = step
 
     -- each operation of a job leads from what the caller knows to what it knows next
     pub job_step : (job : Job) → JobIn job → JobKnows job (mem env mix words) G → JobStep job
@@ -114,8 +113,8 @@ module _ (env : Env) (mix : ℕ → ℕ → ℕ → ℕ) (c : ℕ) where
         finds_so port state (find_at.after_at mix env port state (old_of words (find_at.plan_at env state)))
         (find_step env mix c port words G all whole state within (record { knowing = knows.knowing; fits = knows.fits }))
     job_step (binds port owner once state) within knows =
-        binds_so knows.built port owner once state (bind_at.after_at mix env port state (old_of words (bind_at.plan_at env state)))
-        (bind_step env mix c port owner once knows.built within.owner_in low words G all whole state within.at_in (record { knowing = knows.knowing; fits = knows.fits }))
+        binds_so port owner once state (bind_at.after_at mix env port state (old_of words (bind_at.plan_at env state)))
+        (bind_step env mix c port owner once within.owner_in low words G all whole state within.at_in (record { knowing = knows.knowing; fits = knows.fits }))
     job_step counts within knows =
         let old = old_of words (count_plan_in env) in
         reads env mix c Count words G (count_plan_in env) held.holds_nothing (held.ended_with (plain (Counted old)))

@@ -7,7 +7,7 @@
 -- the operation that loaded or raised the count of ports follows from the law that each recorded
 -- operation stands in the run at its event; and since the count is at most the nodes there, the clamp
 -- under which a bind looks at it has changed nothing.
-use Rattle.std.proofs.Common.{◌≡◌, ℕ, ◌≤◌, ◌+◌, Bool, cond, List, [], ◌∷◌, ◌++◌, map, min, refl, sym, ap, ◌∙◌, subst, arith}
+use Rattle.std.proofs.Common.{◌≡◌, ◌⊎◌, ℕ, ◌≤◌, ◌+◌, Bool, true, false, cond, List, [], ◌∷◌, ◌++◌, map, min, refl, sym, ap, ◌∙◌, subst, inl, inr, arith}
 use Rattle.std.specs.Prelude.{Option, Some, None, IfSome}
 use Rattle.std.specs.List.{AllByRecursion, Any}
 use Rattle.std.proofs.lemmas.Bool.{leb-true}
@@ -23,8 +23,8 @@ use Rattle.rht_words.specs.declared.geometry.Geometry.{Geometry}
 use Rattle.rht_words.specs.declared.machine.Next.{Next}
 use Rattle.rht_words.specs.declared.machine.Next.TheVariants.{Go, Done}
 use Rattle.rht_words.specs.Operations.{old_of}
-use Rattle.rht_words.specs.Places.{PortCount, place_of}
-use Rattle.rht_words.proofs.EachElement.{Any-append_left, AllByRecursion-cut}
+use Rattle.rht_words.specs.Places.{PortCount, ChainLink, place_of}
+use Rattle.rht_words.proofs.EachElement.{Any-append_left, AllByRecursion-cut, AllByRecursion-push}
 use Rattle.rht_policy.specs.Sizes.{most_ports}
 use Rattle.rht_policy.specs.Thresholds.{is_above_75, is_above_max}
 use Rattle.rht_words.specs.Shapes.{unpacked, size_of}
@@ -52,17 +52,18 @@ use Rattle.rht_find.specs.declared.find.FindAt.{FindAt}
 use Rattle.rht_find.specs.declared.find.FindAt.TheVariants.{CurrentTable}
 use Rattle.rht_words.proofs.Memory.{Memory}
 use Rattle.rht_bind.specs.BindHeld.{holds_node}
-use Rattle.rht_bind.specs.Bind.{first_state, after_at, filled, located, owner_or_future, probed, unlocking, future_or_count, checked_count, kicks, published, unlocked}
+use Rattle.rht_bind.specs.Bind.{first_state, after_at, filled, located, bound_already, found_or_future, probed, replaced, unlocking, future_or_count, checked_count, kicks, published, unlocked}
 use Rattle.rht_bind.specs.declared.bind.Claimed.{Claimed}
+use Rattle.rht_bind.specs.declared.bind.FoundList.{FoundList}
 use Rattle.rht_bind.specs.declared.bind.BindAt.{BindAt}
 use Rattle.rht_bind.specs.declared.bind.BindAt.TheVariants as at
 use Rattle.rht_core.specs.declared.event.Event.{Event}
-use Rattle.rht_core.specs.Jobs.{Job, finds, binds, counts, first_job, first_bind, finds_next, binds_next, job_after}
+use Rattle.rht_core.specs.Jobs.{Job, finds, binds, counts, first_job, finds_next, binds_next, job_after}
 use Rattle.rht_core.specs.Replies.{IsFindReply, IsReplyTo}
 use Rattle.rht_core.specs.Traces.{Did, Past, performed_of, traced_of}
 use Rattle.rht_core.specs.Runs.{IsAdmitted}
 use Rattle.rht_core.specs.Laws.{IsRecorded, IsPastCall}
-use Rattle.rht_core.specs.Causes.{FindCause, IsNoShapeLoad, LastWalked, IsDueBy, KicksRightly, SawFull, SawCount, BindCause, CountCause, CauseOf, HasCause, Causes}
+use Rattle.rht_core.specs.Causes.{FindCause, LastWalked, IsRaise, IsDueBy, KicksRightly, SawFull, SawCount, BindCause, CountCause, CauseOf, HasCause, Causes}
 use Rattle.rht_words.specs.Machines.{GoesOrEnds}
 use Rattle.rht_core.proofs.Tracing.RepliesInRuns.{Holds, Answered, runs-right}
 use Rattle.rht_core.proofs.Theory.Ghosts.{Ghost}
@@ -71,8 +72,8 @@ use Rattle.rht_core.proofs.Pieces.NewNodes.{filled as filled_node}
 use Rattle.rht_core.proofs.Pieces.Locates.{LocateKnows, locate_step}
 use Rattle.rht_core.proofs.Tracing.TracesAtEvents.{at_events}
 use Rattle.rht_core.proofs.Tracing.TracedJobs.{Performs, LeadsOn, IsEndedSo, jobs_keep}
-use Rattle.rht_core.proofs.Counting.FullTables.{relink_stores, counted_at}
-use Rattle.rht_core.proofs.Reasons.TablesWalked.{no_load, elsewhere, probe_loads, LastWalked-push, WalkedAt, WalkedNext, same_table, locate-walked}
+use Rattle.rht_core.proofs.Counting.FullTables.{counted_at}
+use Rattle.rht_core.proofs.Reasons.TablesWalked.{IsNoRaise, IsAside, no_load, aside, elsewhere, node_loads, probe_loads, relink_stores, LastWalked-push, Walked, Walked-push, WalkedAt, WalkedNext, same_table, locate-walked}
 use Rattle.rht_core.proofs.Counting.CountedNodes.{raise_few}
 use Rattle.rht_core.proofs.Theory.Steps.{by_test}
 
@@ -85,17 +86,17 @@ module _ (env : Env) where
     pub found : did.old ≡ count
     pub full : most_ports env.config.max ≤ count
 
-  -- the operation raised the count, and a table of this shape is due to grow by what the bind made of that
-  pub record RaisedBy (shape : ℕ) (kick : Bool) (did : Did) : Type 0 where
-    pub raised : did.op ≡ Add (place_of env.geometry PortCount) 1
-    pub by_count : kick ≡ kicks env shape did.old
+  -- where the operation raised the count, this is what a bind made of that for a table of this shape
+  abbrev pub SaysOfRaise : ℕ → Bool → Did → Type 0
+  SaysOfRaise shape kick did = IsRaise env.geometry did → kick ≡ kicks env shape did.old
 
-  -- behind the last table that it walked a bind raised the count
+  -- behind the last table that it walked a bind raised the count, or it had nothing to raise
   pub record Raised (kick : Bool) (steps : List Did) : Type 0 where
     pub table : ℕ
     pub shape : ℕ
     pub walked : LastWalked env.geometry table shape steps
-    pub counted : Any (RaisedBy shape kick) walked.behind
+    pub each : AllByRecursion (SaysOfRaise shape kick) walked.behind
+    pub some : Any (IsRaise env.geometry) walked.behind ⊎ ((kick ≡ false) × (env.config.kind ≡ Listed))
 
   -- what the operations of a bind saw for it to have this reply; nothing can be seen for a reply that it never has
   abbrev pub SawFor : Reply → List Did → Type 0
@@ -140,12 +141,16 @@ module _ (env : Env) where
   SawAt (at.Filling new) steps = SawNew new.at steps
   SawAt (at.CurrentTable node) steps = Unit {0}
   SawAt (at.Locating node locate) steps = WalkedAt env.geometry locate.table locate.at steps
-  SawAt (at.Probing node table shape probe) steps = LastWalked env.geometry table shape steps
+  SawAt (at.Probing node table shape probe) steps = Walked env.geometry table shape steps
   SawAt (at.FoundOwner claimed found) steps = Unit {0}
-  SawAt (at.Future claimed length) steps = LastWalked env.geometry claimed.table claimed.shape steps
-  SawAt (at.Count claimed) steps = LastWalked env.geometry claimed.table claimed.shape steps
-  SawAt (at.Link claimed) steps = LastWalked env.geometry claimed.table claimed.shape steps
-  SawAt (at.Raise claimed) steps = LastWalked env.geometry claimed.table claimed.shape steps
+  SawAt (at.ListLink list) steps = Walked env.geometry list.claimed.table list.claimed.shape steps
+  SawAt (at.ChainLink list) steps = Walked env.geometry list.claimed.table list.claimed.shape steps
+  SawAt (at.LinkBehind list link) steps = Walked env.geometry list.claimed.table list.claimed.shape steps
+  SawAt (at.Replacing list relink) steps = Walked env.geometry list.claimed.table list.claimed.shape steps
+  SawAt (at.Future claimed length) steps = Walked env.geometry claimed.table claimed.shape steps
+  SawAt (at.Count claimed) steps = Walked env.geometry claimed.table claimed.shape steps
+  SawAt (at.Link claimed) steps = Walked env.geometry claimed.table claimed.shape steps
+  SawAt (at.Raise claimed) steps = Walked env.geometry claimed.table claimed.shape steps
   SawAt (at.Publish node table relink kick) steps = Raised kick steps
   SawAt (at.Unlocking node table unlock next) steps = SawForReply (answer_behind next) steps
   SawAt (at.Giving give reply) steps = SawFor reply steps
@@ -160,17 +165,27 @@ module _ (env : Env) where
   abbrev SawNext : List Did → BindAt × Next Reply → Type 0
   SawNext steps next = GoesOrEnds (λ state. SawAt state steps) (λ reply. SawFor reply steps) next
 
-  Raised-push : (kick : Bool) (steps : List Did) (did : Did) → IsNoShapeLoad env.geometry did → Raised kick steps
+  Raised-push : (kick : Bool) (steps : List Did) (did : Did) → IsAside env.geometry did → Raised kick steps
       → Raised kick (steps ++ did ∷ [])
   unfolding LastWalked-push
   Raised-push kick steps did none raised = record {
     table = raised.table;
     shape = raised.shape;
-    walked = LastWalked-push env.geometry raised.table raised.shape steps did none raised.walked;
-    counted = Any-append_left (RaisedBy raised.shape kick) raised.walked.behind (did ∷ []) raised.counted;
+    walked = LastWalked-push env.geometry raised.table raised.shape steps did none.no_shape raised.walked;
+    each = AllByRecursion-push (SaysOfRaise raised.shape kick) raised.walked.behind did raised.each (λ adds. absurd (none.no_raise adds));
+    some = elim raised.some [
+      | inl any ↦ inl (Any-append_left (IsRaise env.geometry) raised.walked.behind (did ∷ []) any)
+      | inr none_raised ↦ inr none_raised
+    ];
   }
 
-  SawFor-push : (reply : Reply) (steps : List Did) (did : Did) → IsNoShapeLoad env.geometry did → SawFor reply steps
+  -- while no count was raised, there is nothing to say of that
+  unraised-says : (shape : ℕ) (kick : Bool) (steps : List Did) → AllByRecursion (IsNoRaise env.geometry) steps
+      → AllByRecursion (SaysOfRaise shape kick) steps
+  unraised-says shape kick [] none = tt
+  unraised-says shape kick (did ∷ steps) none = ((λ adds. absurd (none.0 adds)), unraised-says shape kick steps none.1)
+
+  SawFor-push : (reply : Reply) (steps : List Did) (did : Did) → IsAside env.geometry did → SawFor reply steps
       → SawFor reply (steps ++ did ∷ [])
   SawFor-push NoNode steps did none saw =
       let before = map performed_of steps in
@@ -190,31 +205,37 @@ module _ (env : Env) where
   taking-saw new take (Done None) steps saw = saw
   taking-saw new take (Done (Some node)) steps saw = tt
 
-  SawForReply-push : (reply : Option Reply) (steps : List Did) (did : Did) → IsNoShapeLoad env.geometry did
+  SawForReply-push : (reply : Option Reply) (steps : List Did) (did : Did) → IsAside env.geometry did
       → SawForReply reply steps → SawForReply reply (steps ++ did ∷ [])
   SawForReply-push None steps did none saw = tt
   SawForReply-push (Some reply) steps did none saw = SawFor-push reply steps did none saw
 
   -- a walk that has ended in a bucket
-  seen-saw : (claimed : Claimed) (found : Option ℕ) (length : ℕ) (steps : List Did)
-      → LastWalked env.geometry claimed.table claimed.shape steps → SawAt (owner_or_future claimed found length) steps
-  seen-saw claimed None length steps walked = walked
-  seen-saw claimed (Some found) length steps walked = tt
+  bound-saw : (kind : Kind) (claimed : Claimed) (first : ℕ) (before : Option ℕ) (steps : List Did)
+      → Walked env.geometry claimed.table claimed.shape steps → SawAt (bound_already kind claimed first before) steps
+  bound-saw Single claimed first before steps walked = tt
+  bound-saw Listed claimed first before steps walked = walked
 
-  probed-saw : (node table shape : ℕ) (probe : ProbeModel) (next : Next Probed) (steps : List Did)
-      → LastWalked env.geometry table shape steps → SawAt (probed node table shape probe next) steps
-  probed-saw node table shape probe Go steps walked = walked
-  probed-saw node table shape probe (Done end) steps walked =
-      seen-saw (record { node = node; table = table; shape = shape; bucket = end.bucket }) end.seen.found end.seen.length steps walked
+  seen-saw : (kind : Kind) (claimed : Claimed) (found before : Option ℕ) (length : ℕ) (steps : List Did)
+      → Walked env.geometry claimed.table claimed.shape steps → SawAt (found_or_future kind claimed found before length) steps
+  seen-saw kind claimed None before length steps walked = walked
+  seen-saw kind claimed (Some first) before length steps walked = bound-saw kind claimed first before steps walked
+
+  probed-saw : (kind : Kind) (node table shape : ℕ) (probe : ProbeModel) (next : Next Probed) (steps : List Did)
+      → Walked env.geometry table shape steps → SawAt (probed kind node table shape probe next) steps
+  probed-saw kind node table shape probe Go steps walked = walked
+  probed-saw kind node table shape probe (Done end) steps walked =
+      let claimed : Claimed = record { node = node; table = table; shape = shape; bucket = end.bucket } in
+      seen-saw kind claimed end.seen.found end.seen.before end.seen.length steps walked
 
   future-saw : (claimed : Claimed) (future : Option ℕ) (steps : List Did)
-      → LastWalked env.geometry claimed.table claimed.shape steps → SawAt (future_or_count claimed future) steps
+      → Walked env.geometry claimed.table claimed.shape steps → SawAt (future_or_count claimed future) steps
   future-saw claimed None steps walked = walked
   future-saw claimed (Some table) steps walked = tt
 
   -- a count that refuses the bind was loaded by this operation
   count-saw : (claimed : Claimed) (steps : List Did) (did : Did) → did.op ≡ Load (place_of env.geometry PortCount)
-      → LastWalked env.geometry claimed.table claimed.shape (steps ++ did ∷ [])
+      → Walked env.geometry claimed.table claimed.shape (steps ++ did ∷ [])
       → SawAt (checked_count env claimed did.old) (steps ++ did ∷ [])
   count-saw claimed steps did is walked =
       let count = did.old in
@@ -228,15 +249,33 @@ module _ (env : Env) where
 
   -- the count is raised behind the walk
   raise-saw : (claimed : Claimed) (steps : List Did) (did : Did) → did.op ≡ Add (place_of env.geometry PortCount) 1
-      → LastWalked env.geometry claimed.table claimed.shape steps
+      → Walked env.geometry claimed.table claimed.shape steps
       → Raised (kicks env claimed.shape did.old) (steps ++ did ∷ [])
   unfolding LastWalked-push
-  raise-saw claimed steps did is walked = record {
-    table = claimed.table;
-    shape = claimed.shape;
-    walked =
-        LastWalked-push env.geometry claimed.table claimed.shape steps did (no_load env.geometry did _ is (λ place load. cc)) walked;
-    counted = Any-push (RaisedBy claimed.shape (kicks env claimed.shape did.old)) walked.behind did record { raised = is; by_count = refl };
+  raise-saw claimed steps did is walked =
+      let behind = walked.last.behind in
+      let kick = kicks env claimed.shape did.old in
+      record {
+        table = claimed.table;
+        shape = claimed.shape;
+        walked =
+            LastWalked-push env.geometry claimed.table claimed.shape steps did (no_load env.geometry did _ is (λ place load. cc)) walked.last;
+        each =
+            AllByRecursion-push (SaysOfRaise claimed.shape kick) behind did (unraised-says claimed.shape kick behind walked.unraised)
+            (λ adds. refl);
+        some = inl (Any-push (IsRaise env.geometry) behind did is);
+      }
+
+  -- a bind that has put its node in front of a list has raised none
+  replaced-saw : (list : FoundList) (relink : RelinkModel) (next : Next (Unit {0})) (steps : List Did) → env.config.kind ≡ Listed
+      → Walked env.geometry list.claimed.table list.claimed.shape steps → SawNext steps (replaced list relink next)
+  replaced-saw list relink Go steps listed walked = walked
+  replaced-saw list relink (Done done) steps listed walked = record {
+    table = list.claimed.table;
+    shape = list.claimed.shape;
+    walked = walked.last;
+    each = unraised-says list.claimed.shape false walked.last.behind walked.unraised;
+    some = inr (refl, listed);
   }
 
   published-saw : (node table : ℕ) (kick : Bool) (relink : RelinkModel) (next : Next (Unit {0})) (steps : List Did)
@@ -258,7 +297,7 @@ module _ (env : Env) where
     found-saw c node locate (after, Go) memory ghost steps knows same walked =
         subst (λ table. WalkedAt env.geometry table after.at steps) (sym same) walked
     found-saw c node locate (after, Done there) memory ghost steps knows same walked =
-        rw knows.there (subst (λ table. LastWalked env.geometry table there.shape steps) (sym same) walked)
+        rw knows.there (subst (λ table. Walked env.geometry table there.shape steps) (sym same) walked)
 
     locating-saw : (node : ℕ) (locate : LocateModel) (steps : List Did) (did : Did)
         → Performs mix env (binds port owner once (at.Locating node locate)) did
@@ -303,28 +342,37 @@ module _ (env : Env) where
     bind-saw (at.CurrentTable node) steps did does saw = tt
     bind-saw (at.Locating node locate) steps did does saw = locating-saw node locate steps did does saw
     bind-saw (at.Probing node table shape probe) steps did does saw =
-        probed-saw node table shape (probe_after probe did.old).0 (probe_after probe did.old).1 (steps ++ did ∷ [])
-        (LastWalked-push env.geometry table shape steps did (probe_loads env.geometry did probe.at does.within.at_in.probe_in.at_in does.planned) saw)
+        probed-saw env.config.kind node table shape (probe_after probe did.old).0 (probe_after probe did.old).1 (steps ++ did ∷ [])
+        (Walked-push env.geometry table shape steps did (probe_loads env.geometry did probe.at does.within.at_in.probe_in.at_in does.planned) saw)
     bind-saw (at.FoundOwner claimed found) steps did does saw = tt
+    bind-saw (at.ListLink list) steps did does saw =
+        Walked-push env.geometry list.claimed.table list.claimed.shape steps did (aside env.geometry did _ does.planned (λ place load. cc) (λ place value adds. cc)) saw
+    bind-saw (at.ChainLink list) steps did does saw =
+        Walked-push env.geometry list.claimed.table list.claimed.shape steps did (node_loads env.geometry did env.geometry list.first ChainLink does.planned) saw
+    bind-saw (at.LinkBehind list link) steps did does saw =
+        Walked-push env.geometry list.claimed.table list.claimed.shape steps did (aside env.geometry did _ does.planned (λ place load. cc) (λ place value adds. cc)) saw
+    bind-saw (at.Replacing list relink) steps did does saw =
+        replaced-saw list (relink_after relink).0 (relink_after relink).1 (steps ++ did ∷ []) does.knows.fits.listed
+        (Walked-push env.geometry list.claimed.table list.claimed.shape steps did (relink_stores env.geometry did relink relink.at does.planned) saw)
     bind-saw (at.Future claimed length) steps did does saw =
         future-saw claimed (slot_of did.old) (steps ++ did ∷ [])
-        (LastWalked-push env.geometry claimed.table claimed.shape steps did
+        (Walked-push env.geometry claimed.table claimed.shape steps did
         (elsewhere env.geometry did _ does.planned (λ table below same. absurd (omega arith))) saw)
     bind-saw (at.Count claimed) steps did does saw =
         count-saw claimed steps did does.planned
-        (LastWalked-push env.geometry claimed.table claimed.shape steps did
+        (Walked-push env.geometry claimed.table claimed.shape steps did
         (elsewhere env.geometry did _ does.planned (λ table below same. absurd (omega arith))) saw)
     bind-saw (at.Link claimed) steps did does saw =
-        LastWalked-push env.geometry claimed.table claimed.shape steps did (no_load env.geometry did _ does.planned (λ place load. cc)) saw
+        Walked-push env.geometry claimed.table claimed.shape steps did (aside env.geometry did _ does.planned (λ place load. cc) (λ place value adds. cc)) saw
     bind-saw (at.Raise claimed) steps did does saw = raise-saw claimed steps did does.planned saw
     bind-saw (at.Publish node table relink kick) steps did does saw =
         published-saw node table kick (relink_after relink).0 (relink_after relink).1 (steps ++ did ∷ [])
-        (Raised-push kick steps did (no_load env.geometry did _ does.planned (relink_stores relink relink.at)) saw)
+        (Raised-push kick steps did (relink_stores env.geometry did relink relink.at does.planned) saw)
     bind-saw (at.Unlocking node table unlock next) steps did does saw =
         unlocked-saw node next (steps ++ did ∷ [])
-        (SawForReply-push (answer_behind next) steps did (no_load env.geometry did _ does.planned (λ place load. cc)) saw)
+        (SawForReply-push (answer_behind next) steps did (aside env.geometry did _ does.planned (λ place load. cc) (λ place value adds. cc)) saw)
     bind-saw (at.Giving give reply) steps did does saw =
-        SawFor-push reply steps did (no_load env.geometry did _ does.planned (λ place load. cc)) saw
+        SawFor-push reply steps did (aside env.geometry did _ does.planned (λ place load. cc) (λ place value adds. cc)) saw
 
   -- a look-up has nothing to show for its answers
   find-cause : (reply : Reply) → IsFindReply reply → FindCause reply
@@ -360,16 +408,11 @@ module _ (M : Type 0) (mix : ℕ → ℕ → ℕ → ℕ) (env : Env) where
       Any-push (LoadedCount env did.old) steps did (record { loaded = performs.planned; found = refl })
 
   -- below the first node there is none
-  first_bind-saw : (port owner : ℕ) (once : Bool) (kind : Kind) (job : Job) → first_bind env port owner once kind ≡ Some job
-      → JobSaw env job []
-  first_bind-saw port owner once Single job is =
-      let here : binds port owner once (first_state env port owner) ≡ job = cc in
-      subst (λ j. JobSaw env j []) here (λ node l. absurd (omega arith))
-  first_bind-saw port owner once Listed job is = absurd (cc)
-
   first_job-saw : (call : Call) (job : Job) → first_job env call ≡ Some job → JobSaw env job []
   first_job-saw (Find port) job is = subst (λ j. JobSaw env j []) (let here : finds port CurrentTable ≡ job = cc in here) tt
-  first_job-saw (Bind port owner once) job is = first_bind-saw port owner once env.config.kind job is
+  first_job-saw (Bind port owner once) job is =
+      let here : binds port owner once (first_state env port owner) ≡ job = cc in
+      subst (λ j. JobSaw env j []) here (λ node l. absurd (omega arith))
   first_job-saw Count job is = subst (λ j. JobSaw env j []) (let here : counts ≡ job = cc in here) tt
   first_job-saw _ job is = absurd (cc)
 
@@ -422,30 +465,47 @@ module _ (M : Type 0) (mix : ℕ → ℕ → ℕ → ℕ) (env : Env) where
         → KicksRightly env kick steps
     kicked kick steps recorded raised =
         let walked = raised.walked in
+        let shape = raised.shape in
         let behind = AllByRecursion-cut IsRecordedHere walked.before (walked.at ∷ walked.behind) (subst (AllByRecursion IsRecordedHere) walked.split recorded) in
         record {
           table = raised.table;
-          shape = raised.shape;
+          shape = shape;
           walked = walked;
-          counted = due raised.shape kick walked.behind behind.1.1 raised.counted;
+          kicks = (
+            (λ is. elim raised.some [
+              | inl any ↦ due shape kick walked.behind behind.1.1 raised.each is any
+              | inr none ↦ absurd (let both : true ≡ false = sym is ∙ none.0 in cc)
+            ]),
+            λ any. by_due shape kick walked.behind behind.1.1 raised.each any,
+          );
+          raised = λ single. elim raised.some [
+            | inl any ↦ any
+            | inr none ↦ absurd (let both : Single ≡ Listed = sym single ∙ none.1 in cc)
+          ];
         }
       where
-        due : (shape : ℕ) (kick : Bool) (steps : List Did) → AllByRecursion IsRecordedHere steps
-            → Any (RaisedBy env shape kick) steps → Any (IsDueBy env shape kick) steps
-        due shape kick steps recorded (k, did, within, is, by) =
-            let was = subst IsRecordedHere is (All-from_recursion IsRecordedHere steps recorded k did within) in
-            let few = raise_few env mix M events c did admitted by.raised was in
+        unclamped : (shape : ℕ) (did : Did) → IsRecordedHere did → IsRaise env.geometry did
+            → kicks env shape did.old ≡ is_above_75 (did.old + 1) (size_of (unpacked shape)) env.config.max
+        unclamped shape did was adds =
+            let few = raise_few env mix M events c did admitted adds was in
             let most = env.geometry.within.nodes_within.1 in
-            let same : min did.old 65535 ≡ did.old = omega (arith, few, most) in (
-              k,
-              did,
-              within,
-              is,
-              record {
-                raised = by.raised;
-                by_count = by.by_count ∙ ap (λ count. is_above_75 (count + 1) (size_of (unpacked shape)) env.config.max) same;
-              },
-            )
+            let same : min did.old 65535 ≡ did.old = omega (arith, few, most) in
+            ap (λ count. is_above_75 (count + 1) (size_of (unpacked shape)) env.config.max) same
+
+        due : (shape : ℕ) (kick : Bool) (steps : List Did) → AllByRecursion IsRecordedHere steps
+            → AllByRecursion (SaysOfRaise env shape kick) steps → kick ≡ true → Any (IsRaise env.geometry) steps
+            → Any (IsDueBy env shape) steps
+        due shape kick steps recorded each is (k, did, within, at_k, adds) =
+            let was = subst IsRecordedHere at_k (All-from_recursion IsRecordedHere steps recorded k did within) in
+            let says = subst (SaysOfRaise env shape kick) at_k (All-from_recursion (SaysOfRaise env shape kick) steps each k did within) in
+            (k, did, within, at_k, record { raised = adds; due = sym (unclamped shape did was adds) ∙ sym (says adds) ∙ is })
+
+        by_due : (shape : ℕ) (kick : Bool) (steps : List Did) → AllByRecursion IsRecordedHere steps
+            → AllByRecursion (SaysOfRaise env shape kick) steps → Any (IsDueBy env shape) steps → kick ≡ true
+        by_due shape kick steps recorded each (k, did, within, at_k, by) =
+            let was = subst IsRecordedHere at_k (All-from_recursion IsRecordedHere steps recorded k did within) in
+            let says = subst (SaysOfRaise env shape kick) at_k (All-from_recursion (SaysOfRaise env shape kick) steps each k did within) in
+            says by.raised ∙ unclamped shape did was by.raised ∙ by.due
 
     bind-cause : (past : Past) (reply : Reply) → SawFor env reply past.steps → AllByRecursion IsRecordedHere past.steps
         → BindCause M mix env events c past reply

@@ -1,10 +1,12 @@
 -- The last table that a call walked is the one whose shape it loaded last.
--- It stays so while the call loads no other shape; and neither what it does in a bucket nor what it stores loads one.
+-- It stays so while the call loads no other shape; and neither what it does in a bucket nor what it stores loads one. Nor does any
+-- of that raise the count of ports.
 use Rattle.std.proofs.Common.{◌≡◌, ◌≢◌, ℕ, ◌<◌, ◌≤◌, List, [], ◌∷◌, ◌++◌, refl, sym, ap, ◌∙◌, append_assoc, arith}
+use Rattle.std.specs.List.{AllByRecursion}
 use Rattle.rht_words.specs.declared.op.Op.{Op}
-use Rattle.rht_words.specs.declared.op.Op.TheVariants.{Load}
+use Rattle.rht_words.specs.declared.op.Op.TheVariants.{Load, Add}
 use Rattle.rht_words.specs.declared.geometry.Geometry.{Geometry}
-use Rattle.rht_words.specs.Places.{Slot, ShapeWord, SeedWord, IsBucketPlace, nodes_at, place_of}
+use Rattle.rht_words.specs.Places.{PortCount, Node, NodeWord, ChainLink, KeyWord, Slot, ShapeWord, SeedWord, IsBucketPlace, nodes_at, place_of}
 use Rattle.rht_words.proofs.EachElement.{AllByRecursion-push}
 use Rattle.rht_words.proofs.PlacesApart.{parts_in_order}
 use Rattle.rht_nest.specs.Locate.{LocateModel, locate_plan_at, locate_after_at}
@@ -22,23 +24,43 @@ use Rattle.rht_chain.specs.declared.lock.LockAt.TheVariants as locks
 use Rattle.rht_chain.specs.Probe.{probe_plan_at, IsProbeAtIn}
 use Rattle.rht_chain.specs.declared.probe.ProbeAt.{ProbeAt}
 use Rattle.rht_chain.specs.declared.probe.ProbeAt.TheVariants as probes
+use Rattle.rht_chain.specs.Relink.{RelinkModel, relink_plan_at}
+use Rattle.rht_chain.specs.declared.relink.RelinkAt.{RelinkAt}
+use Rattle.rht_chain.specs.declared.relink.RelinkAt.TheVariants as relinks
 use Rattle.rht_core.specs.Traces.{Did}
-use Rattle.rht_core.specs.Causes.{IsNoShapeLoad, LastWalked}
+use Rattle.rht_core.specs.Causes.{IsNoShapeLoad, LastWalked, IsRaise}
 
 module _ (g : Geometry) where
-  -- ---- what loads no shape
+  -- ---- what loads no shape, and raises no count
+
+  -- the operation doesn't raise the count of ports
+  abbrev pub IsNoRaise : Did → Type 0
+  IsNoRaise did = IsRaise g did → ⊥
+
+  pub record IsAside (did : Did) : Type 0 where
+    pub no_shape : IsNoShapeLoad g did
+    pub no_raise : IsNoRaise did
 
   -- an operation that is no load
   pub no_load : (did : Did) (op : Op) → did.op ≡ op → ((place : ℕ) → op ≢ Load place) → IsNoShapeLoad g did
   no_load did op is none table below load = none (place_of g (Slot table ShapeWord)) (sym is ∙ load)
 
+  -- and no addition
+  pub aside : (did : Did) (op : Op) → did.op ≡ op → ((place : ℕ) → op ≢ Load place) → ((place value : ℕ) → op ≢ Add place value)
+      → IsAside did
+  aside did op is no_load_is no_add =
+      record { no_shape = no_load did op is no_load_is; no_raise = λ adds. no_add (place_of g PortCount) 1 (sym is ∙ adds) }
+
   -- a load of another place
   pub elsewhere : (did : Did) (place : ℕ) → did.op ≡ Load place
-      → ((table : ℕ) → table < 8 → place ≢ place_of g (Slot table ShapeWord)) → IsNoShapeLoad g did
-  elsewhere did place is apart table below load = apart table below (let same = sym is ∙ load in cc)
+      → ((table : ℕ) → table < 8 → place ≢ place_of g (Slot table ShapeWord)) → IsAside did
+  elsewhere did place is apart = record {
+    no_shape = λ table below load. apart table below (let same = sym is ∙ load in cc);
+    no_raise = λ adds. let same = sym is ∙ adds in cc;
+  }
 
   -- a load of a place behind the slots
-  behind_slots : (did : Did) (place : ℕ) → did.op ≡ Load place → 280 ≤ place → IsNoShapeLoad g did
+  behind_slots : (did : Did) (place : ℕ) → did.op ≡ Load place → 280 ≤ place → IsAside did
   behind_slots did place is high = elsewhere did place is (λ table below same. absurd (omega arith))
 
   -- nodes and buckets stand behind the slots
@@ -49,22 +71,28 @@ module _ (g : Geometry) where
   bucket_behind place is = let order = parts_in_order g in omega
       (arith, is.0, order.page_map, order.nodes, order.pages)
 
-  walk_loads : (did : Did) (h : Geometry) (state : LockedWalkAt) → did.op ≡ walk_plan_at h state
-      → IsNoShapeLoad g did
-  walk_loads did h (walks.Key node) is = behind_slots did _ is (omega (arith, nodes_behind h))
-  walk_loads did h (walks.ChainLink node) is = behind_slots did _ is (omega (arith, nodes_behind h))
+  -- a load of a word of a node
+  pub node_loads : (did : Did) (h : Geometry) (node : ℕ) (word : NodeWord) → did.op ≡ Load (place_of h (Node node word)) → IsAside did
+  node_loads did h node word is = behind_slots did _ is (omega (arith, nodes_behind h))
 
-  lock_loads : (did : Did) (place : ℕ) (state : LockAt) → IsBucketPlace g place
-      → did.op ≡ lock_plan_at place state
-      → IsNoShapeLoad g did
+  walk_loads : (did : Did) (h : Geometry) (state : LockedWalkAt) → did.op ≡ walk_plan_at h state → IsAside did
+  walk_loads did h (walks.Key node) is = node_loads did h node KeyWord is
+  walk_loads did h (walks.ChainLink node) is = node_loads did h node ChainLink is
+
+  lock_loads : (did : Did) (place : ℕ) (state : LockAt) → IsBucketPlace g place → did.op ≡ lock_plan_at place state
+      → IsAside did
   lock_loads did place locks.Word there is = behind_slots did place is (bucket_behind place there)
-  lock_loads did place (locks.Exchange word) there is = no_load did _ is (λ other load. cc)
+  lock_loads did place (locks.Exchange word) there is = aside did _ is (λ other load. cc) (λ other value adds. cc)
 
   -- what locks a bucket and walks it
-  pub probe_loads : (did : Did) (state : ProbeAt) → IsProbeAtIn g state → did.op ≡ probe_plan_at state
-      → IsNoShapeLoad g did
+  pub probe_loads : (did : Did) (state : ProbeAt) → IsProbeAtIn g state → did.op ≡ probe_plan_at state → IsAside did
   probe_loads did (probes.Locking lock) there is = lock_loads did lock.place lock.at there.place_in is
   probe_loads did (probes.Walking bucket walk) there is = walk_loads did walk.geometry walk.at is
+
+  -- what changes a link in a bucket
+  pub relink_stores : (did : Did) (m : RelinkModel) (state : RelinkAt) → did.op ≡ relink_plan_at m state → IsAside did
+  relink_stores did m (relinks.ChainLink before) is = aside did _ is (λ place load. cc) (λ place value adds. cc)
+  relink_stores did m (relinks.Word word) is = aside did _ is (λ place load. cc) (λ place value adds. cc)
 
   -- ---- the last table
 
@@ -82,27 +110,44 @@ module _ (g : Geometry) where
     last = AllByRecursion-push (IsNoShapeLoad g) walked.behind did walked.last none;
   }
 
-  LastWalked-new : (table : ℕ) (steps : List Did) (did : Did) → table < 8
-      → did.op ≡ Load (place_of g (Slot table ShapeWord)) → LastWalked g table did.old (steps ++ did ∷ [])
-  LastWalked-new table steps did below is = record {
-    before = steps;
-    at = did;
-    behind = [];
-    split = refl;
-    table_in = below;
-    loaded = is;
-    found = refl;
-    last = tt;
+  -- since then no count was raised
+  pub record Walked (table shape : ℕ) (steps : List Did) : Type 0 where
+    pub last : LastWalked g table shape steps
+    pub unraised : AllByRecursion IsNoRaise last.behind
+
+  pub Walked-push : (table shape : ℕ) (steps : List Did) (did : Did) → IsAside did → Walked table shape steps
+      → Walked table shape (steps ++ did ∷ [])
+  unfolding LastWalked-push
+  Walked-push table shape steps did is walked = record {
+    last = LastWalked-push table shape steps did is.no_shape walked.last;
+    unraised = AllByRecursion-push IsNoRaise walked.last.behind did walked.unraised is.no_raise;
+  }
+
+  -- it begins with the load of the shape
+  Walked-new : (table : ℕ) (steps : List Did) (did : Did) → table < 8
+      → did.op ≡ Load (place_of g (Slot table ShapeWord)) → Walked table did.old (steps ++ did ∷ [])
+  Walked-new table steps did below is = record {
+    last = record {
+      before = steps;
+      at = did;
+      behind = [];
+      split = refl;
+      table_in = below;
+      loaded = is;
+      found = refl;
+      last = tt;
+    };
+    unraised = tt;
   }
 
   -- while it looks for the bucket: once it has the shape
   abbrev pub WalkedAt : ℕ → LocateAt → List Did → Type 0
   WalkedAt table locates.Shape steps = Unit {0}
-  WalkedAt table (locates.Seed shape) steps = LastWalked g table shape steps
+  WalkedAt table (locates.Seed shape) steps = Walked table shape steps
 
   abbrev pub WalkedNext : ℕ → LocateModel × Next Located → List Did → Type 0
   WalkedNext table (m, Go) steps = WalkedAt table m.at steps
-  WalkedNext table (m, Done there) steps = LastWalked g table there.shape steps
+  WalkedNext table (m, Done there) steps = Walked table there.shape steps
 
   -- it looks in one table
   pub same_table : (mix : ℕ → ℕ → ℕ → ℕ) (port : ℕ) (m : LocateModel) (state : LocateAt) (word : ℕ)
@@ -114,8 +159,7 @@ module _ (g : Geometry) where
       (steps : List Did) (did : Did)
       → m.table < 8 → did.op ≡ locate_plan_at m.geometry m.table state → WalkedAt m.table state steps
       → WalkedNext m.table (locate_after_at mix port m state did.old) (steps ++ did ∷ [])
-  locate-walked mix port m locates.Shape steps did below is walked = LastWalked-new m.table steps did below is
+  locate-walked mix port m locates.Shape steps did below is walked = Walked-new m.table steps did below is
   locate-walked mix port m (locates.Seed shape) steps did below is walked =
-      LastWalked-push m.table shape steps did
-      (elsewhere did (place_of g (Slot m.table SeedWord)) is (λ table in_it same. absurd (omega arith)))
-      walked
+      Walked-push m.table shape steps did
+      (elsewhere did (place_of g (Slot m.table SeedWord)) is (λ table in_it same. absurd (omega arith))) walked
