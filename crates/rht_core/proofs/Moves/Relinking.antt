@@ -22,10 +22,15 @@ last_in [] last is = absurd (cc)
 last_in (node ∷ []) last is = inl (let same : node ≡ last = cc in sym same)
 last_in (node ∷ next ∷ nodes) last is = inr (last_in (next ∷ nodes) last is)
 
-last_none : (nodes : List ℕ) → last_of nodes ≡ None → nodes ≡ []
+pub last_none : (nodes : List ℕ) → last_of nodes ≡ None → nodes ≡ []
 last_none [] is = refl
 last_none (node ∷ []) is = absurd (cc)
 last_none (node ∷ next ∷ nodes) is = absurd (let more = last_none (next ∷ nodes) is in cc)
+
+pub last_of-more : (nodes : List ℕ) (last : ℕ) → Some last ≡ last_of (nodes ++ last ∷ [])
+last_of-more [] last = refl
+last_of-more (node ∷ []) last = refl
+last_of-more (node ∷ next ∷ nodes) last = last_of-more (next ∷ nodes) last
 
 -- The link behind the last node of a row is stored, and what is behind it then is another segment.
 pub segment_relinked : (links stored : ℕ → ℕ) (nodes behind : List ℕ) (last first middle next stop : ℕ)

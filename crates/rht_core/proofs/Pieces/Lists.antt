@@ -2,14 +2,15 @@
 use Rattle.std.proofs.Common.{◌≡◌, ◌⊎◌, ℕ, ◌<◌, ◌≤◌, List, [], ◌∷◌, length, Option, true, refl, sym, ap, ◌∙◌, subst, inl, inr, arith}
 use Rattle.rht_words.specs.declared.env.Env.{Env}
 use Rattle.rht_words.specs.Chains.{IsSegment}
-use Rattle.rht_words.specs.Links.{link_of}
+use Rattle.rht_words.specs.Links.{link_of, node_of}
 use Rattle.rht_words.specs.Members.{In}
 use Rattle.rht_words.proofs.ChainLemmas.{IsSegment-cut}
+use Rattle.rht_words.proofs.LinksRead.{links_tell_apart}
 use Rattle.rht_words.proofs.Memory.{Memory}
 use Rattle.rht_words.proofs.Members.{in-middle, In-AllByRecursion, count_below-most, length-count_below}
 use Rattle.rht_core.proofs.Theory.Ghosts.{Ghost}
 use Rattle.rht_core.proofs.Theory.Wholes.{list_of, word_index, Whole}
-use Rattle.rht_core.proofs.Theory.Knowledge.{IsAmong, IsFound}
+use Rattle.rht_core.proofs.Theory.Knowledge.{IsAmong, IsFound, list_link, first_of_list}
 
 -- the next one of these nodes
 pub record IsNextOf (nodes : List ℕ) (link : ℕ) : Type 0 where
@@ -28,6 +29,16 @@ segment_next links first (next ∷ nodes) segment node (inr i) = elim (segment_n
   | inl ends ↦ inl ends
   | inr behind ↦ inr (record { node = behind.node; there = inr behind.there; link_is = behind.link_is })
 ]
+
+-- the link from which nodes lie leads to the first of them, and names it
+pub segment_link : (links : ℕ → ℕ) (link : ℕ) (nodes : List ℕ) → IsSegment links link nodes 0 → link ≡ list_link nodes
+segment_link links link [] segment = segment
+segment_link links link (node ∷ nodes) segment = segment.0
+
+pub list_link-names : (count : ℕ) (nodes : List ℕ) → ((node : ℕ) → In node nodes → node < count)
+    → node_of count (list_link nodes) ≡ first_of_list nodes
+list_link-names count [] among = refl
+list_link-names count (node ∷ nodes) among = links_tell_apart.link_names count node (among node (inl refl))
 
 module _ (env : Env) (mix : ℕ → ℕ → ℕ → ℕ) (M : Memory) (G : Ghost) (whole : Whole env mix M G) where
   -- behind each node to which a port is bound is the list's end or another of them

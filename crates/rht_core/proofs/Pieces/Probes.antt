@@ -36,6 +36,7 @@ use Rattle.rht_core.proofs.Theory.Passed.{NoKey}
 use Rattle.rht_core.proofs.Theory.Knowledge.{KnownNode, AtHome, KnownBucket, Unlocked, Locks, Stands, Differs, Missed, Found, StandsAt, last_of, HoldsLock, BucketMeans, Knowing}
 use Rattle.rht_core.proofs.Theory.Steps.{TakesLock, by_test, Holding, mem, Moved, moved, moved-map, loads}
 use Rattle.rht_core.proofs.Moves.Quiet.{take_lock}
+use Rattle.rht_core.proofs.Moves.Relinking.{last_of-more}
 use Rattle.rht_core.proofs.Pieces.Locks.{with-holder}
 
 -- what is known at a state of the walk, in the bucket at this place whose word was this before it was locked
@@ -147,11 +148,6 @@ module _ (env : Env) (mix : ℕ → ℕ → ℕ → ℕ) (c : ℕ) (h : Holding)
     NoKey-more : (nodes : List ℕ) (n : ℕ) → NoKey M port nodes → key_of M n ≢ port → NoKey M port (nodes ++ n ∷ [])
     NoKey-more [] n none differs = (differs, tt)
     NoKey-more (other ∷ nodes) n none differs = (none.0, NoKey-more nodes n none.1 differs)
-
-    last_of-more : (nodes : List ℕ) (n : ℕ) → Some n ≡ last_of (nodes ++ n ∷ [])
-    last_of-more [] n = refl
-    last_of-more (other ∷ []) n = refl
-    last_of-more (other ∷ next ∷ nodes) n = last_of-more (next ∷ nodes) n
 
     -- behind a node with another key the walk stands at the next one, or has missed the port
     walk_on : (n : ℕ) (walk : LockedWalkModel) → walk.geometry ≡ env.geometry → walk.key ≡ port

@@ -1,17 +1,18 @@
 -- Behind a store that changes what a port is bound to: what the caller has, which nodes it has taken out of lists, and which owners
 -- the nodes have.
-use Rattle.std.proofs.Common.{◌≡◌, ◌≢◌, ◌⊎◌, ℕ, suc, ◌+◌, ◌<◌, ◌≤◌, List, Option, Some, None, Bool, false, refl, sym, ap, ◌∙◌, inl, inr, arith}
+use Rattle.std.proofs.Common.{◌≡◌, ◌≢◌, ◌⊎◌, ℕ, suc, ◌+◌, ◌<◌, ◌≤◌, List, ◌∷◌, ◌++◌, Option, Some, None, Bool, true, false, refl, sym, ap, ◌∙◌, subst, inl, inr, arith}
 use Rattle.std.proofs.lemmas.Bool.{cases_eq, eq-eqb}
 use Rattle.rht_words.specs.declared.env.Env.{Env}
 use Rattle.rht_words.specs.declared.geometry.Geometry.{Geometry}
 use Rattle.rht_words.specs.Places.{Node, NodeWord, IsBucketPlace, nodes_at, place_of}
 use Rattle.rht_words.specs.Members.{In}
-use Rattle.rht_words.proofs.Members.{count_below, count_below-more}
+use Rattle.rht_words.proofs.Members.{in-middle, In-append_left, count_below, count_below-more}
 use Rattle.rht_words.proofs.Memory.{Memory}
 use Rattle.rht_words.proofs.PlacesApart.{parts_in_order}
-use Rattle.rht_core.proofs.Theory.Ghosts.{put, put-same, put-other, put-all, Owner, Held, Taken, Ghost, is_taken_by}
-use Rattle.rht_core.proofs.Theory.Wholes.{place_at, Whole}
-use Rattle.rht_core.proofs.Theory.Knowledge.{HasOnly, bound_used}
+use Rattle.rht_core.proofs.Theory.Ghosts.{put, put-same, put-other, put-all, Owner, Held, Taken, Ghost, is_used, is_taken_by}
+use Rattle.rht_core.proofs.Theory.Wholes.{key_of, place_at, word_index, place_at-index, Whole}
+use Rattle.rht_core.proofs.Theory.Knowledge.{HasOnly, IsFound, bound_used}
+use Rattle.rht_core.proofs.Theory.Passed.{NoKey-same}
 use Rattle.rht_core.proofs.Theory.Frames.{Made}
 use Rattle.rht_core.proofs.Theory.Readiness.{Change, changed}
 use Rattle.rht_core.proofs.Theory.Steps.{owners_in, owners_in-same}
@@ -23,17 +24,24 @@ node_behind_maps g node word = omega arith
 pub bucket_behind_maps : (g : Geometry) (place : ℕ) → IsBucketPlace g place → nodes_at g ≤ place
 bucket_behind_maps g place is = let order = parts_in_order g in omega (arith, is.0, order.pages)
 
--- One node is given to the caller as taken out, and perhaps another one to somebody else: it has taken out one more.
+-- One node is given to the caller as taken out, and perhaps another one to somebody else.
+abbrev pub IsTakenWith : ℕ → ℕ → ℕ → Owner → (ℕ → Owner) → Type 0
+IsTakenWith c m x owner node = (x ≡ m × owner ≡ Taken c) ⊎ ((x ≢ m) × (is_taken_by c (node x) ≡ false) × (is_taken_by c owner ≡ false))
+
+pub taken_then : (c m x : ℕ) (owner : Owner) (node : ℕ → Owner) → IsTakenWith c m x owner node
+    → is_taken_by c (put (put node m (Taken c)) x owner m) ≡ true
+taken_then c m x owner node (inl same) =
+    rw same.0 (rw same.1 (ap (is_taken_by c) (put-same (put node m (Taken c)) m (Taken c)) ∙ eq-eqb c c refl))
+taken_then c m x owner node (inr two) =
+    ap (is_taken_by c) (put-other (put node m (Taken c)) x owner m (λ e. two.0 (sym e)) ∙ put-same node m (Taken c)) ∙ eq-eqb c c refl
+
+-- it has taken out one more
 pub taken_more : (c m x bound : ℕ) (owner : Owner) (node : ℕ → Owner) → m < bound → is_taken_by c (node m) ≡ false
-    → (x ≡ m × owner ≡ Taken c) ⊎ ((x ≢ m) × (is_taken_by c (node x) ≡ false) × (is_taken_by c owner ≡ false))
+    → IsTakenWith c m x owner node
     → count_below (λ n. is_taken_by c (put (put node m (Taken c)) x owner n)) bound ≡ count_below (λ n. is_taken_by c (node n)) bound + 1
 taken_more c m x bound owner node l was other =
     count_below-more (λ n. is_taken_by c (node n)) (λ n. is_taken_by c (put (put node m (Taken c)) x owner n)) m bound l was
-    (elim other [
-      | inl same ↦ rw same.0 (rw same.1 (ap (is_taken_by c) (put-same (put node m (Taken c)) m (Taken c)) ∙ eq-eqb c c refl))
-      | inr two ↦
-          ap (is_taken_by c) (put-other (put node m (Taken c)) x owner m (λ e. two.0 (sym e)) ∙ put-same node m (Taken c)) ∙ eq-eqb c c refl
-    ])
+    (taken_then c m x owner node other)
     (λ n ne. elim (cases_eq n x) [
       | inl e ↦ elim other [
         | inl same ↦ absurd (ne (e ∙ same.0))
@@ -81,3 +89,27 @@ module _ (env : Env) (mix : ℕ → ℕ → ℕ → ℕ) (c : ℕ) (G : Ghost) w
       let other : suc c ≢ c = λ e. absurd (omega arith) in
       owners_in-same env mix M M' nodes (λ n i.
       let is = bound_used env mix M G whole port (G.bound port) refl n (among n i) in (made.others (suc c) other).owners n is.0 is.1)
+
+  -- a node that was found is found still
+  pub found_kept : (M M' : Memory) → Whole env mix M G → Made env mix c M G M' G → (place word key node : ℕ) (before : Option ℕ)
+      → IsFound env mix c M G place word key node before → IsFound env mix c M' G place word key node before
+  found_kept M M' whole made place word key node before is =
+      let s = is.standing.stands in
+      let j = word_index env mix place in
+      let other : suc c ≢ c = λ e. absurd (omega arith) in
+      let same : (n : ℕ) → In n (s.front ++ node ∷ s.rear) → key_of M' n ≡ key_of M n =
+      λ n i. let f = whole.owned.member j n (subst (In n) (sym s.split) i) in
+      (made.others (suc c) other).keys n (whole.owned.first_at n j f).among (ap is_used f) in
+      record {
+        standing = record {
+          lock = is.standing.lock;
+          stands = record {
+            front = s.front;
+            rear = s.rear;
+            split = s.split;
+            passed = NoKey-same M M' key s.front (λ n i. same n (In-append_left n s.front (node ∷ s.rear) i)) s.passed;
+            last = s.last;
+          };
+        };
+        key_is = same node (in-middle node s.front s.rear) ∙ is.key_is;
+      }
