@@ -37,7 +37,7 @@ use Rattle.rht_release.specs.declared.rebind.RebindAt.TheVariants as at
 use Rattle.rht_core.specs.Replies.{IsRebindReply, AreOwnersWith, ArePairsWith}
 use Rattle.rht_core.proofs.Theory.Ghosts.{put-same, put-other, First, Taken, Ghost, is_taken_by, held_not_first, taken_by_one}
 use Rattle.rht_core.proofs.Theory.Wholes.{word_index, place_at, place_at-index, outs, Whole}
-use Rattle.rht_core.proofs.Theory.Knowledge.{HasOnly, HoldsLock, KnownNode, Nowhere, KnownBucket, Unlocked, Locks, InList, KnownList, Leads, LeadsTo, Succeeds, Known, Knowing, first_of_list}
+use Rattle.rht_core.proofs.Theory.Knowledge.{HasOnly, HoldsLock, HasTakenOut, KnownNode, Nowhere, KnownBucket, Unlocked, Locks, Leads, LeadsTo, Succeeds, Known, Knowing, first_of_list}
 use Rattle.rht_core.proofs.Theory.Frames.{Made}
 use Rattle.rht_core.proofs.Theory.Readiness.{Change, changed}
 use Rattle.rht_core.proofs.Theory.Answering.{KeepsAnswer, IsLegalOn, IsRight, Stills, ChangesBindings, Says, Tells, keeps, learns}
@@ -46,12 +46,13 @@ use Rattle.rht_core.proofs.Moves.Relinking.{relink_address, relink_value}
 use Rattle.rht_core.proofs.Moves.Removing as removing
 use Rattle.rht_core.proofs.Moves.Removing.{IsFoundIn, CanReplace}
 use Rattle.rht_core.proofs.Pieces.NewNodes as nodes
-use Rattle.rht_core.proofs.Pieces.Locks.{unlock_step}
+use Rattle.rht_core.proofs.Pieces.Locks.{unlock_step, unlock_taken}
 use Rattle.rht_core.proofs.Pieces.Lists.{list_among, found_list}
 use Rattle.rht_core.proofs.Pieces.Seeks as seeks
-use Rattle.rht_core.proofs.Pieces.Rebounds.{taken_more, only_left}
+use Rattle.rht_core.proofs.Pieces.Rebounds.{IsTakenWith, taken_then, taken_more, only_left}
 use Rattle.rht_core.proofs.Pieces.Relinks.{relinking, unstored, relinking_so, lock_left, first_store, relink_write, relink_behind_maps, relink_leaves, holder_left, lock_kept}
-use Rattle.rht_core.proofs.Machines.FindSteps.{known_nothing}
+use Rattle.rht_core.proofs.Machines.ReleaseStores.{here, in_list, locks_taken}
+use Rattle.rht_core.proofs.Machines.ReleaseSteps.{known_removed}
 
 module _ (port owner new : ℕ) where
   -- the node with all its words, but for its link in a chain
@@ -62,14 +63,10 @@ module _ (port owner new : ℕ) where
   abbrev knows_of : ℕ → KnownBucket → Known
   knows_of n bucket = record { node = Some (own n); table = Nowhere; bucket = bucket }
 
-  abbrev in_list : FoundPort → KnownList → KnownBucket
-  in_list found known = InList found.bucket.place found.bucket.word port found.node found.before known
-
-  -- before the store that puts its node in the place of the old one, and behind it
+  -- before the store that puts its node in the place of the old one; and behind it, when that is taken out
   abbrev known_replacing : ℕ → FoundPort → Bool → Known
-  known_replacing n found false = knows_of n (in_list found (Succeeds n owner))
-  known_replacing n found true =
-      record { node = None; table = Nowhere; bucket = Locks found.bucket.place found.bucket.word }
+  known_replacing n found false = knows_of n (in_list port found (Succeeds n owner))
+  known_replacing n found true = here (locks_taken found found.node)
 
   -- what a rebind knows in a state
   abbrev pub known_of_rebind : RebindAt → Known
@@ -77,8 +74,8 @@ module _ (port owner new : ℕ) where
       record { node = nodes.known_at port new fresh.at; table = Nowhere; bucket = Unlocked }
   known_of_rebind (at.Seeking n seek) = seeks.known_of_seek port (Some (own n)) seek.at
   known_of_rebind (at.Owner n found) = knows_of n (seeks.known_port port found)
-  known_of_rebind (at.ChainLink n found) = knows_of n (in_list found (Leads None owner))
-  known_of_rebind (at.Link n found link) = knows_of n (in_list found (LeadsTo None link owner))
+  known_of_rebind (at.ChainLink n found) = knows_of n (in_list port found (Leads None owner))
+  known_of_rebind (at.Link n found link) = knows_of n (in_list port found (LeadsTo None link owner))
   known_of_rebind (at.Replacing n found relink) =
       known_replacing n found (has_relinked found.before relink.at)
   known_of_rebind (at.Unlocking n table unlock) = knows_of n (Locks unlock.place unlock.word)
@@ -109,14 +106,15 @@ module _ (env : Env) (mix : ℕ → ℕ → ℕ → ℕ) (c : ℕ) (port owner n
     pub knowing : Knowing env mix c (held_of_rebind at) (known_of_rebind port owner new at) M G
     pub fits : fits_rebind at
 
-  -- what it holds and knows after an operation
+  -- what it holds and knows after an operation; at its end which node it has taken out, where it has
   abbrev pub rebind_holds : RebindAt × Next (Reply × Option ℕ) → Holding
   rebind_holds (at, Go) = held_of_rebind at
   rebind_holds (at, Done end) = held.ended_with (plain end.0)
 
   abbrev pub RebindNext : RebindAt × Next (Reply × Option ℕ) → Memory → Ghost → Type 0
   RebindNext (at, Go) M G = RebindKnows at M G
-  RebindNext (at, Done end) M G = Knowing env mix c (held.ended_with (plain end.0)) known_nothing M G
+  RebindNext (at, Done end) M G =
+      Knowing env mix c (held.ended_with (plain end.0)) (known_removed end.1) M G
 
   module _ (single : env.config.kind ≡ Single) (small : new < 2 ^ 32) (low : c < env.geometry.callers)
       (words : List ℕ) (G : Ghost) (all : length words ≡ words_in env.geometry)
@@ -370,7 +368,7 @@ module _ (env : Env) (mix : ℕ → ℕ → ℕ → ℕ) (c : ℕ) (port owner n
         let op = plan_at env (at.Link n found link) in
         let h = holds_found n found in
         let Next = ReplacingKnows n found (relink_of env.geometry found (link_of n)) false in
-        let bucket = in_list port owner new found (LeadsTo None link owner) in
+        let bucket = in_list port found (LeadsTo None link owner) in
         let locked : Holding = record held.holds_nothing { lock = Some found.bucket.place } in
         answered env mix c call words G op h h None Next (inl refl) (still_has refl)
         (moved-map env mix c words G op h h _ Next
@@ -459,12 +457,12 @@ module _ (env : Env) (mix : ℕ → ℕ → ℕ → ℕ) (c : ℕ) (port owner n
 
       in_bucket : IsFoundIn env mix c port j m front rear before M M' G []
       in_bucket =
-          let here = k.means.bucket.found in
+          let listed = k.means.bucket.found in
           record {
             holder = lock.holder;
-            split = here.standing.stands.split;
-            last = here.standing.stands.last;
-            key_is = here.key_is;
+            split = listed.standing.stands.split;
+            last = listed.standing.stands.last;
+            key_is = listed.key_is;
             bound_to = bound;
           }
 
@@ -593,12 +591,20 @@ module _ (env : Env) (mix : ℕ → ℕ → ℕ → ℕ) (c : ℕ) (port owner n
       abbrev holds_left : Holding
       holds_left = record held.holds_nothing { lock = lock_left place before; answer = Some (plain Rebound) }
 
+      among : m < env.geometry.nodes
+      among = list_among env mix M G whole port m [] bound m (inl refl)
+
+      taken_with : IsTakenWith c m n (First j) G.node
+      taken_with = inr (apart, ap (is_taken_by c) k.means.node.has.mine, refl)
+
       one_out : outs env mix G' c + 0 ≡ outs env mix G c + 1
       one_out =
-          let among = list_among env mix M G whole port m [] bound m (inl refl) in
-          let more = taken_more c m n env.geometry.nodes (First j) G.node among (ap (is_taken_by c) first)
-          (inr (apart, ap (is_taken_by c) k.means.node.has.mine, refl)) in
+          let untaken = ap (is_taken_by c) first in
+          let more = taken_more c m n env.geometry.nodes (First j) G.node among untaken taken_with in
           omega (arith, more)
+
+      taken_out : HasTakenOut env mix c G' m
+      taken_out = record { among = among; taken = taken_then c m n (First j) G.node taken_with }
 
       lock_or_none : (b : Option ℕ) → (lock_left place b ≡ Some place) ⊎ (lock_left place b ≡ None)
       lock_or_none None = inr refl
@@ -656,15 +662,26 @@ module _ (env : Env) (mix : ℕ → ℕ → ℕ → ℕ) (c : ℕ) (port owner n
     first_leads : (n : ℕ) (found : FoundPort) (before : Option ℕ)
         → LeadsOn n found before (replaces n (record found { before = before }) false)
     first_leads n found None within k =
-        let here : FoundPort = record found { before = None } in
-        store_step n here within k (RebindNext (ends (at.Replacing n here (replaces n here false)) found))
-        (record { only = only n here within k; means = record { node = tt; table = tt; bucket = tt } })
+        let there : FoundPort = record found { before = None } in
+        store_step n there within k (RebindNext (ends (at.Replacing n there (replaces n there false)) found))
+        (record {
+          only = only n there within k;
+          means = record { node = tt; table = tt; bucket = taken_out n there within k };
+        })
     first_leads n found (Some node) within k =
-        let here : FoundPort = record found { before = Some node } in
-        store_step n here within k (RebindNext (at.Replacing n here (replaces n here true), Go)) (record {
+        let there : FoundPort = record found { before = Some node } in
+        store_step n there within k (RebindNext (at.Replacing n there (replaces n there true), Go))
+        (record {
           knowing = record {
-            only = only n here within k;
-            means = record { node = tt; table = tt; bucket = still_locked n here within k node refl };
+            only = only n there within k;
+            means = record {
+              node = tt;
+              table = tt;
+              bucket = record {
+                lock = still_locked n there within k node refl;
+                took = taken_out n there within k;
+              };
+            };
           };
           fits = refl;
         })
@@ -673,12 +690,13 @@ module _ (env : Env) (mix : ℕ → ℕ → ℕ → ℕ) (c : ℕ) (port owner n
     second_leads : (n : ℕ) (found : FoundPort) (node : ℕ)
         → LeadsOn n found (Some node) (replaces n (record found { before = Some node }) true)
     second_leads n found node within k =
-        let here : FoundPort = record found { before = Some node } in
-        let state = at.Replacing n here (replaces n here true) in
+        let there : FoundPort = record found { before = Some node } in
+        let state = at.Replacing n there (replaces n there true) in
         let answer = Some (plain Rebound) in
         let told : Holding = record held.holds_nothing { answer = answer } in
         moves_on state (ends state found) told answer _ (inl (keeps answer)) (still_has refl) (λ M' G' w k. k)
-        (unlock_step env mix c told None Nowhere words G all whole found.bucket.place found.bucket.word k)
+        (unlock_taken env mix c told None Nowhere words G all whole found.bucket.place found.bucket.word
+        found.node k)
 
     replacing_step : (n : ℕ) (found : FoundPort) (relink : RelinkModel)
         → IsNodeOrNone env.geometry found.before
@@ -711,7 +729,7 @@ module _ (env : Env) (mix : ℕ → ℕ → ℕ → ℕ) (c : ℕ) (port owner n
         (record { knowing = known.knowing; fits = known.fits }))
     rebind_step (at.Owner n found) is known = owner_next n found known
     rebind_step (at.ChainLink n found) is known =
-        let here = known.knowing.means.bucket in
+        let listed = known.knowing.means.bucket in
         let next = at.Link n found (M (Node found.node ChainLink)) in
         goes_on (at.ChainLink n found) next refl refl refl (record {
           knowing = record {
@@ -720,10 +738,10 @@ module _ (env : Env) (mix : ℕ → ℕ → ℕ → ℕ) (c : ℕ) (port owner n
               node = known.knowing.means.node;
               table = tt;
               bucket = record {
-                found = here.found;
-                behind = here.behind;
-                bound_to = here.bound_to;
-                means = record { leads = here.means; link_is = refl };
+                found = listed.found;
+                behind = listed.behind;
+                bound_to = listed.bound_to;
+                means = record { leads = listed.means; link_is = refl };
               };
             };
           };
