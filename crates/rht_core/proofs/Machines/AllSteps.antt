@@ -61,14 +61,14 @@ module _ (port : ℕ) where
   fits_all room (at.Unlocking table unlock) = Unit {0}
 
 -- the room with this owner behind the others
-abbrev with_owner : Kept ℕ → ℕ → Kept ℕ
-with_owner room owner = record { items = room.items ++ owner ∷ []; limit = room.limit }
+abbrev room_with : Kept ℕ → ℕ → Kept ℕ
+room_with room owner = record { items = room.items ++ owner ∷ []; limit = room.limit }
 
 -- an operation leaves the room's limit
 pub room_after-limit : (at : AllAt) (room : Kept ℕ) (word : ℕ) → (room_after at room word).limit ≡ room.limit
 room_after-limit (at.Seeking seek) room word = refl
 room_after-limit (at.Owner found node) room word =
-    by_test (λ t. (cond t (with_owner room (owner_of word)) room).limit ≡ room.limit)
+    by_test (λ t. (cond t (room_with room (owner_of word)) room).limit ≡ room.limit)
     (nat_lt (length room.items) room.limit) (λ t. refl) (λ f. refl)
 room_after-limit (at.ListLink found node) room word = refl
 room_after-limit (at.Unlocking table unlock) room word = refl
@@ -103,7 +103,8 @@ module _ (env : Env) (mix : ℕ → ℕ → ℕ → ℕ) (c : ℕ) (port : ℕ) 
     -- what an operation leads to from a state, with this room then
     abbrev AllMoved : AllAt → Kept ℕ → AllAt × Next (Unit {0}) → Type 0
     AllMoved at after r =
-        Step env mix c call words G (plan_at env at) (held_of_all room.items at) (all_holds after r) (AllNext after r)
+        Step env mix c call words G (plan_at env at) (held_of_all room.items at) (all_holds after r)
+        (AllNext after r)
 
     abbrev pub AllStep : AllAt → Type 0
     AllStep at =
@@ -118,7 +119,8 @@ module _ (env : Env) (mix : ℕ → ℕ → ℕ → ℕ) (c : ℕ) (port : ℕ) 
         (held_of_all after.items next).answer
         → AllKnows after next M G → AllMoved at after (next, Go)
     goes_on at next after same holds tells knows =
-        reads env mix c call words G (plan_at env at) (held_of_all room.items at) (held_of_all after.items next)
+        reads env mix c call words G (plan_at env at) (held_of_all room.items at)
+        (held_of_all after.items next)
         (AllNext after (next, Go)) whole same holds tells knows
 
     -- a listing is answered with the owners of the port
@@ -139,7 +141,7 @@ module _ (env : Env) (mix : ℕ → ℕ → ℕ → ℕ) (c : ℕ) (port : ℕ) 
 
     -- the owner that was loaded is kept: of the nodes of the list one is left, so there is room
     kept : (found : FoundPort) (node : ℕ) → AllKnows room (at.Owner found node) M G
-        → with_kept room (owner_at node) ≡ with_owner room (owner_at node)
+        → with_kept room (owner_at node) ≡ room_with room (owner_at node)
     kept found node known =
         let here = known.knowing.means.bucket in
         let is = here.means in
@@ -148,7 +150,7 @@ module _ (env : Env) (mix : ℕ → ℕ → ℕ → ℕ) (c : ℕ) (port : ℕ) 
         ap length is.among.split ∙ length-append is.among.front (node ∷ is.among.rear) in
         let far : length room.items ≡ length is.among.front =
         ap length is.owners_are ∙ length-map is.among.front owner_at in
-        ap (λ t. cond t (with_owner room (owner_at node)) room)
+        ap (λ t. cond t (room_with room (owner_at node)) room)
         (lt-ltb (length room.items) room.limit (omega (arith, few, many, far, roomy)))
 
     owner_kept : (found : FoundPort) (node : ℕ) → AllKnows room (at.Owner found node) M G
@@ -156,8 +158,10 @@ module _ (env : Env) (mix : ℕ → ℕ → ℕ → ℕ) (c : ℕ) (port : ℕ) 
     owner_kept found node known =
         let here = known.knowing.means.bucket in
         let is = here.means in
-        subst (λ after. AllMoved (at.Owner found node) after (at.ListLink found node, Go)) (sym (kept found node known))
-        (goes_on (at.Owner found node) (at.ListLink found node) (with_owner room (owner_at node)) refl refl (inl refl)
+        subst (λ after. AllMoved (at.Owner found node) after (at.ListLink found node, Go))
+        (sym (kept found node known))
+        (goes_on (at.Owner found node) (at.ListLink found node) (room_with room (owner_at node)) refl refl
+        (inl refl)
         (record {
           knowing = record {
             only = known.knowing.only;
