@@ -263,11 +263,13 @@ module _ (env : Env) (mix : ℕ → ℕ → ℕ → ℕ) (c : ℕ) (port owner :
         (SeekNext (next, Done None)) (at.Seeking next, Done (Absent, None))
         (λ M' G' k. record { only = k.only; means = k.means }) step
     sought_step seek (next, Done (Some found)) step =
-        step-map env mix c call words G (seek_plan seek) (held_of_release (at.Seeking seek)) (holds_bucket found)
+        step-map env mix c call words G (seek_plan seek) (held_of_release (at.Seeking seek))
+        (holds_bucket found)
         (SeekNext (next, Done (Some found))) (ReleaseNext (at.Owner found found.node None, Go))
         (λ M' G' w k.
         let is = k.means.bucket in
-        let list = found_list env mix M' G' w c found.bucket.place found.bucket.word port found.node found.before is in
+        let list =
+        found_list env mix M' G' w c found.bucket.place found.bucket.word port found.node found.before is in
         record {
           knowing = record {
             only = k.only;
@@ -323,6 +325,10 @@ module _ (env : Env) (mix : ℕ → ℕ → ℕ → ℕ) (c : ℕ) (port owner :
         front : List ℕ
         front = known.knowing.means.bucket.means.stands.among.front
 
+        -- where it goes by this link
+        next_by : ℕ → ReleaseAt
+        next_by link = list_followed found node (node_of env.geometry.nodes link)
+
         passed : NoOwner M owner (front ++ node ∷ [])
         passed =
             let other = known.knowing.means.bucket.means in
@@ -335,8 +341,7 @@ module _ (env : Env) (mix : ℕ → ℕ → ℕ → ℕ) (c : ℕ) (port owner :
             let op = plan_at env (at.ListLink found node) in
             let answer = unlocking found None in
             let nodes = front ++ node ∷ [] in
-            let ends : list_followed found node (node_of env.geometry.nodes (M (Node node ListLink))) ≡ answer =
-            ap (λ link. list_followed found node (node_of env.geometry.nodes link)) end in
+            let ends : next_by (M (Node node ListLink)) ≡ answer = ap next_by end in
             let none : NotIn owner (now port) =
             subst (λ bound. NotIn owner (owners_in env mix M bound)) (sym (is.bound_to ∙ split))
             (stores.no_owner env mix c port owner low words G all whole nodes passed) in
@@ -356,8 +361,8 @@ module _ (env : Env) (mix : ℕ → ℕ → ℕ → ℕ) (c : ℕ) (port owner :
             subst (In next) (sym split) (In-append_right next front (node ∷ next ∷ rear) (inr (inl refl))) in
             let among = list_among env mix M G whole port found.node is.behind is.bound_to next there in
             let follows = at.Owner found next (Some node) in
-            let goes : list_followed found node (node_of env.geometry.nodes (M (Node node ListLink))) ≡ follows =
-            ap (λ link. list_followed found node (node_of env.geometry.nodes link)) segment.0
+            let goes : next_by (M (Node node ListLink)) ≡ follows =
+            ap next_by segment.0
             ∙ ap (list_followed found node) (links_tell_apart.link_names env.geometry.nodes next among) in
             rw goes (goes_on (at.ListLink found node) follows refl refl refl (record {
               knowing = list_more found (Differing node owner) (AtNode next (Some node) owner) known.knowing
@@ -418,12 +423,15 @@ module _ (env : Env) (mix : ℕ → ℕ → ℕ → ℕ) (c : ℕ) (port owner :
 
     -- ---- a later node is cut out of the list
 
-    cut_step : (found : FoundPort) (node before link : ℕ) → ReleaseKnows (at.CuttingOut found node before link) M G
+    cut_step : (found : FoundPort) (node before link : ℕ)
+        → ReleaseKnows (at.CuttingOut found node before link) M G
         → ReleaseStep (at.CuttingOut found node before link)
     cut_step found node before link known =
         let lock = Some found.bucket.place in
-        knows_next (plan_at env (at.CuttingOut found node before link)) (holds_bucket found) (holds_left lock false)
-        (stores.KnowsLeft env mix c port owner lock false (locks_taken found node)) (unlocking found (Some node), Go)
+        knows_next (plan_at env (at.CuttingOut found node before link)) (holds_bucket found)
+        (holds_left lock false)
+        (stores.KnowsLeft env mix c port owner lock false (locks_taken found node))
+        (unlocking found (Some node), Go)
         (λ M' G' k. record { knowing = record { only = k.only; means = k.means }; fits = tt })
         (stores.cut_store env mix c port owner low words G all whole found node before link known.knowing)
 
@@ -439,7 +447,8 @@ module _ (env : Env) (mix : ℕ → ℕ → ℕ → ℕ) (c : ℕ) (port owner :
         rw (begins_held found true link)
         (reads env mix c call words G op (holds_bucket found) (holds_bucket found) (ReleaseNext (next, Go))
         whole refl refl (inl refl)
-        (unlinking_knows M G found link (list_more found (Leads None owner) (LeadsTo None link owner) known.knowing
+        (unlinking_knows M G found link
+        (list_more found (Leads None owner) (LeadsTo None link owner) known.knowing
         (record { leads = known.knowing.means.bucket.means; link_is = refl }))))
     chain_step found (Some second) known =
         let link = M (Node found.node ChainLink) in
@@ -470,14 +479,17 @@ module _ (env : Env) (mix : ℕ → ℕ → ℕ → ℕ) (c : ℕ) (port owner :
         let within = (whole.owned.behind_in second port mine).among in
         let write : IsWrite env.geometry M M' (Node second ChainLink) link =
         is_write env.geometry words (Node second ChainLink) op all within refl in
-        let made = chain_behind env mix c second port m j link is.behind M M' G whole mine is.bound_to first lock.holder
+        let made =
+        chain_behind env mix c second port m j link is.behind M M' G whole mine is.bound_to first lock.holder
         write in
         let apart : m ≢ second = λ e. let z : First j ≡ Behind port = sym first ∙ ap G.node e ∙ mine in cc in
-        let first_link : chain_of M' m ≡ chain_of M m = write.others (Node m ChainLink) among (λ e. apart (cc)) in
+        let first_link : chain_of M' m ≡ chain_of M m =
+        write.others (Node m ChainLink) among (λ e. apart (cc)) in
         let owner_word = ap owner_of (write.others (Node m OwnerWord) among (λ e. cc)) in
         let next = promoting env.geometry found second in
         rw (begins_held found false (link_of second))
-        (answered env mix c call words G op (holds_bucket found) (holds_bucket found) None (ReleaseNext (next, Go))
+        (answered env mix c call words G op (holds_bucket found) (holds_bucket found) None
+        (ReleaseNext (next, Go))
         (inl refl) (still_has refl)
         (moved env mix c words G op (holds_bucket found) (holds_bucket found) (ReleaseNext (next, Go))
         (LinksBehind second) whole tt tt made (record { on = refl; holds = refl })
@@ -487,7 +499,8 @@ module _ (env : Env) (mix : ℕ → ℕ → ℕ → ℕ) (c : ℕ) (port owner :
             node = tt;
             table = tt;
             bucket = record {
-              found = found_kept env mix c G M M' whole made found.bucket.place found.bucket.word port m found.before
+              found = found_kept env mix c G M M' whole made found.bucket.place found.bucket.word port m
+                  found.before
                   is.found;
               behind = is.behind;
               bound_to = is.bound_to;
@@ -508,8 +521,8 @@ module _ (env : Env) (mix : ℕ → ℕ → ℕ → ℕ) (c : ℕ) (port owner :
     -- the bucket of a node that was taken out is unlocked
     unlock_left : (place word node : ℕ) (raised : Bool) (r : ReleaseAt × Next (Reply × Option ℕ))
         → release_holds r ≡ holds_left None raised
-        → ((M' : Memory) (G' : Ghost) → stores.KnowsLeft env mix c port owner None raised (TakenOut node) M' G'
-        → ReleaseNext r M' G')
+        → ((M' : Memory) (G' : Ghost)
+        → stores.KnowsLeft env mix c port owner None raised (TakenOut node) M' G' → ReleaseNext r M' G')
         → stores.KnowsLeft env mix c port owner (Some place) raised (LocksTakenOut place word node) M G
         → Steps (Store place word) (holds_left (Some place) raised) (release_holds r) (ReleaseNext r)
     unlock_left place word node raised r holds next k =
@@ -517,7 +530,8 @@ module _ (env : Env) (mix : ℕ → ℕ → ℕ → ℕ) (c : ℕ) (port owner :
         let locked = holds_left (Some place) raised in
         let h = holds_left None raised in
         rw holds
-        (answered env mix c call words G op locked h h.answer (ReleaseNext r) (inl (keeps h.answer)) (still_has refl)
+        (answered env mix c call words G op locked h h.answer (ReleaseNext r) (inl (keeps h.answer))
+        (still_has refl)
         (moved-map env mix c words G op locked h _ (ReleaseNext r) (λ M' G' w k. next M' G' k)
         (unlock_taken env mix c h None Nowhere words G all whole place word node k)))
 
@@ -528,7 +542,8 @@ module _ (env : Env) (mix : ℕ → ℕ → ℕ → ℕ) (c : ℕ) (port owner :
         IsNodeOrNone env.geometry before → ReleaseKnows (state f relink) M G → ReleaseStep (state f relink)
 
     -- the only node goes out of the chain: where another one is before it, the bucket is unlocked then
-    unlinking_step : (found : FoundPort) (relink : RelinkModel) → IsSoOf at.Unlinking found found.before relink
+    unlinking_step : (found : FoundPort) (relink : RelinkModel)
+        → IsSoOf at.Unlinking found found.before relink
     unlinking_step found relink before_in known =
         relinking_so env.geometry found.bucket.place found.bucket.word relink.link (IsSoOf at.Unlinking found)
         first second found.before relink known.fits before_in known
@@ -536,7 +551,8 @@ module _ (env : Env) (mix : ℕ → ℕ → ℕ → ℕ) (c : ℕ) (port owner :
         first : (b : Option ℕ) → IsSoOf at.Unlinking found b (relinks found relink.link b false)
         first None before_in known =
             let f = behind_node found None in
-            knows_next (stores.relink_op env mix c port owner low words G all whole f relink.link) (holds_bucket f)
+            knows_next (stores.relink_op env mix c port owner low words G all whole f relink.link)
+            (holds_bucket f)
             (holds_left None true) _ (at.Lowering f.node f.shape, Go)
             (λ M' G' k. record { knowing = record { only = k.only; means = k.means }; fits = tt })
             (stores.unlink_store env mix c port owner low words G all whole f relink.link before_in
@@ -544,13 +560,15 @@ module _ (env : Env) (mix : ℕ → ℕ → ℕ → ℕ) (c : ℕ) (port owner :
         first (Some node) before_in known =
             let f = behind_node found (Some node) in
             let next = at.Unlinking f (relinks f relink.link (Some node) true) in
-            knows_next (stores.relink_op env mix c port owner low words G all whole f relink.link) (holds_bucket f)
+            knows_next (stores.relink_op env mix c port owner low words G all whole f relink.link)
+            (holds_bucket f)
             (holds_left (Some f.bucket.place) true) _ (next, Go)
             (λ M' G' k. record { knowing = record { only = k.only; means = k.means }; fits = refl })
             (stores.unlink_store env mix c port owner low words G all whole f relink.link before_in
             (record { only = known.knowing.only; means = known.knowing.means }))
 
-        second : (node : ℕ) → IsSoOf at.Unlinking found (Some node) (relinks found relink.link (Some node) true)
+        second : (node : ℕ)
+            → IsSoOf at.Unlinking found (Some node) (relinks found relink.link (Some node) true)
         second node before_in known =
             let f = behind_node found (Some node) in
             unlock_left f.bucket.place f.bucket.word f.node true (at.Lowering f.node f.shape, Go) refl
@@ -565,8 +583,9 @@ module _ (env : Env) (mix : ℕ → ℕ → ℕ → ℕ) (c : ℕ) (port owner :
         subst (λ l. stores.FirstOut env mix c port owner low words G all whole found l false) (sym leads)
         (stores.promote_store env mix c port owner low words G all whole found (led_to link) before_in k)
 
-    -- the second node comes in the first one's place: where another one is before, the bucket is unlocked then
-    promoting_step : (found : FoundPort) (relink : RelinkModel) → IsSoOf at.Promoting found found.before relink
+    -- the second node comes in the first one's place, likewise
+    promoting_step : (found : FoundPort) (relink : RelinkModel)
+        → IsSoOf at.Promoting found found.before relink
     promoting_step found relink before_in known =
         relinking_so env.geometry found.bucket.place found.bucket.word relink.link (IsSoOf at.Promoting found)
         first second found.before relink known.fits.0 before_in known
@@ -575,7 +594,8 @@ module _ (env : Env) (mix : ℕ → ℕ → ℕ → ℕ) (c : ℕ) (port owner :
         first None before_in known =
             let f = behind_node found None in
             let r = relinks f relink.link None false in
-            knows_next (stores.relink_op env mix c port owner low words G all whole f relink.link) (holds_bucket f)
+            knows_next (stores.relink_op env mix c port owner low words G all whole f relink.link)
+            (holds_bucket f)
             (holds_left None false) _ (at.Promoting f r, Done (Released false, Some f.node))
             (λ M' G' k. record { only = k.only; means = k.means })
             (promoted_step f relink.link before_in known.fits.1
@@ -584,13 +604,18 @@ module _ (env : Env) (mix : ℕ → ℕ → ℕ → ℕ) (c : ℕ) (port owner :
             let f = behind_node found (Some node) in
             let next = at.Promoting f (relinks f relink.link (Some node) true) in
             let link_is = known.fits.1 in
-            knows_next (stores.relink_op env mix c port owner low words G all whole f relink.link) (holds_bucket f)
+            knows_next (stores.relink_op env mix c port owner low words G all whole f relink.link)
+            (holds_bucket f)
             (holds_left (Some f.bucket.place) false) _ (next, Go)
-            (λ M' G' k. record { knowing = record { only = k.only; means = k.means }; fits = (refl, link_is) })
+            (λ M' G' k. record {
+              knowing = record { only = k.only; means = k.means };
+              fits = (refl, link_is);
+            })
             (promoted_step f relink.link before_in link_is
             (record { only = known.knowing.only; means = known.knowing.means }))
 
-        second : (node : ℕ) → IsSoOf at.Promoting found (Some node) (relinks found relink.link (Some node) true)
+        second : (node : ℕ)
+            → IsSoOf at.Promoting found (Some node) (relinks found relink.link (Some node) true)
         second node before_in known =
             let f = behind_node found (Some node) in
             let r = relinks f relink.link (Some node) true in
@@ -634,13 +659,16 @@ module _ (env : Env) (mix : ℕ → ℕ → ℕ → ℕ) (c : ℕ) (port owner :
 
     -- the bucket is unlocked: no node has the owner, or a later one was taken out
     unlocking_step : (table : ℕ) (unlock : Unlock) (removed : Option ℕ)
-        → ReleaseKnows (at.Unlocking table unlock removed) M G → ReleaseStep (at.Unlocking table unlock removed)
+        → ReleaseKnows (at.Unlocking table unlock removed) M G
+        → ReleaseStep (at.Unlocking table unlock removed)
     unlocking_step table unlock None known =
         let op = Store unlock.place unlock.word in
         let told : Holding = held.ended_with (plain Absent) in
         let locked : Holding = record told { lock = Some unlock.place } in
-        let Knows : Memory → Ghost → Type 0 = ReleaseNext (at.Unlocking table unlock None, Done (Absent, None)) in
-        answered env mix c call words G op locked told told.answer Knows (inl (keeps told.answer)) (still_has refl)
+        let Knows : Memory → Ghost → Type 0 =
+        ReleaseNext (at.Unlocking table unlock None, Done (Absent, None)) in
+        answered env mix c call words G op locked told told.answer Knows (inl (keeps told.answer))
+        (still_has refl)
         (moved-map env mix c words G op locked told _ Knows (λ M' G' w k. k)
         (unlock_step env mix c told None Nowhere words G all whole unlock.place unlock.word known.knowing))
     unlocking_step table unlock (Some node) known =

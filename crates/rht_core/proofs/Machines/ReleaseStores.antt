@@ -1,5 +1,6 @@
--- The stores by which a release takes a node out of a port's list: of the list behind the first node, of the chain where the first
--- node is the only one, and in the first one's place where a second one follows. Each is the one at which its answer is told.
+-- The stores by which a release takes a node out of a port's list: of the list behind the first node, of
+-- the chain where the first node is the only one, and in the first one's place where a second one follows.
+-- Each is the one at which its answer is told.
 use Rattle.std.proofs.Common.{◌≡◌, ◌≢◌, ◌⊎◌, ℕ, ◌+◌, ◌<◌, ◌≤◌, List, [], ◌∷◌, ◌++◌, length, Option, Some, None, Bool, true, false, refl, sym, ◌∙◌, ap, subst, inl, inr, arith}
 use Rattle.std.proofs.lemmas.Bool.{cases_eq}
 use Rattle.std.proofs.lemmas.List.{map-append}
@@ -9,7 +10,7 @@ use Rattle.rht_words.specs.declared.op.Op.TheVariants.{Store}
 use Rattle.rht_words.specs.Links.{link_of}
 use Rattle.rht_words.specs.Ports.{owner_of}
 use Rattle.rht_words.specs.Operations.{op_place, old_of, applied}
-use Rattle.rht_words.specs.Places.{Node, OwnerWord, ListLink, nodes_at, place_of, words_in}
+use Rattle.rht_words.specs.Places.{Node, OwnerWord, ListLink, IsBucketPlace, nodes_at, place_of, words_in}
 use Rattle.rht_words.specs.Members.{In, NotIn}
 use Rattle.rht_words.proofs.Memory.{Memory, IsWrite, is_write}
 use Rattle.rht_words.proofs.Members.{in_and_not, in-middle, In-append_left, In-append_right, In-append_cases}
@@ -32,8 +33,8 @@ use Rattle.rht_core.proofs.Theory.Frames.{Made}
 use Rattle.rht_core.proofs.Theory.Readiness.{Change, changed}
 use Rattle.rht_core.proofs.Theory.Answering.{IsRight, ChangesBindings}
 use Rattle.rht_core.proofs.Theory.Steps.{Rebinds, Holding, mem, owners, owners_in, owners-stay, ghost_after, Step, still_has}
-use Rattle.rht_core.proofs.Moves.Relinking.{relinked, last_in}
-use Rattle.rht_core.proofs.Moves.Removing.{CanReplace, unlink, replace}
+use Rattle.rht_core.proofs.Moves.Relinking.{relink_address, relink_value, relinked, last_in}
+use Rattle.rht_core.proofs.Moves.Removing.{IsFoundIn, CanReplace, unlink, replace}
 use Rattle.rht_core.proofs.Moves.ListCuts.{cut_list}
 use Rattle.rht_core.proofs.Pieces.Lists.{segment_link, list_among, list_rest}
 use Rattle.rht_core.proofs.Pieces.Rebounds.{IsTakenWith, taken_then, taken_more, only_rebound, owners_kept, node_behind_maps}
@@ -78,7 +79,8 @@ module _ (env : Env) (mix : ℕ → ℕ → ℕ → ℕ) (c : ℕ) (port owner :
   pub released_right : (kick : Bool) → IsRight call None (plain (Released kick))
   released_right kick = record { replied = record { reply = tt; owners = refl; pairs = refl }; tells = refl }
 
-  module _ (low : c < env.geometry.callers) (words : List ℕ) (G : Ghost) (all : length words ≡ words_in env.geometry)
+  module _ (low : c < env.geometry.callers) (words : List ℕ) (G : Ghost)
+      (all : length words ≡ words_in env.geometry)
       (whole : Whole env mix (mem env mix words) G) where
     abbrev M : Memory
     M = mem env mix words
@@ -98,8 +100,8 @@ module _ (env : Env) (mix : ℕ → ℕ → ℕ → ℕ) (c : ℕ) (port owner :
 
     -- ---- what any such store does
 
-    -- what it changes: the port has other nodes and its bucket is another, the node is taken out, and perhaps another node gets
-    -- another owner as well
+    -- what it changes: the port has other nodes and its bucket is another, the node is taken out, and
+    -- perhaps another node gets another owner as well
     abbrev taking : FoundPort → ℕ → List ℕ → Bucket → ℕ → Owner → Bool → Change
     taking found node nodes bucket x x_owner raised = record {
       port = port;
@@ -113,9 +115,10 @@ module _ (env : Env) (mix : ℕ → ℕ → ℕ → ℕ) (c : ℕ) (port owner :
       raised = raised;
     }
 
-    -- The node has the owner, and none before it in the list has. The call had the lock of the bucket, and has it still, or has
-    -- dropped it.
-    record TakesOut (found : FoundPort) (op : Op) (node : ℕ) (front rear : List ℕ) (change : Change) (lock : Option ℕ)
+    -- The node has the owner, and none before it in the list has. The call had the lock of the bucket, and
+    -- has it still, or has dropped it.
+    record TakesOut (found : FoundPort) (op : Op) (node : ℕ) (front rear : List ℕ) (change : Change)
+        (lock : Option ℕ)
         (known : KnownBucket) : Type 0 where
       only : HasOnly env mix c G None (Some found.bucket.place) None false
       there : place_at env mix (word_index env mix found.bucket.place) ≡ found.bucket.place
@@ -130,14 +133,17 @@ module _ (env : Env) (mix : ℕ → ℕ → ℕ → ℕ) (c : ℕ) (port owner :
       made : Made env mix c M G (after op) (changed G c change)
       left : (lock ≡ Some found.bucket.place) ⊎ (lock ≡ None)
       holder : change.bucket.holder ≡ Some c → lock ≡ Some found.bucket.place
-      means : HasTakenOut env mix c (changed G c change) node → BucketMeans env mix c (after op) (changed G c change) known
+      means : HasTakenOut env mix c (changed G c change) node
+          → BucketMeans env mix c (after op) (changed G c change) known
 
     -- so the port's owners are what a release leaves of them
-    owner_gone : (found : FoundPort) (op : Op) (node : ℕ) (front rear : List ℕ) (bucket : Bucket) (x : ℕ) (x_owner : Owner)
+    owner_gone : (found : FoundPort) (op : Op) (node : ℕ) (front rear : List ℕ) (bucket : Bucket) (x : ℕ)
+        (x_owner : Owner)
         (raised : Bool) (lock : Option ℕ) (known : KnownBucket)
         → let change = taking found node (front ++ rear) bucket x x_owner raised in
         TakesOut found op node front rear change lock known
-        → ChangesBindings env.config.kind c call now (owners env mix (after op) (changed G c change)) None (Some (plain (Released false)))
+        → ChangesBindings env.config.kind c call now (owners env mix (after op) (changed G c change)) None
+        (Some (plain (Released false)))
     owner_gone found op node front rear bucket x x_owner raised lock known takes =
         let G' = changed G c (taking found node (front ++ rear) bucket x x_owner raised) in
         let before_it = owners_in env mix M front in
@@ -161,10 +167,12 @@ module _ (env : Env) (mix : ℕ → ℕ → ℕ → ℕ) (c : ℕ) (port owner :
           bindings = λ other. elim (cases_eq other port) [
             | inl e ↦
                 ap (owners env mix (after op) G') e ∙ is
-                ∙ sym (ap (bindings_after env.config.kind now call) e ∙ with_owners-same now port (owners_released owner (now port))
+                ∙ sym (ap (bindings_after env.config.kind now call) e
+                ∙ with_owners-same now port (owners_released owner (now port))
                 ∙ ap (owners_released owner) was ∙ owners_released-there owner before_it behind_it none)
             | inr ne ↦
-                owners-stay env mix c M (after op) G G' whole takes.made other (put-other G.bound port (front ++ rear) other ne)
+                owners-stay env mix c M (after op) G G' whole takes.made other
+                (put-other G.bound port (front ++ rear) other ne)
                 ∙ sym (with_owners-other now port other (owners_released owner (now port)) ne)
           ];
           port = port;
@@ -177,13 +185,18 @@ module _ (env : Env) (mix : ℕ → ℕ → ℕ → ℕ) (c : ℕ) (port owner :
           | inr r ↦ In-append_right n front (node ∷ rear) (inr r)
         ]
 
-    take_out : (found : FoundPort) (op : Op) (node : ℕ) (front rear : List ℕ) (bucket : Bucket) (x : ℕ) (x_owner : Owner)
+    take_out : (found : FoundPort) (op : Op) (node : ℕ) (front rear : List ℕ) (bucket : Bucket) (x : ℕ)
+        (x_owner : Owner)
         (raised : Bool) (lock : Option ℕ) (known : KnownBucket) (now_raised : Bool) → now_raised ≡ raised
-        → TakesOut found op node front rear (taking found node (front ++ rear) bucket x x_owner raised) lock known
-        → Step env mix c call words G op (holds_bucket found) (holds_left lock now_raised) (KnowsLeft lock now_raised known)
+        → let change = taking found node (front ++ rear) bucket x x_owner raised in
+        TakesOut found op node front rear change lock known
+        → Step env mix c call words G op (holds_bucket found) (holds_left lock now_raised)
+        (KnowsLeft lock now_raised known)
     take_out found op node front rear bucket x x_owner raised lock known now_raised same takes =
         let change = taking found node (front ++ rear) bucket x x_owner raised in
-        let only = only_rebound env mix c G change found.bucket.place lock false takes.there (λ e. cc) takes.not_held takes.holder
+        let only =
+        only_rebound env mix c G change found.bucket.place lock false takes.there (λ e. cc) takes.not_held
+        takes.holder
         takes.only in
         let more : count_outs env mix (changed G c change) c ≡ count_outs env mix G c + 1 =
         taken_more c node x env.geometry.nodes x_owner G.node takes.among takes.untaken takes.with_other in
@@ -200,7 +213,8 @@ module _ (env : Env) (mix : ℕ → ℕ → ℕ → ℕ) (c : ℕ) (port owner :
           };
           says = inr (owner_gone found op node front rear bucket x x_owner raised lock known takes);
           right = λ answer unknown told.
-              subst (IsRight call None) (let is : plain (Released false) ≡ answer = cc in is) (released_right false);
+              subst (IsRight call None) (let is : plain (Released false) ≡ answer = cc in is)
+              (released_right false);
           in_time = still_has refl;
           outs = omega (arith, more);
           knows = record {
@@ -223,10 +237,12 @@ module _ (env : Env) (mix : ℕ → ℕ → ℕ → ℕ) (c : ℕ) (port owner :
 
     abbrev CutsStep : FoundPort → ℕ → ℕ → ℕ → Type 0
     CutsStep found node before link =
-        Step env mix c call words G (cut_op before link) (holds_bucket found) (holds_left (Some found.bucket.place) false)
+        Step env mix c call words G (cut_op before link) (holds_bucket found)
+        (holds_left (Some found.bucket.place) false)
         (KnowsLeft (Some found.bucket.place) false (locks_taken found node))
 
-    pub cut_store : (found : FoundPort) (node before link : ℕ) → KnowsList found (CutsOut node before link owner) M G
+    pub cut_store : (found : FoundPort) (node before link : ℕ)
+        → KnowsList found (CutsOut node before link owner) M G
         → CutsStep found node before link
     cut_store found node before link k =
         let stands = k.means.bucket.means.is.stands in
@@ -235,7 +251,8 @@ module _ (env : Env) (mix : ℕ → ℕ → ℕ → ℕ) (c : ℕ) (port owner :
         rear : List ℕ
         rear = k.means.bucket.means.is.stands.among.rear
 
-        go : (front : List ℕ) → found.node ∷ k.means.bucket.behind ≡ front ++ node ∷ rear → Some before ≡ last_of front
+        go : (front : List ℕ) → found.node ∷ k.means.bucket.behind ≡ front ++ node ∷ rear
+            → Some before ≡ last_of front
             → NoOwner M owner front → CutsStep found node before link
         go [] split last none = absurd (cc)
         go (first ∷ front) split last none =
@@ -249,7 +266,8 @@ module _ (env : Env) (mix : ℕ → ℕ → ℕ → ℕ) (c : ℕ) (port owner :
             let nodes = front ++ node ∷ rear in
             let same : first ≡ m = cc in
             let bound : G.bound port ≡ m ∷ nodes = is.bound_to ∙ split ∙ ap (λ n. n ∷ nodes) same in
-            let last_is : last_of (m ∷ front) ≡ Some before = sym (last ∙ ap (λ n. last_of (n ∷ front)) same) in
+            let last_is : last_of (m ∷ front) ≡ Some before =
+            sym (last ∙ ap (λ n. last_of (n ∷ front)) same) in
             let before_in = list_among env mix M G whole port m nodes bound before
             (In-append_left before (m ∷ front) (node ∷ rear) (last_in (m ∷ front) before last_is)) in
             let write : IsWrite env.geometry M (after op) (Node before ListLink) link =
@@ -299,14 +317,16 @@ module _ (env : Env) (mix : ℕ → ℕ → ℕ → ℕ) (c : ℕ) (port owner :
     -- a relinking's first store, behind which the count has to be lowered still, or not
     abbrev pub FirstOut : FoundPort → ℕ → Bool → Type 0
     FirstOut found link raised =
-        Step env mix c call words G (relink_op found link) (holds_bucket found) (holds_left (left_by_first found) raised)
+        Step env mix c call words G (relink_op found link) (holds_bucket found)
+        (holds_left (left_by_first found) raised)
         (KnowsLeft (left_by_first found) raised (known_left found found.before))
 
     -- what it changes
     abbrev relinks : FoundPort → ℕ → List ℕ → List ℕ → ℕ → Owner → Bool → Change
     relinks found link rear nodes x x_owner raised =
         let j = word_index env mix found.bucket.place in
-        taking found found.node rear (relinked (place_at env mix j) link (G.bucket j) nodes found.before) x x_owner raised
+        taking found found.node rear (relinked (place_at env mix j) link (G.bucket j) nodes found.before) x
+        x_owner raised
 
     -- The port's first node has the owner, and others are behind it, which are then the port's alone.
     record TakesFirst (found : FoundPort) (link : ℕ) (rear : List ℕ) (change : Change) : Type 0 where
@@ -319,7 +339,8 @@ module _ (env : Env) (mix : ℕ → ℕ → ℕ → ℕ) (c : ℕ) (port owner :
       not_held : change.other_owner ≢ Held c
       made : Made env mix c M G (after (relink_op found link)) (changed G c change)
 
-    first_out : (found : FoundPort) (link : ℕ) (rear nodes : List ℕ) (x : ℕ) (x_owner : Owner) (raised now_raised : Bool)
+    first_out : (found : FoundPort) (link : ℕ) (rear nodes : List ℕ) (x : ℕ) (x_owner : Owner)
+        (raised now_raised : Bool)
         → now_raised ≡ raised → TakesFirst found link rear (relinks found link rear nodes x x_owner raised)
         → FirstOut found link now_raised
     first_out found link rear nodes x x_owner raised now_raised same takes =
@@ -330,13 +351,16 @@ module _ (env : Env) (mix : ℕ → ℕ → ℕ → ℕ) (c : ℕ) (port owner :
         let stands = takes.is.standing.stands in
         let m = found.node in
         let op = relink_op found link in
-        let first = whole.owned.member j m (subst (In m) (sym stands.split) (in-middle m stands.front stands.rear)) in
+        let first =
+        whole.owned.member j m (subst (In m) (sym stands.split) (in-middle m stands.front stands.rear)) in
         let change = relinks found link rear nodes x x_owner raised in
-        take_out found op m [] rear change.bucket x x_owner raised (left_by_first found) (known_left found found.before)
+        take_out found op m [] rear change.bucket x x_owner raised (left_by_first found)
+        (known_left found found.before)
         now_raised same (record {
           only = takes.only;
           there = place_at-index env mix place lock.bucket;
-          behind_maps = relink_behind_maps env mix place word link found.before words all lock.bucket takes.before_in;
+          behind_maps = relink_behind_maps env mix place word link found.before words all lock.bucket
+              takes.before_in;
           bound_to = takes.bound_to;
           none = tt;
           owner_is = takes.owner_is;
@@ -351,7 +375,8 @@ module _ (env : Env) (mix : ℕ → ℕ → ℕ → ℕ) (c : ℕ) (port owner :
               (lock_kept env mix place word link found.before c G lock change nodes refl refl);
         })
       where
-        left : (b : Option ℕ) → let lock = lock_left found.bucket.place b in (lock ≡ Some found.bucket.place) ⊎ (lock ≡ None)
+        left : (b : Option ℕ)
+            → let lock = lock_left found.bucket.place b in (lock ≡ Some found.bucket.place) ⊎ (lock ≡ None)
         left None = inr refl
         left (Some node) = inl refl
 
@@ -360,6 +385,29 @@ module _ (env : Env) (mix : ℕ → ℕ → ℕ → ℕ) (c : ℕ) (port owner :
             → BucketMeans env mix c M' G' (known_left found b)
         means M' G' None took lock = took
         means M' G' (Some node) took lock = record { lock = lock node refl; took = took }
+
+    -- what the moves of such a store ask
+    found_in : (found : FoundPort) (link : ℕ)
+        (is : IsFound env mix c M G found.bucket.place found.bucket.word port found.node found.before)
+        (behind : List ℕ) → G.bound port ≡ found.node ∷ behind
+        → let s = is.standing.stands in
+        IsFoundIn env mix c port (word_index env mix found.bucket.place) found.node s.front s.rear found.before M
+        (after (relink_op found link)) G behind
+    found_in found link is behind bound = record {
+      holder = is.standing.lock.holder;
+      split = is.standing.stands.split;
+      last = is.standing.stands.last;
+      key_is = is.key_is;
+      bound_to = bound;
+    }
+
+    first_write : (found : FoundPort) (link : ℕ) → IsBucketPlace env.geometry found.bucket.place
+        → IsNodeOrNone env.geometry found.before
+        → let j = word_index env mix found.bucket.place in
+        IsWrite env.geometry M (after (relink_op found link)) (relink_address j found.before)
+        (relink_value (place_at env mix j) link found.before)
+    first_write found link bucket before_in =
+        relink_write env mix found.bucket.place found.bucket.word link found.before words all bucket before_in
 
     -- the only node of the list goes out of the chain
     pub unlink_store : (found : FoundPort) (link : ℕ) → IsNodeOrNone env.geometry found.before
@@ -381,10 +429,10 @@ module _ (env : Env) (mix : ℕ → ℕ → ℕ → ℕ) (c : ℕ) (port owner :
           before_in = before_in;
           with_other = inl (refl, refl);
           not_held = λ e. cc;
-          made = unlink env mix c port j found.node s.front s.rear found.before M (after (relink_op found link)) G
+          made = unlink env mix c port j found.node s.front s.rear found.before M
+              (after (relink_op found link)) G
               whole low k.only.raising low link is.means.link_is
-              (record { holder = lock.holder; split = s.split; last = s.last; key_is = is.found.key_is; bound_to = bound })
-              (relink_write env mix place found.bucket.word link found.before words all lock.bucket before_in);
+              (found_in found link is.found [] bound) (first_write found link lock.bucket before_in);
         })
       where
         none_behind : (nodes : List ℕ) → None ≡ first_of_list nodes → nodes ≡ []
@@ -398,7 +446,8 @@ module _ (env : Env) (mix : ℕ → ℕ → ℕ → ℕ) (c : ℕ) (port owner :
       where
         go : (behind : List ℕ) → k.means.bucket.behind ≡ behind → FirstOut found (link_of second) false
         go [] behind_is =
-            absurd (let none : Some second ≡ None = k.means.bucket.means.leads.second_is ∙ ap first_of_list behind_is in cc)
+            let none : Some second ≡ None = k.means.bucket.means.leads.second_is ∙ ap first_of_list behind_is in
+            absurd (cc)
         go (x ∷ tail) behind_is =
             let is = k.means.bucket in
             let s = is.found.standing.stands in
@@ -416,7 +465,9 @@ module _ (env : Env) (mix : ℕ → ℕ → ℕ → ℕ) (c : ℕ) (port owner :
             let mine = to.each second (inl refl) in
             let behind_first = whole.owned.behind_in second port mine in
             let other : second ≢ m = λ e. in_and_not m behind (inl (sym e)) to.distinct.0 in
-            let can : CanReplace env mix c port j m s.front s.rear found.before M (after op) G behind second tail (Taken c) = record {
+            let not_second : In second tail → ⊥ = λ i. in_and_not second tail i to.distinct.1.0 in
+            let can : CanReplace env mix c port j m s.front s.rear found.before M (after op) G behind second tail
+            (Taken c) = record {
               among = behind_first.among;
               differs = other;
               key_is = behind_first.key_is;
@@ -428,12 +479,13 @@ module _ (env : Env) (mix : ℕ → ℕ → ℕ → ℕ) (c : ℕ) (port owner :
               built = low;
               no_first = refl;
               no_others = λ d ne. taken_by_one d c ne;
-              listed = λ n i. inr (inr i, λ e. in_and_not second tail (subst (λ k. In k tail) e i) to.distinct.1.0);
+              listed = λ n i. inr (inr i, λ e. not_second (subst (λ k. In k tail) e i));
               back = λ n i ne. elim i [ inl e ↦ absurd (ne e) | inr r ↦ r ];
               back_one = λ p e. absurd (cc);
               single = λ one. absurd (let none = whole.owned.single one port m behind bound in cc);
             } in
-            first_out found (link_of second) behind (s.front ++ (second ∷ s.rear)) second (First j) (G.raised c) false
+            first_out found (link_of second) behind (s.front ++ (second ∷ s.rear)) second (First j)
+            (G.raised c) false
             (sym k.only.raising) (record {
               only = k.only;
               is = is.found;
@@ -443,7 +495,6 @@ module _ (env : Env) (mix : ℕ → ℕ → ℕ → ℕ) (c : ℕ) (port owner :
               with_other = inr (other, ap (is_taken_by c) mine, refl);
               not_held = λ e. cc;
               made = replace env mix c port j m s.front s.rear found.before M (after op) G whole behind
-                  (record { holder = lock.holder; split = s.split; last = s.last; key_is = is.found.key_is; bound_to = bound })
-                  second tail (Taken c) can
-                  (relink_write env mix place found.bucket.word (link_of second) found.before words all lock.bucket before_in);
+                  (found_in found (link_of second) is.found behind bound) second tail (Taken c) can
+                  (first_write found (link_of second) lock.bucket before_in);
             })
