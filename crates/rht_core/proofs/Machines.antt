@@ -8,5 +8,7 @@ pub mod AllSteps
 pub mod RebindSteps
 -- a job, operation by operation
 pub mod JobSteps
+-- the stores of a release that take a node out
+pub mod ReleaseStores
 -- a release, operation by operation
 pub mod ReleaseSteps

@@ -29,29 +29,24 @@ use Rattle.rht_release.specs.declared.all.AllAt.{AllAt}
 use Rattle.rht_release.specs.declared.all.AllAt.TheVariants as at
 use Rattle.rht_core.proofs.Theory.Ghosts.{Ghost}
 use Rattle.rht_core.proofs.Theory.Wholes.{list_of, Whole}
-use Rattle.rht_core.proofs.Theory.Knowledge.{Nowhere, KnownBucket, Locks, InList, KnownList, Collected, CollectedTo, Known, Knowing, last_of}
+use Rattle.rht_core.proofs.Theory.Knowledge.{Nowhere, Locks, Collected, CollectedTo, Known, Knowing, last_of}
 use Rattle.rht_core.proofs.Theory.Answering.{IsLegalOn, IsRight, Tells, keeps, learns}
 use Rattle.rht_core.proofs.Theory.Steps.{Holding, by_test, mem, owners, owners_in, moved-map, Step, step-map, answered, reads, HoldsSame, still_has}
 use Rattle.rht_core.proofs.Pieces.Locks.{unlock_step}
 use Rattle.rht_core.proofs.Pieces.Lists.{list_among, list_few, list_rest, found_list}
 use Rattle.rht_core.proofs.Pieces.Seeks as seeks
 use Rattle.rht_core.proofs.Machines.FindSteps.{known_nothing}
+use Rattle.rht_core.proofs.Machines.ReleaseStores.{here, in_list}
 
 module _ (port : ℕ) where
-  -- what is known of a bucket that it has locked, and of the list of the port that it found there
-  abbrev in_bucket : KnownBucket → Known
-  in_bucket bucket = seeks.knows_of port None Nowhere bucket
-
-  abbrev in_list : FoundPort → KnownList → Known
-  in_list found known =
-      in_bucket (InList found.bucket.place found.bucket.word port found.node found.before known)
-
   -- what a listing that has kept these owners knows in a state
   abbrev pub known_of_all : List ℕ → AllAt → Known
   known_of_all owners (at.Seeking seek) = seeks.known_of_seek port None seek.at
-  known_of_all owners (at.Owner found node) = in_list found (Collected node owners)
-  known_of_all owners (at.ListLink found node) = in_list found (CollectedTo node owners)
-  known_of_all owners (at.Unlocking table unlock) = in_bucket (Locks unlock.place unlock.word)
+  known_of_all owners (at.Owner found node) =
+      here (in_list port found (Collected node owners))
+  known_of_all owners (at.ListLink found node) =
+      here (in_list port found (CollectedTo node owners))
+  known_of_all owners (at.Unlocking table unlock) = here (Locks unlock.place unlock.word)
 
   -- how its pieces are for the port, and its room: it is empty until the port was found
   abbrev pub fits_all : Kept ℕ → AllAt → Type 0
@@ -61,14 +56,14 @@ module _ (port : ℕ) where
   fits_all room (at.Unlocking table unlock) = Unit {0}
 
 -- the room with this owner behind the others
-abbrev with_owner : Kept ℕ → ℕ → Kept ℕ
-with_owner room owner = record { items = room.items ++ owner ∷ []; limit = room.limit }
+abbrev room_with : Kept ℕ → ℕ → Kept ℕ
+room_with room owner = record { items = room.items ++ owner ∷ []; limit = room.limit }
 
 -- an operation leaves the room's limit
 pub room_after-limit : (at : AllAt) (room : Kept ℕ) (word : ℕ) → (room_after at room word).limit ≡ room.limit
 room_after-limit (at.Seeking seek) room word = refl
 room_after-limit (at.Owner found node) room word =
-    by_test (λ t. (cond t (with_owner room (owner_of word)) room).limit ≡ room.limit)
+    by_test (λ t. (cond t (room_with room (owner_of word)) room).limit ≡ room.limit)
     (nat_lt (length room.items) room.limit) (λ t. refl) (λ f. refl)
 room_after-limit (at.ListLink found node) room word = refl
 room_after-limit (at.Unlocking table unlock) room word = refl
@@ -103,7 +98,8 @@ module _ (env : Env) (mix : ℕ → ℕ → ℕ → ℕ) (c : ℕ) (port : ℕ) 
     -- what an operation leads to from a state, with this room then
     abbrev AllMoved : AllAt → Kept ℕ → AllAt × Next (Unit {0}) → Type 0
     AllMoved at after r =
-        Step env mix c call words G (plan_at env at) (held_of_all room.items at) (all_holds after r) (AllNext after r)
+        Step env mix c call words G (plan_at env at) (held_of_all room.items at) (all_holds after r)
+        (AllNext after r)
 
     abbrev pub AllStep : AllAt → Type 0
     AllStep at =
@@ -118,7 +114,8 @@ module _ (env : Env) (mix : ℕ → ℕ → ℕ → ℕ) (c : ℕ) (port : ℕ) 
         (held_of_all after.items next).answer
         → AllKnows after next M G → AllMoved at after (next, Go)
     goes_on at next after same holds tells knows =
-        reads env mix c call words G (plan_at env at) (held_of_all room.items at) (held_of_all after.items next)
+        reads env mix c call words G (plan_at env at) (held_of_all room.items at)
+        (held_of_all after.items next)
         (AllNext after (next, Go)) whole same holds tells knows
 
     -- a listing is answered with the owners of the port
@@ -139,25 +136,27 @@ module _ (env : Env) (mix : ℕ → ℕ → ℕ → ℕ) (c : ℕ) (port : ℕ) 
 
     -- the owner that was loaded is kept: of the nodes of the list one is left, so there is room
     kept : (found : FoundPort) (node : ℕ) → AllKnows room (at.Owner found node) M G
-        → with_kept room (owner_at node) ≡ with_owner room (owner_at node)
+        → with_kept room (owner_at node) ≡ room_with room (owner_at node)
     kept found node known =
-        let here = known.knowing.means.bucket in
-        let is = here.means in
-        let few = list_few env mix M G whole port found.node here.behind here.bound_to in
-        let many : length (found.node ∷ here.behind) ≡ length is.among.front + suc (length is.among.rear) =
+        let listed = known.knowing.means.bucket in
+        let is = listed.means in
+        let few = list_few env mix M G whole port found.node listed.behind listed.bound_to in
+        let many : length (found.node ∷ listed.behind) ≡ length is.among.front + suc (length is.among.rear) =
         ap length is.among.split ∙ length-append is.among.front (node ∷ is.among.rear) in
         let far : length room.items ≡ length is.among.front =
         ap length is.owners_are ∙ length-map is.among.front owner_at in
-        ap (λ t. cond t (with_owner room (owner_at node)) room)
+        ap (λ t. cond t (room_with room (owner_at node)) room)
         (lt-ltb (length room.items) room.limit (omega (arith, few, many, far, roomy)))
 
     owner_kept : (found : FoundPort) (node : ℕ) → AllKnows room (at.Owner found node) M G
         → AllStep (at.Owner found node)
     owner_kept found node known =
-        let here = known.knowing.means.bucket in
-        let is = here.means in
-        subst (λ after. AllMoved (at.Owner found node) after (at.ListLink found node, Go)) (sym (kept found node known))
-        (goes_on (at.Owner found node) (at.ListLink found node) (with_owner room (owner_at node)) refl refl (inl refl)
+        let listed = known.knowing.means.bucket in
+        let is = listed.means in
+        subst (λ after. AllMoved (at.Owner found node) after (at.ListLink found node, Go))
+        (sym (kept found node known))
+        (goes_on (at.Owner found node) (at.ListLink found node) (room_with room (owner_at node)) refl refl
+        (inl refl)
         (record {
           knowing = record {
             only = known.knowing.only;
@@ -165,9 +164,9 @@ module _ (env : Env) (mix : ℕ → ℕ → ℕ → ℕ) (c : ℕ) (port : ℕ) 
               node = tt;
               table = tt;
               bucket = record {
-                found = here.found;
-                behind = here.behind;
-                bound_to = here.bound_to;
+                found = listed.found;
+                behind = listed.behind;
+                bound_to = listed.bound_to;
                 means = record {
                   before = is.before;
                   among = is.among;
@@ -191,10 +190,10 @@ module _ (env : Env) (mix : ℕ → ℕ → ℕ → ℕ) (c : ℕ) (port : ℕ) 
         → M (Node node ListLink) ≡ 0 → known.knowing.means.bucket.means.among.rear ≡ []
         → AllStep (at.ListLink found node)
     list_ends found node known end none =
-        let here = known.knowing.means.bucket in
-        let is = here.means in
+        let listed = known.knowing.means.bucket in
+        let is = listed.means in
         let nodes : G.bound port ≡ is.among.front ++ node ∷ [] =
-        here.bound_to ∙ is.among.split ∙ ap (λ rear. is.among.front ++ node ∷ rear) none in
+        listed.bound_to ∙ is.among.split ∙ ap (λ rear. is.among.front ++ node ∷ rear) none in
         let bound : now port ≡ room.items = ap (owners_in env mix M) nodes ∙ sym is.owners_are in
         subst (λ next. AllMoved (at.ListLink found node) room (next, Go)) (sym (ap (behind_link found) end))
         (goes_on (at.ListLink found node) (list_followed found None) room refl refl
@@ -203,7 +202,7 @@ module _ (env : Env) (mix : ℕ → ℕ → ℕ → ℕ) (c : ℕ) (port : ℕ) 
         (record {
           knowing = record {
             only = known.knowing.only;
-            means = record { node = tt; table = tt; bucket = here.found.standing.lock };
+            means = record { node = tt; table = tt; bucket = listed.found.standing.lock };
           };
           fits = tt;
         }))
@@ -214,14 +213,14 @@ module _ (env : Env) (mix : ℕ → ℕ → ℕ → ℕ) (c : ℕ) (port : ℕ) 
         → M (Node node ListLink) ≡ link_of next → known.knowing.means.bucket.means.among.rear ≡ next ∷ rear
         → AllStep (at.ListLink found node)
     list_goes_on found node next rear known link some =
-        let here = known.knowing.means.bucket in
-        let is = here.means in
+        let listed = known.knowing.means.bucket in
+        let is = listed.means in
         let front = is.among.front ++ node ∷ [] in
-        let split : found.node ∷ here.behind ≡ front ++ next ∷ rear =
+        let split : found.node ∷ listed.behind ≡ front ++ next ∷ rear =
         is.among.split ∙ ap (λ list. is.among.front ++ node ∷ list) some
         ∙ sym (append_assoc is.among.front (node ∷ []) (next ∷ rear)) in
         let there = subst (In next) (sym split) (in-middle next front rear) in
-        let among = list_among env mix M G whole port found.node here.behind here.bound_to next there in
+        let among = list_among env mix M G whole port found.node listed.behind listed.bound_to next there in
         let goes : behind_link found (M (Node node ListLink)) ≡ at.Owner found next =
         ap (behind_link found) link
         ∙ ap (list_followed found) (links_tell_apart.link_names env.geometry.nodes next among) in
@@ -233,9 +232,9 @@ module _ (env : Env) (mix : ℕ → ℕ → ℕ → ℕ) (c : ℕ) (port : ℕ) 
               node = tt;
               table = tt;
               bucket = record {
-                found = here.found;
-                behind = here.behind;
-                bound_to = here.bound_to;
+                found = listed.found;
+                behind = listed.behind;
+                bound_to = listed.bound_to;
                 means = record {
                   before = last_of front;
                   among = record { front = front; rear = rear; split = split; last = refl };
@@ -318,10 +317,11 @@ module _ (env : Env) (mix : ℕ → ℕ → ℕ → ℕ) (c : ℕ) (port : ℕ) 
         (record { knowing = known.knowing; fits = known.fits.0 }))
     all_step (at.Owner found node) is known = owner_kept found node known
     all_step (at.ListLink found node) is known =
-        let here = known.knowing.means.bucket in
-        let among = here.means.among in
+        let listed = known.knowing.means.bucket in
+        let among = listed.means.among in
         link_next found node known among.rear refl
-        (list_rest env mix M G whole port found.node here.behind here.bound_to node here.means.before among)
+        (list_rest env mix M G whole port found.node listed.behind listed.bound_to node listed.means.before
+        among)
     all_step (at.Unlocking table unlock) is known =
         let state = at.Unlocking table unlock in
         let answer = Some (listing_of room.items) in

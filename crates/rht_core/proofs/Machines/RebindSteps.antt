@@ -1,4 +1,5 @@
--- What a rebind knows in each state, and that each of its operations leads from what it knows to what it knows next.
+-- What a rebind knows in each state, and that each of its operations leads from what it knows to what it
+-- knows next.
 use Rattle.std.proofs.Common.{◌≡◌, ◌≢◌, ◌⊎◌, ℕ, ◌+◌, ◌^◌, ◌<◌, ◌==◌, List, [], ◌∷◌, ◌++◌, length, Option, Some, None, Bool, true, false, cond, refl, sym, ◌∙◌, ap, subst, inl, inr, arith}
 use Rattle.std.proofs.lemmas.Bool.{cases_eq, eq-eqb, eqb-true}
 use Rattle.std.proofs.Math.Nat.{mod-eq_of_lt}
@@ -15,8 +16,8 @@ use Rattle.rht_words.specs.Places.{Node, ChainLink, OwnerWord, words_in}
 use Rattle.rht_words.specs.Members.{In}
 use Rattle.rht_words.proofs.Memory.{Memory, IsWrite}
 use Rattle.rht_words.proofs.Members.{in-middle}
-use Rattle.rht_arena.specs.GiveNode.{give_node_plan}
 use Rattle.rht_arena.specs.NewNode.{NewNodeModel, new_node_plan, new_node_after, node_of_new}
+use Rattle.rht_arena.specs.declared.new_node.NewNodeAt.{NewNodeAt}
 use Rattle.rht_chain.specs.LockedWalk.{IsNodeOrNone}
 use Rattle.rht_chain.specs.Relink.{RelinkModel}
 use Rattle.rht_model.specs.declared.history.Call.{Call}
@@ -36,21 +37,22 @@ use Rattle.rht_release.specs.declared.rebind.RebindAt.TheVariants as at
 use Rattle.rht_core.specs.Replies.{IsRebindReply, AreOwnersWith, ArePairsWith}
 use Rattle.rht_core.proofs.Theory.Ghosts.{put-same, put-other, First, Taken, Ghost, is_taken_by, held_not_first, taken_by_one}
 use Rattle.rht_core.proofs.Theory.Wholes.{word_index, place_at, place_at-index, outs, Whole}
-use Rattle.rht_core.proofs.Theory.Knowledge.{HasOnly, HoldsLock, KnownNode, Nowhere, KnownBucket, Unlocked, Locks, InList, KnownList, Leads, LeadsTo, Succeeds, Known, Knowing, first_of_list}
+use Rattle.rht_core.proofs.Theory.Knowledge.{HasOnly, HoldsLock, HasTakenOut, KnownNode, Nowhere, KnownBucket, Unlocked, Locks, Leads, LeadsTo, Succeeds, Known, Knowing, first_of_list}
 use Rattle.rht_core.proofs.Theory.Frames.{Made}
 use Rattle.rht_core.proofs.Theory.Readiness.{Change, changed}
-use Rattle.rht_core.proofs.Theory.Answering.{KeepsAnswer, IsLegalOn, IsRight, Says, keeps, learns}
-use Rattle.rht_core.proofs.Theory.Steps.{Rebinds, Holding, HoldsSame, by_test, mem, owners, owners_in, owners-stay, Moved, moved-map, Step, step-map, answered, reads, still_has}
+use Rattle.rht_core.proofs.Theory.Answering.{KeepsAnswer, IsLegalOn, IsRight, Stills, ChangesBindings, Says, Tells, keeps, learns}
+use Rattle.rht_core.proofs.Theory.Steps.{Rebinds, Holding, HoldsSame, by_test, mem, owners, owners_in, owners-stay, Moved, moved-map, Step, step-map, with_answer, answered, reads, HasNodeInTime, still_has}
 use Rattle.rht_core.proofs.Moves.Relinking.{relink_address, relink_value}
 use Rattle.rht_core.proofs.Moves.Removing as removing
 use Rattle.rht_core.proofs.Moves.Removing.{IsFoundIn, CanReplace}
 use Rattle.rht_core.proofs.Pieces.NewNodes as nodes
-use Rattle.rht_core.proofs.Pieces.Locks.{unlock_step}
+use Rattle.rht_core.proofs.Pieces.Locks.{unlock_step, unlock_taken}
 use Rattle.rht_core.proofs.Pieces.Lists.{list_among, found_list}
 use Rattle.rht_core.proofs.Pieces.Seeks as seeks
-use Rattle.rht_core.proofs.Pieces.Rebounds.{taken_more, only_left}
+use Rattle.rht_core.proofs.Pieces.Rebounds.{IsTakenWith, taken_then, taken_more, only_left}
 use Rattle.rht_core.proofs.Pieces.Relinks.{relinking, unstored, relinking_so, lock_left, first_store, relink_write, relink_behind_maps, relink_leaves, holder_left, lock_kept}
-use Rattle.rht_core.proofs.Machines.FindSteps.{known_nothing}
+use Rattle.rht_core.proofs.Machines.ReleaseStores.{here, in_list, locks_taken}
+use Rattle.rht_core.proofs.Machines.ReleaseSteps.{known_removed}
 
 module _ (port owner new : ℕ) where
   -- the node with all its words, but for its link in a chain
@@ -61,24 +63,21 @@ module _ (port owner new : ℕ) where
   abbrev knows_of : ℕ → KnownBucket → Known
   knows_of n bucket = record { node = Some (own n); table = Nowhere; bucket = bucket }
 
-  abbrev in_list : FoundPort → KnownList → KnownBucket
-  in_list found known = InList found.bucket.place found.bucket.word port found.node found.before known
-
-  -- before the store that puts its node in the place of the old one, and behind it
+  -- before the store that puts its node in the place of the old one; and behind it, when that is taken out
   abbrev known_replacing : ℕ → FoundPort → Bool → Known
-  known_replacing n found false = knows_of n (in_list found (Succeeds n owner))
-  known_replacing n found true =
-      record { node = None; table = Nowhere; bucket = Locks found.bucket.place found.bucket.word }
+  known_replacing n found false = knows_of n (in_list port found (Succeeds n owner))
+  known_replacing n found true = here (locks_taken found found.node)
 
   -- what a rebind knows in a state
   abbrev pub known_of_rebind : RebindAt → Known
-  known_of_rebind (at.Filling made) =
-      record { node = nodes.known_at port new made.at; table = Nowhere; bucket = Unlocked }
+  known_of_rebind (at.Filling fresh) =
+      record { node = nodes.known_at port new fresh.at; table = Nowhere; bucket = Unlocked }
   known_of_rebind (at.Seeking n seek) = seeks.known_of_seek port (Some (own n)) seek.at
   known_of_rebind (at.Owner n found) = knows_of n (seeks.known_port port found)
-  known_of_rebind (at.ChainLink n found) = knows_of n (in_list found (Leads None owner))
-  known_of_rebind (at.Link n found link) = knows_of n (in_list found (LeadsTo None link owner))
-  known_of_rebind (at.Replacing n found relink) = known_replacing n found (has_relinked found.before relink.at)
+  known_of_rebind (at.ChainLink n found) = knows_of n (in_list port found (Leads None owner))
+  known_of_rebind (at.Link n found link) = knows_of n (in_list port found (LeadsTo None link owner))
+  known_of_rebind (at.Replacing n found relink) =
+      known_replacing n found (has_relinked found.before relink.at)
   known_of_rebind (at.Unlocking n table unlock) = knows_of n (Locks unlock.place unlock.word)
   known_of_rebind (at.Giving give) = knows_of give.node Unlocked
 
@@ -93,12 +92,13 @@ module _ (env : Env) (mix : ℕ → ℕ → ℕ → ℕ) (c : ℕ) (port owner n
 
   -- how its pieces are for the port and the owner
   abbrev pub fits_rebind : RebindAt → Type 0
-  fits_rebind (at.Filling made) = (made.key ≡ port) × (made.owner ≡ new)
+  fits_rebind (at.Filling fresh) = (fresh.key ≡ port) × (fresh.owner ≡ new)
   fits_rebind (at.Seeking n seek) = seeks.fits_seek port seek.at
   fits_rebind (at.Owner n found) = Unit {0}
   fits_rebind (at.ChainLink n found) = Unit {0}
   fits_rebind (at.Link n found link) = Unit {0}
-  fits_rebind (at.Replacing n found relink) = relink ≡ replaces n found (has_relinked found.before relink.at)
+  fits_rebind (at.Replacing n found relink) =
+      relink ≡ replaces n found (has_relinked found.before relink.at)
   fits_rebind (at.Unlocking n table unlock) = Unit {0}
   fits_rebind (at.Giving give) = Unit {0}
 
@@ -106,14 +106,15 @@ module _ (env : Env) (mix : ℕ → ℕ → ℕ → ℕ) (c : ℕ) (port owner n
     pub knowing : Knowing env mix c (held_of_rebind at) (known_of_rebind port owner new at) M G
     pub fits : fits_rebind at
 
-  -- what it holds and knows after an operation
+  -- what it holds and knows after an operation; at its end which node it has taken out, where it has
   abbrev pub rebind_holds : RebindAt × Next (Reply × Option ℕ) → Holding
   rebind_holds (at, Go) = held_of_rebind at
   rebind_holds (at, Done end) = held.ended_with (plain end.0)
 
   abbrev pub RebindNext : RebindAt × Next (Reply × Option ℕ) → Memory → Ghost → Type 0
   RebindNext (at, Go) M G = RebindKnows at M G
-  RebindNext (at, Done end) M G = Knowing env mix c (held.ended_with (plain end.0)) known_nothing M G
+  RebindNext (at, Done end) M G =
+      Knowing env mix c (held.ended_with (plain end.0)) (known_removed end.1) M G
 
   module _ (single : env.config.kind ≡ Single) (small : new < 2 ^ 32) (low : c < env.geometry.callers)
       (words : List ℕ) (G : Ghost) (all : length words ≡ words_in env.geometry)
@@ -140,8 +141,23 @@ module _ (env : Env) (mix : ℕ → ℕ → ℕ → ℕ) (c : ℕ) (port owner n
         → KeepsAnswer (held_of_rebind at).answer (held_of_rebind next).answer
         → RebindKnows next M G → RebindMoved at (next, Go)
     goes_on at next same holds says knows =
-        reads env mix c call words G (plan_at env at) (held_of_rebind at) (held_of_rebind next) (RebindNext (next, Go))
-        whole same holds (inl says) knows
+        reads env mix c call words G (plan_at env at) (held_of_rebind at) (held_of_rebind next)
+        (RebindNext (next, Go)) whole same holds (inl says) knows
+
+    -- an operation of a piece, with what it tells of the answer
+    moves_on : (at : RebindAt) (r : RebindAt × Next (Reply × Option ℕ)) (h' : Holding)
+        (answer : Option Answer)
+        (Knows : Memory → Ghost → Type 0)
+        → Tells env.config.kind c call (held_of_rebind at).node now (held_of_rebind at).answer answer
+        → HasNodeInTime (held_of_rebind at) (with_answer env mix h' answer)
+        → ((M' : Memory) (G' : Ghost) → Whole env mix M' G' → Knows M' G' → RebindNext r M' G')
+        → Moved env mix c words G (plan_at env at) (held_of_rebind at) h' Knows
+        → Step env mix c call words G (plan_at env at) (held_of_rebind at) (with_answer env mix h' answer)
+        (RebindNext r)
+    moves_on at r h' answer Knows tells in_time more step =
+        answered env mix c call words G (plan_at env at) (held_of_rebind at) h' answer (RebindNext r)
+        tells in_time
+        (moved-map env mix c words G (plan_at env at) (held_of_rebind at) h' Knows (RebindNext r) more step)
 
     -- ---- the answers
 
@@ -167,7 +183,8 @@ module _ (env : Env) (mix : ℕ → ℕ → ℕ → ℕ) (c : ℕ) (port owner n
       legal = inl (ap (λ reply. Some (plain reply)) (ap (rebind_reply owner) is ∙ reply));
       leaves = λ other. elim (cases_eq other port) [
         | inl e ↦
-            ap (bindings_after env.config.kind now call) e ∙ with_owners-same now port (owners_rebound owner new (now port))
+            ap (bindings_after env.config.kind now call) e
+            ∙ with_owners-same now port (owners_rebound owner new (now port))
             ∙ ap (owners_rebound owner new) is ∙ same ∙ sym is ∙ ap now (sym e)
         | inr ne ↦ with_owners-other now port other (owners_rebound owner new (now port)) ne
       ];
@@ -179,47 +196,73 @@ module _ (env : Env) (mix : ℕ → ℕ → ℕ → ℕ) (c : ℕ) (port owner n
     abbrev holds_new : Option ℕ → Holding
     holds_new node = record held.holds_nothing { node = node }
 
+    -- what is known of the node then, and what an operation of its making leads to, for this key and owner
+    abbrev making : Option ℕ → Option KnownNode → Memory → Ghost → Type 0
+    making node known = nodes.knowing env mix c held.holds_nothing Nowhere Unlocked node known
+
+    abbrev MakingMoved : NewNodeModel → ℕ → ℕ → NewNodeModel × Next (Option ℕ) → Type 0
+    MakingMoved fresh key first r =
+        let there : NewNodeAt × Next (Option ℕ) = (r.0.at, r.1) in
+        Moved env mix c words G (new_node_plan fresh) (holds_new (node_of_new fresh.at))
+        (holds_new (nodes.made_by there))
+        (making (nodes.made_by there) (nodes.known_made key first there))
+
     -- a node was taken, and its words stored; or there was none
-    node_made : (new_node : NewNodeModel) (r : NewNodeModel × Next (Option ℕ)) → r.0.key ≡ port → r.0.owner ≡ new
-        → (nodes.made_by (r.0.at, r.1) ≡ None → node_of_new new_node.at ≡ None)
-        → Moved env mix c words G (new_node_plan new_node) (holds_new (node_of_new new_node.at)) (holds_new (nodes.made_by (r.0.at, r.1)))
-        (nodes.knowing env mix c held.holds_nothing Nowhere Unlocked (nodes.made_by (r.0.at, r.1)) (nodes.known_made port new (r.0.at, r.1)))
-        → RebindMoved (at.Filling new_node) (filled env.geometry r.0 r.1)
-    node_made new_node (next, Go) key own had step =
-        answered env mix c call words G (new_node_plan new_node) (holds_new (node_of_new new_node.at)) (holds_new (node_of_new next.at)) None (RebindNext (at.Filling next, Go))
-        (inl refl) (record { taken = λ node none some. refl; gone = λ node some none. absurd (let before = had none in cc) })
-        (moved-map env mix c words G (new_node_plan new_node) (holds_new (node_of_new new_node.at)) (holds_new (node_of_new next.at)) _ (RebindNext (at.Filling next, Go))
-        (λ M' G' w k. record { knowing = k; fits = (key, own) }) step)
-    node_made new_node (next, Done None) key own had step =
-        answered env mix c call words G (new_node_plan new_node) (holds_new (node_of_new new_node.at)) (holds_new None) (Some (plain NoNode)) (RebindNext (at.Filling next, Done (NoNode, None)))
-        (learns env.config.kind c call (node_of_new new_node.at) now (plain NoNode)
-        (record { replied = record { reply = tt; owners = refl; pairs = refl }; tells = (λ none. refl, λ no_node. had refl) }) refl no_node_legal)
+    node_made : (fresh : NewNodeModel) (r : NewNodeModel × Next (Option ℕ)) → r.0.key ≡ port → r.0.owner ≡ new
+        → (nodes.made_by (r.0.at, r.1) ≡ None → node_of_new fresh.at ≡ None)
+        → MakingMoved fresh port new r → RebindMoved (at.Filling fresh) (filled env.geometry r.0 r.1)
+    node_made fresh (next, Go) key own had step =
+        moves_on (at.Filling fresh) (at.Filling next, Go) (holds_new (node_of_new next.at)) None _ (inl refl)
+        (record {
+          taken = λ node none some. refl;
+          gone = λ node some none. absurd (let before = had none in cc);
+        })
+        (λ M' G' w k. record { knowing = k; fits = (key, own) }) step
+    node_made fresh (next, Done None) key own had step =
+        let answer = plain NoNode in
+        let right : IsRight call (node_of_new fresh.at) answer = record {
+          replied = record { reply = tt; owners = refl; pairs = refl };
+          tells = (λ none. refl, λ no_node. had refl);
+        } in
+        moves_on (at.Filling fresh) (at.Filling next, Done (NoNode, None)) (holds_new None) (Some answer) _
+        (learns env.config.kind c call (node_of_new fresh.at) now answer right refl no_node_legal)
         (record { taken = λ node none some. absurd (cc); gone = λ node some none told. absurd (cc) })
-        (moved-map env mix c words G (new_node_plan new_node) (holds_new (node_of_new new_node.at)) (holds_new None) _ (RebindNext (at.Filling next, Done (NoNode, None)))
-        (λ M' G' w k. record { only = k.only; means = k.means }) step)
-    node_made new_node (next, Done (Some n)) key own had step =
-        let seeking = at.Seeking n (seek_new env.geometry) in
-        answered env mix c call words G (new_node_plan new_node) (holds_new (node_of_new new_node.at)) (holds_new (Some n)) None (RebindNext (seeking, Go))
-        (inl refl) (record { taken = λ node none some. refl; gone = λ node some none. absurd (cc) })
-        (moved-map env mix c words G (new_node_plan new_node) (holds_new (node_of_new new_node.at)) (holds_new (Some n)) _ (RebindNext (seeking, Go))
-        (λ M' G' w k. record { knowing = k; fits = tt }) step)
+        (λ M' G' w k. record { only = k.only; means = k.means }) step
+    node_made fresh (next, Done (Some n)) key own had step =
+        moves_on (at.Filling fresh) (at.Seeking n (seek_new env.geometry), Go) (holds_new (Some n)) None _
+        (inl refl)
+        (record { taken = λ node none some. refl; gone = λ node some none. absurd (cc) })
+        (λ M' G' w k. record { knowing = k; fits = tt }) step
 
     -- ---- the way to the port
 
+    -- where the port was found its owner is loaded, and where it wasn't the node is given back
     seek_next : (n : ℕ) (seek : SeekModel) (r : SeekModel × Next (Option FoundPort))
-        → Step env mix c call words G (seek_plan seek) (seeks.held_of_seek (Some n) (plain Absent) seek.at) (seeks.seek_holds (Some n) (plain Absent) (r.0.at, r.1))
-        (seeks.SeekNext env mix c call port (Some n) (Some (own port owner new n)) (plain Absent) (r.0.at, r.1))
+        → Step env mix c call words G (seek_plan seek) (held_of_rebind (at.Seeking n seek))
+        (seeks.seek_holds (Some n) (plain Absent) (r.0.at, r.1))
+        (seeks.SeekNext env mix c call port (Some n) (Some (own port owner new n)) (plain Absent)
+        (r.0.at, r.1))
         → RebindMoved (at.Seeking n seek) (sought env.geometry n r.0 r.1, Go)
     seek_next n seek (next, Go) step =
-        step-map env mix c call words G (seek_plan seek) (held_of_rebind (at.Seeking n seek)) (held_of_rebind (at.Seeking n next)) _ (RebindNext (at.Seeking n next, Go))
-        (λ M' G' w k. record { knowing = k.knowing; fits = k.fits }) step
+        let state = at.Seeking n next in
+        step-map env mix c call words G (seek_plan seek) (held_of_rebind (at.Seeking n seek))
+        (held_of_rebind state) _
+        (RebindNext (state, Go)) (λ M' G' w k. record { knowing = k.knowing; fits = k.fits }) step
     seek_next n seek (next, Done None) step =
-        step-map env mix c call words G (seek_plan seek) (held_of_rebind (at.Seeking n seek)) (held_of_rebind (giving env.geometry n)) _ (RebindNext (giving env.geometry n, Go))
-        (λ M' G' w k. record { knowing = k; fits = tt }) step
+        let state = giving env.geometry n in
+        step-map env mix c call words G (seek_plan seek) (held_of_rebind (at.Seeking n seek))
+        (held_of_rebind state) _
+        (RebindNext (state, Go)) (λ M' G' w k. record { knowing = k; fits = tt }) step
     seek_next n seek (next, Done (Some found)) step =
-        step-map env mix c call words G (seek_plan seek) (held_of_rebind (at.Seeking n seek)) (held_of_rebind (at.Owner n found)) _ (RebindNext (at.Owner n found, Go))
+        let state = at.Owner n found in
+        step-map env mix c call words G (seek_plan seek) (held_of_rebind (at.Seeking n seek))
+        (held_of_rebind state) _
+        (RebindNext (state, Go))
         (λ M' G' w k. record {
-          knowing = record { only = k.only; means = record { node = k.means.node; table = tt; bucket = k.means.bucket } };
+          knowing = record {
+            only = k.only;
+            means = record { node = k.means.node; table = tt; bucket = k.means.bucket };
+          };
           fits = tt;
         }) step
 
@@ -233,17 +276,26 @@ module _ (env : Env) (mix : ℕ → ℕ → ℕ → ℕ) (c : ℕ) (port owner n
 
     alone_in : (n : ℕ) (found : FoundPort) → RebindKnows (at.Owner n found) M G → IsAlone found.node
     alone_in n found known =
-        let list = found_list env mix M G whole c found.bucket.place found.bucket.word port found.node found.before known.knowing.means.bucket in
-        record { behind = list.0; bound_to = list.1; alone = whole.owned.single single port found.node list.0 list.1 }
+        let bucket = found.bucket in
+        let there = known.knowing.means.bucket in
+        let list =
+        found_list env mix M G whole c bucket.place bucket.word port found.node found.before there in
+        record {
+          behind = list.0;
+          bound_to = list.1;
+          alone = whole.owned.single single port found.node list.0 list.1;
+        }
 
-    owner_next : (n : ℕ) (found : FoundPort) → RebindKnows (at.Owner n found) M G → RebindStep (at.Owner n found)
-    owner_next n found known =
-        let first = owner_of (M (Node found.node OwnerWord)) in
+    -- the owner of the node that was found
+    abbrev first_of : FoundPort → ℕ
+    first_of found = owner_of (M (Node found.node OwnerWord))
+
+    -- where it is the old one, the node is to be replaced
+    owner_same : (n : ℕ) (found : FoundPort) → RebindKnows (at.Owner n found) M G → first_of found ≡ owner
+        → RebindMoved (at.Owner n found) (at.ChainLink n found, Go)
+    owner_same n found known same =
         let list = alone_in n found known in
-        let bound : now port ≡ first ∷ [] =
-        ap (owners_in env mix M) (list.bound_to ∙ ap (λ behind. found.node ∷ behind) list.alone) in
-        by_test (λ t. RebindMoved (at.Owner n found) (owner_compared n found t, Go)) (first == owner)
-        (λ same. goes_on (at.Owner n found) (at.ChainLink n found) refl refl refl (record {
+        goes_on (at.Owner n found) (at.ChainLink n found) refl refl refl (record {
           knowing = record {
             only = known.knowing.only;
             means = record {
@@ -253,48 +305,84 @@ module _ (env : Env) (mix : ℕ → ℕ → ℕ → ℕ) (c : ℕ) (port owner n
                 found = known.knowing.means.bucket;
                 behind = list.behind;
                 bound_to = list.bound_to;
-                means = record { owner_is = eqb-true first owner same; second_is = sym (ap first_of_list list.alone) };
+                means = record { owner_is = same; second_is = sym (ap first_of_list list.alone) };
               };
             };
           };
           fits = tt;
-        }))
-        (λ other.
+        })
+
+    -- another one tells that the port isn't bound to the old owner
+    owner_other : (n : ℕ) (found : FoundPort) → RebindKnows (at.Owner n found) M G
+        → (first_of found == owner) ≡ false
+        → RebindMoved (at.Owner n found) (owner_compared n found false, Go)
+    owner_other n found known other =
+        let first = first_of found in
+        let list = alone_in n found known in
+        let bound : now port ≡ first ∷ [] =
+        ap (owners_in env mix M) (list.bound_to ∙ ap (λ behind. found.node ∷ behind) list.alone) in
+        let legal = absent_legal (first ∷ []) bound (ap (λ t. cond t Rebound Absent) other)
+        (ap (λ t. cond t (new ∷ []) (first ∷ [])) other) in
         let next = owner_compared n found false in
-        reads env mix c call words G (plan_at env (at.Owner n found)) (holds_found n found) (held_of_rebind next) (RebindNext (next, Go)) whole refl refl
-        (learns env.config.kind c call (Some n) now (plain Absent) (absent_right n) refl
-        (absent_legal (first ∷ []) bound (ap (λ t. cond t Rebound Absent) other) (ap (λ t. cond t (new ∷ []) (first ∷ [])) other)))
+        reads env mix c call words G (plan_at env (at.Owner n found)) (holds_found n found)
+        (held_of_rebind next) (RebindNext (next, Go)) whole refl refl
+        (learns env.config.kind c call (Some n) now (plain Absent) (absent_right n) refl legal)
         (record {
           knowing = record {
             only = known.knowing.only;
-            means = record { node = known.knowing.means.node; table = tt; bucket = known.knowing.means.bucket.standing.lock };
+            means = record {
+              node = known.knowing.means.node;
+              table = tt;
+              bucket = known.knowing.means.bucket.standing.lock;
+            };
           };
           fits = tt;
-        }))
+        })
+
+    owner_next : (n : ℕ) (found : FoundPort) → RebindKnows (at.Owner n found) M G
+        → RebindStep (at.Owner n found)
+    owner_next n found known =
+        by_test (λ t. RebindMoved (at.Owner n found) (owner_compared n found t, Go)) (first_of found == owner)
+        (λ same. owner_same n found known (eqb-true (first_of found) owner same))
+        (λ other. owner_other n found known other)
 
     -- ---- the node gets the link of the old one
 
     -- what is held and known of a replacement that stands so
     abbrev ReplacingKnows : ℕ → FoundPort → RelinkModel → Bool → Memory → Ghost → Type 0
     ReplacingKnows n found relink stored M' G' =
-        Knowing env mix c (holds_replacing n found stored) (known_replacing port owner new n found stored) M' G'
+        Knowing env mix c (holds_replacing n found stored) (known_replacing port owner new n found stored)
+        M' G'
         × (relink ≡ replaces n found stored)
 
-    linked : (n : ℕ) (found : FoundPort) (link : ℕ) → RebindKnows (at.Link n found link) M G → RebindStep (at.Link n found link)
+    -- an operation that leads to a replacement which stands so
+    abbrev ReplacingNext : ℕ → FoundPort → ℕ → Bool → Type 0
+    ReplacingNext n found link stored =
+        Step env mix c call words G (plan_at env (at.Link n found link)) (holds_found n found)
+        (holds_replacing n found stored)
+        (ReplacingKnows n found (relink_of env.geometry found (link_of n)) stored)
+
+    linked : (n : ℕ) (found : FoundPort) (link : ℕ) → RebindKnows (at.Link n found link) M G
+        → ReplacingNext n found link false
     linked n found link known =
         let op = plan_at env (at.Link n found link) in
-        let place = found.bucket.place in
-        let relink = relink_of env.geometry found (link_of n) in
-        let bucket = in_list port owner new found (LeadsTo None link owner) in
-        let fill = nodes.fill_step env mix c (record held.holds_nothing { lock = Some place }) Nowhere bucket words G all whole tt (own port owner new n) ChainLink link known.knowing in
-        let step : Step env mix c call words G op (holds_found n found) (holds_found n found) (ReplacingKnows n found relink false) =
-        answered env mix c call words G op (holds_found n found) (holds_found n found) None (ReplacingKnows n found relink false) (inl refl) (still_has refl)
-        (moved-map env mix c words G op (holds_found n found) (holds_found n found) _ (ReplacingKnows n found relink false)
+        let h = holds_found n found in
+        let Next = ReplacingKnows n found (relink_of env.geometry found (link_of n)) false in
+        let bucket = in_list port found (LeadsTo None link owner) in
+        let locked : Holding = record held.holds_nothing { lock = Some found.bucket.place } in
+        answered env mix c call words G op h h None Next (inl refl) (still_has refl)
+        (moved-map env mix c words G op h h _ Next
         (λ M' G' w k. let node = k.means.node in let is = k.means.bucket in (
           record {
             only = k.only;
             means = record {
-              node = record { has = node.has; chain = tt; key = node.key; owner = node.owner; list = node.list };
+              node = record {
+                has = node.has;
+                chain = tt;
+                key = node.key;
+                owner = node.owner;
+                list = node.list;
+              };
               table = tt;
               bucket = record {
                 found = is.found;
@@ -308,52 +396,73 @@ module _ (env : Env) (mix : ℕ → ℕ → ℕ → ℕ) (c : ℕ) (port owner n
             };
           },
           refl,
-        )) fill) in
+        ))
+        (nodes.fill_step env mix c locked Nowhere bucket words G all whole tt (own port owner new n)
+        ChainLink link known.knowing))
+
+    link_next : (n : ℕ) (found : FoundPort) (link : ℕ) → RebindKnows (at.Link n found link) M G
+        → RebindStep (at.Link n found link)
+    link_next n found link known =
         let next = replacing env.geometry n found in
-        step-map env mix c call words G op (holds_found n found) (held_of_rebind next)
-        (ReplacingKnows n found relink (has_relinked found.before relink.at)) (RebindNext (next, Go))
-        (λ M' G' w k. record { knowing = k.0; fits = k.1 })
-        (subst (λ t. Step env mix c call words G op (holds_found n found) (holds_replacing n found t) (ReplacingKnows n found relink t))
-        (sym (unstored place (link_of n) found.before)) step)
+        let relink = relink_of env.geometry found (link_of n) in
+        step-map env mix c call words G (plan_at env (at.Link n found link)) (holds_found n found)
+        (held_of_rebind next) (ReplacingKnows n found relink (has_relinked found.before relink.at))
+        (RebindNext (next, Go)) (λ M' G' w k. record { knowing = k.0; fits = k.1 })
+        (subst (ReplacingNext n found link) (sym (unstored found.bucket.place (link_of n) found.before))
+        (linked n found link known))
 
     -- ---- the store that puts the node in the place of the old one
 
-    module _ (n : ℕ) (found : FoundPort) (before_in : IsNodeOrNone env.geometry found.before)
+    module _ (n : ℕ) (found : FoundPort) (within : IsNodeOrNone env.geometry found.before)
         (k : Knowing env mix c (holds_found n found) (known_replacing port owner new n found false) M G) where
+      abbrev place : ℕ
+      place = found.bucket.place
+
+      abbrev word : ℕ
+      word = found.bucket.word
+
+      abbrev before : Option ℕ
+      before = found.before
+
       abbrev m : ℕ
       m = found.node
 
       abbrev j : ℕ
-      j = word_index env mix found.bucket.place
+      j = word_index env mix place
 
       abbrev op : Op
-      op = first_store env mix found.bucket.place found.bucket.word (link_of n) found.before
+      op = first_store env mix place word (link_of n) before
 
       abbrev M' : Memory
       M' = mem env mix (applied words op)
 
+      -- the other nodes of the bucket
       abbrev front : List ℕ
       front = k.means.bucket.found.standing.stands.front
 
       abbrev rear : List ℕ
       rear = k.means.bucket.found.standing.stands.rear
 
-      lock : HoldsLock env mix c G found.bucket.place found.bucket.word
+      lock : HoldsLock env mix c G place word
       lock = k.means.bucket.found.standing.lock
+
+      place_is : place_at env mix j ≡ place
+      place_is = place_at-index env mix place lock.bucket
 
       bound : G.bound port ≡ m ∷ []
       bound =
           let list = k.means.bucket in
-          list.bound_to ∙ ap (λ behind. m ∷ behind) (whole.owned.single single port m list.behind list.bound_to)
+          let alone = whole.owned.single single port m list.behind list.bound_to in
+          list.bound_to ∙ ap (λ behind. m ∷ behind) alone
 
-      in_bucket : IsFoundIn env mix c port j m front rear found.before M M' G []
+      in_bucket : IsFoundIn env mix c port j m front rear before M M' G []
       in_bucket =
-          let here = k.means.bucket.found in
+          let listed = k.means.bucket.found in
           record {
             holder = lock.holder;
-            split = here.standing.stands.split;
-            last = here.standing.stands.last;
-            key_is = here.key_is;
+            split = listed.standing.stands.split;
+            last = listed.standing.stands.last;
+            key_is = listed.key_is;
             bound_to = bound;
           }
 
@@ -363,7 +472,7 @@ module _ (env : Env) (mix : ℕ → ℕ → ℕ → ℕ) (c : ℕ) (port owner n
       apart : n ≢ m
       apart e = held_not_first (G.node n) c j k.means.node.has.mine (ap G.node e ∙ first)
 
-      can : CanReplace env mix c port j m front rear found.before M M' G [] n [] (Taken c)
+      can : CanReplace env mix c port j m front rear before M M' G [] n [] (Taken c)
       can =
           let node = k.means.node in
           record {
@@ -384,134 +493,154 @@ module _ (env : Env) (mix : ℕ → ℕ → ℕ → ℕ) (c : ℕ) (port owner n
             single = λ one. refl;
           }
 
-      write : IsWrite env.geometry M M' (relink_address j found.before) (relink_value (place_at env mix j) (link_of n) found.before)
-      write =
-          relink_write env mix found.bucket.place found.bucket.word (link_of n) found.before words all lock.bucket before_in
+      write : IsWrite env.geometry M M' (relink_address j before)
+          (relink_value (place_at env mix j) (link_of n) before)
+      write = relink_write env mix place word (link_of n) before words all lock.bucket within
 
       abbrev change : Change
-      change = removing.replacing env mix c port j m front rear found.before M M' G n [] (Taken c)
+      change = removing.replacing env mix c port j m front rear before M M' G n [] (Taken c)
 
       abbrev G' : Ghost
       G' = changed G c change
 
-      made : Made env mix c M G M' G'
-      made = removing.replace env mix c port j m front rear found.before M M' G whole [] in_bucket n [] (Taken c) can write
+      replaced : Made env mix c M G M' G'
+      replaced =
+          removing.replace env mix c port j m front rear before M M' G whole [] in_bucket n [] (Taken c)
+          can write
 
       -- ---- what is bound
+
+      -- the owners of each port then
+      abbrev after : Multimap
+      after = owners env mix M' G'
 
       was : now port ≡ owner ∷ []
       was = ap (owners_in env mix M) bound ∙ ap (λ o. o ∷ []) k.means.bucket.means.leads.owner_is
 
-      is_now : owners env mix M' G' port ≡ new ∷ []
+      is_now : after port ≡ new ∷ []
       is_now =
           let node = k.means.node in
-          let word : M' (Node n OwnerWord) ≡ new =
-          relink_leaves env mix found.bucket.place found.bucket.word (link_of n) found.before M M' write n OwnerWord node.has.among (λ e. cc)
-          ∙ node.owner in
-          ap (owners_in env mix M') (put-same G.bound port (n ∷ []))
-          ∙ ap (λ o. o ∷ []) (ap owner_of word ∙ mod-eq_of_lt {n = new} {m = 2 ^ 32} small)
+          let stays =
+          relink_leaves env mix place word (link_of n) before M M' write n OwnerWord node.has.among
+          (λ e. cc) in
+          let is : owner_of (M' (Node n OwnerWord)) ≡ new =
+          ap owner_of (stays ∙ node.owner) ∙ mod-eq_of_lt {n = new} {m = 2 ^ 32} small in
+          ap (owners_in env mix M') (put-same G.bound port (n ∷ [])) ∙ ap (λ o. o ∷ []) is
 
-      others_same : (other : ℕ) → other ≢ port → owners env mix M' G' other ≡ now other
-      others_same other ne = owners-stay env mix c M M' G G' whole made other (put-other G.bound port (n ∷ []) other ne)
+      others_same : (other : ℕ) → other ≢ port → after other ≡ now other
+      others_same other ne =
+          owners-stay env mix c M M' G G' whole replaced other (put-other G.bound port (n ∷ []) other ne)
 
-      -- on bindings where the old owner is the only one, the rebind is answered so and leaves the new one
+      -- where the old owner is the only one, the rebind is answered so and leaves the new one
       reply_on : (list : List ℕ) → list ≡ owner ∷ [] → rebind_reply owner list ≡ Rebound
-      reply_on list is = ap (rebind_reply owner) is ∙ ap (λ t. cond t Rebound Absent) (eq-eqb owner owner refl)
+      reply_on list is =
+          ap (rebind_reply owner) is ∙ ap (λ t. cond t Rebound Absent) (eq-eqb owner owner refl)
 
       leaves_on : (list : List ℕ) → list ≡ owner ∷ [] → owners_rebound owner new list ≡ new ∷ []
       leaves_on list is =
-          ap (owners_rebound owner new) is ∙ ap (λ t. cond t (new ∷ []) (owner ∷ [])) (eq-eqb owner owner refl)
+          ap (owners_rebound owner new) is
+          ∙ ap (λ t. cond t (new ∷ []) (owner ∷ [])) (eq-eqb owner owner refl)
 
-      bindings : Agree (owners env mix M' G') (bindings_after env.config.kind now call)
-      bindings other = elim (cases_eq other port) [
-        | inl e ↦
-            ap (owners env mix M' G') e ∙ is_now ∙ sym (leaves_on (now port) was)
-            ∙ sym (with_owners-same now port (owners_rebound owner new (now port))) ∙ ap (bindings_after env.config.kind now call) (sym e)
-        | inr ne ↦
-            others_same other ne ∙ sym (with_owners-other now port other (owners_rebound owner new (now port)) ne)
-      ]
+      -- it leaves what is bound then, on bindings with the same owners of other ports
+      leaves_after : (bindings : Multimap) → bindings port ≡ owner ∷ []
+          → ((other : ℕ) → other ≢ port → after other ≡ bindings other)
+          → Agree after (bindings_after env.config.kind bindings call)
+      leaves_after bindings is same other =
+          let left = owners_rebound owner new (bindings port) in
+          elim (cases_eq other port) [
+            | inl e ↦
+                ap after e ∙ is_now ∙ sym (leaves_on (bindings port) is)
+                ∙ sym (with_owners-same bindings port left)
+                ∙ ap (bindings_after env.config.kind bindings call) (sym e)
+            | inr ne ↦ same other ne ∙ sym (with_owners-other bindings port other left ne)
+          ]
 
       -- an owner that takes its own place changes nothing
-      says : Says env.config.kind c call now (owners env mix M' G') None (Some (plain Rebound))
-      says = elim (cases_eq new owner) [
-        | inl e ↦ inl (record {
-          agree = λ other. elim (cases_eq other port) [
-            | inl q ↦ ap (owners env mix M' G') q ∙ is_now ∙ ap (λ o. o ∷ []) e ∙ sym was ∙ ap now (sym q)
-            | inr ne ↦ others_same other ne
-          ];
-          said = inr (record { unknown = refl; answer = plain Rebound; known = refl; said = inl (legal_after e) });
-        })
-        | inr ne ↦ inr (record {
-          unknown = refl;
-          answer = plain Rebound;
-          known = refl;
-          answered = ap (λ reply. Some (plain reply)) (reply_on (now port) was);
-          bindings = bindings;
-          port = port;
-          differs = λ e. ne (let q : ◌≡◌ {A = List ℕ} (new ∷ []) (owner ∷ []) = sym is_now ∙ e ∙ was in cc);
-        })
-      ]
-        where
-          legal_after : new ≡ owner → IsLegalOn env.config.kind c call (owners env mix M' G') (plain Rebound)
-          legal_after e =
-              let after = owners env mix M' G' in
-              let same : after port ≡ owner ∷ [] = is_now ∙ ap (λ o. o ∷ []) e in
-              record {
-                legal = inl (ap (λ reply. Some (plain reply)) (reply_on (after port) same));
-                leaves = λ other. elim (cases_eq other port) [
-                  | inl q ↦
-                      ap (bindings_after env.config.kind after call) q ∙ with_owners-same after port (owners_rebound owner new (after port))
-                      ∙ leaves_on (after port) same ∙ sym is_now ∙ ap after (sym q)
-                  | inr ne ↦ with_owners-other after port other (owners_rebound owner new (after port)) ne
-                ];
-              }
+      says_same : new ≡ owner → Stills env.config.kind c call now after None (Some (plain Rebound))
+      says_same e =
+          let own : after port ≡ owner ∷ [] = is_now ∙ ap (λ o. o ∷ []) e in
+          let legal : IsLegalOn env.config.kind c call after (plain Rebound) = record {
+            legal = inl (ap (λ reply. Some (plain reply)) (reply_on (after port) own));
+            leaves = λ other. sym (leaves_after after own (λ p ne. refl) other);
+          } in
+          record {
+            agree = λ other. elim (cases_eq other port) [
+              | inl q ↦ ap after q ∙ own ∙ sym was ∙ ap now (sym q)
+              | inr ne ↦ others_same other ne
+            ];
+            said = inr (record { unknown = refl; answer = plain Rebound; known = refl; said = inl legal });
+          }
+
+      says_other : new ≢ owner → ChangesBindings env.config.kind c call now after None (Some (plain Rebound))
+      says_other ne = record {
+        unknown = refl;
+        answer = plain Rebound;
+        known = refl;
+        answered = ap (λ reply. Some (plain reply)) (reply_on (now port) was);
+        bindings = leaves_after now was others_same;
+        port = port;
+        differs = λ e. ne (let q : ◌≡◌ {A = List ℕ} (new ∷ []) (owner ∷ []) = sym is_now ∙ e ∙ was in cc);
+      }
+
+      says : Says env.config.kind c call now after None (Some (plain Rebound))
+      says = elim (cases_eq new owner) [ inl e ↦ inl (says_same e) | inr ne ↦ inr (says_other ne) ]
 
       -- ---- the store
 
+      -- the answer is known, and the bucket is locked still where a node is before the old one
       abbrev holds_left : Holding
-      holds_left =
-          record held.holds_nothing { lock = lock_left found.bucket.place found.before; answer = Some (plain Rebound) }
+      holds_left = record held.holds_nothing { lock = lock_left place before; answer = Some (plain Rebound) }
+
+      among : m < env.geometry.nodes
+      among = list_among env mix M G whole port m [] bound m (inl refl)
+
+      taken_with : IsTakenWith c m n (First j) G.node
+      taken_with = inr (apart, ap (is_taken_by c) k.means.node.has.mine, refl)
 
       one_out : outs env mix G' c + 0 ≡ outs env mix G c + 1
       one_out =
-          let among = list_among env mix M G whole port m [] bound m (inl refl) in
-          let more = taken_more c m n env.geometry.nodes (First j) G.node among (ap (is_taken_by c) first)
-          (inr (apart, ap (is_taken_by c) k.means.node.has.mine, refl)) in
+          let untaken = ap (is_taken_by c) first in
+          let more = taken_more c m n env.geometry.nodes (First j) G.node among untaken taken_with in
           omega (arith, more)
 
-      left_lock : (b : Option ℕ) → (lock_left found.bucket.place b ≡ Some found.bucket.place) ⊎ (lock_left found.bucket.place b ≡ None)
-      left_lock None = inr refl
-      left_lock (Some node) = inl refl
+      taken_out : HasTakenOut env mix c G' m
+      taken_out = record { among = among; taken = taken_then c m n (First j) G.node taken_with }
 
-      only : HasOnly env mix c G' None (lock_left found.bucket.place found.before) None false
+      lock_or_none : (b : Option ℕ) → (lock_left place b ≡ Some place) ⊎ (lock_left place b ≡ None)
+      lock_or_none None = inr refl
+      lock_or_none (Some node) = inl refl
+
+      only : HasOnly env mix c G' None (lock_left place before) None false
       only =
-          let is = place_at-index env mix found.bucket.place lock.bucket in
           let holder =
-          holder_left env mix found.bucket.place found.bucket.word (link_of n) found.before c G lock change (front ++ n ∷ rear) refl refl in
+          holder_left env mix place word (link_of n) before c G lock change (front ++ n ∷ rear) refl refl in
           let left =
-          only_left env mix c G change found.bucket.place (Some n) (lock_left found.bucket.place found.before) false is (λ e. cc) (λ e. cc) (λ x q. inr (cc)) holder k.only in
+          only_left env mix c G change place (Some n) (lock_left place before) false place_is (λ e. cc)
+          (λ e. cc) (λ x q. inr (cc)) holder k.only in
           record { nodes = left.nodes; locks = left.locks; raising = left.raising ∙ k.only.raising }
 
-      still_locked : (node : ℕ) → found.before ≡ Some node → HoldsLock env mix c G' found.bucket.place found.bucket.word
+      still_locked : (node : ℕ) → before ≡ Some node → HoldsLock env mix c G' place word
       still_locked =
-          lock_kept env mix found.bucket.place found.bucket.word (link_of n) found.before c G lock change (front ++ n ∷ rear) refl refl
+          lock_kept env mix place word (link_of n) before c G lock change (front ++ n ∷ rear) refl refl
 
-      replaced : (Knows : Memory → Ghost → Type 0) → Knows M' G' → Step env mix c call words G op (holds_found n found) holds_left Knows
-      replaced Knows knows = record {
+      -- with what the caller knows behind it
+      store_step : (Knows : Memory → Ghost → Type 0) → Knows M' G'
+          → Step env mix c call words G op (holds_found n found) holds_left Knows
+      store_step Knows knows = record {
         move = Rebinds change;
         ready = tt;
-        made = made;
+        made = replaced;
         does = record {
-          behind_maps = relink_behind_maps env mix found.bucket.place found.bucket.word (link_of n) found.before words all lock.bucket before_in;
-          lock = ap Some (sym (place_at-index env mix found.bucket.place lock.bucket));
-          left_lock = left_lock found.before;
+          behind_maps = relink_behind_maps env mix place word (link_of n) before words all lock.bucket within;
+          lock = ap Some (sym place_is);
+          left_lock = lock_or_none before;
           left_node = inr refl;
           raised_is = sym k.only.raising;
         };
         says = says;
         right = λ answer unknown known.
-            subst (IsRight call (Some n)) (let same : ◌≡◌ {A = Option Answer} (Some (plain Rebound)) (Some answer) = known in cc)
-            (with_node n Rebound tt refl refl (λ e. cc));
+            let same : ◌≡◌ {A = Option Answer} (Some (plain Rebound)) (Some answer) = known in
+            subst (IsRight call (Some n)) (cc) (with_node n Rebound tt refl refl (λ e. cc));
         in_time = record { taken = λ node none some. absurd (cc); gone = λ node some none told. absurd (cc) };
         outs = one_out;
         knows = knows;
@@ -522,24 +651,37 @@ module _ (env : Env) (mix : ℕ → ℕ → ℕ → ℕ) (c : ℕ) (port owner n
     LeadsOn n found before relink =
         let state = at.Replacing n (record found { before = before }) relink in
         IsNodeOrNone env.geometry before
-        → Knowing env mix c (held_of_rebind state) (known_of_rebind port owner new state) M G → RebindStep state
+        → Knowing env mix c (held_of_rebind state) (known_of_rebind port owner new state) M G
+        → RebindStep state
+
+    -- where the rebind ends
+    abbrev ends : RebindAt → FoundPort → RebindAt × Next (Reply × Option ℕ)
+    ends state found = (state, Done (Rebound, Some found.node))
 
     -- the store that puts the node in the place of the old one
     first_leads : (n : ℕ) (found : FoundPort) (before : Option ℕ)
         → LeadsOn n found before (replaces n (record found { before = before }) false)
     first_leads n found None within k =
-        let here : FoundPort = record found { before = None } in
-        let end : RebindAt × Next (Reply × Option ℕ) = (at.Replacing n here (replaces n here false), Done (Rebound, Some found.node)) in
-        replaced n here within k (RebindNext end)
-        (record { only = only n here within k; means = record { node = tt; table = tt; bucket = tt } })
+        let there : FoundPort = record found { before = None } in
+        store_step n there within k (RebindNext (ends (at.Replacing n there (replaces n there false)) found))
+        (record {
+          only = only n there within k;
+          means = record { node = tt; table = tt; bucket = taken_out n there within k };
+        })
     first_leads n found (Some node) within k =
-        let here : FoundPort = record found { before = Some node } in
-        let next = at.Replacing n here (replaces n here true) in
-        replaced n here within k (RebindNext (next, Go))
+        let there : FoundPort = record found { before = Some node } in
+        store_step n there within k (RebindNext (at.Replacing n there (replaces n there true), Go))
         (record {
           knowing = record {
-            only = only n here within k;
-            means = record { node = tt; table = tt; bucket = still_locked n here within k node refl };
+            only = only n there within k;
+            means = record {
+              node = tt;
+              table = tt;
+              bucket = record {
+                lock = still_locked n there within k node refl;
+                took = taken_out n there within k;
+              };
+            };
           };
           fits = refl;
         })
@@ -548,70 +690,80 @@ module _ (env : Env) (mix : ℕ → ℕ → ℕ → ℕ) (c : ℕ) (port owner n
     second_leads : (n : ℕ) (found : FoundPort) (node : ℕ)
         → LeadsOn n found (Some node) (replaces n (record found { before = Some node }) true)
     second_leads n found node within k =
-        let here : FoundPort = record found { before = Some node } in
-        let state = at.Replacing n here (replaces n here true) in
-        let end : RebindAt × Next (Reply × Option ℕ) = (state, Done (Rebound, Some found.node)) in
-        let told : Holding = record held.holds_nothing { answer = Some (plain Rebound) } in
-        answered env mix c call words G (plan_at env state) (held_of_rebind state) told (Some (plain Rebound)) (RebindNext end)
-        (inl (keeps (Some (plain Rebound)))) (still_has refl)
-        (moved-map env mix c words G (plan_at env state) (held_of_rebind state) told _ (RebindNext end) (λ M' G' w k. k)
-        (unlock_step env mix c told None Nowhere words G all whole found.bucket.place found.bucket.word k))
+        let there : FoundPort = record found { before = Some node } in
+        let state = at.Replacing n there (replaces n there true) in
+        let answer = Some (plain Rebound) in
+        let told : Holding = record held.holds_nothing { answer = answer } in
+        moves_on state (ends state found) told answer _ (inl (keeps answer)) (still_has refl) (λ M' G' w k. k)
+        (unlock_taken env mix c told None Nowhere words G all whole found.bucket.place found.bucket.word
+        found.node k)
 
-    replacing_step : (n : ℕ) (found : FoundPort) (relink : RelinkModel) → IsNodeOrNone env.geometry found.before
+    replacing_step : (n : ℕ) (found : FoundPort) (relink : RelinkModel)
+        → IsNodeOrNone env.geometry found.before
         → RebindKnows (at.Replacing n found relink) M G → RebindStep (at.Replacing n found relink)
     replacing_step n found relink within known =
-        relinking_so env.geometry found.bucket.place found.bucket.word (link_of n) (LeadsOn n found) (first_leads n found)
-        (second_leads n found) found.before relink known.fits within known.knowing
+        relinking_so env.geometry found.bucket.place found.bucket.word (link_of n) (LeadsOn n found)
+        (first_leads n found) (second_leads n found) found.before relink known.fits within known.knowing
 
     -- ---- each operation leads from what the rebind knows to what it knows next
     pub rebind_step : (at : RebindAt) → IsRebindAtIn env at → RebindKnows at M G → RebindStep at
-    rebind_step (at.Filling new_node) is known =
-        let r = new_node_after new_node (old_of words (new_node_plan new_node)) in
-        let Made : ℕ → ℕ → Type 0 = λ key o. Moved env mix c words G (new_node_plan new_node) (holds_new (node_of_new new_node.at)) (holds_new (nodes.made_by (r.0.at, r.1)))
-        (nodes.knowing env mix c held.holds_nothing Nowhere Unlocked (nodes.made_by (r.0.at, r.1)) (nodes.known_made key o (r.0.at, r.1))) in
-        let Knows : ℕ → ℕ → Type 0 = λ key o. nodes.knowing env mix c held.holds_nothing Nowhere Unlocked (node_of_new new_node.at) (nodes.known_at key o new_node.at) M G in
-        let knows : Knows new_node.key new_node.owner =
-        subst (λ key. Knows key new_node.owner) (sym known.fits.0) (subst (λ o. Knows port o) (sym known.fits.1) known.knowing) in
-        let step : Made new_node.key new_node.owner = nodes.new_node_step env mix c held.holds_nothing Nowhere Unlocked words G all whole tt new_node is knows in
-        node_made new_node r known.fits.0 known.fits.1 (nodes.made_none new_node.at (old_of words (new_node_plan new_node)))
-        (subst (λ key. Made key new) known.fits.0 (subst (λ o. Made new_node.key o) known.fits.1 step))
+    rebind_step (at.Filling fresh) is known =
+        let r = new_node_after fresh (old_of words (new_node_plan fresh)) in
+        let Knows : ℕ → ℕ → Type 0 =
+        λ key o. making (node_of_new fresh.at) (nodes.known_at key o fresh.at) M G in
+        let knows : Knows fresh.key fresh.owner =
+        subst (λ key. Knows key fresh.owner) (sym known.fits.0)
+        (subst (λ o. Knows port o) (sym known.fits.1) known.knowing) in
+        let step : MakingMoved fresh fresh.key fresh.owner r =
+        nodes.new_node_step env mix c held.holds_nothing Nowhere Unlocked words G all whole tt
+        fresh is knows in
+        node_made fresh r known.fits.0 known.fits.1
+        (nodes.made_none fresh.at (old_of words (new_node_plan fresh)))
+        (subst (λ key. MakingMoved fresh key new r) known.fits.0
+        (subst (λ o. MakingMoved fresh fresh.key o r) known.fits.1 step))
     rebind_step (at.Seeking n seek) is known =
         seek_next n seek (seek_after mix port seek (old_of words (seek_plan seek)))
-        (seeks.seek_step env mix c call port (Some n) (Some (own port owner new n)) (plain Absent) words G all whole
-        (λ unbound. absent_legal [] unbound refl refl) (absent_right n) refl seek is.seek_in (record { knowing = known.knowing; fits = known.fits }))
+        (seeks.seek_step env mix c call port (Some n) (Some (own port owner new n)) (plain Absent)
+        words G all whole
+        (λ unbound. absent_legal [] unbound refl refl) (absent_right n) refl seek is.seek_in
+        (record { knowing = known.knowing; fits = known.fits }))
     rebind_step (at.Owner n found) is known = owner_next n found known
     rebind_step (at.ChainLink n found) is known =
-        let here = known.knowing.means.bucket in
-        goes_on (at.ChainLink n found) (at.Link n found (M (Node found.node ChainLink))) refl refl refl (record {
+        let listed = known.knowing.means.bucket in
+        let next = at.Link n found (M (Node found.node ChainLink)) in
+        goes_on (at.ChainLink n found) next refl refl refl (record {
           knowing = record {
             only = known.knowing.only;
             means = record {
               node = known.knowing.means.node;
               table = tt;
               bucket = record {
-                found = here.found;
-                behind = here.behind;
-                bound_to = here.bound_to;
-                means = record { leads = here.means; link_is = refl };
+                found = listed.found;
+                behind = listed.behind;
+                bound_to = listed.bound_to;
+                means = record { leads = listed.means; link_is = refl };
               };
             };
           };
           fits = tt;
         })
-    rebind_step (at.Link n found link) is known = linked n found link known
-    rebind_step (at.Replacing n found relink) is known = replacing_step n found relink is.found_in.before_in known
+    rebind_step (at.Link n found link) is known = link_next n found link known
+    rebind_step (at.Replacing n found relink) is known =
+        replacing_step n found relink is.found_in.before_in known
     rebind_step (at.Unlocking n table unlock) is known =
-        let told : Holding = record held.holds_nothing { node = Some n; answer = Some (plain Absent) } in
-        let next = giving env.geometry n in
-        answered env mix c call words G (plan_at env (at.Unlocking n table unlock)) (held_of_rebind (at.Unlocking n table unlock)) told (Some (plain Absent))
-        (RebindNext (next, Go)) (inl (keeps (Some (plain Absent)))) (still_has refl)
-        (moved-map env mix c words G (plan_at env (at.Unlocking n table unlock)) (record told { lock = Some unlock.place }) told _ (RebindNext (next, Go))
-        (λ M' G' w k. record { knowing = k; fits = tt })
-        (unlock_step env mix c told (Some (own port owner new n)) Nowhere words G all whole unlock.place unlock.word known.knowing))
+        let answer = Some (plain Absent) in
+        let told : Holding = record held.holds_nothing { node = Some n; answer = answer } in
+        moves_on (at.Unlocking n table unlock) (giving env.geometry n, Go) told answer _ (inl (keeps answer))
+        (still_has refl) (λ M' G' w k. record { knowing = k; fits = tt })
+        (unlock_step env mix c told (Some (own port owner new n)) Nowhere words G all whole
+        unlock.place unlock.word known.knowing)
     rebind_step (at.Giving give) is known =
-        let told : Holding = record held.holds_nothing { answer = Some (plain Absent) } in
-        subst (λ g. Step env mix c call words G (give_node_plan (record { geometry = g; node = give.node })) (record told { node = Some give.node }) told (Knowing env mix c told known_nothing))
-        (sym is.geometry_same)
-        (answered env mix c call words G (give_node_plan (record { geometry = env.geometry; node = give.node })) (record told { node = Some give.node }) told (Some (plain Absent)) (Knowing env mix c told known_nothing)
-        (inl (keeps (Some (plain Absent)))) (record { taken = λ node none some. absurd (cc); gone = λ node some none told. absurd (cc) })
-        (nodes.give_step env mix c told Nowhere Unlocked words G all whole tt (own port owner new give.node) known.knowing))
+        let answer = Some (plain Absent) in
+        let told : Holding = record held.holds_nothing { answer = answer } in
+        let state = at.Giving (record { geometry = env.geometry; node = give.node }) in
+        subst (λ g. RebindStep (at.Giving (record { geometry = g; node = give.node }))) (sym is.geometry_same)
+        (moves_on state (state, Done (Absent, None)) told answer _ (inl (keeps answer))
+        (record { taken = λ node none some. absurd (cc); gone = λ node some none told. absurd (cc) })
+        (λ M' G' w k. k)
+        (nodes.give_step env mix c told Nowhere Unlocked words G all whole tt (own port owner new give.node)
+        known.knowing))

@@ -60,27 +60,34 @@ module _ (env : Env) (mix : ℕ → ℕ → ℕ → ℕ) (M : Memory) (G : Ghost
       (whole.owned.behind_in node port ((whole.owned.bound_to port first behind b).each node i)).among
 
   -- from the link behind one of them on lie those that are behind it
-  pub list_rest : (port first : ℕ) (behind : List ℕ) → G.bound port ≡ first ∷ behind → (node : ℕ) (before : Option ℕ)
-      → (among : IsAmong (first ∷ behind) node before) → IsSegment (list_of M) (list_of M node) among.rear 0
+  pub list_rest : (port first : ℕ) (behind : List ℕ) → G.bound port ≡ first ∷ behind
+      → (node : ℕ) (before : Option ℕ) → (among : IsAmong (first ∷ behind) node before)
+      → IsSegment (list_of M) (list_of M node) among.rear 0
   list_rest port first behind b node before among =
-      let segment : IsSegment (list_of M) (link_of first) (first ∷ behind) 0 = (refl, (whole.owned.bound_to port first behind b).list) in
+      let segment : IsSegment (list_of M) (link_of first) (first ∷ behind) 0 =
+      (refl, (whole.owned.bound_to port first behind b).list) in
       (IsSegment-cut (list_of M) among.front node among.rear (link_of first) 0
       (subst (λ nodes. IsSegment (list_of M) (link_of first) nodes 0) among.split segment)).1
 
   -- there are no more of them than nodes
-  pub list_few : (port first : ℕ) (behind : List ℕ) → G.bound port ≡ first ∷ behind → length (first ∷ behind) ≤ env.geometry.nodes
+  pub list_few : (port first : ℕ) (behind : List ℕ) → G.bound port ≡ first ∷ behind
+      → length (first ∷ behind) ≤ env.geometry.nodes
   list_few port first behind b =
-      let few = length-count_below (λ n. true) env.geometry.nodes (first ∷ behind) (whole.owned.bound_to port first behind b).distinct
-      (In-AllByRecursion (λ n. n < env.geometry.nodes) (first ∷ behind) (λ n i. list_among port first behind b n i)) (λ n i. refl) in
+      let distinct = (whole.owned.bound_to port first behind b).distinct in
+      let among =
+      In-AllByRecursion (λ n. n < env.geometry.nodes) (first ∷ behind) (list_among port first behind b) in
+      let few =
+      length-count_below (λ n. true) env.geometry.nodes (first ∷ behind) distinct among (λ n i. refl) in
       let most = count_below-most (λ n. true) env.geometry.nodes in
       omega (arith, few, most)
 
   -- a port that was found is bound to the node with its key, and to others behind it
-  pub found_list : (c place word port node : ℕ) (before : Option ℕ) → IsFound env mix c M G place word port node before
-      → (behind : List ℕ) × (G.bound port ≡ node ∷ behind)
+  pub found_list : (c place word port node : ℕ) (before : Option ℕ)
+      → IsFound env mix c M G place word port node before → (behind : List ℕ) × (G.bound port ≡ node ∷ behind)
   found_list c place word port node before found =
       let j = word_index env mix place in
       let stands = found.standing.stands in
-      let there : In node (G.bucket j).nodes = subst (In node) (sym stands.split) (in-middle node stands.front stands.rear) in
+      let there : In node (G.bucket j).nodes =
+      subst (In node) (sym stands.split) (in-middle node stands.front stands.rear) in
       let first = whole.owned.first_at node j (whole.owned.member j node there) in
       (first.behind, ap G.bound (sym found.key_is) ∙ first.bound_to)

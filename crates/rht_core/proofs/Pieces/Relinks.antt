@@ -1,5 +1,5 @@
--- The stores of a relinking in a locked bucket: what the first one writes, which lock is left behind it, and how a machine's relinking
--- stands.
+-- The stores of a relinking in a locked bucket: what the first one writes, which lock is left behind it,
+-- and how a machine's relinking stands.
 use Rattle.std.proofs.Common.{◌≡◌, ◌≢◌, ℕ, ◌<◌, ◌≤◌, List, length, Option, Some, None, Bool, true, false, refl, sym, ap, ◌∙◌, subst}
 use Rattle.rht_words.specs.declared.env.Env.{Env}
 use Rattle.rht_words.specs.declared.geometry.Geometry.{Geometry}
@@ -29,7 +29,8 @@ relinking g place word before link false = relink_new g place word before link
 relinking g place word before link true = record (relink_new g place word before link) { at = Word word }
 
 -- at its beginning nothing is stored
-pub unstored : (place link : ℕ) (before : Option ℕ) → has_relinked before (relink_at place link before) ≡ false
+pub unstored : (place link : ℕ) (before : Option ℕ)
+    → has_relinked before (relink_at place link before) ≡ false
 unstored place link None = refl
 unstored place link (Some node) = refl
 
@@ -63,28 +64,34 @@ module _ (env : Env) (mix : ℕ → ℕ → ℕ → ℕ) (place word link : ℕ)
   abbrev j : ℕ
   j = word_index env mix place
 
-  module _ (words : List ℕ) (all : length words ≡ words_in env.geometry) (bucket : IsBucketPlace env.geometry place)
+  module _ (words : List ℕ) (all : length words ≡ words_in env.geometry)
+      (bucket : IsBucketPlace env.geometry place)
       (before_in : IsNodeOrNone env.geometry before) where
     -- the store is on the bucket's word, or on the link of the node before
-    pub relink_write : IsWrite env.geometry (mem env mix words) (mem env mix (applied words first_store)) (relink_address j before)
-        (relink_value (place_at env mix j) link before)
+    pub relink_write : IsWrite env.geometry (mem env mix words) (mem env mix (applied words first_store))
+        (relink_address j before) (relink_value (place_at env mix j) link before)
     relink_write = go before before_in
       where
         go : (b : Option ℕ) → IsNodeOrNone env.geometry b
             → let op = relink_plan (relink_new env.geometry place word b link) in
-            IsWrite env.geometry (mem env mix words) (mem env mix (applied words op)) (relink_address j b) (relink_value (place_at env mix j) link b)
+            IsWrite env.geometry (mem env mix words) (mem env mix (applied words op)) (relink_address j b)
+            (relink_value (place_at env mix j) link b)
         go None within =
             let is = place_at-index env mix place bucket in
             let op = relink_plan (relink_new env.geometry place word None link) in
-            subst (λ p. IsWrite env.geometry (mem env mix words) (mem env mix (applied words op)) (PageWord j) (plain_of p link)) (sym is)
+            let M' = mem env mix (applied words op) in
+            subst (λ p. IsWrite env.geometry (mem env mix words) M' (PageWord j) (plain_of p link)) (sym is)
             (is_write env.geometry words (PageWord j) op all (index-within env mix place bucket) (sym is))
-        go (Some node) within = is_write env.geometry words (Node node ChainLink) (relink_plan (relink_new env.geometry place word (Some node) link)) all within refl
+        go (Some node) within =
+            let op = relink_plan (relink_new env.geometry place word (Some node) link) in
+            is_write env.geometry words (Node node ChainLink) op all within refl
 
     -- behind the maps of nodes and pages
     pub relink_behind_maps : nodes_at env.geometry ≤ op_place first_store
     relink_behind_maps = go before
       where
-        go : (b : Option ℕ) → nodes_at env.geometry ≤ op_place (relink_plan (relink_new env.geometry place word b link))
+        go : (b : Option ℕ)
+            → nodes_at env.geometry ≤ op_place (relink_plan (relink_new env.geometry place word b link))
         go None = bucket_behind_maps env.geometry place bucket
         go (Some node) = node_behind_maps env.geometry node ChainLink
 
@@ -94,14 +101,16 @@ module _ (env : Env) (mix : ℕ → ℕ → ℕ → ℕ) (place word link : ℕ)
       → (n : ℕ) (w : NodeWord) → n < env.geometry.nodes → w ≢ ChainLink → M' (Node n w) ≡ M (Node n w)
   relink_leaves M M' write n w among other = go before write
     where
-      go : (b : Option ℕ) → IsWrite env.geometry M M' (relink_address j b) (relink_value (place_at env mix j) link b)
+      go : (b : Option ℕ)
+          → IsWrite env.geometry M M' (relink_address j b) (relink_value (place_at env mix j) link b)
           → M' (Node n w) ≡ M (Node n w)
       go None write = write.others (Node n w) among (λ e. cc)
       go (Some node) write = write.others (Node n w) among (λ e. other (cc))
 
   -- ---- what the caller has behind it
 
-  module _ (c : ℕ) (G : Ghost) (lock : HoldsLock env mix c G place word) (change : Change) (nodes : List ℕ) (there : change.place ≡ j)
+  module _ (c : ℕ) (G : Ghost) (lock : HoldsLock env mix c G place word) (change : Change) (nodes : List ℕ)
+      (there : change.place ≡ j)
       (relinks : change.bucket ≡ relinked (place_at env mix j) link (G.bucket j) nodes before) where
     abbrev G' : Ghost
     G' = changed G c change
@@ -110,7 +119,8 @@ module _ (env : Env) (mix : ℕ → ℕ → ℕ → ℕ) (place word link : ℕ)
     pub holder_left : change.bucket.holder ≡ Some c → lock_left place before ≡ Some place
     holder_left holds = go before (ap (λ b. b.holder) (sym relinks) ∙ holds)
       where
-        go : (b : Option ℕ) → (relinked (place_at env mix j) link (G.bucket j) nodes b).holder ≡ Some c → lock_left place b ≡ Some place
+        go : (b : Option ℕ) → (relinked (place_at env mix j) link (G.bucket j) nodes b).holder ≡ Some c
+            → lock_left place b ≡ Some place
         go None holds = absurd (cc)
         go (Some node) holds = refl
 

@@ -1,5 +1,5 @@
--- The way to a port, operation by operation, for any call: from the current table on to the bucket in which the port is found, or
--- to a future that leads nowhere, where the port is bound to nothing.
+-- The way to a port, operation by operation, for any call: from the current table on to the bucket in which
+-- the port is found, or to a future that leads nowhere, where the port is bound to nothing.
 use Rattle.std.proofs.Common.{◌≡◌, ℕ, List, [], length, Option, Some, None, false, refl, sym, ap, subst, inl}
 use Rattle.rht_words.specs.declared.env.Env.{Env}
 use Rattle.rht_words.specs.declared.machine.Next.{Next}
@@ -53,7 +53,8 @@ fits_seek port (at.Future table bucket) = Unit {0}
 fits_seek port (at.Leaving table unlock future) = Unit {0}
 
 module _ (port : ℕ) (own : Option KnownNode) where
-  -- what is known of the way to a bucket, and of the bucket that is locked; of the call's node the same throughout
+  -- what is known of the way to a bucket, and of the bucket that is locked; of the call's node the same
+  -- throughout
   abbrev pub knows_of : KnownTable → KnownBucket → Known
   knows_of table bucket = record { node = own; table = table; bucket = bucket }
 
@@ -61,12 +62,16 @@ module _ (port : ℕ) (own : Option KnownNode) where
   abbrev pub known_of_seek : SeekAt → Known
   known_of_seek at.CurrentTable = knows_of Nowhere Unlocked
   known_of_seek (at.Locating locate) = knows_of (known_locate port locate.table locate.at) Unlocked
-  known_of_seek (at.Probing table shape probe) = knows_of (AtHome port table (Some shape) (place_of_probe probe.at)) (known_probe port probe.at)
-  known_of_seek (at.Future table bucket) = knows_of (AtHome port table None bucket.place) (Missed bucket.place bucket.word port)
-  known_of_seek (at.Leaving table unlock future) = knows_of (known_future port future) (Locks unlock.place unlock.word)
+  known_of_seek (at.Probing table shape probe) =
+      knows_of (AtHome port table (Some shape) (place_of_probe probe.at)) (known_probe port probe.at)
+  known_of_seek (at.Future table bucket) =
+      knows_of (AtHome port table None bucket.place) (Missed bucket.place bucket.word port)
+  known_of_seek (at.Leaving table unlock future) =
+      knows_of (known_future port future) (Locks unlock.place unlock.word)
 
 module _ (hn : Option ℕ) (absent : Answer) where
-  -- what a call holds on the way beside its node: at most a lock, and the answer once it is known that the port is bound nowhere
+  -- what a call holds on the way beside its node: at most a lock, and the answer once it is known that the
+  -- port is bound nowhere
   abbrev pub holds_seeking : Option ℕ → Option Answer → Holding
   holds_seeking lock answer = record held.holds_nothing { node = hn; lock = lock; answer = answer }
 
@@ -79,9 +84,11 @@ module _ (hn : Option ℕ) (absent : Answer) where
   seek_holds (at, Done None) = holds_seeking None (Some absent)
   seek_holds (at, Done (Some found)) = holds_seeking (Some found.bucket.place) None
 
-module _ (env : Env) (mix : ℕ → ℕ → ℕ → ℕ) (c : ℕ) (call : Call) (port : ℕ) (hn : Option ℕ) (own : Option KnownNode) (absent : Answer) where
+module _ (env : Env) (mix : ℕ → ℕ → ℕ → ℕ) (c : ℕ) (call : Call) (port : ℕ) (hn : Option ℕ)
+    (own : Option KnownNode) (absent : Answer) where
   abbrev pub knowing : Option ℕ → Option Answer → KnownTable → KnownBucket → Memory → Ghost → Type 0
-  knowing lock answer table bucket M G = Knowing env mix c (holds_seeking hn absent lock answer) (knows_of port own table bucket) M G
+  knowing lock answer table bucket M G =
+      Knowing env mix c (holds_seeking hn absent lock answer) (knows_of port own table bucket) M G
 
   pub record SeekKnows (at : SeekAt) (M : Memory) (G : Ghost) : Type 0 where
     pub knowing : Knowing env mix c (held_of_seek hn absent at) (known_of_seek port own at) M G
@@ -91,10 +98,13 @@ module _ (env : Env) (mix : ℕ → ℕ → ℕ → ℕ) (c : ℕ) (call : Call)
   abbrev pub SeekNext : SeekAt × Next (Option FoundPort) → Memory → Ghost → Type 0
   SeekNext (at, Go) M G = SeekKnows at M G
   SeekNext (at, Done None) M G = knowing None (Some absent) Nowhere Unlocked M G
-  SeekNext (at, Done (Some found)) M G = knowing (Some found.bucket.place) None (home_of port found) (known_port port found) M G
+  SeekNext (at, Done (Some found)) M G =
+      knowing (Some found.bucket.place) None (home_of port found) (known_port port found) M G
 
-  module _ (words : List ℕ) (G : Ghost) (all : length words ≡ words_in env.geometry) (whole : Whole env mix (mem env mix words) G)
-      (legal : owners env mix (mem env mix words) G port ≡ [] → IsLegalOn env.config.kind c call (owners env mix (mem env mix words) G) absent)
+  module _ (words : List ℕ) (G : Ghost) (all : length words ≡ words_in env.geometry)
+      (whole : Whole env mix (mem env mix words) G)
+      (legal : let bound = owners env mix (mem env mix words) G in
+      bound port ≡ [] → IsLegalOn env.config.kind c call bound absent)
       (right : IsRight call hn absent) (takes_none : takes_out absent.reply ≡ false) where
     abbrev M : Memory
     M = mem env mix words
@@ -109,34 +119,45 @@ module _ (env : Env) (mix : ℕ → ℕ → ℕ → ℕ) (c : ℕ) (call : Call)
 
     -- what an operation leads to from a state
     abbrev pub SeekMoved : SeekAt → SeekAt × Next (Option FoundPort) → Type 0
-    SeekMoved at r = Step env mix c call words G (seek_plan_at env.geometry at) (held_of_seek hn absent at) (seek_holds hn absent r) (SeekNext r)
+    SeekMoved at r =
+        Step env mix c call words G (seek_plan_at env.geometry at) (held_of_seek hn absent at)
+        (seek_holds hn absent r) (SeekNext r)
 
     -- an operation of a piece after which the answer isn't known
-    moves_on : (op : Op) (lock after : Option ℕ) (Knows : Memory → Ghost → Type 0) (r : SeekAt × Next (Option FoundPort))
+    moves_on : (op : Op) (lock after : Option ℕ) (Knows : Memory → Ghost → Type 0)
+        (r : SeekAt × Next (Option FoundPort))
         → ((M' : Memory) (G' : Ghost) → Whole env mix M' G' → Knows M' G' → SeekNext r M' G')
         → Moved env mix c words G op (at_lock lock) (at_lock after) Knows
         → Step env mix c call words G op (at_lock lock) (at_lock after) (SeekNext r)
     moves_on op lock after Knows r more step =
-        answered env mix c call words G op (at_lock lock) (at_lock after) None (SeekNext r) (inl refl) (still_has refl)
+        answered env mix c call words G op (at_lock lock) (at_lock after) None (SeekNext r) (inl refl)
+        (still_has refl)
         (moved-map env mix c words G op (at_lock lock) (at_lock after) Knows (SeekNext r) more step)
 
     -- the way to the bucket
     found_place : (locate : LocateModel) (r : LocateModel × Next Located)
-        → Moved env mix c words G (locate_plan locate) (at_lock None) (at_lock None) (LocateKnows env mix c (at_lock None) own Unlocked port r)
+        → Moved env mix c words G (locate_plan locate) (at_lock None) (at_lock None)
+        (LocateKnows env mix c (at_lock None) own Unlocked port r)
         → SeekMoved (at.Locating locate) (located env.geometry port r.0 r.1)
     found_place locate (next, Go) step =
-        moves_on (locate_plan locate) None None (LocateKnows env mix c (at_lock None) own Unlocked port (next, Go)) (at.Locating next, Go)
+        moves_on (locate_plan locate) None None
+        (LocateKnows env mix c (at_lock None) own Unlocked port (next, Go)) (at.Locating next, Go)
         (λ M' G' w k. record { knowing = k; fits = tt }) step
     found_place locate (next, Done there) step =
         let is = step.knows in
         let probing = at.Probing next.table there.shape (probe_new env.geometry is.place port) in
-        rw is.there (answered env mix c call words G (locate_plan locate) (at_lock None) (at_lock None) None (SeekNext (probing, Go)) (inl refl) (still_has refl)
-        (with_knowledge env mix c words G (locate_plan locate) (at_lock None) (at_lock None) (LocateKnows env mix c (at_lock None) own Unlocked port (next, Done there)) (SeekNext (probing, Go)) step
+        rw is.there (answered env mix c call words G (locate_plan locate) (at_lock None) (at_lock None) None
+        (SeekNext (probing, Go)) (inl refl) (still_has refl)
+        (with_knowledge env mix c words G (locate_plan locate) (at_lock None) (at_lock None)
+        (LocateKnows env mix c (at_lock None) own Unlocked port (next, Done there))
+        (SeekNext (probing, Go)) step
         (record { knowing = record { only = is.knows.only; means = is.knows.means }; fits = (refl, tt) })))
 
     -- the end of a walk
-    seen_knows : (table shape : ℕ) (probe : ProbeModel) (end : Probed) (found : Option ℕ) (M' : Memory) (G' : Ghost)
-        → knowing (Some end.bucket.place) None (AtHome port table (Some shape) end.bucket.place) (known_found end.bucket.place end.bucket.word port end.seen.before found) M' G'
+    seen_knows : (table shape : ℕ) (probe : ProbeModel) (end : Probed) (found : Option ℕ) (M' : Memory)
+        (G' : Ghost)
+        → knowing (Some end.bucket.place) None (AtHome port table (Some shape) end.bucket.place)
+        (known_found end.bucket.place end.bucket.word port end.seen.before found) M' G'
         → SeekNext (found_or_future table shape probe end found) M' G'
     seen_knows table shape probe end None M' G' k =
         let table = k.means.table in
@@ -145,7 +166,12 @@ module _ (env : Env) (mix : ℕ → ℕ → ℕ → ℕ) (c : ℕ) (call : Call)
             only = k.only;
             means = record {
               node = k.means.node;
-              table = record { passing = table.passing; shape_is = tt; bucket = table.bucket; here = table.here };
+              table = record {
+                passing = table.passing;
+                shape_is = tt;
+                bucket = table.bucket;
+                here = table.here;
+              };
               bucket = k.means.bucket;
             };
           };
@@ -159,42 +185,59 @@ module _ (env : Env) (mix : ℕ → ℕ → ℕ → ℕ) (c : ℕ) (call : Call)
     seen_holds table shape probe end (Some node) = refl
 
     walked : (table shape : ℕ) (probe : ProbeModel) (r : ProbeModel × Next Probed) → r.0.key ≡ port
-        → Moved env mix c words G (probe_plan probe) (at_lock (lock_of_probe probe.at)) (at_lock (probed_by (r.0.at, r.1)))
+        → Moved env mix c words G (probe_plan probe) (at_lock (lock_of_probe probe.at))
+        (at_lock (probed_by (r.0.at, r.1)))
         (ProbeKnows env mix c (at_lock None) own port table (Some shape) words G all whole (r.0.at, r.1))
         → SeekMoved (at.Probing table shape probe) (probed table shape r.0 r.1)
     walked table shape probe (next, Go) key step =
         moves_on (probe_plan probe) (lock_of_probe probe.at) (lock_of_probe next.at)
-        (ProbeKnows env mix c (at_lock None) own port table (Some shape) words G all whole (next.at, Go)) (at.Probing table shape next, Go)
+        (ProbeKnows env mix c (at_lock None) own port table (Some shape) words G all whole (next.at, Go))
+        (at.Probing table shape next, Go)
         (λ M' G' w k. record { knowing = k.0; fits = (key, k.1) }) step
     walked table shape probe (next, Done end) key step =
         let found = end.seen.found in
         rw (seen_holds table shape next end found)
         (moves_on (probe_plan probe) (lock_of_probe probe.at) (Some end.bucket.place)
-        (ProbeKnows env mix c (at_lock None) own port table (Some shape) words G all whole (next.at, Done end)) (found_or_future table shape next end found)
+        (ProbeKnows env mix c (at_lock None) own port table (Some shape) words G all whole (next.at, Done end))
+        (found_or_future table shape next end found)
         (λ M' G' w k. seen_knows table shape next end found M' G' k) step)
 
     -- the future of a table in which the port was looked for in vain
     future_next : (table : ℕ) (bucket : Locked) (future : Option ℕ)
-        → FutureIs env mix c (at_lock (Some bucket.place)) own (Missed bucket.place bucket.word port) words G whole port future
-        → SeekKnows (at.Future table bucket) M G → SeekMoved (at.Future table bucket) (leaving table bucket future, Go)
+        → FutureIs env mix c (at_lock (Some bucket.place)) own (Missed bucket.place bucket.word port) words G
+        whole port future
+        → SeekKnows (at.Future table bucket) M G
+        → SeekMoved (at.Future table bucket) (leaving table bucket future, Go)
     future_next table bucket None unbound known =
         let next = leaving table bucket None in
-        reads env mix c call words G (seek_plan_at env.geometry (at.Future table bucket)) (at_lock (Some bucket.place)) (held_of_seek hn absent next) (SeekNext (next, Go)) whole refl refl
-        (learns env.config.kind c call hn now absent right takes_none (legal (ap (owners_in env mix M) unbound)))
+        reads env mix c call words G (seek_plan_at env.geometry (at.Future table bucket))
+        (at_lock (Some bucket.place)) (held_of_seek hn absent next) (SeekNext (next, Go)) whole refl refl
+        (learns env.config.kind c call hn now absent right takes_none
+        (legal (ap (owners_in env mix M) unbound)))
         (record {
           knowing = record {
             only = known.knowing.only;
-            means = record { node = known.knowing.means.node; table = tt; bucket = known.knowing.means.bucket.lock };
+            means = record {
+              node = known.knowing.means.node;
+              table = tt;
+              bucket = known.knowing.means.bucket.lock;
+            };
           };
           fits = tt;
         })
     future_next table bucket (Some slot) passing known =
         let next = leaving table bucket (Some slot) in
-        reads env mix c call words G (seek_plan_at env.geometry (at.Future table bucket)) (at_lock (Some bucket.place)) (held_of_seek hn absent next) (SeekNext (next, Go)) whole refl refl (inl refl)
+        reads env mix c call words G (seek_plan_at env.geometry (at.Future table bucket))
+        (at_lock (Some bucket.place)) (held_of_seek hn absent next) (SeekNext (next, Go)) whole refl refl
+        (inl refl)
         (record {
           knowing = record {
             only = known.knowing.only;
-            means = record { node = known.knowing.means.node; table = passing; bucket = known.knowing.means.bucket.lock };
+            means = record {
+              node = known.knowing.means.node;
+              table = passing;
+              bucket = known.knowing.means.bucket.lock;
+            };
           };
           fits = tt;
         })
@@ -203,7 +246,8 @@ module _ (env : Env) (mix : ℕ → ℕ → ℕ → ℕ) (c : ℕ) (call : Call)
         → SeekMoved at (seek_after_at mix env.geometry port at (old_of words (seek_plan_at env.geometry at)))
     seek_step_at at.CurrentTable is known =
         let next = locating env.geometry (table_of (M CurrentTable)) in
-        reads env mix c call words G (seek_plan_at env.geometry at.CurrentTable) (at_lock None) (at_lock None) (SeekNext (next, Go)) whole refl refl (inl refl)
+        reads env mix c call words G (seek_plan_at env.geometry at.CurrentTable) (at_lock None) (at_lock None)
+        (SeekNext (next, Go)) whole refl refl (inl refl)
         (record {
           knowing = record {
             only = known.knowing.only;
@@ -220,27 +264,34 @@ module _ (env : Env) (mix : ℕ → ℕ → ℕ → ℕ) (c : ℕ) (call : Call)
         (locate_step env mix c (at_lock None) own Unlocked words G whole port locate is known.knowing)
     seek_step_at (at.Probing table shape probe) is known =
         walked table shape probe (probe_after probe (old_of words (probe_plan probe))) known.fits.0
-        (probe_step env mix c (at_lock None) own port table (Some shape) words G all whole probe is.probe_in known.fits.0 known.fits.1 known.knowing)
+        (probe_step env mix c (at_lock None) own port table (Some shape) words G all whole probe
+        is.probe_in known.fits.0 known.fits.1 known.knowing)
     seek_step_at (at.Future table bucket) is known =
         future_next table bucket (slot_of (M (Slot table FutureWord)))
-        (future_is env mix c (at_lock (Some bucket.place)) own (Missed bucket.place bucket.word port) words G whole port table bucket.place None
+        (future_is env mix c (at_lock (Some bucket.place)) own (Missed bucket.place bucket.word port) words G
+        whole port table bucket.place None
         known.knowing known.knowing.means.bucket.none) known
     seek_step_at (at.Leaving table unlock (Some next)) is known =
         let op = seek_plan_at env.geometry (at.Leaving table unlock (Some next)) in
-        moves_on op (Some unlock.place) None _ (locating env.geometry next, Go) (λ M' G' w k. record { knowing = k; fits = tt })
-        (unlock_step env mix c (at_lock None) own (Passes port next) words G all whole unlock.place unlock.word known.knowing)
+        moves_on op (Some unlock.place) None _ (locating env.geometry next, Go)
+        (λ M' G' w k. record { knowing = k; fits = tt })
+        (unlock_step env mix c (at_lock None) own (Passes port next) words G all whole unlock.place
+        unlock.word known.knowing)
     seek_step_at (at.Leaving table unlock None) is known =
         let op = seek_plan_at env.geometry (at.Leaving table unlock None) in
         let told = holds_seeking hn absent None (Some absent) in
-        answered env mix c call words G op (record told { lock = Some unlock.place }) told (Some absent) (SeekNext (at.Leaving table unlock None, Done None)) (inl (keeps (Some absent))) (still_has refl)
+        answered env mix c call words G op (record told { lock = Some unlock.place }) told (Some absent)
+        (SeekNext (at.Leaving table unlock None, Done None)) (inl (keeps (Some absent))) (still_has refl)
         (unlock_step env mix c told own Nowhere words G all whole unlock.place unlock.word known.knowing)
 
     -- each operation leads from what is known to what is known next
     abbrev pub SeekStep : SeekModel → Type 0
     SeekStep m =
         let r = seek_after mix port m (old_of words (seek_plan m)) in
-        Step env mix c call words G (seek_plan m) (held_of_seek hn absent m.at) (seek_holds hn absent (r.0.at, r.1)) (SeekNext (r.0.at, r.1))
+        Step env mix c call words G (seek_plan m) (held_of_seek hn absent m.at)
+        (seek_holds hn absent (r.0.at, r.1)) (SeekNext (r.0.at, r.1))
 
     pub seek_step : (m : SeekModel) → IsSeekIn env.geometry m → SeekKnows m.at M G → SeekStep m
     seek_step m is known =
-        subst (λ g. SeekStep (record { geometry = g; at = m.at })) (sym is.geometry_same) (seek_step_at m.at is.at_in known)
+        subst (λ g. SeekStep (record { geometry = g; at = m.at })) (sym is.geometry_same)
+        (seek_step_at m.at is.at_in known)
