@@ -67,6 +67,13 @@ abbrev pub known_removed : Option ℕ → Known
 known_removed None = known_nothing
 known_removed (Some node) = here (TakenOut node)
 
+-- whoever knows so knows what a caller knows in no call
+pub nothing_known : (env : Env) (mix : ℕ → ℕ → ℕ → ℕ) (c : ℕ) (h : Holding) (removed : Option ℕ) (M : Memory)
+    (G : Ghost) → Knowing env mix c h (known_removed removed) M G → Knowing env mix c h known_nothing M G
+nothing_known env mix c h None M G k = k
+nothing_known env mix c h (Some node) M G k =
+    record { only = k.only; means = record { node = tt; table = tt; bucket = tt } }
+
 -- the port was found, and its first node has another one before it in the chain, or none
 abbrev behind_node : FoundPort → Option ℕ → FoundPort
 behind_node found before = record found { before = before }
