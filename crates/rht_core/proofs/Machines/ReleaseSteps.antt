@@ -1,11 +1,11 @@
 -- What a release knows in each state, and that each of its operations leads from what it knows to what it
 -- knows next.
-use Rattle.std.proofs.Common.{◌≡◌, ◌≢◌, ◌⊎◌, ℕ, ◌+◌, ◌-◌, ◌/◌, ◌%◌, ◌^◌, ◌<◌, List, [], ◌∷◌, ◌++◌, length, Option, Some, None, Bool, true, false, cond, ◌==◌, refl, sym, ◌∙◌, ap, subst, inl, inr, arith}
+use Rattle.std.proofs.Common.{◌≡◌, ◌≢◌, ℕ, ◌+◌, ◌-◌, ◌/◌, ◌%◌, ◌^◌, ◌<◌, List, [], ◌∷◌, ◌++◌, length, Option, Some, None, Bool, true, false, cond, ◌==◌, refl, sym, ◌∙◌, ap, subst, inl, inr, arith}
 use Rattle.std.proofs.Math.Seq.{append_snoc}
 use Rattle.std.proofs.lemmas.Bool.{cases_eq, eqb-true, eqb-false}
 use Rattle.rht_words.specs.declared.env.Env.{Env}
 use Rattle.rht_words.specs.declared.op.Op.{Op}
-use Rattle.rht_words.specs.declared.op.Op.TheVariants.{Store, Sub}
+use Rattle.rht_words.specs.declared.op.Op.TheVariants.{Store}
 use Rattle.rht_words.specs.declared.machine.Next.{Next}
 use Rattle.rht_words.specs.declared.machine.Next.TheVariants.{Go, Done}
 use Rattle.rht_words.specs.Held as held
@@ -26,10 +26,10 @@ use Rattle.rht_model.specs.declared.history.Call.TheVariants as calls
 use Rattle.rht_model.specs.declared.history.Reply.{Reply}
 use Rattle.rht_model.specs.declared.history.Reply.TheVariants.{Released, Absent}
 use Rattle.rht_model.specs.Multimap.{Multimap}
-use Rattle.rht_model.specs.Answers.{Answer, plain, release_reply, owners_released, bindings_after}
+use Rattle.rht_model.specs.Answers.{plain, owners_released, bindings_after}
 use Rattle.rht_model.proofs.CallEffects.{with_owners-same, with_owners-other}
 use Rattle.rht_model.proofs.ReleasedOwners.{release_reply-none, owners_released-none}
-use Rattle.rht_release.specs.Release.{plan_at, after_at, sought, removed_reply, owner_compared, list_followed, unlocking, promoting, kicks, IsReleaseAtIn}
+use Rattle.rht_release.specs.Release.{plan_at, after_at, sought, owner_compared, list_followed, unlocking, promoting, kicks, IsReleaseAtIn}
 use Rattle.rht_release.specs.ReleaseHeld.{held_of_release, holds_bucket, holds_relinking}
 use Rattle.rht_release.specs.FoundPort.{relink_of, has_relinked}
 use Rattle.rht_release.specs.Seek.{SeekModel, seek_plan, seek_after}
@@ -48,9 +48,10 @@ use Rattle.rht_core.proofs.Pieces.Locks.{unlock_step, unlock_taken}
 use Rattle.rht_core.proofs.Pieces.Lists.{segment_link, list_link-names, list_among, list_rest, found_list}
 use Rattle.rht_core.proofs.Pieces.Rebounds.{found_kept}
 use Rattle.rht_core.proofs.Pieces.Relinks.{relinking, unstored, relinking_so}
+use Rattle.rht_core.proofs.Pieces.Seeks.{in_list}
 use Rattle.rht_core.proofs.Pieces.Seeks as seeks
 use Rattle.rht_core.proofs.Machines.FindSteps.{known_nothing}
-use Rattle.rht_core.proofs.Machines.ReleaseStores.{here, in_list, locks_taken, known_left, holds_left}
+use Rattle.rht_core.proofs.Machines.ReleaseStores.{here, locks_taken, known_left, holds_left}
 use Rattle.rht_core.proofs.Machines.ReleaseStores as stores
 
 -- the node to which a link leads
@@ -65,6 +66,13 @@ known_unlocking unlock (Some node) = LocksTakenOut unlock.place unlock.word node
 abbrev pub known_removed : Option ℕ → Known
 known_removed None = known_nothing
 known_removed (Some node) = here (TakenOut node)
+
+-- whoever knows so knows what a caller knows in no call
+pub nothing_known : (env : Env) (mix : ℕ → ℕ → ℕ → ℕ) (c : ℕ) (h : Holding) (removed : Option ℕ) (M : Memory)
+    (G : Ghost) → Knowing env mix c h (known_removed removed) M G → Knowing env mix c h known_nothing M G
+nothing_known env mix c h None M G k = k
+nothing_known env mix c h (Some node) M G k =
+    record { only = k.only; means = record { node = tt; table = tt; bucket = tt } }
 
 -- the port was found, and its first node has another one before it in the chain, or none
 abbrev behind_node : FoundPort → Option ℕ → FoundPort

@@ -9,7 +9,7 @@ use Rattle.rht_words.specs.declared.op.Op.{Op}
 use Rattle.rht_words.specs.declared.op.Op.TheVariants.{Store}
 use Rattle.rht_words.specs.Links.{link_of}
 use Rattle.rht_words.specs.Ports.{owner_of}
-use Rattle.rht_words.specs.Operations.{op_place, old_of, applied}
+use Rattle.rht_words.specs.Operations.{op_place, applied}
 use Rattle.rht_words.specs.Places.{Node, OwnerWord, ListLink, IsBucketPlace, nodes_at, place_of, words_in}
 use Rattle.rht_words.specs.Members.{In, NotIn}
 use Rattle.rht_words.proofs.Memory.{Memory, IsWrite, is_write}
@@ -19,34 +19,31 @@ use Rattle.rht_chain.specs.Relink.{relink_plan}
 use Rattle.rht_model.specs.declared.history.Call.{Call}
 use Rattle.rht_model.specs.declared.history.Call.TheVariants as calls
 use Rattle.rht_model.specs.declared.history.Reply.TheVariants.{Released}
-use Rattle.rht_model.specs.Multimap.{Multimap, Agree}
-use Rattle.rht_model.specs.Answers.{Answer, plain, release_reply, owners_released, bindings_after}
+use Rattle.rht_model.specs.Multimap.{Multimap}
+use Rattle.rht_model.specs.Answers.{plain, release_reply, owners_released, bindings_after}
 use Rattle.rht_model.proofs.CallEffects.{with_owners-same, with_owners-other}
 use Rattle.rht_model.proofs.ReleasedOwners.{release_reply-there, owners_released-there, without_differs}
 use Rattle.rht_release.specs.ReleaseHeld.{holds_bucket, holds_removed}
 use Rattle.rht_release.specs.FoundPort.{relink_of}
 use Rattle.rht_release.specs.declared.found_port.FoundPort.{FoundPort}
-use Rattle.rht_core.proofs.Theory.Ghosts.{put, put-same, put-other, Bucket, Owner, Held, First, Behind, Taken, Ghost, is_taken_by, taken_by_one}
+use Rattle.rht_core.proofs.Theory.Ghosts.{put-same, put-other, Bucket, Owner, Held, First, Taken, Ghost, is_taken_by, taken_by_one}
 use Rattle.rht_core.proofs.Theory.Wholes.{list_of, place_at, word_index, place_at-index, Whole, outs as count_outs}
-use Rattle.rht_core.proofs.Theory.Knowledge.{HasOnly, HoldsLock, HasTakenOut, Nowhere, KnownBucket, TakenOut, LocksTakenOut, InList, KnownList, CutsOut, LeadsTo, Promotes, Known, Knowing, NoOwner, IsFound, BucketMeans, last_of, first_of_list}
+use Rattle.rht_core.proofs.Theory.Knowledge.{HasOnly, HoldsLock, HasTakenOut, Nowhere, KnownBucket, TakenOut, LocksTakenOut, KnownList, CutsOut, LeadsTo, Promotes, Known, Knowing, NoOwner, IsFound, BucketMeans, last_of, first_of_list}
 use Rattle.rht_core.proofs.Theory.Frames.{Made}
 use Rattle.rht_core.proofs.Theory.Readiness.{Change, changed}
 use Rattle.rht_core.proofs.Theory.Answering.{IsRight, ChangesBindings}
-use Rattle.rht_core.proofs.Theory.Steps.{Rebinds, Holding, mem, owners, owners_in, owners-stay, ghost_after, Step, still_has}
+use Rattle.rht_core.proofs.Theory.Steps.{Rebinds, Holding, mem, owners, owners_in, owners-stay, Step, still_has}
 use Rattle.rht_core.proofs.Moves.Relinking.{relink_address, relink_value, relinked, last_in}
 use Rattle.rht_core.proofs.Moves.Removing.{IsFoundIn, CanReplace, unlink, replace}
 use Rattle.rht_core.proofs.Moves.ListCuts.{cut_list}
 use Rattle.rht_core.proofs.Pieces.Lists.{segment_link, list_among, list_rest}
 use Rattle.rht_core.proofs.Pieces.Rebounds.{IsTakenWith, taken_then, taken_more, only_rebound, owners_kept, node_behind_maps}
+use Rattle.rht_core.proofs.Pieces.Seeks.{in_list}
 use Rattle.rht_core.proofs.Pieces.Relinks.{lock_left, relink_write, relink_behind_maps, holder_left, lock_kept}
 
 -- what is known of the bucket alone
 abbrev pub here : KnownBucket → Known
 here bucket = record { node = None; table = Nowhere; bucket = bucket }
-
--- what is known of the list of the port that was found
-abbrev pub in_list : ℕ → FoundPort → KnownList → KnownBucket
-in_list port found known = InList found.bucket.place found.bucket.word port found.node found.before known
 
 -- the bucket is locked, and this node taken out
 abbrev pub locks_taken : FoundPort → ℕ → KnownBucket

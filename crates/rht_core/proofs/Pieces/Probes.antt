@@ -33,7 +33,7 @@ use Rattle.rht_chain.specs.declared.probe.Probed.{Probed}
 use Rattle.rht_core.proofs.Theory.Ghosts.{put-same, put-all, Ghost}
 use Rattle.rht_core.proofs.Theory.Wholes.{chain_of, key_of, place_at, word_index, place_at-index, index-within, Whole}
 use Rattle.rht_core.proofs.Theory.Passed.{NoKey}
-use Rattle.rht_core.proofs.Theory.Knowledge.{KnownNode, AtHome, KnownBucket, Unlocked, Locks, Stands, Differs, Missed, Found, StandsAt, last_of, HoldsLock, BucketMeans, Knowing}
+use Rattle.rht_core.proofs.Theory.Knowledge.{KnownNode, AtHome, KnownBucket, Unlocked, Locks, Stands, Differs, Missed, Found, StandsAt, HoldsLock, BucketMeans, Knowing}
 use Rattle.rht_core.proofs.Theory.Steps.{TakesLock, by_test, Holding, mem, Moved, moved, moved-map, loads}
 use Rattle.rht_core.proofs.Moves.Quiet.{take_lock}
 use Rattle.rht_core.proofs.Moves.Relinking.{last_of-more}

@@ -10,7 +10,7 @@ use Rattle.rht_words.proofs.Members.{in-middle, In-append_left, count_below, cou
 use Rattle.rht_words.proofs.Memory.{Memory}
 use Rattle.rht_words.proofs.PlacesApart.{parts_in_order}
 use Rattle.rht_core.proofs.Theory.Ghosts.{put, put-same, put-other, put-all, Owner, Held, Taken, Ghost, is_used, is_taken_by}
-use Rattle.rht_core.proofs.Theory.Wholes.{key_of, place_at, word_index, place_at-index, Whole}
+use Rattle.rht_core.proofs.Theory.Wholes.{key_of, place_at, word_index, Whole}
 use Rattle.rht_core.proofs.Theory.Knowledge.{HasOnly, IsFound, bound_used}
 use Rattle.rht_core.proofs.Theory.Passed.{NoKey-same}
 use Rattle.rht_core.proofs.Theory.Frames.{Made}

@@ -25,7 +25,7 @@ use Rattle.rht_release.specs.declared.seek.SeekAt.TheVariants as at
 use Rattle.rht_core.specs.Counts.{takes_out}
 use Rattle.rht_core.proofs.Theory.Ghosts.{Ghost}
 use Rattle.rht_core.proofs.Theory.Wholes.{Whole}
-use Rattle.rht_core.proofs.Theory.Knowledge.{KnownNode, KnownTable, Nowhere, Passes, AtHome, KnownBucket, Unlocked, Locks, Missed, Found, Known, Knowing}
+use Rattle.rht_core.proofs.Theory.Knowledge.{KnownNode, KnownTable, Nowhere, Passes, AtHome, KnownBucket, Unlocked, Locks, Missed, Found, InList, KnownList, Known, Knowing}
 use Rattle.rht_core.proofs.Theory.Answering.{IsLegalOn, IsRight, keeps, learns}
 use Rattle.rht_core.proofs.Theory.Steps.{Holding, mem, owners, owners_in, Moved, moved-map, with_knowledge, Step, answered, reads, still_has}
 use Rattle.rht_core.proofs.Pieces.Locates.{known_locate, first_passed, locate_step, LocateKnows, FutureIs, future_is}
@@ -40,6 +40,10 @@ known_future port (Some next) = Passes port next
 -- what is known where the port was found
 abbrev pub known_port : ℕ → FoundPort → KnownBucket
 known_port port found = Found found.bucket.place found.bucket.word port found.node found.before
+
+-- and of its list
+abbrev pub in_list : ℕ → FoundPort → KnownList → KnownBucket
+in_list port found known = InList found.bucket.place found.bucket.word port found.node found.before known
 
 abbrev pub home_of : ℕ → FoundPort → KnownTable
 home_of port found = AtHome port found.table (Some found.shape) found.bucket.place
