@@ -27,7 +27,8 @@ use Rattle.rht_model.specs.declared.history.Reply.TheVariants.{Rebound, Absent, 
 use Rattle.rht_model.specs.Multimap.{Multimap, Agree}
 use Rattle.rht_model.specs.Answers.{Answer, plain, rebind_reply, owners_rebound, bindings_after}
 use Rattle.rht_model.proofs.CallEffects.{with_owners-same, with_owners-other}
-use Rattle.rht_release.specs.FoundPort.{has_relinked, relink_of}
+use Rattle.rht_chain.specs.Relink.{has_relinked}
+use Rattle.rht_release.specs.FoundPort.{relink_of}
 use Rattle.rht_release.specs.Rebind.{plan_at, after_at, filled, giving, sought, owner_compared, replacing, IsRebindAtIn}
 use Rattle.rht_release.specs.RebindHeld.{held_of_rebind, holds_found, holds_replacing}
 use Rattle.rht_release.specs.Seek.{SeekModel, seek_new, seek_plan, seek_after}

@@ -31,7 +31,8 @@ use Rattle.rht_model.proofs.CallEffects.{with_owners-same, with_owners-other}
 use Rattle.rht_model.proofs.ReleasedOwners.{release_reply-none, owners_released-none}
 use Rattle.rht_release.specs.Release.{plan_at, after_at, sought, owner_compared, list_followed, unlocking, promoting, kicks, IsReleaseAtIn}
 use Rattle.rht_release.specs.ReleaseHeld.{held_of_release, holds_bucket, holds_relinking}
-use Rattle.rht_release.specs.FoundPort.{relink_of, has_relinked}
+use Rattle.rht_chain.specs.Relink.{has_relinked}
+use Rattle.rht_release.specs.FoundPort.{relink_of}
 use Rattle.rht_release.specs.Seek.{SeekModel, seek_plan, seek_after}
 use Rattle.rht_release.specs.declared.found_port.FoundPort.{FoundPort}
 use Rattle.rht_release.specs.declared.release.ReleaseAt.{ReleaseAt}

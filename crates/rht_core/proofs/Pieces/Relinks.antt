@@ -12,7 +12,7 @@ use Rattle.rht_chain.specs.LockedWalk.{IsNodeOrNone}
 use Rattle.rht_chain.specs.Relink.{RelinkModel, relink_new, relink_plan, relink_at}
 use Rattle.rht_chain.specs.declared.relink.RelinkAt.{RelinkAt}
 use Rattle.rht_chain.specs.declared.relink.RelinkAt.TheVariants.{ChainLink as AtLink, Word}
-use Rattle.rht_release.specs.FoundPort.{has_relinked}
+use Rattle.rht_chain.specs.Relink.{has_relinked}
 use Rattle.rht_core.proofs.Theory.Ghosts.{put, put-same, Ghost}
 use Rattle.rht_core.proofs.Theory.Wholes.{place_at, word_index, place_at-index, index-within}
 use Rattle.rht_core.proofs.Theory.Knowledge.{HoldsLock}
