@@ -50,6 +50,57 @@ FindCause Idle = ⊥
 FindCause (Clear returned) = ⊥
 FindCause (Counted count) = ⊥
 
+-- why a release ended with this reply: it has nothing to show for its answers
+abbrev pub ReleaseCause : Reply → Type 0
+ReleaseCause (Released kick) = Unit {0}
+ReleaseCause Absent = Unit {0}
+ReleaseCause (Found owner) = ⊥
+ReleaseCause Missing = ⊥
+ReleaseCause (Bound kick) = ⊥
+ReleaseCause (Exists owner) = ⊥
+ReleaseCause (Listed len) = ⊥
+ReleaseCause Rebound = ⊥
+ReleaseCause (TooBig count) = ⊥
+ReleaseCause (Again table) = ⊥
+ReleaseCause (Busy root last) = ⊥
+ReleaseCause (NoTable size) = ⊥
+ReleaseCause NoNode = ⊥
+ReleaseCause (Pending caller section) = ⊥
+ReleaseCause Elsewhere = ⊥
+ReleaseCause (Walked len next) = ⊥
+ReleaseCause (Moved again) = ⊥
+ReleaseCause Idle = ⊥
+ReleaseCause (Clear returned) = ⊥
+ReleaseCause (Counted count) = ⊥
+
+-- the call found the bit of every node clear
+abbrev pub SawNoNode : Env → Past → Type 0
+SawNoNode env past =
+    (node : ℕ) → node < env.geometry.nodes → Any (SeesTaken env.geometry node) (map performed_of past.steps)
+
+-- why a rebind ended with this reply: for want of a node, as a bind; its other answers have nothing to show
+abbrev pub RebindCause : Env → Past → Reply → Type 0
+RebindCause env past Rebound = Unit {0}
+RebindCause env past Absent = Unit {0}
+RebindCause env past NoNode = SawNoNode env past
+RebindCause env past (Found owner) = ⊥
+RebindCause env past Missing = ⊥
+RebindCause env past (Bound kick) = ⊥
+RebindCause env past (Exists owner) = ⊥
+RebindCause env past (Listed len) = ⊥
+RebindCause env past (Released kick) = ⊥
+RebindCause env past (TooBig count) = ⊥
+RebindCause env past (Again table) = ⊥
+RebindCause env past (Busy root last) = ⊥
+RebindCause env past (NoTable size) = ⊥
+RebindCause env past (Pending caller section) = ⊥
+RebindCause env past Elsewhere = ⊥
+RebindCause env past (Walked len next) = ⊥
+RebindCause env past (Moved again) = ⊥
+RebindCause env past Idle = ⊥
+RebindCause env past (Clear returned) = ⊥
+RebindCause env past (Counted count) = ⊥
+
 -- the operation doesn't load the shape of a table
 abbrev pub IsNoShapeLoad : Geometry → Did → Type 0
 IsNoShapeLoad g did = (table : ℕ) → table < 8 → did.op ≢ Load (place_of g (Slot table ShapeWord))
@@ -132,8 +183,7 @@ module _ (M : Type 0) (mix : ℕ → ℕ → ℕ → ℕ) where
   abbrev pub BindCause : Env → List Event → ℕ → Past → Reply → Type 0
   BindCause env events c past (Bound kick) = KicksRightly env kick past.steps
   BindCause env events c past (Exists owner) = Unit {0}
-  BindCause env events c past NoNode =
-      (node : ℕ) → node < env.geometry.nodes → Any (SeesTaken env.geometry node) (map performed_of past.steps)
+  BindCause env events c past NoNode = SawNoNode env past
   BindCause env events c past (TooBig count) = Any (SawFull env events c count) past.steps
   BindCause env events c past (Again table) = ⊥
   BindCause env events c past (Busy root last) = ⊥
@@ -157,8 +207,8 @@ module _ (M : Type 0) (mix : ℕ → ℕ → ℕ → ℕ) where
   CauseOf env events c past (Bind port owner once) reply = BindCause env events c past reply
   CauseOf env events c past (Find port) reply = FindCause reply
   CauseOf env events c past (All port) reply = ⊥
-  CauseOf env events c past (Release port owner) reply = ⊥
-  CauseOf env events c past (Rebind port owner new) reply = ⊥
+  CauseOf env events c past (Release port owner) reply = ReleaseCause reply
+  CauseOf env events c past (Rebind port owner new) reply = RebindCause env past reply
   CauseOf env events c past (Walk from limit) reply = ⊥
   CauseOf env events c past Work reply = ⊥
   CauseOf env events c past Tidy reply = ⊥

@@ -20,30 +20,48 @@ use Rattle.rht_find.specs.declared.find.FindAt.TheVariants.{CurrentTable}
 use Rattle.rht_bind.specs.Bind as bind
 use Rattle.rht_bind.specs.declared.bind.BindAt.{BindAt}
 use Rattle.rht_model.specs.declared.history.Reply.TheVariants.{Counted}
+use Rattle.rht_words.specs.declared.config.Kind.{Kind}
+use Rattle.rht_words.specs.declared.config.Kind.TheVariants.{Single, Listed}
+use Rattle.rht_release.specs.Seek.{seek_new}
+use Rattle.rht_release.specs.Release as release
+use Rattle.rht_release.specs.ReleaseHeld.{held_of_release}
+use Rattle.rht_release.specs.declared.release.ReleaseAt.{ReleaseAt}
+use Rattle.rht_release.specs.declared.release.ReleaseAt.TheVariants.{Seeking}
+use Rattle.rht_release.specs.Rebind as rebind
+use Rattle.rht_release.specs.RebindHeld.{held_of_rebind}
+use Rattle.rht_release.specs.declared.rebind.RebindAt.{RebindAt}
 use Rattle.rht_core.specs.PortCounts.{count_plan_in}
 use Rattle.rht_core.specs.declared.local.Doing.{Doing}
-use Rattle.rht_core.specs.declared.local.Doing.TheVariants.{Idle, Finding, Binding, Counting}
+use Rattle.rht_core.specs.declared.local.Doing.TheVariants.{Idle, Finding, Binding, Releasing, Rebinding, Counting}
 
--- a look-up of a port, and a bind of a port to an owner, with the state in which it is; and a reading of how many ports are
--- bound
+-- a look-up of a port, a bind of a port to an owner, a release and a rebind, with the state in which it is; and a reading of
+-- how many ports are bound
 pub data Job : Type 0 where
   finds : (port : ℕ) (state : FindAt) → Job
   binds : (port owner : ℕ) (once : Bool) (state : BindAt) → Job
+  releases : (port owner : ℕ) (state : ReleaseAt) → Job
+  rebinds : (port owner new : ℕ) (state : RebindAt) → Job
   counts : Job
 
 -- the call that it does
 abbrev pub call_of : Job → Call
 call_of (finds port state) = Find port
 call_of (binds port owner once state) = Bind port owner once
+call_of (releases port owner state) = Release port owner
+call_of (rebinds port owner new state) = Rebind port owner new
 call_of counts = Count
 
 -- the job with which a call begins; none for a call of which there is no machine yet
+abbrev pub first_rebind : Env → ℕ → ℕ → ℕ → Kind → Option Job
+first_rebind env port owner new Single = Some (rebinds port owner new (rebind.first_state env port new))
+first_rebind env port owner new Listed = None
+
 abbrev pub first_job : Env → Call → Option Job
 first_job env (Find port) = Some (finds port CurrentTable)
 first_job env (Bind port owner once) = Some (binds port owner once (bind.first_state env port owner))
 first_job env (All port) = None
-first_job env (Release port owner) = None
-first_job env (Rebind port owner new) = None
+first_job env (Release port owner) = Some (releases port owner (Seeking (seek_new env.geometry)))
+first_job env (Rebind port owner new) = first_rebind env port owner new env.config.kind
 first_job env (Walk from limit) = None
 first_job env Work = None
 first_job env Tidy = None
@@ -53,6 +71,8 @@ first_job env Count = Some counts
 abbrev pub job_plan : Env → Job → Op
 job_plan env (finds port state) = find.plan_at env state
 job_plan env (binds port owner once state) = bind.plan_at env state
+job_plan env (releases port owner state) = release.plan_at env state
+job_plan env (rebinds port owner new state) = rebind.plan_at env state
 job_plan env counts = count_plan_in env
 
 -- the job goes on in this state, or its call has ended with this reply and no list
@@ -64,11 +84,23 @@ abbrev pub binds_next : ℕ → ℕ → Bool → BindAt × Next Reply → Job ×
 binds_next port owner once (state, Go) = (binds port owner once state, Go)
 binds_next port owner once (state, Done reply) = (binds port owner once state, Done (plain_ending reply))
 
+abbrev pub releases_next : ℕ → ℕ → ReleaseAt × Next (Reply × Option ℕ) → Job × Next Ending
+releases_next port owner (state, Go) = (releases port owner state, Go)
+releases_next port owner (state, Done end) = (releases port owner state, Done (plain_ending end.0))
+
+abbrev pub rebinds_next : ℕ → ℕ → ℕ → RebindAt × Next (Reply × Option ℕ) → Job × Next Ending
+rebinds_next port owner new (state, Go) = (rebinds port owner new state, Go)
+rebinds_next port owner new (state, Done end) = (rebinds port owner new state, Done (plain_ending end.0))
+
 -- what becomes of it after its operation found this value
 abbrev pub job_after : (ℕ → ℕ → ℕ → ℕ) → Env → Job → ℕ → Job × Next Ending
 job_after mix env (finds port state) old = finds_next port (find.after_at mix env port state old)
 job_after mix env (binds port owner once state) old =
     binds_next port owner once (bind.after_at mix env port state old)
+job_after mix env (releases port owner state) old =
+    releases_next port owner (release.after_at mix env port owner state old)
+job_after mix env (rebinds port owner new state) old =
+    rebinds_next port owner new (rebind.after_at mix env port owner state old)
 job_after mix env counts old = (counts, Done (plain_ending (Counted old)))
 
 -- the job of what a caller does
@@ -76,6 +108,8 @@ abbrev pub job_of : {M : Type 0} → Doing M → Option Job
 job_of Idle = None
 job_of (Finding m) = Some (finds m.port m.at)
 job_of (Binding m) = Some (binds m.port m.owner m.once m.at)
+job_of (Releasing m) = Some (releases m.port m.owner m.at)
+job_of (Rebinding m) = Some (rebinds m.port m.owner m.new_owner m.at)
 job_of (Counting m) = Some counts
 
 -- what is left of a job after an operation, and how its call has ended where it has
@@ -89,6 +123,8 @@ told (job, Done ending) = (None, Some ending)
 abbrev pub held_of : Job → Held Answer
 held_of (finds port state) = held_of_find state
 held_of (binds port owner once state) = held_of_bind state
+held_of (releases port owner state) = held_of_release state
+held_of (rebinds port owner new state) = held_of_rebind state
 held_of counts = held.holds_nothing
 
 -- and after an operation; once the call has ended it holds nothing, and its answer is known

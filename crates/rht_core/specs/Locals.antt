@@ -5,19 +5,28 @@ use Rattle.rht_words.specs.declared.machine.Next.{Next}
 use Rattle.rht_words.specs.declared.machine.Next.TheVariants.{Go, Done}
 use Rattle.rht_words.specs.declared.env.Env.{Env}
 use Rattle.rht_model.specs.declared.history.Call.{Call}
-use Rattle.rht_model.specs.declared.history.Call.TheVariants.{Bind, Find, Count}
+use Rattle.rht_model.specs.declared.history.Call.TheVariants.{Bind, Find, Release, Rebind, Count}
 use Rattle.rht_model.specs.declared.history.Reply.{Reply}
 use Rattle.rht_model.specs.Rooms.{Kept, emptied}
 use Rattle.rht_model.specs.Endings.{Ending}
 use Rattle.rht_find.specs.Find.{FindModel, find_new, find_plan, find_after}
 use Rattle.rht_bind.specs.Bind.{BindModel, bind_new, bind_plan, bind_after}
+use Rattle.rht_words.specs.declared.config.Kind.{Kind}
+use Rattle.rht_words.specs.declared.config.Kind.TheVariants.{Single, Listed}
+use Rattle.rht_release.specs.Release.{ReleaseModel, release_new, release_plan, release_after}
+use Rattle.rht_release.specs.Rebind.{RebindModel, rebind_new, rebind_plan, rebind_after}
 use Rattle.rht_core.specs.declared.count.PortCount.{PortCount}
 use Rattle.rht_core.specs.PortCounts.{count_plan, count_after}
 use Rattle.rht_core.specs.declared.local.Local.{Local}
 use Rattle.rht_core.specs.declared.local.Doing.{Doing}
-use Rattle.rht_core.specs.declared.local.Doing.TheVariants.{Idle, Finding, Binding, Counting}
+use Rattle.rht_core.specs.declared.local.Doing.TheVariants.{Idle, Finding, Binding, Releasing, Rebinding, Counting}
 
 -- ---- what a caller is doing
+
+-- the reply, without the node that was taken out
+abbrev pub without_node : Next (Reply × Option ℕ) → Next Reply
+without_node Go = Go
+without_node (Done end) = Done end.0
 
 module _ {M : Type 0} where
   -- it is in no call
@@ -25,12 +34,21 @@ module _ {M : Type 0} where
   does_nothing Idle = true
   does_nothing (Finding m) = false
   does_nothing (Binding m) = false
+  does_nothing (Releasing m) = false
+  does_nothing (Rebinding m) = false
   does_nothing (Counting m) = false
+
+  -- a rebind is built for tables of one owner each alone
+  abbrev pub rebinding_of : Env → ℕ → ℕ → ℕ → ℕ → Kind → Option (Doing M)
+  rebinding_of env caller port owner new Single = Some (Rebinding (rebind_new env caller port owner new))
+  rebinding_of env caller port owner new Listed = None
 
   -- what a caller does that is given a call; none where there is no such machine yet
   abbrev pub machine_of : Env → ℕ → Call → Option (Doing M)
   machine_of env caller (Find port) = Some (Finding (find_new env caller port))
   machine_of env caller (Bind port owner once) = Some (Binding (bind_new env caller port owner once))
+  machine_of env caller (Release port owner) = Some (Releasing (release_new env caller port owner))
+  machine_of env caller (Rebind port owner new) = rebinding_of env caller port owner new env.config.kind
   machine_of env caller Count = Some (Counting (record { env = env }))
   machine_of env caller _ = None
 
@@ -39,6 +57,8 @@ module _ {M : Type 0} where
   doing_plan Idle = None
   doing_plan (Finding m) = Some (find_plan m)
   doing_plan (Binding m) = Some (bind_plan m)
+  doing_plan (Releasing m) = Some (release_plan m)
+  doing_plan (Rebinding m) = Some (rebind_plan m)
   doing_plan (Counting m) = Some (count_plan m)
 
   -- the caller is idle once its call has a reply
@@ -50,6 +70,14 @@ module _ {M : Type 0} where
   bound_next (m, Go) = (Binding m, None)
   bound_next (m, Done reply) = (Idle, Some reply)
 
+  abbrev pub released_next : ReleaseModel × Next Reply → Doing M × Option Reply
+  released_next (m, Go) = (Releasing m, None)
+  released_next (m, Done reply) = (Idle, Some reply)
+
+  abbrev pub rebound_next : RebindModel × Next Reply → Doing M × Option Reply
+  rebound_next (m, Go) = (Rebinding m, None)
+  rebound_next (m, Done reply) = (Idle, Some reply)
+
   abbrev pub counted_next : PortCount × Next Reply → Doing M × Option Reply
   counted_next (m, Go) = (Counting m, None)
   counted_next (m, Done reply) = (Idle, Some reply)
@@ -59,6 +87,10 @@ module _ {M : Type 0} where
   doing_after mix Idle old = (Idle, None)
   doing_after mix (Finding m) old = found_next (find_after mix m old)
   doing_after mix (Binding m) old = bound_next (bind_after mix m old)
+  doing_after mix (Releasing m) old =
+      let next = release_after mix m old in released_next (next.0, without_node next.1)
+  doing_after mix (Rebinding m) old =
+      let next = rebind_after mix m old in rebound_next (next.0, without_node next.1)
   doing_after mix (Counting m) old = counted_next (count_after m old)
 
   -- it does this in the table of this environment
@@ -66,6 +98,8 @@ module _ {M : Type 0} where
   IsDoingOf env Idle = Unit {0}
   IsDoingOf env (Finding m) = m.env ≡ env
   IsDoingOf env (Binding m) = m.env ≡ env
+  IsDoingOf env (Releasing m) = m.env ≡ env
+  IsDoingOf env (Rebinding m) = m.env ≡ env
   IsDoingOf env (Counting m) = m.env ≡ env
 
 -- ---- a caller with its rooms

@@ -4,14 +4,15 @@ ghost use Rattle.std.specs.Prelude.{◌≡◌, ◌<◌, IfSome, IfOk};
 ghost use Rattle.rht_words.specs.Operations.{op_place};
 ghost use Rattle.rht_words.specs.Places.{words_in};
 ghost use Rattle.rht_words.specs.declared.env.Env.{Env};
-ghost use Rattle.rht_core.specs.Locals.{does_nothing, is_idle, machine_of, doing_plan, plan_of, doing_after, local_after, begin_with, fresh, IsDoingOf, IsLocalOf};
+ghost use Rattle.rht_core.specs.Locals.{does_nothing, is_idle, machine_of, doing_plan, plan_of, doing_after, without_node, local_after, begin_with, fresh, IsDoingOf, IsLocalOf};
 
 use crate::count::PortCount;
 use rht_bind::Bind;
 use rht_find::Find;
 use rht_model::{Call, Reply, Room};
 use rht_policy::Mix;
-use rht_words::{Env, Next, Op, Port};
+use rht_release::{Rebind, Release};
+use rht_words::{Env, Kind, Next, Op, Port};
 use std::alloc::{AllocError, Global};
 
 /// What a caller is doing: nothing, or one of the machines.
@@ -23,6 +24,10 @@ pub enum Doing<M: Mix> {
     Finding(Find<M>),
     /// It binds a port.
     Binding(Bind<M>),
+    /// It takes a binding out.
+    Releasing(Release<M>),
+    /// It puts another owner in one's place.
+    Rebinding(Rebind<M>),
     /// It reads how many ports are bound.
     Counting(PortCount),
 }
@@ -34,12 +39,16 @@ impl<M: Mix> Doing<M> {
     {
         match self {
             Doing::Idle => true,
-            Doing::Finding(_) | Doing::Binding(_) | Doing::Counting(_) => false,
+            Doing::Finding(_)
+            | Doing::Binding(_)
+            | Doing::Releasing(_)
+            | Doing::Rebinding(_)
+            | Doing::Counting(_) => false,
         }
     }
 
     /// What a caller does that is given this call. `None` for a call of which there is no machine
-    /// yet: all but `bind`, `find` and `count`.
+    /// yet: `rebind` in a table of lists, and all but `bind`, `find`, `release`, `rebind` and `count`.
     pub fn of_call(env: Env, caller: u32, call: Call) -> Option<Doing<M>>
         ensures machine { result ≡ machine_of env caller call }
         ensures env { IfSome result (IsDoingOf env) }
@@ -48,6 +57,12 @@ impl<M: Mix> Doing<M> {
             Call::Find { port } => Some(Doing::Finding(Find::new(env, caller, port))),
             Call::Bind { port, owner, once } => {
                 Some(Doing::Binding(Bind::new(env, caller, port, owner, once)))
+            }
+            Call::Release { port, owner } => {
+                Some(Doing::Releasing(Release::new(env, caller, port, owner)))
+            }
+            Call::Rebind { port, owner, new } if env.config.kind == Kind::Single => {
+                Some(Doing::Rebinding(Rebind::new(env, caller, port, owner, new)))
             }
             Call::Count => Some(Doing::Counting(PortCount { env })),
             _ => None,
@@ -63,6 +78,8 @@ impl<M: Mix> Doing<M> {
             Doing::Idle => None,
             Doing::Finding(find) => Some(find.plan()),
             Doing::Binding(bind) => Some(bind.plan()),
+            Doing::Releasing(release) => Some(release.plan()),
+            Doing::Rebinding(rebind) => Some(rebind.plan()),
             Doing::Counting(count) => Some(count.plan()),
         }
     }
@@ -76,6 +93,8 @@ impl<M: Mix> Doing<M> {
             Doing::Idle => return None,
             Doing::Finding(find) => find.take(old),
             Doing::Binding(bind) => bind.take(old),
+            Doing::Releasing(release) => without_node(release.take(old)),
+            Doing::Rebinding(rebind) => without_node(rebind.take(old)),
             Doing::Counting(count) => count.take(old),
         };
         match next {
@@ -85,6 +104,16 @@ impl<M: Mix> Doing<M> {
                 Some(reply)
             }
         }
+    }
+}
+
+/// The reply, without the node that was taken out: it goes to no list, and its bit stays clear.
+fn without_node(next: Next<(Reply, Option<u32>)>) -> Next<Reply>
+    ensures { result ≡ without_node next }
+{
+    match next {
+        Next::Go => Next::Go,
+        Next::Done((reply, _)) => Next::Done(reply),
     }
 }
 

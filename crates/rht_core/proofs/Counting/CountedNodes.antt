@@ -1,7 +1,7 @@
 -- The count of ports is at most the nodes.
 -- It is the nodes in chains and the callers that have raised it, and each such caller has a node of its own: what its job holds
 -- and knows says so. So no clamp at the greatest number of nodes ever changes what a call makes of the count.
-use Rattle.std.proofs.Common.{◌≡◌, ℕ, ◌+◌, ◌%◌, ◌^◌, ◌≤◌, Bool, true, List, [], ◌∷◌, ◌++◌, take, refl, sym, ap, ◌∙◌, subst, arith}
+use Rattle.std.proofs.Common.{◌≡◌, ℕ, ◌+◌, ◌%◌, ◌^◌, ◌≤◌, Bool, true, false, List, [], ◌∷◌, ◌++◌, take, inl, inr, refl, sym, ap, ◌∙◌, subst, arith}
 use Rattle.std.specs.Prelude.{Option, Some, None}
 use Rattle.std.specs.List.{AllByRecursion, slice_get}
 use Rattle.std.proofs.lemmas.Option.{slice_get_within, get_or_from_slice_get}
@@ -17,16 +17,22 @@ use Rattle.rht_chain.specs.Relink.{has_relinked}
 use Rattle.rht_bind.specs.BindHeld.{held_of_bind}
 use Rattle.rht_bind.specs.declared.bind.BindAt.{BindAt}
 use Rattle.rht_bind.specs.declared.bind.BindAt.TheVariants as at
-use Rattle.rht_core.specs.Jobs.{Job, finds, binds, counts, job_of, held_of}
+use Rattle.rht_core.specs.Jobs.{Job, finds, binds, releases, rebinds, counts, job_of, held_of}
+use Rattle.rht_release.specs.declared.found_port.FoundPort.{FoundPort}
+use Rattle.rht_release.specs.ReleaseHeld.{held_of_release, holds_relinking}
+use Rattle.rht_release.specs.declared.release.ReleaseAt.{ReleaseAt}
+use Rattle.rht_release.specs.declared.release.ReleaseAt.TheVariants as release_at
 use Rattle.rht_core.specs.declared.event.Event.{Event}
 use Rattle.rht_core.specs.declared.event.Event.TheVariants.{Step}
 use Rattle.rht_core.specs.Runs.{Core, World, local_of, planned_in, core_step, run_of, IsAdmitted, IsAdmittedEvent}
 use Rattle.rht_core.specs.Traces.{Did}
 use Rattle.rht_core.specs.Laws.{IsRecorded}
-use Rattle.rht_core.proofs.Counting.FullTables.{find_raises, front_raises, taken}
+use Rattle.rht_core.proofs.Counting.FullTables.{find_raises, front_raises, relinking_raises, rebind_raises, taken}
 use Rattle.rht_core.proofs.Events.Worlds.{run_of-push}
-use Rattle.rht_core.proofs.Theory.Ghosts.{Ghost}
+use Rattle.rht_core.proofs.Theory.Ghosts.{Ghost, taken_is}
+use Rattle.rht_core.proofs.Theory.Knowledge.{HasTakenOut, KnownList, LeadsTo, BucketMeans}
 use Rattle.rht_core.proofs.Theory.Steps.{mem}
+use Rattle.rht_core.proofs.Machines.ReleaseSteps.{known_relinking}
 use Rattle.rht_core.proofs.Machines.JobSteps.{JobKnows}
 use Rattle.rht_core.proofs.Events.Invariants.{Knows, Inv}
 use Rattle.rht_core.proofs.Events.InvariantRuns.{has_inv}
@@ -56,15 +62,44 @@ module _ (env : Env) (mix : ℕ → ℕ → ℕ → ℕ) (c : ℕ) (M : Memory) 
       record {
         node = node;
         among = has.among;
-        mine = has.mine;
-        only = λ other held. let same = knows.knowing.only.nodes other held in (cc);
+        mine = inl has.mine;
       }
   bind-own port owner once (at.Unlocking node table unlock next) knows is = absurd (cc)
   bind-own port owner once (at.Giving give reply) knows is = absurd (cc)
 
+  -- a release that is to lower the count has taken the node out
+  taken-own : (node : ℕ) → HasTakenOut env mix c G node → OwnNode env G c
+  taken-own node took = record { node = node; among = took.among; mine = inr (taken_is c (G.node node) took.taken) }
+
+  unlinking-own : (port owner : ℕ) (found : FoundPort) (known : KnownList) (stored : Bool)
+      → BucketMeans env mix c M G (known_relinking port owner found known stored)
+      → (holds_relinking found true stored).raised ≡ true → OwnNode env G c
+  unlinking-own port owner found known false means is = absurd (cc)
+  unlinking-own port owner found known true means is = taken-own found.node means.took
+
+  release-own : (port owner : ℕ) (state : ReleaseAt)
+      → JobKnows env mix c (releases port owner state) M G
+      → (held_of_release state).raised ≡ true → OwnNode env G c
+  release-own port owner (release_at.Seeking seek) knows is = absurd (cc)
+  release-own port owner (release_at.Owner found node before) knows is = absurd (cc)
+  release-own port owner (release_at.ListLink found node) knows is = absurd (cc)
+  release-own port owner (release_at.LinkBehind found node before) knows is = absurd (cc)
+  release-own port owner (release_at.CuttingOut found node before link) knows is = absurd (cc)
+  release-own port owner (release_at.ChainLink found second) knows is = absurd (cc)
+  release-own port owner (release_at.SecondLink found second link) knows is = absurd (cc)
+  release-own port owner (release_at.Promoting found relink) knows is =
+      let none = relinking_raises found (has_relinked found.before relink.at) in absurd (cc)
+  release-own port owner (release_at.Unlinking found relink) knows is =
+      unlinking-own port owner found (LeadsTo None relink.link owner) (has_relinked found.before relink.at)
+      knows.knowing.means.bucket is
+  release-own port owner (release_at.Lowering node shape) knows is = taken-own node knows.knowing.means.bucket
+  release-own port owner (release_at.Unlocking table unlock removed) knows is = absurd (cc)
+
   job-own : (job : Job) → JobKnows env mix c job M G → (held_of job).raised ≡ true → OwnNode env G c
   job-own (finds port state) knows is = let none = find_raises state in absurd (cc)
   job-own (binds port owner once state) knows is = bind-own port owner once state knows is
+  job-own (releases port owner state) knows is = release-own port owner state knows is
+  job-own (rebinds port owner new state) knows is = let none = rebind_raises state in absurd (cc)
   job-own counts knows is = absurd (cc)
 
   -- who has raised the count has a node of its own

@@ -25,10 +25,18 @@ use Rattle.rht_bind.specs.BindHeld.{held_of_bind, holds_replacing}
 use Rattle.rht_bind.specs.declared.bind.Claimed.{Claimed}
 use Rattle.rht_bind.specs.declared.bind.BindAt.{BindAt}
 use Rattle.rht_bind.specs.declared.bind.BindAt.TheVariants as at
+use Rattle.rht_release.specs.declared.found_port.FoundPort.{FoundPort}
+use Rattle.rht_release.specs.Release.{plan_at as release_plan_at}
+use Rattle.rht_release.specs.ReleaseHeld.{held_of_release, holds_relinking}
+use Rattle.rht_release.specs.declared.release.ReleaseAt.{ReleaseAt}
+use Rattle.rht_release.specs.declared.release.ReleaseAt.TheVariants as release_at
+use Rattle.rht_release.specs.RebindHeld.{held_of_rebind, holds_replacing as holds_replacing_of}
+use Rattle.rht_release.specs.declared.rebind.RebindAt.{RebindAt}
+use Rattle.rht_release.specs.declared.rebind.RebindAt.TheVariants as rebind_at
 use Rattle.rht_core.specs.declared.event.Event.{Event}
 use Rattle.rht_core.specs.Locals.{is_idle}
 use Rattle.rht_core.specs.Runs.{Core, local_of, planned_in, run_of, IsAdmitted, IsAdmittedEvent}
-use Rattle.rht_core.specs.Jobs.{Job, finds, binds, counts, job_of, job_plan, held_of}
+use Rattle.rht_core.specs.Jobs.{Job, finds, binds, releases, rebinds, counts, job_of, job_plan, held_of}
 use Rattle.rht_core.specs.Traces.{Did}
 use Rattle.rht_core.specs.Laws.{IsRecorded}
 use Rattle.rht_core.specs.Causes.{others_in_call, CountedAt}
@@ -108,11 +116,50 @@ bind_loads-unraised e place (at.Publish node table relink kick) is = absurd
 bind_loads-unraised e place (at.Unlocking node table unlock next) is = refl
 bind_loads-unraised e place (at.Giving give reply) is = refl
 
+-- a release that has raised it, and is to lower it, loads nothing either
+pub relinking_raises : (found : FoundPort) (stored : Bool) → (holds_relinking found false stored).raised ≡ false
+relinking_raises found false = refl
+relinking_raises found true = refl
+
+release_loads-unraised : (e : Env) (place : ℕ) (state : ReleaseAt) → release_plan_at e state ≡ Load place
+    → (held_of_release state).raised ≡ false
+release_loads-unraised e place (release_at.Seeking seek) is = refl
+release_loads-unraised e place (release_at.Owner found node before) is = refl
+release_loads-unraised e place (release_at.ListLink found node) is = refl
+release_loads-unraised e place (release_at.LinkBehind found node before) is = refl
+release_loads-unraised e place (release_at.CuttingOut found node before link) is = refl
+release_loads-unraised e place (release_at.ChainLink found second) is = refl
+release_loads-unraised e place (release_at.SecondLink found second link) is = refl
+release_loads-unraised e place (release_at.Promoting found relink) is =
+    relinking_raises found (has_relinked found.before relink.at)
+release_loads-unraised e place (release_at.Unlinking found relink) is = absurd
+    (relink_stores relink relink.at place is)
+release_loads-unraised e place (release_at.Lowering node shape) is = absurd (cc)
+release_loads-unraised e place (release_at.Unlocking table unlock removed) is = refl
+
+-- a rebind raises none
+replacing_raises : (node : ℕ) (found : FoundPort) (stored : Bool) → (holds_replacing_of node found stored).raised ≡ false
+replacing_raises node found false = refl
+replacing_raises node found true = refl
+
+pub rebind_raises : (state : RebindAt) → (held_of_rebind state).raised ≡ false
+rebind_raises (rebind_at.Filling new) = refl
+rebind_raises (rebind_at.Seeking node seek) = refl
+rebind_raises (rebind_at.Owner node found) = refl
+rebind_raises (rebind_at.ChainLink node found) = refl
+rebind_raises (rebind_at.Link node found link) = refl
+rebind_raises (rebind_at.Replacing node found relink) =
+    replacing_raises node found (has_relinked found.before relink.at)
+rebind_raises (rebind_at.Unlocking node table unlock) = refl
+rebind_raises (rebind_at.Giving give) = refl
+
 -- what loads has raised none
 load-unraised : (env : Env) (job : Job) (place : ℕ) → job_plan env job ≡ Load place
     → (held_of job).raised ≡ false
 load-unraised env (finds port state) place is = find_raises state
 load-unraised env (binds port owner once state) place is = bind_loads-unraised env place state is
+load-unraised env (releases port owner state) place is = release_loads-unraised env place state is
+load-unraised env (rebinds port owner new state) place is = rebind_raises state
 load-unraised env counts place is = refl
 
 module _ (M : Type 0) (mix : ℕ → ℕ → ℕ → ℕ) (env : Env) where

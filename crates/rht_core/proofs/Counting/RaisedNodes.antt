@@ -1,10 +1,11 @@
 -- The nodes in chains, and the callers that have raised the count for a node that they haven't linked yet, are at most the nodes.
--- Each such caller has a node of its own, which is in no chain.
-use Rattle.std.proofs.Common.{◌≡◌, ◌≢◌, ℕ, zero, suc, ◌+◌, ◌<◌, ◌≤◌, nat_lt, Bool, true, false, refl, ◌∙◌, ap, arith}
+-- Each such caller has a node of its own, which is in no chain: one that it links next, or one that it has taken out, for which
+-- it lowers the count next.
+use Rattle.std.proofs.Common.{◌≡◌, ◌⊎◌, ℕ, zero, suc, ◌+◌, ◌<◌, ◌≤◌, nat_lt, Bool, true, false, inl, inr, refl, ◌∙◌, ap, arith}
 use Rattle.std.proofs.lemmas.Bool.Decides.{nat_tests}
 use Rattle.rht_words.proofs.Members.{count_below, one_if, count_below-same, count_below-more, count_below-le, count_below-most}
 use Rattle.rht_words.specs.declared.env.Env.{Env}
-use Rattle.rht_core.proofs.Theory.Ghosts.{Owner, Free, Held, First, Leaving, Behind, Taken, Ghost, is_first}
+use Rattle.rht_core.proofs.Theory.Ghosts.{put, put-same, put-other, put-all, Owner, Free, Held, First, Leaving, Behind, Taken, Ghost, is_first}
 use Rattle.rht_core.proofs.Theory.Wholes.{firsts, raisers}
 
 -- the node is in a chain, or a caller below this one has it
@@ -14,14 +15,13 @@ is_used_below bound (Held c) = nat_lt c bound
 is_used_below bound (First j) = true
 is_used_below bound (Leaving j) = true
 is_used_below bound (Behind k) = false
-is_used_below bound (Taken c) = false
+is_used_below bound (Taken c) = nat_lt c bound
 
--- a node that this caller alone has
+-- a node that this caller has, or has taken out
 pub record OwnNode (env : Env) (G : Ghost) (c : ℕ) : Type 0 where
   pub node : ℕ
   pub among : node < env.geometry.nodes
-  pub mine : G.node node ≡ Held c
-  pub only : (other : ℕ) → G.node other ≡ Held c → other ≡ node
+  pub mine : (G.node node ≡ Held c) ⊎ (G.node node ≡ Taken c)
 
 module _ (env : Env) (mix : ℕ → ℕ → ℕ → ℕ) (G : Ghost) (own : (c : ℕ) → G.raised c ≡ true
     → OwnNode env G c) where
@@ -33,32 +33,35 @@ module _ (env : Env) (mix : ℕ → ℕ → ℕ → ℕ) (G : Ghost) (own : (c :
   used bound = count_below (λ n. is_used_below bound (G.node n)) N
 
   -- one caller more has a node more where it has raised the count
-  same_but : (bound : ℕ) (o : Owner) → o ≢ Held bound → is_used_below (suc bound) o ≡ is_used_below bound o
-  same_but bound Free ne = refl
-  same_but bound (Held c) ne = let other : c ≢ bound = λ e. ne (ap Held e) in grind (arith, nat_tests, other)
-  same_but bound (First j) ne = refl
-  same_but bound (Leaving j) ne = refl
-  same_but bound (Behind k) ne = refl
-  same_but bound (Taken c) ne = refl
-
   rises : (bound : ℕ) (o : Owner) → is_used_below bound o ≡ true → is_used_below (suc bound) o ≡ true
   rises bound Free is = absurd (cc)
   rises bound (Held c) is = grind (arith, nat_tests)
   rises bound (First j) is = refl
   rises bound (Leaving j) is = refl
   rises bound (Behind k) is = absurd (cc)
-  rises bound (Taken c) is = absurd (cc)
+  rises bound (Taken c) is = grind (arith, nat_tests)
 
-  used-raised : (bound : ℕ) → G.raised bound ≡ true → used (suc bound) ≡ used bound + 1
+  -- a node of this caller is used by it, and by none below
+  unused_below : (bound : ℕ) (o : Owner) → (o ≡ Held bound) ⊎ (o ≡ Taken bound) → is_used_below bound o ≡ false
+  unused_below bound o (inl is) = ap (is_used_below bound) is ∙ grind (arith, nat_tests)
+  unused_below bound o (inr is) = ap (is_used_below bound) is ∙ grind (arith, nat_tests)
+
+  used_here : (bound : ℕ) (o : Owner) → (o ≡ Held bound) ⊎ (o ≡ Taken bound) → is_used_below (suc bound) o ≡ true
+  used_here bound o (inl is) = ap (is_used_below (suc bound)) is ∙ grind (arith, nat_tests)
+  used_here bound o (inr is) = ap (is_used_below (suc bound)) is ∙ grind (arith, nat_tests)
+
+  used-raised : (bound : ℕ) → G.raised bound ≡ true → used bound + 1 ≤ used (suc bound)
   used-raised bound raised =
       let mine = own bound raised in
-      let was : is_used_below bound (G.node mine.node) ≡ false = ap (is_used_below bound) mine.mine
-      ∙ grind (arith, nat_tests) in
-      let now : is_used_below (suc bound) (G.node mine.node) ≡ true = ap (is_used_below (suc bound))
-      mine.mine ∙ grind (arith, nat_tests) in
-      count_below-more (λ n. is_used_below bound (G.node n)) (λ n. is_used_below (suc bound) (G.node n))
-      mine.node N mine.among was now
-      (λ n ne. same_but bound (G.node n) (λ held. ne (mine.only n held)))
+      let was : ℕ → Bool = λ n. is_used_below bound (G.node n) in
+      let now : ℕ → Bool = λ n. is_used_below (suc bound) (G.node n) in
+      let one = count_below-more was (put was mine.node true) mine.node N mine.among
+      (unused_below bound (G.node mine.node) mine.mine) (put-same was mine.node true)
+      (λ n ne. put-other was mine.node true n ne) in
+      let rest = count_below-le (put was mine.node true) now N
+      (put-all (λ n b. b ≡ true → now n ≡ true) was mine.node true
+      (λ is. used_here bound (G.node mine.node) mine.mine) (λ n ne is. rises bound (G.node n) is)) in
+      omega (arith, one, rest)
 
   used-rises : (bound : ℕ) → used bound ≤ used (suc bound)
   used-rises bound = count_below-le (λ n. is_used_below bound (G.node n))
@@ -77,7 +80,7 @@ module _ (env : Env) (mix : ℕ → ℕ → ℕ → ℕ) (G : Ghost) (own : (c :
       first_or_none (First j) = refl
       first_or_none (Leaving j) = refl
       first_or_none (Behind k) = refl
-      first_or_none (Taken c) = refl
+      first_or_none (Taken c) = grind (arith, nat_tests)
   raisers-used (suc bound) = go (G.raised bound) refl (raisers-used bound)
     where
       go : (t : Bool) → G.raised bound ≡ t → firsts env mix G + count_below G.raised bound ≤ used bound

@@ -4,28 +4,42 @@ use Rattle.std.proofs.Common.{◌≡◌, ℕ, Bool, true, refl, subst}
 use Rattle.std.specs.Prelude.{Option, Some, None}
 use Rattle.rht_words.specs.declared.env.Env.{Env}
 use Rattle.rht_model.specs.declared.history.Call.{Call}
-use Rattle.rht_model.specs.declared.history.Call.TheVariants.{Bind, Find, Count}
+use Rattle.rht_model.specs.declared.history.Call.TheVariants.{Bind, Find, Release, Rebind, Count}
 use Rattle.rht_find.specs.Find.{find_new}
+use Rattle.rht_words.specs.declared.config.Kind.{Kind}
+use Rattle.rht_words.specs.declared.config.Kind.TheVariants.{Single, Listed}
 use Rattle.rht_bind.specs.Bind.{bind_new}
+use Rattle.rht_release.specs.Release.{release_new}
+use Rattle.rht_release.specs.Rebind.{rebind_new}
 use Rattle.rht_core.specs.declared.local.Local.{Local}
 use Rattle.rht_core.specs.declared.local.Doing.{Doing}
-use Rattle.rht_core.specs.declared.local.Doing.TheVariants.{Idle, Finding, Binding, Counting}
-use Rattle.rht_core.specs.Locals.{does_nothing, is_idle, machine_of, doing_plan, plan_of}
+use Rattle.rht_core.specs.declared.local.Doing.TheVariants.{Idle, Finding, Binding, Releasing, Rebinding, Counting}
+use Rattle.rht_core.specs.Locals.{does_nothing, is_idle, machine_of, rebinding_of, doing_plan, plan_of}
 
 module _ (M : Type 0) where
-  -- A call begins as a look-up, a bind or a reading of the count. What is so of these is so of whatever begins.
+  -- A call begins as a look-up, a bind, a release, a rebind or a reading of the count. What is so of these is so of whatever begins.
   module _ (env : Env) (c : ℕ) (So : Call → Doing M → Type 0)
       (find : (port : ℕ) → So (Find port) (Finding (find_new env c port)))
       (bind : (port owner : ℕ) (once : Bool) → So (Bind port owner once) (Binding (bind_new env c port owner once)))
+      (release : (port owner : ℕ) → So (Release port owner) (Releasing (release_new env c port owner)))
+      (rebind : (port owner new : ℕ) → env.config.kind ≡ Single
+          → So (Rebind port owner new) (Rebinding (rebind_new env c port owner new)))
       (count : So Count (Counting (record { env = env })))
     where
       abbrev BeginsSo : Call → Option (Doing M) → Type 0
       BeginsSo call None = Unit {0}
       BeginsSo call (Some machine) = So call machine
 
+      rebinding-so : (port owner new : ℕ) (kind : Kind) → env.config.kind ≡ kind
+          → BeginsSo (Rebind port owner new) (rebinding_of env c port owner new kind)
+      rebinding-so port owner new Single is = rebind port owner new is
+      rebinding-so port owner new Listed is = tt
+
       machine-so : (call : Call) → BeginsSo call (machine_of env c call)
       machine-so (Find port) = find port
       machine-so (Bind port owner once) = bind port owner once
+      machine-so (Release port owner) = release port owner
+      machine-so (Rebind port owner new) = rebinding-so port owner new env.config.kind refl
       machine-so Count = count
       machine-so _ = tt
 
@@ -38,6 +52,8 @@ module _ (M : Type 0) where
   nothing_plans Idle idle = refl
   nothing_plans (Finding m) idle = absurd (cc)
   nothing_plans (Binding m) idle = absurd (cc)
+  nothing_plans (Releasing m) idle = absurd (cc)
+  nothing_plans (Rebinding m) idle = absurd (cc)
   nothing_plans (Counting m) idle = absurd (cc)
 
   pub idle_plans : (local : Local M) → is_idle local ≡ true → plan_of local ≡ None

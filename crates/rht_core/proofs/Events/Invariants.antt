@@ -19,10 +19,10 @@ use Rattle.rht_core.specs.declared.event.Event.{Event}
 use Rattle.rht_core.specs.declared.event.Event.TheVariants.{Enroll, Begin}
 use Rattle.rht_core.specs.declared.event.Event.TheVariants as events
 use Rattle.rht_core.specs.declared.local.Doing.{Doing}
-use Rattle.rht_core.specs.declared.local.Doing.TheVariants.{Idle, Finding, Binding, Counting}
+use Rattle.rht_core.specs.declared.local.Doing.TheVariants.{Idle, Finding, Binding, Releasing, Rebinding, Counting}
 use Rattle.rht_core.specs.Locals.{fresh, does_nothing, machine_of, begin_with, local_after}
 use Rattle.rht_core.specs.Runs.{Core, local_of, beginning_in, planned_in, enrolling, core_step}
-use Rattle.rht_core.specs.Jobs.{Job, finds, binds, counts, call_of, job_plan, job_after, job_of, told, held_of, held_next}
+use Rattle.rht_core.specs.Jobs.{Job, finds, binds, releases, rebinds, counts, call_of, job_plan, job_after, job_of, told, held_of, held_next}
 use Rattle.rht_core.specs.Laws.{IsDoingIn}
 use Rattle.rht_core.proofs.Events.CallBeginnings.{begins_so}
 use Rattle.rht_core.proofs.Events.Worlds.{beginning-some, planned-some}
@@ -74,6 +74,11 @@ module _ (env : Env) (mix : ℕ → ℕ → ℕ → ℕ) where
     job-in c (Binding m) job is within =
         let here : binds m.port m.owner m.once m.at ≡ job = cc in
         subst (JobIn env mix c) here (record { owner_in = within.owner_in; at_in = within.at_in })
+    job-in c (Releasing m) job is within =
+        let here : releases m.port m.owner m.at ≡ job = cc in subst (JobIn env mix c) here within.at_in
+    job-in c (Rebinding m) job is within =
+        let here : rebinds m.port m.owner m.new_owner m.at ≡ job = cc in
+        subst (JobIn env mix c) here (record { new_in = within.new_owner_in; at_in = within.at_in })
     job-in c (Counting m) job is within = let here : counts ≡ job = cc in subst (JobIn env mix c) here tt
 
     -- a caller that is given a call knows what the first state of its machine says
@@ -83,6 +88,12 @@ module _ (env : Env) (mix : ℕ → ℕ → ℕ → ℕ) where
         begins_so L env c (λ asked first. Knows c (job_of first) M G)
         (λ port. record { built = tt; knowing = record { only = knows.only; means = knows.means }; fits = tt })
         (λ port owner once. record { built = tt; knowing = record { only = knows.only; means = knows.means }; fits = (refl, refl) })
+        (λ port owner. record { built = tt; knowing = record { only = knows.only; means = knows.means }; fits = tt })
+        (λ port owner new single. record {
+          built = single;
+          knowing = record { only = knows.only; means = knows.means };
+          fits = (refl, refl);
+        })
         (record { built = tt; knowing = record { only = knows.only; means = knows.means }; fits = tt })
         call machine is
 

@@ -8,7 +8,7 @@ use Rattle.rht_words.specs.declared.env.Env.{Env}
 use Rattle.rht_words.specs.declared.machine.Next.{Next}
 use Rattle.rht_words.specs.declared.machine.Next.TheVariants.{Go, Done}
 use Rattle.rht_model.specs.declared.history.Call.{Call}
-use Rattle.rht_model.specs.declared.history.Call.TheVariants.{Bind, Find, Count}
+use Rattle.rht_model.specs.declared.history.Call.TheVariants.{Bind, Find, Release, Rebind, Count}
 use Rattle.rht_model.specs.declared.history.Reply.{Reply}
 use Rattle.rht_model.specs.Endings.{Ending}
 use Rattle.rht_find.specs.Find as find
@@ -19,12 +19,22 @@ use Rattle.rht_bind.specs.Bind as bind
 use Rattle.rht_bind.specs.Bind.{BindModel}
 use Rattle.rht_bind.specs.declared.bind.BindAt.{BindAt}
 use Rattle.rht_model.specs.declared.history.Reply.TheVariants.{Counted}
+use Rattle.rht_words.specs.declared.config.Kind.{Kind}
+use Rattle.rht_words.specs.declared.config.Kind.TheVariants.{Single, Listed}
+use Rattle.rht_release.specs.Seek.{seek_new}
+use Rattle.rht_release.specs.Release as release
+use Rattle.rht_release.specs.Release.{ReleaseModel}
+use Rattle.rht_release.specs.declared.release.ReleaseAt.{ReleaseAt}
+use Rattle.rht_release.specs.declared.release.ReleaseAt.TheVariants.{Seeking}
+use Rattle.rht_release.specs.Rebind as rebind
+use Rattle.rht_release.specs.Rebind.{RebindModel}
+use Rattle.rht_release.specs.declared.rebind.RebindAt.{RebindAt}
 use Rattle.rht_core.specs.PortCounts.{count_plan_in}
 use Rattle.rht_core.specs.declared.local.Local.{Local}
 use Rattle.rht_core.specs.declared.local.Doing.{Doing}
-use Rattle.rht_core.specs.declared.local.Doing.TheVariants.{Idle, Finding, Binding, Counting}
-use Rattle.rht_core.specs.Locals.{fresh, does_nothing, machine_of, doing_plan, doing_after, local_after, ending_of, found_next, bound_next, IsDoingOf, IsLocalOf}
-use Rattle.rht_core.specs.Jobs.{Job, finds, binds, counts, call_of, first_job, job_plan, job_after, finds_next, binds_next, job_of, told, held_of}
+use Rattle.rht_core.specs.declared.local.Doing.TheVariants.{Idle, Finding, Binding, Releasing, Rebinding, Counting}
+use Rattle.rht_core.specs.Locals.{fresh, does_nothing, machine_of, doing_plan, doing_after, local_after, ending_of, found_next, bound_next, released_next, rebound_next, without_node, IsDoingOf, IsLocalOf}
+use Rattle.rht_core.specs.Jobs.{Job, finds, binds, releases, rebinds, counts, call_of, first_job, first_rebind, job_plan, job_after, finds_next, binds_next, releases_next, rebinds_next, job_of, told, held_of}
 use Rattle.rht_core.proofs.Events.CallBeginnings.{begins_so}
 
 -- there is no job
@@ -52,11 +62,25 @@ binds_next-call : (port owner : ℕ) (once : Bool) (next : BindAt × Next Reply)
 binds_next-call port owner once (state, Go) = refl
 binds_next-call port owner once (state, Done reply) = refl
 
+releases_next-call : (port owner : ℕ) (next : ReleaseAt × Next (Reply × Option ℕ))
+    → call_of (releases_next port owner next).0 ≡ Release port owner
+releases_next-call port owner (state, Go) = refl
+releases_next-call port owner (state, Done end) = refl
+
+rebinds_next-call : (port owner new : ℕ) (next : RebindAt × Next (Reply × Option ℕ))
+    → call_of (rebinds_next port owner new next).0 ≡ Rebind port owner new
+rebinds_next-call port owner new (state, Go) = refl
+rebinds_next-call port owner new (state, Done end) = refl
+
 pub same_call : (mix : ℕ → ℕ → ℕ → ℕ) (env : Env) (job : Job) (old : ℕ)
     → call_of (job_after mix env job old).0 ≡ call_of job
 same_call mix env (finds port state) old = finds_next-call port (find.after_at mix env port state old)
 same_call mix env (binds port owner once state) old =
     binds_next-call port owner once (bind.after_at mix env port state old)
+same_call mix env (releases port owner state) old =
+    releases_next-call port owner (release.after_at mix env port owner state old)
+same_call mix env (rebinds port owner new state) old =
+    rebinds_next-call port owner new (rebind.after_at mix env port owner state old)
 same_call mix env counts old = refl
 
 -- a job leaves either no ending, and goes on, or an ending, and no job
@@ -65,18 +89,36 @@ left-told (job, Go) = refl
 left-told (job, Done ending) = refl
 
 -- nothing is known of the answer of a first job
+first_rebind-unknown : (env : Env) (port owner new : ℕ) (kind : Kind) (job : Job)
+    → first_rebind env port owner new kind ≡ Some job → (held_of job).answer ≡ None
+first_rebind-unknown env port owner new Single job is =
+    let here : rebinds port owner new (rebind.first_state env port new) ≡ job = cc in ap (λ j. (held_of j).answer) (sym here)
+first_rebind-unknown env port owner new Listed job is = absurd (cc)
+
 pub first_unknown : (env : Env) (call : Call) (job : Job) → first_job env call ≡ Some job → (held_of job).answer ≡ None
 first_unknown env (Find port) job is = let here : finds port CurrentTable ≡ job = cc in ap (λ j. (held_of j).answer) (sym here)
 first_unknown env (Bind port owner once) job is =
     let here : binds port owner once (bind.first_state env port owner) ≡ job = cc in ap (λ j. (held_of j).answer) (sym here)
+first_unknown env (Release port owner) job is =
+    let here : releases port owner (Seeking (seek_new env.geometry)) ≡ job = cc in ap (λ j. (held_of j).answer) (sym here)
+first_unknown env (Rebind port owner new) job is = first_rebind-unknown env port owner new env.config.kind job is
 first_unknown env Count job is = let here : counts ≡ job = cc in ap (λ j. (held_of j).answer) (sym here)
 first_unknown env _ job is = absurd (cc)
 
 -- and it has no node
+first_rebind-without : (env : Env) (port owner new : ℕ) (kind : Kind) (job : Job)
+    → first_rebind env port owner new kind ≡ Some job → (held_of job).node ≡ None
+first_rebind-without env port owner new Single job is =
+    let here : rebinds port owner new (rebind.first_state env port new) ≡ job = cc in ap (λ j. (held_of j).node) (sym here)
+first_rebind-without env port owner new Listed job is = absurd (cc)
+
 pub first_without : (env : Env) (call : Call) (job : Job) → first_job env call ≡ Some job → (held_of job).node ≡ None
 first_without env (Find port) job is = let here : finds port CurrentTable ≡ job = cc in ap (λ j. (held_of j).node) (sym here)
 first_without env (Bind port owner once) job is =
     let here : binds port owner once (bind.first_state env port owner) ≡ job = cc in ap (λ j. (held_of j).node) (sym here)
+first_without env (Release port owner) job is =
+    let here : releases port owner (Seeking (seek_new env.geometry)) ≡ job = cc in ap (λ j. (held_of j).node) (sym here)
+first_without env (Rebind port owner new) job is = first_rebind-without env port owner new env.config.kind job is
 first_without env Count job is = let here : counts ≡ job = cc in ap (λ j. (held_of j).node) (sym here)
 first_without env _ job is = absurd (cc)
 
@@ -92,6 +134,17 @@ module _ (M : Type 0) where
   bound-left m (state, Go) = refl
   bound-left m (state, Done reply) = refl
 
+  released-left : (m : ReleaseModel) (r : ReleaseAt × Next (Reply × Option ℕ))
+      → job_of (released_next {M = M} (record m { at = r.0 }, without_node r.1)).0 ≡ (told (releases_next m.port m.owner r)).0
+  released-left m (state, Go) = refl
+  released-left m (state, Done end) = refl
+
+  rebound-left : (m : RebindModel) (r : RebindAt × Next (Reply × Option ℕ))
+      → job_of (rebound_next {M = M} (record m { at = r.0 }, without_node r.1)).0
+      ≡ (told (rebinds_next m.port m.owner m.new_owner r)).0
+  rebound-left m (state, Go) = refl
+  rebound-left m (state, Done end) = refl
+
   pub left-job : (mix : ℕ → ℕ → ℕ → ℕ) (env : Env) (doing : Doing M) (job : Job) (old : ℕ)
       → IsDoingOf env doing → job_of doing ≡ Some job
       → job_of (doing_after mix doing old).0 ≡ (told (job_after mix env job old)).0
@@ -106,6 +159,16 @@ module _ (M : Type 0) where
       bound-left m (bind.after_at mix m.env m.port m.at old)
       ∙ ap (λ (e : Env). (told (job_after mix e (binds m.port m.owner m.once m.at) old)).0) of
       ∙ ap (λ (j : Job). (told (job_after mix env j old)).0) here
+  left-job mix env (Releasing m) job old of is =
+      let here : releases m.port m.owner m.at ≡ job = cc in
+      released-left m (release.after_at mix m.env m.port m.owner m.at old)
+      ∙ ap (λ (e : Env). (told (job_after mix e (releases m.port m.owner m.at) old)).0) of
+      ∙ ap (λ (j : Job). (told (job_after mix env j old)).0) here
+  left-job mix env (Rebinding m) job old of is =
+      let here : rebinds m.port m.owner m.new_owner m.at ≡ job = cc in
+      rebound-left m (rebind.after_at mix m.env m.port m.owner m.at old)
+      ∙ ap (λ (e : Env). (told (job_after mix e (rebinds m.port m.owner m.new_owner m.at) old)).0) of
+      ∙ ap (λ (j : Job). (told (job_after mix env j old)).0) here
   left-job mix env (Counting m) job old of is =
       let here : counts ≡ job = cc in ap (λ (j : Job). (told (job_after mix env j old)).0) here
 
@@ -115,6 +178,8 @@ module _ {M : Type 0} where
   nothing-job Idle = refl
   nothing-job (Finding m) = refl
   nothing-job (Binding m) = refl
+  nothing-job (Releasing m) = refl
+  nothing-job (Rebinding m) = refl
   nothing-job (Counting m) = refl
 
   -- ---- the beginning of a call
@@ -131,6 +196,13 @@ module _ {M : Type 0} where
   first_job-machine env c =
       begins_so M env c (IsFirst env) (λ port. record { job = _; first = refl; does = refl; asked = refl })
       (λ port owner once. record { job = _; first = refl; does = refl; asked = refl })
+      (λ port owner. record { job = _; first = refl; does = refl; asked = refl })
+      (λ port owner new single. record {
+        job = _;
+        first = ap (first_rebind env port owner new) single;
+        does = refl;
+        asked = refl;
+      })
       (record { job = _; first = refl; does = refl; asked = refl })
 
   -- ---- an operation
@@ -158,6 +230,20 @@ module _ {M : Type 0} where
         does = refl;
         plan = subst (λ (e : Env). op ≡ bind.plan_at e m.at) of here;
       }
+  plan-job env (Releasing m) op of plan =
+      let here : op ≡ release.plan_at m.env m.at = cc in
+      record {
+        job = releases m.port m.owner m.at;
+        does = refl;
+        plan = subst (λ (e : Env). op ≡ release.plan_at e m.at) of here;
+      }
+  plan-job env (Rebinding m) op of plan =
+      let here : op ≡ rebind.plan_at m.env m.at = cc in
+      record {
+        job = rebinds m.port m.owner m.new_owner m.at;
+        does = refl;
+        plan = subst (λ (e : Env). op ≡ rebind.plan_at e m.at) of here;
+      }
   plan-job env (Counting m) op of plan =
       let here : op ≡ count_plan_in m.env = cc in
       record { job = counts; does = refl; plan = subst (λ (e : Env). op ≡ count_plan_in e) of here }
@@ -177,6 +263,18 @@ module _ {M : Type 0} where
     bound-told m (state, Go) = refl
     bound-told m (state, Done reply) = (λ i. (None, Some record { answer = record { reply = reply; owners = none.owners i }; pairs = none.pairs i }))
 
+    released-told : (m : ReleaseModel) (r : ReleaseAt × Next (Reply × Option ℕ))
+        → job_left (released_next (record m { at = r.0 }, without_node r.1)) ≡ told (releases_next m.port m.owner r)
+    released-told m (state, Go) = refl
+    released-told m (state, Done end) =
+        (λ i. (None, Some record { answer = record { reply = end.0; owners = none.owners i }; pairs = none.pairs i }))
+
+    rebound-told : (m : RebindModel) (r : RebindAt × Next (Reply × Option ℕ))
+        → job_left (rebound_next (record m { at = r.0 }, without_node r.1)) ≡ told (rebinds_next m.port m.owner m.new_owner r)
+    rebound-told m (state, Go) = refl
+    rebound-told m (state, Done end) =
+        (λ i. (None, Some record { answer = record { reply = end.0; owners = none.owners i }; pairs = none.pairs i }))
+
     doing_after-job : (mix : ℕ → ℕ → ℕ → ℕ) (env : Env) (doing : Doing M) (job : Job) (old : ℕ)
         → IsDoingOf env doing → job_of doing ≡ Some job
         → job_left (doing_after mix doing old) ≡ told (job_after mix env job old)
@@ -190,6 +288,16 @@ module _ {M : Type 0} where
         let here : binds m.port m.owner m.once m.at ≡ job = cc in
         bound-told m (bind.after_at mix m.env m.port m.at old)
         ∙ ap (λ (e : Env). told (job_after mix e (binds m.port m.owner m.once m.at) old)) of
+        ∙ ap (λ (j : Job). told (job_after mix env j old)) here
+    doing_after-job mix env (Releasing m) job old of is =
+        let here : releases m.port m.owner m.at ≡ job = cc in
+        released-told m (release.after_at mix m.env m.port m.owner m.at old)
+        ∙ ap (λ (e : Env). told (job_after mix e (releases m.port m.owner m.at) old)) of
+        ∙ ap (λ (j : Job). told (job_after mix env j old)) here
+    doing_after-job mix env (Rebinding m) job old of is =
+        let here : rebinds m.port m.owner m.new_owner m.at ≡ job = cc in
+        rebound-told m (rebind.after_at mix m.env m.port m.owner m.at old)
+        ∙ ap (λ (e : Env). told (job_after mix e (rebinds m.port m.owner m.new_owner m.at) old)) of
         ∙ ap (λ (j : Job). told (job_after mix env j old)) here
     doing_after-job mix env (Counting m) job old of is =
         let here : counts ≡ job = cc in

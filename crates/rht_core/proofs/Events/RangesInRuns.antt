@@ -31,13 +31,20 @@ use Rattle.rht_find.proofs.FindPlanned.{planned_find}
 use Rattle.rht_bind.specs.Bind.{BindModel, bind_after, plan_at as bind_plan_at, IsBindAtIn, IsBindIn}
 use Rattle.rht_bind.proofs.BindStays.{bind_stays}
 use Rattle.rht_bind.proofs.BindPlanned.{planned_bind}
+use Rattle.rht_release.specs.Seek.{seek_new, IsSeekIn}
+use Rattle.rht_release.specs.Release.{ReleaseModel, release_after, plan_at as release_plan_at, IsReleaseAtIn, IsReleaseIn}
+use Rattle.rht_release.proofs.ReleaseStays.{release_stays}
+use Rattle.rht_release.proofs.ReleasePlanned.{planned_release}
+use Rattle.rht_release.specs.Rebind.{RebindModel, rebind_after, plan_at as rebind_plan_at, IsRebindAtIn, IsRebindIn}
+use Rattle.rht_release.proofs.RebindStays.{rebind_stays}
+use Rattle.rht_release.proofs.RebindPlanned.{planned_rebind}
 use Rattle.rht_core.specs.declared.event.Event.{Event}
 use Rattle.rht_core.specs.declared.event.Event.TheVariants.{Enroll, Begin, Step}
 use Rattle.rht_core.specs.PortCounts.{count_plan_in}
 use Rattle.rht_core.specs.declared.local.Local.{Local}
 use Rattle.rht_core.specs.declared.local.Doing.{Doing}
-use Rattle.rht_core.specs.declared.local.Doing.TheVariants.{Idle, Finding, Binding, Counting}
-use Rattle.rht_core.specs.Locals.{fresh, machine_of, begin_with, doing_plan, plan_of, doing_after, local_after, found_next, bound_next}
+use Rattle.rht_core.specs.declared.local.Doing.TheVariants.{Idle, Finding, Binding, Releasing, Rebinding, Counting}
+use Rattle.rht_core.specs.Locals.{fresh, machine_of, begin_with, doing_plan, plan_of, doing_after, local_after, found_next, bound_next, released_next, rebound_next, without_node}
 use Rattle.rht_core.specs.Runs.{Core, World, local_of, beginning_in, with_machine, planned_in, with_step, enrolling, world_step, run_of, opening, IsAdmitted, IsAdmittedCall, IsAdmittedEvent}
 use Rattle.rht_core.specs.Laws.{IsDoingIn, IsLocalIn, InRange, WordsFit, IsOfCaller, IsEnrolledKept, Enrolled}
 use Rattle.rht_core.proofs.Events.CallBeginnings.{begins_so}
@@ -69,6 +76,10 @@ opening_word-fits env _ = omega arith
 planned_count : (env : Env) → IsPlannedIn env.geometry (count_plan_in env)
 planned_count env = record { within = omega arith; apart = λ same. absurd (omega arith); fits = omega arith }
 
+-- the way to a port begins in range
+seek_begins-in : (g : Geometry) → IsSeekIn g (seek_new g)
+seek_begins-in g = record { geometry_same = refl; at_in = tt }
+
 -- a map of nodes has a first word
 first_map_word : (g : Geometry) → 0 < map_words g.nodes
 first_map_word g = let within = g.within.nodes_within in omega arith
@@ -97,6 +108,26 @@ module _ (M : Type 0) where
           at_in = record { geometry_same = refl; at_in = first_map_word env.geometry };
         };
       })
+      (λ port owner admitted. record {
+        same_env = refl;
+        same_caller = refl;
+        port_in = admitted.0;
+        owner_in = admitted.1;
+        at_in = seek_begins-in env.geometry;
+      })
+      (λ port owner new single admitted. record {
+        same_env = refl;
+        same_caller = refl;
+        port_in = admitted.0;
+        owner_in = admitted.1;
+        new_owner_in = admitted.2;
+        at_in = record {
+          geometry_same = refl;
+          key_in = (let small = admitted.0 in omega arith);
+          owner_in = (let small = admitted.2 in omega arith);
+          at_in = record { geometry_same = refl; at_in = first_map_word env.geometry };
+        };
+      })
       (λ admitted. refl)
 
   found_next-in : (env : Env) (c : ℕ) (m : FindModel) (next : Next Reply) → IsFindIn env c m
@@ -108,6 +139,16 @@ module _ (M : Type 0) where
       → IsDoingIn env c (bound_next {M = M} (m, next)).0
   bound_next-in env c m Go within = within
   bound_next-in env c m (Done reply) within = tt
+
+  released_next-in : (env : Env) (c : ℕ) (m : ReleaseModel) (next : Next Reply) → IsReleaseIn env c m
+      → IsDoingIn env c (released_next {M = M} (m, next)).0
+  released_next-in env c m Go within = within
+  released_next-in env c m (Done reply) within = tt
+
+  rebound_next-in : (env : Env) (c : ℕ) (m : RebindModel) (next : Next Reply) → IsRebindIn env c m
+      → IsDoingIn env c (rebound_next {M = M} (m, next)).0
+  rebound_next-in env c m Go within = within
+  rebound_next-in env c m (Done reply) within = tt
 
   -- a caller that is told a word stays in range
   doing_after-in : (mix : ℕ → ℕ → ℕ → ℕ) (env : Env) (c : ℕ) (doing : Doing M) (old : ℕ)
@@ -133,6 +174,27 @@ module _ (M : Type 0) where
         owner_in = within.owner_in;
         at_in = subst (λ (e : Env). IsBindAtIn e (bind_after mix m old).0.at) within.same_env next;
       }
+  doing_after-in mix env c (Releasing m) old within told =
+      let here = subst (λ (e : Env). IsReleaseAtIn e m.at) (sym within.same_env) within.at_in in
+      let next = release_stays mix m.env m.port m.owner m.at old here told in
+      released_next-in env c (release_after mix m old).0 (without_node (release_after mix m old).1) record {
+        same_env = within.same_env;
+        same_caller = within.same_caller;
+        port_in = within.port_in;
+        owner_in = within.owner_in;
+        at_in = subst (λ (e : Env). IsReleaseAtIn e (release_after mix m old).0.at) within.same_env next;
+      }
+  doing_after-in mix env c (Rebinding m) old within told =
+      let here = subst (λ (e : Env). IsRebindAtIn e m.at) (sym within.same_env) within.at_in in
+      let next = rebind_stays mix m.env m.port m.owner m.at old here told in
+      rebound_next-in env c (rebind_after mix m old).0 (without_node (rebind_after mix m old).1) record {
+        same_env = within.same_env;
+        same_caller = within.same_caller;
+        port_in = within.port_in;
+        owner_in = within.owner_in;
+        new_owner_in = within.new_owner_in;
+        at_in = subst (λ (e : Env). IsRebindAtIn e (rebind_after mix m old).0.at) within.same_env next;
+      }
   doing_after-in mix env c (Counting m) old within told = tt
 
   plan_of-in : (env : Env) (c : ℕ) (doing : Doing M) → IsDoingIn env c doing → PlanIn env (doing_plan doing)
@@ -143,6 +205,12 @@ module _ (M : Type 0) where
   plan_of-in env c (Binding m) within =
       subst (λ (e : Env). IsPlannedIn env.geometry (bind_plan_at e m.at)) (sym within.same_env)
       (planned_bind env m.at within.at_in)
+  plan_of-in env c (Releasing m) within =
+      subst (λ (e : Env). IsPlannedIn env.geometry (release_plan_at e m.at)) (sym within.same_env)
+      (planned_release env m.at within.at_in)
+  plan_of-in env c (Rebinding m) within =
+      subst (λ (e : Env). IsPlannedIn env.geometry (rebind_plan_at e m.at)) (sym within.same_env)
+      (planned_rebind env m.at within.at_in)
   plan_of-in env c (Counting m) within =
       subst (λ (e : Env). IsPlannedIn env.geometry (count_plan_in e)) (sym within) (planned_count env)
 

@@ -19,12 +19,14 @@ use Rattle.rht_model.specs.declared.history.Call.{Call}
 use Rattle.rht_model.specs.declared.history.Reply.{Reply}
 use Rattle.rht_find.specs.Find.{FindModel, find_after}
 use Rattle.rht_bind.specs.Bind.{BindModel, bind_after}
+use Rattle.rht_release.specs.Release.{ReleaseModel, release_after}
+use Rattle.rht_release.specs.Rebind.{RebindModel, rebind_after}
 use Rattle.rht_core.specs.declared.event.Event.{Event}
 use Rattle.rht_core.specs.declared.event.Event.TheVariants.{Enroll, Begin, Step}
 use Rattle.rht_core.specs.declared.local.Local.{Local}
 use Rattle.rht_core.specs.declared.local.Doing.{Doing}
-use Rattle.rht_core.specs.declared.local.Doing.TheVariants.{Idle, Finding, Binding, Counting}
-use Rattle.rht_core.specs.Locals.{fresh, machine_of, begin_with, doing_after, local_after, found_next, bound_next, IsDoingOf, IsLocalOf}
+use Rattle.rht_core.specs.declared.local.Doing.TheVariants.{Idle, Finding, Binding, Releasing, Rebinding, Counting}
+use Rattle.rht_core.specs.Locals.{fresh, machine_of, begin_with, doing_after, local_after, found_next, bound_next, released_next, rebound_next, without_node, IsDoingOf, IsLocalOf}
 use Rattle.rht_core.specs.Runs.{Core, World, local_of, beginning_in, with_machine, planned_in, with_step, enrolling, enrolled_after, world_step, run_of, opening, opening_core, IsSound}
 use Rattle.rht_core.proofs.Events.CallBeginnings.{begins_so}
 use Rattle.rht_core.proofs.Events.Worlds.{CanBegin, beginning-some, planned-some, run_keeps}
@@ -36,7 +38,8 @@ module _ (M : Type 0) where
   begins-of : (env : Env) (c : ℕ) (call : Call) (machine : Doing M) → machine_of env c call ≡ Some machine
       → IsDoingOf env machine
   begins-of env c =
-      begins_so M env c (λ call machine. IsDoingOf env machine) (λ port. refl) (λ port owner once. refl) refl
+      begins_so M env c (λ call machine. IsDoingOf env machine) (λ port. refl) (λ port owner once. refl)
+      (λ port owner. refl) (λ port owner new single. refl) refl
 
   found_next-of : (env : Env) (m : FindModel) (next : Next Reply) → m.env ≡ env
       → IsDoingOf env (found_next {M = M} (m, next)).0
@@ -48,6 +51,16 @@ module _ (M : Type 0) where
   bound_next-of env m Go same = same
   bound_next-of env m (Done reply) same = tt
 
+  released_next-of : (env : Env) (m : ReleaseModel) (next : Next Reply) → m.env ≡ env
+      → IsDoingOf env (released_next {M = M} (m, next)).0
+  released_next-of env m Go same = same
+  released_next-of env m (Done reply) same = tt
+
+  rebound_next-of : (env : Env) (m : RebindModel) (next : Next Reply) → m.env ≡ env
+      → IsDoingOf env (rebound_next {M = M} (m, next)).0
+  rebound_next-of env m Go same = same
+  rebound_next-of env m (Done reply) same = tt
+
   -- who is told a word stays in its table
   doing_after-of : (mix : ℕ → ℕ → ℕ → ℕ) (env : Env) (doing : Doing M) (old : ℕ) → IsDoingOf env doing
       → IsDoingOf env (doing_after mix doing old).0
@@ -56,6 +69,10 @@ module _ (M : Type 0) where
       (find_after mix m old).1 of
   doing_after-of mix env (Binding m) old of = bound_next-of env (bind_after mix m old).0
       (bind_after mix m old).1 of
+  doing_after-of mix env (Releasing m) old of =
+      released_next-of env (release_after mix m old).0 (without_node (release_after mix m old).1) of
+  doing_after-of mix env (Rebinding m) old of =
+      rebound_next-of env (rebind_after mix m old).0 (without_node (rebind_after mix m old).1) of
   doing_after-of mix env (Counting m) old of = tt
 
 -- ---- runs

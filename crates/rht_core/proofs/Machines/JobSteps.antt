@@ -1,6 +1,6 @@
 -- What a caller in a call knows by its job, and that each of its operations leads from what it knows to what it knows next.
 -- The inductions over runs go through this one step, with no case of a machine.
-use Rattle.std.proofs.Common.{◌≡◌, ℕ, ◌^◌, ◌<◌, List, length, Bool, refl, inr}
+use Rattle.std.proofs.Common.{◌≡◌, ℕ, ◌^◌, ◌<◌, List, length, Option, Bool, refl, inr}
 use Rattle.rht_words.specs.declared.env.Env.{Env}
 use Rattle.rht_words.specs.declared.machine.Next.{Next}
 use Rattle.rht_words.specs.declared.machine.Next.TheVariants.{Go, Done}
@@ -8,7 +8,7 @@ use Rattle.rht_words.specs.Held as held
 use Rattle.rht_words.specs.Operations.{old_of}
 use Rattle.rht_words.specs.Places.{words_in}
 use Rattle.rht_words.proofs.Memory.{Memory}
-use Rattle.rht_model.specs.declared.history.Call.TheVariants.{Count}
+use Rattle.rht_model.specs.declared.history.Call.TheVariants.{Release, Rebind, Count}
 use Rattle.rht_model.specs.declared.history.Reply.{Reply}
 use Rattle.rht_model.specs.declared.history.Reply.TheVariants.{Counted}
 use Rattle.rht_model.specs.Answers.{plain}
@@ -19,19 +19,30 @@ use Rattle.rht_find.specs.declared.find.FindAt.{FindAt}
 use Rattle.rht_bind.specs.Bind.{IsBindAtIn}
 use Rattle.rht_bind.specs.Bind as bind_at
 use Rattle.rht_bind.specs.declared.bind.BindAt.{BindAt}
+use Rattle.rht_words.specs.declared.config.Kind.TheVariants.{Single}
+use Rattle.rht_release.specs.Release.{IsReleaseAtIn}
+use Rattle.rht_release.specs.Release as release_at
+use Rattle.rht_release.specs.declared.release.ReleaseAt.{ReleaseAt}
+use Rattle.rht_release.specs.Rebind.{IsRebindAtIn}
+use Rattle.rht_release.specs.Rebind as rebind_at
+use Rattle.rht_release.specs.declared.rebind.RebindAt.{RebindAt}
 use Rattle.rht_core.specs.PortCounts.{count_plan_in}
-use Rattle.rht_core.specs.Jobs.{Job, finds, binds, counts, call_of, job_plan, finds_next, binds_next, job_after, held_of, held_next}
+use Rattle.rht_core.specs.Jobs.{Job, finds, binds, releases, rebinds, counts, call_of, job_plan, finds_next, binds_next, releases_next, rebinds_next, job_after, held_of, held_next}
 use Rattle.rht_core.proofs.Theory.Ghosts.{Ghost}
 use Rattle.rht_core.proofs.Theory.Wholes.{Whole}
 use Rattle.rht_core.proofs.Theory.Knowledge.{Known, MembersUsed, Rely, Knowing, Knowing-rely}
 use Rattle.rht_core.proofs.Theory.Steps.{mem, Holding, Step, step-map, reads}
 use Rattle.rht_core.proofs.Machines.FindSteps.{known_nothing, known_of_find, fits_find, find_holds, FindNext, find_step}
 use Rattle.rht_core.proofs.Machines.BindSteps.{known_of_bind, fits_bind, bind_holds, BindNext, bind_step}
+use Rattle.rht_core.proofs.Machines.ReleaseSteps.{known_of_release, fits_release, release_holds, ReleaseNext, nothing_known, release_step}
+use Rattle.rht_core.proofs.Machines.RebindSteps.{known_of_rebind, fits_rebind, rebind_holds, RebindNext, rebind_step}
 
 -- what a caller knows by its job
 abbrev pub known_of : Job → Known
 known_of (finds port state) = known_of_find port state
 known_of (binds port owner once state) = known_of_bind port owner state
+known_of (releases port owner state) = known_of_release port owner state
+known_of (rebinds port owner new state) = known_of_rebind port owner new state
 known_of counts = known_nothing
 
 -- nothing is held
@@ -43,10 +54,17 @@ pub record IsBindingIn (env : Env) (owner : ℕ) (state : BindAt) : Type 0 where
   pub owner_in : owner < 2 ^ 32
   pub at_in : IsBindAtIn env state
 
--- each job is built for tables of one owner for each port and of lists
+-- all that a rebind names is the table's, and its new owner has 32 bits
+pub record IsRebindingIn (env : Env) (new : ℕ) (state : RebindAt) : Type 0 where
+  pub new_in : new < 2 ^ 32
+  pub at_in : IsRebindAtIn env state
+
+-- a rebind is built for tables of one owner for each port alone, each other job for those of lists as well
 abbrev pub IsJobBuilt : Env → Job → Type 0
 IsJobBuilt env (finds port state) = Unit {0}
 IsJobBuilt env (binds port owner once state) = Unit {0}
+IsJobBuilt env (releases port owner state) = Unit {0}
+IsJobBuilt env (rebinds port owner new state) = env.config.kind ≡ Single
 IsJobBuilt env counts = Unit {0}
 
 module _ (env : Env) (mix : ℕ → ℕ → ℕ → ℕ) (c : ℕ) where
@@ -54,11 +72,15 @@ module _ (env : Env) (mix : ℕ → ℕ → ℕ → ℕ) (c : ℕ) where
   abbrev pub JobIn : Job → Type 0
   JobIn (finds port state) = IsFindAtIn env state
   JobIn (binds port owner once state) = IsBindingIn env owner state
+  JobIn (releases port owner state) = IsReleaseAtIn env state
+  JobIn (rebinds port owner new state) = IsRebindingIn env new state
   JobIn counts = Unit {0}
 
   abbrev pub fits_job : Job → Type 0
   fits_job (finds port state) = fits_find port state
   fits_job (binds port owner once state) = fits_bind env mix c port owner once state
+  fits_job (releases port owner state) = fits_release env mix c port owner state
+  fits_job (rebinds port owner new state) = fits_rebind env mix c port owner new state
   fits_job counts = Unit {0}
 
   pub record JobKnows (job : Job) (M : Memory) (G : Ghost) : Type 0 where
@@ -107,6 +129,36 @@ module _ (env : Env) (mix : ℕ → ℕ → ℕ → ℕ) (c : ℕ) where
         (λ M G' w k. record { built = tt; knowing = k.knowing; fits = k.fits }) step
     binds_so port owner once state (next, Done reply) step = step
 
+    releases_so : (port owner : ℕ) (state : ReleaseAt) (r : ReleaseAt × Next (Reply × Option ℕ))
+        → Step env mix c (Release port owner) words G (release_at.plan_at env state) (held_of (releases port owner state))
+        (release_holds env mix c port owner r) (ReleaseNext env mix c port owner r)
+        → Step env mix c (Release port owner) words G (release_at.plan_at env state) (held_of (releases port owner state))
+        (held_next (releases_next port owner r)) (JobNext (releases_next port owner r))
+    releases_so port owner state (next, Go) step =
+        step-map env mix c (Release port owner) words G (release_at.plan_at env state) (held_of (releases port owner state))
+        (held_of (releases port owner next)) _ (JobNext (releases port owner next, Go))
+        (λ M G' w k. record { built = tt; knowing = k.knowing; fits = k.fits }) step
+    releases_so port owner state (next, Done end) step =
+        let after = held.ended_with (plain end.0) in
+        step-map env mix c (Release port owner) words G (release_at.plan_at env state) (held_of (releases port owner state))
+        after _ (JobNext (releases_next port owner (next, Done end)))
+        (λ M G' w k. nothing_known env mix c after end.1 M G' k) step
+
+    rebinds_so : env.config.kind ≡ Single → (port owner new : ℕ) (state : RebindAt) (r : RebindAt × Next (Reply × Option ℕ))
+        → Step env mix c (Rebind port owner new) words G (rebind_at.plan_at env state) (held_of (rebinds port owner new state))
+        (rebind_holds env mix c port owner new r) (RebindNext env mix c port owner new r)
+        → Step env mix c (Rebind port owner new) words G (rebind_at.plan_at env state) (held_of (rebinds port owner new state))
+        (held_next (rebinds_next port owner new r)) (JobNext (rebinds_next port owner new r))
+    rebinds_so single port owner new state (next, Go) step =
+        step-map env mix c (Rebind port owner new) words G (rebind_at.plan_at env state) (held_of (rebinds port owner new state))
+        (held_of (rebinds port owner new next)) _ (JobNext (rebinds port owner new next, Go))
+        (λ M G' w k. record { built = single; knowing = k.knowing; fits = k.fits }) step
+    rebinds_so single port owner new state (next, Done end) step =
+        let after = held.ended_with (plain end.0) in
+        step-map env mix c (Rebind port owner new) words G (rebind_at.plan_at env state) (held_of (rebinds port owner new state))
+        after _ (JobNext (rebinds_next port owner new (next, Done end)))
+        (λ M G' w k. nothing_known env mix c after end.1 M G' k) step
+
     -- each operation of a job leads from what the caller knows to what it knows next
     pub job_step : (job : Job) → JobIn job → JobKnows job (mem env mix words) G → JobStep job
     job_step (finds port state) within knows =
@@ -115,6 +167,14 @@ module _ (env : Env) (mix : ℕ → ℕ → ℕ → ℕ) (c : ℕ) where
     job_step (binds port owner once state) within knows =
         binds_so port owner once state (bind_at.after_at mix env port state (old_of words (bind_at.plan_at env state)))
         (bind_step env mix c port owner once within.owner_in low words G all whole state within.at_in (record { knowing = knows.knowing; fits = knows.fits }))
+    job_step (releases port owner state) within knows =
+        releases_so port owner state (release_at.after_at mix env port owner state (old_of words (release_at.plan_at env state)))
+        (release_step env mix c port owner low words G all whole state within (record { knowing = knows.knowing; fits = knows.fits }))
+    job_step (rebinds port owner new state) within knows =
+        rebinds_so knows.built port owner new state
+        (rebind_at.after_at mix env port owner state (old_of words (rebind_at.plan_at env state)))
+        (rebind_step env mix c port owner new knows.built within.new_in low words G all whole state within.at_in
+        (record { knowing = knows.knowing; fits = knows.fits }))
     job_step counts within knows =
         let old = old_of words (count_plan_in env) in
         reads env mix c Count words G (count_plan_in env) held.holds_nothing (held.ended_with (plain (Counted old)))

@@ -81,7 +81,7 @@ behind_node found before = record found { before = before }
 
 module _ (port owner : ℕ) where
   -- while the chain is changed: this of the list, or that the first node was taken out
-  abbrev known_relinking : FoundPort → KnownList → Bool → KnownBucket
+  abbrev pub known_relinking : FoundPort → KnownList → Bool → KnownBucket
   known_relinking found known stored = cond stored (locks_taken found found.node) (in_list port found known)
 
   -- what a release knows in a state

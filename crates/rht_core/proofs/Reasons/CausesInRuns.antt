@@ -8,7 +8,7 @@
 -- operation stands in the run at its event; and since the count is at most the nodes there, the clamp
 -- under which a bind looks at it has changed nothing.
 use Rattle.std.proofs.Common.{◌≡◌, ◌⊎◌, ℕ, ◌≤◌, ◌+◌, Bool, true, false, cond, List, [], ◌∷◌, ◌++◌, map, min, refl, sym, ap, ◌∙◌, subst, inl, inr, arith}
-use Rattle.std.specs.Prelude.{Option, Some, None, IfSome}
+use Rattle.std.specs.Prelude.{Option, Some, None, IfSome, ◌==◌}
 use Rattle.std.specs.List.{AllByRecursion, Any}
 use Rattle.std.proofs.lemmas.Bool.{leb-true}
 use Rattle.std.proofs.lemmas.List.{map-append}
@@ -32,10 +32,10 @@ use Rattle.rht_words.specs.Links.{slot_of}
 use Rattle.rht_model.specs.declared.history.Call.{Call}
 use Rattle.rht_model.specs.declared.history.Call.TheVariants.{Bind, Find, All, Release, Rebind, Walk, Work, Tidy, Count}
 use Rattle.rht_model.specs.declared.history.Reply.{Reply}
-use Rattle.rht_model.specs.declared.history.Reply.TheVariants.{Bound, Exists, Found, Missing, TooBig, NoNode, Counted}
+use Rattle.rht_model.specs.declared.history.Reply.TheVariants.{Bound, Exists, Found, Missing, Released, Absent, Rebound, TooBig, NoNode, Counted}
 use Rattle.rht_model.specs.Endings.{Ending}
 use Rattle.rht_arena.specs.TakeNode.{TakeNodeModel, take_node_after, IsTakeAtIn, IsTakeIn}
-use Rattle.rht_arena.specs.NewNode.{NewNodeModel, new_node_plan_at, new_node_after_at, node_taken, IsNewNodeAtIn}
+use Rattle.rht_arena.specs.NewNode.{NewNodeModel, new_node_plan, new_node_plan_at, new_node_after_at, node_taken, IsNewNodeAtIn, IsNewNodeIn}
 use Rattle.rht_arena.specs.declared.new_node.NewNodeAt.{NewNodeAt}
 use Rattle.rht_arena.specs.declared.new_node.NewNodeAt.TheVariants as news
 use Rattle.rht_nest.specs.Locate.{LocateModel, locate_plan, locate_after}
@@ -57,13 +57,22 @@ use Rattle.rht_bind.specs.declared.bind.Claimed.{Claimed}
 use Rattle.rht_bind.specs.declared.bind.FoundList.{FoundList}
 use Rattle.rht_bind.specs.declared.bind.BindAt.{BindAt}
 use Rattle.rht_bind.specs.declared.bind.BindAt.TheVariants as at
+use Rattle.rht_release.specs.declared.found_port.FoundPort.{FoundPort}
+use Rattle.rht_release.specs.Seek.{SeekModel, seek_new, seek_after}
+use Rattle.rht_release.specs.Release as release
+use Rattle.rht_release.specs.declared.release.ReleaseAt.{ReleaseAt}
+use Rattle.rht_release.specs.declared.release.ReleaseAt.TheVariants.{Seeking}
+use Rattle.rht_release.specs.Rebind as rebind
+use Rattle.rht_release.specs.declared.rebind.RebindAt.{RebindAt}
+use Rattle.rht_release.specs.declared.rebind.RebindAt.TheVariants as rebinds_at
+use Rattle.rht_words.specs.Ports.{owner_of}
 use Rattle.rht_core.specs.declared.event.Event.{Event}
-use Rattle.rht_core.specs.Jobs.{Job, finds, binds, counts, first_job, finds_next, binds_next, job_after}
-use Rattle.rht_core.specs.Replies.{IsFindReply, IsReplyTo}
+use Rattle.rht_core.specs.Jobs.{Job, finds, binds, releases, rebinds, counts, first_job, first_rebind, finds_next, binds_next, releases_next, rebinds_next, job_after}
+use Rattle.rht_core.specs.Replies.{IsFindReply, IsReleaseReply, IsRebindReply, IsReplyTo}
 use Rattle.rht_core.specs.Traces.{Did, Past, performed_of, traced_of}
 use Rattle.rht_core.specs.Runs.{IsAdmitted}
 use Rattle.rht_core.specs.Laws.{IsRecorded, IsPastCall}
-use Rattle.rht_core.specs.Causes.{FindCause, LastWalked, IsRaise, IsDueBy, KicksRightly, SawFull, SawCount, BindCause, CountCause, CauseOf, HasCause, Causes}
+use Rattle.rht_core.specs.Causes.{FindCause, LastWalked, IsRaise, IsDueBy, KicksRightly, SawFull, SawCount, ReleaseCause, RebindCause, BindCause, CountCause, CauseOf, HasCause, Causes}
 use Rattle.rht_words.specs.Machines.{GoesOrEnds}
 use Rattle.rht_core.proofs.Tracing.RepliesInRuns.{Holds, Answered, runs-right}
 use Rattle.rht_core.proofs.Theory.Ghosts.{Ghost}
@@ -115,13 +124,18 @@ module _ (env : Env) where
   SawForCount (Counted count) steps = Any (LoadedCount count) steps
   SawForCount _ steps = ⊥
 
-  -- and for any call to have it; a look-up has nothing to show, and of the others there is no machine yet
+  -- and a rebind for want of a node
+  abbrev SawForRebind : Reply → List Did → Type 0
+  SawForRebind NoNode steps = SawAllBelow env.geometry env.geometry.nodes (map performed_of steps)
+  SawForRebind _ steps = Unit {0}
+
+  -- and for any call to have it; a look-up and a release have nothing to show, and of the others there is no machine yet
   abbrev pub SawOf : Call → Reply → List Did → Type 0
   SawOf (Bind port owner once) reply steps = SawFor reply steps
   SawOf (Find port) reply steps = Unit {0}
   SawOf (All port) reply steps = ⊥
-  SawOf (Release port owner) reply steps = ⊥
-  SawOf (Rebind port owner new) reply steps = ⊥
+  SawOf (Release port owner) reply steps = Unit {0}
+  SawOf (Rebind port owner new) reply steps = SawForRebind reply steps
   SawOf (Walk from limit) reply steps = ⊥
   SawOf Work reply steps = ⊥
   SawOf Tidy reply steps = ⊥
@@ -155,10 +169,23 @@ module _ (env : Env) where
   SawAt (at.Unlocking node table unlock next) steps = SawForReply (answer_behind next) steps
   SawAt (at.Giving give reply) steps = SawFor reply steps
 
-  -- of a look-up nothing is kept, nor of a reading of the count before it ends
+  -- of a rebind only what it has seen while it makes a new node
+  abbrev SawAtRebind : RebindAt → List Did → Type 0
+  SawAtRebind (rebinds_at.Filling new) steps = SawNew new.at steps
+  SawAtRebind (rebinds_at.Seeking node seek) steps = Unit {0}
+  SawAtRebind (rebinds_at.Owner node found) steps = Unit {0}
+  SawAtRebind (rebinds_at.ChainLink node found) steps = Unit {0}
+  SawAtRebind (rebinds_at.Link node found link) steps = Unit {0}
+  SawAtRebind (rebinds_at.Replacing node found relink) steps = Unit {0}
+  SawAtRebind (rebinds_at.Unlocking node table unlock) steps = Unit {0}
+  SawAtRebind (rebinds_at.Giving give) steps = Unit {0}
+
+  -- of a look-up nothing is kept, nor of a release, nor of a reading of the count before it ends
   abbrev JobSaw : Job → List Did → Type 0
   JobSaw (finds port state) steps = Unit {0}
   JobSaw (binds port owner once state) steps = SawAt state steps
+  JobSaw (releases port owner state) steps = Unit {0}
+  JobSaw (rebinds port owner new state) steps = SawAtRebind state steps
   JobSaw counts steps = Unit {0}
 
   -- what it has seen once it goes on, and once it has answered
@@ -198,12 +225,86 @@ module _ (env : Env) where
 
   -- ---- an operation of a bind
 
-  taking-saw : (new : NewNodeModel) (take : TakeNodeModel) (next : Next (Option ℕ)) (steps : List Did)
-      → SawSoFar env.geometry (map performed_of steps) (take, next)
-      → let after = node_taken take next in SawNext steps (filled (record new { at = after.0 }) after.1)
-  taking-saw new take Go steps saw = saw
-  taking-saw new take (Done None) steps saw = saw
-  taking-saw new take (Done (Some node)) steps saw = tt
+  -- what whoever makes a new node has seen after an operation
+  abbrev SawMade : List Did → NewNodeAt × Next (Option ℕ) → Type 0
+  SawMade all (state, Go) = SawNew state all
+  SawMade all (state, Done None) = SawAllBelow env.geometry env.geometry.nodes (map performed_of all)
+  SawMade all (state, Done (Some node)) = Unit {0}
+
+  taking-saw : (take : TakeNodeModel) (next : Next (Option ℕ)) (all : List Did)
+      → SawSoFar env.geometry (map performed_of all) (take, next) → SawMade all (node_taken take next)
+  taking-saw take Go all saw = saw
+  taking-saw take (Done None) all saw = saw
+  taking-saw take (Done (Some node)) all saw = tt
+
+  new-saw : (new : NewNodeModel) (state : NewNodeAt) (steps : List Did) (did : Did) → new.at ≡ state
+      → IsNewNodeIn env.geometry new → did.op ≡ new_node_plan new → SawNew state steps
+      → SawMade (steps ++ did ∷ []) (new_node_after_at state did.old)
+  new-saw new (news.Taking take) steps did is within plan saw =
+      let all = steps ++ did ∷ [] in
+      let fits : IsTakeIn env.geometry take = subst (IsNewNodeAtIn env.geometry) is within.at_in in
+      let before = map performed_of steps in
+      let planned = plan ∙ ap (new_node_plan_at new.geometry new.key new.owner) is in
+      let range = subst (λ (h : Geometry). IsTakeAtIn h take.at) (sym fits.geometry_same) fits.at_in in
+      let saw_below = subst (λ (h : Geometry). SawAllBelow h (first_unseen take.at) before) (sym fits.geometry_same) saw in
+      let after = take_after-saw take take.at before (performed_of did) planned range saw_below in
+      let here =
+      subst (λ (h : Geometry). SawSoFar h (before ++ performed_of did ∷ []) (take_node_after take did.old)) fits.geometry_same after in
+      taking-saw (take_node_after take did.old).0 (take_node_after take did.old).1 all
+      (subst (λ (list : List Performed). SawSoFar env.geometry list (take_node_after take did.old)) (sym (map-append performed_of steps (did ∷ []))) here)
+  new-saw new (news.Key node) steps did is within plan saw = tt
+  new-saw new (news.Owner node) steps did is within plan saw = tt
+  new-saw new (news.ListLink node) steps did is within plan saw = tt
+
+  bind_made-saw : (new : NewNodeModel) (r : NewNodeAt × Next (Option ℕ)) (all : List Did) → SawMade all r
+      → SawNext all (filled (record new { at = r.0 }) r.1)
+  bind_made-saw new (state, Go) all saw = saw
+  bind_made-saw new (state, Done None) all saw = saw
+  bind_made-saw new (state, Done (Some node)) all saw = tt
+
+  -- ---- what a rebind has seen
+
+  abbrev SawNextRebind : List Did → RebindAt × Next (Reply × Option ℕ) → Type 0
+  SawNextRebind all next = GoesOrEnds (λ state. SawAtRebind state all) (λ end. SawForRebind end.0 all) next
+
+  rebind_made-saw : (new : NewNodeModel) (r : NewNodeAt × Next (Option ℕ)) (all : List Did) → SawMade all r
+      → SawNextRebind all (rebind.filled env.geometry (record new { at = r.0 }) r.1)
+  rebind_made-saw new (state, Go) all saw = saw
+  rebind_made-saw new (state, Done None) all saw = saw
+  rebind_made-saw new (state, Done (Some node)) all saw = tt
+
+  rebind_sought-saw : (node : ℕ) (seek : SeekModel) (next : Next (Option FoundPort)) (all : List Did)
+      → SawAtRebind (rebind.sought env.geometry node seek next) all
+  rebind_sought-saw node seek Go all = tt
+  rebind_sought-saw node seek (Done None) all = tt
+  rebind_sought-saw node seek (Done (Some found)) all = tt
+
+  rebind_compared-saw : (node : ℕ) (found : FoundPort) (equal : Bool) (all : List Did)
+      → SawAtRebind (rebind.owner_compared node found equal) all
+  rebind_compared-saw node found true all = tt
+  rebind_compared-saw node found false all = tt
+
+  rebind_replaced-saw : (node : ℕ) (found : FoundPort) (relink : RelinkModel) (next : Next (Unit {0})) (all : List Did)
+      → SawNextRebind all (rebind.replaced node found relink next)
+  rebind_replaced-saw node found relink Go all = tt
+  rebind_replaced-saw node found relink (Done done) all = tt
+
+  rebind-saw : (mix : ℕ → ℕ → ℕ → ℕ) (port owner new : ℕ) (state : RebindAt) (steps : List Did) (did : Did)
+      → Performs mix env (rebinds port owner new state) did → SawAtRebind state steps
+      → SawNextRebind (steps ++ did ∷ []) (rebind.after_at mix env port owner state did.old)
+  rebind-saw mix port owner new (rebinds_at.Filling made) steps did does saw =
+      rebind_made-saw made (new_node_after_at made.at did.old) (steps ++ did ∷ [])
+      (new-saw made made.at steps did refl does.within.at_in does.planned saw)
+  rebind-saw mix port owner new (rebinds_at.Seeking node seek) steps did does saw =
+      rebind_sought-saw node (seek_after mix port seek did.old).0 (seek_after mix port seek did.old).1 (steps ++ did ∷ [])
+  rebind-saw mix port owner new (rebinds_at.Owner node found) steps did does saw =
+      rebind_compared-saw node found (owner_of did.old == owner) (steps ++ did ∷ [])
+  rebind-saw mix port owner new (rebinds_at.ChainLink node found) steps did does saw = tt
+  rebind-saw mix port owner new (rebinds_at.Link node found link) steps did does saw = tt
+  rebind-saw mix port owner new (rebinds_at.Replacing node found relink) steps did does saw =
+      rebind_replaced-saw node found (relink_after relink).0 (relink_after relink).1 (steps ++ did ∷ [])
+  rebind-saw mix port owner new (rebinds_at.Unlocking node table unlock) steps did does saw = tt
+  rebind-saw mix port owner new (rebinds_at.Giving give) steps did does saw = tt
 
   SawForReply-push : (reply : Option Reply) (steps : List Did) (did : Did) → IsAside env.geometry did
       → SawForReply reply steps → SawForReply reply (steps ++ did ∷ [])
@@ -315,30 +416,11 @@ module _ (env : Env) where
         (same_table env.geometry mix port locate locate.at (old_of does.words (locate_plan locate)))
         (subst (λ old. WalkedNext env.geometry locate.table (locate_after mix port locate old) all) is walked))
 
-    -- while it makes a new node
-    new-saw : (new : NewNodeModel) (state : NewNodeAt) (steps : List Did) (did : Did) → new.at ≡ state
-        → Performs mix env (binds port owner once (at.Filling new)) did → SawNew state steps
-        → let after = new_node_after_at state did.old in
-        SawNext (steps ++ did ∷ []) (filled (record new { at = after.0 }) after.1)
-    new-saw new (news.Taking take) steps did is does saw =
-        let all = steps ++ did ∷ [] in
-        let fits : IsTakeIn env.geometry take = subst (IsNewNodeAtIn env.geometry) is does.within.at_in.at_in in
-        let before = map performed_of steps in
-        let planned = does.planned ∙ ap (new_node_plan_at new.geometry new.key new.owner) is in
-        let range = subst (λ (h : Geometry). IsTakeAtIn h take.at) (sym fits.geometry_same) fits.at_in in
-        let saw_below = subst (λ (h : Geometry). SawAllBelow h (first_unseen take.at) before) (sym fits.geometry_same) saw in
-        let after = take_after-saw take take.at before (performed_of did) planned range saw_below in
-        let here =
-        subst (λ (h : Geometry). SawSoFar h (before ++ performed_of did ∷ []) (take_node_after take did.old)) fits.geometry_same after in
-        taking-saw new (take_node_after take did.old).0 (take_node_after take did.old).1 all
-        (subst (λ (list : List Performed). SawSoFar env.geometry list (take_node_after take did.old)) (sym (map-append performed_of steps (did ∷ []))) here)
-    new-saw new (news.Key node) steps did is does saw = tt
-    new-saw new (news.Owner node) steps did is does saw = tt
-    new-saw new (news.ListLink node) steps did is does saw = tt
-
     bind-saw : (state : BindAt) (steps : List Did) (did : Did) → Performs mix env (binds port owner once state) did
         → SawAt state steps → SawNext (steps ++ did ∷ []) (after_at mix env port state did.old)
-    bind-saw (at.Filling new) steps did does saw = new-saw new new.at steps did refl does saw
+    bind-saw (at.Filling new) steps did does saw =
+        bind_made-saw new (new_node_after_at new.at did.old) (steps ++ did ∷ [])
+        (new-saw new new.at steps did refl does.within.at_in does.planned saw)
     bind-saw (at.CurrentTable node) steps did does saw = tt
     bind-saw (at.Locating node locate) steps did does saw = locating-saw node locate steps did does saw
     bind-saw (at.Probing node table shape probe) steps did does saw =
@@ -380,6 +462,19 @@ module _ (env : Env) where
   find-cause Missing is = tt
   find-cause _ is = absurd is
 
+  -- nor has a release
+  release-cause : (reply : Reply) → IsReleaseReply reply → ReleaseCause reply
+  release-cause (Released kick) is = tt
+  release-cause Absent is = tt
+  release-cause _ is = absurd is
+
+  rebind-cause : (past : Past) (reply : Reply) → SawForRebind reply past.steps → IsRebindReply reply
+      → RebindCause env past reply
+  rebind-cause past Rebound saw is = tt
+  rebind-cause past Absent saw is = tt
+  rebind-cause past NoNode saw is = saw
+  rebind-cause past _ saw is = absurd is
+
 -- ---- runs
 
 module _ (M : Type 0) (mix : ℕ → ℕ → ℕ → ℕ) (env : Env) where
@@ -397,6 +492,17 @@ module _ (M : Type 0) (mix : ℕ → ℕ → ℕ → ℕ) (env : Env) where
   bind-leads port owner once state all (after, Go) saw = saw
   bind-leads port owner once state all (after, Done reply) saw = saw
 
+  release-leads : (port owner : ℕ) (state : ReleaseAt) (all : List Did) (next : ReleaseAt × Next (Reply × Option ℕ))
+      → LeadsOn M mix env (JobSaw env) EndsSeen (releases port owner state) all (releases_next port owner next)
+  release-leads port owner state all (after, Go) = tt
+  release-leads port owner state all (after, Done end) = tt
+
+  rebind-leads : (port owner new : ℕ) (state : RebindAt) (all : List Did) (next : RebindAt × Next (Reply × Option ℕ))
+      → SawNextRebind env all next
+      → LeadsOn M mix env (JobSaw env) EndsSeen (rebinds port owner new state) all (rebinds_next port owner new next)
+  rebind-leads port owner new state all (after, Go) saw = saw
+  rebind-leads port owner new state all (after, Done end) saw = saw
+
   job-leads : (job : Job) (steps : List Did) (did : Did) → Performs mix env job did → JobSaw env job steps
       → LeadsOn M mix env (JobSaw env) EndsSeen job (steps ++ did ∷ []) (job_after mix env job did.old)
   job-leads (finds port state) steps did performs saw =
@@ -404,15 +510,30 @@ module _ (M : Type 0) (mix : ℕ → ℕ → ℕ → ℕ) (env : Env) where
   job-leads (binds port owner once state) steps did performs saw =
       bind-leads port owner once state (steps ++ did ∷ []) (after_at mix env port state did.old)
       (bind-saw env mix port owner once state steps did performs saw)
+  job-leads (releases port owner state) steps did performs saw =
+      release-leads port owner state (steps ++ did ∷ []) (release.after_at mix env port owner state did.old)
+  job-leads (rebinds port owner new state) steps did performs saw =
+      rebind-leads port owner new state (steps ++ did ∷ []) (rebind.after_at mix env port owner state did.old)
+      (rebind-saw env mix port owner new state steps did performs saw)
   job-leads counts steps did performs saw =
       Any-push (LoadedCount env did.old) steps did (record { loaded = performs.planned; found = refl })
 
   -- below the first node there is none
+  first_rebind-saw : (port owner new : ℕ) (kind : Kind) (job : Job) → first_rebind env port owner new kind ≡ Some job
+      → JobSaw env job []
+  first_rebind-saw port owner new Single job is =
+      let here : rebinds port owner new (rebind.first_state env port new) ≡ job = cc in
+      subst (λ j. JobSaw env j []) here (λ node l. absurd (omega arith))
+  first_rebind-saw port owner new Listed job is = absurd (cc)
+
   first_job-saw : (call : Call) (job : Job) → first_job env call ≡ Some job → JobSaw env job []
   first_job-saw (Find port) job is = subst (λ j. JobSaw env j []) (let here : finds port CurrentTable ≡ job = cc in here) tt
   first_job-saw (Bind port owner once) job is =
       let here : binds port owner once (first_state env port owner) ≡ job = cc in
       subst (λ j. JobSaw env j []) here (λ node l. absurd (omega arith))
+  first_job-saw (Release port owner) job is =
+      subst (λ j. JobSaw env j []) (let here : releases port owner (Seeking (seek_new env.geometry)) ≡ job = cc in here) tt
+  first_job-saw (Rebind port owner new) job is = first_rebind-saw port owner new env.config.kind job is
   first_job-saw Count job is = subst (λ j. JobSaw env j []) (let here : counts ≡ job = cc in here) tt
   first_job-saw _ job is = absurd (cc)
 
@@ -524,6 +645,8 @@ module _ (M : Type 0) (mix : ℕ → ℕ → ℕ → ℕ) (env : Env) where
         → AllByRecursion IsRecordedHere past.steps → CauseOf M mix env events c past call reply
     cause_of past (Bind port owner once) reply saw right recorded = bind-cause past reply saw recorded
     cause_of past (Find port) reply saw right recorded = find-cause env reply right
+    cause_of past (Release port owner) reply saw right recorded = release-cause env reply right
+    cause_of past (Rebind port owner new) reply saw right recorded = rebind-cause env past reply saw right
     cause_of past Count reply saw right recorded = count-cause past reply saw recorded
     cause_of past _ reply saw right recorded = absurd saw
 

@@ -186,6 +186,15 @@ taken_by_one c d ne = go (d == c) refl
     go true e = absurd (ne (sym (eqb-true d c e)))
     go false e = e
 
+-- a node that counts as taken out by this caller is
+pub taken_is : (c : ℕ) (o : Owner) → is_taken_by c o ≡ true → o ≡ Taken c
+taken_is c Free is = absurd (cc)
+taken_is c (Held d) is = absurd (cc)
+taken_is c (First j) is = absurd (cc)
+taken_is c (Leaving j) is = absurd (cc)
+taken_is c (Behind k) is = absurd (cc)
+taken_is c (Taken d) is = ap Taken (eqb-true d c is)
+
 -- one owner is not another
 pub held_not_used : (o : Owner) (d : ℕ) → o ≡ Held d → IsUsed o → ⊥
 held_not_used o d held used = let e = sym used ∙ ap is_used held in cc
