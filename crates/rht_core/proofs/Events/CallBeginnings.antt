@@ -16,7 +16,8 @@ module _ (M : Type 0) where
   -- A call begins as a look-up or as a bind. What is so of these two is so of whatever begins.
   module _ (env : Env) (c : ℕ) (So : Call → Doing M → Type 0)
       (find : (port : ℕ) → So (Find port) (Finding (find_new env c port)))
-      (bind : (port owner : ℕ) (once : Bool) → So (Bind port owner once) (Binding (bind_new env c port owner once)))
+      (bind : (port owner : ℕ) (once : Bool) → So (Bind port owner once)
+      (Binding (bind_new env c port owner once)))
     where
       abbrev BeginsSo : Call → Option (Doing M) → Type 0
       BeginsSo call None = Unit {0}

@@ -77,7 +77,12 @@ module _ (env : Env) (mix : ℕ → ℕ → ℕ → ℕ) where
     begun_knows c call machine M G is knows =
         begins_so L env c (λ asked first. Knows c (job_of first) M G)
         (λ port. record { built = tt; knowing = record { only = knows.only; means = knows.means }; fits = tt })
-        (λ port owner once. record { built = tt; knowing = record { only = knows.only; means = knows.means }; fits = (refl, refl) })
+        (λ port owner once. record {
+          built = tt;
+          knowing =
+              record { only = knows.only; means = knows.means };
+          fits = (refl, refl);
+        })
         call machine is
 
     -- a caller in no call has nothing

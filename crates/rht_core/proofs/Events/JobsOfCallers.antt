@@ -65,14 +65,16 @@ left-told (job, Done ending) = refl
 pub first_unknown : (env : Env) (call : Call) (job : Job) → first_job env call ≡ Some job → (held_of job).answer ≡ None
 first_unknown env (Find port) job is = let here : finds port CurrentTable ≡ job = cc in ap (λ j. (held_of j).answer) (sym here)
 first_unknown env (Bind port owner once) job is =
-    let here : binds port owner once (bind.first_state env port owner) ≡ job = cc in ap (λ j. (held_of j).answer) (sym here)
+    let here : binds port owner once (bind.first_state env port owner) ≡ job =
+    cc in ap (λ j. (held_of j).answer) (sym here)
 first_unknown env _ job is = absurd (cc)
 
 -- and it has no node
 pub first_without : (env : Env) (call : Call) (job : Job) → first_job env call ≡ Some job → (held_of job).node ≡ None
 first_without env (Find port) job is = let here : finds port CurrentTable ≡ job = cc in ap (λ j. (held_of j).node) (sym here)
 first_without env (Bind port owner once) job is =
-    let here : binds port owner once (bind.first_state env port owner) ≡ job = cc in ap (λ j. (held_of j).node) (sym here)
+    let here : binds port owner once (bind.first_state env port owner) ≡ job =
+    cc in ap (λ j. (held_of j).node) (sym here)
 first_without env _ job is = absurd (cc)
 
 -- the job that is left of what a caller does is the one that is left of its job
