@@ -132,20 +132,21 @@ module _ (env : Env) (mix : ℕ → ℕ → ℕ → ℕ) (c : ℕ) (port owner :
   abbrev call : Call
   call = calls.Bind port owner once
 
-  -- the relinking that puts the node in front of the list, at this state of it; the state is one for this
-  -- place before it
+  -- the relinking that puts the node in front of the list, at this state of it
   abbrev pub front_relink : FoundList → RelinkAt → RelinkModel
   front_relink list state =
       let bucket = list.claimed.bucket in
-      record (relink_new env.geometry bucket.place bucket.word list.before (link_of list.claimed.node))
-      { at = state }
+      let link = link_of list.claimed.node in
+      record (relink_new env.geometry bucket.place bucket.word list.before link) { at = state }
 
+  -- a state of the change of the place before, in a bucket whose word was this, to this link
   abbrev pub IsRelinkAtOf : ℕ → ℕ → ℕ → Option ℕ → RelinkAt → Type 0
   IsRelinkAtOf place word link None (relinks.ChainLink node) = ⊥
   IsRelinkAtOf place word link None (relinks.Word stored) = stored ≡ plain_of place link
   IsRelinkAtOf place word link (Some before) (relinks.ChainLink node) = node ≡ before
   IsRelinkAtOf place word link (Some before) (relinks.Word stored) = stored ≡ word
 
+  -- a bind is at such a change only in a table of lists
   pub record IsRelinkFor (list : FoundList) (relink : RelinkModel) : Type 0 where
     pub listed : env.config.kind ≡ Listed
     pub relink_is : relink ≡ front_relink list relink.at
@@ -531,8 +532,8 @@ module _ (env : Env) (mix : ℕ → ℕ → ℕ → ℕ) (c : ℕ) (port owner :
         let is = known.knowing.means.bucket in
         let stands = is.standing.stands in
         let j = word_index env mix list.claimed.bucket.place in
-        let there : In list.first (G.bucket j).nodes = rw stands.split
-        (in-middle list.first stands.front stands.rear) in
+        let there : In list.first (G.bucket j).nodes =
+        rw stands.split (in-middle list.first stands.front stands.rear) in
         let owned = whole.owned.first_at list.first j (whole.owned.member j list.first there) in
         goes_on (at.ChainLink list) (at.LinkBehind list link) refl refl refl (record {
           knowing = record {
@@ -553,8 +554,8 @@ module _ (env : Env) (mix : ℕ → ℕ → ℕ → ℕ) (c : ℕ) (port owner :
 
     -- the relinking begins before its store of the link
     begins : (place word link : ℕ) (before : Option ℕ)
-        → (has_relinked before (relink_at place link before) ≡ false) × IsRelinkAtOf place word link before
-        (relink_at place link before)
+        → let state = relink_at place link before in
+        (has_relinked before state ≡ false) × IsRelinkAtOf place word link before state
     begins place word link None = (refl, refl)
     begins place word link (Some node) = (refl, refl)
 
@@ -566,17 +567,16 @@ module _ (env : Env) (mix : ℕ → ℕ → ℕ → ℕ) (c : ℕ) (port owner :
         let first = begins place claimed.bucket.word (link_of claimed.node) list.before in
         let there = replacing env list in
         let op = plan_at env (at.LinkBehind list link) in
-        subst (λ t. Step env mix c call words G op (holds_claimed claimed) (holds_replacing claimed t)
-        (BindNext (there, Go))) (sym first.0)
-        (answered env mix c call words G op (holds_claimed claimed) (holds_claimed claimed) None
-        (BindNext (there, Go)) (inl refl)
-        (still_has refl)
-        (moved-map env mix c words G op (holds_claimed claimed) (holds_claimed claimed) _
-        (BindNext (there, Go))
+        let Next : Memory → Ghost → Type 0 = BindNext (there, Go) in
+        let holds = holds_claimed claimed in
+        subst (λ t. Step env mix c call words G op holds (holds_replacing claimed t) Next) (sym first.0)
+        (answered env mix c call words G op holds holds None Next (inl refl) (still_has refl)
+        (moved-map env mix c words G op holds holds _ Next
         (λ M' G' w k. let is = k.means.bucket in let node = k.means.node in record {
           knowing =
-              subst (λ t. Knowing env mix c (holds_replacing claimed t) (known_replacing port owner list t)
-              M' G') (sym first.0) (record {
+              subst
+              (λ t. Knowing env mix c (holds_replacing claimed t) (known_replacing port owner list t) M' G')
+              (sym first.0) (record {
                 only = k.only;
                 means = record {
                   node = record {
@@ -584,8 +584,7 @@ module _ (env : Env) (mix : ℕ → ℕ → ℕ → ℕ) (c : ℕ) (port owner :
                     chain = tt;
                     key = node.key;
                     owner = node.owner;
-                    list =
-                        node.list;
+                    list = node.list;
                   };
                   table = tt;
                   bucket = record {
@@ -599,8 +598,8 @@ module _ (env : Env) (mix : ℕ → ℕ → ℕ → ℕ) (c : ℕ) (port owner :
           fits = record { listed = known.fits; relink_is = refl; at_is = first.1 };
         })
         (nodes.fill_step env mix c (holds_node None (Some place)) (at_home port owner claimed)
-        (of_list port owner list (FirstLink link))
-        words G all whole tt (in_front port owner list) ChainLink link known.knowing)))
+        (of_list port owner list (FirstLink link)) words G all whole tt (in_front port owner list) ChainLink
+        link known.knowing)))
 
     -- what a bind holds behind the store
     abbrev holds_front : Option ℕ → Holding
@@ -616,8 +615,8 @@ module _ (env : Env) (mix : ℕ → ℕ → ℕ → ℕ) (c : ℕ) (port owner :
 
       abbrev front : Ghost
       front =
-          fronted env mix c port bucket.place bucket.word list.first list.claimed.node list.before M stored
-          G whole k.means.bucket
+          fronted env mix c port bucket.place bucket.word list.first list.claimed.node list.before
+          M stored G whole k.means.bucket
 
       -- the store is that of the link to the node, in the place before the first one
       abbrev IsFrontWrite : Option ℕ → Type 0
@@ -637,32 +636,33 @@ module _ (env : Env) (mix : ℕ → ℕ → ℕ → ℕ) (c : ℕ) (port owner :
           let n = list.claimed.node in
           record {
             only =
-                front_only env mix c port bucket.place bucket.word list.first n list.before M stored G whole
-                is
+                front_only env mix c port bucket.place bucket.word list.first n list.before
+                M stored G whole is
                 (record { nodes = k.only.nodes; locks = k.only.locks; raising = k.only.raising });
-            locks = front_locks env mix c port bucket.place bucket.word list.first n list.before M stored G
-                whole is;
+            locks =
+                front_locks env mix c port bucket.place bucket.word list.first n list.before
+                M stored G whole is;
           }
 
-      left_lock : (before : Option ℕ) → (lock_left bucket.place before ≡ Some bucket.place) ⊎ (lock_left
-          bucket.place before ≡ None)
+      left_lock : (before : Option ℕ)
+          → (lock_left bucket.place before ≡ Some bucket.place) ⊎ (lock_left bucket.place before ≡ None)
       left_lock None = inr refl
       left_lock (Some node) = inl refl
 
       -- it is no owner's word
       front_owner : (before : Option ℕ) → IsFrontWrite before
           → stored (Node list.claimed.node OwnerWord) ≡ M (Node list.claimed.node OwnerWord)
-      front_owner None write = write.others (Node list.claimed.node OwnerWord) k.means.node.has.among
-          (λ e. cc)
-      front_owner (Some node) write = write.others (Node list.claimed.node OwnerWord) k.means.node.has.among
-          (λ e. cc)
+      front_owner None write =
+          write.others (Node list.claimed.node OwnerWord) k.means.node.has.among (λ e. cc)
+      front_owner (Some node) write =
+          write.others (Node list.claimed.node OwnerWord) k.means.node.has.among (λ e. cc)
 
       longer : (o : ℕ) (owners : List ℕ) → o ∷ owners ≡ owners → ⊥
       longer o owners e = let same = ap length e in absurd (omega (arith, same))
 
       front_stored : (After : Memory → Ghost → Type 0) → env.config.kind ≡ Listed
-          → nodes_at env.geometry ≤ op_place op
-          → IsFrontWrite list.before → (LeftInFront → After stored front)
+          → nodes_at env.geometry ≤ op_place op → IsFrontWrite list.before
+          → (LeftInFront → After stored front)
           → Step env mix c call words G op (holds_claimed list.claimed)
           (holds_front (lock_left bucket.place list.before)) After
       front_stored After listed behind_maps write knows =
@@ -672,19 +672,19 @@ module _ (env : Env) (mix : ℕ → ℕ → ℕ → ℕ) (c : ℕ) (port owner :
           let back = place_at-index env mix bucket.place is.found.standing.lock.bucket in
           let made =
           front_made env mix c port bucket.place bucket.word list.first n list.before M stored G whole is
-          listed k.means.node.key
-          k.means.node.list write in
+          listed k.means.node.key k.means.node.list write in
           let before : now port ≡ owners_in env mix M rest = ap (owners_in env mix M) is.bound_to in
           let first : owner_of (stored (Node n OwnerWord)) ≡ owner =
-          ap owner_of (front_owner list.before write ∙ k.means.node.owner) ∙ mod-eq_of_lt {n = owner}
-          {m = 2 ^ 32} small in
+          ap owner_of (front_owner list.before write ∙ k.means.node.owner)
+          ∙ mod-eq_of_lt {n = owner} {m = 2 ^ 32} small in
           let here : owners_in env mix stored (n ∷ rest) ≡ owner ∷ now port =
           ap (λ o. o ∷ owners_in env mix stored rest) first
-          ∙ ap (λ others. owner ∷ others) (owners_in-stay env mix c M stored G front whole made port rest
-          is.bound_to ∙ sym before) in
+          ∙ ap (λ others. owner ∷ others)
+          (owners_in-stay env mix c M stored G front whole made port rest is.bound_to ∙ sym before) in
           record {
-            move = Rebinds (change env mix c port bucket.place bucket.word list.first n list.before M stored
-                G whole is);
+            move =
+                Rebinds
+                (change env mix c port bucket.place bucket.word list.first n list.before M stored G whole is);
             ready = tt;
             made = made;
             does = record {
@@ -703,23 +703,21 @@ module _ (env : Env) (mix : ℕ → ℕ → ℕ → ℕ) (c : ℕ) (port owner :
                   (here ∙ sym (ap (λ kind. owners_bound kind owner (now port)) listed));
               port = port;
               differs = λ e.
-                  longer owner (now port) (sym here ∙ sym (ap (owners_in env mix stored)
-                  (put-same G.bound port (n ∷ rest))) ∙ e);
+                  longer owner (now port)
+                  (sym here ∙ sym (ap (owners_in env mix stored) (put-same G.bound port (n ∷ rest))) ∙ e);
             });
             right = λ answer unknown known.
                 subst (IsRight call (Some n))
-                (let same : ◌≡◌ {A = Option answers.Answer} (Some (plain (Bound false))) (Some answer) =
-                known in cc)
+                (let same : Some (plain (Bound false)) ≡ Some answer = known in cc)
                 (with_node n (Bound false) tt refl refl (λ e. cc));
             in_time = record {
               taken = λ node none some. absurd (cc);
-              gone = λ node some none told. absurd
-                  (cc);
+              gone = λ node some none told. absurd (cc);
             };
             outs =
                 ap (λ o. o + 0)
-                (front_outs env mix c port bucket.place bucket.word list.first n list.before M stored G
-                whole is);
+                (front_outs env mix c port bucket.place bucket.word list.first n list.before
+                M stored G whole is);
             knows = knows front_left;
           }
 
@@ -736,8 +734,8 @@ module _ (env : Env) (mix : ℕ → ℕ → ℕ → ℕ) (c : ℕ) (port owner :
         let op = Store claimed.bucket.place word in
         let j = word_index env mix claimed.bucket.place in
         let there = known.knowing.means.bucket.found.standing.lock.bucket in
-        let back : place_at env mix j ≡ claimed.bucket.place = place_at-index env mix claimed.bucket.place
-        there in
+        let back : place_at env mix j ≡ claimed.bucket.place =
+        place_at-index env mix claimed.bucket.place there in
         let value : word ≡ plain_of (place_at env mix j) (link_of claimed.node) =
         known.fits.at_is ∙ ap (λ p. plain_of p (link_of claimed.node)) (sym back) in
         front_stored list op known.knowing (BindNext

@@ -52,8 +52,8 @@ module _ (env : Env) (mix : ℕ → ℕ → ℕ → ℕ) (c port place word firs
   -- the caller's node is none of those to which the port is bound
   listed_differs : (m : ℕ) → In m (first ∷ is.behind) → m ≢ n
   listed_differs m i e =
-      held_not_used (G.node n) c is.means.has.mine (rw (sym e)
-      (bound_used env mix M G whole port (first ∷ is.behind) is.bound_to m i).1)
+      let used = bound_used env mix M G whole port (first ∷ is.behind) is.bound_to m i in
+      held_not_used (G.node n) c is.means.has.mine (rw (sym e) used.1)
 
   module _ (listed : env.config.kind ≡ Listed) (key_is : key_of M n ≡ port)
       (list_is : list_of M n ≡ link_of first) where
@@ -135,10 +135,11 @@ module _ (env : Env) (mix : ℕ → ℕ → ℕ → ℕ) (c port place word firs
   -- no node was taken out of a list
   pub front_outs : outs env mix fronted c ≡ outs env mix G c
   front_outs =
-      let there = whole.owned.member j first (subst (In first) (sym stands.split)
-      (in-middle first stands.front stands.rear)) in
+      let there : In first (G.bucket j).nodes =
+      subst (In first) (sym stands.split) (in-middle first stands.front stands.rear) in
       reowned-outs env mix c n (First j) (with_owner G first (Behind port)) new refl
-      ∙ reowned-outs env mix c first (Behind port) G (ap (is_taken_by c) there) refl
+      ∙ reowned-outs env mix c first (Behind port) G (ap (is_taken_by c) (whole.owned.member j first there))
+      refl
     where
       new : is_taken_by c (put G.node first (Behind port) n) ≡ false
       new = put-all (λ m o. m ≡ n → is_taken_by c o ≡ false) G.node first (Behind port) (λ e. refl)
