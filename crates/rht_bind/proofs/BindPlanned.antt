@@ -22,9 +22,11 @@ planned_bind env (at.FoundOwner claimed found) within =
 planned_bind env (at.ListLink list) within =
     planned-at env.geometry _ (Node list.claimed.node ListLink) within.claimed_in.node_in tt refl
     (link_of-fits env.geometry list.first within.first_in)
-planned_bind env (at.ChainLink list) within = planned_load env.geometry (Node list.first ChainLink) within.first_in tt
+planned_bind env (at.ChainLink list) within =
+    planned_load env.geometry (Node list.first ChainLink) within.first_in tt
 planned_bind env (at.LinkBehind list link) within =
-    planned-at env.geometry _ (Node list.claimed.node ChainLink) within.list_in.claimed_in.node_in tt refl within.link_in
+    planned-at env.geometry _ (Node list.claimed.node ChainLink) within.list_in.claimed_in.node_in tt refl
+    within.link_in
 planned_bind env (at.Replacing list relink) within = planned_relink env.geometry relink within.relink_in
 planned_bind env (at.Future claimed length) within =
     planned_load env.geometry (Slot claimed.table FutureWord) (within.table_in, tt) tt

@@ -62,7 +62,8 @@ module _ (mix : ℕ → ℕ → ℕ → ℕ) (env : Env) (port : ℕ) where
       bucket-in node locate.table there.shape there.place node_in stays.locate_in.table_in stays.end_in.shape_in
       stays.end_in.place_in
 
-  bound-in : (kind : Kind) (claimed : Claimed) (first : ℕ) (before : Option ℕ) → IsClaimedIn g claimed → first < g.nodes
+  bound-in : (kind : Kind) (claimed : Claimed) (first : ℕ) (before : Option ℕ) → IsClaimedIn g claimed
+      → first < g.nodes
       → IsNodeOrNone g before → IsBindAtIn env (bound_already kind claimed first before)
   bound-in kinds.Single claimed first before claimed_in first_in before_in =
       record { claimed_in = claimed_in; found_in = first_in }
@@ -70,18 +71,22 @@ module _ (mix : ℕ → ℕ → ℕ → ℕ) (env : Env) (port : ℕ) where
       record { claimed_in = claimed_in; first_in = first_in; before_in = before_in }
 
   seen-in : (kind : Kind) (claimed : Claimed) (found before : Option ℕ) (length : ℕ) → IsClaimedIn g claimed
-      → IsNodeOrNone g found → IsNodeOrNone g before → IsBindAtIn env (found_or_future kind claimed found before length)
+      → IsNodeOrNone g found → IsNodeOrNone g before
+      → IsBindAtIn env (found_or_future kind claimed found before length)
   seen-in kind claimed None before length claimed_in found_in before_in = claimed_in
   seen-in kind claimed (Some first) before length claimed_in found_in before_in =
       bound-in kind claimed first before claimed_in found_in before_in
 
-  probed-in : (kind : Kind) (node table shape : ℕ) (probe : ProbeModel) (next : Next Probed) → node < g.nodes → table < 8
+  probed-in : (kind : Kind) (node table shape : ℕ) (probe : ProbeModel) (next : Next Probed)
+      → node < g.nodes → table < 8
       → IsWord shape → ProbeIsIn g (probe, next) → IsBindAtIn env (probed kind node table shape probe next)
   probed-in kind node table shape probe Go node_in table_in shape_in stays =
       record { node_in = node_in; table_in = table_in; shape_in = shape_in; probe_in = stays.probe_in }
   probed-in kind node table shape probe (Done end) node_in table_in shape_in stays =
-      seen-in kind (record { node = node; table = table; shape = shape; bucket = end.bucket }) end.seen.found end.seen.before
-      end.seen.length record { node_in = node_in; table_in = table_in; shape_in = shape_in; bucket_in = stays.end_in.bucket_in }
+      let bucket_in = stays.end_in.bucket_in in
+      seen-in kind (record { node = node; table = table; shape = shape; bucket = end.bucket })
+      end.seen.found end.seen.before end.seen.length
+      record { node_in = node_in; table_in = table_in; shape_in = shape_in; bucket_in = bucket_in }
       stays.end_in.seen_in.found_in stays.end_in.seen_in.before_in
 
   replacing-in : (list : FoundList) → IsListIn g list → IsBindAtIn env (replacing env list)
@@ -91,11 +96,13 @@ module _ (mix : ℕ → ℕ → ℕ → ℕ) (env : Env) (port : ℕ) where
       record {
         list_in = within;
         relink_in =
-            relink_begins g bucket.place bucket.word list.before (link_of list.claimed.node) bucket_in.place_in
+            relink_begins g bucket.place bucket.word list.before (link_of list.claimed.node)
+            bucket_in.place_in
             bucket_in.word_in within.before_in (link_of-fits g list.claimed.node within.claimed_in.node_in);
       }
 
-  replaced-in : (list : FoundList) (relink : RelinkModel) (next : Next (Unit {0})) → IsReplacingIn g list relink
+  replaced-in : (list : FoundList) (relink : RelinkModel) (next : Next (Unit {0}))
+      → IsReplacingIn g list relink
       → IsBindAtIn env (replaced list relink next).0
   replaced-in list relink Go within = within
   replaced-in list relink (Done done) within = within
@@ -156,7 +163,8 @@ module _ (mix : ℕ → ℕ → ℕ → ℕ) (env : Env) (port : ℕ) where
       located-in node (locate_after mix port locate word).0 (locate_after mix port locate word).1 within.node_in
       (locate_stays mix port g locate word within.locate_in told)
   bind_stays (at.Probing node table shape probe) word within told =
-      probed-in env.config.kind node table shape (probe_after probe word).0 (probe_after probe word).1 within.node_in
+      probed-in env.config.kind node table shape (probe_after probe word).0 (probe_after probe word).1
+      within.node_in
       within.table_in within.shape_in (probe_stays g probe word within.probe_in told)
   bind_stays (at.FoundOwner claimed found) word within told = unlocking-in claimed _ within.claimed_in tt
   bind_stays (at.ListLink list) word within told = within

@@ -58,7 +58,8 @@ plan_at env (at.CurrentTable node) = Load (place_of env.geometry CurrentTable)
 plan_at env (at.Locating node locate) = locate_plan locate
 plan_at env (at.Probing node table shape probe) = probe_plan probe
 plan_at env (at.FoundOwner claimed found) = Load (place_of env.geometry (Node found OwnerWord))
-plan_at env (at.ListLink list) = Store (place_of env.geometry (Node list.claimed.node ListLink)) (link_of list.first)
+plan_at env (at.ListLink list) =
+    Store (place_of env.geometry (Node list.claimed.node ListLink)) (link_of list.first)
 plan_at env (at.ChainLink list) = Load (place_of env.geometry (Node list.first ChainLink))
 plan_at env (at.LinkBehind list link) = Store (place_of env.geometry (Node list.claimed.node ChainLink)) link
 plan_at env (at.Replacing list relink) = relink_plan relink
@@ -102,7 +103,8 @@ located env port node locate (Done there) = bucket_or_no_table env port node loc
 -- of a port that is bound already the owner is loaded; in a table of lists the node goes in front of its list
 abbrev pub bound_already : Kind → Claimed → ℕ → Option ℕ → BindAt
 bound_already kinds.Single claimed first before = at.FoundOwner claimed first
-bound_already kinds.Listed claimed first before = at.ListLink (record { claimed = claimed; first = first; before = before })
+bound_already kinds.Listed claimed first before =
+    at.ListLink (record { claimed = claimed; first = first; before = before })
 
 -- where the port was found it is bound already, and else the table's future is loaded
 abbrev pub found_or_future : Kind → Claimed → Option ℕ → Option ℕ → ℕ → BindAt
@@ -120,7 +122,8 @@ probed kind node table shape probe (Done end) =
 abbrev pub replacing : Env → FoundList → BindAt
 replacing env list =
     let bucket = list.claimed.bucket in
-    at.Replacing list (relink_new env.geometry bucket.place bucket.word list.before (link_of list.claimed.node))
+    let link = link_of list.claimed.node in
+    at.Replacing list (relink_new env.geometry bucket.place bucket.word list.before link)
 
 -- with the last store the owner is the port's first one, and the bucket unlocked; no count was raised
 abbrev pub replaced : FoundList → RelinkModel → Next (Unit {0}) → BindAt × Next Reply
@@ -174,7 +177,8 @@ after_at mix env port (at.FoundOwner claimed found) word = (unlocking claimed (A
 after_at mix env port (at.ListLink list) word = (at.ChainLink list, Go)
 after_at mix env port (at.ChainLink list) word = (at.LinkBehind list word, Go)
 after_at mix env port (at.LinkBehind list link) word = (replacing env list, Go)
-after_at mix env port (at.Replacing list relink) word = replaced list (relink_after relink).0 (relink_after relink).1
+after_at mix env port (at.Replacing list relink) word =
+    replaced list (relink_after relink).0 (relink_after relink).1
 after_at mix env port (at.Future claimed length) word = (future_or_count claimed (slot_of word), Go)
 after_at mix env port (at.Count claimed) word = (checked_count env claimed word, Go)
 after_at mix env port (at.Link claimed) word = (at.Raise claimed, Go)

@@ -1,5 +1,5 @@
--- What a bind holds in each of its states: its node until it is linked, put in front of a list or given back, the lock of a
--- bucket, the count once it is raised, and its answer once it is known.
+-- What a bind holds in each of its states: its node until it is linked, put in front of a list or given
+-- back, the lock of a bucket, the count once it is raised, and its answer once it is known.
 use Rattle.std.specs.Prelude.{ℕ, Bool, true, false, Option, None, Some, option_map, if◌then◌else◌}
 use Rattle.rht_words.specs.Held.{Held, holds_nothing, ended_with}
 use Rattle.rht_words.specs.declared.machine.Next.{Next}
@@ -23,10 +23,11 @@ holds_node node lock = record holds_nothing { node = node; lock = lock }
 abbrev pub holds_claimed : Claimed → Held Answer
 holds_claimed claimed = holds_node (Some claimed.node) (Some claimed.bucket.place)
 
--- while it puts its node in front of a list: the node before the store of the link, and the answer behind it
+-- while it puts its node in front of a list: the node before the store of the link, the answer behind it
 abbrev pub holds_replacing : Claimed → Bool → Held Answer
 holds_replacing claimed stored =
-    if stored then record holds_nothing { lock = Some claimed.bucket.place; answer = Some (plain (Bound false)) }
+    let bound = Some (plain (Bound false)) in
+    if stored then record holds_nothing { lock = Some claimed.bucket.place; answer = bound }
     else holds_claimed claimed
 
 -- what it holds in a state

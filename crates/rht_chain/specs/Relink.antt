@@ -45,8 +45,8 @@ relink_after_at m (at.Word word) = (m, Done tt)
 abbrev pub relink_after : RelinkModel → RelinkModel × Next (Unit {0})
 relink_after m = relink_after_at m m.at
 
--- a change with this node before has stored the link, and has still to unlock the bucket; with none before, one store
--- does both
+-- a change with this node before has stored the link, and has still to unlock the bucket; with none
+-- before, one store does both
 abbrev pub has_relinked : Option ℕ → RelinkAt → Bool
 has_relinked None (at.ChainLink before) = false
 has_relinked None (at.Word word) = false

@@ -125,9 +125,9 @@ pub record IsDueBy (env : Env) (shape : ℕ) (did : Did) : Type 0 where
   pub raised : IsRaise env.geometry did
   pub due : is_above_75 (did.old + 1) (size_of (unpacked shape)) env.config.max ≡ true
 
--- A bind says that there is something to do for `work` exactly where, behind the last table that it walked, it raised the count
--- and that table is due to grow by this. In a table of one owner each it did raise the count; in one of lists a port that is
--- bound already raises none.
+-- A bind says that there is something to do for `work` exactly where, behind the last table that it walked,
+-- it raised the count and that table is due to grow by this. In a table of one owner each it did raise the
+-- count; in one of lists a port that is bound already raises none.
 pub record KicksRightly (env : Env) (kick : Bool) (steps : List Did) : Type 0 where
   pub table : ℕ
   pub shape : ℕ

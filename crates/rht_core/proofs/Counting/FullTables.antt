@@ -91,7 +91,8 @@ front_raises claimed false = refl
 front_raises claimed true = refl
 
 -- what stores the link into a bucket loads nothing
-relink_stores : (relink : RelinkModel) (state : RelinkAt) (place : ℕ) → relink_plan_at relink state ≢ Load place
+relink_stores : (relink : RelinkModel) (state : RelinkAt) (place : ℕ)
+    → relink_plan_at relink state ≢ Load place
 relink_stores relink (relinks.ChainLink before) place is = cc
 relink_stores relink (relinks.Word word) place is = cc
 
@@ -106,7 +107,8 @@ bind_loads-unraised e place (at.FoundOwner claimed found) is = refl
 bind_loads-unraised e place (at.ListLink list) is = refl
 bind_loads-unraised e place (at.ChainLink list) is = refl
 bind_loads-unraised e place (at.LinkBehind list link) is = refl
-bind_loads-unraised e place (at.Replacing list relink) is = front_raises list.claimed (has_relinked list.before relink.at)
+bind_loads-unraised e place (at.Replacing list relink) is = front_raises list.claimed
+    (has_relinked list.before relink.at)
 bind_loads-unraised e place (at.Future claimed length) is = refl
 bind_loads-unraised e place (at.Count claimed) is = refl
 bind_loads-unraised e place (at.Link claimed) is = refl

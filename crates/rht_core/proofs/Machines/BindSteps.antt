@@ -99,7 +99,12 @@ module _ (port owner : ℕ) where
   abbrev known_replacing : FoundList → Bool → Known
   known_replacing list false = knows_of (in_front list) Nowhere (of_list list (Replaces list.claimed.node))
   known_replacing list true =
-      record { node = None; table = Nowhere; bucket = Locks list.claimed.bucket.place list.claimed.bucket.word }
+      record {
+        node = None;
+        table = Nowhere;
+        bucket = Locks list.claimed.bucket.place
+            list.claimed.bucket.word;
+      }
 
   -- what a bind knows in a state
   abbrev pub known_of_bind : BindAt → Known
@@ -108,9 +113,11 @@ module _ (port owner : ℕ) where
   known_of_bind (at.Locating n locate) = knows_of (own n) (known_locate port locate.table locate.at) Unlocked
   known_of_bind (at.Probing n table shape probe) = knows_of (own n) (AtHome port table (Some shape) (place_of_probe probe.at)) (known_probe port probe.at)
   known_of_bind (at.FoundOwner claimed found) = knows_of (own claimed.node) (at_home claimed) (Member claimed.bucket.place claimed.bucket.word port found)
-  known_of_bind (at.ListLink list) = knows_of (own list.claimed.node) (at_home list.claimed) (first_found list)
+  known_of_bind (at.ListLink list) = knows_of (own list.claimed.node) (at_home list.claimed)
+      (first_found list)
   known_of_bind (at.ChainLink list) = knows_of (in_front list) (at_home list.claimed) (first_found list)
-  known_of_bind (at.LinkBehind list link) = knows_of (in_front list) (at_home list.claimed) (of_list list (FirstLink link))
+  known_of_bind (at.LinkBehind list link) = knows_of (in_front list) (at_home list.claimed)
+      (of_list list (FirstLink link))
   known_of_bind (at.Replacing list relink) = known_replacing list (has_relinked list.before relink.at)
   known_of_bind (at.Future claimed length) = knows_of (own claimed.node) (at_home claimed) (missed claimed)
   known_of_bind (at.Count claimed) = knows_of (own claimed.node) (at_home claimed) (missed claimed)
@@ -125,22 +132,26 @@ module _ (env : Env) (mix : ℕ → ℕ → ℕ → ℕ) (c : ℕ) (port owner :
   abbrev call : Call
   call = calls.Bind port owner once
 
-  -- the relinking that puts the node in front of the list, at this state of it; the state is one for this place before it
+  -- the relinking that puts the node in front of the list, at this state of it
   abbrev pub front_relink : FoundList → RelinkAt → RelinkModel
   front_relink list state =
       let bucket = list.claimed.bucket in
-      record (relink_new env.geometry bucket.place bucket.word list.before (link_of list.claimed.node)) { at = state }
+      let link = link_of list.claimed.node in
+      record (relink_new env.geometry bucket.place bucket.word list.before link) { at = state }
 
+  -- a state of the change of the place before, in a bucket whose word was this, to this link
   abbrev pub IsRelinkAtOf : ℕ → ℕ → ℕ → Option ℕ → RelinkAt → Type 0
   IsRelinkAtOf place word link None (relinks.ChainLink node) = ⊥
   IsRelinkAtOf place word link None (relinks.Word stored) = stored ≡ plain_of place link
   IsRelinkAtOf place word link (Some before) (relinks.ChainLink node) = node ≡ before
   IsRelinkAtOf place word link (Some before) (relinks.Word stored) = stored ≡ word
 
+  -- a bind is at such a change only in a table of lists
   pub record IsRelinkFor (list : FoundList) (relink : RelinkModel) : Type 0 where
     pub listed : env.config.kind ≡ Listed
     pub relink_is : relink ≡ front_relink list relink.at
-    pub at_is : IsRelinkAtOf list.claimed.bucket.place list.claimed.bucket.word (link_of list.claimed.node) list.before relink.at
+    pub at_is : IsRelinkAtOf list.claimed.bucket.place list.claimed.bucket.word (link_of list.claimed.node)
+        list.before relink.at
 
   -- how its pieces are for the port, the owner and the kind of the table
   abbrev pub fits_bind : BindAt → Type 0
@@ -254,8 +265,10 @@ module _ (env : Env) (mix : ℕ → ℕ → ℕ → ℕ) (c : ℕ) (port owner :
         (record { knowing = record { only = is.knows.only; means = is.knows.means }; fits = (refl, tt) })))
 
     -- the end of a walk
-    bound_knows : (kind : Kind) → env.config.kind ≡ kind → (claimed : Claimed) (first : ℕ) (before : Option ℕ) (M' : Memory) (G' : Ghost)
-        → Knowing env mix c (holds_claimed claimed) (knows_of port owner (own port owner claimed.node) (at_home port owner claimed) (Found claimed.bucket.place claimed.bucket.word port first before)) M' G'
+    bound_knows : (kind : Kind) → env.config.kind ≡ kind → (claimed : Claimed) (first : ℕ)
+        (before : Option ℕ) (M' : Memory) (G' : Ghost)
+        → Knowing env mix c (holds_claimed claimed) (knows_of port owner (own port owner claimed.node)
+        (at_home port owner claimed) (Found claimed.bucket.place claimed.bucket.word port first before)) M' G'
         → BindKnows (bound_already kind claimed first before) M' G'
     bound_knows Single single claimed first before M' G' k =
         let is = k.means.bucket in
@@ -267,7 +280,8 @@ module _ (env : Env) (mix : ℕ → ℕ → ℕ → ℕ) (c : ℕ) (port owner :
               table = k.means.table;
               bucket = record {
                 lock = is.standing.lock;
-                there = rw is.standing.stands.split (in-middle first is.standing.stands.front is.standing.stands.rear);
+                there = rw is.standing.stands.split (in-middle first is.standing.stands.front
+                    is.standing.stands.rear);
                 key_is = is.key_is;
               };
             };
@@ -277,10 +291,13 @@ module _ (env : Env) (mix : ℕ → ℕ → ℕ → ℕ) (c : ℕ) (port owner :
     bound_knows Listed listed claimed first before M' G' k = record { knowing = k; fits = listed }
 
     seen_knows : (claimed : Claimed) (found before : Option ℕ) (count : ℕ) (M' : Memory) (G' : Ghost)
-        → Knowing env mix c (holds_claimed claimed) (knows_of port owner (own port owner claimed.node) (at_home port owner claimed) (known_found claimed.bucket.place claimed.bucket.word port before found)) M' G'
+        → Knowing env mix c (holds_claimed claimed) (knows_of port owner (own port owner claimed.node)
+        (at_home port owner claimed) (known_found claimed.bucket.place claimed.bucket.word port before
+        found)) M' G'
         → BindKnows (found_or_future env.config.kind claimed found before count) M' G'
     seen_knows claimed None before count M' G' k = record { knowing = k; fits = tt }
-    seen_knows claimed (Some first) before count M' G' k = bound_knows env.config.kind refl claimed first before M' G' k
+    seen_knows claimed (Some first) before count M' G' k = bound_knows env.config.kind refl claimed first
+        before M' G' k
 
     bound_holds : (kind : Kind) (claimed : Claimed) (first : ℕ) (before : Option ℕ)
         → held_of_bind (bound_already kind claimed first before) ≡ holds_claimed claimed
@@ -341,8 +358,10 @@ module _ (env : Env) (mix : ℕ → ℕ → ℕ → ℕ) (c : ℕ) (port owner :
         (learns env.config.kind c call (Some claimed.node) now (plain (TooBig count)) (with_node claimed.node (TooBig count) tt refl refl (λ e. cc)) refl (refusal (TooBig count) tt refl)) (unlocking_knows claimed (TooBig count) known.knowing))
         (λ t. goes_on (at.Count claimed) (at.Link claimed) refl refl refl (record { knowing = known.knowing; fits = tt }))
 
-    -- in a table of one owner each the port is bound to the owner of a node of its bucket that has its key, and to no other
-    bound_here : env.config.kind ≡ Single → (place word node : ℕ) → IsMember env mix c M G place word port node
+    -- in a table of one owner each the port is bound to the owner of a node of its bucket that has its key,
+    -- and to no other
+    bound_here : env.config.kind ≡ Single → (place word node : ℕ)
+        → IsMember env mix c M G place word port node
         → now port ≡ owner_of (M (Node node OwnerWord)) ∷ []
     bound_here single place word node is =
         let j = word_index env mix place in
@@ -369,7 +388,8 @@ module _ (env : Env) (mix : ℕ → ℕ → ℕ → ℕ) (c : ℕ) (port owner :
         let is = known.knowing.means.bucket in
         let answer = unlocking claimed (Answer (Exists first)) in
         reads env mix c call words G (plan_at env (at.FoundOwner claimed found)) (holds_claimed claimed) (held_of_bind answer) (BindNext (answer, Go)) whole refl refl
-        (learns env.config.kind c call (Some claimed.node) now (plain (Exists first)) (with_node claimed.node (Exists first) tt refl refl (λ e. cc)) refl
+        (learns env.config.kind c call (Some claimed.node) now (plain (Exists first))
+        (with_node claimed.node (Exists first) tt refl refl (λ e. cc)) refl
         (exists known.fits first (bound_here known.fits claimed.bucket.place claimed.bucket.word found is)))
         (record {
           knowing = record { only = known.knowing.only; means = record { node = known.knowing.means.node; table = tt; bucket = is.lock } };
@@ -414,16 +434,21 @@ module _ (env : Env) (mix : ℕ → ℕ → ℕ → ℕ) (c : ℕ) (port owner :
     first_reply Single = refl
     first_reply Listed = refl
 
-    -- from a store on by which the port has these owners, it has those that a bind is to give it, and all others what they had
-    stored_bindings : (bound : List ℕ) (M' : Memory) (G' : Ghost) → Made env mix c M G M' G' → G'.bound ≡ put G.bound port bound
+    -- from a store on by which the port has these owners, it has those that a bind is to give it, and all
+    -- others what they had
+    stored_bindings : (bound : List ℕ) (M' : Memory) (G' : Ghost) → Made env mix c M G M' G'
+        → G'.bound ≡ put G.bound port bound
         → owners_in env mix M' bound ≡ owners_bound env.config.kind owner (now port)
         → Agree (owners env mix M' G') (answers.bindings_after env.config.kind now call)
     stored_bindings bound M' G' made is here other = elim (cases_eq other port) [
       | inl e ↦
-          ap (owners_in env mix M') (ap (λ f. f other) is ∙ ap (put G.bound port bound) e ∙ put-same G.bound port bound) ∙ here
-          ∙ sym (ap (λ t. cond t (owners_bound env.config.kind owner (now port)) (now other)) (eq-eqb other port e))
+          ap (owners_in env mix M') (ap (λ f. f other) is ∙ ap (put G.bound port bound) e ∙ put-same G.bound
+          port bound) ∙ here
+          ∙ sym (ap (λ t. cond t (owners_bound env.config.kind owner (now port)) (now other))
+          (eq-eqb other port e))
       | inr ne ↦
-          owners-stay env mix c M M' G G' whole made other (ap (λ f. f other) is ∙ put-other G.bound port bound other ne)
+          owners-stay env mix c M M' G G' whole made other
+          (ap (λ f. f other) is ∙ put-other G.bound port bound other ne)
           ∙ sym (ap (λ t. cond t (owners_bound env.config.kind owner (now port)) (now other)) (ne_eqb other port ne))
     ]
 
@@ -464,7 +489,8 @@ module _ (env : Env) (mix : ℕ → ℕ → ℕ → ℕ) (c : ℕ) (port owner :
         ap owner_of (write.others (Node n OwnerWord) node.has.among (λ e. cc) ∙ node.owner) ∙ mod-eq_of_lt {n = owner} {m = 2 ^ 32} small in
         let none : now port ≡ [] = ap (owners_in env mix M) ready.unbound in
         let bindings = stored_bindings (n ∷ []) M' (ghost_after env mix c (Links n port j) G) made refl
-        (ap (λ o. o ∷ []) owner_word ∙ sym (first_owner env.config.kind) ∙ ap (owners_bound env.config.kind owner) (sym none)) in
+        (ap (λ o. o ∷ []) owner_word ∙ sym (first_owner env.config.kind) ∙
+        ap (owners_bound env.config.kind owner) (sym none)) in
         record {
           move = Links n port j;
           ready = ready;
@@ -474,7 +500,8 @@ module _ (env : Env) (mix : ℕ → ℕ → ℕ → ℕ) (c : ℕ) (port owner :
             unknown = refl;
             answer = plain (Bound kick);
             known = refl;
-            answered = ap (λ list. Some (plain (bind_reply env.config.kind list))) none ∙ ap (λ reply. Some (plain reply)) (first_reply env.config.kind);
+            answered = ap (λ list. Some (plain (bind_reply env.config.kind list))) none ∙
+                ap (λ reply. Some (plain reply)) (first_reply env.config.kind);
             bindings = bindings;
             port = port;
             differs = λ e. let q : ◌≡◌ {A = List ℕ} (owner_of (M' (Node n OwnerWord)) ∷ []) [] = sym (ap (owners_in env mix M') (put-same G.bound port (n ∷ []))) ∙ e ∙ none in cc;
@@ -505,7 +532,8 @@ module _ (env : Env) (mix : ℕ → ℕ → ℕ → ℕ) (c : ℕ) (port owner :
         let is = known.knowing.means.bucket in
         let stands = is.standing.stands in
         let j = word_index env mix list.claimed.bucket.place in
-        let there : In list.first (G.bucket j).nodes = rw stands.split (in-middle list.first stands.front stands.rear) in
+        let there : In list.first (G.bucket j).nodes =
+        rw stands.split (in-middle list.first stands.front stands.rear) in
         let owned = whole.owned.first_at list.first j (whole.owned.member j list.first there) in
         goes_on (at.ChainLink list) (at.LinkBehind list link) refl refl refl (record {
           knowing = record {
@@ -526,27 +554,38 @@ module _ (env : Env) (mix : ℕ → ℕ → ℕ → ℕ) (c : ℕ) (port owner :
 
     -- the relinking begins before its store of the link
     begins : (place word link : ℕ) (before : Option ℕ)
-        → (has_relinked before (relink_at place link before) ≡ false) × IsRelinkAtOf place word link before (relink_at place link before)
+        → let state = relink_at place link before in
+        (has_relinked before state ≡ false) × IsRelinkAtOf place word link before state
     begins place word link None = (refl, refl)
     begins place word link (Some node) = (refl, refl)
 
-    front_linked : (list : FoundList) (link : ℕ) → BindKnows (at.LinkBehind list link) M G → BindStep (at.LinkBehind list link)
+    front_linked : (list : FoundList) (link : ℕ) → BindKnows (at.LinkBehind list link) M G
+        → BindStep (at.LinkBehind list link)
     front_linked list link known =
         let claimed = list.claimed in
         let place = claimed.bucket.place in
         let first = begins place claimed.bucket.word (link_of claimed.node) list.before in
         let there = replacing env list in
         let op = plan_at env (at.LinkBehind list link) in
-        subst (λ t. Step env mix c call words G op (holds_claimed claimed) (holds_replacing claimed t) (BindNext (there, Go))) (sym first.0)
-        (answered env mix c call words G op (holds_claimed claimed) (holds_claimed claimed) None (BindNext (there, Go)) (inl refl)
-        (still_has refl)
-        (moved-map env mix c words G op (holds_claimed claimed) (holds_claimed claimed) _ (BindNext (there, Go))
+        let Next : Memory → Ghost → Type 0 = BindNext (there, Go) in
+        let holds = holds_claimed claimed in
+        subst (λ t. Step env mix c call words G op holds (holds_replacing claimed t) Next) (sym first.0)
+        (answered env mix c call words G op holds holds None Next (inl refl) (still_has refl)
+        (moved-map env mix c words G op holds holds _ Next
         (λ M' G' w k. let is = k.means.bucket in let node = k.means.node in record {
           knowing =
-              subst (λ t. Knowing env mix c (holds_replacing claimed t) (known_replacing port owner list t) M' G') (sym first.0) (record {
+              subst
+              (λ t. Knowing env mix c (holds_replacing claimed t) (known_replacing port owner list t) M' G')
+              (sym first.0) (record {
                 only = k.only;
                 means = record {
-                  node = record { has = node.has; chain = tt; key = node.key; owner = node.owner; list = node.list };
+                  node = record {
+                    has = node.has;
+                    chain = tt;
+                    key = node.key;
+                    owner = node.owner;
+                    list = node.list;
+                  };
                   table = tt;
                   bucket = record {
                     found = is.found;
@@ -558,8 +597,9 @@ module _ (env : Env) (mix : ℕ → ℕ → ℕ → ℕ) (c : ℕ) (port owner :
               });
           fits = record { listed = known.fits; relink_is = refl; at_is = first.1 };
         })
-        (nodes.fill_step env mix c (holds_node None (Some place)) (at_home port owner claimed) (of_list port owner list (FirstLink link))
-        words G all whole tt (in_front port owner list) ChainLink link known.knowing)))
+        (nodes.fill_step env mix c (holds_node None (Some place)) (at_home port owner claimed)
+        (of_list port owner list (FirstLink link)) words G all whole tt (in_front port owner list) ChainLink
+        link known.knowing)))
 
     -- what a bind holds behind the store
     abbrev holds_front : Option ℕ → Holding
@@ -575,13 +615,15 @@ module _ (env : Env) (mix : ℕ → ℕ → ℕ → ℕ) (c : ℕ) (port owner :
 
       abbrev front : Ghost
       front =
-          fronted env mix c port bucket.place bucket.word list.first list.claimed.node list.before M stored G whole k.means.bucket
+          fronted env mix c port bucket.place bucket.word list.first list.claimed.node list.before
+          M stored G whole k.means.bucket
 
       -- the store is that of the link to the node, in the place before the first one
       abbrev IsFrontWrite : Option ℕ → Type 0
       IsFrontWrite before =
           let j = word_index env mix bucket.place in
-          IsWrite env.geometry M stored (relink_address j before) (relink_value (place_at env mix j) (link_of list.claimed.node) before)
+          IsWrite env.geometry M stored (relink_address j before)
+          (relink_value (place_at env mix j) (link_of list.claimed.node) before)
 
       -- what the caller has behind it: no node, and the lock where a node is before
       record LeftInFront : Type 0 where
@@ -594,43 +636,55 @@ module _ (env : Env) (mix : ℕ → ℕ → ℕ → ℕ) (c : ℕ) (port owner :
           let n = list.claimed.node in
           record {
             only =
-                front_only env mix c port bucket.place bucket.word list.first n list.before M stored G whole is
+                front_only env mix c port bucket.place bucket.word list.first n list.before
+                M stored G whole is
                 (record { nodes = k.only.nodes; locks = k.only.locks; raising = k.only.raising });
-            locks = front_locks env mix c port bucket.place bucket.word list.first n list.before M stored G whole is;
+            locks =
+                front_locks env mix c port bucket.place bucket.word list.first n list.before
+                M stored G whole is;
           }
 
-      left_lock : (before : Option ℕ) → (lock_left bucket.place before ≡ Some bucket.place) ⊎ (lock_left bucket.place before ≡ None)
+      left_lock : (before : Option ℕ)
+          → (lock_left bucket.place before ≡ Some bucket.place) ⊎ (lock_left bucket.place before ≡ None)
       left_lock None = inr refl
       left_lock (Some node) = inl refl
 
       -- it is no owner's word
       front_owner : (before : Option ℕ) → IsFrontWrite before
           → stored (Node list.claimed.node OwnerWord) ≡ M (Node list.claimed.node OwnerWord)
-      front_owner None write = write.others (Node list.claimed.node OwnerWord) k.means.node.has.among (λ e. cc)
-      front_owner (Some node) write = write.others (Node list.claimed.node OwnerWord) k.means.node.has.among (λ e. cc)
+      front_owner None write =
+          write.others (Node list.claimed.node OwnerWord) k.means.node.has.among (λ e. cc)
+      front_owner (Some node) write =
+          write.others (Node list.claimed.node OwnerWord) k.means.node.has.among (λ e. cc)
 
       longer : (o : ℕ) (owners : List ℕ) → o ∷ owners ≡ owners → ⊥
       longer o owners e = let same = ap length e in absurd (omega (arith, same))
 
-      front_stored : (After : Memory → Ghost → Type 0) → env.config.kind ≡ Listed → nodes_at env.geometry ≤ op_place op
-          → IsFrontWrite list.before → (LeftInFront → After stored front)
-          → Step env mix c call words G op (holds_claimed list.claimed) (holds_front (lock_left bucket.place list.before)) After
+      front_stored : (After : Memory → Ghost → Type 0) → env.config.kind ≡ Listed
+          → nodes_at env.geometry ≤ op_place op → IsFrontWrite list.before
+          → (LeftInFront → After stored front)
+          → Step env mix c call words G op (holds_claimed list.claimed)
+          (holds_front (lock_left bucket.place list.before)) After
       front_stored After listed behind_maps write knows =
           let n = list.claimed.node in
           let is = k.means.bucket in
           let rest = list.first ∷ is.behind in
           let back = place_at-index env mix bucket.place is.found.standing.lock.bucket in
           let made =
-          front_made env mix c port bucket.place bucket.word list.first n list.before M stored G whole is listed k.means.node.key
-          k.means.node.list write in
+          front_made env mix c port bucket.place bucket.word list.first n list.before M stored G whole is
+          listed k.means.node.key k.means.node.list write in
           let before : now port ≡ owners_in env mix M rest = ap (owners_in env mix M) is.bound_to in
           let first : owner_of (stored (Node n OwnerWord)) ≡ owner =
-          ap owner_of (front_owner list.before write ∙ k.means.node.owner) ∙ mod-eq_of_lt {n = owner} {m = 2 ^ 32} small in
+          ap owner_of (front_owner list.before write ∙ k.means.node.owner)
+          ∙ mod-eq_of_lt {n = owner} {m = 2 ^ 32} small in
           let here : owners_in env mix stored (n ∷ rest) ≡ owner ∷ now port =
           ap (λ o. o ∷ owners_in env mix stored rest) first
-          ∙ ap (λ others. owner ∷ others) (owners_in-stay env mix c M stored G front whole made port rest is.bound_to ∙ sym before) in
+          ∙ ap (λ others. owner ∷ others)
+          (owners_in-stay env mix c M stored G front whole made port rest is.bound_to ∙ sym before) in
           record {
-            move = Rebinds (change env mix c port bucket.place bucket.word list.first n list.before M stored G whole is);
+            move =
+                Rebinds
+                (change env mix c port bucket.place bucket.word list.first n list.before M stored G whole is);
             ready = tt;
             made = made;
             does = record {
@@ -649,23 +703,30 @@ module _ (env : Env) (mix : ℕ → ℕ → ℕ → ℕ) (c : ℕ) (port owner :
                   (here ∙ sym (ap (λ kind. owners_bound kind owner (now port)) listed));
               port = port;
               differs = λ e.
-                  longer owner (now port) (sym here ∙ sym (ap (owners_in env mix stored) (put-same G.bound port (n ∷ rest))) ∙ e);
+                  longer owner (now port)
+                  (sym here ∙ sym (ap (owners_in env mix stored) (put-same G.bound port (n ∷ rest))) ∙ e);
             });
             right = λ answer unknown known.
                 subst (IsRight call (Some n))
-                (let same : ◌≡◌ {A = Option answers.Answer} (Some (plain (Bound false))) (Some answer) = known in cc)
+                (let same : Some (plain (Bound false)) ≡ Some answer = known in cc)
                 (with_node n (Bound false) tt refl refl (λ e. cc));
-            in_time = record { taken = λ node none some. absurd (cc); gone = λ node some none told. absurd (cc) };
+            in_time = record {
+              taken = λ node none some. absurd (cc);
+              gone = λ node some none told. absurd (cc);
+            };
             outs =
                 ap (λ o. o + 0)
-                (front_outs env mix c port bucket.place bucket.word list.first n list.before M stored G whole is);
+                (front_outs env mix c port bucket.place bucket.word list.first n list.before
+                M stored G whole is);
             knows = knows front_left;
           }
 
-    -- state by state: the store of the link, which without a node before unlocks the bucket, or the unlocking behind it
+    -- state by state: the store of the link, which without a node before unlocks the bucket, or the
+    -- unlocking behind it
     front_at : (claimed : Claimed) (first : ℕ) (before : Option ℕ) (state : RelinkAt)
         → let list : FoundList = record { claimed = claimed; first = first; before = before } in
-        IsBindAtIn env (at.Replacing list (front_relink list state)) → BindKnows (at.Replacing list (front_relink list state)) M G
+        IsBindAtIn env (at.Replacing list (front_relink list state))
+        → BindKnows (at.Replacing list (front_relink list state)) M G
         → BindStep (at.Replacing list (front_relink list state))
     front_at claimed first None (relinks.ChainLink node) is known = absurd known.fits.at_is
     front_at claimed first None (relinks.Word word) is known =
@@ -673,23 +734,36 @@ module _ (env : Env) (mix : ℕ → ℕ → ℕ → ℕ) (c : ℕ) (port owner :
         let op = Store claimed.bucket.place word in
         let j = word_index env mix claimed.bucket.place in
         let there = known.knowing.means.bucket.found.standing.lock.bucket in
-        let back : place_at env mix j ≡ claimed.bucket.place = place_at-index env mix claimed.bucket.place there in
+        let back : place_at env mix j ≡ claimed.bucket.place =
+        place_at-index env mix claimed.bucket.place there in
         let value : word ≡ plain_of (place_at env mix j) (link_of claimed.node) =
         known.fits.at_is ∙ ap (λ p. plain_of p (link_of claimed.node)) (sym back) in
-        front_stored list op known.knowing (BindNext (at.Replacing list (front_relink list (relinks.Word word)), Done (Bound false)))
-        known.fits.listed (let order = parts_in_order env.geometry in omega (arith, back, order.nodes, order.pages))
+        front_stored list op known.knowing (BindNext
+        (at.Replacing list (front_relink list (relinks.Word word)), Done (Bound false)))
+        known.fits.listed (let order = parts_in_order env.geometry in omega
+        (arith, back, order.nodes, order.pages))
         (subst (IsWrite env.geometry M (mem env mix (applied words op)) (PageWord j)) value
-        (is_write env.geometry words (PageWord j) op all (index-within env mix claimed.bucket.place there) (sym back)))
+        (is_write env.geometry words (PageWord j) op all (index-within env mix claimed.bucket.place there)
+        (sym back)))
         (λ left. record { only = left.only; means = record { node = tt; table = tt; bucket = tt } })
     front_at claimed first (Some before) (relinks.ChainLink node) is known =
         let list : FoundList = record { claimed = claimed; first = first; before = Some before } in
         let op = Store (place_of env.geometry (Node node ChainLink)) (link_of claimed.node) in
         let next = at.Replacing list (front_relink list (relinks.Word claimed.bucket.word)) in
         front_stored list op known.knowing (BindNext (next, Go)) known.fits.listed (omega arith)
-        (subst (λ m. IsWrite env.geometry M (mem env mix (applied words op)) (Node m ChainLink) (link_of claimed.node)) known.fits.at_is
+        (subst (λ m. IsWrite env.geometry M (mem env mix (applied words op)) (Node m ChainLink)
+        (link_of claimed.node)) known.fits.at_is
         (is_write env.geometry words (Node node ChainLink) op all is.relink_in.at_in refl))
         (λ left. record {
-          knowing = record { only = left.only; means = record { node = tt; table = tt; bucket = left.locks before refl } };
+          knowing = record {
+            only = left.only;
+            means = record {
+              node = tt;
+              table = tt;
+              bucket = left.locks
+                  before refl;
+            };
+          };
           fits = record { listed = known.fits.listed; relink_is = refl; at_is = refl };
         })
     front_at claimed first (Some before) (relinks.Word word) is known =
@@ -698,7 +772,8 @@ module _ (env : Env) (mix : ℕ → ℕ → ℕ → ℕ) (c : ℕ) (port owner :
         let told = holds_front None in
         let Ended : Memory → Ghost → Type 0 =
         BindNext (at.Replacing list (front_relink list (relinks.Word word)), Done (Bound false)) in
-        subst (λ v. Step env mix c call words G (Store place v) (holds_front (Some place)) told Ended) (sym known.fits.at_is)
+        subst (λ v. Step env mix c call words G (Store place v) (holds_front (Some place)) told Ended)
+        (sym known.fits.at_is)
         (answered env mix c call words G (Store place claimed.bucket.word) (holds_front (Some place)) told
         (Some (plain (Bound false))) Ended (inl (keeps (Some (plain (Bound false))))) (still_has refl)
         (unlock_step env mix c told None Nowhere words G all whole place claimed.bucket.word known.knowing))
@@ -706,7 +781,8 @@ module _ (env : Env) (mix : ℕ → ℕ → ℕ → ℕ) (c : ℕ) (port owner :
     front_step : (list : FoundList) (relink : RelinkModel) → IsBindAtIn env (at.Replacing list relink)
         → BindKnows (at.Replacing list relink) M G → BindStep (at.Replacing list relink)
     front_step list relink is known =
-        subst (λ r. let here = at.Replacing list r in IsBindAtIn env here → BindKnows here M G → BindStep here)
+        subst (λ r. let here = at.Replacing list r in IsBindAtIn env here → BindKnows here M G
+        → BindStep here)
         (sym known.fits.relink_is) (front_at list.claimed list.first list.before relink.at) is known
 
     -- ---- each operation leads from what the bind knows to what it knows next
@@ -740,10 +816,14 @@ module _ (env : Env) (mix : ℕ → ℕ → ℕ → ℕ) (c : ℕ) (port owner :
     bind_step (at.FoundOwner claimed found) is known = found_next claimed found known
     bind_step (at.ListLink list) is known =
         let claimed = list.claimed in
-        answered env mix c call words G (plan_at env (at.ListLink list)) (holds_claimed claimed) (holds_claimed claimed) None (BindNext (at.ChainLink list, Go)) (inl refl) (still_has refl)
-        (moved-map env mix c words G (plan_at env (at.ListLink list)) (holds_claimed claimed) (holds_claimed claimed) _ (BindNext (at.ChainLink list, Go))
+        answered env mix c call words G (plan_at env (at.ListLink list)) (holds_claimed claimed)
+        (holds_claimed claimed) None (BindNext (at.ChainLink list, Go)) (inl refl) (still_has refl)
+        (moved-map env mix c words G (plan_at env (at.ListLink list)) (holds_claimed claimed)
+        (holds_claimed claimed) _ (BindNext (at.ChainLink list, Go))
         (λ M' G' w k. record { knowing = k; fits = known.fits })
-        (nodes.fill_step env mix c (holds_node None (Some claimed.bucket.place)) (at_home port owner claimed) (first_found port owner list) words G all whole tt (own port owner claimed.node) ListLink (link_of list.first) known.knowing))
+        (nodes.fill_step env mix c (holds_node None (Some claimed.bucket.place))
+        (at_home port owner claimed) (first_found port owner list) words G all whole tt
+        (own port owner claimed.node) ListLink (link_of list.first) known.knowing))
     bind_step (at.ChainLink list) is known = front_loaded list known
     bind_step (at.LinkBehind list link) is known = front_linked list link known
     bind_step (at.Replacing list relink) is known = front_step list relink is known

@@ -1,5 +1,5 @@
--- The store by which a caller puts its own node in front of the list to which a port is bound: the node comes into the place of the
--- list's first one in the chain, and that one is behind it from then on.
+-- The store by which a caller puts its own node in front of the list to which a port is bound: the node
+-- comes into the place of the list's first one in the chain, and that one is behind it from then on.
 use Rattle.std.proofs.Common.{◌≡◌, ◌≢◌, ◌⊎◌, ℕ, List, [], ◌∷◌, ◌++◌, Option, Some, None, false, refl, sym, ◌∙◌, ap, subst, inl, inr, arith}
 use Rattle.rht_words.specs.declared.env.Env.{Env}
 use Rattle.rht_words.specs.declared.config.Kind.TheVariants.{Single, Listed}
@@ -7,7 +7,7 @@ use Rattle.rht_words.specs.Links.{link_of}
 use Rattle.rht_words.specs.Members.{In}
 use Rattle.rht_words.proofs.Members.{in-middle, not_in_from}
 use Rattle.rht_words.proofs.Memory.{Memory, IsWrite}
-use Rattle.rht_core.proofs.Theory.Ghosts.{put, put-same, put-all, Held, First, Behind, Ghost, is_taken_by, held_not_used, with_owner}
+use Rattle.rht_core.proofs.Theory.Ghosts.{put, put-same, put-all, Held, First, Behind, Bucket, Ghost, is_taken_by, held_not_used, with_owner}
 use Rattle.rht_core.proofs.Theory.Wholes.{list_of, key_of, place_at, word_index, place_at-index, outs, Whole}
 use Rattle.rht_core.proofs.Theory.Knowledge.{HasOnly, HoldsLock, IsInList, Replaces, StandsAt, bound_used}
 use Rattle.rht_core.proofs.Theory.Frames.{Made}
@@ -21,7 +21,8 @@ abbrev pub lock_left : ℕ → Option ℕ → Option ℕ
 lock_left place None = None
 lock_left place (Some before) = Some place
 
-module _ (env : Env) (mix : ℕ → ℕ → ℕ → ℕ) (c port place word first n : ℕ) (before : Option ℕ) (M M' : Memory) (G : Ghost)
+module _ (env : Env) (mix : ℕ → ℕ → ℕ → ℕ) (c port place word first n : ℕ) (before : Option ℕ)
+    (M M' : Memory) (G : Ghost)
     (whole : Whole env mix M G) (is : IsInList env mix c M G place word port first before (Replaces n)) where
   abbrev j : ℕ
   j = word_index env mix place
@@ -30,7 +31,8 @@ module _ (env : Env) (mix : ℕ → ℕ → ℕ → ℕ) (c port place word firs
   stands = is.found.standing.stands
 
   abbrev pub change : Change
-  change = replacing env mix c port j first stands.front stands.rear before M M' G n (first ∷ is.behind) (Behind port)
+  change = replacing env mix c port j first stands.front stands.rear before M M' G n (first ∷ is.behind)
+      (Behind port)
 
   abbrev pub fronted : Ghost
   fronted = changed G c change
@@ -50,10 +52,13 @@ module _ (env : Env) (mix : ℕ → ℕ → ℕ → ℕ) (c port place word firs
   -- the caller's node is none of those to which the port is bound
   listed_differs : (m : ℕ) → In m (first ∷ is.behind) → m ≢ n
   listed_differs m i e =
-      held_not_used (G.node n) c is.means.has.mine (rw (sym e) (bound_used env mix M G whole port (first ∷ is.behind) is.bound_to m i).1)
+      let used = bound_used env mix M G whole port (first ∷ is.behind) is.bound_to m i in
+      held_not_used (G.node n) c is.means.has.mine (rw (sym e) used.1)
 
-  module _ (listed : env.config.kind ≡ Listed) (key_is : key_of M n ≡ port) (list_is : list_of M n ≡ link_of first) where
-    can : CanReplace env mix c port j first stands.front stands.rear before M M' G is.behind n (first ∷ is.behind) (Behind port)
+  module _ (listed : env.config.kind ≡ Listed) (key_is : key_of M n ≡ port)
+      (list_is : list_of M n ≡ link_of first) where
+    can : CanReplace env mix c port j first stands.front stands.rear before M M' G is.behind n
+        (first ∷ is.behind) (Behind port)
     can =
         let to = whole.owned.bound_to port first is.behind is.bound_to in
         record {
@@ -74,30 +79,43 @@ module _ (env : Env) (mix : ℕ → ℕ → ℕ → ℕ) (c port place word firs
           single = λ one. absurd (let both : Single ≡ Listed = sym one ∙ listed in cc);
         }
 
-    pub front_made : IsWrite env.geometry M M' (relink_address j before) (relink_value (place_at env mix j) (link_of n) before)
+    pub front_made : IsWrite env.geometry M M' (relink_address j before)
+        (relink_value (place_at env mix j) (link_of n) before)
         → Made env mix c M G M' fronted
     front_made write =
-        replace env mix c port j first stands.front stands.rear before M M' G whole is.behind found_in n (first ∷ is.behind) (Behind port) can write
+        replace env mix c port j first stands.front stands.rear before M M' G whole is.behind found_in n
+        (first ∷ is.behind) (Behind port) can write
 
   -- ---- what the caller has behind it
 
   -- its node is a port's from then on, and without a node before the bucket is unlocked
-  pub front_only : HasOnly env mix c G (Some n) (Some place) None false → HasOnly env mix c fronted None (lock_left place before) None false
+  pub front_only : HasOnly env mix c G (Some n) (Some place) None false
+      → HasOnly env mix c fronted None (lock_left place before) None false
   front_only only = record {
-    nodes = put-all (λ m o. o ≡ Held c → ◌≡◌ {A = Option ℕ} None (Some m)) (put G.node first (Behind port)) n (First j) (λ e. absurd (cc))
-        (λ m ne. put-all (λ k o. k ≢ n → o ≡ Held c → ◌≡◌ {A = Option ℕ} None (Some k)) G.node first (Behind port) (λ apart e. absurd (cc))
+    nodes = put-all (λ m o. o ≡ Held c → ◌≡◌ {A = Option ℕ} None (Some m)) (put G.node first (Behind port))
+        n (First j) (λ e. absurd (cc))
+        (λ m ne. put-all (λ k o. k ≢ n → o ≡ Held c → ◌≡◌ {A = Option ℕ} None (Some k)) G.node first
+        (Behind port) (λ apart e. absurd (cc))
         (λ k other apart held. let q = only.nodes k held in absurd (apart (cc))) m ne);
-    locks = put-all (λ i b. b.holder ≡ Some c → (lock_left place before ≡ Some (place_at env mix i)) ⊎ (◌≡◌ {A = Option ℕ} None (Some (place_at env mix i)))) G.bucket j change.bucket
-        (left before)
+    locks = put-all (λ i b. b.holder ≡ Some c → IsLeft before i) G.bucket j change.bucket (left before)
         (λ i ne holds. elim (only.locks i holds) [
-          | inl here ↦ absurd (ne (let q : place ≡ place_at env mix i = cc in let r = back in omega (arith, q, r)))
+          | inl here ↦
+              absurd (ne (let q : place ≡ place_at env mix i = cc in let r = back in omega (arith, q, r)))
           | inr second ↦ absurd (cc)
         ]);
     raising = put-same G.raised c (G.raised c) ∙ only.raising;
   }
     where
-      left : (b : Option ℕ) → (relinked (place_at env mix j) (link_of n) (G.bucket j) (stands.front ++ ((n ∷ []) ++ stands.rear)) b).holder ≡ Some c
-          → (lock_left place b ≡ Some (place_at env mix j)) ⊎ (◌≡◌ {A = Option ℕ} None (Some (place_at env mix j)))
+      IsLeft : Option ℕ → ℕ → Type 0
+      IsLeft b i =
+          let there : Option ℕ = Some (place_at env mix i) in
+          (lock_left place b ≡ there) ⊎ (◌≡◌ {A = Option ℕ} None there)
+
+      nodes : List ℕ
+      nodes = stands.front ++ ((n ∷ []) ++ stands.rear)
+
+      left : (b : Option ℕ) → (relinked (place_at env mix j) (link_of n) (G.bucket j) nodes b).holder ≡ Some c
+          → IsLeft b j
       left None holds = absurd (cc)
       left (Some p) holds = inl (ap Some (sym back))
 
@@ -107,18 +125,21 @@ module _ (env : Env) (mix : ℕ → ℕ → ℕ → ℕ) (c port place word firs
       let lock = is.found.standing.lock in
       let there = put-same G.bucket j change.bucket in
       let nodes : List ℕ = stands.front ++ ((n ∷ []) ++ stands.rear) in
+      let after : Option ℕ → Bucket = relinked (place_at env mix j) (link_of n) (G.bucket j) nodes in
       record {
         bucket = lock.bucket;
-        holder = ap (λ b. b.holder) there ∙ ap (λ b. (relinked (place_at env mix j) (link_of n) (G.bucket j) nodes b).holder) e ∙ lock.holder;
-        plain = ap (λ b. b.plain) there ∙ ap (λ b. (relinked (place_at env mix j) (link_of n) (G.bucket j) nodes b).plain) e ∙ lock.plain;
+        holder = ap (λ b. b.holder) there ∙ ap (λ b. (after b).holder) e ∙ lock.holder;
+        plain = ap (λ b. b.plain) there ∙ ap (λ b. (after b).plain) e ∙ lock.plain;
       }
 
   -- no node was taken out of a list
   pub front_outs : outs env mix fronted c ≡ outs env mix G c
   front_outs =
-      let there = whole.owned.member j first (subst (In first) (sym stands.split) (in-middle first stands.front stands.rear)) in
+      let there : In first (G.bucket j).nodes =
+      subst (In first) (sym stands.split) (in-middle first stands.front stands.rear) in
       reowned-outs env mix c n (First j) (with_owner G first (Behind port)) new refl
-      ∙ reowned-outs env mix c first (Behind port) G (ap (is_taken_by c) there) refl
+      ∙ reowned-outs env mix c first (Behind port) G (ap (is_taken_by c) (whole.owned.member j first there))
+      refl
     where
       new : is_taken_by c (put G.node first (Behind port) n) ≡ false
       new = put-all (λ m o. m ≡ n → is_taken_by c o ≡ false) G.node first (Behind port) (λ e. refl)

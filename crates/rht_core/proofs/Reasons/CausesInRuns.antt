@@ -199,7 +199,8 @@ module _ (env : Env) where
     table = raised.table;
     shape = raised.shape;
     walked = LastWalked-push env.geometry raised.table raised.shape steps did none.no_shape raised.walked;
-    each = AllByRecursion-push (SaysOfRaise raised.shape kick) raised.walked.behind did raised.each (λ adds. absurd (none.no_raise adds));
+    each = AllByRecursion-push (SaysOfRaise raised.shape kick) raised.walked.behind did raised.each
+        (λ adds. absurd (none.no_raise adds));
     some = elim raised.some [
       | inl any ↦ inl (Any-append_left (IsRaise env.geometry) raised.walked.behind (did ∷ []) any)
       | inr none_raised ↦ inr none_raised
@@ -210,7 +211,11 @@ module _ (env : Env) where
   unraised-says : (shape : ℕ) (kick : Bool) (steps : List Did) → AllByRecursion (IsNoRaise env.geometry) steps
       → AllByRecursion (SaysOfRaise shape kick) steps
   unraised-says shape kick [] none = tt
-  unraised-says shape kick (did ∷ steps) none = ((λ adds. absurd (none.0 adds)), unraised-says shape kick steps none.1)
+  unraised-says shape kick (did ∷ steps) none = (
+    (λ adds. absurd (none.0 adds)),
+    unraised-says shape kick
+        steps none.1,
+  )
 
   SawFor-push : (reply : Reply) (steps : List Did) (did : Did) → IsAside env.geometry did → SawFor reply steps
       → SawFor reply (steps ++ did ∷ [])
@@ -313,16 +318,20 @@ module _ (env : Env) where
 
   -- a walk that has ended in a bucket
   bound-saw : (kind : Kind) (claimed : Claimed) (first : ℕ) (before : Option ℕ) (steps : List Did)
-      → Walked env.geometry claimed.table claimed.shape steps → SawAt (bound_already kind claimed first before) steps
+      → Walked env.geometry claimed.table claimed.shape steps
+      → SawAt (bound_already kind claimed first before) steps
   bound-saw Single claimed first before steps walked = tt
   bound-saw Listed claimed first before steps walked = walked
 
   seen-saw : (kind : Kind) (claimed : Claimed) (found before : Option ℕ) (length : ℕ) (steps : List Did)
-      → Walked env.geometry claimed.table claimed.shape steps → SawAt (found_or_future kind claimed found before length) steps
+      → Walked env.geometry claimed.table claimed.shape steps
+      → SawAt (found_or_future kind claimed found before length) steps
   seen-saw kind claimed None before length steps walked = walked
-  seen-saw kind claimed (Some first) before length steps walked = bound-saw kind claimed first before steps walked
+  seen-saw kind claimed (Some first) before length steps walked = bound-saw kind claimed first before steps
+      walked
 
-  probed-saw : (kind : Kind) (node table shape : ℕ) (probe : ProbeModel) (next : Next Probed) (steps : List Did)
+  probed-saw : (kind : Kind) (node table shape : ℕ) (probe : ProbeModel) (next : Next Probed)
+      (steps : List Did)
       → Walked env.geometry table shape steps → SawAt (probed kind node table shape probe next) steps
   probed-saw kind node table shape probe Go steps walked = walked
   probed-saw kind node table shape probe (Done end) steps walked =
@@ -360,16 +369,20 @@ module _ (env : Env) where
         table = claimed.table;
         shape = claimed.shape;
         walked =
-            LastWalked-push env.geometry claimed.table claimed.shape steps did (no_load env.geometry did _ is (λ place load. cc)) walked.last;
+            LastWalked-push env.geometry claimed.table claimed.shape steps did
+            (no_load env.geometry did _ is (λ place load. cc)) walked.last;
         each =
-            AllByRecursion-push (SaysOfRaise claimed.shape kick) behind did (unraised-says claimed.shape kick behind walked.unraised)
+            AllByRecursion-push (SaysOfRaise claimed.shape kick) behind did
+            (unraised-says claimed.shape kick behind walked.unraised)
             (λ adds. refl);
         some = inl (Any-push (IsRaise env.geometry) behind did is);
       }
 
   -- a bind that has put its node in front of a list has raised none
-  replaced-saw : (list : FoundList) (relink : RelinkModel) (next : Next (Unit {0})) (steps : List Did) → env.config.kind ≡ Listed
-      → Walked env.geometry list.claimed.table list.claimed.shape steps → SawNext steps (replaced list relink next)
+  replaced-saw : (list : FoundList) (relink : RelinkModel) (next : Next (Unit {0})) (steps : List Did)
+      → env.config.kind ≡ Listed
+      → Walked env.geometry list.claimed.table list.claimed.shape steps
+      → SawNext steps (replaced list relink next)
   replaced-saw list relink Go steps listed walked = walked
   replaced-saw list relink (Done done) steps listed walked = record {
     table = list.claimed.table;
@@ -424,18 +437,25 @@ module _ (env : Env) where
     bind-saw (at.CurrentTable node) steps did does saw = tt
     bind-saw (at.Locating node locate) steps did does saw = locating-saw node locate steps did does saw
     bind-saw (at.Probing node table shape probe) steps did does saw =
-        probed-saw env.config.kind node table shape (probe_after probe did.old).0 (probe_after probe did.old).1 (steps ++ did ∷ [])
-        (Walked-push env.geometry table shape steps did (probe_loads env.geometry did probe.at does.within.at_in.probe_in.at_in does.planned) saw)
+        probed-saw env.config.kind node table shape (probe_after probe did.old).0
+        (probe_after probe did.old).1 (steps ++ did ∷ [])
+        (Walked-push env.geometry table shape steps did
+        (probe_loads env.geometry did probe.at does.within.at_in.probe_in.at_in does.planned) saw)
     bind-saw (at.FoundOwner claimed found) steps did does saw = tt
     bind-saw (at.ListLink list) steps did does saw =
-        Walked-push env.geometry list.claimed.table list.claimed.shape steps did (aside env.geometry did _ does.planned (λ place load. cc) (λ place value adds. cc)) saw
+        Walked-push env.geometry list.claimed.table list.claimed.shape steps did
+        (aside env.geometry did _ does.planned (λ place load. cc) (λ place value adds. cc)) saw
     bind-saw (at.ChainLink list) steps did does saw =
-        Walked-push env.geometry list.claimed.table list.claimed.shape steps did (node_loads env.geometry did env.geometry list.first ChainLink does.planned) saw
+        Walked-push env.geometry list.claimed.table list.claimed.shape steps did
+        (node_loads env.geometry did env.geometry list.first ChainLink does.planned) saw
     bind-saw (at.LinkBehind list link) steps did does saw =
-        Walked-push env.geometry list.claimed.table list.claimed.shape steps did (aside env.geometry did _ does.planned (λ place load. cc) (λ place value adds. cc)) saw
+        Walked-push env.geometry list.claimed.table list.claimed.shape steps did
+        (aside env.geometry did _ does.planned (λ place load. cc) (λ place value adds. cc)) saw
     bind-saw (at.Replacing list relink) steps did does saw =
-        replaced-saw list (relink_after relink).0 (relink_after relink).1 (steps ++ did ∷ []) does.knows.fits.listed
-        (Walked-push env.geometry list.claimed.table list.claimed.shape steps did (relink_stores env.geometry did relink relink.at does.planned) saw)
+        replaced-saw list (relink_after relink).0 (relink_after relink).1 (steps ++ did ∷ [])
+        does.knows.fits.listed
+        (Walked-push env.geometry list.claimed.table list.claimed.shape steps did
+        (relink_stores env.geometry did relink relink.at does.planned) saw)
     bind-saw (at.Future claimed length) steps did does saw =
         future-saw claimed (slot_of did.old) (steps ++ did ∷ [])
         (Walked-push env.geometry claimed.table claimed.shape steps did
@@ -445,16 +465,19 @@ module _ (env : Env) where
         (Walked-push env.geometry claimed.table claimed.shape steps did
         (elsewhere env.geometry did _ does.planned (λ table below same. absurd (omega arith))) saw)
     bind-saw (at.Link claimed) steps did does saw =
-        Walked-push env.geometry claimed.table claimed.shape steps did (aside env.geometry did _ does.planned (λ place load. cc) (λ place value adds. cc)) saw
+        Walked-push env.geometry claimed.table claimed.shape steps did
+        (aside env.geometry did _ does.planned (λ place load. cc) (λ place value adds. cc)) saw
     bind-saw (at.Raise claimed) steps did does saw = raise-saw claimed steps did does.planned saw
     bind-saw (at.Publish node table relink kick) steps did does saw =
         published-saw node table kick (relink_after relink).0 (relink_after relink).1 (steps ++ did ∷ [])
         (Raised-push kick steps did (relink_stores env.geometry did relink relink.at does.planned) saw)
     bind-saw (at.Unlocking node table unlock next) steps did does saw =
         unlocked-saw node next (steps ++ did ∷ [])
-        (SawForReply-push (answer_behind next) steps did (aside env.geometry did _ does.planned (λ place load. cc) (λ place value adds. cc)) saw)
+        (SawForReply-push (answer_behind next) steps did
+        (aside env.geometry did _ does.planned (λ place load. cc) (λ place value adds. cc)) saw)
     bind-saw (at.Giving give reply) steps did does saw =
-        SawFor-push reply steps did (aside env.geometry did _ does.planned (λ place load. cc) (λ place value adds. cc)) saw
+        SawFor-push reply steps did (aside env.geometry did _ does.planned (λ place load. cc)
+        (λ place value adds. cc)) saw
 
   -- a look-up has nothing to show for its answers
   find-cause : (reply : Reply) → IsFindReply reply → FindCause reply
@@ -614,18 +637,32 @@ module _ (M : Type 0) (mix : ℕ → ℕ → ℕ → ℕ) (env : Env) where
             ap (λ count. is_above_75 (count + 1) (size_of (unpacked shape)) env.config.max) same
 
         due : (shape : ℕ) (kick : Bool) (steps : List Did) → AllByRecursion IsRecordedHere steps
-            → AllByRecursion (SaysOfRaise env shape kick) steps → kick ≡ true → Any (IsRaise env.geometry) steps
+            → AllByRecursion (SaysOfRaise env shape kick) steps → kick ≡ true
+            → Any (IsRaise env.geometry) steps
             → Any (IsDueBy env shape) steps
         due shape kick steps recorded each is (k, did, within, at_k, adds) =
-            let was = subst IsRecordedHere at_k (All-from_recursion IsRecordedHere steps recorded k did within) in
-            let says = subst (SaysOfRaise env shape kick) at_k (All-from_recursion (SaysOfRaise env shape kick) steps each k did within) in
-            (k, did, within, at_k, record { raised = adds; due = sym (unclamped shape did was adds) ∙ sym (says adds) ∙ is })
+            let was = subst IsRecordedHere at_k (All-from_recursion IsRecordedHere steps recorded k did
+            within) in
+            let says = subst (SaysOfRaise env shape kick) at_k
+            (All-from_recursion (SaysOfRaise env shape kick) steps each k did within) in (
+              k,
+              did,
+              within,
+              at_k,
+              record {
+                raised = adds;
+                due = sym (unclamped shape did was adds) ∙
+                    sym (says adds) ∙ is;
+              },
+            )
 
         by_due : (shape : ℕ) (kick : Bool) (steps : List Did) → AllByRecursion IsRecordedHere steps
             → AllByRecursion (SaysOfRaise env shape kick) steps → Any (IsDueBy env shape) steps → kick ≡ true
         by_due shape kick steps recorded each (k, did, within, at_k, by) =
-            let was = subst IsRecordedHere at_k (All-from_recursion IsRecordedHere steps recorded k did within) in
-            let says = subst (SaysOfRaise env shape kick) at_k (All-from_recursion (SaysOfRaise env shape kick) steps each k did within) in
+            let was = subst IsRecordedHere at_k (All-from_recursion IsRecordedHere steps recorded k did
+            within) in
+            let says = subst (SaysOfRaise env shape kick) at_k
+            (All-from_recursion (SaysOfRaise env shape kick) steps each k did within) in
             says by.raised ∙ unclamped shape did was by.raised ∙ by.due
 
     bind-cause : (past : Past) (reply : Reply) → SawFor env reply past.steps → AllByRecursion IsRecordedHere past.steps

@@ -1,5 +1,6 @@
 -- The last table that a call walked is the one whose shape it loaded last.
--- It stays so while the call loads no other shape; and neither what it does in a bucket nor what it stores loads one. Nor does any
+-- It stays so while the call loads no other shape; and neither what it does in a bucket nor what it stores
+-- loads one. Nor does any
 -- of that raise the count of ports.
 use Rattle.std.proofs.Common.{◌≡◌, ◌≢◌, ℕ, ◌<◌, ◌≤◌, List, [], ◌∷◌, ◌++◌, refl, sym, ap, ◌∙◌, append_assoc, arith}
 use Rattle.std.specs.List.{AllByRecursion}
@@ -46,10 +47,15 @@ module _ (g : Geometry) where
   no_load did op is none table below load = none (place_of g (Slot table ShapeWord)) (sym is ∙ load)
 
   -- and no addition
-  pub aside : (did : Did) (op : Op) → did.op ≡ op → ((place : ℕ) → op ≢ Load place) → ((place value : ℕ) → op ≢ Add place value)
+  pub aside : (did : Did) (op : Op) → did.op ≡ op → ((place : ℕ) → op ≢ Load place)
+      → ((place value : ℕ) → op ≢ Add place value)
       → IsAside did
   aside did op is no_load_is no_add =
-      record { no_shape = no_load did op is no_load_is; no_raise = λ adds. no_add (place_of g PortCount) 1 (sym is ∙ adds) }
+      record {
+        no_shape = no_load did op is no_load_is;
+        no_raise = λ adds. no_add (place_of g PortCount) 1
+            (sym is ∙ adds);
+      }
 
   -- a load of another place
   pub elsewhere : (did : Did) (place : ℕ) → did.op ≡ Load place
@@ -72,7 +78,8 @@ module _ (g : Geometry) where
       (arith, is.0, order.page_map, order.nodes, order.pages)
 
   -- a load of a word of a node
-  pub node_loads : (did : Did) (h : Geometry) (node : ℕ) (word : NodeWord) → did.op ≡ Load (place_of h (Node node word)) → IsAside did
+  pub node_loads : (did : Did) (h : Geometry) (node : ℕ) (word : NodeWord)
+      → did.op ≡ Load (place_of h (Node node word)) → IsAside did
   node_loads did h node word is = behind_slots did _ is (omega (arith, nodes_behind h))
 
   walk_loads : (did : Did) (h : Geometry) (state : LockedWalkAt) → did.op ≡ walk_plan_at h state → IsAside did
@@ -82,16 +89,20 @@ module _ (g : Geometry) where
   lock_loads : (did : Did) (place : ℕ) (state : LockAt) → IsBucketPlace g place → did.op ≡ lock_plan_at place state
       → IsAside did
   lock_loads did place locks.Word there is = behind_slots did place is (bucket_behind place there)
-  lock_loads did place (locks.Exchange word) there is = aside did _ is (λ other load. cc) (λ other value adds. cc)
+  lock_loads did place (locks.Exchange word) there is = aside did _ is (λ other load. cc)
+      (λ other value adds. cc)
 
   -- what locks a bucket and walks it
-  pub probe_loads : (did : Did) (state : ProbeAt) → IsProbeAtIn g state → did.op ≡ probe_plan_at state → IsAside did
+  pub probe_loads : (did : Did) (state : ProbeAt) → IsProbeAtIn g state → did.op ≡ probe_plan_at state
+      → IsAside did
   probe_loads did (probes.Locking lock) there is = lock_loads did lock.place lock.at there.place_in is
   probe_loads did (probes.Walking bucket walk) there is = walk_loads did walk.geometry walk.at is
 
   -- what changes a link in a bucket
-  pub relink_stores : (did : Did) (m : RelinkModel) (state : RelinkAt) → did.op ≡ relink_plan_at m state → IsAside did
-  relink_stores did m (relinks.ChainLink before) is = aside did _ is (λ place load. cc) (λ place value adds. cc)
+  pub relink_stores : (did : Did) (m : RelinkModel) (state : RelinkAt) → did.op ≡ relink_plan_at m state
+      → IsAside did
+  relink_stores did m (relinks.ChainLink before) is = aside did _ is (λ place load. cc)
+      (λ place value adds. cc)
   relink_stores did m (relinks.Word word) is = aside did _ is (λ place load. cc) (λ place value adds. cc)
 
   -- ---- the last table
