@@ -22,6 +22,8 @@ const NOTHING: Stepped = Stepped {
 
 const BOUND: Reply = Reply::Bound { kick: false };
 
+const RELEASED: Reply = Reply::Released { kick: false };
+
 const FIND_5: Call = Call::Find { port: 5 };
 
 /// What a run is told next, and what is wanted of it.
@@ -82,6 +84,10 @@ fn bind(port: Port, owner: u32) -> Call {
         owner,
         once: false,
     }
+}
+
+fn release(port: Port, owner: u32) -> Call {
+    Call::Release { port, owner }
 }
 
 /// A table of 8 nodes and 4 pages for one caller, with the low hash.
@@ -172,10 +178,16 @@ fn assert_bound<M: Mix>(rt: &impl Abort, alloc: Global, run: &Run<M>) -> Result<
     Ok(())
 }
 
-/// The call has had this reply.
+/// The call has had this reply. A release takes out the latest binding of its port and owner.
 fn ended<M: Mix>(run: &mut Run<M>, call: Call, reply: Reply) -> Result<(), Fail> {
     if let (Call::Bind { port, owner, .. }, Reply::Bound { .. }) = (call, reply) {
         run.bound.insert(0, (port, owner))?;
+    }
+    if let (Call::Release { port, owner }, Reply::Released { .. }) = (call, reply) {
+        let gone = run.bound.iter().position(|bound| *bound == (port, owner));
+        if let Some(at) = gone {
+            run.bound.remove(at);
+        }
     }
     Ok(())
 }
@@ -353,19 +365,83 @@ fn a_list_grows_at_its_front(rt: HostRuntime) -> Result<(), Fail> {
 }
 
 #[test]
+fn releases_and_counts(rt: HostRuntime) -> Result<(), Fail> {
+    let absent = Reply::Absent;
+    let found = Reply::Found { owner: 7 };
+    assert_run::<Low>(
+        &rt,
+        rt.alloc(),
+        small(),
+        &[
+            enrolls(0),
+            replies(Call::Count, Reply::Counted { count: 0 }),
+            replies(release(5, 9), absent),
+            replies(bind(5, 9), BOUND),
+            replies(bind(69, 7), BOUND),
+            begins(0, Call::Count),
+            ends(
+                0,
+                &[(Op::load(2), 2)],
+                Call::Count,
+                Reply::Counted { count: 2 },
+            ),
+            replies(release(5, 7), absent),
+            replies(release(6, 9), absent),
+            replies(release(5, 9), RELEASED),
+            replies(release(5, 9), absent),
+            replies(FIND_5, Reply::Missing),
+            replies(Call::Find { port: 69 }, found),
+            replies(Call::Count, Reply::Counted { count: 1 }),
+            replies(bind(5, 3), BOUND),
+            replies(release(69, 7), RELEASED),
+            replies(release(5, 3), RELEASED),
+            replies(Call::Count, Reply::Counted { count: 0 }),
+        ],
+    )
+}
+
+#[test]
+fn releases_from_lists(rt: HostRuntime) -> Result<(), Fail> {
+    let config = Config {
+        kind: Kind::Listed,
+        ..small()
+    };
+    assert_run::<Low>(
+        &rt,
+        rt.alloc(),
+        config,
+        &[
+            enrolls(0),
+            replies(bind(69, 7), BOUND),
+            replies(bind(5, 9), BOUND),
+            replies(bind(5, 3), BOUND),
+            replies(bind(5, 9), BOUND),
+            replies(bind(5, 4), BOUND),
+            replies(Call::Count, Reply::Counted { count: 2 }),
+            // The second of the list, the first, the last and the only one.
+            replies(release(5, 9), RELEASED),
+            replies(release(5, 4), RELEASED),
+            replies(release(5, 9), RELEASED),
+            replies(release(5, 9), Reply::Absent),
+            replies(FIND_5, Reply::Found { owner: 3 }),
+            replies(release(5, 3), RELEASED),
+            replies(FIND_5, Reply::Missing),
+            replies(Call::Count, Reply::Counted { count: 1 }),
+        ],
+    )
+}
+
+#[test]
 fn calls_without_a_machine_are_not_begun(rt: HostRuntime) -> Result<(), Fail> {
-    let release = Call::Release { port: 5, owner: 9 };
     let walk = Call::Walk {
         from: None,
         limit: 1,
     };
     let cases = [
         Call::All { port: 5 },
-        release,
         walk,
         Call::Work,
         Call::Tidy,
-        Call::Count,
     ];
     for call in cases {
         let rows = [enrolls(0), begins(0, call), idles(0)];

@@ -2,7 +2,7 @@
 
 ghost use Rattle.std.specs.Prelude.{◌≡◌, false, IfOk};
 ghost use Rattle.std.specs.List.{AllByRecursion};
-ghost use Rattle.rht_model.specs.declared.history.Call.TheVariants.{Bind};
+ghost use Rattle.rht_model.specs.declared.history.Call.TheVariants.{Bind, Rebind};
 ghost use Rattle.rht_policy.specs.Mix.{mix_named, low_mix};
 ghost use Rattle.rht_registry.specs.Outcomes.{IsBuiltCommand};
 
@@ -18,7 +18,7 @@ use std::test::Fail;
 
 const SMALL: Config = Config {
     kind: Kind::Single,
-    nodes: 2,
+    nodes: 4,
     pages: 4,
     callers: 1,
     hint: 0,
@@ -40,7 +40,13 @@ fn bind(port: Port, owner: u32) -> Call
     }
 }
 
-/// Binds two ports of one bucket, and looks ports up.
+fn rebind(port: Port, owner: u32, new: u32) -> Call
+    ensures { result ≡ Rebind port owner new }
+{
+    Call::Rebind { port, owner, new }
+}
+
+/// Binds ports of one bucket and of another, takes one out, gives one another owner, and looks ports up.
 fn small_script<M: Mix>(alloc: Global) -> Result<Script, AllocError>
     ensures config { IfOk result (λ script. script.config.callers ≡ 1) }
     ensures mix { IfOk result (λ script. low_mix ≡ mix_named script.config) }
@@ -50,9 +56,15 @@ fn small_script<M: Mix>(alloc: Global) -> Result<Script, AllocError>
         (1, bind(69, 7)),
         (1, bind(5, 9)),
         (1, bind(5, 3)),
+        (1, rebind(69, 7, 8)),
+        (1, rebind(5, 7, 8)),
+        (1, Call::Release { port: 5, owner: 9 }),
         (1, bind(6, 3)),
+        (1, bind(7, 1)),
+        (1, rebind(6, 3, 4)),
         (1, Call::Find { port: 69 }),
-        (1, Call::Find { port: 6 }),
+        (1, Call::Find { port: 5 }),
+        (1, Call::Count),
     ];
     Ok(Script {
         config: SMALL,
@@ -91,14 +103,21 @@ fn a_script_is_done_on_the_table(rt: HostRuntime) -> Result<(), Fail> {
     let script = small_script::<Low>(rt.alloc())?;
     assert!(rt; script.is_sound());
     let outcome = run_workers::<Low, _, _>(&rt, rt.alloc(), &script, &NoGate)?;
-    // There are two nodes: a third bind finds none, and one of a bound port needs one too.
+    // There are four nodes, and those that were taken out don't return: the last bind finds none, and
+    // neither does the last rebind.
     let want = [
         Reply::Bound { kick: false },
         Reply::Bound { kick: false },
+        Reply::Exists { owner: 9 },
+        Reply::Rebound,
+        Reply::Absent,
+        Reply::Released { kick: false },
+        Reply::Bound { kick: false },
         Reply::NoNode,
         Reply::NoNode,
-        Reply::Found { owner: 7 },
+        Reply::Found { owner: 8 },
         Reply::Missing,
+        Reply::Counted { count: 2 },
     ];
     assert_eq!(rt; outcome.replies.len(), 1);
     let replies = &outcome.replies[0];
@@ -112,7 +131,7 @@ fn a_script_is_done_on_the_table(rt: HostRuntime) -> Result<(), Fail> {
         (closed.size, closed.keys, closed.bindings.len()),
         (64, 2, 2)
     );
-    let want: [(Port, &[u32]); 2] = [(5, &[9]), (69, &[7])];
+    let want: [(Port, &[u32]); 2] = [(6, &[3]), (69, &[8])];
     for (i, (port, owners)) in want.iter().enumerate() {
         assert!(rt; i < closed.bindings.len());
         assert_eq!(rt; closed.bindings.port(i), *port, "at {i}");
@@ -130,8 +149,8 @@ fn the_gate_hears_of_each_command(rt: HostRuntime) -> Result<(), Fail> {
         after: AtomicU32::new(0),
     };
     run_workers::<Low, _, _>(&rt, rt.alloc(), &script, &gate)?;
-    // Six commands of worker 1, and 1 + 2 + 3 + 4 + 5 + 6.
-    assert_eq!(rt; gate.before.load(Ordering::SeqCst), 621);
-    assert_eq!(rt; gate.after.load(Ordering::SeqCst), 621);
+    // Twelve commands of worker 1, and the numbers from 1 to 12.
+    assert_eq!(rt; gate.before.load(Ordering::SeqCst), 1_278);
+    assert_eq!(rt; gate.after.load(Ordering::SeqCst), 1_278);
     Ok(())
 }
