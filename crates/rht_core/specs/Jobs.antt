@@ -1,6 +1,6 @@
 -- Jobs: what a caller does, said without its number, its table and the type of its mix. What is said of a caller by where
 -- its machine stands is said of its job, so that each machine is told apart from the others here and in few places else.
-use Rattle.std.specs.Prelude.{ℕ, Bool, Option, Some, None}
+use Rattle.std.specs.Prelude.{ℕ, Bool, Option, Some, None, []}
 use Rattle.rht_words.specs.declared.op.Op.{Op}
 use Rattle.rht_words.specs.declared.env.Env.{Env}
 use Rattle.rht_words.specs.declared.machine.Next.{Next}
@@ -19,29 +19,38 @@ use Rattle.rht_find.specs.declared.find.FindAt.{FindAt}
 use Rattle.rht_find.specs.declared.find.FindAt.TheVariants.{CurrentTable}
 use Rattle.rht_bind.specs.Bind as bind
 use Rattle.rht_bind.specs.declared.bind.BindAt.{BindAt}
+use Rattle.rht_model.specs.Rooms.{Kept}
+use Rattle.rht_release.specs.Seek.{seek_new}
+use Rattle.rht_release.specs.All as all
+use Rattle.rht_release.specs.AllHeld.{listing_of, held_of_all}
+use Rattle.rht_release.specs.declared.all.AllAt.{AllAt}
+use Rattle.rht_release.specs.declared.all.AllAt.TheVariants as alls
 use Rattle.rht_model.specs.declared.history.Reply.TheVariants.{Counted}
+use Rattle.rht_core.specs.Locals.{room_for_nodes}
 use Rattle.rht_core.specs.PortCounts.{count_plan_in}
 use Rattle.rht_core.specs.declared.local.Doing.{Doing}
-use Rattle.rht_core.specs.declared.local.Doing.TheVariants.{Idle, Finding, Binding, Counting}
+use Rattle.rht_core.specs.declared.local.Doing.TheVariants.{Idle, Finding, Binding, Listing, Counting}
 
--- a look-up of a port, and a bind of a port to an owner, with the state in which it is; and a reading of how many ports are
--- bound
+-- a look-up of a port, a bind of a port to an owner, and a listing of a port's owners with its room, each with the state in
+-- which it is; and a reading of how many ports are bound
 pub data Job : Type 0 where
   finds : (port : ℕ) (state : FindAt) → Job
   binds : (port owner : ℕ) (once : Bool) (state : BindAt) → Job
+  lists : (port : ℕ) (room : Kept ℕ) (state : AllAt) → Job
   counts : Job
 
 -- the call that it does
 abbrev pub call_of : Job → Call
 call_of (finds port state) = Find port
 call_of (binds port owner once state) = Bind port owner once
+call_of (lists port room state) = All port
 call_of counts = Count
 
 -- the job with which a call begins; none for a call of which there is no machine yet
 abbrev pub first_job : Env → Call → Option Job
 first_job env (Find port) = Some (finds port CurrentTable)
 first_job env (Bind port owner once) = Some (binds port owner once (bind.first_state env port owner))
-first_job env (All port) = None
+first_job env (All port) = Some (lists port (room_for_nodes env) (alls.Seeking (seek_new env.geometry)))
 first_job env (Release port owner) = None
 first_job env (Rebind port owner new) = None
 first_job env (Walk from limit) = None
@@ -53,6 +62,7 @@ first_job env Count = Some counts
 abbrev pub job_plan : Env → Job → Op
 job_plan env (finds port state) = find.plan_at env state
 job_plan env (binds port owner once state) = bind.plan_at env state
+job_plan env (lists port room state) = all.plan_at env state
 job_plan env counts = count_plan_in env
 
 -- the job goes on in this state, or its call has ended with this reply and no list
@@ -64,11 +74,19 @@ abbrev pub binds_next : ℕ → ℕ → Bool → BindAt × Next Reply → Job ×
 binds_next port owner once (state, Go) = (binds port owner once state, Go)
 binds_next port owner once (state, Done reply) = (binds port owner once state, Done (plain_ending reply))
 
+-- a listing ends with the owners in its room
+abbrev pub lists_next : ℕ → Kept ℕ → AllAt × Next (Unit {0}) → Job × Next Ending
+lists_next port room (state, Go) = (lists port room state, Go)
+lists_next port room (state, Done done) =
+    (lists port room state, Done (record { answer = listing_of room.items; pairs = [] }))
+
 -- what becomes of it after its operation found this value
 abbrev pub job_after : (ℕ → ℕ → ℕ → ℕ) → Env → Job → ℕ → Job × Next Ending
 job_after mix env (finds port state) old = finds_next port (find.after_at mix env port state old)
 job_after mix env (binds port owner once state) old =
     binds_next port owner once (bind.after_at mix env port state old)
+job_after mix env (lists port room state) old =
+    lists_next port (all.room_after state room old) (all.after_at mix env port state old)
 job_after mix env counts old = (counts, Done (plain_ending (Counted old)))
 
 -- the job of what a caller does
@@ -76,6 +94,7 @@ abbrev pub job_of : {M : Type 0} → Doing M → Option Job
 job_of Idle = None
 job_of (Finding m) = Some (finds m.port m.at)
 job_of (Binding m) = Some (binds m.port m.owner m.once m.at)
+job_of (Listing m) = Some (lists m.port m.room m.at)
 job_of (Counting m) = Some counts
 
 -- what is left of a job after an operation, and how its call has ended where it has
@@ -89,6 +108,7 @@ told (job, Done ending) = (None, Some ending)
 abbrev pub held_of : Job → Held Answer
 held_of (finds port state) = held_of_find state
 held_of (binds port owner once state) = held_of_bind state
+held_of (lists port room state) = held_of_all room.items state
 held_of counts = held.holds_nothing
 
 -- and after an operation; once the call has ended it holds nothing, and its answer is known

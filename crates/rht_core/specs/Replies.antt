@@ -10,11 +10,12 @@ use Rattle.rht_model.specs.declared.history.Reply.TheVariants as replies
 use Rattle.rht_model.specs.declared.finished.Finished.{Finished}
 use Rattle.rht_find.specs.Find.{FindModel}
 use Rattle.rht_bind.specs.Bind.{BindModel}
+use Rattle.rht_release.specs.All.{AllModel}
 use Rattle.rht_core.specs.declared.book.Book.{Book}
 use Rattle.rht_core.specs.declared.local.Local.{Local}
 use Rattle.rht_core.specs.declared.count.PortCount.{PortCount}
 use Rattle.rht_core.specs.declared.local.Doing.{Doing}
-use Rattle.rht_core.specs.declared.local.Doing.TheVariants.{Idle, Finding, Binding, Counting}
+use Rattle.rht_core.specs.declared.local.Doing.TheVariants.{Idle, Finding, Binding, Listing, Counting}
 use Rattle.rht_core.specs.Locals.{is_idle}
 
 -- ---- the replies of each call
@@ -119,6 +120,11 @@ pub record IsBookOfBind (env : Env) (c : ℕ) (m : BindModel) (book : Book) : Ty
   pub same_caller : m.caller ≡ c
   pub call : book.call ≡ Some (Bind m.port m.owner m.once)
 
+pub record IsBookOfAll (env : Env) (c : ℕ) (m : AllModel) (book : Book) : Type 0 where
+  pub same_env : m.env ≡ env
+  pub same_caller : m.caller ≡ c
+  pub call : book.call ≡ Some (All m.port)
+
 pub record IsBookOfCount (env : Env) (m : PortCount) (book : Book) : Type 0 where
   pub same_env : m.env ≡ env
   pub call : book.call ≡ Some Count
@@ -129,6 +135,7 @@ module _ {M : Type 0} where
   IsBookOf env c Idle book = IsBookOfIdle book
   IsBookOf env c (Finding m) book = IsBookOfFind env c m book
   IsBookOf env c (Binding m) book = IsBookOfBind env c m book
+  IsBookOf env c (Listing m) book = IsBookOfAll env c m book
   IsBookOf env c (Counting m) book = IsBookOfCount env m book
 
 -- ---- the rooms

@@ -19,14 +19,16 @@ use Rattle.rht_model.specs.declared.history.Call.{Call}
 use Rattle.rht_model.specs.declared.history.Reply.{Reply}
 use Rattle.rht_find.specs.Find.{FindModel, find_after}
 use Rattle.rht_bind.specs.Bind.{BindModel, bind_after}
+use Rattle.rht_release.specs.All.{AllModel, all_after}
 use Rattle.rht_core.specs.declared.event.Event.{Event}
 use Rattle.rht_core.specs.declared.event.Event.TheVariants.{Enroll, Begin, Step}
 use Rattle.rht_core.specs.declared.local.Local.{Local}
 use Rattle.rht_core.specs.declared.local.Doing.{Doing}
-use Rattle.rht_core.specs.declared.local.Doing.TheVariants.{Idle, Finding, Binding, Counting}
-use Rattle.rht_core.specs.Locals.{fresh, machine_of, begin_with, doing_after, local_after, found_next, bound_next, IsDoingOf, IsLocalOf}
+use Rattle.rht_core.specs.declared.local.Doing.TheVariants.{Idle, Finding, Binding, Listing, Counting}
+use Rattle.rht_core.specs.Locals.{fresh, machine_of, begin_with, doing_after, local_after, found_next, bound_next, listed_next, IsDoingOf, IsLocalOf}
 use Rattle.rht_core.specs.Runs.{Core, World, local_of, beginning_in, with_machine, planned_in, with_step, enrolling, enrolled_after, world_step, run_of, opening, opening_core, IsSound}
 use Rattle.rht_core.proofs.Events.CallBeginnings.{begins_so}
+use Rattle.rht_core.proofs.Events.RoomsOfCallers.{idle-limit, begun-limit, owners_after-limit}
 use Rattle.rht_core.proofs.Events.Worlds.{CanBegin, beginning-some, planned-some, run_keeps}
 
 -- ---- what a caller does
@@ -36,7 +38,8 @@ module _ (M : Type 0) where
   begins-of : (env : Env) (c : ℕ) (call : Call) (machine : Doing M) → machine_of env c call ≡ Some machine
       → IsDoingOf env machine
   begins-of env c =
-      begins_so M env c (λ call machine. IsDoingOf env machine) (λ port. refl) (λ port owner once. refl) refl
+      begins_so M env c (λ call machine. IsDoingOf env machine) (λ port. refl) (λ port owner once. refl)
+      (λ port. refl) refl
 
   found_next-of : (env : Env) (m : FindModel) (next : Next Reply) → m.env ≡ env
       → IsDoingOf env (found_next {M = M} (m, next)).0
@@ -48,6 +51,11 @@ module _ (M : Type 0) where
   bound_next-of env m Go same = same
   bound_next-of env m (Done reply) same = tt
 
+  listed_next-of : (env : Env) (m : AllModel) (next : Next Reply) → m.env ≡ env
+      → IsDoingOf env (listed_next {M = M} (m, next)).0
+  listed_next-of env m Go same = same
+  listed_next-of env m (Done reply) same = tt
+
   -- who is told a word stays in its table
   doing_after-of : (mix : ℕ → ℕ → ℕ → ℕ) (env : Env) (doing : Doing M) (old : ℕ) → IsDoingOf env doing
       → IsDoingOf env (doing_after mix doing old).0
@@ -56,6 +64,8 @@ module _ (M : Type 0) where
       (find_after mix m old).1 of
   doing_after-of mix env (Binding m) old of = bound_next-of env (bind_after mix m old).0
       (bind_after mix m old).1 of
+  doing_after-of mix env (Listing m) old of =
+      listed_next-of env (all_after mix m old).0 (all_after mix m old).1 of
   doing_after-of mix env (Counting m) old of = tt
 
 -- ---- runs
@@ -76,8 +86,11 @@ module _ (M : Type 0) (mix : ℕ → ℕ → ℕ → ℕ) (env : Env) where
     all_words = (stand_in_place env).count;
     all_locals = length-replicate env.geometry.callers (fresh env);
     few_enrolled = omega arith;
-    all_local = AllByRecursion-replicate (IsLocalOf env) env.geometry.callers (fresh env) tt;
-    locals_of = λ c. each_replicate (IsLocalOf env) env.geometry.callers c (fresh env) tt;
+    all_local =
+        AllByRecursion-replicate (IsLocalOf env) env.geometry.callers (fresh env)
+        (record { doing = tt; owners = refl });
+    locals_of = λ c. each_replicate (IsLocalOf env) env.geometry.callers c (fresh env)
+        (record { doing = tt; owners = refl });
   }
 
   -- a caller that there is has a place in the list
@@ -133,8 +146,13 @@ module _ (M : Type 0) (mix : ℕ → ℕ → ℕ → ℕ) (env : Env) where
   begin-in core c call None is stays = stays
   begin-in core c call (Some machine) is stays =
       let can = beginning-some core.env core.enrolled core.locals c call machine is in
-      let made = begins-of M env c call machine (made_in core c call machine stays can) in
-      set-in core c (begin_with (local_of core c) machine) stays can.below made
+      let made = made_in core c call machine stays can in
+      set-in core c (begin_with (local_of core c) machine) stays can.below (record {
+        doing = begins-of M env c call machine made;
+        owners =
+            begun-limit M env c call machine made (local_of core c).owners
+            (idle-limit M (local_of core c) env.geometry.nodes can.idle (stays.locals_of c).owners);
+      })
 
   step-in : (core : Core M) (c : ℕ) (op : Option Op) → planned_in core c ≡ op → StaysIn core
       → StaysIn (with_step mix core c op).0
@@ -144,8 +162,12 @@ module _ (M : Type 0) (mix : ℕ → ℕ → ℕ → ℕ) (env : Env) where
       let old = old_of core.words op in
       let next = local_after mix (local_of core c) old in
       applied-in (record core { locals = slice_set core.locals c next.0 }) op
-      (set-in core c next.0 stays can.below (doing_after-of M mix env (local_of core c).doing old
-      (stays.locals_of c)))
+      (set-in core c next.0 stays can.below (record {
+        doing = doing_after-of M mix env (local_of core c).doing old (stays.locals_of c).doing;
+        owners =
+            owners_after-limit M mix (local_of core c).doing (local_of core c).owners old
+            ∙ (stays.locals_of c).owners;
+      }))
 
   pub stays-in : (w : World M) (event : Event) → StaysIn w.core → StaysIn (world_step mix w event).core
   stays-in w Enroll stays =

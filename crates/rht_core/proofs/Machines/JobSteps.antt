@@ -8,7 +8,7 @@ use Rattle.rht_words.specs.Held as held
 use Rattle.rht_words.specs.Operations.{old_of}
 use Rattle.rht_words.specs.Places.{words_in}
 use Rattle.rht_words.proofs.Memory.{Memory}
-use Rattle.rht_model.specs.declared.history.Call.TheVariants.{Count}
+use Rattle.rht_model.specs.declared.history.Call.TheVariants.{All, Count}
 use Rattle.rht_model.specs.declared.history.Reply.{Reply}
 use Rattle.rht_model.specs.declared.history.Reply.TheVariants.{Counted}
 use Rattle.rht_model.specs.Answers.{plain}
@@ -19,19 +19,26 @@ use Rattle.rht_find.specs.declared.find.FindAt.{FindAt}
 use Rattle.rht_bind.specs.Bind.{IsBindAtIn}
 use Rattle.rht_bind.specs.Bind as bind_at
 use Rattle.rht_bind.specs.declared.bind.BindAt.{BindAt}
+use Rattle.rht_model.specs.Rooms.{Kept}
+use Rattle.rht_release.specs.All.{IsAllAtIn}
+use Rattle.rht_release.specs.All as all_at
+use Rattle.rht_release.specs.AllHeld.{held_of_all}
+use Rattle.rht_release.specs.declared.all.AllAt.{AllAt}
 use Rattle.rht_core.specs.PortCounts.{count_plan_in}
-use Rattle.rht_core.specs.Jobs.{Job, finds, binds, counts, call_of, job_plan, finds_next, binds_next, job_after, held_of, held_next}
+use Rattle.rht_core.specs.Jobs.{Job, finds, binds, lists, counts, call_of, job_plan, finds_next, binds_next, lists_next, job_after, held_of, held_next}
 use Rattle.rht_core.proofs.Theory.Ghosts.{Ghost}
 use Rattle.rht_core.proofs.Theory.Wholes.{Whole}
 use Rattle.rht_core.proofs.Theory.Knowledge.{Known, MembersUsed, Rely, Knowing, Knowing-rely}
 use Rattle.rht_core.proofs.Theory.Steps.{mem, Holding, Step, step-map, reads}
 use Rattle.rht_core.proofs.Machines.FindSteps.{known_nothing, known_of_find, fits_find, find_holds, FindNext, find_step}
 use Rattle.rht_core.proofs.Machines.BindSteps.{known_of_bind, fits_bind, bind_holds, BindNext, bind_step}
+use Rattle.rht_core.proofs.Machines.AllSteps.{known_of_all, fits_all, all_holds, AllNext, all_step}
 
 -- what a caller knows by its job
 abbrev pub known_of : Job → Known
 known_of (finds port state) = known_of_find port state
 known_of (binds port owner once state) = known_of_bind port owner state
+known_of (lists port room state) = known_of_all port room.items state
 known_of counts = known_nothing
 
 -- nothing is held
@@ -43,10 +50,16 @@ pub record IsBindingIn (env : Env) (owner : ℕ) (state : BindAt) : Type 0 where
   pub owner_in : owner < 2 ^ 32
   pub at_in : IsBindAtIn env state
 
+-- all that a listing names is the table's, and its room may have one item a node
+pub record IsListingIn (env : Env) (room : Kept ℕ) (state : AllAt) : Type 0 where
+  pub at_in : IsAllAtIn env state
+  pub roomy : room.limit ≡ env.geometry.nodes
+
 -- each job is built for tables of one owner for each port and of lists
 abbrev pub IsJobBuilt : Env → Job → Type 0
 IsJobBuilt env (finds port state) = Unit {0}
 IsJobBuilt env (binds port owner once state) = Unit {0}
+IsJobBuilt env (lists port room state) = Unit {0}
 IsJobBuilt env counts = Unit {0}
 
 module _ (env : Env) (mix : ℕ → ℕ → ℕ → ℕ) (c : ℕ) where
@@ -54,11 +67,13 @@ module _ (env : Env) (mix : ℕ → ℕ → ℕ → ℕ) (c : ℕ) where
   abbrev pub JobIn : Job → Type 0
   JobIn (finds port state) = IsFindAtIn env state
   JobIn (binds port owner once state) = IsBindingIn env owner state
+  JobIn (lists port room state) = IsListingIn env room state
   JobIn counts = Unit {0}
 
   abbrev pub fits_job : Job → Type 0
   fits_job (finds port state) = fits_find port state
   fits_job (binds port owner once state) = fits_bind env mix c port owner once state
+  fits_job (lists port room state) = fits_all port room state
   fits_job counts = Unit {0}
 
   pub record JobKnows (job : Job) (M : Memory) (G : Ghost) : Type 0 where
@@ -107,6 +122,17 @@ module _ (env : Env) (mix : ℕ → ℕ → ℕ → ℕ) (c : ℕ) where
         (λ M G' w k. record { built = tt; knowing = k.knowing; fits = k.fits }) step
     binds_so port owner once state (next, Done reply) step = step
 
+    lists_so : (port : ℕ) (room : Kept ℕ) (state : AllAt) (after : Kept ℕ) (r : AllAt × Next (Unit {0}))
+        → Step env mix c (All port) words G (all_at.plan_at env state) (held_of_all room.items state)
+        (all_holds env mix c port after r) (AllNext env mix c port after r)
+        → Step env mix c (All port) words G (all_at.plan_at env state) (held_of_all room.items state)
+        (held_next (lists_next port after r)) (JobNext (lists_next port after r))
+    lists_so port room state after (next, Go) step =
+        step-map env mix c (All port) words G (all_at.plan_at env state) (held_of_all room.items state)
+        (held_of (lists port after next)) _ (JobNext (lists port after next, Go))
+        (λ M' G' w k. record { built = tt; knowing = k.knowing; fits = k.fits }) step
+    lists_so port room state after (next, Done done) step = step
+
     -- each operation of a job leads from what the caller knows to what it knows next
     pub job_step : (job : Job) → JobIn job → JobKnows job (mem env mix words) G → JobStep job
     job_step (finds port state) within knows =
@@ -115,6 +141,11 @@ module _ (env : Env) (mix : ℕ → ℕ → ℕ → ℕ) (c : ℕ) where
     job_step (binds port owner once state) within knows =
         binds_so port owner once state (bind_at.after_at mix env port state (old_of words (bind_at.plan_at env state)))
         (bind_step env mix c port owner once within.owner_in low words G all whole state within.at_in (record { knowing = knows.knowing; fits = knows.fits }))
+    job_step (lists port room state) within knows =
+        let old = old_of words (all_at.plan_at env state) in
+        lists_so port room state (all_at.room_after state room old) (all_at.after_at mix env port state old)
+        (all_step env mix c port room within.roomy words G all whole state within.at_in
+        (record { knowing = knows.knowing; fits = knows.fits }))
     job_step counts within knows =
         let old = old_of words (count_plan_in env) in
         reads env mix c Count words G (count_plan_in env) held.holds_nothing (held.ended_with (plain (Counted old)))

@@ -32,7 +32,7 @@ use Rattle.rht_words.specs.Links.{slot_of}
 use Rattle.rht_model.specs.declared.history.Call.{Call}
 use Rattle.rht_model.specs.declared.history.Call.TheVariants.{Bind, Find, All, Release, Rebind, Walk, Work, Tidy, Count}
 use Rattle.rht_model.specs.declared.history.Reply.{Reply}
-use Rattle.rht_model.specs.declared.history.Reply.TheVariants.{Bound, Exists, Found, Missing, TooBig, NoNode, Counted}
+use Rattle.rht_model.specs.declared.history.Reply.TheVariants.{Bound, Exists, Found, Missing, Listed as ListedOwners, TooBig, NoNode, Counted}
 use Rattle.rht_model.specs.Endings.{Ending}
 use Rattle.rht_arena.specs.TakeNode.{TakeNodeModel, take_node_after, IsTakeAtIn, IsTakeIn}
 use Rattle.rht_arena.specs.NewNode.{NewNodeModel, new_node_plan_at, new_node_after_at, node_taken, IsNewNodeAtIn}
@@ -57,13 +57,19 @@ use Rattle.rht_bind.specs.declared.bind.Claimed.{Claimed}
 use Rattle.rht_bind.specs.declared.bind.FoundList.{FoundList}
 use Rattle.rht_bind.specs.declared.bind.BindAt.{BindAt}
 use Rattle.rht_bind.specs.declared.bind.BindAt.TheVariants as at
+use Rattle.rht_model.specs.Rooms.{Kept}
+use Rattle.rht_release.specs.Seek.{seek_new}
+use Rattle.rht_release.specs.All as all
+use Rattle.rht_release.specs.declared.all.AllAt.{AllAt}
+use Rattle.rht_release.specs.declared.all.AllAt.TheVariants as alls
 use Rattle.rht_core.specs.declared.event.Event.{Event}
-use Rattle.rht_core.specs.Jobs.{Job, finds, binds, counts, first_job, finds_next, binds_next, job_after}
-use Rattle.rht_core.specs.Replies.{IsFindReply, IsReplyTo}
+use Rattle.rht_core.specs.Locals.{room_for_nodes}
+use Rattle.rht_core.specs.Jobs.{Job, finds, binds, lists, counts, first_job, finds_next, binds_next, lists_next, job_after}
+use Rattle.rht_core.specs.Replies.{IsFindReply, IsAllReply, IsReplyTo}
 use Rattle.rht_core.specs.Traces.{Did, Past, performed_of, traced_of}
 use Rattle.rht_core.specs.Runs.{IsAdmitted}
 use Rattle.rht_core.specs.Laws.{IsRecorded, IsPastCall}
-use Rattle.rht_core.specs.Causes.{FindCause, LastWalked, IsRaise, IsDueBy, KicksRightly, SawFull, SawCount, BindCause, CountCause, CauseOf, HasCause, Causes}
+use Rattle.rht_core.specs.Causes.{FindCause, AllCause, LastWalked, IsRaise, IsDueBy, KicksRightly, SawFull, SawCount, BindCause, CountCause, CauseOf, HasCause, Causes}
 use Rattle.rht_words.specs.Machines.{GoesOrEnds}
 use Rattle.rht_core.proofs.Tracing.RepliesInRuns.{Holds, Answered, runs-right}
 use Rattle.rht_core.proofs.Theory.Ghosts.{Ghost}
@@ -115,11 +121,11 @@ module _ (env : Env) where
   SawForCount (Counted count) steps = Any (LoadedCount count) steps
   SawForCount _ steps = ⊥
 
-  -- and for any call to have it; a look-up has nothing to show, and of the others there is no machine yet
+  -- and for any call to have it; a look-up and a listing have nothing to show, and of the others there is no machine yet
   abbrev pub SawOf : Call → Reply → List Did → Type 0
   SawOf (Bind port owner once) reply steps = SawFor reply steps
   SawOf (Find port) reply steps = Unit {0}
-  SawOf (All port) reply steps = ⊥
+  SawOf (All port) reply steps = Unit {0}
   SawOf (Release port owner) reply steps = ⊥
   SawOf (Rebind port owner new) reply steps = ⊥
   SawOf (Walk from limit) reply steps = ⊥
@@ -155,10 +161,11 @@ module _ (env : Env) where
   SawAt (at.Unlocking node table unlock next) steps = SawForReply (answer_behind next) steps
   SawAt (at.Giving give reply) steps = SawFor reply steps
 
-  -- of a look-up nothing is kept, nor of a reading of the count before it ends
+  -- of a look-up and a listing nothing is kept, nor of a reading of the count before it ends
   abbrev JobSaw : Job → List Did → Type 0
   JobSaw (finds port state) steps = Unit {0}
   JobSaw (binds port owner once state) steps = SawAt state steps
+  JobSaw (lists port room state) steps = Unit {0}
   JobSaw counts steps = Unit {0}
 
   -- what it has seen once it goes on, and once it has answered
@@ -380,6 +387,11 @@ module _ (env : Env) where
   find-cause Missing is = tt
   find-cause _ is = absurd is
 
+  -- nor has a listing for its owners
+  all-cause : (reply : Reply) → IsAllReply reply → AllCause reply
+  all-cause (ListedOwners len) is = tt
+  all-cause _ is = absurd is
+
 -- ---- runs
 
 module _ (M : Type 0) (mix : ℕ → ℕ → ℕ → ℕ) (env : Env) where
@@ -397,6 +409,12 @@ module _ (M : Type 0) (mix : ℕ → ℕ → ℕ → ℕ) (env : Env) where
   bind-leads port owner once state all (after, Go) saw = saw
   bind-leads port owner once state all (after, Done reply) saw = saw
 
+  list-leads : (port : ℕ) (room : Kept ℕ) (state : AllAt) (steps : List Did) (after : Kept ℕ)
+      (next : AllAt × Next (Unit {0}))
+      → LeadsOn M mix env (JobSaw env) EndsSeen (lists port room state) steps (lists_next port after next)
+  list-leads port room state steps after (next, Go) = tt
+  list-leads port room state steps after (next, Done done) = tt
+
   job-leads : (job : Job) (steps : List Did) (did : Did) → Performs mix env job did → JobSaw env job steps
       → LeadsOn M mix env (JobSaw env) EndsSeen job (steps ++ did ∷ []) (job_after mix env job did.old)
   job-leads (finds port state) steps did performs saw =
@@ -404,6 +422,9 @@ module _ (M : Type 0) (mix : ℕ → ℕ → ℕ → ℕ) (env : Env) where
   job-leads (binds port owner once state) steps did performs saw =
       bind-leads port owner once state (steps ++ did ∷ []) (after_at mix env port state did.old)
       (bind-saw env mix port owner once state steps did performs saw)
+  job-leads (lists port room state) steps did performs saw =
+      list-leads port room state (steps ++ did ∷ []) (all.room_after state room did.old)
+      (all.after_at mix env port state did.old)
   job-leads counts steps did performs saw =
       Any-push (LoadedCount env did.old) steps did (record { loaded = performs.planned; found = refl })
 
@@ -413,6 +434,9 @@ module _ (M : Type 0) (mix : ℕ → ℕ → ℕ → ℕ) (env : Env) where
   first_job-saw (Bind port owner once) job is =
       let here : binds port owner once (first_state env port owner) ≡ job = cc in
       subst (λ j. JobSaw env j []) here (λ node l. absurd (omega arith))
+  first_job-saw (All port) job is =
+      subst (λ j. JobSaw env j [])
+      (let here : lists port (room_for_nodes env) (alls.Seeking (seek_new env.geometry)) ≡ job = cc in here) tt
   first_job-saw Count job is = subst (λ j. JobSaw env j []) (let here : counts ≡ job = cc in here) tt
   first_job-saw _ job is = absurd (cc)
 
@@ -524,6 +548,7 @@ module _ (M : Type 0) (mix : ℕ → ℕ → ℕ → ℕ) (env : Env) where
         → AllByRecursion IsRecordedHere past.steps → CauseOf M mix env events c past call reply
     cause_of past (Bind port owner once) reply saw right recorded = bind-cause past reply saw recorded
     cause_of past (Find port) reply saw right recorded = find-cause env reply right
+    cause_of past (All port) reply saw right recorded = all-cause env reply right
     cause_of past Count reply saw right recorded = count-cause past reply saw recorded
     cause_of past _ reply saw right recorded = absurd saw
 

@@ -16,11 +16,14 @@ use Rattle.rht_find.specs.Find as find
 use Rattle.rht_find.specs.declared.find.FindAt.{FindAt}
 use Rattle.rht_bind.specs.Bind as bind
 use Rattle.rht_bind.specs.declared.bind.BindAt.{BindAt}
+use Rattle.rht_model.specs.Rooms.{Kept}
+use Rattle.rht_release.specs.All as all
+use Rattle.rht_release.specs.declared.all.AllAt.{AllAt}
 use Rattle.rht_core.specs.declared.event.Event.{Event}
 use Rattle.rht_core.specs.declared.book.Book.{Book}
 use Rattle.rht_core.specs.declared.local.Doing.{Doing}
-use Rattle.rht_core.specs.declared.local.Doing.TheVariants.{Idle, Finding, Binding, Counting}
-use Rattle.rht_core.specs.Jobs.{Job, finds, binds, counts, call_of, finds_next, binds_next, job_after, job_of, held_of, held_next}
+use Rattle.rht_core.specs.declared.local.Doing.TheVariants.{Idle, Finding, Binding, Listing, Counting}
+use Rattle.rht_core.specs.Jobs.{Job, finds, binds, lists, counts, call_of, finds_next, binds_next, lists_next, job_after, job_of, held_of, held_next}
 use Rattle.rht_core.specs.Runs.{World, IsAdmitted, view_of, local_of}
 use Rattle.rht_core.specs.Traces.{Did, Past, Traced, traced_of}
 use Rattle.rht_core.specs.Replies.{ArePairsWith, IsRightlyAnswered, IsBookOf, AnswersIn}
@@ -48,11 +51,18 @@ binds_next-alone : (port owner : ℕ) (once : Bool) (next : BindAt × Next Reply
 binds_next-alone port owner once (state, Go) = tt
 binds_next-alone port owner once (state, Done reply) = refl
 
+lists_next-alone : (port : ℕ) (room : Kept ℕ) (next : AllAt × Next (Unit {0}))
+    → EndsAlone (lists_next port room next)
+lists_next-alone port room (state, Go) = tt
+lists_next-alone port room (state, Done done) = refl
+
 job_after-alone : (mix : ℕ → ℕ → ℕ → ℕ) (env : Env) (job : Job) (old : ℕ)
     → EndsAlone (job_after mix env job old)
 job_after-alone mix env (finds port state) old = finds_next-alone port (find.after_at mix env port state old)
 job_after-alone mix env (binds port owner once state) old = binds_next-alone port owner once
     (bind.after_at mix env port state old)
+job_after-alone mix env (lists port room state) old =
+    lists_next-alone port (all.room_after state room old) (all.after_at mix env port state old)
 job_after-alone mix env counts old = refl
 
 module _ (M : Type 0) (mix : ℕ → ℕ → ℕ → ℕ) (env : Env) where
@@ -109,6 +119,8 @@ module _ (M : Type 0) (mix : ℕ → ℕ → ℕ → ℕ) (env : Env) where
   book-of c (Finding m) book steps within at =
       record { same_env = within.same_env; same_caller = within.same_caller; call = at.call }
   book-of c (Binding m) book steps within at =
+      record { same_env = within.same_env; same_caller = within.same_caller; call = at.call }
+  book-of c (Listing m) book steps within at =
       record { same_env = within.same_env; same_caller = within.same_caller; call = at.call }
   book-of c (Counting m) book steps within at = record { same_env = within; call = at.call }
 
