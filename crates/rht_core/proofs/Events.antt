@@ -6,8 +6,10 @@ pub mod SoundRuns
 pub mod RangesInRuns
 -- in every run a caller that isn't enrolled has done nothing
 pub mod CallersNotEnrolled
--- a call begins as a look-up or a bind, and who is in no call plans no operation
+-- how a call begins, and who is in no call plans no operation
 pub mod CallBeginnings
+-- the room of owners lies with its caller or in a listing, and has a place for each node
+pub mod RoomsOfCallers
 -- a caller in a call does what its job says
 pub mod JobsOfCallers
 -- the words of a state that is being opened

@@ -50,6 +50,29 @@ FindCause Idle = ⊥
 FindCause (Clear returned) = ⊥
 FindCause (Counted count) = ⊥
 
+-- why a listing ended with this reply: it has nothing to show for its owners
+abbrev pub AllCause : Reply → Type 0
+AllCause (Listed len) = Unit {0}
+AllCause (Found owner) = ⊥
+AllCause Missing = ⊥
+AllCause (Bound kick) = ⊥
+AllCause (Exists owner) = ⊥
+AllCause (Released kick) = ⊥
+AllCause Absent = ⊥
+AllCause Rebound = ⊥
+AllCause (TooBig count) = ⊥
+AllCause (Again table) = ⊥
+AllCause (Busy root last) = ⊥
+AllCause (NoTable size) = ⊥
+AllCause NoNode = ⊥
+AllCause (Pending caller section) = ⊥
+AllCause Elsewhere = ⊥
+AllCause (Walked len next) = ⊥
+AllCause (Moved again) = ⊥
+AllCause Idle = ⊥
+AllCause (Clear returned) = ⊥
+AllCause (Counted count) = ⊥
+
 -- why a release ended with this reply: it has nothing to show for its answers
 abbrev pub ReleaseCause : Reply → Type 0
 ReleaseCause (Released kick) = Unit {0}
@@ -206,7 +229,7 @@ module _ (M : Type 0) (mix : ℕ → ℕ → ℕ → ℕ) where
   abbrev pub CauseOf : Env → List Event → ℕ → Past → Call → Reply → Type 0
   CauseOf env events c past (Bind port owner once) reply = BindCause env events c past reply
   CauseOf env events c past (Find port) reply = FindCause reply
-  CauseOf env events c past (All port) reply = ⊥
+  CauseOf env events c past (All port) reply = AllCause reply
   CauseOf env events c past (Release port owner) reply = ReleaseCause reply
   CauseOf env events c past (Rebind port owner new) reply = RebindCause env past reply
   CauseOf env events c past (Walk from limit) reply = ⊥

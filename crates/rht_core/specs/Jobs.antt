@@ -1,6 +1,6 @@
 -- Jobs: what a caller does, said without its number, its table and the type of its mix. What is said of a caller by where
 -- its machine stands is said of its job, so that each machine is told apart from the others here and in few places else.
-use Rattle.std.specs.Prelude.{ℕ, Bool, Option, Some, None}
+use Rattle.std.specs.Prelude.{ℕ, Bool, Option, Some, None, []}
 use Rattle.rht_words.specs.declared.op.Op.{Op}
 use Rattle.rht_words.specs.declared.env.Env.{Env}
 use Rattle.rht_words.specs.declared.machine.Next.{Next}
@@ -19,7 +19,17 @@ use Rattle.rht_find.specs.declared.find.FindAt.{FindAt}
 use Rattle.rht_find.specs.declared.find.FindAt.TheVariants.{CurrentTable}
 use Rattle.rht_bind.specs.Bind as bind
 use Rattle.rht_bind.specs.declared.bind.BindAt.{BindAt}
+use Rattle.rht_model.specs.Rooms.{Kept}
+use Rattle.rht_release.specs.Seek.{seek_new}
+use Rattle.rht_release.specs.All as all
+use Rattle.rht_release.specs.AllHeld.{listing_of, held_of_all}
+use Rattle.rht_release.specs.declared.all.AllAt.{AllAt}
+use Rattle.rht_release.specs.declared.all.AllAt.TheVariants as alls
 use Rattle.rht_model.specs.declared.history.Reply.TheVariants.{Counted}
+use Rattle.rht_core.specs.Locals.{room_for_nodes}
+use Rattle.rht_core.specs.PortCounts.{count_plan_in}
+use Rattle.rht_core.specs.declared.local.Doing.{Doing}
+use Rattle.rht_core.specs.declared.local.Doing.TheVariants.{Idle, Finding, Binding, Releasing, Rebinding, Listing, Counting}
 use Rattle.rht_words.specs.declared.config.Kind.{Kind}
 use Rattle.rht_words.specs.declared.config.Kind.TheVariants.{Single, Listed}
 use Rattle.rht_release.specs.Seek.{seek_new}
@@ -30,15 +40,13 @@ use Rattle.rht_release.specs.declared.release.ReleaseAt.TheVariants.{Seeking}
 use Rattle.rht_release.specs.Rebind as rebind
 use Rattle.rht_release.specs.RebindHeld.{held_of_rebind}
 use Rattle.rht_release.specs.declared.rebind.RebindAt.{RebindAt}
-use Rattle.rht_core.specs.PortCounts.{count_plan_in}
-use Rattle.rht_core.specs.declared.local.Doing.{Doing}
-use Rattle.rht_core.specs.declared.local.Doing.TheVariants.{Idle, Finding, Binding, Releasing, Rebinding, Counting}
 
--- a look-up of a port, a bind of a port to an owner, a release and a rebind, with the state in which it is; and a reading of
--- how many ports are bound
+-- a look-up of a port, a bind of a port to an owner, a listing of a port's owners with its room, a release and a rebind, each
+-- with the state in which it is; and a reading of how many ports are bound
 pub data Job : Type 0 where
   finds : (port : ℕ) (state : FindAt) → Job
   binds : (port owner : ℕ) (once : Bool) (state : BindAt) → Job
+  lists : (port : ℕ) (room : Kept ℕ) (state : AllAt) → Job
   releases : (port owner : ℕ) (state : ReleaseAt) → Job
   rebinds : (port owner new : ℕ) (state : RebindAt) → Job
   counts : Job
@@ -47,6 +55,7 @@ pub data Job : Type 0 where
 abbrev pub call_of : Job → Call
 call_of (finds port state) = Find port
 call_of (binds port owner once state) = Bind port owner once
+call_of (lists port room state) = All port
 call_of (releases port owner state) = Release port owner
 call_of (rebinds port owner new state) = Rebind port owner new
 call_of counts = Count
@@ -59,7 +68,7 @@ first_rebind env port owner new Listed = None
 abbrev pub first_job : Env → Call → Option Job
 first_job env (Find port) = Some (finds port CurrentTable)
 first_job env (Bind port owner once) = Some (binds port owner once (bind.first_state env port owner))
-first_job env (All port) = None
+first_job env (All port) = Some (lists port (room_for_nodes env) (alls.Seeking (seek_new env.geometry)))
 first_job env (Release port owner) = Some (releases port owner (Seeking (seek_new env.geometry)))
 first_job env (Rebind port owner new) = first_rebind env port owner new env.config.kind
 first_job env (Walk from limit) = None
@@ -71,6 +80,7 @@ first_job env Count = Some counts
 abbrev pub job_plan : Env → Job → Op
 job_plan env (finds port state) = find.plan_at env state
 job_plan env (binds port owner once state) = bind.plan_at env state
+job_plan env (lists port room state) = all.plan_at env state
 job_plan env (releases port owner state) = release.plan_at env state
 job_plan env (rebinds port owner new state) = rebind.plan_at env state
 job_plan env counts = count_plan_in env
@@ -83,6 +93,12 @@ finds_next port (state, Done reply) = (finds port state, Done (plain_ending repl
 abbrev pub binds_next : ℕ → ℕ → Bool → BindAt × Next Reply → Job × Next Ending
 binds_next port owner once (state, Go) = (binds port owner once state, Go)
 binds_next port owner once (state, Done reply) = (binds port owner once state, Done (plain_ending reply))
+
+-- a listing ends with the owners in its room
+abbrev pub lists_next : ℕ → Kept ℕ → AllAt × Next (Unit {0}) → Job × Next Ending
+lists_next port room (state, Go) = (lists port room state, Go)
+lists_next port room (state, Done done) =
+    (lists port room state, Done (record { answer = listing_of room.items; pairs = [] }))
 
 abbrev pub releases_next : ℕ → ℕ → ReleaseAt × Next (Reply × Option ℕ) → Job × Next Ending
 releases_next port owner (state, Go) = (releases port owner state, Go)
@@ -97,6 +113,8 @@ abbrev pub job_after : (ℕ → ℕ → ℕ → ℕ) → Env → Job → ℕ →
 job_after mix env (finds port state) old = finds_next port (find.after_at mix env port state old)
 job_after mix env (binds port owner once state) old =
     binds_next port owner once (bind.after_at mix env port state old)
+job_after mix env (lists port room state) old =
+    lists_next port (all.room_after state room old) (all.after_at mix env port state old)
 job_after mix env (releases port owner state) old =
     releases_next port owner (release.after_at mix env port owner state old)
 job_after mix env (rebinds port owner new state) old =
@@ -108,6 +126,7 @@ abbrev pub job_of : {M : Type 0} → Doing M → Option Job
 job_of Idle = None
 job_of (Finding m) = Some (finds m.port m.at)
 job_of (Binding m) = Some (binds m.port m.owner m.once m.at)
+job_of (Listing m) = Some (lists m.port m.room m.at)
 job_of (Releasing m) = Some (releases m.port m.owner m.at)
 job_of (Rebinding m) = Some (rebinds m.port m.owner m.new_owner m.at)
 job_of (Counting m) = Some counts
@@ -123,6 +142,7 @@ told (job, Done ending) = (None, Some ending)
 abbrev pub held_of : Job → Held Answer
 held_of (finds port state) = held_of_find state
 held_of (binds port owner once state) = held_of_bind state
+held_of (lists port room state) = held_of_all room.items state
 held_of (releases port owner state) = held_of_release state
 held_of (rebinds port owner new state) = held_of_rebind state
 held_of counts = held.holds_nothing

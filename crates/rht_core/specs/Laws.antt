@@ -11,6 +11,7 @@ use Rattle.rht_words.specs.Planned.{IsWord, IsPlannedIn}
 use Rattle.rht_arena.specs.Laws.{map_place, map_bit, ChangesBit}
 use Rattle.rht_find.specs.Find.{IsFindIn}
 use Rattle.rht_bind.specs.Bind.{IsBindIn}
+use Rattle.rht_release.specs.All.{IsAllIn}
 use Rattle.rht_release.specs.Release.{IsReleaseIn}
 use Rattle.rht_release.specs.Rebind.{IsRebindIn}
 use Rattle.rht_model.specs.declared.history.Call.{Call}
@@ -22,8 +23,8 @@ use Rattle.rht_core.specs.declared.event.Event.{Event}
 use Rattle.rht_core.specs.declared.event.Event.TheVariants.{Enroll, Begin, Step}
 use Rattle.rht_core.specs.declared.local.Local.{Local}
 use Rattle.rht_core.specs.declared.local.Doing.{Doing}
-use Rattle.rht_core.specs.declared.local.Doing.TheVariants.{Idle, Finding, Binding, Releasing, Rebinding, Counting}
-use Rattle.rht_core.specs.Locals.{fresh, begin_with, plan_of, local_after, ending_of}
+use Rattle.rht_core.specs.declared.local.Doing.TheVariants.{Idle, Finding, Binding, Releasing, Rebinding, Listing, Counting}
+use Rattle.rht_core.specs.Locals.{fresh, owners_room, begin_with, plan_of, local_after, ending_of}
 use Rattle.rht_core.specs.Runs.{Core, World, View, core_step, world_step, run_of, local_of, planned_in, view_of, new_book, book_begun, book_after, IsSound, IsAdmitted, IsAdmittedEvent}
 use Rattle.rht_core.specs.Replies.{AnswersIn}
 use Rattle.rht_core.specs.Traces.{Did, Past, Trace, Traced, traced_of, IsStepOfOne, behind_calls, IsRising, AreInOrder}
@@ -49,6 +50,7 @@ module _ {M : Type 0} where
   IsDoingIn env c Idle = Unit {0}
   IsDoingIn env c (Finding m) = IsFindIn env c m
   IsDoingIn env c (Binding m) = IsBindIn env c m
+  IsDoingIn env c (Listing m) = IsAllIn env c m
   IsDoingIn env c (Releasing m) = IsReleaseIn env c m
   IsDoingIn env c (Rebinding m) = IsRebindIn env c m
   IsDoingIn env c (Counting m) = m.env ≡ env
@@ -56,7 +58,7 @@ module _ {M : Type 0} where
   -- and its rooms may have one item a node
   pub record IsLocalIn (env : Env) (c : ℕ) (local : Local M) : Type 0 where
     pub doing : IsDoingIn env c local.doing
-    pub owners : local.owners.limit ≡ env.geometry.nodes
+    pub owners : (owners_room local.doing local.owners).limit ≡ env.geometry.nodes
     pub pairs : local.pairs.limit ≡ env.geometry.nodes
 
 -- all words and callers are there, what each caller does is in range, and so is the operation that it plans

@@ -5,12 +5,13 @@ use Rattle.rht_words.specs.declared.machine.Next.{Next}
 use Rattle.rht_words.specs.declared.machine.Next.TheVariants.{Go, Done}
 use Rattle.rht_words.specs.declared.env.Env.{Env}
 use Rattle.rht_model.specs.declared.history.Call.{Call}
-use Rattle.rht_model.specs.declared.history.Call.TheVariants.{Bind, Find, Release, Rebind, Count}
+use Rattle.rht_model.specs.declared.history.Call.TheVariants.{Bind, Find, Release, Rebind, All, Count}
 use Rattle.rht_model.specs.declared.history.Reply.{Reply}
-use Rattle.rht_model.specs.Rooms.{Kept, emptied}
+use Rattle.rht_model.specs.Rooms.{Kept, emptied, no_room}
 use Rattle.rht_model.specs.Endings.{Ending}
 use Rattle.rht_find.specs.Find.{FindModel, find_new, find_plan, find_after}
 use Rattle.rht_bind.specs.Bind.{BindModel, bind_new, bind_plan, bind_after}
+use Rattle.rht_release.specs.All.{AllModel, all_new, all_plan, all_after}
 use Rattle.rht_words.specs.declared.config.Kind.{Kind}
 use Rattle.rht_words.specs.declared.config.Kind.TheVariants.{Single, Listed}
 use Rattle.rht_release.specs.Release.{ReleaseModel, release_new, release_plan, release_after}
@@ -19,7 +20,16 @@ use Rattle.rht_core.specs.declared.count.PortCount.{PortCount}
 use Rattle.rht_core.specs.PortCounts.{count_plan, count_after}
 use Rattle.rht_core.specs.declared.local.Local.{Local}
 use Rattle.rht_core.specs.declared.local.Doing.{Doing}
-use Rattle.rht_core.specs.declared.local.Doing.TheVariants.{Idle, Finding, Binding, Releasing, Rebinding, Counting}
+use Rattle.rht_core.specs.declared.local.Doing.TheVariants.{Idle, Finding, Binding, Listing, Releasing, Rebinding, Counting}
+
+-- an empty room for one item a node
+abbrev pub room_for_nodes : {A : Type 0} → Env → Kept A
+room_for_nodes env = record { items = []; limit = env.geometry.nodes }
+
+-- a listing that has ended gives the room back, with the owners; until then its caller has this one
+abbrev pub room_given : AllModel × Next Reply → Kept ℕ → Kept ℕ
+room_given (m, Go) room = room
+room_given (m, Done reply) room = m.room
 
 -- ---- what a caller is doing
 
@@ -34,6 +44,7 @@ module _ {M : Type 0} where
   does_nothing Idle = true
   does_nothing (Finding m) = false
   does_nothing (Binding m) = false
+  does_nothing (Listing m) = false
   does_nothing (Releasing m) = false
   does_nothing (Rebinding m) = false
   does_nothing (Counting m) = false
@@ -47,6 +58,7 @@ module _ {M : Type 0} where
   abbrev pub machine_of : Env → ℕ → Call → Option (Doing M)
   machine_of env caller (Find port) = Some (Finding (find_new env caller port))
   machine_of env caller (Bind port owner once) = Some (Binding (bind_new env caller port owner once))
+  machine_of env caller (All port) = Some (Listing (all_new env caller port (room_for_nodes env)))
   machine_of env caller (Release port owner) = Some (Releasing (release_new env caller port owner))
   machine_of env caller (Rebind port owner new) = rebinding_of env caller port owner new env.config.kind
   machine_of env caller Count = Some (Counting (record { env = env }))
@@ -57,6 +69,7 @@ module _ {M : Type 0} where
   doing_plan Idle = None
   doing_plan (Finding m) = Some (find_plan m)
   doing_plan (Binding m) = Some (bind_plan m)
+  doing_plan (Listing m) = Some (all_plan m)
   doing_plan (Releasing m) = Some (release_plan m)
   doing_plan (Rebinding m) = Some (rebind_plan m)
   doing_plan (Counting m) = Some (count_plan m)
@@ -69,6 +82,10 @@ module _ {M : Type 0} where
   abbrev pub bound_next : BindModel × Next Reply → Doing M × Option Reply
   bound_next (m, Go) = (Binding m, None)
   bound_next (m, Done reply) = (Idle, Some reply)
+
+  abbrev pub listed_next : AllModel × Next Reply → Doing M × Option Reply
+  listed_next (m, Go) = (Listing m, None)
+  listed_next (m, Done reply) = (Idle, Some reply)
 
   abbrev pub released_next : ReleaseModel × Next Reply → Doing M × Option Reply
   released_next (m, Go) = (Releasing m, None)
@@ -87,6 +104,7 @@ module _ {M : Type 0} where
   doing_after mix Idle old = (Idle, None)
   doing_after mix (Finding m) old = found_next (find_after mix m old)
   doing_after mix (Binding m) old = bound_next (bind_after mix m old)
+  doing_after mix (Listing m) old = listed_next (all_after mix m old)
   doing_after mix (Releasing m) old =
       let next = release_after mix m old in released_next (next.0, without_node next.1)
   doing_after mix (Rebinding m) old =
@@ -98,15 +116,44 @@ module _ {M : Type 0} where
   IsDoingOf env Idle = Unit {0}
   IsDoingOf env (Finding m) = m.env ≡ env
   IsDoingOf env (Binding m) = m.env ≡ env
+  IsDoingOf env (Listing m) = m.env ≡ env
   IsDoingOf env (Releasing m) = m.env ≡ env
   IsDoingOf env (Rebinding m) = m.env ≡ env
   IsDoingOf env (Counting m) = m.env ≡ env
 
--- ---- a caller with its rooms
+  -- ---- the room of owners, which a listing has while it runs
 
--- an empty room for one item a node
-abbrev pub room_for_nodes : {A : Type 0} → Env → Kept A
-room_for_nodes env = record { items = []; limit = env.geometry.nodes }
+  -- the room of owners, wherever it lies: a listing has it, and otherwise its caller, whose room this is
+  abbrev pub owners_room : Doing M → Kept ℕ → Kept ℕ
+  owners_room Idle room = room
+  owners_room (Finding m) room = room
+  owners_room (Binding m) room = room
+  owners_room (Listing m) room = m.room
+  owners_room (Releasing m) room = room
+  owners_room (Rebinding m) room = room
+  owners_room (Counting m) room = room
+
+  -- the room of its caller once it has begun
+  abbrev pub owners_beside : Doing M → Kept ℕ → Kept ℕ
+  owners_beside Idle room = emptied room
+  owners_beside (Finding m) room = emptied room
+  owners_beside (Binding m) room = emptied room
+  owners_beside (Listing m) room = no_room
+  owners_beside (Releasing m) room = emptied room
+  owners_beside (Rebinding m) room = emptied room
+  owners_beside (Counting m) room = emptied room
+
+  -- the room of its caller after its operation found this value
+  abbrev pub owners_after : (ℕ → ℕ → ℕ → ℕ) → Doing M → Kept ℕ → ℕ → Kept ℕ
+  owners_after mix Idle room old = room
+  owners_after mix (Finding m) room old = room
+  owners_after mix (Binding m) room old = room
+  owners_after mix (Listing m) room old = room_given (all_after mix m old) room
+  owners_after mix (Releasing m) room old = room
+  owners_after mix (Rebinding m) room old = room
+  owners_after mix (Counting m) room old = room
+
+-- ---- a caller with its rooms
 
 module _ {M : Type 0} where
   -- it has made no call, and has rooms for all nodes
@@ -117,19 +164,25 @@ module _ {M : Type 0} where
   abbrev pub is_idle : Local M → Bool
   is_idle local = does_nothing local.doing
 
-  -- it begins with this: both rooms are emptied
+  -- it begins with this: both rooms are emptied, and a listing has the room of owners
   abbrev pub begin_with : Local M → Doing M → Local M
-  begin_with local doing = record { doing = doing; owners = emptied local.owners; pairs = emptied local.pairs }
+  begin_with local doing =
+      record { doing = doing; owners = owners_beside doing local.owners; pairs = emptied local.pairs }
+
+  -- it begins with this, where there is a machine for its call
+  abbrev pub begun_with : Local M → Option (Doing M) → Local M
+  begun_with local None = local
+  begun_with local (Some doing) = begin_with local doing
 
   -- the operation that it performs next
   abbrev pub plan_of : Local M → Option Op
   plan_of local = doing_plan local.doing
 
-  -- what becomes of it after its operation found this value, and the reply where the call has ended; no machine has a
-  -- room of its caller's yet, so the rooms stay
+  -- what becomes of it after its operation found this value, and the reply where the call has ended
   abbrev pub local_after : (ℕ → ℕ → ℕ → ℕ) → Local M → ℕ → Local M × Option Reply
   local_after mix local old =
-      let next = doing_after mix local.doing old in (record local { doing = next.0 }, next.1)
+      let next = doing_after mix local.doing old in
+      (record local { doing = next.0; owners = owners_after mix local.doing local.owners old }, next.1)
 
   -- how its call has ended, where there is a reply: the lists that came with it are those in its rooms
   abbrev pub ending_of : Local M → Option Reply → Option Ending
@@ -137,6 +190,7 @@ module _ {M : Type 0} where
   ending_of local (Some reply) =
       Some (record { answer = record { reply = reply; owners = local.owners.items }; pairs = local.pairs.items })
 
-  -- it does what it does in the table of this environment
-  abbrev pub IsLocalOf : Env → Local M → Type 0
-  IsLocalOf env local = IsDoingOf env local.doing
+  -- it does what it does in the table of this environment, and its room of owners may have one item a node
+  pub record IsLocalOf (env : Env) (local : Local M) : Type 0 where
+    pub doing : IsDoingOf env local.doing
+    pub owners : (owners_room local.doing local.owners).limit ≡ env.geometry.nodes

@@ -10,13 +10,14 @@ use Rattle.rht_model.specs.declared.history.Reply.TheVariants as replies
 use Rattle.rht_model.specs.declared.finished.Finished.{Finished}
 use Rattle.rht_find.specs.Find.{FindModel}
 use Rattle.rht_bind.specs.Bind.{BindModel}
+use Rattle.rht_release.specs.All.{AllModel}
 use Rattle.rht_core.specs.declared.book.Book.{Book}
 use Rattle.rht_core.specs.declared.local.Local.{Local}
 use Rattle.rht_release.specs.Release.{ReleaseModel}
 use Rattle.rht_release.specs.Rebind.{RebindModel}
 use Rattle.rht_core.specs.declared.count.PortCount.{PortCount}
 use Rattle.rht_core.specs.declared.local.Doing.{Doing}
-use Rattle.rht_core.specs.declared.local.Doing.TheVariants.{Idle, Finding, Binding, Releasing, Rebinding, Counting}
+use Rattle.rht_core.specs.declared.local.Doing.TheVariants.{Idle, Finding, Binding, Releasing, Rebinding, Listing, Counting}
 use Rattle.rht_core.specs.Locals.{is_idle}
 
 -- ---- the replies of each call
@@ -121,6 +122,11 @@ pub record IsBookOfBind (env : Env) (c : ℕ) (m : BindModel) (book : Book) : Ty
   pub same_caller : m.caller ≡ c
   pub call : book.call ≡ Some (Bind m.port m.owner m.once)
 
+pub record IsBookOfAll (env : Env) (c : ℕ) (m : AllModel) (book : Book) : Type 0 where
+  pub same_env : m.env ≡ env
+  pub same_caller : m.caller ≡ c
+  pub call : book.call ≡ Some (All m.port)
+
 pub record IsBookOfRelease (env : Env) (c : ℕ) (m : ReleaseModel) (book : Book) : Type 0 where
   pub same_env : m.env ≡ env
   pub same_caller : m.caller ≡ c
@@ -141,6 +147,7 @@ module _ {M : Type 0} where
   IsBookOf env c Idle book = IsBookOfIdle book
   IsBookOf env c (Finding m) book = IsBookOfFind env c m book
   IsBookOf env c (Binding m) book = IsBookOfBind env c m book
+  IsBookOf env c (Listing m) book = IsBookOfAll env c m book
   IsBookOf env c (Releasing m) book = IsBookOfRelease env c m book
   IsBookOf env c (Rebinding m) book = IsBookOfRebind env c m book
   IsBookOf env c (Counting m) book = IsBookOfCount env m book

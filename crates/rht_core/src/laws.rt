@@ -17,8 +17,8 @@ pub fn extends<M: Mix>()
 /// In every run all words and callers are there, and all that a caller's state names is the table's:
 /// its slots, nodes and buckets; and the words that it keeps have 64 bits. So each operation that a
 /// caller plans is on one of the words, never on that of the enrolled callers, and brings a word of 64
-/// bits. A caller's rooms may have as many items as there are nodes. It says nothing else of what
-/// stands in a word.
+/// bits. A caller's rooms may have as many items as there are nodes, also the one that a listing has
+/// taken. It says nothing else of what stands in a word.
 pub fn in_range<M: Mix>()
     ensures { InRange M M.mix_of }
 {}
@@ -46,8 +46,9 @@ pub fn words_fit<M: Mix>()
 /// as many owners as a `Listed` says, as many pairs as a `Walked` says, and none with another reply.
 /// A bind answers `Again` only where it is tried once alone. What a caller works at is the call of
 /// its book, for that caller, in the run's table. While a caller is in no call its rooms have the
-/// lists of its last finished call, and while it is in one they are empty. It doesn't say which of
-/// the replies comes, nor that one comes.
+/// lists of its last finished call, and while it is in one they are empty: the owners that a listing
+/// has found so far are in the room that it has taken. It doesn't say which of the replies comes, nor
+/// that one comes.
 pub fn replies<M: Mix>()
     ensures { Replies M M.mix_of }
 {}
@@ -89,10 +90,12 @@ pub fn taken_alone<M: Mix>()
 /// ports as the table may hold or more, and there the ports bound and the other callers in mid-call
 /// were at least so many. One that was answered `Bound` raised the count behind the last table that it
 /// walked, and `kick` says whether the raised count is above three quarters of that table's size, and
-/// the table may grow: no limit on the count comes in between. `Exists` of a bind, `Found` and
-/// `Missing` of a look-up have nothing to show here; no other reply of these calls comes, and no other
-/// call ends yet. It doesn't say that all nodes were taken at one event, or that so many ports were
-/// bound, or in which table a bind's node was linked.
+/// the table may grow: no limit on the count comes in between. A reading of the count loaded the one
+/// that it answers, and there the ports bound were at most so many, and with the other callers in
+/// mid-call at least. `Exists` of a bind, `Found` and `Missing` of a look-up, and `Listed` of a listing
+/// have nothing to show here; no other reply of these calls comes, and no other call ends yet. It
+/// doesn't say that all nodes were taken at one event, or that so many ports were bound, or in which
+/// table a bind's node was linked.
 pub fn causes<M: Mix>()
     ensures { Causes M M.mix_of }
 {}

@@ -4,14 +4,14 @@ ghost use Rattle.std.specs.Prelude.{◌≡◌, ◌<◌, IfSome, IfOk};
 ghost use Rattle.rht_words.specs.Operations.{op_place};
 ghost use Rattle.rht_words.specs.Places.{words_in};
 ghost use Rattle.rht_words.specs.declared.env.Env.{Env};
-ghost use Rattle.rht_core.specs.Locals.{does_nothing, is_idle, machine_of, doing_plan, plan_of, doing_after, without_node, local_after, begin_with, fresh, IsDoingOf, IsLocalOf};
+ghost use Rattle.rht_core.specs.Locals.{does_nothing, is_idle, machine_of, doing_plan, plan_of, doing_after, without_node, owners_after, local_after, begun_with, fresh, IsDoingOf, IsLocalOf};
 
 use crate::count::PortCount;
 use rht_bind::Bind;
 use rht_find::Find;
 use rht_model::{Call, Reply, Room};
 use rht_policy::Mix;
-use rht_release::{Rebind, Release};
+use rht_release::{All, Rebind, Release};
 use rht_words::{Env, Kind, Next, Op, Port};
 use std::alloc::{AllocError, Global};
 
@@ -24,6 +24,8 @@ pub enum Doing<M: Mix> {
     Finding(Find<M>),
     /// It binds a port.
     Binding(Bind<M>),
+    /// It lists the owners of a port. Until it ends it has its caller's room of owners.
+    Listing(All<M>),
     /// It takes a binding out.
     Releasing(Release<M>),
     /// It puts another owner in one's place.
@@ -41,31 +43,10 @@ impl<M: Mix> Doing<M> {
             Doing::Idle => true,
             Doing::Finding(_)
             | Doing::Binding(_)
+            | Doing::Listing(_)
             | Doing::Releasing(_)
             | Doing::Rebinding(_)
             | Doing::Counting(_) => false,
-        }
-    }
-
-    /// What a caller does that is given this call. `None` for a call of which there is no machine
-    /// yet: `rebind` in a table of lists, and all but `bind`, `find`, `release`, `rebind` and `count`.
-    pub fn of_call(env: Env, caller: u32, call: Call) -> Option<Doing<M>>
-        ensures machine { result ≡ machine_of env caller call }
-        ensures env { IfSome result (IsDoingOf env) }
-    {
-        match call {
-            Call::Find { port } => Some(Doing::Finding(Find::new(env, caller, port))),
-            Call::Bind { port, owner, once } => {
-                Some(Doing::Binding(Bind::new(env, caller, port, owner, once)))
-            }
-            Call::Release { port, owner } => {
-                Some(Doing::Releasing(Release::new(env, caller, port, owner)))
-            }
-            Call::Rebind { port, owner, new } if env.config.kind == Kind::Single => {
-                Some(Doing::Rebinding(Rebind::new(env, caller, port, owner, new)))
-            }
-            Call::Count => Some(Doing::Counting(PortCount { env })),
-            _ => None,
         }
     }
 
@@ -78,21 +59,25 @@ impl<M: Mix> Doing<M> {
             Doing::Idle => None,
             Doing::Finding(find) => Some(find.plan()),
             Doing::Binding(bind) => Some(bind.plan()),
+            Doing::Listing(all) => Some(all.plan()),
             Doing::Releasing(release) => Some(release.plan()),
             Doing::Rebinding(rebind) => Some(rebind.plan()),
             Doing::Counting(count) => Some(count.plan()),
         }
     }
 
-    /// Takes in the old value of the word that the operation was on. A reply ends the call.
-    pub fn take(&mut self, old: u64) -> Option<Reply>
+    /// Takes in the old value of the word that the operation was on. A reply ends the call, and a
+    /// listing that ends gives the room back to `owners`.
+    pub fn take(&mut self, owners: &mut Room<u32>, old: u64) -> Option<Reply>
         ensures taken { (self.new, result) ≡ doing_after M.mix_of self.old old }
+        ensures owners { owners.new ≡ owners_after M.mix_of self.old owners.old old }
         ensures env { (env : Env) → IsDoingOf env self.old → IsDoingOf env self.new }
     {
         let next = match self {
             Doing::Idle => return None,
             Doing::Finding(find) => find.take(old),
             Doing::Binding(bind) => bind.take(old),
+            Doing::Listing(all) => all.take(old),
             Doing::Releasing(release) => without_node(release.take(old)),
             Doing::Rebinding(rebind) => without_node(rebind.take(old)),
             Doing::Counting(count) => count.take(old),
@@ -100,7 +85,10 @@ impl<M: Mix> Doing<M> {
         match next {
             Next::Go => None,
             Next::Done(reply) => {
-                *self = Doing::Idle;
+                let ended = std::mem::replace(self, Doing::Idle);
+                if let Doing::Listing(all) = ended {
+                    *owners = all.into_parts();
+                }
                 Some(reply)
             }
         }
@@ -122,7 +110,8 @@ fn without_node(next: Next<(Reply, Option<u32>)>) -> Next<Reply>
 pub struct Local<M: Mix> {
     /// What it is doing.
     pub doing: Doing<M>,
-    /// The owners that came with `Listed`, once the call has ended.
+    /// The owners that came with `Listed`, once the call has ended. While the caller lists owners
+    /// the listing has this room.
     pub owners: Room<u32>,
     /// The pairs that came with `Walked`, once the call has ended.
     pub pairs: Room<(Port, u32)>,
@@ -163,10 +152,28 @@ impl<M: Mix> Local<M> {
         self.pairs.as_slice()
     }
 
-    /// Begins with what a call is done by. Both rooms are emptied; no memory is given back.
-    pub fn begin(&mut self, doing: Doing<M>)
-        ensures { self.new ≡ begin_with self.old doing }
+    /// Begins a call, and empties both rooms; no memory is taken or given back. It does nothing for a
+    /// call of which there is no machine yet: `walk`, `work` and `tidy`, and `rebind` in a table of
+    /// lists.
+    pub fn begin(&mut self, env: Env, caller: u32, call: Call)
+        requires { self.old.owners.limit ≡ env.geometry.nodes }
+        ensures { self.new ≡ begun_with self.old (machine_of env caller call) }
     {
+        let doing = match call {
+            Call::Find { port } => Doing::Finding(Find::new(env, caller, port)),
+            Call::Bind { port, owner, once } => {
+                Doing::Binding(Bind::new(env, caller, port, owner, once))
+            }
+            Call::All { port } => Doing::Listing(All::new(env, caller, port, self.owners.take())),
+            Call::Release { port, owner } => {
+                Doing::Releasing(Release::new(env, caller, port, owner))
+            }
+            Call::Rebind { port, owner, new } if env.config.kind == Kind::Single => {
+                Doing::Rebinding(Rebind::new(env, caller, port, owner, new))
+            }
+            Call::Count => Doing::Counting(PortCount { env }),
+            _ => return,
+        };
         self.owners.clear();
         self.pairs.clear();
         self.doing = doing;
@@ -185,6 +192,6 @@ impl<M: Mix> Local<M> {
         ensures taken { (self.new, result) ≡ local_after M.mix_of self.old old }
         ensures env { (env : Env) → IsLocalOf env self.old → IsLocalOf env self.new }
     {
-        self.doing.take(old)
+        self.doing.take(&mut self.owners, old)
     }
 }

@@ -1,17 +1,18 @@
 //! One run on plain words, event by event.
 
 ghost use Rattle.std.specs.Prelude.{ℕ, ◌≡◌, ◌<◌, ◌≤◌, length, replicate, true, None, IfOk};
+ghost use Rattle.std.specs.List.{AllByRecursion};
 ghost use Rattle.rht_words.specs.Operations.{old_of, applied};
 ghost use Rattle.rht_words.specs.Opening.{opening_words};
 ghost use Rattle.rht_words.specs.Places.{words_in};
 ghost use Rattle.rht_words.specs.Settled.{IsSettled};
 ghost use Rattle.rht_core.specs.Runs.{core_of, core_step, local_of, begun, planned, with_step, enrolling, enrolled_after, has_done, IsSound, IsBuiltEvent, IsOpened};
-ghost use Rattle.rht_core.specs.Locals.{fresh, is_idle};
+ghost use Rattle.rht_core.specs.Locals.{fresh, is_idle, IsLocalOf};
 ghost use Rattle.rht_core.specs.Closing.{current_size, IsClosedOf};
 
 use crate::closing::{current_size, listing};
 use crate::event::{Event, Stepped};
-use crate::local::{Doing, Local};
+use crate::local::Local;
 use rht_model::{Call, Closed};
 use rht_policy::Mix;
 use rht_words::{Config, Env, Op, apply, opening_word, places};
@@ -181,15 +182,14 @@ fn enroll(env: Env, words: &mut Vec<u64>, enrolled: &mut u32) -> Stepped
 
 /// Gives a caller a call, where it can be given one.
 fn begin<M: Mix>(env: Env, enrolled: u32, locals: &mut Vec<Local<M>>, caller: u32, call: Call)
-    requires { enrolled ≤ length locals.old.items }
+    requires enrolled { enrolled ≤ length locals.old.items }
+    requires env { AllByRecursion (IsLocalOf env) locals.old.items }
     ensures { locals.new.items ≡ begun env enrolled locals.old.items caller call }
 {
     if caller < enrolled {
         let local = &mut locals[caller as usize];
         if local.is_idle() {
-            if let Some(doing) = Doing::of_call(env, caller, call) {
-                local.begin(doing);
-            }
+            local.begin(env, caller, call);
         }
     }
 }

@@ -437,12 +437,7 @@ fn calls_without_a_machine_are_not_begun(rt: HostRuntime) -> Result<(), Fail> {
         from: None,
         limit: 1,
     };
-    let cases = [
-        Call::All { port: 5 },
-        walk,
-        Call::Work,
-        Call::Tidy,
-    ];
+    let cases = [walk, Call::Work, Call::Tidy];
     for call in cases {
         let rows = [enrolls(0), begins(0, call), idles(0)];
         assert_run::<Low>(&rt, rt.alloc(), small(), &rows)?;
@@ -572,6 +567,37 @@ fn reply_to<M: Mix>(rt: &impl Abort, state: &mut State<M>, caller: u32, call: Ca
         }
     }
     None
+}
+
+#[test]
+fn a_port_lists_its_owners(rt: HostRuntime) -> Result<(), Fail> {
+    let config = Config {
+        kind: Kind::Listed,
+        ..small()
+    };
+    assert!(rt; config.is_settled());
+    assert!(rt; config.callers == 1);
+    let mut state = State::<Low>::open(rt.alloc(), config)?;
+    state.step(Event::Enroll);
+    reply_to(&rt, &mut state, 0, bind(5, 9));
+    reply_to(&rt, &mut state, 0, bind(5, 3));
+    reply_to(&rt, &mut state, 0, bind(5, 7));
+    // The latest owner comes first.
+    let listed = reply_to(&rt, &mut state, 0, Call::All { port: 5 });
+    assert_eq!(rt; listed, Some(Reply::Listed { len: 3 }));
+    assert_eq!(rt; state.local(0).owners(), [7, 3, 9].as_slice());
+    // A port that isn't bound has none, and those of the call before have gone.
+    let unbound = reply_to(&rt, &mut state, 0, Call::All { port: 6 });
+    assert_eq!(rt; unbound, Some(Reply::Listed { len: 0 }));
+    assert!(rt; state.local(0).owners().is_empty());
+    // The room has come back each time, so there is one for a further listing.
+    let again = reply_to(&rt, &mut state, 0, Call::All { port: 5 });
+    assert_eq!(rt; again, Some(Reply::Listed { len: 3 }));
+    assert_eq!(rt; state.local(0).owners(), [7, 3, 9].as_slice());
+    // Once a call begins that has no list, the owners have gone.
+    begin(&rt, &mut state, 0, FIND_5);
+    assert!(rt; state.local(0).owners().is_empty());
+    Ok(())
 }
 
 /// What a small table holds at its closing, when its caller has made these calls.

@@ -17,7 +17,7 @@ use Rattle.rht_chain.specs.Relink.{has_relinked}
 use Rattle.rht_bind.specs.BindHeld.{held_of_bind}
 use Rattle.rht_bind.specs.declared.bind.BindAt.{BindAt}
 use Rattle.rht_bind.specs.declared.bind.BindAt.TheVariants as at
-use Rattle.rht_core.specs.Jobs.{Job, finds, binds, releases, rebinds, counts, job_of, held_of}
+use Rattle.rht_core.specs.Jobs.{Job, finds, binds, releases, rebinds, lists, counts, job_of, held_of}
 use Rattle.rht_release.specs.declared.found_port.FoundPort.{FoundPort}
 use Rattle.rht_release.specs.ReleaseHeld.{held_of_release, holds_relinking}
 use Rattle.rht_release.specs.declared.release.ReleaseAt.{ReleaseAt}
@@ -27,7 +27,7 @@ use Rattle.rht_core.specs.declared.event.Event.TheVariants.{Step}
 use Rattle.rht_core.specs.Runs.{Core, World, local_of, planned_in, core_step, run_of, IsAdmitted, IsAdmittedEvent}
 use Rattle.rht_core.specs.Traces.{Did}
 use Rattle.rht_core.specs.Laws.{IsRecorded}
-use Rattle.rht_core.proofs.Counting.FullTables.{find_raises, front_raises, relinking_raises, rebind_raises, taken}
+use Rattle.rht_core.proofs.Counting.FullTables.{find_raises, front_raises, relinking_raises, rebind_raises, all_raises, taken}
 use Rattle.rht_core.proofs.Events.Worlds.{run_of-push}
 use Rattle.rht_core.proofs.Theory.Ghosts.{Ghost, taken_is}
 use Rattle.rht_core.proofs.Theory.Knowledge.{HasTakenOut, KnownList, LeadsTo, BucketMeans}
@@ -98,6 +98,7 @@ module _ (env : Env) (mix : ℕ → ℕ → ℕ → ℕ) (c : ℕ) (M : Memory) 
   job-own : (job : Job) → JobKnows env mix c job M G → (held_of job).raised ≡ true → OwnNode env G c
   job-own (finds port state) knows is = let none = find_raises state in absurd (cc)
   job-own (binds port owner once state) knows is = bind-own port owner once state knows is
+  job-own (lists port room state) knows is = let none = all_raises room.items state in absurd (cc)
   job-own (releases port owner state) knows is = release-own port owner state knows is
   job-own (rebinds port owner new state) knows is = let none = rebind_raises state in absurd (cc)
   job-own counts knows is = absurd (cc)

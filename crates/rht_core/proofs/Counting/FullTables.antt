@@ -25,6 +25,13 @@ use Rattle.rht_bind.specs.BindHeld.{held_of_bind, holds_replacing}
 use Rattle.rht_bind.specs.declared.bind.Claimed.{Claimed}
 use Rattle.rht_bind.specs.declared.bind.BindAt.{BindAt}
 use Rattle.rht_bind.specs.declared.bind.BindAt.TheVariants as at
+use Rattle.rht_release.specs.AllHeld.{held_of_all}
+use Rattle.rht_release.specs.declared.all.AllAt.{AllAt}
+use Rattle.rht_release.specs.declared.all.AllAt.TheVariants as all_at
+use Rattle.rht_core.specs.declared.event.Event.{Event}
+use Rattle.rht_core.specs.Locals.{is_idle}
+use Rattle.rht_core.specs.Runs.{Core, local_of, planned_in, run_of, IsAdmitted, IsAdmittedEvent}
+use Rattle.rht_core.specs.Jobs.{Job, finds, binds, releases, rebinds, lists, counts, job_of, job_plan, held_of}
 use Rattle.rht_release.specs.declared.found_port.FoundPort.{FoundPort}
 use Rattle.rht_release.specs.Release.{plan_at as release_plan_at}
 use Rattle.rht_release.specs.ReleaseHeld.{held_of_release, holds_relinking}
@@ -33,10 +40,6 @@ use Rattle.rht_release.specs.declared.release.ReleaseAt.TheVariants as release_a
 use Rattle.rht_release.specs.RebindHeld.{held_of_rebind, holds_replacing as holds_replacing_of}
 use Rattle.rht_release.specs.declared.rebind.RebindAt.{RebindAt}
 use Rattle.rht_release.specs.declared.rebind.RebindAt.TheVariants as rebind_at
-use Rattle.rht_core.specs.declared.event.Event.{Event}
-use Rattle.rht_core.specs.Locals.{is_idle}
-use Rattle.rht_core.specs.Runs.{Core, local_of, planned_in, run_of, IsAdmitted, IsAdmittedEvent}
-use Rattle.rht_core.specs.Jobs.{Job, finds, binds, releases, rebinds, counts, job_of, job_plan, held_of}
 use Rattle.rht_core.specs.Traces.{Did}
 use Rattle.rht_core.specs.Laws.{IsRecorded}
 use Rattle.rht_core.specs.Causes.{others_in_call, CountedAt}
@@ -118,6 +121,13 @@ bind_loads-unraised e place (at.Publish node table relink kick) is = absurd
 bind_loads-unraised e place (at.Unlocking node table unlock next) is = refl
 bind_loads-unraised e place (at.Giving give reply) is = refl
 
+-- a listing raises none
+pub all_raises : (owners : List ℕ) (state : AllAt) → (held_of_all owners state).raised ≡ false
+all_raises owners (all_at.Seeking seek) = refl
+all_raises owners (all_at.Owner found node) = refl
+all_raises owners (all_at.ListLink found node) = refl
+all_raises owners (all_at.Unlocking table unlock) = refl
+
 -- a release that has raised it, and is to lower it, loads nothing either
 pub relinking_raises : (found : FoundPort) (stored : Bool) → (holds_relinking found false stored).raised ≡ false
 relinking_raises found false = refl
@@ -160,6 +170,7 @@ load-unraised : (env : Env) (job : Job) (place : ℕ) → job_plan env job ≡ L
     → (held_of job).raised ≡ false
 load-unraised env (finds port state) place is = find_raises state
 load-unraised env (binds port owner once state) place is = bind_loads-unraised env place state is
+load-unraised env (lists port room state) place is = all_raises room.items state
 load-unraised env (releases port owner state) place is = release_loads-unraised env place state is
 load-unraised env (rebinds port owner new state) place is = rebind_raises state
 load-unraised env counts place is = refl

@@ -4,23 +4,25 @@ use Rattle.std.proofs.Common.{◌≡◌, ℕ, Bool, true, refl, subst}
 use Rattle.std.specs.Prelude.{Option, Some, None}
 use Rattle.rht_words.specs.declared.env.Env.{Env}
 use Rattle.rht_model.specs.declared.history.Call.{Call}
-use Rattle.rht_model.specs.declared.history.Call.TheVariants.{Bind, Find, Release, Rebind, Count}
+use Rattle.rht_model.specs.declared.history.Call.TheVariants.{Bind, Find, Release, Rebind, All, Count}
 use Rattle.rht_find.specs.Find.{find_new}
 use Rattle.rht_words.specs.declared.config.Kind.{Kind}
 use Rattle.rht_words.specs.declared.config.Kind.TheVariants.{Single, Listed}
 use Rattle.rht_bind.specs.Bind.{bind_new}
-use Rattle.rht_release.specs.Release.{release_new}
-use Rattle.rht_release.specs.Rebind.{rebind_new}
+use Rattle.rht_release.specs.All.{all_new}
 use Rattle.rht_core.specs.declared.local.Local.{Local}
 use Rattle.rht_core.specs.declared.local.Doing.{Doing}
-use Rattle.rht_core.specs.declared.local.Doing.TheVariants.{Idle, Finding, Binding, Releasing, Rebinding, Counting}
-use Rattle.rht_core.specs.Locals.{does_nothing, is_idle, machine_of, rebinding_of, doing_plan, plan_of}
+use Rattle.rht_core.specs.declared.local.Doing.TheVariants.{Idle, Finding, Binding, Releasing, Rebinding, Listing, Counting}
+use Rattle.rht_core.specs.Locals.{room_for_nodes, does_nothing, is_idle, machine_of, rebinding_of, doing_plan, plan_of}
+use Rattle.rht_release.specs.Release.{release_new}
+use Rattle.rht_release.specs.Rebind.{rebind_new}
 
 module _ (M : Type 0) where
-  -- A call begins as a look-up, a bind, a release, a rebind or a reading of the count. What is so of these is so of whatever begins.
+  -- A call begins as a look-up, a bind, a listing, a release, a rebind or a reading of the count. What is so of these is so of whatever begins.
   module _ (env : Env) (c : ℕ) (So : Call → Doing M → Type 0)
       (find : (port : ℕ) → So (Find port) (Finding (find_new env c port)))
       (bind : (port owner : ℕ) (once : Bool) → So (Bind port owner once) (Binding (bind_new env c port owner once)))
+      (list : (port : ℕ) → So (All port) (Listing (all_new env c port (room_for_nodes env))))
       (release : (port owner : ℕ) → So (Release port owner) (Releasing (release_new env c port owner)))
       (rebind : (port owner new : ℕ) → env.config.kind ≡ Single
           → So (Rebind port owner new) (Rebinding (rebind_new env c port owner new)))
@@ -38,6 +40,7 @@ module _ (M : Type 0) where
       machine-so : (call : Call) → BeginsSo call (machine_of env c call)
       machine-so (Find port) = find port
       machine-so (Bind port owner once) = bind port owner once
+      machine-so (All port) = list port
       machine-so (Release port owner) = release port owner
       machine-so (Rebind port owner new) = rebinding-so port owner new env.config.kind refl
       machine-so Count = count
@@ -52,6 +55,7 @@ module _ (M : Type 0) where
   nothing_plans Idle idle = refl
   nothing_plans (Finding m) idle = absurd (cc)
   nothing_plans (Binding m) idle = absurd (cc)
+  nothing_plans (Listing m) idle = absurd (cc)
   nothing_plans (Releasing m) idle = absurd (cc)
   nothing_plans (Rebinding m) idle = absurd (cc)
   nothing_plans (Counting m) idle = absurd (cc)

@@ -14,15 +14,16 @@ use Rattle.rht_words.proofs.Memory.{Memory, is_write}
 use Rattle.rht_words.proofs.EachElement.{each_set}
 use Rattle.rht_words.proofs.Members.{count_below-same}
 use Rattle.rht_model.specs.declared.history.Call.{Call}
+use Rattle.rht_model.specs.Rooms as rooms
 use Rattle.rht_model.specs.Endings.{Ending}
 use Rattle.rht_core.specs.declared.event.Event.{Event}
 use Rattle.rht_core.specs.declared.event.Event.TheVariants.{Enroll, Begin}
 use Rattle.rht_core.specs.declared.event.Event.TheVariants as events
 use Rattle.rht_core.specs.declared.local.Doing.{Doing}
-use Rattle.rht_core.specs.declared.local.Doing.TheVariants.{Idle, Finding, Binding, Releasing, Rebinding, Counting}
-use Rattle.rht_core.specs.Locals.{fresh, does_nothing, machine_of, begin_with, local_after}
+use Rattle.rht_core.specs.declared.local.Doing.TheVariants.{Idle, Finding, Binding, Releasing, Rebinding, Listing, Counting}
+use Rattle.rht_core.specs.Locals.{fresh, owners_room, does_nothing, machine_of, begin_with, local_after}
 use Rattle.rht_core.specs.Runs.{Core, local_of, beginning_in, planned_in, enrolling, core_step}
-use Rattle.rht_core.specs.Jobs.{Job, finds, binds, releases, rebinds, counts, call_of, job_plan, job_after, job_of, told, held_of, held_next}
+use Rattle.rht_core.specs.Jobs.{Job, finds, binds, releases, rebinds, lists, counts, call_of, job_plan, job_after, job_of, told, held_of, held_next}
 use Rattle.rht_core.specs.Laws.{IsDoingIn}
 use Rattle.rht_core.proofs.Events.CallBeginnings.{begins_so}
 use Rattle.rht_core.proofs.Events.Worlds.{beginning-some, planned-some}
@@ -66,20 +67,24 @@ module _ (env : Env) (mix : ℕ → ℕ → ℕ → ℕ) where
       pub each : (c : ℕ) → Knows c (job_of (local_of core c).doing) (mem env mix core.words) G
 
     -- what a caller does that is in range is a job that is
-    pub job-in : (c : ℕ) (doing : Doing L) (job : Job) → job_of doing ≡ Some job → IsDoingIn env c doing
+    pub job-in : (c : ℕ) (doing : Doing L) (job : Job) (room : rooms.Kept ℕ) → job_of doing ≡ Some job
+        → IsDoingIn env c doing → (owners_room doing room).limit ≡ env.geometry.nodes
         → JobIn env mix c job
-    job-in c Idle job is within = absurd (cc)
-    job-in c (Finding m) job is within =
+    job-in c Idle job room is within roomy = absurd (cc)
+    job-in c (Finding m) job room is within roomy =
         let here : finds m.port m.at ≡ job = cc in subst (JobIn env mix c) here within.at_in
-    job-in c (Binding m) job is within =
+    job-in c (Binding m) job room is within roomy =
         let here : binds m.port m.owner m.once m.at ≡ job = cc in
         subst (JobIn env mix c) here (record { owner_in = within.owner_in; at_in = within.at_in })
-    job-in c (Releasing m) job is within =
+    job-in c (Listing m) job room is within roomy =
+        let here : lists m.port m.room m.at ≡ job = cc in
+        subst (JobIn env mix c) here (record { at_in = within.at_in; roomy = roomy })
+    job-in c (Releasing m) job room is within roomy =
         let here : releases m.port m.owner m.at ≡ job = cc in subst (JobIn env mix c) here within.at_in
-    job-in c (Rebinding m) job is within =
+    job-in c (Rebinding m) job room is within roomy =
         let here : rebinds m.port m.owner m.new_owner m.at ≡ job = cc in
         subst (JobIn env mix c) here (record { new_in = within.new_owner_in; at_in = within.at_in })
-    job-in c (Counting m) job is within = let here : counts ≡ job = cc in subst (JobIn env mix c) here tt
+    job-in c (Counting m) job room is within roomy = let here : counts ≡ job = cc in subst (JobIn env mix c) here tt
 
     -- a caller that is given a call knows what the first state of its machine says
     begun_knows : (c : ℕ) (call : Call) (machine : Doing L) (M : Memory) (G : Ghost)
@@ -88,6 +93,8 @@ module _ (env : Env) (mix : ℕ → ℕ → ℕ → ℕ) where
         begins_so L env c (λ asked first. Knows c (job_of first) M G)
         (λ port. record { built = tt; knowing = record { only = knows.only; means = knows.means }; fits = tt })
         (λ port owner once. record { built = tt; knowing = record { only = knows.only; means = knows.means }; fits = (refl, refl) })
+        (λ port. record { built = tt; knowing = record { only = knows.only; means = knows.means }; fits = (tt, refl) })
+
         (λ port owner. record { built = tt; knowing = record { only = knows.only; means = knows.means }; fits = tt })
         (λ port owner new single. record {
           built = single;
@@ -127,11 +134,12 @@ module _ (env : Env) (mix : ℕ → ℕ → ℕ → ℕ) where
     step_of core G c op sound inv is =
         let can = planned-some core.env core.enrolled core.locals c op is in
         let doing = (local_of core c).doing in
-        let plans = plan-job env doing op (sound.stays.locals_of c) can.plan in
+        let plans = plan-job env doing op (sound.stays.locals_of c).doing can.plan in
         let job = plans.job in
         let knows = subst (λ j. Knows c j (mem env mix core.words) G) plans.does (inv.each c) in
         let low : c < env.geometry.callers = omega (arith, can.below, sound.stays.few_enrolled) in
-        let within = job-in c doing job plans.does (sound.locals c).doing in
+        let local = sound.locals c in
+        let within = job-in c doing job (local_of core c).owners plans.does local.doing local.owners in
         record {
           job = job;
           is = plans.does;
@@ -222,7 +230,7 @@ module _ (env : Env) (mix : ℕ → ℕ → ℕ → ℕ) where
         let M' = mem env mix (applied core.words op) in
         let G' = ghost_after env mix c step.move G in
         let left : job_of next.doing ≡ (told (job_after mix env of.job old)).0 = left-job L mix env doing
-        of.job old (sound.stays.locals_of c) of.is in
+        of.job old (sound.stays.locals_of c).doing of.is in
         record {
           ghost = G';
           inv = rw is (record {

@@ -8,7 +8,7 @@ use Rattle.rht_words.specs.declared.env.Env.{Env}
 use Rattle.rht_words.specs.declared.machine.Next.{Next}
 use Rattle.rht_words.specs.declared.machine.Next.TheVariants.{Go, Done}
 use Rattle.rht_model.specs.declared.history.Call.{Call}
-use Rattle.rht_model.specs.declared.history.Call.TheVariants.{Bind, Find, Release, Rebind, Count}
+use Rattle.rht_model.specs.declared.history.Call.TheVariants.{Bind, Find, Release, Rebind, All, Count}
 use Rattle.rht_model.specs.declared.history.Reply.{Reply}
 use Rattle.rht_model.specs.Endings.{Ending}
 use Rattle.rht_find.specs.Find as find
@@ -19,9 +19,21 @@ use Rattle.rht_bind.specs.Bind as bind
 use Rattle.rht_bind.specs.Bind.{BindModel}
 use Rattle.rht_bind.specs.declared.bind.BindAt.{BindAt}
 use Rattle.rht_model.specs.declared.history.Reply.TheVariants.{Counted}
+use Rattle.rht_model.specs.Rooms.{Kept}
+use Rattle.rht_release.specs.Seek.{seek_new}
+use Rattle.rht_release.specs.All as all
+use Rattle.rht_release.specs.All.{AllModel, moved}
+use Rattle.rht_release.specs.AllHeld.{listing_of}
+use Rattle.rht_release.specs.declared.all.AllAt.{AllAt}
+use Rattle.rht_release.specs.declared.all.AllAt.TheVariants as alls
+use Rattle.rht_core.specs.PortCounts.{count_plan_in}
+use Rattle.rht_core.specs.declared.local.Local.{Local}
+use Rattle.rht_core.specs.declared.local.Doing.{Doing}
+use Rattle.rht_core.specs.declared.local.Doing.TheVariants.{Idle, Finding, Binding, Releasing, Rebinding, Listing, Counting}
+use Rattle.rht_core.specs.Locals.{fresh, room_for_nodes, does_nothing, machine_of, doing_plan, doing_after, owners_after, room_given, local_after, ending_of, found_next, bound_next, released_next, rebound_next, without_node, listed_next, IsDoingOf, IsLocalOf}
+use Rattle.rht_core.specs.Jobs.{Job, finds, binds, releases, rebinds, lists, counts, call_of, first_job, first_rebind, job_plan, job_after, finds_next, binds_next, releases_next, rebinds_next, lists_next, job_of, told, held_of}
 use Rattle.rht_words.specs.declared.config.Kind.{Kind}
 use Rattle.rht_words.specs.declared.config.Kind.TheVariants.{Single, Listed}
-use Rattle.rht_release.specs.Seek.{seek_new}
 use Rattle.rht_release.specs.Release as release
 use Rattle.rht_release.specs.Release.{ReleaseModel}
 use Rattle.rht_release.specs.declared.release.ReleaseAt.{ReleaseAt}
@@ -29,12 +41,6 @@ use Rattle.rht_release.specs.declared.release.ReleaseAt.TheVariants.{Seeking}
 use Rattle.rht_release.specs.Rebind as rebind
 use Rattle.rht_release.specs.Rebind.{RebindModel}
 use Rattle.rht_release.specs.declared.rebind.RebindAt.{RebindAt}
-use Rattle.rht_core.specs.PortCounts.{count_plan_in}
-use Rattle.rht_core.specs.declared.local.Local.{Local}
-use Rattle.rht_core.specs.declared.local.Doing.{Doing}
-use Rattle.rht_core.specs.declared.local.Doing.TheVariants.{Idle, Finding, Binding, Releasing, Rebinding, Counting}
-use Rattle.rht_core.specs.Locals.{fresh, does_nothing, machine_of, doing_plan, doing_after, local_after, ending_of, found_next, bound_next, released_next, rebound_next, without_node, IsDoingOf, IsLocalOf}
-use Rattle.rht_core.specs.Jobs.{Job, finds, binds, releases, rebinds, counts, call_of, first_job, first_rebind, job_plan, job_after, finds_next, binds_next, releases_next, rebinds_next, job_of, told, held_of}
 use Rattle.rht_core.proofs.Events.CallBeginnings.{begins_so}
 
 -- there is no job
@@ -62,6 +68,11 @@ binds_next-call : (port owner : ℕ) (once : Bool) (next : BindAt × Next Reply)
 binds_next-call port owner once (state, Go) = refl
 binds_next-call port owner once (state, Done reply) = refl
 
+lists_next-call : (port : ℕ) (room : Kept ℕ) (next : AllAt × Next (Unit {0}))
+    → call_of (lists_next port room next).0 ≡ All port
+lists_next-call port room (state, Go) = refl
+lists_next-call port room (state, Done done) = refl
+
 releases_next-call : (port owner : ℕ) (next : ReleaseAt × Next (Reply × Option ℕ))
     → call_of (releases_next port owner next).0 ≡ Release port owner
 releases_next-call port owner (state, Go) = refl
@@ -77,6 +88,8 @@ pub same_call : (mix : ℕ → ℕ → ℕ → ℕ) (env : Env) (job : Job) (old
 same_call mix env (finds port state) old = finds_next-call port (find.after_at mix env port state old)
 same_call mix env (binds port owner once state) old =
     binds_next-call port owner once (bind.after_at mix env port state old)
+same_call mix env (lists port room state) old =
+    lists_next-call port (all.room_after state room old) (all.after_at mix env port state old)
 same_call mix env (releases port owner state) old =
     releases_next-call port owner (release.after_at mix env port owner state old)
 same_call mix env (rebinds port owner new state) old =
@@ -99,6 +112,9 @@ pub first_unknown : (env : Env) (call : Call) (job : Job) → first_job env call
 first_unknown env (Find port) job is = let here : finds port CurrentTable ≡ job = cc in ap (λ j. (held_of j).answer) (sym here)
 first_unknown env (Bind port owner once) job is =
     let here : binds port owner once (bind.first_state env port owner) ≡ job = cc in ap (λ j. (held_of j).answer) (sym here)
+first_unknown env (All port) job is =
+    let here : lists port (room_for_nodes env) (alls.Seeking (seek_new env.geometry)) ≡ job = cc in
+    ap (λ j. (held_of j).answer) (sym here)
 first_unknown env (Release port owner) job is =
     let here : releases port owner (Seeking (seek_new env.geometry)) ≡ job = cc in ap (λ j. (held_of j).answer) (sym here)
 first_unknown env (Rebind port owner new) job is = first_rebind-unknown env port owner new env.config.kind job is
@@ -116,6 +132,9 @@ pub first_without : (env : Env) (call : Call) (job : Job) → first_job env call
 first_without env (Find port) job is = let here : finds port CurrentTable ≡ job = cc in ap (λ j. (held_of j).node) (sym here)
 first_without env (Bind port owner once) job is =
     let here : binds port owner once (bind.first_state env port owner) ≡ job = cc in ap (λ j. (held_of j).node) (sym here)
+first_without env (All port) job is =
+    let here : lists port (room_for_nodes env) (alls.Seeking (seek_new env.geometry)) ≡ job = cc in
+    ap (λ j. (held_of j).node) (sym here)
 first_without env (Release port owner) job is =
     let here : releases port owner (Seeking (seek_new env.geometry)) ≡ job = cc in ap (λ j. (held_of j).node) (sym here)
 first_without env (Rebind port owner new) job is = first_rebind-without env port owner new env.config.kind job is
@@ -133,6 +152,11 @@ module _ (M : Type 0) where
       → job_of (bound_next {M = M} (record m { at = r.0 }, r.1)).0 ≡ (told (binds_next m.port m.owner m.once r)).0
   bound-left m (state, Go) = refl
   bound-left m (state, Done reply) = refl
+
+  listed-left : (m : AllModel) (after : Kept ℕ) (r : AllAt × Next (Unit {0}))
+      → job_of (listed_next {M = M} (moved m after r)).0 ≡ (told (lists_next m.port after r)).0
+  listed-left m after (state, Go) = refl
+  listed-left m after (state, Done done) = refl
 
   released-left : (m : ReleaseModel) (r : ReleaseAt × Next (Reply × Option ℕ))
       → job_of (released_next {M = M} (record m { at = r.0 }, without_node r.1)).0 ≡ (told (releases_next m.port m.owner r)).0
@@ -159,6 +183,11 @@ module _ (M : Type 0) where
       bound-left m (bind.after_at mix m.env m.port m.at old)
       ∙ ap (λ (e : Env). (told (job_after mix e (binds m.port m.owner m.once m.at) old)).0) of
       ∙ ap (λ (j : Job). (told (job_after mix env j old)).0) here
+  left-job mix env (Listing m) job old of is =
+      let here : lists m.port m.room m.at ≡ job = cc in
+      listed-left m (all.room_after m.at m.room old) (all.after_at mix m.env m.port m.at old)
+      ∙ ap (λ (e : Env). (told (job_after mix e (lists m.port m.room m.at) old)).0) of
+      ∙ ap (λ (j : Job). (told (job_after mix env j old)).0) here
   left-job mix env (Releasing m) job old of is =
       let here : releases m.port m.owner m.at ≡ job = cc in
       released-left m (release.after_at mix m.env m.port m.owner m.at old)
@@ -178,6 +207,7 @@ module _ {M : Type 0} where
   nothing-job Idle = refl
   nothing-job (Finding m) = refl
   nothing-job (Binding m) = refl
+  nothing-job (Listing m) = refl
   nothing-job (Releasing m) = refl
   nothing-job (Rebinding m) = refl
   nothing-job (Counting m) = refl
@@ -196,6 +226,8 @@ module _ {M : Type 0} where
   first_job-machine env c =
       begins_so M env c (IsFirst env) (λ port. record { job = _; first = refl; does = refl; asked = refl })
       (λ port owner once. record { job = _; first = refl; does = refl; asked = refl })
+      (λ port. record { job = _; first = refl; does = refl; asked = refl })
+
       (λ port owner. record { job = _; first = refl; does = refl; asked = refl })
       (λ port owner new single. record {
         job = _;
@@ -230,6 +262,13 @@ module _ {M : Type 0} where
         does = refl;
         plan = subst (λ (e : Env). op ≡ bind.plan_at e m.at) of here;
       }
+  plan-job env (Listing m) op of plan =
+      let here : op ≡ all.plan_at m.env m.at = cc in
+      record {
+        job = lists m.port m.room m.at;
+        does = refl;
+        plan = subst (λ (e : Env). op ≡ all.plan_at e m.at) of here;
+      }
   plan-job env (Releasing m) op of plan =
       let here : op ≡ release.plan_at m.env m.at = cc in
       record {
@@ -249,9 +288,13 @@ module _ {M : Type 0} where
       record { job = counts; does = refl; plan = subst (λ (e : Env). op ≡ count_plan_in e) of here }
 
   module _ (local : Local M) (none : HasNoLists local) where
-    -- the job that a caller has after this has become of what it does, and how its call has ended
+    -- the job that a caller has after this has become of what it does and of its room of owners, and how its call has ended
+    abbrev job_left_with : Doing M × Option Reply → Kept ℕ → Option Job × Option Ending
+    job_left_with next owners =
+        (job_of next.0, ending_of (record local { doing = next.0; owners = owners }) next.1)
+
     abbrev job_left : Doing M × Option Reply → Option Job × Option Ending
-    job_left next = (job_of next.0, ending_of (record local { doing = next.0 }) next.1)
+    job_left next = job_left_with next local.owners
 
     found-told : (m : FindModel) (r : FindAt × Next Reply)
         → job_left (found_next (record m { at = r.0 }, r.1)) ≡ told (finds_next m.port r)
@@ -262,6 +305,13 @@ module _ {M : Type 0} where
         → job_left (bound_next (record m { at = r.0 }, r.1)) ≡ told (binds_next m.port m.owner m.once r)
     bound-told m (state, Go) = refl
     bound-told m (state, Done reply) = (λ i. (None, Some record { answer = record { reply = reply; owners = none.owners i }; pairs = none.pairs i }))
+
+    listed-told : (m : AllModel) (after : Kept ℕ) (r : AllAt × Next (Unit {0}))
+        → let next = moved m after r in
+        job_left_with (listed_next next) (room_given next local.owners) ≡ told (lists_next m.port after r)
+    listed-told m after (state, Go) = refl
+    listed-told m after (state, Done done) =
+        (λ i. (None, Some record { answer = listing_of after.items; pairs = none.pairs i }))
 
     released-told : (m : ReleaseModel) (r : ReleaseAt × Next (Reply × Option ℕ))
         → job_left (released_next (record m { at = r.0 }, without_node r.1)) ≡ told (releases_next m.port m.owner r)
@@ -277,7 +327,8 @@ module _ {M : Type 0} where
 
     doing_after-job : (mix : ℕ → ℕ → ℕ → ℕ) (env : Env) (doing : Doing M) (job : Job) (old : ℕ)
         → IsDoingOf env doing → job_of doing ≡ Some job
-        → job_left (doing_after mix doing old) ≡ told (job_after mix env job old)
+        → job_left_with (doing_after mix doing old) (owners_after mix doing local.owners old)
+        ≡ told (job_after mix env job old)
     doing_after-job mix env Idle job old of is = absurd (cc)
     doing_after-job mix env (Finding m) job old of is =
         let here : finds m.port m.at ≡ job = cc in
@@ -288,6 +339,11 @@ module _ {M : Type 0} where
         let here : binds m.port m.owner m.once m.at ≡ job = cc in
         bound-told m (bind.after_at mix m.env m.port m.at old)
         ∙ ap (λ (e : Env). told (job_after mix e (binds m.port m.owner m.once m.at) old)) of
+        ∙ ap (λ (j : Job). told (job_after mix env j old)) here
+    doing_after-job mix env (Listing m) job old of is =
+        let here : lists m.port m.room m.at ≡ job = cc in
+        listed-told m (all.room_after m.at m.room old) (all.after_at mix m.env m.port m.at old)
+        ∙ ap (λ (e : Env). told (job_after mix e (lists m.port m.room m.at) old)) of
         ∙ ap (λ (j : Job). told (job_after mix env j old)) here
     doing_after-job mix env (Releasing m) job old of is =
         let here : releases m.port m.owner m.at ≡ job = cc in
@@ -311,7 +367,7 @@ module _ {M : Type 0} where
   doing_after-reply mix env doing job old of is =
       let local : Local M = fresh env in
       let next = doing_after mix doing old in
-      sym (ended-reply (record local { doing = next.0 }) next.1)
+      sym (ended-reply (record local { doing = next.0; owners = owners_after mix doing local.owners old }) next.1)
       ∙ ap (λ l. option_map (λ (e : Ending). e.answer.reply) l.1) (doing_after-job local (record { owners = refl; pairs = refl }) mix env doing job old of is)
     where
       ended-reply : (local : Local M) (reply : Option Reply) → option_map (λ (e : Ending). e.answer.reply) (ending_of local reply) ≡ reply
@@ -324,4 +380,4 @@ module _ {M : Type 0} where
       → let next = local_after mix local old in
       ◌≡◌ {A = Option Job × Option Ending} (job_of next.0.doing, ending_of next.0 next.1) (told (job_after mix env job old))
   local_after-job mix env local job old none of is =
-      doing_after-job local none mix env local.doing job old of is
+      doing_after-job local none mix env local.doing job old of.doing is

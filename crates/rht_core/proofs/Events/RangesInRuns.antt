@@ -3,7 +3,7 @@
 -- It holds at opening, where every caller is idle and the words are small. An admitted call begins in range, and each machine
 -- stays in range whatever word it is told; so what it stores is a word, and it is told words. Since no machine plans an
 -- operation on the word of the enrolled callers, an Enroll alone changes that word.
-use Rattle.std.proofs.Common.{◌≡◌, ℕ, ◌-◌, ◌*◌, ◌<◌, List, min, refl, sym, subst, arith}
+use Rattle.std.proofs.Common.{◌≡◌, ℕ, ◌-◌, ◌*◌, ◌<◌, List, min, refl, sym, subst, ◌∙◌, arith}
 use Rattle.std.specs.Prelude.{Option, Some, None, ◌==◌}
 use Rattle.std.specs.List.{AllByRecursion}
 use Rattle.std.proofs.Math.Pow.{pow_mono}
@@ -31,6 +31,9 @@ use Rattle.rht_find.proofs.FindPlanned.{planned_find}
 use Rattle.rht_bind.specs.Bind.{BindModel, bind_after, plan_at as bind_plan_at, IsBindAtIn, IsBindIn}
 use Rattle.rht_bind.proofs.BindStays.{bind_stays}
 use Rattle.rht_bind.proofs.BindPlanned.{planned_bind}
+use Rattle.rht_release.specs.All.{AllModel, all_after, plan_at as all_plan_at, IsAllAtIn, IsAllIn}
+use Rattle.rht_release.proofs.AllStays.{all_stays, room_stays}
+use Rattle.rht_release.proofs.AllPlanned.{planned_all}
 use Rattle.rht_release.specs.Seek.{seek_new, IsSeekIn}
 use Rattle.rht_release.specs.Release.{ReleaseModel, release_after, plan_at as release_plan_at, IsReleaseAtIn, IsReleaseIn}
 use Rattle.rht_release.proofs.ReleaseStays.{release_stays}
@@ -43,11 +46,12 @@ use Rattle.rht_core.specs.declared.event.Event.TheVariants.{Enroll, Begin, Step}
 use Rattle.rht_core.specs.PortCounts.{count_plan_in}
 use Rattle.rht_core.specs.declared.local.Local.{Local}
 use Rattle.rht_core.specs.declared.local.Doing.{Doing}
-use Rattle.rht_core.specs.declared.local.Doing.TheVariants.{Idle, Finding, Binding, Releasing, Rebinding, Counting}
-use Rattle.rht_core.specs.Locals.{fresh, machine_of, begin_with, doing_plan, plan_of, doing_after, local_after, found_next, bound_next, released_next, rebound_next, without_node}
+use Rattle.rht_core.specs.declared.local.Doing.TheVariants.{Idle, Finding, Binding, Releasing, Rebinding, Listing, Counting}
+use Rattle.rht_core.specs.Locals.{fresh, machine_of, begin_with, doing_plan, plan_of, doing_after, local_after, found_next, bound_next, released_next, rebound_next, without_node, listed_next}
 use Rattle.rht_core.specs.Runs.{Core, World, local_of, beginning_in, with_machine, planned_in, with_step, enrolling, world_step, run_of, opening, IsAdmitted, IsAdmittedCall, IsAdmittedEvent}
 use Rattle.rht_core.specs.Laws.{IsDoingIn, IsLocalIn, InRange, WordsFit, IsOfCaller, IsEnrolledKept, Enrolled}
 use Rattle.rht_core.proofs.Events.CallBeginnings.{begins_so}
+use Rattle.rht_core.proofs.Events.RoomsOfCallers.{idle-limit, begun-limit, owners_after-limit}
 use Rattle.rht_core.proofs.Events.Worlds.{beginning-some, planned-some, run_of-push, run_keeps_admitted}
 use Rattle.rht_core.proofs.Events.SoundRuns.{StaysIn, opens-in, stays-in, has_place, made_in, step-count, IsSound-stays}
 
@@ -108,6 +112,13 @@ module _ (M : Type 0) where
           at_in = record { geometry_same = refl; at_in = first_map_word env.geometry };
         };
       })
+      (λ port admitted. record {
+        same_env = refl;
+        same_caller = refl;
+        port_in = admitted;
+        at_in = record { geometry_same = refl; at_in = tt };
+        room_in = refl;
+      })
       (λ port owner admitted. record {
         same_env = refl;
         same_caller = refl;
@@ -139,6 +150,11 @@ module _ (M : Type 0) where
       → IsDoingIn env c (bound_next {M = M} (m, next)).0
   bound_next-in env c m Go within = within
   bound_next-in env c m (Done reply) within = tt
+
+  listed_next-in : (env : Env) (c : ℕ) (m : AllModel) (next : Next Reply) → IsAllIn env c m
+      → IsDoingIn env c (listed_next {M = M} (m, next)).0
+  listed_next-in env c m Go within = within
+  listed_next-in env c m (Done reply) within = tt
 
   released_next-in : (env : Env) (c : ℕ) (m : ReleaseModel) (next : Next Reply) → IsReleaseIn env c m
       → IsDoingIn env c (released_next {M = M} (m, next)).0
@@ -174,6 +190,16 @@ module _ (M : Type 0) where
         owner_in = within.owner_in;
         at_in = subst (λ (e : Env). IsBindAtIn e (bind_after mix m old).0.at) within.same_env next;
       }
+  doing_after-in mix env c (Listing m) old within told =
+      let here = subst (λ (e : Env). IsAllAtIn e m.at) (sym within.same_env) within.at_in in
+      let next = all_stays mix m.env m.port m.at old here told in
+      listed_next-in env c (all_after mix m old).0 (all_after mix m old).1 record {
+        same_env = within.same_env;
+        same_caller = within.same_caller;
+        port_in = within.port_in;
+        at_in = subst (λ (e : Env). IsAllAtIn e (all_after mix m old).0.at) within.same_env next;
+        room_in = room_stays mix m.env m.port m.at m.room old within.room_in;
+      }
   doing_after-in mix env c (Releasing m) old within told =
       let here = subst (λ (e : Env). IsReleaseAtIn e m.at) (sym within.same_env) within.at_in in
       let next = release_stays mix m.env m.port m.owner m.at old here told in
@@ -205,6 +231,9 @@ module _ (M : Type 0) where
   plan_of-in env c (Binding m) within =
       subst (λ (e : Env). IsPlannedIn env.geometry (bind_plan_at e m.at)) (sym within.same_env)
       (planned_bind env m.at within.at_in)
+  plan_of-in env c (Listing m) within =
+      subst (λ (e : Env). IsPlannedIn env.geometry (all_plan_at e m.at)) (sym within.same_env)
+      (planned_all env m.at within.at_in)
   plan_of-in env c (Releasing m) within =
       subst (λ (e : Env). IsPlannedIn env.geometry (release_plan_at e m.at)) (sym within.same_env)
       (planned_release env m.at within.at_in)
@@ -246,12 +275,18 @@ module _ (M : Type 0) (mix : ℕ → ℕ → ℕ → ℕ) (env : Env) where
   begin-all core c call None admitted is all k = all.locals k
   begin-all core c call (Some machine) admitted is all k =
       let can = beginning-some core.env core.enrolled core.locals c call machine is in
-      let doing = begins-in M env c call machine (made_in M mix env core c call machine all.stays can)
-      admitted in
+      let made = made_in M mix env core c call machine all.stays can in
       let here = all.locals c in
       each_set (IsLocalIn env) (fresh core.env) core.locals c (begin_with (local_of core c) machine)
       (has_place M mix env core c all.stays can.below)
-      record { doing = doing; owners = here.owners; pairs = here.pairs } all.locals k
+      record {
+        doing = begins-in M env c call machine made admitted;
+        owners =
+            begun-limit M env c call machine made (local_of core c).owners
+            (idle-limit M (local_of core c) env.geometry.nodes can.idle here.owners);
+        pairs = here.pairs;
+      }
+      all.locals k
 
   record StepsIn (core : Core M) : Type 0 where
     words : AllByRecursion IsWord core.words
@@ -274,7 +309,9 @@ module _ (M : Type 0) (mix : ℕ → ℕ → ℕ → ℕ) (env : Env) where
             record {
               doing = doing_after-in M mix env c (local_of core c).doing old here.doing
                   (old_of-fits core.words op all.words);
-              owners = here.owners;
+              owners =
+                  owners_after-limit M mix (local_of core c).doing (local_of core c).owners old
+                  ∙ here.owners;
               pairs = here.pairs;
             }
             all.locals;

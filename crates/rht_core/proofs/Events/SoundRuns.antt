@@ -19,16 +19,18 @@ use Rattle.rht_model.specs.declared.history.Call.{Call}
 use Rattle.rht_model.specs.declared.history.Reply.{Reply}
 use Rattle.rht_find.specs.Find.{FindModel, find_after}
 use Rattle.rht_bind.specs.Bind.{BindModel, bind_after}
+use Rattle.rht_release.specs.All.{AllModel, all_after}
 use Rattle.rht_release.specs.Release.{ReleaseModel, release_after}
 use Rattle.rht_release.specs.Rebind.{RebindModel, rebind_after}
 use Rattle.rht_core.specs.declared.event.Event.{Event}
 use Rattle.rht_core.specs.declared.event.Event.TheVariants.{Enroll, Begin, Step}
 use Rattle.rht_core.specs.declared.local.Local.{Local}
 use Rattle.rht_core.specs.declared.local.Doing.{Doing}
-use Rattle.rht_core.specs.declared.local.Doing.TheVariants.{Idle, Finding, Binding, Releasing, Rebinding, Counting}
-use Rattle.rht_core.specs.Locals.{fresh, machine_of, begin_with, doing_after, local_after, found_next, bound_next, released_next, rebound_next, without_node, IsDoingOf, IsLocalOf}
+use Rattle.rht_core.specs.declared.local.Doing.TheVariants.{Idle, Finding, Binding, Releasing, Rebinding, Listing, Counting}
+use Rattle.rht_core.specs.Locals.{fresh, machine_of, begin_with, doing_after, local_after, found_next, bound_next, released_next, rebound_next, without_node, listed_next, IsDoingOf, IsLocalOf}
 use Rattle.rht_core.specs.Runs.{Core, World, local_of, beginning_in, with_machine, planned_in, with_step, enrolling, enrolled_after, world_step, run_of, opening, opening_core, IsSound}
 use Rattle.rht_core.proofs.Events.CallBeginnings.{begins_so}
+use Rattle.rht_core.proofs.Events.RoomsOfCallers.{idle-limit, begun-limit, owners_after-limit}
 use Rattle.rht_core.proofs.Events.Worlds.{CanBegin, beginning-some, planned-some, run_keeps}
 
 -- ---- what a caller does
@@ -39,7 +41,7 @@ module _ (M : Type 0) where
       → IsDoingOf env machine
   begins-of env c =
       begins_so M env c (λ call machine. IsDoingOf env machine) (λ port. refl) (λ port owner once. refl)
-      (λ port owner. refl) (λ port owner new single. refl) refl
+      (λ port. refl) (λ port owner. refl) (λ port owner new single. refl) refl
 
   found_next-of : (env : Env) (m : FindModel) (next : Next Reply) → m.env ≡ env
       → IsDoingOf env (found_next {M = M} (m, next)).0
@@ -50,6 +52,11 @@ module _ (M : Type 0) where
       → IsDoingOf env (bound_next {M = M} (m, next)).0
   bound_next-of env m Go same = same
   bound_next-of env m (Done reply) same = tt
+
+  listed_next-of : (env : Env) (m : AllModel) (next : Next Reply) → m.env ≡ env
+      → IsDoingOf env (listed_next {M = M} (m, next)).0
+  listed_next-of env m Go same = same
+  listed_next-of env m (Done reply) same = tt
 
   released_next-of : (env : Env) (m : ReleaseModel) (next : Next Reply) → m.env ≡ env
       → IsDoingOf env (released_next {M = M} (m, next)).0
@@ -69,6 +76,8 @@ module _ (M : Type 0) where
       (find_after mix m old).1 of
   doing_after-of mix env (Binding m) old of = bound_next-of env (bind_after mix m old).0
       (bind_after mix m old).1 of
+  doing_after-of mix env (Listing m) old of =
+      listed_next-of env (all_after mix m old).0 (all_after mix m old).1 of
   doing_after-of mix env (Releasing m) old of =
       released_next-of env (release_after mix m old).0 (without_node (release_after mix m old).1) of
   doing_after-of mix env (Rebinding m) old of =
@@ -93,8 +102,11 @@ module _ (M : Type 0) (mix : ℕ → ℕ → ℕ → ℕ) (env : Env) where
     all_words = (stand_in_place env).count;
     all_locals = length-replicate env.geometry.callers (fresh env);
     few_enrolled = omega arith;
-    all_local = AllByRecursion-replicate (IsLocalOf env) env.geometry.callers (fresh env) tt;
-    locals_of = λ c. each_replicate (IsLocalOf env) env.geometry.callers c (fresh env) tt;
+    all_local =
+        AllByRecursion-replicate (IsLocalOf env) env.geometry.callers (fresh env)
+        (record { doing = tt; owners = refl });
+    locals_of = λ c. each_replicate (IsLocalOf env) env.geometry.callers c (fresh env)
+        (record { doing = tt; owners = refl });
   }
 
   -- a caller that there is has a place in the list
@@ -150,8 +162,13 @@ module _ (M : Type 0) (mix : ℕ → ℕ → ℕ → ℕ) (env : Env) where
   begin-in core c call None is stays = stays
   begin-in core c call (Some machine) is stays =
       let can = beginning-some core.env core.enrolled core.locals c call machine is in
-      let made = begins-of M env c call machine (made_in core c call machine stays can) in
-      set-in core c (begin_with (local_of core c) machine) stays can.below made
+      let made = made_in core c call machine stays can in
+      set-in core c (begin_with (local_of core c) machine) stays can.below (record {
+        doing = begins-of M env c call machine made;
+        owners =
+            begun-limit M env c call machine made (local_of core c).owners
+            (idle-limit M (local_of core c) env.geometry.nodes can.idle (stays.locals_of c).owners);
+      })
 
   step-in : (core : Core M) (c : ℕ) (op : Option Op) → planned_in core c ≡ op → StaysIn core
       → StaysIn (with_step mix core c op).0
@@ -161,8 +178,12 @@ module _ (M : Type 0) (mix : ℕ → ℕ → ℕ → ℕ) (env : Env) where
       let old = old_of core.words op in
       let next = local_after mix (local_of core c) old in
       applied-in (record core { locals = slice_set core.locals c next.0 }) op
-      (set-in core c next.0 stays can.below (doing_after-of M mix env (local_of core c).doing old
-      (stays.locals_of c)))
+      (set-in core c next.0 stays can.below (record {
+        doing = doing_after-of M mix env (local_of core c).doing old (stays.locals_of c).doing;
+        owners =
+            owners_after-limit M mix (local_of core c).doing (local_of core c).owners old
+            ∙ (stays.locals_of c).owners;
+      }))
 
   pub stays-in : (w : World M) (event : Event) → StaysIn w.core → StaysIn (world_step mix w event).core
   stays-in w Enroll stays =

@@ -1,6 +1,6 @@
 -- What a listing knows in each state, and that each of its operations leads from what it knows to what it
 -- knows next.
-use Rattle.std.proofs.Common.{◌≡◌, ℕ, suc, ◌+◌, List, [], ◌∷◌, ◌++◌, length, nat_lt, Option, Some, None, cond, refl, sym, ◌∙◌, ap, subst, inl, arith}
+use Rattle.std.proofs.Common.{◌≡◌, ℕ, suc, ◌+◌, List, [], ◌∷◌, ◌++◌, length, Option, Some, None, cond, refl, sym, ◌∙◌, ap, subst, inl, arith}
 use Rattle.std.proofs.lemmas.Bool.{lt-ltb}
 use Rattle.std.proofs.lemmas.List.{append_assoc, length-append, length-map, map-append}
 use Rattle.rht_words.specs.declared.env.Env.{Env}
@@ -31,10 +31,11 @@ use Rattle.rht_core.proofs.Theory.Ghosts.{Ghost}
 use Rattle.rht_core.proofs.Theory.Wholes.{list_of, Whole}
 use Rattle.rht_core.proofs.Theory.Knowledge.{Nowhere, Locks, Collected, CollectedTo, Known, Knowing, last_of}
 use Rattle.rht_core.proofs.Theory.Answering.{IsLegalOn, IsRight, Tells, keeps, learns}
-use Rattle.rht_core.proofs.Theory.Steps.{Holding, by_test, mem, owners, owners_in, moved-map, Step, step-map, answered, reads, HoldsSame, still_has}
+use Rattle.rht_core.proofs.Theory.Steps.{Holding, mem, owners, owners_in, moved-map, Step, step-map, answered, reads, HoldsSame, still_has}
 use Rattle.rht_core.proofs.Pieces.Locks.{unlock_step}
 use Rattle.rht_core.proofs.Pieces.Lists.{list_among, list_few, list_rest, found_list}
 use Rattle.rht_core.proofs.Pieces.Seeks as seeks
+use Rattle.rht_core.proofs.Pieces.Seeks.{in_list}
 use Rattle.rht_core.proofs.Machines.FindSteps.{known_nothing}
 use Rattle.rht_core.proofs.Machines.ReleaseStores.{here}
 use Rattle.rht_core.proofs.Pieces.Seeks.{in_list}
@@ -59,15 +60,6 @@ module _ (port : ℕ) where
 -- the room with this owner behind the others
 abbrev room_with : Kept ℕ → ℕ → Kept ℕ
 room_with room owner = record { items = room.items ++ owner ∷ []; limit = room.limit }
-
--- an operation leaves the room's limit
-pub room_after-limit : (at : AllAt) (room : Kept ℕ) (word : ℕ) → (room_after at room word).limit ≡ room.limit
-room_after-limit (at.Seeking seek) room word = refl
-room_after-limit (at.Owner found node) room word =
-    by_test (λ t. (cond t (room_with room (owner_of word)) room).limit ≡ room.limit)
-    (nat_lt (length room.items) room.limit) (λ t. refl) (λ f. refl)
-room_after-limit (at.ListLink found node) room word = refl
-room_after-limit (at.Unlocking table unlock) room word = refl
 
 module _ (env : Env) (mix : ℕ → ℕ → ℕ → ℕ) (c : ℕ) (port : ℕ) where
   abbrev call : Call

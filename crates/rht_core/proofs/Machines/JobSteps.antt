@@ -8,7 +8,7 @@ use Rattle.rht_words.specs.Held as held
 use Rattle.rht_words.specs.Operations.{old_of}
 use Rattle.rht_words.specs.Places.{words_in}
 use Rattle.rht_words.proofs.Memory.{Memory}
-use Rattle.rht_model.specs.declared.history.Call.TheVariants.{Release, Rebind, Count}
+use Rattle.rht_model.specs.declared.history.Call.TheVariants.{Release, Rebind, All, Count}
 use Rattle.rht_model.specs.declared.history.Reply.{Reply}
 use Rattle.rht_model.specs.declared.history.Reply.TheVariants.{Counted}
 use Rattle.rht_model.specs.Answers.{plain}
@@ -19,6 +19,13 @@ use Rattle.rht_find.specs.declared.find.FindAt.{FindAt}
 use Rattle.rht_bind.specs.Bind.{IsBindAtIn}
 use Rattle.rht_bind.specs.Bind as bind_at
 use Rattle.rht_bind.specs.declared.bind.BindAt.{BindAt}
+use Rattle.rht_model.specs.Rooms.{Kept}
+use Rattle.rht_release.specs.All.{IsAllAtIn}
+use Rattle.rht_release.specs.All as all_at
+use Rattle.rht_release.specs.AllHeld.{held_of_all}
+use Rattle.rht_release.specs.declared.all.AllAt.{AllAt}
+use Rattle.rht_core.specs.PortCounts.{count_plan_in}
+use Rattle.rht_core.specs.Jobs.{Job, finds, binds, releases, rebinds, lists, counts, call_of, job_plan, finds_next, binds_next, releases_next, rebinds_next, lists_next, job_after, held_of, held_next}
 use Rattle.rht_words.specs.declared.config.Kind.TheVariants.{Single}
 use Rattle.rht_release.specs.Release.{IsReleaseAtIn}
 use Rattle.rht_release.specs.Release as release_at
@@ -26,14 +33,13 @@ use Rattle.rht_release.specs.declared.release.ReleaseAt.{ReleaseAt}
 use Rattle.rht_release.specs.Rebind.{IsRebindAtIn}
 use Rattle.rht_release.specs.Rebind as rebind_at
 use Rattle.rht_release.specs.declared.rebind.RebindAt.{RebindAt}
-use Rattle.rht_core.specs.PortCounts.{count_plan_in}
-use Rattle.rht_core.specs.Jobs.{Job, finds, binds, releases, rebinds, counts, call_of, job_plan, finds_next, binds_next, releases_next, rebinds_next, job_after, held_of, held_next}
 use Rattle.rht_core.proofs.Theory.Ghosts.{Ghost}
 use Rattle.rht_core.proofs.Theory.Wholes.{Whole}
 use Rattle.rht_core.proofs.Theory.Knowledge.{Known, MembersUsed, Rely, Knowing, Knowing-rely}
 use Rattle.rht_core.proofs.Theory.Steps.{mem, Holding, Step, step-map, reads}
 use Rattle.rht_core.proofs.Machines.FindSteps.{known_nothing, known_of_find, fits_find, find_holds, FindNext, find_step}
 use Rattle.rht_core.proofs.Machines.BindSteps.{known_of_bind, fits_bind, bind_holds, BindNext, bind_step}
+use Rattle.rht_core.proofs.Machines.AllSteps.{known_of_all, fits_all, all_holds, AllNext, all_step}
 use Rattle.rht_core.proofs.Machines.ReleaseSteps.{known_of_release, fits_release, release_holds, ReleaseNext, nothing_known, release_step}
 use Rattle.rht_core.proofs.Machines.RebindSteps.{known_of_rebind, fits_rebind, rebind_holds, RebindNext, rebind_step}
 
@@ -41,6 +47,7 @@ use Rattle.rht_core.proofs.Machines.RebindSteps.{known_of_rebind, fits_rebind, r
 abbrev pub known_of : Job → Known
 known_of (finds port state) = known_of_find port state
 known_of (binds port owner once state) = known_of_bind port owner state
+known_of (lists port room state) = known_of_all port room.items state
 known_of (releases port owner state) = known_of_release port owner state
 known_of (rebinds port owner new state) = known_of_rebind port owner new state
 known_of counts = known_nothing
@@ -54,6 +61,11 @@ pub record IsBindingIn (env : Env) (owner : ℕ) (state : BindAt) : Type 0 where
   pub owner_in : owner < 2 ^ 32
   pub at_in : IsBindAtIn env state
 
+-- all that a listing names is the table's, and its room may have one item a node
+pub record IsListingIn (env : Env) (room : Kept ℕ) (state : AllAt) : Type 0 where
+  pub at_in : IsAllAtIn env state
+  pub roomy : room.limit ≡ env.geometry.nodes
+
 -- all that a rebind names is the table's, and its new owner has 32 bits
 pub record IsRebindingIn (env : Env) (new : ℕ) (state : RebindAt) : Type 0 where
   pub new_in : new < 2 ^ 32
@@ -63,6 +75,7 @@ pub record IsRebindingIn (env : Env) (new : ℕ) (state : RebindAt) : Type 0 whe
 abbrev pub IsJobBuilt : Env → Job → Type 0
 IsJobBuilt env (finds port state) = Unit {0}
 IsJobBuilt env (binds port owner once state) = Unit {0}
+IsJobBuilt env (lists port room state) = Unit {0}
 IsJobBuilt env (releases port owner state) = Unit {0}
 IsJobBuilt env (rebinds port owner new state) = env.config.kind ≡ Single
 IsJobBuilt env counts = Unit {0}
@@ -72,6 +85,7 @@ module _ (env : Env) (mix : ℕ → ℕ → ℕ → ℕ) (c : ℕ) where
   abbrev pub JobIn : Job → Type 0
   JobIn (finds port state) = IsFindAtIn env state
   JobIn (binds port owner once state) = IsBindingIn env owner state
+  JobIn (lists port room state) = IsListingIn env room state
   JobIn (releases port owner state) = IsReleaseAtIn env state
   JobIn (rebinds port owner new state) = IsRebindingIn env new state
   JobIn counts = Unit {0}
@@ -79,6 +93,7 @@ module _ (env : Env) (mix : ℕ → ℕ → ℕ → ℕ) (c : ℕ) where
   abbrev pub fits_job : Job → Type 0
   fits_job (finds port state) = fits_find port state
   fits_job (binds port owner once state) = fits_bind env mix c port owner once state
+  fits_job (lists port room state) = fits_all port room state
   fits_job (releases port owner state) = fits_release env mix c port owner state
   fits_job (rebinds port owner new state) = fits_rebind env mix c port owner new state
   fits_job counts = Unit {0}
@@ -129,6 +144,17 @@ module _ (env : Env) (mix : ℕ → ℕ → ℕ → ℕ) (c : ℕ) where
         (λ M G' w k. record { built = tt; knowing = k.knowing; fits = k.fits }) step
     binds_so port owner once state (next, Done reply) step = step
 
+    lists_so : (port : ℕ) (room : Kept ℕ) (state : AllAt) (after : Kept ℕ) (r : AllAt × Next (Unit {0}))
+        → Step env mix c (All port) words G (all_at.plan_at env state) (held_of_all room.items state)
+        (all_holds env mix c port after r) (AllNext env mix c port after r)
+        → Step env mix c (All port) words G (all_at.plan_at env state) (held_of_all room.items state)
+        (held_next (lists_next port after r)) (JobNext (lists_next port after r))
+    lists_so port room state after (next, Go) step =
+        step-map env mix c (All port) words G (all_at.plan_at env state) (held_of_all room.items state)
+        (held_of (lists port after next)) _ (JobNext (lists port after next, Go))
+        (λ M' G' w k. record { built = tt; knowing = k.knowing; fits = k.fits }) step
+    lists_so port room state after (next, Done done) step = step
+
     releases_so : (port owner : ℕ) (state : ReleaseAt) (r : ReleaseAt × Next (Reply × Option ℕ))
         → Step env mix c (Release port owner) words G (release_at.plan_at env state) (held_of (releases port owner state))
         (release_holds env mix c port owner r) (ReleaseNext env mix c port owner r)
@@ -167,6 +193,11 @@ module _ (env : Env) (mix : ℕ → ℕ → ℕ → ℕ) (c : ℕ) where
     job_step (binds port owner once state) within knows =
         binds_so port owner once state (bind_at.after_at mix env port state (old_of words (bind_at.plan_at env state)))
         (bind_step env mix c port owner once within.owner_in low words G all whole state within.at_in (record { knowing = knows.knowing; fits = knows.fits }))
+    job_step (lists port room state) within knows =
+        let old = old_of words (all_at.plan_at env state) in
+        lists_so port room state (all_at.room_after state room old) (all_at.after_at mix env port state old)
+        (all_step env mix c port room within.roomy words G all whole state within.at_in
+        (record { knowing = knows.knowing; fits = knows.fits }))
     job_step (releases port owner state) within knows =
         releases_so port owner state (release_at.after_at mix env port owner state (old_of words (release_at.plan_at env state)))
         (release_step env mix c port owner low words G all whole state within (record { knowing = knows.knowing; fits = knows.fits }))

@@ -50,6 +50,7 @@ use Rattle.rht_core.proofs.Pieces.NewNodes as nodes
 use Rattle.rht_core.proofs.Pieces.Locks.{unlock_step, unlock_taken}
 use Rattle.rht_core.proofs.Pieces.Lists.{list_among, found_list}
 use Rattle.rht_core.proofs.Pieces.Seeks as seeks
+use Rattle.rht_core.proofs.Pieces.Seeks.{in_list}
 use Rattle.rht_core.proofs.Pieces.Rebounds.{IsTakenWith, taken_then, taken_more, only_left}
 use Rattle.rht_core.proofs.Pieces.Relinks.{relinking, unstored, relinking_so, lock_left, first_store, relink_write, relink_behind_maps, relink_leaves, holder_left, lock_kept}
 use Rattle.rht_core.proofs.Machines.ReleaseStores.{here, locks_taken}

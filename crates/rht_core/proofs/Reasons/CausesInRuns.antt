@@ -32,7 +32,7 @@ use Rattle.rht_words.specs.Links.{slot_of}
 use Rattle.rht_model.specs.declared.history.Call.{Call}
 use Rattle.rht_model.specs.declared.history.Call.TheVariants.{Bind, Find, All, Release, Rebind, Walk, Work, Tidy, Count}
 use Rattle.rht_model.specs.declared.history.Reply.{Reply}
-use Rattle.rht_model.specs.declared.history.Reply.TheVariants.{Bound, Exists, Found, Missing, Released, Absent, Rebound, TooBig, NoNode, Counted}
+use Rattle.rht_model.specs.declared.history.Reply.TheVariants.{Bound, Exists, Found, Missing, Released, Absent, Rebound, Listed as ListedOwners, TooBig, NoNode, Counted}
 use Rattle.rht_model.specs.Endings.{Ending}
 use Rattle.rht_arena.specs.TakeNode.{TakeNodeModel, take_node_after, IsTakeAtIn, IsTakeIn}
 use Rattle.rht_arena.specs.NewNode.{NewNodeModel, new_node_plan, new_node_plan_at, new_node_after_at, node_taken, IsNewNodeAtIn, IsNewNodeIn}
@@ -57,8 +57,20 @@ use Rattle.rht_bind.specs.declared.bind.Claimed.{Claimed}
 use Rattle.rht_bind.specs.declared.bind.FoundList.{FoundList}
 use Rattle.rht_bind.specs.declared.bind.BindAt.{BindAt}
 use Rattle.rht_bind.specs.declared.bind.BindAt.TheVariants as at
-use Rattle.rht_release.specs.declared.found_port.FoundPort.{FoundPort}
+use Rattle.rht_model.specs.Rooms.{Kept}
 use Rattle.rht_release.specs.Seek.{SeekModel, seek_new, seek_after}
+use Rattle.rht_release.specs.All as all
+use Rattle.rht_release.specs.declared.all.AllAt.{AllAt}
+use Rattle.rht_release.specs.declared.all.AllAt.TheVariants as alls
+use Rattle.rht_core.specs.declared.event.Event.{Event}
+use Rattle.rht_core.specs.Locals.{room_for_nodes}
+use Rattle.rht_core.specs.Jobs.{Job, finds, binds, releases, rebinds, lists, counts, first_job, first_rebind, finds_next, binds_next, releases_next, rebinds_next, lists_next, job_after}
+use Rattle.rht_core.specs.Replies.{IsFindReply, IsReleaseReply, IsRebindReply, IsAllReply, IsReplyTo}
+use Rattle.rht_core.specs.Traces.{Did, Past, performed_of, traced_of}
+use Rattle.rht_core.specs.Runs.{IsAdmitted}
+use Rattle.rht_core.specs.Laws.{IsRecorded, IsPastCall}
+use Rattle.rht_core.specs.Causes.{FindCause, AllCause, LastWalked, IsRaise, IsDueBy, KicksRightly, SawFull, SawCount, ReleaseCause, RebindCause, BindCause, CountCause, CauseOf, HasCause, Causes}
+use Rattle.rht_release.specs.declared.found_port.FoundPort.{FoundPort}
 use Rattle.rht_release.specs.Release as release
 use Rattle.rht_release.specs.declared.release.ReleaseAt.{ReleaseAt}
 use Rattle.rht_release.specs.declared.release.ReleaseAt.TheVariants.{Seeking}
@@ -66,13 +78,6 @@ use Rattle.rht_release.specs.Rebind as rebind
 use Rattle.rht_release.specs.declared.rebind.RebindAt.{RebindAt}
 use Rattle.rht_release.specs.declared.rebind.RebindAt.TheVariants as rebinds_at
 use Rattle.rht_words.specs.Ports.{owner_of}
-use Rattle.rht_core.specs.declared.event.Event.{Event}
-use Rattle.rht_core.specs.Jobs.{Job, finds, binds, releases, rebinds, counts, first_job, first_rebind, finds_next, binds_next, releases_next, rebinds_next, job_after}
-use Rattle.rht_core.specs.Replies.{IsFindReply, IsReleaseReply, IsRebindReply, IsReplyTo}
-use Rattle.rht_core.specs.Traces.{Did, Past, performed_of, traced_of}
-use Rattle.rht_core.specs.Runs.{IsAdmitted}
-use Rattle.rht_core.specs.Laws.{IsRecorded, IsPastCall}
-use Rattle.rht_core.specs.Causes.{FindCause, LastWalked, IsRaise, IsDueBy, KicksRightly, SawFull, SawCount, ReleaseCause, RebindCause, BindCause, CountCause, CauseOf, HasCause, Causes}
 use Rattle.rht_words.specs.Machines.{GoesOrEnds}
 use Rattle.rht_core.proofs.Tracing.RepliesInRuns.{Holds, Answered, runs-right}
 use Rattle.rht_core.proofs.Theory.Ghosts.{Ghost}
@@ -129,11 +134,11 @@ module _ (env : Env) where
   SawForRebind NoNode steps = SawAllBelow env.geometry env.geometry.nodes (map performed_of steps)
   SawForRebind _ steps = Unit {0}
 
-  -- and for any call to have it; a look-up and a release have nothing to show, and of the others there is no machine yet
+  -- and for any call to have it; a look-up, a listing and a release have nothing to show, and of the others there is no machine yet
   abbrev pub SawOf : Call → Reply → List Did → Type 0
   SawOf (Bind port owner once) reply steps = SawFor reply steps
   SawOf (Find port) reply steps = Unit {0}
-  SawOf (All port) reply steps = ⊥
+  SawOf (All port) reply steps = Unit {0}
   SawOf (Release port owner) reply steps = Unit {0}
   SawOf (Rebind port owner new) reply steps = SawForRebind reply steps
   SawOf (Walk from limit) reply steps = ⊥
@@ -180,10 +185,11 @@ module _ (env : Env) where
   SawAtRebind (rebinds_at.Unlocking node table unlock) steps = Unit {0}
   SawAtRebind (rebinds_at.Giving give) steps = Unit {0}
 
-  -- of a look-up nothing is kept, nor of a release, nor of a reading of the count before it ends
+  -- of a look-up and a listing nothing is kept, nor of a release, nor of a reading of the count before it ends
   abbrev JobSaw : Job → List Did → Type 0
   JobSaw (finds port state) steps = Unit {0}
   JobSaw (binds port owner once state) steps = SawAt state steps
+  JobSaw (lists port room state) steps = Unit {0}
   JobSaw (releases port owner state) steps = Unit {0}
   JobSaw (rebinds port owner new state) steps = SawAtRebind state steps
   JobSaw counts steps = Unit {0}
@@ -485,6 +491,11 @@ module _ (env : Env) where
   find-cause Missing is = tt
   find-cause _ is = absurd is
 
+  -- nor has a listing for its owners
+  all-cause : (reply : Reply) → IsAllReply reply → AllCause reply
+  all-cause (ListedOwners len) is = tt
+  all-cause _ is = absurd is
+
   -- nor has a release
   release-cause : (reply : Reply) → IsReleaseReply reply → ReleaseCause reply
   release-cause (Released kick) is = tt
@@ -515,6 +526,12 @@ module _ (M : Type 0) (mix : ℕ → ℕ → ℕ → ℕ) (env : Env) where
   bind-leads port owner once state all (after, Go) saw = saw
   bind-leads port owner once state all (after, Done reply) saw = saw
 
+  list-leads : (port : ℕ) (room : Kept ℕ) (state : AllAt) (steps : List Did) (after : Kept ℕ)
+      (next : AllAt × Next (Unit {0}))
+      → LeadsOn M mix env (JobSaw env) EndsSeen (lists port room state) steps (lists_next port after next)
+  list-leads port room state steps after (next, Go) = tt
+  list-leads port room state steps after (next, Done done) = tt
+
   release-leads : (port owner : ℕ) (state : ReleaseAt) (all : List Did) (next : ReleaseAt × Next (Reply × Option ℕ))
       → LeadsOn M mix env (JobSaw env) EndsSeen (releases port owner state) all (releases_next port owner next)
   release-leads port owner state all (after, Go) = tt
@@ -533,6 +550,9 @@ module _ (M : Type 0) (mix : ℕ → ℕ → ℕ → ℕ) (env : Env) where
   job-leads (binds port owner once state) steps did performs saw =
       bind-leads port owner once state (steps ++ did ∷ []) (after_at mix env port state did.old)
       (bind-saw env mix port owner once state steps did performs saw)
+  job-leads (lists port room state) steps did performs saw =
+      list-leads port room state (steps ++ did ∷ []) (all.room_after state room did.old)
+      (all.after_at mix env port state did.old)
   job-leads (releases port owner state) steps did performs saw =
       release-leads port owner state (steps ++ did ∷ []) (release.after_at mix env port owner state did.old)
   job-leads (rebinds port owner new state) steps did performs saw =
@@ -554,6 +574,9 @@ module _ (M : Type 0) (mix : ℕ → ℕ → ℕ → ℕ) (env : Env) where
   first_job-saw (Bind port owner once) job is =
       let here : binds port owner once (first_state env port owner) ≡ job = cc in
       subst (λ j. JobSaw env j []) here (λ node l. absurd (omega arith))
+  first_job-saw (All port) job is =
+      subst (λ j. JobSaw env j [])
+      (let here : lists port (room_for_nodes env) (alls.Seeking (seek_new env.geometry)) ≡ job = cc in here) tt
   first_job-saw (Release port owner) job is =
       subst (λ j. JobSaw env j []) (let here : releases port owner (Seeking (seek_new env.geometry)) ≡ job = cc in here) tt
   first_job-saw (Rebind port owner new) job is = first_rebind-saw port owner new env.config.kind job is
@@ -682,6 +705,8 @@ module _ (M : Type 0) (mix : ℕ → ℕ → ℕ → ℕ) (env : Env) where
         → AllByRecursion IsRecordedHere past.steps → CauseOf M mix env events c past call reply
     cause_of past (Bind port owner once) reply saw right recorded = bind-cause past reply saw recorded
     cause_of past (Find port) reply saw right recorded = find-cause env reply right
+    cause_of past (All port) reply saw right recorded = all-cause env reply right
+
     cause_of past (Release port owner) reply saw right recorded = release-cause env reply right
     cause_of past (Rebind port owner new) reply saw right recorded = rebind-cause env past reply saw right
     cause_of past Count reply saw right recorded = count-cause past reply saw recorded

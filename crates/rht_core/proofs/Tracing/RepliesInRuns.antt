@@ -16,15 +16,18 @@ use Rattle.rht_find.specs.Find as find
 use Rattle.rht_find.specs.declared.find.FindAt.{FindAt}
 use Rattle.rht_bind.specs.Bind as bind
 use Rattle.rht_bind.specs.declared.bind.BindAt.{BindAt}
+use Rattle.rht_model.specs.Rooms.{Kept}
+use Rattle.rht_release.specs.All as all
+use Rattle.rht_release.specs.declared.all.AllAt.{AllAt}
 use Rattle.rht_core.specs.declared.event.Event.{Event}
 use Rattle.rht_core.specs.declared.book.Book.{Book}
 use Rattle.rht_core.specs.declared.local.Doing.{Doing}
-use Rattle.rht_core.specs.declared.local.Doing.TheVariants.{Idle, Finding, Binding, Releasing, Rebinding, Counting}
+use Rattle.rht_core.specs.declared.local.Doing.TheVariants.{Idle, Finding, Binding, Releasing, Rebinding, Listing, Counting}
+use Rattle.rht_core.specs.Jobs.{Job, finds, binds, releases, rebinds, lists, counts, call_of, finds_next, binds_next, releases_next, rebinds_next, lists_next, job_after, job_of, held_of, held_next}
 use Rattle.rht_release.specs.Release as release
 use Rattle.rht_release.specs.declared.release.ReleaseAt.{ReleaseAt}
 use Rattle.rht_release.specs.Rebind as rebind
 use Rattle.rht_release.specs.declared.rebind.RebindAt.{RebindAt}
-use Rattle.rht_core.specs.Jobs.{Job, finds, binds, releases, rebinds, counts, call_of, finds_next, binds_next, releases_next, rebinds_next, job_after, job_of, held_of, held_next}
 use Rattle.rht_core.specs.Runs.{World, IsAdmitted, view_of, local_of}
 use Rattle.rht_core.specs.Traces.{Did, Past, Traced, traced_of}
 use Rattle.rht_core.specs.Replies.{ArePairsWith, IsRightlyAnswered, IsBookOf, AnswersIn}
@@ -52,6 +55,11 @@ binds_next-alone : (port owner : ℕ) (once : Bool) (next : BindAt × Next Reply
 binds_next-alone port owner once (state, Go) = tt
 binds_next-alone port owner once (state, Done reply) = refl
 
+lists_next-alone : (port : ℕ) (room : Kept ℕ) (next : AllAt × Next (Unit {0}))
+    → EndsAlone (lists_next port room next)
+lists_next-alone port room (state, Go) = tt
+lists_next-alone port room (state, Done done) = refl
+
 releases_next-alone : (port owner : ℕ) (next : ReleaseAt × Next (Reply × Option ℕ))
     → EndsAlone (releases_next port owner next)
 releases_next-alone port owner (state, Go) = tt
@@ -67,6 +75,8 @@ job_after-alone : (mix : ℕ → ℕ → ℕ → ℕ) (env : Env) (job : Job) (o
 job_after-alone mix env (finds port state) old = finds_next-alone port (find.after_at mix env port state old)
 job_after-alone mix env (binds port owner once state) old = binds_next-alone port owner once
     (bind.after_at mix env port state old)
+job_after-alone mix env (lists port room state) old =
+    lists_next-alone port (all.room_after state room old) (all.after_at mix env port state old)
 job_after-alone mix env (releases port owner state) old =
     releases_next-alone port owner (release.after_at mix env port owner state old)
 job_after-alone mix env (rebinds port owner new state) old =
@@ -127,6 +137,8 @@ module _ (M : Type 0) (mix : ℕ → ℕ → ℕ → ℕ) (env : Env) where
   book-of c (Finding m) book steps within at =
       record { same_env = within.same_env; same_caller = within.same_caller; call = at.call }
   book-of c (Binding m) book steps within at =
+      record { same_env = within.same_env; same_caller = within.same_caller; call = at.call }
+  book-of c (Listing m) book steps within at =
       record { same_env = within.same_env; same_caller = within.same_caller; call = at.call }
   book-of c (Releasing m) book steps within at =
       record { same_env = within.same_env; same_caller = within.same_caller; call = at.call }

@@ -16,6 +16,7 @@ use Rattle.rht_words.specs.Places.{words_in}
 use Rattle.rht_words.proofs.EachElement.{AllByRecursion-push, last_or-push}
 use Rattle.rht_model.specs.declared.history.Call.{Call}
 use Rattle.rht_model.specs.declared.history.Reply.{Reply}
+use Rattle.rht_model.specs.Rooms.{Kept}
 use Rattle.rht_model.specs.Endings.{Ending, ended_with, ending_in}
 use Rattle.rht_core.specs.declared.event.Event.{Event}
 use Rattle.rht_core.specs.declared.book.Book.{Book}
@@ -28,6 +29,7 @@ use Rattle.rht_core.specs.Traces.{Did, Past, Trace, Traced, trace_begun, trace_d
 use Rattle.rht_core.specs.Replies.{IsBookOfIdle, owners_with, pairs_with, HasLists}
 use Rattle.rht_core.specs.Laws.{view_begun, view_stepped}
 use Rattle.rht_core.proofs.Events.JobsOfCallers.{is_no_job, has_ended, HasNoLists, same_call, left-told, nothing-job, first_job-machine, local_after-job}
+use Rattle.rht_core.proofs.Events.RoomsOfCallers.{owners_beside-none, owners_after-stay}
 use Rattle.rht_core.proofs.Theory.Ghosts.{Ghost}
 use Rattle.rht_core.proofs.Theory.Wholes.{Whole}
 use Rattle.rht_core.proofs.Theory.Steps.{mem, Step}
@@ -74,9 +76,9 @@ module _ {M : Type 0} where
 
   -- a caller whose call goes on has empty rooms, and one whose call has ended has the lists that came with it
   lists-after : (local : Local M) (reply : Option Reply) (book : Book) (call : Call) → book.call ≡ Some call
-      → is_idle local ≡ has_reply reply → HasNoLists local
+      → is_idle local ≡ has_reply reply → (reply ≡ None → HasNoLists local)
       → HasLists local (book_after (ending_of local reply) book)
-  lists-after local None book call is idle none = none-lists local _ idle none
+  lists-after local None book call is idle none = none-lists local _ idle (none refl)
   lists-after local (Some reply) book call is idle none =
       let ending : Ending = record {
         answer = record { reply = reply; owners = local.owners.items };
@@ -191,7 +193,8 @@ module _ (M : Type 0) (mix : ℕ → ℕ → ℕ → ℕ) (env : Env) (Now : Job
             now =
                 subst (λ (job : Option Job). IsAtJob job (book_begun call here.book) []) (sym first.does)
                 record { call = ap Some (sym first.asked); now = keep.begins call first.job first.first };
-            lists = none-lists _ (book_begun call here.book) busy record { owners = refl; pairs = refl };
+            lists = none-lists _ (book_begun call here.book) busy
+                record { owners = owners_beside-none M machine here.local.owners; pairs = refl };
           }
 
       -- ---- an operation of a job
@@ -253,7 +256,12 @@ module _ (M : Type 0) (mix : ℕ → ℕ → ℕ → ℕ) (env : Env) (Now : Job
             now = kept.now;
             lists =
                 lists-after next.0 next.1 here.book (call_of job) work.call idle
-                record { owners = none.owners; pairs = none.pairs };
+                (λ goes. record {
+                  owners =
+                      ap (λ (room : Kept ℕ). room.items)
+                      (owners_after-stay M mix here.local.doing here.local.owners did.old goes) ∙ none.owners;
+                  pairs = none.pairs;
+                });
           }
 
       -- ---- runs
