@@ -6,7 +6,7 @@ pub mod SoundRuns
 pub mod RangesInRuns
 -- in every run a caller that isn't enrolled has done nothing
 pub mod CallersNotEnrolled
--- a call begins as a look-up or a bind, and who is in no call plans no operation
+-- how a call begins, and that who is in no call plans no operation
 pub mod CallBeginnings
 -- a caller in a call does what its job says
 pub mod JobsOfCallers
