@@ -6,9 +6,10 @@ pub mod RaisedNodes
 pub mod CountedNodes
 -- the nodes that calls have taken out of ports' lists
 pub mod NodesOut
--- in every run a bind takes one node at most
+-- in every run a bind or a rebind takes one node at most, and no other call takes one
 pub mod NodesTaken
--- a count of ports that is loaded is at most the ports bound and the other callers in mid-call
+-- a count of ports that is loaded is no less than the ports bound, and at most these and the other callers
+-- in mid-call
 pub mod FullTables
 -- the count of ports, and a table that nobody uses
 pub mod CountedRuns

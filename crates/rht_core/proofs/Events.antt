@@ -6,7 +6,7 @@ pub mod SoundRuns
 pub mod RangesInRuns
 -- in every run a caller that isn't enrolled has done nothing
 pub mod CallersNotEnrolled
--- how a call begins, and who is in no call plans no operation
+-- how a call begins, and that who is in no call plans no operation
 pub mod CallBeginnings
 -- the room of owners lies with its caller or in a listing, and has a place for each node
 pub mod RoomsOfCallers

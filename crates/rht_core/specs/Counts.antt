@@ -19,7 +19,8 @@ use Rattle.rht_core.specs.Runs.{Core, World, local_of, run_of, IsAdmitted}
 use Rattle.rht_core.specs.StandsFor.{in_force, shape_of, nodes_of, stands_for, AreAllBound}
 use Rattle.rht_core.specs.Alone.{IsQuiet}
 
--- the job has raised the count for a node that it hasn't linked yet
+-- the job has raised the count for a node that it hasn't linked yet, or has still to lower it for one
+-- that it has taken out
 abbrev pub raised_by : Option Job → Bool
 raised_by None = false
 raised_by (Some job) = (held_of job).raised
@@ -32,8 +33,9 @@ is_raising doing = raised_by (job_of doing)
 abbrev pub raising : {M : Type 0} → Core M → ℕ
 raising core = count_by (λ c. is_raising (local_of core c).doing) (range_with_len 0 core.env.geometry.callers)
 
--- the count of ports is the number of ports bound, and of the callers that have raised it for a node that they haven't linked
--- yet; and it is at most the nodes
+-- the count of ports is the number of ports bound, and of the callers that have raised it for a node that
+-- they haven't linked yet or have still to lower it for one that they have taken out; and it is at most
+-- the nodes
 pub record IsCounted {M : Type 0} (env : Env) (core : Core M) : Type 0 where
   pub bound : ℕ
   pub all_bound : AreAllBound (stands_for env.geometry core.words) bound

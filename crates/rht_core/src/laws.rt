@@ -85,17 +85,18 @@ pub fn taken_alone<M: Mix>()
 {}
 
 /// In every run each call that has ended has the cause of its reply, by a table of calls and replies
-/// over the call's own operations. A bind that was answered `NoNode` found the bit of each node clear,
-/// each at some event of its own. One that was answered `TooBig` loaded that count, which is as many
-/// ports as the table may hold or more, and there the ports bound and the other callers in mid-call
-/// were at least so many. One that was answered `Bound` raised the count behind the last table that it
-/// walked, and `kick` says whether the raised count is above three quarters of that table's size, and
-/// the table may grow: no limit on the count comes in between. A reading of the count loaded the one
-/// that it answers, and there the ports bound were at most so many, and with the other callers in
-/// mid-call at least. `Exists` of a bind, `Found` and `Missing` of a look-up, and `Listed` of a listing
-/// have nothing to show here; no other reply of these calls comes, and no other call ends yet. It
-/// doesn't say that all nodes were taken at one event, or that so many ports were bound, or in which
-/// table a bind's node was linked.
+/// over the call's own operations. A bind or a rebind that was answered `NoNode` found the bit of each
+/// node clear, each at some event of its own. A reading that was answered `Counted` loaded that count,
+/// and there the ports bound were at most so many, and with the other callers in mid-call at least. The
+/// same is so of a bind that was answered `TooBig`, and the count is as many ports as the table may hold
+/// or more. One that was answered `Bound` has a `kick` exactly where it raised the count behind the last
+/// table that it walked, the raised count is above three quarters of that table's size, and the table
+/// may grow: no limit on the count comes in between. In a table of one owner each it did raise the
+/// count. `Exists` of a bind, `Found` and `Missing` of a look-up, `Listed` of a listing, `Released` and
+/// `Absent` of a release, `Rebound` and `Absent` of a rebind have nothing to show here, nor has the
+/// `kick` of a `Released`. No other reply of these calls comes, and a call of which there is no machine
+/// never ends. It doesn't say that all nodes were taken at one event, or that exactly so many ports were
+/// bound, or in which table a bind's node was linked.
 pub fn causes<M: Mix>()
     ensures { Causes M M.mix_of }
 {}
@@ -122,8 +123,9 @@ pub fn fits<M: Mix>()
 {}
 
 /// In every run the count of ports is the number of ports that are bound, and of the callers that have
-/// raised it for a node which they link next. So it is never too low. And it is at most the number of
-/// nodes, since each such caller has a node of its own. It doesn't say which ports they are.
+/// raised it for a node which they link next, or have still to lower it for one that they have taken
+/// out. So it is never too low. And it is at most the number of nodes, since each such caller has a node
+/// of its own, which is in no port's list. It doesn't say which ports they are.
 pub fn counted<M: Mix>()
     ensures { Counted M M.mix_of }
 {}
@@ -132,8 +134,9 @@ pub fn counted<M: Mix>()
 /// in the list of a port, or out, and never two of these; those that are out are as many as the calls
 /// that were answered `Released` or `Rebound`; in a table of one owner for each port no list has a
 /// second node; and the count is the number of ports that are bound. So no node is lost: a bind that is
-/// refused, or finds its port bound, has given its node back. It doesn't say which nodes are out or
-/// which call took one, nor that such a moment comes, and nothing of words that are no bucket's.
+/// refused, or finds its port bound, has given its node back, and so has a rebind that is answered
+/// `Absent`. It doesn't say which nodes are out or which call took one, nor that such a moment comes,
+/// and nothing of words that are no bucket's.
 pub fn at_rest<M: Mix>()
     ensures { AtRest M M.mix_of }
 {}

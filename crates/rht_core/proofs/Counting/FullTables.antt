@@ -1,9 +1,9 @@
--- Whoever loads the count of ports finds no more than the ports bound there and the other callers in
--- mid-call.
+-- Whoever loads the count of ports finds no less than the ports bound there, and no more than these and
+-- the other callers in mid-call.
 --
 -- The count is the nodes in chains, and the callers that have raised it for a node that they haven't
--- linked yet. A caller that has raised the count stands before its publishing store: so it is in a call, and it isn't the one
--- that loads.
+-- linked yet or have still to lower it for one that they have taken out. Such a caller stands before
+-- its publishing store, or before its lowering: so it is in a call, and it isn't the one that loads.
 use Rattle.std.proofs.Common.{◌≡◌, ◌≢◌, ℕ, zero, suc, ◌≤◌, ◌==◌, ◌&&◌, not, Bool, true, false, List, [], ◌∷◌, take, refl, sym, ap, ◌∙◌, arith}
 use Rattle.std.specs.Prelude.{Option, Some, None}
 use Rattle.std.specs.List.{AllByRecursion}

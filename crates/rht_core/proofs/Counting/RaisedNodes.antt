@@ -1,4 +1,4 @@
--- The nodes in chains, and the callers that have raised the count for a node that they haven't linked yet, are at most the nodes.
+-- The nodes in chains, and the callers that have raised the count, are at most the nodes.
 -- Each such caller has a node of its own, which is in no chain: one that it links next, or one that it has taken out, for which
 -- it lowers the count next.
 use Rattle.std.proofs.Common.{◌≡◌, ◌⊎◌, ℕ, zero, suc, ◌+◌, ◌<◌, ◌≤◌, nat_lt, Bool, true, false, inl, inr, refl, ◌∙◌, ap, arith}

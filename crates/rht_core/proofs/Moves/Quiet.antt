@@ -1,5 +1,5 @@
--- The moves of a bind and a look-up that change neither nodes nor what is bound: the lock of a bucket is taken and dropped, and
--- the count of ports is raised.
+-- The moves that change neither nodes nor what is bound: the lock of a bucket is taken and dropped, and the count of ports is
+-- raised and lowered.
 use Rattle.std.proofs.Common.{◌≡◌, ◌≢◌, ℕ, ◌+◌, ◌-◌, ◌*◌, ◌%◌, ◌^◌, ◌<◌, Option, Some, None, true, false, refl, sym, ◌∙◌, ap, arith}
 use Rattle.rht_words.specs.declared.env.Env.{Env}
 use Rattle.rht_words.specs.Places.{Address, PortCount, NodeMap, Node, NodeWord, ChainLink, KeyWord, OwnerWord, PageWord}

@@ -3,10 +3,11 @@
 -- A bind keeps of itself what its operations so far saw: while it takes a node, that each node below
 -- the one at which it stands was taken; from the load of a table's shape on, that this is the last
 -- table that it walked; behind the raise of the count, that too; and while its state holds a refusal,
--- what the refusal says. So when it answers all of that was seen. How the run stood at the event of
--- the operation that loaded or raised the count of ports follows from the law that each recorded
--- operation stands in the run at its event; and since the count is at most the nodes there, the clamp
--- under which a bind looks at it has changed nothing.
+-- what the refusal says. So when it answers all of that was seen. A rebind keeps the first of these
+-- alone, a release and a look-up nothing; and a reading of the count loads what it answers by its one
+-- operation. How the run stood at the event of the operation that loaded or raised the count of ports
+-- follows from the law that each recorded operation stands in the run at its event; and since the count
+-- is at most the nodes there, the clamp under which a bind looks at it has changed nothing.
 use Rattle.std.proofs.Common.{◌≡◌, ◌⊎◌, ℕ, ◌≤◌, ◌+◌, Bool, true, false, cond, List, [], ◌∷◌, ◌++◌, map, min, refl, sym, ap, ◌∙◌, subst, inl, inr, arith}
 use Rattle.std.specs.Prelude.{Option, Some, None, IfSome, ◌==◌}
 use Rattle.std.specs.List.{AllByRecursion, Any}

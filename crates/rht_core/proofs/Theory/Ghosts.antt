@@ -76,7 +76,8 @@ pub data SlotOwner : Type 0 where
 
 -- Tables by the order in which they were attached, how many there were, and which of them is the current one. Buckets by the
 -- index of their word among those of all pages, nodes, pages and slots by their numbers, what is bound by ports, and for each
--- caller whether it has raised the count of ports for a node that it hasn't linked yet
+-- caller whether it has raised the count of ports for a node that it hasn't linked yet, or has still to
+-- lower it for one that it has taken out
 pub record Ghost : Type 0 where
   pub table : ℕ → Table
   pub attached : ℕ

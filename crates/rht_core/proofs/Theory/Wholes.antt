@@ -162,7 +162,8 @@ module _ (env : Env) (mix : ℕ → ℕ → ℕ → ℕ) where
     pub bits : (n : ℕ) → n < env.geometry.nodes
         → (bit_at (M (NodeMap (n / 64))) (n % 64) ≡ 1) ↔ (G.node n ≡ Free)
 
-  -- the count of ports is the nodes in chains, and the callers that have raised it for a node that they haven't linked yet
+  -- the count of ports is the nodes in chains, and the callers that have raised it for a node that they
+  -- haven't linked yet or have still to lower it for one that they have taken out
   abbrev pub firsts : Ghost → ℕ
   firsts G = count_below (λ n. is_first (G.node n)) env.geometry.nodes
 
