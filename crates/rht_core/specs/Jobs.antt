@@ -31,8 +31,8 @@ use Rattle.rht_core.specs.PortCounts.{count_plan_in}
 use Rattle.rht_core.specs.declared.local.Doing.{Doing}
 use Rattle.rht_core.specs.declared.local.Doing.TheVariants.{Idle, Finding, Binding, Listing, Counting}
 
--- a look-up of a port, a bind of a port to an owner, and a listing of a port's owners with its room, each with the state in
--- which it is; and a reading of how many ports are bound
+-- a look-up of a port, a bind of a port to an owner, and a listing of a port's owners with its room, each
+-- with the state in which it is; and a reading of how many ports are bound
 pub data Job : Type 0 where
   finds : (port : ℕ) (state : FindAt) → Job
   binds : (port owner : ℕ) (once : Bool) (state : BindAt) → Job

@@ -37,9 +37,7 @@ impl<M: Mix> Doing<M> {
     {
         match self {
             Doing::Idle => true,
-            Doing::Finding(_) | Doing::Binding(_) | Doing::Listing(_) | Doing::Counting(_) => {
-                false
-            },
+            Doing::Finding(_) | Doing::Binding(_) | Doing::Listing(_) | Doing::Counting(_) => false,
         }
     }
 

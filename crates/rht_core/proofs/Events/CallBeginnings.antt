@@ -14,7 +14,8 @@ use Rattle.rht_core.specs.declared.local.Doing.TheVariants.{Idle, Finding, Bindi
 use Rattle.rht_core.specs.Locals.{room_for_nodes, does_nothing, is_idle, machine_of, doing_plan, plan_of}
 
 module _ (M : Type 0) where
-  -- A call begins as a look-up, a bind, a listing or a reading of the count. What is so of these is so of whatever begins.
+  -- A call begins as a look-up, a bind, a listing or a reading of the count. What is so of these is so of
+  -- whatever begins.
   module _ (env : Env) (c : ℕ) (So : Call → Doing M → Type 0)
       (find : (port : ℕ) → So (Find port) (Finding (find_new env c port)))
       (bind : (port owner : ℕ) (once : Bool) → So (Bind port owner once) (Binding (bind_new env c port owner once)))

@@ -79,7 +79,8 @@ module _ (env : Env) (mix : ℕ → ℕ → ℕ → ℕ) where
     job-in c (Listing m) job room is within roomy =
         let here : lists m.port m.room m.at ≡ job = cc in
         subst (JobIn env mix c) here (record { at_in = within.at_in; roomy = roomy })
-    job-in c (Counting m) job room is within roomy = let here : counts ≡ job = cc in subst (JobIn env mix c) here tt
+    job-in c (Counting m) job room is within roomy =
+        let here : counts ≡ job = cc in subst (JobIn env mix c) here tt
 
     -- a caller that is given a call knows what the first state of its machine says
     begun_knows : (c : ℕ) (call : Call) (machine : Doing L) (M : Memory) (G : Ghost)
@@ -88,7 +89,11 @@ module _ (env : Env) (mix : ℕ → ℕ → ℕ → ℕ) where
         begins_so L env c (λ asked first. Knows c (job_of first) M G)
         (λ port. record { built = tt; knowing = record { only = knows.only; means = knows.means }; fits = tt })
         (λ port owner once. record { built = tt; knowing = record { only = knows.only; means = knows.means }; fits = (refl, refl) })
-        (λ port. record { built = tt; knowing = record { only = knows.only; means = knows.means }; fits = (tt, refl) })
+        (λ port. record {
+          built = tt;
+          knowing = record { only = knows.only; means = knows.means };
+          fits = (tt, refl);
+        })
         (record { built = tt; knowing = record { only = knows.only; means = knows.means }; fits = tt })
         call machine is
 

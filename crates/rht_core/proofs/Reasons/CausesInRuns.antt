@@ -121,7 +121,8 @@ module _ (env : Env) where
   SawForCount (Counted count) steps = Any (LoadedCount count) steps
   SawForCount _ steps = ⊥
 
-  -- and for any call to have it; a look-up and a listing have nothing to show, and of the others there is no machine yet
+  -- and for any call to have it; a look-up and a listing have nothing to show, and of the others there is no
+  -- machine yet
   abbrev pub SawOf : Call → Reply → List Did → Type 0
   SawOf (Bind port owner once) reply steps = SawFor reply steps
   SawOf (Find port) reply steps = Unit {0}
@@ -435,8 +436,8 @@ module _ (M : Type 0) (mix : ℕ → ℕ → ℕ → ℕ) (env : Env) where
       let here : binds port owner once (first_state env port owner) ≡ job = cc in
       subst (λ j. JobSaw env j []) here (λ node l. absurd (omega arith))
   first_job-saw (All port) job is =
-      subst (λ j. JobSaw env j [])
-      (let here : lists port (room_for_nodes env) (alls.Seeking (seek_new env.geometry)) ≡ job = cc in here) tt
+      let here : lists port (room_for_nodes env) (alls.Seeking (seek_new env.geometry)) ≡ job = cc in
+      subst (λ j. JobSaw env j []) here tt
   first_job-saw Count job is = subst (λ j. JobSaw env j []) (let here : counts ≡ job = cc in here) tt
   first_job-saw _ job is = absurd (cc)
 
