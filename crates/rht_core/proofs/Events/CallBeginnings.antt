@@ -18,7 +18,8 @@ use Rattle.rht_release.specs.Release.{release_new}
 use Rattle.rht_release.specs.Rebind.{rebind_new}
 
 module _ (M : Type 0) where
-  -- A call begins as a look-up, a bind, a listing, a release, a rebind or a reading of the count. What is so of these is so of whatever begins.
+  -- A call begins as a look-up, a bind, a listing, a release, a rebind or a reading of the count. What is so
+  -- of these is so of whatever begins.
   module _ (env : Env) (c : ℕ) (So : Call → Doing M → Type 0)
       (find : (port : ℕ) → So (Find port) (Finding (find_new env c port)))
       (bind : (port owner : ℕ) (once : Bool) → So (Bind port owner once) (Binding (bind_new env c port owner once)))

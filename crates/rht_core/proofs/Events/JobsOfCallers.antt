@@ -288,7 +288,8 @@ module _ {M : Type 0} where
       record { job = counts; does = refl; plan = subst (λ (e : Env). op ≡ count_plan_in e) of here }
 
   module _ (local : Local M) (none : HasNoLists local) where
-    -- the job that a caller has after this has become of what it does and of its room of owners, and how its call has ended
+    -- the job that a caller has after this has become of what it does and of its room of owners, and how its
+    -- call has ended
     abbrev job_left_with : Doing M × Option Reply → Kept ℕ → Option Job × Option Ending
     job_left_with next owners =
         (job_of next.0, ending_of (record local { doing = next.0; owners = owners }) next.1)
@@ -367,7 +368,8 @@ module _ {M : Type 0} where
   doing_after-reply mix env doing job old of is =
       let local : Local M = fresh env in
       let next = doing_after mix doing old in
-      sym (ended-reply (record local { doing = next.0; owners = owners_after mix doing local.owners old }) next.1)
+      let owners = owners_after mix doing local.owners old in
+      sym (ended-reply (record local { doing = next.0; owners = owners }) next.1)
       ∙ ap (λ l. option_map (λ (e : Ending). e.answer.reply) l.1) (doing_after-job local (record { owners = refl; pairs = refl }) mix env doing job old of is)
     where
       ended-reply : (local : Local M) (reply : Option Reply) → option_map (λ (e : Ending). e.answer.reply) (ending_of local reply) ≡ reply

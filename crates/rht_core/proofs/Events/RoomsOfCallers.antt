@@ -1,5 +1,6 @@
--- The room of owners has a place for each node, wherever it lies: with its caller, or in a listing, which takes it as it
--- begins and gives it back as it ends. And while a call goes on nothing comes into the room of its caller.
+-- The room of owners has a place for each node, wherever it lies: with its caller, or in a listing, which
+-- takes it as it begins and gives it back as it ends. And while a call goes on nothing comes into the room
+-- of its caller.
 use Rattle.std.proofs.Common.{◌≡◌, ℕ, true, ◌++◌, ◌∷◌, [], length, nat_lt, refl, ◌∙◌}
 use Rattle.std.specs.Prelude.{Some, None}
 use Rattle.std.proofs.lemmas.Bool.{cond_both}
@@ -24,7 +25,8 @@ use Rattle.rht_core.specs.Locals.{does_nothing, is_idle, machine_of, doing_after
 use Rattle.rht_core.proofs.Events.CallBeginnings.{begins_so}
 
 -- an operation of a listing leaves its room's limit
-room_after-limit : (state : AllAt) (room : Kept ℕ) (word : ℕ) → (room_after state room word).limit ≡ room.limit
+room_after-limit : (state : AllAt) (room : Kept ℕ) (word : ℕ)
+    → (room_after state room word).limit ≡ room.limit
 room_after-limit (alls.Seeking seek) room word = refl
 room_after-limit (alls.Owner found node) room word =
     cond_both (nat_lt (length room.items) room.limit)
@@ -51,9 +53,9 @@ module _ (M : Type 0) where
       go (Rebinding m) idle is = absurd (cc)
       go (Counting m) idle is = absurd (cc)
 
-  -- and once it has begun the room is there
-  pub begun-limit : (env : Env) (c : ℕ) (call : Call) (machine : Doing M) → machine_of env c call ≡ Some machine
-      → (room : Kept ℕ) → room.limit ≡ env.geometry.nodes
+  -- who has begun has it as well, or its listing
+  pub begun-limit : (env : Env) (c : ℕ) (call : Call) (machine : Doing M)
+      → machine_of env c call ≡ Some machine → (room : Kept ℕ) → room.limit ≡ env.geometry.nodes
       → (owners_room machine (owners_beside machine room)).limit ≡ env.geometry.nodes
   begun-limit env c =
       begins_so M env c
@@ -62,7 +64,7 @@ module _ (M : Type 0) where
       (λ port room is. is) (λ port owner once room is. is) (λ port room is. refl) (λ port owner room is. is)
       (λ port owner new single room is. is) (λ room is. is)
 
-  -- and that of its caller is empty
+  -- whose own room is empty then
   pub owners_beside-none : (doing : Doing M) (room : Kept ℕ) → (owners_beside doing room).items ≡ []
   owners_beside-none Idle room = refl
   owners_beside-none (Finding m) room = refl

@@ -10,12 +10,16 @@ use Rattle.rht_core.proofs.local.Local.take.Goals as goal
 pub returns-clause-env : goal.returns-clause-env
 returns-clause-env g c env of =
     let local = c.args.self.now in
+    let old = c.args.old in
     let mix = g.M.Mix.mix_of in
+    let room = c.take.new.owners in
     record {
       doing = c.take.ensures.env env of.doing;
       owners =
-          ap (λ (next : Doing g.row.M.Denot × Option Reply). (owners_room next.0 c.take.new.owners).limit) c.take.ensures.taken
-          ∙ ap (λ (room : Kept ℕ). (owners_room (doing_after mix local.doing c.args.old).0 room).limit) c.take.ensures.owners
-          ∙ owners_after-limit g.row.M.Denot mix local.doing local.owners c.args.old
+          ap (λ (next : Doing g.row.M.Denot × Option Reply). (owners_room next.0 room).limit)
+          c.take.ensures.taken
+          ∙ ap (λ (owners : Kept ℕ). (owners_room (doing_after mix local.doing old).0 owners).limit)
+          c.take.ensures.owners
+          ∙ owners_after-limit g.row.M.Denot mix local.doing local.owners old
           ∙ of.owners;
     }
