@@ -26,7 +26,7 @@ module _ (M : Type 0) where
       (list : (port : ℕ) → So (All port) (Listing (all_new env c port (room_for_nodes env))))
       (release : (port owner : ℕ) → So (Release port owner) (Releasing (release_new env c port owner)))
       (rebind : (port owner new : ℕ) → env.config.kind ≡ Single
-          → So (Rebind port owner new) (Rebinding (rebind_new env c port owner new)))
+      → So (Rebind port owner new) (Rebinding (rebind_new env c port owner new)))
       (count : So Count (Counting (record { env = env })))
     where
       abbrev BeginsSo : Call → Option (Doing M) → Type 0

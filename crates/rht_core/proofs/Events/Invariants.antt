@@ -94,7 +94,6 @@ module _ (env : Env) (mix : ℕ → ℕ → ℕ → ℕ) where
         (λ port. record { built = tt; knowing = record { only = knows.only; means = knows.means }; fits = tt })
         (λ port owner once. record { built = tt; knowing = record { only = knows.only; means = knows.means }; fits = (refl, refl) })
         (λ port. record { built = tt; knowing = record { only = knows.only; means = knows.means }; fits = (tt, refl) })
-
         (λ port owner. record { built = tt; knowing = record { only = knows.only; means = knows.means }; fits = tt })
         (λ port owner new single. record {
           built = single;

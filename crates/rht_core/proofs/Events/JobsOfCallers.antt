@@ -227,7 +227,6 @@ module _ {M : Type 0} where
       begins_so M env c (IsFirst env) (λ port. record { job = _; first = refl; does = refl; asked = refl })
       (λ port owner once. record { job = _; first = refl; does = refl; asked = refl })
       (λ port. record { job = _; first = refl; does = refl; asked = refl })
-
       (λ port owner. record { job = _; first = refl; does = refl; asked = refl })
       (λ port owner new single. record {
         job = _;

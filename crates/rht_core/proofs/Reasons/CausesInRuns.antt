@@ -707,7 +707,6 @@ module _ (M : Type 0) (mix : ℕ → ℕ → ℕ → ℕ) (env : Env) where
     cause_of past (Bind port owner once) reply saw right recorded = bind-cause past reply saw recorded
     cause_of past (Find port) reply saw right recorded = find-cause env reply right
     cause_of past (All port) reply saw right recorded = all-cause env reply right
-
     cause_of past (Release port owner) reply saw right recorded = release-cause env reply right
     cause_of past (Rebind port owner new) reply saw right recorded = rebind-cause env past reply saw right
     cause_of past Count reply saw right recorded = count-cause past reply saw recorded
