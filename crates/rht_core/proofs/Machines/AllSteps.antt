@@ -38,7 +38,6 @@ use Rattle.rht_core.proofs.Pieces.Seeks as seeks
 use Rattle.rht_core.proofs.Pieces.Seeks.{in_list}
 use Rattle.rht_core.proofs.Machines.FindSteps.{known_nothing}
 use Rattle.rht_core.proofs.Machines.ReleaseStores.{here}
-use Rattle.rht_core.proofs.Pieces.Seeks.{in_list}
 
 module _ (port : ℕ) where
   -- what a listing that has kept these owners knows in a state

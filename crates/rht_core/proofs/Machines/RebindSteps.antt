@@ -54,7 +54,6 @@ use Rattle.rht_core.proofs.Pieces.Seeks.{in_list}
 use Rattle.rht_core.proofs.Pieces.Rebounds.{IsTakenWith, taken_then, taken_more, only_left}
 use Rattle.rht_core.proofs.Pieces.Relinks.{relinking, unstored, relinking_so, lock_left, first_store, relink_write, relink_behind_maps, relink_leaves, holder_left, lock_kept}
 use Rattle.rht_core.proofs.Machines.ReleaseStores.{here, locks_taken}
-use Rattle.rht_core.proofs.Pieces.Seeks.{in_list}
 use Rattle.rht_core.proofs.Machines.ReleaseSteps.{known_removed}
 
 module _ (port owner new : ℕ) where
