@@ -2,24 +2,62 @@ use Rattle.std.proofs.Common.{◌≡◌, ℕ, false, refl, ap, ◌∙◌, sym, s
 use Rattle.rht_words.specs.declared.config.Config.{Config}
 use Rattle.rht_words.specs.declared.config.Kind.TheVariants.{Single}
 use Rattle.rht_model.specs.declared.history.Call.{Call}
-use Rattle.rht_model.specs.declared.history.Call.TheVariants.{Bind}
-use Rattle.rht_core.specs.Locals.{machine_of, binding_of}
+use Rattle.rht_model.specs.declared.history.Call.TheVariants.{Bind, Rebind}
+use Rattle.rht_core.specs.Locals.{machine_of, rebinding_of}
 use Rattle.std.specs.Prelude.{true, is_some}
 use Rattle.rht_registry.specs.Outcomes.{IsBuiltCommand}
 use Rattle.rht_registry.proofs.tests.small_script.Goals as goal
 
--- in a table of one owner for each port there is a machine for a bind
-bind-built : (M : Type 0) (config : Config) (call : Call) (port owner : ℕ) → config.kind ≡ Single → call ≡ Bind port owner false
+-- there is a machine for a bind
+bind-built : (M : Type 0) (config : Config) (call : Call) (port owner : ℕ) → call ≡ Bind port owner false
     → IsBuiltCommand M config (1, call)
-bind-built M config call port owner single is env same =
+bind-built M config call port owner is env same =
+    subst (λ k. is_some (machine_of {M = M} env 0 k) ≡ true) (sym is) refl
+
+-- in a table of one owner for each port there is one for a rebind
+rebind-built : (M : Type 0) (config : Config) (call : Call) (port owner new : ℕ) → config.kind ≡ Single
+    → call ≡ Rebind port owner new → IsBuiltCommand M config (1, call)
+rebind-built M config call port owner new single is env same =
     subst (λ k. is_some (machine_of {M = M} env 0 k) ≡ true) (sym is)
-    (subst (λ kind. is_some (binding_of {M = M} env 0 port owner false kind) ≡ true) (sym (ap (λ (k : Config). k.kind) same ∙ single)) refl)
+    (subst (λ kind. is_some (rebinding_of {M = M} env 0 port owner new kind) ≡ true)
+    (sym (ap (λ (k : Config). k.kind) same ∙ single)) refl)
 
 pub returns-clause-built : goal.returns-clause-built
 returns-clause-built g c =
     let M = g.row.M.Denot in
-    let first = bind-built M _ c.bind.result 69 7 refl c.bind.ensures in
-    let second = bind-built M _ c.bind-2.result 5 9 refl c.bind-2.ensures in
-    let third = bind-built M _ c.bind-3.result 5 3 refl c.bind-3.ensures in
-    let fourth = bind-built M _ c.bind-4.result 6 3 refl c.bind-4.ensures in
-    rw c.in_ok-from_slice.ensures.items (first, (second, (third, (fourth, ((λ env same. refl), ((λ env same. refl), tt))))))
+    let first = bind-built M _ c.bind.result 69 7 c.bind.ensures in
+    let second = bind-built M _ c.bind-2.result 5 9 c.bind-2.ensures in
+    let third = bind-built M _ c.bind-3.result 5 3 c.bind-3.ensures in
+    let fourth = rebind-built M _ c.rebind.result 69 7 8 refl c.rebind.ensures in
+    let fifth = rebind-built M _ c.rebind-2.result 5 7 8 refl c.rebind-2.ensures in
+    let seventh = bind-built M _ c.bind-4.result 6 3 c.bind-4.ensures in
+    let eighth = bind-built M _ c.bind-5.result 7 1 c.bind-5.ensures in
+    let ninth = rebind-built M _ c.rebind-3.result 6 3 4 refl c.rebind-3.ensures in
+    rw c.in_ok-from_slice.ensures.items (
+      first,
+      (
+        second,
+        (
+          third,
+          (
+            fourth,
+            (
+              fifth,
+              (
+                (λ env same. refl),
+                (
+                  seventh,
+                  (
+                    eighth,
+                    (
+                      ninth,
+                      ((λ env same. refl), ((λ env same. refl), ((λ env same. refl), tt))),
+                    ),
+                  ),
+                ),
+              ),
+            ),
+          ),
+        ),
+      ),
+    )
