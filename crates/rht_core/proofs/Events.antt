@@ -8,6 +8,8 @@ pub mod RangesInRuns
 pub mod CallersNotEnrolled
 -- how a call begins, and that who is in no call plans no operation
 pub mod CallBeginnings
+-- what is so of a machine that goes on is so of what its caller does next
+pub mod NextDoings
 -- the room of owners lies with its caller or in a listing, and has a place for each node
 pub mod RoomsOfCallers
 -- a caller in a call does what its job says

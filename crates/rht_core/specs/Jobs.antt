@@ -85,40 +85,32 @@ job_plan env (releases port owner state) = release.plan_at env state
 job_plan env (rebinds port owner new state) = rebind.plan_at env state
 job_plan env counts = count_plan_in env
 
--- the job goes on in this state, or its call has ended with this reply and no list
-abbrev pub finds_next : ℕ → FindAt × Next Reply → Job × Next Ending
-finds_next port (state, Go) = (finds port state, Go)
-finds_next port (state, Done reply) = (finds port state, Done (plain_ending reply))
-
-abbrev pub binds_next : ℕ → ℕ → Bool → BindAt × Next Reply → Job × Next Ending
-binds_next port owner once (state, Go) = (binds port owner once state, Go)
-binds_next port owner once (state, Done reply) = (binds port owner once state, Done (plain_ending reply))
+-- the job goes on in its machine's next state, or its call has ended so
+abbrev pub job_next : {S A : Type 0} → (S → Job) → (A → Ending) → S × Next A → Job × Next Ending
+job_next job ending (state, Go) = (job state, Go)
+job_next job ending (state, Done end) = (job state, Done (ending end))
 
 -- a listing ends with the owners in its room
-abbrev pub lists_next : ℕ → Kept ℕ → AllAt × Next (Unit {0}) → Job × Next Ending
-lists_next port room (state, Go) = (lists port room state, Go)
-lists_next port room (state, Done done) =
-    (lists port room state, Done (record { answer = listing_of room.items; pairs = [] }))
+abbrev pub listing_ending : Kept ℕ → Unit {0} → Ending
+listing_ending room done = record { answer = listing_of room.items; pairs = [] }
 
-abbrev pub releases_next : ℕ → ℕ → ReleaseAt × Next (Reply × Option ℕ) → Job × Next Ending
-releases_next port owner (state, Go) = (releases port owner state, Go)
-releases_next port owner (state, Done end) = (releases port owner state, Done (plain_ending end.0))
-
-abbrev pub rebinds_next : ℕ → ℕ → ℕ → RebindAt × Next (Reply × Option ℕ) → Job × Next Ending
-rebinds_next port owner new (state, Go) = (rebinds port owner new state, Go)
-rebinds_next port owner new (state, Done end) = (rebinds port owner new state, Done (plain_ending end.0))
+-- a release and a rebind end with their reply, without the node that was taken out
+abbrev pub node_ending : Reply × Option ℕ → Ending
+node_ending end = plain_ending end.0
 
 -- what becomes of it after its operation found this value
 abbrev pub job_after : (ℕ → ℕ → ℕ → ℕ) → Env → Job → ℕ → Job × Next Ending
-job_after mix env (finds port state) old = finds_next port (find.after_at mix env port state old)
+job_after mix env (finds port state) old =
+    job_next (finds port) plain_ending (find.after_at mix env port state old)
 job_after mix env (binds port owner once state) old =
-    binds_next port owner once (bind.after_at mix env port state old)
+    job_next (binds port owner once) plain_ending (bind.after_at mix env port state old)
 job_after mix env (lists port room state) old =
-    lists_next port (all.room_after state room old) (all.after_at mix env port state old)
+    let after = all.room_after state room old in
+    job_next (lists port after) (listing_ending after) (all.after_at mix env port state old)
 job_after mix env (releases port owner state) old =
-    releases_next port owner (release.after_at mix env port owner state old)
+    job_next (releases port owner) node_ending (release.after_at mix env port owner state old)
 job_after mix env (rebinds port owner new state) old =
-    rebinds_next port owner new (rebind.after_at mix env port owner state old)
+    job_next (rebinds port owner new) node_ending (rebind.after_at mix env port owner state old)
 job_after mix env counts old = (counts, Done (plain_ending (Counted old)))
 
 -- the job of what a caller does

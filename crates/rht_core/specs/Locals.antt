@@ -74,42 +74,22 @@ module _ {M : Type 0} where
   doing_plan (Rebinding m) = Some (rebind_plan m)
   doing_plan (Counting m) = Some (count_plan m)
 
-  -- the caller is idle once its call has a reply
-  abbrev pub found_next : FindModel × Next Reply → Doing M × Option Reply
-  found_next (m, Go) = (Finding m, None)
-  found_next (m, Done reply) = (Idle, Some reply)
-
-  abbrev pub bound_next : BindModel × Next Reply → Doing M × Option Reply
-  bound_next (m, Go) = (Binding m, None)
-  bound_next (m, Done reply) = (Idle, Some reply)
-
-  abbrev pub listed_next : AllModel × Next Reply → Doing M × Option Reply
-  listed_next (m, Go) = (Listing m, None)
-  listed_next (m, Done reply) = (Idle, Some reply)
-
-  abbrev pub released_next : ReleaseModel × Next Reply → Doing M × Option Reply
-  released_next (m, Go) = (Releasing m, None)
-  released_next (m, Done reply) = (Idle, Some reply)
-
-  abbrev pub rebound_next : RebindModel × Next Reply → Doing M × Option Reply
-  rebound_next (m, Go) = (Rebinding m, None)
-  rebound_next (m, Done reply) = (Idle, Some reply)
-
-  abbrev pub counted_next : PortCount × Next Reply → Doing M × Option Reply
-  counted_next (m, Go) = (Counting m, None)
-  counted_next (m, Done reply) = (Idle, Some reply)
+  -- while its machine goes on a caller does what that is, and is idle once its call has a reply
+  abbrev pub doing_next : {A : Type 0} → (A → Doing M) → A × Next Reply → Doing M × Option Reply
+  doing_next doing (m, Go) = (doing m, None)
+  doing_next doing (m, Done reply) = (Idle, Some reply)
 
   -- what it does after its operation found this value, and the reply where the call has ended
   abbrev pub doing_after : (ℕ → ℕ → ℕ → ℕ) → Doing M → ℕ → Doing M × Option Reply
   doing_after mix Idle old = (Idle, None)
-  doing_after mix (Finding m) old = found_next (find_after mix m old)
-  doing_after mix (Binding m) old = bound_next (bind_after mix m old)
-  doing_after mix (Listing m) old = listed_next (all_after mix m old)
+  doing_after mix (Finding m) old = doing_next Finding (find_after mix m old)
+  doing_after mix (Binding m) old = doing_next Binding (bind_after mix m old)
+  doing_after mix (Listing m) old = doing_next Listing (all_after mix m old)
   doing_after mix (Releasing m) old =
-      let next = release_after mix m old in released_next (next.0, without_node next.1)
+      let next = release_after mix m old in doing_next Releasing (next.0, without_node next.1)
   doing_after mix (Rebinding m) old =
-      let next = rebind_after mix m old in rebound_next (next.0, without_node next.1)
-  doing_after mix (Counting m) old = counted_next (count_after m old)
+      let next = rebind_after mix m old in doing_next Rebinding (next.0, without_node next.1)
+  doing_after mix (Counting m) old = doing_next Counting (count_after m old)
 
   -- it does this in the table of this environment
   abbrev pub IsDoingOf : Env → Doing M → Type 0

@@ -10,7 +10,7 @@ use Rattle.rht_words.specs.declared.machine.Next.TheVariants.{Go, Done}
 use Rattle.rht_model.specs.declared.history.Call.{Call}
 use Rattle.rht_model.specs.declared.history.Call.TheVariants.{Bind, Find, Release, Rebind, All, Count}
 use Rattle.rht_model.specs.declared.history.Reply.{Reply}
-use Rattle.rht_model.specs.Endings.{Ending}
+use Rattle.rht_model.specs.Endings.{Ending, plain_ending}
 use Rattle.rht_find.specs.Find as find
 use Rattle.rht_find.specs.Find.{FindModel}
 use Rattle.rht_find.specs.declared.find.FindAt.{FindAt}
@@ -30,8 +30,8 @@ use Rattle.rht_core.specs.PortCounts.{count_plan_in}
 use Rattle.rht_core.specs.declared.local.Local.{Local}
 use Rattle.rht_core.specs.declared.local.Doing.{Doing}
 use Rattle.rht_core.specs.declared.local.Doing.TheVariants.{Idle, Finding, Binding, Releasing, Rebinding, Listing, Counting}
-use Rattle.rht_core.specs.Locals.{fresh, room_for_nodes, does_nothing, machine_of, doing_plan, doing_after, owners_after, room_given, local_after, ending_of, found_next, bound_next, released_next, rebound_next, without_node, listed_next, IsDoingOf, IsLocalOf}
-use Rattle.rht_core.specs.Jobs.{Job, finds, binds, releases, rebinds, lists, counts, call_of, first_job, first_rebind, job_plan, job_after, finds_next, binds_next, releases_next, rebinds_next, lists_next, job_of, told, held_of}
+use Rattle.rht_core.specs.Locals.{fresh, room_for_nodes, does_nothing, machine_of, doing_plan, doing_after, owners_after, room_given, local_after, ending_of, doing_next, without_node, IsDoingOf, IsLocalOf}
+use Rattle.rht_core.specs.Jobs.{listing_ending, node_ending, Job, finds, binds, releases, rebinds, lists, counts, call_of, first_job, first_rebind, job_plan, job_after, job_next, job_of, told, held_of}
 use Rattle.rht_words.specs.declared.config.Kind.{Kind}
 use Rattle.rht_words.specs.declared.config.Kind.TheVariants.{Single, Listed}
 use Rattle.rht_release.specs.Release as release
@@ -59,41 +59,29 @@ pub record HasNoLists {M : Type 0} (local : Local M) : Type 0 where
   pub pairs : local.pairs.items ≡ []
 
 -- no operation makes a job one of another call
-finds_next-call : (port : ℕ) (next : FindAt × Next Reply) → call_of (finds_next port next).0 ≡ Find port
-finds_next-call port (state, Go) = refl
-finds_next-call port (state, Done reply) = refl
-
-binds_next-call : (port owner : ℕ) (once : Bool) (next : BindAt × Next Reply)
-    → call_of (binds_next port owner once next).0 ≡ Bind port owner once
-binds_next-call port owner once (state, Go) = refl
-binds_next-call port owner once (state, Done reply) = refl
-
-lists_next-call : (port : ℕ) (room : Kept ℕ) (next : AllAt × Next (Unit {0}))
-    → call_of (lists_next port room next).0 ≡ All port
-lists_next-call port room (state, Go) = refl
-lists_next-call port room (state, Done done) = refl
-
-releases_next-call : (port owner : ℕ) (next : ReleaseAt × Next (Reply × Option ℕ))
-    → call_of (releases_next port owner next).0 ≡ Release port owner
-releases_next-call port owner (state, Go) = refl
-releases_next-call port owner (state, Done end) = refl
-
-rebinds_next-call : (port owner new : ℕ) (next : RebindAt × Next (Reply × Option ℕ))
-    → call_of (rebinds_next port owner new next).0 ≡ Rebind port owner new
-rebinds_next-call port owner new (state, Go) = refl
-rebinds_next-call port owner new (state, Done end) = refl
+job_next-call : {S A : Type 0} (job : S → Job) (ending : A → Ending) (call : Call)
+    → ((state : S) → call_of (job state) ≡ call) → (next : S × Next A)
+    → call_of (job_next job ending next).0 ≡ call
+job_next-call job ending call same (state, Go) = same state
+job_next-call job ending call same (state, Done end) = same state
 
 pub same_call : (mix : ℕ → ℕ → ℕ → ℕ) (env : Env) (job : Job) (old : ℕ)
     → call_of (job_after mix env job old).0 ≡ call_of job
-same_call mix env (finds port state) old = finds_next-call port (find.after_at mix env port state old)
+same_call mix env (finds port state) old =
+    job_next-call (finds port) plain_ending (Find port) (λ s. refl) (find.after_at mix env port state old)
 same_call mix env (binds port owner once state) old =
-    binds_next-call port owner once (bind.after_at mix env port state old)
+    job_next-call (binds port owner once) plain_ending (Bind port owner once) (λ s. refl)
+    (bind.after_at mix env port state old)
 same_call mix env (lists port room state) old =
-    lists_next-call port (all.room_after state room old) (all.after_at mix env port state old)
+    let after = all.room_after state room old in
+    job_next-call (lists port after) (listing_ending after) (All port) (λ s. refl)
+    (all.after_at mix env port state old)
 same_call mix env (releases port owner state) old =
-    releases_next-call port owner (release.after_at mix env port owner state old)
+    job_next-call (releases port owner) node_ending (Release port owner) (λ s. refl)
+    (release.after_at mix env port owner state old)
 same_call mix env (rebinds port owner new state) old =
-    rebinds_next-call port owner new (rebind.after_at mix env port owner state old)
+    job_next-call (rebinds port owner new) node_ending (Rebind port owner new) (λ s. refl)
+    (rebind.after_at mix env port owner state old)
 same_call mix env counts old = refl
 
 -- a job leaves either no ending, and goes on, or an ending, and no job
@@ -143,31 +131,24 @@ first_without env _ job is = absurd (cc)
 
 -- the job that is left of what a caller does is the one that is left of its job
 module _ (M : Type 0) where
-  found-left : (m : FindModel) (r : FindAt × Next Reply)
-      → job_of (found_next {M = M} (record m { at = r.0 }, r.1)).0 ≡ (told (finds_next m.port r)).0
-  found-left m (state, Go) = refl
-  found-left m (state, Done reply) = refl
+  -- where the caller's machine in a state is the job in that state
+  next-left : {S A : Type 0} (doing : A → Doing M) (machine : S → A) (job : S → Job)
+      → ((state : S) → job_of (doing (machine state)) ≡ Some (job state)) → (r : S × Next Reply)
+      → job_of (doing_next doing (machine r.0, r.1)).0 ≡ (told (job_next job plain_ending r)).0
+  next-left doing machine job same (state, Go) = same state
+  next-left doing machine job same (state, Done reply) = refl
 
-  bound-left : (m : BindModel) (r : BindAt × Next Reply)
-      → job_of (bound_next {M = M} (record m { at = r.0 }, r.1)).0 ≡ (told (binds_next m.port m.owner m.once r)).0
-  bound-left m (state, Go) = refl
-  bound-left m (state, Done reply) = refl
+  node-left : {S A : Type 0} (doing : A → Doing M) (machine : S → A) (job : S → Job)
+      → ((state : S) → job_of (doing (machine state)) ≡ Some (job state)) → (r : S × Next (Reply × Option ℕ))
+      → job_of (doing_next doing (machine r.0, without_node r.1)).0 ≡ (told (job_next job node_ending r)).0
+  node-left doing machine job same (state, Go) = same state
+  node-left doing machine job same (state, Done end) = refl
 
   listed-left : (m : AllModel) (after : Kept ℕ) (r : AllAt × Next (Unit {0}))
-      → job_of (listed_next {M = M} (moved m after r)).0 ≡ (told (lists_next m.port after r)).0
+      → job_of (doing_next {M = M} Listing (moved m after r)).0
+      ≡ (told (job_next (lists m.port after) (listing_ending after) r)).0
   listed-left m after (state, Go) = refl
   listed-left m after (state, Done done) = refl
-
-  released-left : (m : ReleaseModel) (r : ReleaseAt × Next (Reply × Option ℕ))
-      → job_of (released_next {M = M} (record m { at = r.0 }, without_node r.1)).0 ≡ (told (releases_next m.port m.owner r)).0
-  released-left m (state, Go) = refl
-  released-left m (state, Done end) = refl
-
-  rebound-left : (m : RebindModel) (r : RebindAt × Next (Reply × Option ℕ))
-      → job_of (rebound_next {M = M} (record m { at = r.0 }, without_node r.1)).0
-      ≡ (told (rebinds_next m.port m.owner m.new_owner r)).0
-  rebound-left m (state, Go) = refl
-  rebound-left m (state, Done end) = refl
 
   pub left-job : (mix : ℕ → ℕ → ℕ → ℕ) (env : Env) (doing : Doing M) (job : Job) (old : ℕ)
       → IsDoingOf env doing → job_of doing ≡ Some job
@@ -175,12 +156,14 @@ module _ (M : Type 0) where
   left-job mix env Idle job old of is = absurd (cc)
   left-job mix env (Finding m) job old of is =
       let here : finds m.port m.at ≡ job = cc in
-      found-left m (find.after_at mix m.env m.port m.at old)
+      next-left Finding (λ state. record m { at = state }) (finds m.port) (λ state. refl)
+      (find.after_at mix m.env m.port m.at old)
       ∙ ap (λ (e : Env). (told (job_after mix e (finds m.port m.at) old)).0) of
       ∙ ap (λ (j : Job). (told (job_after mix env j old)).0) here
   left-job mix env (Binding m) job old of is =
       let here : binds m.port m.owner m.once m.at ≡ job = cc in
-      bound-left m (bind.after_at mix m.env m.port m.at old)
+      next-left Binding (λ state. record m { at = state }) (binds m.port m.owner m.once) (λ state. refl)
+      (bind.after_at mix m.env m.port m.at old)
       ∙ ap (λ (e : Env). (told (job_after mix e (binds m.port m.owner m.once m.at) old)).0) of
       ∙ ap (λ (j : Job). (told (job_after mix env j old)).0) here
   left-job mix env (Listing m) job old of is =
@@ -190,12 +173,14 @@ module _ (M : Type 0) where
       ∙ ap (λ (j : Job). (told (job_after mix env j old)).0) here
   left-job mix env (Releasing m) job old of is =
       let here : releases m.port m.owner m.at ≡ job = cc in
-      released-left m (release.after_at mix m.env m.port m.owner m.at old)
+      node-left Releasing (λ state. record m { at = state }) (releases m.port m.owner) (λ state. refl)
+      (release.after_at mix m.env m.port m.owner m.at old)
       ∙ ap (λ (e : Env). (told (job_after mix e (releases m.port m.owner m.at) old)).0) of
       ∙ ap (λ (j : Job). (told (job_after mix env j old)).0) here
   left-job mix env (Rebinding m) job old of is =
       let here : rebinds m.port m.owner m.new_owner m.at ≡ job = cc in
-      rebound-left m (rebind.after_at mix m.env m.port m.owner m.at old)
+      node-left Rebinding (λ state. record m { at = state }) (rebinds m.port m.owner m.new_owner) (λ state. refl)
+      (rebind.after_at mix m.env m.port m.owner m.at old)
       ∙ ap (λ (e : Env). (told (job_after mix e (rebinds m.port m.owner m.new_owner m.at) old)).0) of
       ∙ ap (λ (j : Job). (told (job_after mix env j old)).0) here
   left-job mix env (Counting m) job old of is =
@@ -296,34 +281,29 @@ module _ {M : Type 0} where
     abbrev job_left : Doing M × Option Reply → Option Job × Option Ending
     job_left next = job_left_with next local.owners
 
-    found-told : (m : FindModel) (r : FindAt × Next Reply)
-        → job_left (found_next (record m { at = r.0 }, r.1)) ≡ told (finds_next m.port r)
-    found-told m (state, Go) = refl
-    found-told m (state, Done reply) = (λ i. (None, Some record { answer = record { reply = reply; owners = none.owners i }; pairs = none.pairs i }))
+    -- a call that ends without lists ends so
+    plain : (reply : Reply) → ending_of local (Some reply) ≡ Some (plain_ending reply)
+    plain reply = (λ i. Some record { answer = record { reply = reply; owners = none.owners i }; pairs = none.pairs i })
 
-    bound-told : (m : BindModel) (r : BindAt × Next Reply)
-        → job_left (bound_next (record m { at = r.0 }, r.1)) ≡ told (binds_next m.port m.owner m.once r)
-    bound-told m (state, Go) = refl
-    bound-told m (state, Done reply) = (λ i. (None, Some record { answer = record { reply = reply; owners = none.owners i }; pairs = none.pairs i }))
+    next-told : {S A : Type 0} (doing : A → Doing M) (machine : S → A) (job : S → Job)
+        → ((state : S) → job_of (doing (machine state)) ≡ Some (job state)) → (r : S × Next Reply)
+        → job_left (doing_next doing (machine r.0, r.1)) ≡ told (job_next job plain_ending r)
+    next-told doing machine job same (state, Go) = ap (λ j. (j, None)) (same state)
+    next-told doing machine job same (state, Done reply) = ap (λ e. (None, e)) (plain reply)
+
+    node-told : {S A : Type 0} (doing : A → Doing M) (machine : S → A) (job : S → Job)
+        → ((state : S) → job_of (doing (machine state)) ≡ Some (job state)) → (r : S × Next (Reply × Option ℕ))
+        → job_left (doing_next doing (machine r.0, without_node r.1)) ≡ told (job_next job node_ending r)
+    node-told doing machine job same (state, Go) = ap (λ j. (j, None)) (same state)
+    node-told doing machine job same (state, Done end) = ap (λ e. (None, e)) (plain end.0)
 
     listed-told : (m : AllModel) (after : Kept ℕ) (r : AllAt × Next (Unit {0}))
         → let next = moved m after r in
-        job_left_with (listed_next next) (room_given next local.owners) ≡ told (lists_next m.port after r)
+        job_left_with (doing_next Listing next) (room_given next local.owners)
+        ≡ told (job_next (lists m.port after) (listing_ending after) r)
     listed-told m after (state, Go) = refl
     listed-told m after (state, Done done) =
         (λ i. (None, Some record { answer = listing_of after.items; pairs = none.pairs i }))
-
-    released-told : (m : ReleaseModel) (r : ReleaseAt × Next (Reply × Option ℕ))
-        → job_left (released_next (record m { at = r.0 }, without_node r.1)) ≡ told (releases_next m.port m.owner r)
-    released-told m (state, Go) = refl
-    released-told m (state, Done end) =
-        (λ i. (None, Some record { answer = record { reply = end.0; owners = none.owners i }; pairs = none.pairs i }))
-
-    rebound-told : (m : RebindModel) (r : RebindAt × Next (Reply × Option ℕ))
-        → job_left (rebound_next (record m { at = r.0 }, without_node r.1)) ≡ told (rebinds_next m.port m.owner m.new_owner r)
-    rebound-told m (state, Go) = refl
-    rebound-told m (state, Done end) =
-        (λ i. (None, Some record { answer = record { reply = end.0; owners = none.owners i }; pairs = none.pairs i }))
 
     doing_after-job : (mix : ℕ → ℕ → ℕ → ℕ) (env : Env) (doing : Doing M) (job : Job) (old : ℕ)
         → IsDoingOf env doing → job_of doing ≡ Some job
@@ -332,12 +312,14 @@ module _ {M : Type 0} where
     doing_after-job mix env Idle job old of is = absurd (cc)
     doing_after-job mix env (Finding m) job old of is =
         let here : finds m.port m.at ≡ job = cc in
-        found-told m (find.after_at mix m.env m.port m.at old)
+        next-told Finding (λ state. record m { at = state }) (finds m.port) (λ state. refl)
+        (find.after_at mix m.env m.port m.at old)
         ∙ ap (λ (e : Env). told (job_after mix e (finds m.port m.at) old)) of
         ∙ ap (λ (j : Job). told (job_after mix env j old)) here
     doing_after-job mix env (Binding m) job old of is =
         let here : binds m.port m.owner m.once m.at ≡ job = cc in
-        bound-told m (bind.after_at mix m.env m.port m.at old)
+        next-told Binding (λ state. record m { at = state }) (binds m.port m.owner m.once) (λ state. refl)
+        (bind.after_at mix m.env m.port m.at old)
         ∙ ap (λ (e : Env). told (job_after mix e (binds m.port m.owner m.once m.at) old)) of
         ∙ ap (λ (j : Job). told (job_after mix env j old)) here
     doing_after-job mix env (Listing m) job old of is =
@@ -347,12 +329,14 @@ module _ {M : Type 0} where
         ∙ ap (λ (j : Job). told (job_after mix env j old)) here
     doing_after-job mix env (Releasing m) job old of is =
         let here : releases m.port m.owner m.at ≡ job = cc in
-        released-told m (release.after_at mix m.env m.port m.owner m.at old)
+        node-told Releasing (λ state. record m { at = state }) (releases m.port m.owner) (λ state. refl)
+        (release.after_at mix m.env m.port m.owner m.at old)
         ∙ ap (λ (e : Env). told (job_after mix e (releases m.port m.owner m.at) old)) of
         ∙ ap (λ (j : Job). told (job_after mix env j old)) here
     doing_after-job mix env (Rebinding m) job old of is =
         let here : rebinds m.port m.owner m.new_owner m.at ≡ job = cc in
-        rebound-told m (rebind.after_at mix m.env m.port m.owner m.at old)
+        node-told Rebinding (λ state. record m { at = state }) (rebinds m.port m.owner m.new_owner) (λ state. refl)
+        (rebind.after_at mix m.env m.port m.owner m.at old)
         ∙ ap (λ (e : Env). told (job_after mix e (rebinds m.port m.owner m.new_owner m.at) old)) of
         ∙ ap (λ (j : Job). told (job_after mix env j old)) here
     doing_after-job mix env (Counting m) job old of is =

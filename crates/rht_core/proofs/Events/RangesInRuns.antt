@@ -47,10 +47,11 @@ use Rattle.rht_core.specs.PortCounts.{count_plan_in}
 use Rattle.rht_core.specs.declared.local.Local.{Local}
 use Rattle.rht_core.specs.declared.local.Doing.{Doing}
 use Rattle.rht_core.specs.declared.local.Doing.TheVariants.{Idle, Finding, Binding, Releasing, Rebinding, Listing, Counting}
-use Rattle.rht_core.specs.Locals.{fresh, machine_of, begin_with, doing_plan, plan_of, doing_after, local_after, found_next, bound_next, released_next, rebound_next, without_node, listed_next}
+use Rattle.rht_core.specs.Locals.{fresh, machine_of, begin_with, doing_plan, plan_of, doing_after, local_after, doing_next, without_node}
 use Rattle.rht_core.specs.Runs.{Core, World, local_of, beginning_in, with_machine, planned_in, with_step, enrolling, world_step, run_of, opening, IsAdmitted, IsAdmittedCall, IsAdmittedEvent}
 use Rattle.rht_core.specs.Laws.{IsDoingIn, IsLocalIn, InRange, WordsFit, IsOfCaller, IsEnrolledKept, Enrolled}
 use Rattle.rht_core.proofs.Events.CallBeginnings.{begins_so}
+use Rattle.rht_core.proofs.Events.NextDoings.{next_so}
 use Rattle.rht_core.proofs.Events.RoomsOfCallers.{idle-limit, begun-limit, owners_after-limit}
 use Rattle.rht_core.proofs.Events.Worlds.{beginning-some, planned-some, run_of-push, run_keeps_admitted}
 use Rattle.rht_core.proofs.Events.SoundRuns.{StaysIn, opens-in, stays-in, has_place, made_in, step-count, IsSound-stays}
@@ -141,31 +142,6 @@ module _ (M : Type 0) where
       })
       (λ admitted. refl)
 
-  found_next-in : (env : Env) (c : ℕ) (m : FindModel) (next : Next Reply) → IsFindIn env c m
-      → IsDoingIn env c (found_next {M = M} (m, next)).0
-  found_next-in env c m Go within = within
-  found_next-in env c m (Done reply) within = tt
-
-  bound_next-in : (env : Env) (c : ℕ) (m : BindModel) (next : Next Reply) → IsBindIn env c m
-      → IsDoingIn env c (bound_next {M = M} (m, next)).0
-  bound_next-in env c m Go within = within
-  bound_next-in env c m (Done reply) within = tt
-
-  listed_next-in : (env : Env) (c : ℕ) (m : AllModel) (next : Next Reply) → IsAllIn env c m
-      → IsDoingIn env c (listed_next {M = M} (m, next)).0
-  listed_next-in env c m Go within = within
-  listed_next-in env c m (Done reply) within = tt
-
-  released_next-in : (env : Env) (c : ℕ) (m : ReleaseModel) (next : Next Reply) → IsReleaseIn env c m
-      → IsDoingIn env c (released_next {M = M} (m, next)).0
-  released_next-in env c m Go within = within
-  released_next-in env c m (Done reply) within = tt
-
-  rebound_next-in : (env : Env) (c : ℕ) (m : RebindModel) (next : Next Reply) → IsRebindIn env c m
-      → IsDoingIn env c (rebound_next {M = M} (m, next)).0
-  rebound_next-in env c m Go within = within
-  rebound_next-in env c m (Done reply) within = tt
-
   -- a caller that is told a word stays in range
   doing_after-in : (mix : ℕ → ℕ → ℕ → ℕ) (env : Env) (c : ℕ) (doing : Doing M) (old : ℕ)
       → IsDoingIn env c doing → IsWord old
@@ -174,7 +150,7 @@ module _ (M : Type 0) where
   doing_after-in mix env c (Finding m) old within told =
       let here = subst (λ (e : Env). IsFindAtIn e m.at) (sym within.same_env) within.at_in in
       let next = find_stays mix m.env m.port m.at old here told in
-      found_next-in env c (find_after mix m old).0 (find_after mix m old).1 record {
+      next_so (IsDoingIn env c) Finding tt (find_after mix m old).0 (find_after mix m old).1 record {
         same_env = within.same_env;
         same_caller = within.same_caller;
         port_in = within.port_in;
@@ -183,7 +159,7 @@ module _ (M : Type 0) where
   doing_after-in mix env c (Binding m) old within told =
       let here = subst (λ (e : Env). IsBindAtIn e m.at) (sym within.same_env) within.at_in in
       let next = bind_stays mix m.env m.port m.at old here told in
-      bound_next-in env c (bind_after mix m old).0 (bind_after mix m old).1 record {
+      next_so (IsDoingIn env c) Binding tt (bind_after mix m old).0 (bind_after mix m old).1 record {
         same_env = within.same_env;
         same_caller = within.same_caller;
         port_in = within.port_in;
@@ -193,7 +169,7 @@ module _ (M : Type 0) where
   doing_after-in mix env c (Listing m) old within told =
       let here = subst (λ (e : Env). IsAllAtIn e m.at) (sym within.same_env) within.at_in in
       let next = all_stays mix m.env m.port m.at old here told in
-      listed_next-in env c (all_after mix m old).0 (all_after mix m old).1 record {
+      next_so (IsDoingIn env c) Listing tt (all_after mix m old).0 (all_after mix m old).1 record {
         same_env = within.same_env;
         same_caller = within.same_caller;
         port_in = within.port_in;
@@ -203,7 +179,7 @@ module _ (M : Type 0) where
   doing_after-in mix env c (Releasing m) old within told =
       let here = subst (λ (e : Env). IsReleaseAtIn e m.at) (sym within.same_env) within.at_in in
       let next = release_stays mix m.env m.port m.owner m.at old here told in
-      released_next-in env c (release_after mix m old).0 (without_node (release_after mix m old).1) record {
+      next_so (IsDoingIn env c) Releasing tt (release_after mix m old).0 (without_node (release_after mix m old).1) record {
         same_env = within.same_env;
         same_caller = within.same_caller;
         port_in = within.port_in;
@@ -213,7 +189,7 @@ module _ (M : Type 0) where
   doing_after-in mix env c (Rebinding m) old within told =
       let here = subst (λ (e : Env). IsRebindAtIn e m.at) (sym within.same_env) within.at_in in
       let next = rebind_stays mix m.env m.port m.owner m.at old here told in
-      rebound_next-in env c (rebind_after mix m old).0 (without_node (rebind_after mix m old).1) record {
+      next_so (IsDoingIn env c) Rebinding tt (rebind_after mix m old).0 (without_node (rebind_after mix m old).1) record {
         same_env = within.same_env;
         same_caller = within.same_caller;
         port_in = within.port_in;

@@ -21,7 +21,8 @@ use Rattle.rht_release.specs.declared.all.AllAt.TheVariants as alls
 use Rattle.rht_core.specs.declared.local.Local.{Local}
 use Rattle.rht_core.specs.declared.local.Doing.{Doing}
 use Rattle.rht_core.specs.declared.local.Doing.TheVariants.{Idle, Finding, Binding, Listing, Releasing, Rebinding, Counting}
-use Rattle.rht_core.specs.Locals.{does_nothing, is_idle, machine_of, doing_after, found_next, bound_next, listed_next, released_next, rebound_next, without_node, owners_room, owners_beside, owners_after, room_given}
+use Rattle.rht_core.specs.Locals.{does_nothing, is_idle, machine_of, doing_after, doing_next, without_node, owners_room, owners_beside, owners_after, room_given}
+use Rattle.rht_core.proofs.Events.NextDoings.{next_so}
 use Rattle.rht_core.proofs.Events.CallBeginnings.{begins_so}
 
 -- an operation of a listing leaves its room's limit
@@ -76,30 +77,10 @@ module _ (M : Type 0) where
 
   -- ---- an operation
 
-  found_next-limit : (m : FindModel) (next : Next Reply) (room : Kept ℕ)
-      → (owners_room (found_next {M = M} (m, next)).0 room).limit ≡ room.limit
-  found_next-limit m Go room = refl
-  found_next-limit m (Done reply) room = refl
-
-  bound_next-limit : (m : BindModel) (next : Next Reply) (room : Kept ℕ)
-      → (owners_room (bound_next {M = M} (m, next)).0 room).limit ≡ room.limit
-  bound_next-limit m Go room = refl
-  bound_next-limit m (Done reply) room = refl
-
-  released_next-limit : (m : ReleaseModel) (next : Next Reply) (room : Kept ℕ)
-      → (owners_room (released_next {M = M} (m, next)).0 room).limit ≡ room.limit
-  released_next-limit m Go room = refl
-  released_next-limit m (Done reply) room = refl
-
-  rebound_next-limit : (m : RebindModel) (next : Next Reply) (room : Kept ℕ)
-      → (owners_room (rebound_next {M = M} (m, next)).0 room).limit ≡ room.limit
-  rebound_next-limit m Go room = refl
-  rebound_next-limit m (Done reply) room = refl
-
   -- a listing goes on with its room, or gives it back
   listed_next-limit : (m : AllModel) (after room : Kept ℕ) (next : AllAt × Next (Unit {0}))
       → let r = moved m after next in
-      (owners_room (listed_next {M = M} r).0 (room_given r room)).limit ≡ after.limit
+      (owners_room (doing_next {M = M} Listing r).0 (room_given r room)).limit ≡ after.limit
   listed_next-limit m after room (state, Go) = refl
   listed_next-limit m after room (state, Done done) = refl
 
@@ -109,20 +90,24 @@ module _ (M : Type 0) where
       ≡ (owners_room doing room).limit
   owners_after-limit mix Idle room old = refl
   owners_after-limit mix (Finding m) room old =
-      found_next-limit (find_after mix m old).0 (find_after mix m old).1 room
+      next_so (λ doing. (owners_room doing room).limit ≡ room.limit) Finding refl (find_after mix m old).0
+      (find_after mix m old).1 refl
   owners_after-limit mix (Binding m) room old =
-      bound_next-limit (bind_after mix m old).0 (bind_after mix m old).1 room
+      next_so (λ doing. (owners_room doing room).limit ≡ room.limit) Binding refl (bind_after mix m old).0
+      (bind_after mix m old).1 refl
   owners_after-limit mix (Listing m) room old =
       listed_next-limit m (room_after m.at m.room old) room (after_at mix m.env m.port m.at old)
       ∙ room_after-limit m.at m.room old
   owners_after-limit mix (Releasing m) room old =
-      released_next-limit (release_after mix m old).0 (without_node (release_after mix m old).1) room
+      next_so (λ doing. (owners_room doing room).limit ≡ room.limit) Releasing refl (release_after mix m old).0
+      (without_node (release_after mix m old).1) refl
   owners_after-limit mix (Rebinding m) room old =
-      rebound_next-limit (rebind_after mix m old).0 (without_node (rebind_after mix m old).1) room
+      next_so (λ doing. (owners_room doing room).limit ≡ room.limit) Rebinding refl (rebind_after mix m old).0
+      (without_node (rebind_after mix m old).1) refl
   owners_after-limit mix (Counting m) room old = refl
 
   listed_next-stays : (m : AllModel) (after room : Kept ℕ) (next : AllAt × Next (Unit {0}))
-      → let r = moved m after next in (listed_next {M = M} r).1 ≡ None → room_given r room ≡ room
+      → let r = moved m after next in (doing_next {M = M} Listing r).1 ≡ None → room_given r room ≡ room
   listed_next-stays m after room (state, Go) is = refl
   listed_next-stays m after room (state, Done done) is = absurd (cc)
 

@@ -27,9 +27,10 @@ use Rattle.rht_core.specs.declared.event.Event.TheVariants.{Enroll, Begin, Step}
 use Rattle.rht_core.specs.declared.local.Local.{Local}
 use Rattle.rht_core.specs.declared.local.Doing.{Doing}
 use Rattle.rht_core.specs.declared.local.Doing.TheVariants.{Idle, Finding, Binding, Releasing, Rebinding, Listing, Counting}
-use Rattle.rht_core.specs.Locals.{fresh, machine_of, begin_with, doing_after, local_after, found_next, bound_next, released_next, rebound_next, without_node, listed_next, IsDoingOf, IsLocalOf}
+use Rattle.rht_core.specs.Locals.{fresh, machine_of, begin_with, doing_after, local_after, doing_next, without_node, IsDoingOf, IsLocalOf}
 use Rattle.rht_core.specs.Runs.{Core, World, local_of, beginning_in, with_machine, planned_in, with_step, enrolling, enrolled_after, world_step, run_of, opening, opening_core, IsSound}
 use Rattle.rht_core.proofs.Events.CallBeginnings.{begins_so}
+use Rattle.rht_core.proofs.Events.NextDoings.{next_so}
 use Rattle.rht_core.proofs.Events.RoomsOfCallers.{idle-limit, begun-limit, owners_after-limit}
 use Rattle.rht_core.proofs.Events.Worlds.{CanBegin, beginning-some, planned-some, run_keeps}
 
@@ -43,45 +44,20 @@ module _ (M : Type 0) where
       begins_so M env c (λ call machine. IsDoingOf env machine) (λ port. refl) (λ port owner once. refl)
       (λ port. refl) (λ port owner. refl) (λ port owner new single. refl) refl
 
-  found_next-of : (env : Env) (m : FindModel) (next : Next Reply) → m.env ≡ env
-      → IsDoingOf env (found_next {M = M} (m, next)).0
-  found_next-of env m Go same = same
-  found_next-of env m (Done reply) same = tt
-
-  bound_next-of : (env : Env) (m : BindModel) (next : Next Reply) → m.env ≡ env
-      → IsDoingOf env (bound_next {M = M} (m, next)).0
-  bound_next-of env m Go same = same
-  bound_next-of env m (Done reply) same = tt
-
-  listed_next-of : (env : Env) (m : AllModel) (next : Next Reply) → m.env ≡ env
-      → IsDoingOf env (listed_next {M = M} (m, next)).0
-  listed_next-of env m Go same = same
-  listed_next-of env m (Done reply) same = tt
-
-  released_next-of : (env : Env) (m : ReleaseModel) (next : Next Reply) → m.env ≡ env
-      → IsDoingOf env (released_next {M = M} (m, next)).0
-  released_next-of env m Go same = same
-  released_next-of env m (Done reply) same = tt
-
-  rebound_next-of : (env : Env) (m : RebindModel) (next : Next Reply) → m.env ≡ env
-      → IsDoingOf env (rebound_next {M = M} (m, next)).0
-  rebound_next-of env m Go same = same
-  rebound_next-of env m (Done reply) same = tt
-
   -- who is told a word stays in its table
   doing_after-of : (mix : ℕ → ℕ → ℕ → ℕ) (env : Env) (doing : Doing M) (old : ℕ) → IsDoingOf env doing
       → IsDoingOf env (doing_after mix doing old).0
   doing_after-of mix env Idle old of = tt
-  doing_after-of mix env (Finding m) old of = found_next-of env (find_after mix m old).0
-      (find_after mix m old).1 of
-  doing_after-of mix env (Binding m) old of = bound_next-of env (bind_after mix m old).0
-      (bind_after mix m old).1 of
+  doing_after-of mix env (Finding m) old of =
+      next_so (IsDoingOf env) Finding tt (find_after mix m old).0 (find_after mix m old).1 of
+  doing_after-of mix env (Binding m) old of =
+      next_so (IsDoingOf env) Binding tt (bind_after mix m old).0 (bind_after mix m old).1 of
   doing_after-of mix env (Listing m) old of =
-      listed_next-of env (all_after mix m old).0 (all_after mix m old).1 of
+      next_so (IsDoingOf env) Listing tt (all_after mix m old).0 (all_after mix m old).1 of
   doing_after-of mix env (Releasing m) old of =
-      released_next-of env (release_after mix m old).0 (without_node (release_after mix m old).1) of
+      next_so (IsDoingOf env) Releasing tt (release_after mix m old).0 (without_node (release_after mix m old).1) of
   doing_after-of mix env (Rebinding m) old of =
-      rebound_next-of env (rebind_after mix m old).0 (without_node (rebind_after mix m old).1) of
+      next_so (IsDoingOf env) Rebinding tt (rebind_after mix m old).0 (without_node (rebind_after mix m old).1) of
   doing_after-of mix env (Counting m) old of = tt
 
 -- ---- runs

@@ -12,7 +12,7 @@ use Rattle.rht_model.specs.declared.history.Call.TheVariants.{Release, Rebind, A
 use Rattle.rht_model.specs.declared.history.Reply.{Reply}
 use Rattle.rht_model.specs.declared.history.Reply.TheVariants.{Counted}
 use Rattle.rht_model.specs.Answers.{plain}
-use Rattle.rht_model.specs.Endings.{Ending}
+use Rattle.rht_model.specs.Endings.{Ending, plain_ending}
 use Rattle.rht_find.specs.Find.{IsFindAtIn}
 use Rattle.rht_find.specs.Find as find_at
 use Rattle.rht_find.specs.declared.find.FindAt.{FindAt}
@@ -25,7 +25,7 @@ use Rattle.rht_release.specs.All as all_at
 use Rattle.rht_release.specs.AllHeld.{held_of_all}
 use Rattle.rht_release.specs.declared.all.AllAt.{AllAt}
 use Rattle.rht_core.specs.PortCounts.{count_plan_in}
-use Rattle.rht_core.specs.Jobs.{Job, finds, binds, releases, rebinds, lists, counts, call_of, job_plan, finds_next, binds_next, releases_next, rebinds_next, lists_next, job_after, held_of, held_next}
+use Rattle.rht_core.specs.Jobs.{listing_ending, node_ending, Job, finds, binds, releases, rebinds, lists, counts, call_of, job_plan, job_next, job_after, held_of, held_next}
 use Rattle.rht_words.specs.declared.config.Kind.TheVariants.{Single}
 use Rattle.rht_release.specs.Release.{IsReleaseAtIn}
 use Rattle.rht_release.specs.Release as release_at
@@ -130,7 +130,7 @@ module _ (env : Env) (mix : ℕ → ℕ → ℕ → ℕ) (c : ℕ) where
 
     finds_so : (port : ℕ) (state : FindAt) (r : FindAt × Next Reply)
         → Step env mix c (call_of (finds port state)) words G (find_at.plan_at env state) (held_of (finds port state)) (find_holds env mix c port r) (FindNext env mix c port r)
-        → Step env mix c (call_of (finds port state)) words G (find_at.plan_at env state) (held_of (finds port state)) (held_next (finds_next port r)) (JobNext (finds_next port r))
+        → Step env mix c (call_of (finds port state)) words G (find_at.plan_at env state) (held_of (finds port state)) (held_next (job_next (finds port) plain_ending r)) (JobNext (job_next (finds port) plain_ending r))
     finds_so port state (next, Go) step =
         step-map env mix c (call_of (finds port state)) words G (find_at.plan_at env state) (held_of (finds port state)) (held_of (finds port next)) _ (JobNext (finds port next, Go))
         (λ M G' w k. record { built = tt; knowing = k.knowing; fits = k.fits }) step
@@ -138,7 +138,7 @@ module _ (env : Env) (mix : ℕ → ℕ → ℕ → ℕ) (c : ℕ) where
 
     binds_so : (port owner : ℕ) (once : Bool) (state : BindAt) (r : BindAt × Next Reply)
         → Step env mix c (call_of (binds port owner once state)) words G (bind_at.plan_at env state) (held_of (binds port owner once state)) (bind_holds env mix c port owner once r) (BindNext env mix c port owner once r)
-        → Step env mix c (call_of (binds port owner once state)) words G (bind_at.plan_at env state) (held_of (binds port owner once state)) (held_next (binds_next port owner once r)) (JobNext (binds_next port owner once r))
+        → Step env mix c (call_of (binds port owner once state)) words G (bind_at.plan_at env state) (held_of (binds port owner once state)) (held_next (job_next (binds port owner once) plain_ending r)) (JobNext (job_next (binds port owner once) plain_ending r))
     binds_so port owner once state (next, Go) step =
         step-map env mix c (call_of (binds port owner once state)) words G (bind_at.plan_at env state) (held_of (binds port owner once state)) (held_of (binds port owner once next)) _ (JobNext (binds port owner once next, Go))
         (λ M G' w k. record { built = tt; knowing = k.knowing; fits = k.fits }) step
@@ -148,7 +148,7 @@ module _ (env : Env) (mix : ℕ → ℕ → ℕ → ℕ) (c : ℕ) where
         → Step env mix c (All port) words G (all_at.plan_at env state) (held_of_all room.items state)
         (all_holds env mix c port after r) (AllNext env mix c port after r)
         → Step env mix c (All port) words G (all_at.plan_at env state) (held_of_all room.items state)
-        (held_next (lists_next port after r)) (JobNext (lists_next port after r))
+        (held_next (job_next (lists port after) (listing_ending after) r)) (JobNext (job_next (lists port after) (listing_ending after) r))
     lists_so port room state after (next, Go) step =
         step-map env mix c (All port) words G (all_at.plan_at env state) (held_of_all room.items state)
         (held_of (lists port after next)) _ (JobNext (lists port after next, Go))
@@ -159,7 +159,7 @@ module _ (env : Env) (mix : ℕ → ℕ → ℕ → ℕ) (c : ℕ) where
         → Step env mix c (Release port owner) words G (release_at.plan_at env state) (held_of (releases port owner state))
         (release_holds env mix c port owner r) (ReleaseNext env mix c port owner r)
         → Step env mix c (Release port owner) words G (release_at.plan_at env state) (held_of (releases port owner state))
-        (held_next (releases_next port owner r)) (JobNext (releases_next port owner r))
+        (held_next (job_next (releases port owner) node_ending r)) (JobNext (job_next (releases port owner) node_ending r))
     releases_so port owner state (next, Go) step =
         step-map env mix c (Release port owner) words G (release_at.plan_at env state) (held_of (releases port owner state))
         (held_of (releases port owner next)) _ (JobNext (releases port owner next, Go))
@@ -167,14 +167,14 @@ module _ (env : Env) (mix : ℕ → ℕ → ℕ → ℕ) (c : ℕ) where
     releases_so port owner state (next, Done end) step =
         let after = held.ended_with (plain end.0) in
         step-map env mix c (Release port owner) words G (release_at.plan_at env state) (held_of (releases port owner state))
-        after _ (JobNext (releases_next port owner (next, Done end)))
+        after _ (JobNext (job_next (releases port owner) node_ending (next, Done end)))
         (λ M G' w k. nothing_known env mix c after end.1 M G' k) step
 
     rebinds_so : env.config.kind ≡ Single → (port owner new : ℕ) (state : RebindAt) (r : RebindAt × Next (Reply × Option ℕ))
         → Step env mix c (Rebind port owner new) words G (rebind_at.plan_at env state) (held_of (rebinds port owner new state))
         (rebind_holds env mix c port owner new r) (RebindNext env mix c port owner new r)
         → Step env mix c (Rebind port owner new) words G (rebind_at.plan_at env state) (held_of (rebinds port owner new state))
-        (held_next (rebinds_next port owner new r)) (JobNext (rebinds_next port owner new r))
+        (held_next (job_next (rebinds port owner new) node_ending r)) (JobNext (job_next (rebinds port owner new) node_ending r))
     rebinds_so single port owner new state (next, Go) step =
         step-map env mix c (Rebind port owner new) words G (rebind_at.plan_at env state) (held_of (rebinds port owner new state))
         (held_of (rebinds port owner new next)) _ (JobNext (rebinds port owner new next, Go))
@@ -182,7 +182,7 @@ module _ (env : Env) (mix : ℕ → ℕ → ℕ → ℕ) (c : ℕ) where
     rebinds_so single port owner new state (next, Done end) step =
         let after = held.ended_with (plain end.0) in
         step-map env mix c (Rebind port owner new) words G (rebind_at.plan_at env state) (held_of (rebinds port owner new state))
-        after _ (JobNext (rebinds_next port owner new (next, Done end)))
+        after _ (JobNext (job_next (rebinds port owner new) node_ending (next, Done end)))
         (λ M G' w k. nothing_known env mix c after end.1 M G' k) step
 
     -- each operation of a job leads from what the caller knows to what it knows next

@@ -34,7 +34,7 @@ use Rattle.rht_model.specs.declared.history.Call.{Call}
 use Rattle.rht_model.specs.declared.history.Call.TheVariants.{Bind, Find, All, Release, Rebind, Walk, Work, Tidy, Count}
 use Rattle.rht_model.specs.declared.history.Reply.{Reply}
 use Rattle.rht_model.specs.declared.history.Reply.TheVariants.{Bound, Exists, Found, Missing, Released, Absent, Rebound, Listed as ListedOwners, TooBig, NoNode, Counted}
-use Rattle.rht_model.specs.Endings.{Ending}
+use Rattle.rht_model.specs.Endings.{Ending, plain_ending}
 use Rattle.rht_arena.specs.TakeNode.{TakeNodeModel, take_node_after, IsTakeAtIn, IsTakeIn}
 use Rattle.rht_arena.specs.NewNode.{NewNodeModel, new_node_plan, new_node_plan_at, new_node_after_at, node_taken, IsNewNodeAtIn, IsNewNodeIn}
 use Rattle.rht_arena.specs.declared.new_node.NewNodeAt.{NewNodeAt}
@@ -65,7 +65,7 @@ use Rattle.rht_release.specs.declared.all.AllAt.{AllAt}
 use Rattle.rht_release.specs.declared.all.AllAt.TheVariants as alls
 use Rattle.rht_core.specs.declared.event.Event.{Event}
 use Rattle.rht_core.specs.Locals.{room_for_nodes}
-use Rattle.rht_core.specs.Jobs.{Job, finds, binds, releases, rebinds, lists, counts, first_job, first_rebind, finds_next, binds_next, releases_next, rebinds_next, lists_next, job_after}
+use Rattle.rht_core.specs.Jobs.{listing_ending, node_ending, call_of, Job, finds, binds, releases, rebinds, lists, counts, first_job, first_rebind, job_next, job_after}
 use Rattle.rht_core.specs.Replies.{IsFindReply, IsReleaseReply, IsRebindReply, IsAllReply, IsReplyTo}
 use Rattle.rht_core.specs.Traces.{Did, Past, performed_of, traced_of}
 use Rattle.rht_core.specs.Runs.{IsAdmitted}
@@ -516,48 +516,39 @@ module _ (M : Type 0) (mix : ℕ → ℕ → ℕ → ℕ) (env : Env) where
   abbrev EndsSeen : Call → Ending → List Did → Type 0
   EndsSeen call ending steps = SawOf env call ending.answer.reply steps
 
-  find-leads : (port : ℕ) (all : List Did) (next : FindAt × Next Reply)
-      → LeadsOn M mix env (JobSaw env) EndsSeen (finds port CurrentTable) all (finds_next port next)
-  find-leads port all (state, Go) = tt
-  find-leads port all (state, Done reply) = tt
+  -- an operation leads on where what is seen behind it is enough for the next state, or for the end
+  next-leads : {S A : Type 0} (start : Job) (job : S → Job) (ending : A → Ending) (all : List Did) (next : S × Next A)
+      → GoesOrEnds (λ state. JobSaw env (job state) all)
+      (λ end. SawOf env (call_of start) (ending end).answer.reply all) next
+      → LeadsOn M mix env (JobSaw env) EndsSeen start all (job_next job ending next)
+  next-leads start job ending all (state, Go) saw = saw
+  next-leads start job ending all (state, Done end) saw = saw
 
-  bind-leads : (port owner : ℕ) (once : Bool) (state : BindAt) (all : List Did) (next : BindAt × Next Reply)
-      → SawNext env all next
-      → LeadsOn M mix env (JobSaw env) EndsSeen (binds port owner once state) all (binds_next port owner once next)
-  bind-leads port owner once state all (after, Go) saw = saw
-  bind-leads port owner once state all (after, Done reply) saw = saw
-
-  list-leads : (port : ℕ) (room : Kept ℕ) (state : AllAt) (steps : List Did) (after : Kept ℕ)
-      (next : AllAt × Next (Unit {0}))
-      → LeadsOn M mix env (JobSaw env) EndsSeen (lists port room state) steps (lists_next port after next)
-  list-leads port room state steps after (next, Go) = tt
-  list-leads port room state steps after (next, Done done) = tt
-
-  release-leads : (port owner : ℕ) (state : ReleaseAt) (all : List Did) (next : ReleaseAt × Next (Reply × Option ℕ))
-      → LeadsOn M mix env (JobSaw env) EndsSeen (releases port owner state) all (releases_next port owner next)
-  release-leads port owner state all (after, Go) = tt
-  release-leads port owner state all (after, Done end) = tt
-
-  rebind-leads : (port owner new : ℕ) (state : RebindAt) (all : List Did) (next : RebindAt × Next (Reply × Option ℕ))
-      → SawNextRebind env all next
-      → LeadsOn M mix env (JobSaw env) EndsSeen (rebinds port owner new state) all (rebinds_next port owner new next)
-  rebind-leads port owner new state all (after, Go) saw = saw
-  rebind-leads port owner new state all (after, Done end) saw = saw
+  -- what has nothing to show has shown it
+  nothing-saw : {S A : Type 0} (next : S × Next A) → GoesOrEnds (λ (state : S). Unit {0}) (λ (end : A). Unit {0}) next
+  nothing-saw (state, Go) = tt
+  nothing-saw (state, Done end) = tt
 
   job-leads : (job : Job) (steps : List Did) (did : Did) → Performs mix env job did → JobSaw env job steps
       → LeadsOn M mix env (JobSaw env) EndsSeen job (steps ++ did ∷ []) (job_after mix env job did.old)
   job-leads (finds port state) steps did performs saw =
-      find-leads port (steps ++ did ∷ []) (find_after_at mix env port state did.old)
+      let next = find_after_at mix env port state did.old in
+      next-leads (finds port state) (finds port) plain_ending (steps ++ did ∷ []) next (nothing-saw next)
   job-leads (binds port owner once state) steps did performs saw =
-      bind-leads port owner once state (steps ++ did ∷ []) (after_at mix env port state did.old)
-      (bind-saw env mix port owner once state steps did performs saw)
+      next-leads (binds port owner once state) (binds port owner once) plain_ending (steps ++ did ∷ [])
+      (after_at mix env port state did.old) (bind-saw env mix port owner once state steps did performs saw)
   job-leads (lists port room state) steps did performs saw =
-      list-leads port room state (steps ++ did ∷ []) (all.room_after state room did.old)
-      (all.after_at mix env port state did.old)
+      let after = all.room_after state room did.old in
+      let next = all.after_at mix env port state did.old in
+      next-leads (lists port room state) (lists port after) (listing_ending after) (steps ++ did ∷ []) next
+      (nothing-saw next)
   job-leads (releases port owner state) steps did performs saw =
-      release-leads port owner state (steps ++ did ∷ []) (release.after_at mix env port owner state did.old)
+      let next = release.after_at mix env port owner state did.old in
+      next-leads (releases port owner state) (releases port owner) node_ending (steps ++ did ∷ []) next
+      (nothing-saw next)
   job-leads (rebinds port owner new state) steps did performs saw =
-      rebind-leads port owner new state (steps ++ did ∷ []) (rebind.after_at mix env port owner state did.old)
+      next-leads (rebinds port owner new state) (rebinds port owner new) node_ending (steps ++ did ∷ [])
+      (rebind.after_at mix env port owner state did.old)
       (rebind-saw env mix port owner new state steps did performs saw)
   job-leads counts steps did performs saw =
       Any-push (LoadedCount env did.old) steps did (record { loaded = performs.planned; found = refl })

@@ -11,7 +11,7 @@ use Rattle.rht_words.specs.declared.machine.Next.TheVariants.{Go, Done}
 use Rattle.rht_model.specs.declared.history.Call.{Call}
 use Rattle.rht_model.specs.declared.history.Reply.{Reply}
 use Rattle.rht_model.specs.Answers.{Answer}
-use Rattle.rht_model.specs.Endings.{Ending, ended_with}
+use Rattle.rht_model.specs.Endings.{Ending, plain_ending, ended_with}
 use Rattle.rht_find.specs.Find as find
 use Rattle.rht_find.specs.declared.find.FindAt.{FindAt}
 use Rattle.rht_bind.specs.Bind as bind
@@ -23,7 +23,7 @@ use Rattle.rht_core.specs.declared.event.Event.{Event}
 use Rattle.rht_core.specs.declared.book.Book.{Book}
 use Rattle.rht_core.specs.declared.local.Doing.{Doing}
 use Rattle.rht_core.specs.declared.local.Doing.TheVariants.{Idle, Finding, Binding, Releasing, Rebinding, Listing, Counting}
-use Rattle.rht_core.specs.Jobs.{Job, finds, binds, releases, rebinds, lists, counts, call_of, finds_next, binds_next, releases_next, rebinds_next, lists_next, job_after, job_of, held_of, held_next}
+use Rattle.rht_core.specs.Jobs.{listing_ending, node_ending, Job, finds, binds, releases, rebinds, lists, counts, call_of, job_next, job_after, job_of, held_of, held_next}
 use Rattle.rht_release.specs.Release as release
 use Rattle.rht_release.specs.declared.release.ReleaseAt.{ReleaseAt}
 use Rattle.rht_release.specs.Rebind as rebind
@@ -46,41 +46,26 @@ EndsRight call ending = IsRightlyAnswered (ended_with call ending)
 abbrev EndsAlone : Job × Next Ending → Type 0
 EndsAlone next = GoesOrEnds (λ job. Unit {0}) (λ ending. ending.pairs ≡ []) next
 
-finds_next-alone : (port : ℕ) (next : FindAt × Next Reply) → EndsAlone (finds_next port next)
-finds_next-alone port (state, Go) = tt
-finds_next-alone port (state, Done reply) = refl
-
-binds_next-alone : (port owner : ℕ) (once : Bool) (next : BindAt × Next Reply)
-    → EndsAlone (binds_next port owner once next)
-binds_next-alone port owner once (state, Go) = tt
-binds_next-alone port owner once (state, Done reply) = refl
-
-lists_next-alone : (port : ℕ) (room : Kept ℕ) (next : AllAt × Next (Unit {0}))
-    → EndsAlone (lists_next port room next)
-lists_next-alone port room (state, Go) = tt
-lists_next-alone port room (state, Done done) = refl
-
-releases_next-alone : (port owner : ℕ) (next : ReleaseAt × Next (Reply × Option ℕ))
-    → EndsAlone (releases_next port owner next)
-releases_next-alone port owner (state, Go) = tt
-releases_next-alone port owner (state, Done end) = refl
-
-rebinds_next-alone : (port owner new : ℕ) (next : RebindAt × Next (Reply × Option ℕ))
-    → EndsAlone (rebinds_next port owner new next)
-rebinds_next-alone port owner new (state, Go) = tt
-rebinds_next-alone port owner new (state, Done end) = refl
+job_next-alone : {S A : Type 0} (job : S → Job) (ending : A → Ending) → ((end : A) → (ending end).pairs ≡ [])
+    → (next : S × Next A) → EndsAlone (job_next job ending next)
+job_next-alone job ending alone (state, Go) = tt
+job_next-alone job ending alone (state, Done end) = alone end
 
 job_after-alone : (mix : ℕ → ℕ → ℕ → ℕ) (env : Env) (job : Job) (old : ℕ)
     → EndsAlone (job_after mix env job old)
-job_after-alone mix env (finds port state) old = finds_next-alone port (find.after_at mix env port state old)
-job_after-alone mix env (binds port owner once state) old = binds_next-alone port owner once
-    (bind.after_at mix env port state old)
+job_after-alone mix env (finds port state) old =
+    job_next-alone (finds port) plain_ending (λ end. refl) (find.after_at mix env port state old)
+job_after-alone mix env (binds port owner once state) old =
+    job_next-alone (binds port owner once) plain_ending (λ end. refl) (bind.after_at mix env port state old)
 job_after-alone mix env (lists port room state) old =
-    lists_next-alone port (all.room_after state room old) (all.after_at mix env port state old)
+    let after = all.room_after state room old in
+    job_next-alone (lists port after) (listing_ending after) (λ end. refl) (all.after_at mix env port state old)
 job_after-alone mix env (releases port owner state) old =
-    releases_next-alone port owner (release.after_at mix env port owner state old)
+    job_next-alone (releases port owner) node_ending (λ end. refl)
+    (release.after_at mix env port owner state old)
 job_after-alone mix env (rebinds port owner new state) old =
-    rebinds_next-alone port owner new (rebind.after_at mix env port owner state old)
+    job_next-alone (rebinds port owner new) node_ending (λ end. refl)
+    (rebind.after_at mix env port owner state old)
 job_after-alone mix env counts old = refl
 
 module _ (M : Type 0) (mix : ℕ → ℕ → ℕ → ℕ) (env : Env) where
