@@ -11,5 +11,9 @@ pub mod NodesTaken
 -- a count of ports that is loaded is no less than the ports bound, and at most these and the other callers
 -- in mid-call
 pub mod FullTables
+-- the nodes that calls took are no more than the calls
+pub mod CoveredNodes
+-- where a call found no node, as many calls as there are nodes took one
+pub mod NodesUsed
 -- the count of ports, and a table that nobody uses
 pub mod CountedRuns

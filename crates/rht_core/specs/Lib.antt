@@ -22,6 +22,8 @@ pub mod Causes
 pub mod Alone
 -- what the count of ports counts, and a table that nobody uses
 pub mod Counts
+-- how many calls took a node
+pub mod NodesUsed
 -- histories whose entries carry the numbers of events
 pub mod Numbered
 -- when a history fits a run

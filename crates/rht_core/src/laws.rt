@@ -3,6 +3,7 @@
 ghost use Rattle.rht_core.specs.Alone.{Alone};
 ghost use Rattle.rht_core.specs.Causes.{Causes};
 ghost use Rattle.rht_core.specs.Counts.{Counted, AtRest};
+ghost use Rattle.rht_core.specs.NodesUsed.{Nodes};
 ghost use Rattle.rht_core.specs.RunHistories.{HasFittingHistory};
 ghost use Rattle.rht_core.specs.Laws.{Extends, InRange, Enrolled, NotEnrolled, Replies, Remembers, AtEvents, AllStepsTraced, TakenAlone, WordsFit};
 
@@ -139,4 +140,12 @@ pub fn counted<M: Mix>()
 /// and nothing of words that are no bucket's.
 pub fn at_rest<M: Mix>()
     ensures { AtRest M M.mix_of }
+{}
+
+/// In every run a call is answered `NoNode` only where as many calls as there are nodes have taken one,
+/// or may have: the binds and rebinds that have ended with another reply, and those in progress. So where
+/// there are no more binds and rebinds than nodes, none is refused for want of a node. It doesn't say
+/// that no node is free when the reply comes: some may have been given back.
+pub fn nodes<M: Mix>()
+    ensures { Nodes M M.mix_of }
 {}

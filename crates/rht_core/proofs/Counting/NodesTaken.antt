@@ -27,13 +27,15 @@ use Rattle.rht_model.specs.Answers.{Answer}
 use Rattle.rht_model.specs.Endings.{Ending}
 use Rattle.rht_arena.specs.Laws.{map_bit}
 use Rattle.rht_core.specs.Jobs.{Job, call_of, first_job, job_after, held_of, held_next}
-use Rattle.rht_core.specs.Traces.{Did}
+use Rattle.rht_core.specs.declared.event.Event.{Event}
+use Rattle.rht_core.specs.Runs.{IsAdmitted, view_of}
+use Rattle.rht_core.specs.Traces.{Did, Traced, traced_of}
 use Rattle.rht_core.specs.Laws.{IsNoTake, IsTakeOf, TakesNone, TakesOne, IsTakenBy, IsTakenIn, TakenAlone}
 use Rattle.rht_core.proofs.Theory.Wholes.{place_at}
 use Rattle.rht_core.proofs.Theory.Answering.{TellsNode, TellsNode-same, known_so, unknown_before}
 use Rattle.rht_core.proofs.Theory.Steps.{Holding, Move, Quiet, TakesNode, GivesNode, TakesLock, DropsLock, Raises, Links, Lowers, Rebinds, LinksBehind, Does}
 use Rattle.rht_core.proofs.Events.JobsOfCallers.{same_call, first_unknown, first_without}
-use Rattle.rht_core.proofs.Tracing.TracedJobs.{Performs, LeadsOn, jobs_keep}
+use Rattle.rht_core.proofs.Tracing.TracedJobs.{Performs, LeadsOn, IsKeeping, jobs_keep}
 
 -- ---- one more step
 
@@ -159,7 +161,7 @@ took env mix (LinksBehind n) did h h' does =
 -- ---- what a call has taken
 
 -- the steps took the node that the call holds, and none where it holds none
-abbrev HasTaken : Geometry → Option ℕ → List Did → Type 0
+abbrev pub HasTaken : Geometry → Option ℕ → List Did → Type 0
 HasTaken g None steps = TakesNone g steps
 HasTaken g (Some node) steps = TakesOne g node steps
 
@@ -174,13 +176,13 @@ module _ (mix : ℕ → ℕ → ℕ → ℕ) (env : Env) where
 
   -- what is kept of a call, by what it holds: which node it has taken; while its answer isn't known it holds that node, and
   -- once it is known it tells of it
-  record HasKept (call : Call) (h : Holding) (steps : List Did) : Type 0 where
-    node : Option ℕ
-    taken : HasTaken g node steps
-    holds : h.answer ≡ None → h.node ≡ node
-    told : IfSome h.answer (λ answer. TellsNode call node answer.reply)
+  pub record HasKept (call : Call) (h : Holding) (steps : List Did) : Type 0 where
+    pub node : Option ℕ
+    pub taken : HasTaken g node steps
+    pub holds : h.answer ≡ None → h.node ≡ node
+    pub told : IfSome h.answer (λ answer. TellsNode call node answer.reply)
 
-  abbrev JobTakes : Job → List Did → Type 0
+  abbrev pub JobTakes : Job → List Did → Type 0
   JobTakes job steps = HasKept (call_of job) (held_of job) steps
 
   module _ (job : Job) (steps : List Did) (did : Did) (performs : Performs mix env job did)
@@ -271,7 +273,7 @@ module _ (mix : ℕ → ℕ → ℕ → ℕ) (env : Env) where
   ends_taken Tidy has reply steps none taken = subst (λ n. HasTaken g n steps) none taken
   ends_taken Count has reply steps none taken = subst (λ n. HasTaken g n steps) none taken
 
-  abbrev Ended : Call → Ending → List Did → Type 0
+  abbrev pub Ended : Call → Ending → List Did → Type 0
   Ended call ending steps = IsTakenIn g call ending.answer.reply steps
 
   leads_taken : (M : Type 0) (job : Job) (all : List Did) (next : Job × Next Ending)
@@ -291,9 +293,12 @@ module _ (mix : ℕ → ℕ → ℕ → ℕ) (env : Env) where
         (sym (first_unknown env call job is)) tt;
   }
 
-pub taken_alone : (M : Type 0) (mix : ℕ → ℕ → ℕ → ℕ) → TakenAlone M mix
-taken_alone M mix env events admitted c =
-    (jobs_keep M mix env (JobTakes mix env) (Ended mix env)
+-- what calls have taken is kept in every run
+pub calls_take : (M : Type 0) (mix : ℕ → ℕ → ℕ → ℕ) (env : Env) (events : List Event) (c : ℕ) → IsAdmitted env.config.kind events
+    → let r : Traced M = traced_of mix env events in
+    IsKeeping M mix env (JobTakes mix env) (Ended mix env) (view_of r.world c) (r.traces c)
+calls_take M mix env =
+    jobs_keep M mix env (JobTakes mix env) (Ended mix env)
     record {
       begins = begins_taken mix env;
       goes = λ job steps did performs kept.
@@ -301,4 +306,6 @@ taken_alone M mix env events admitted c =
           (same_call mix env job did.old)
           (kept_next mix env job steps did performs kept);
     }
-    events c admitted).past
+
+pub taken_alone : (M : Type 0) (mix : ℕ → ℕ → ℕ → ℕ) → TakenAlone M mix
+taken_alone M mix env events admitted c = (calls_take M mix env events c admitted).past
