@@ -17,3 +17,5 @@ pub mod CoveredNodes
 pub mod NodesUsed
 -- the count of ports, and a table that nobody uses
 pub mod CountedRuns
+-- where one of the calls that serve commands found no node, more commands need one than there are nodes
+pub mod OutnumberedNodes

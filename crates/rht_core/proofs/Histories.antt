@@ -14,3 +14,7 @@ pub mod FittingRuns
 pub mod AloneCalls
 -- one call alone meets the model, and has its cause
 pub mod AloneLaw
+-- entries of callers and of calls that have ended, with no run
+pub mod ToldEntries
+-- a run that serves commands has a history that tells so
+pub mod ToldHistories

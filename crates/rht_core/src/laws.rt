@@ -3,8 +3,10 @@
 ghost use Rattle.rht_core.specs.Alone.{Alone};
 ghost use Rattle.rht_core.specs.Causes.{Causes};
 ghost use Rattle.rht_core.specs.Counts.{Counted, AtRest};
+ghost use Rattle.rht_core.specs.FirstTable.{FirstTable};
 ghost use Rattle.rht_core.specs.NodesUsed.{Nodes};
 ghost use Rattle.rht_core.specs.RunHistories.{HasFittingHistory};
+ghost use Rattle.rht_core.specs.ToldHistories.{HasToldHistory};
 ghost use Rattle.rht_core.specs.Laws.{Extends, InRange, Enrolled, NotEnrolled, Replies, Remembers, AtEvents, AllStepsTraced, TakenAlone, WordsFit};
 
 use rht_policy::Mix;
@@ -148,4 +150,23 @@ pub fn at_rest<M: Mix>()
 /// that no node is free when the reply comes: some may have been given back.
 pub fn nodes<M: Mix>()
     ensures { Nodes M M.mix_of }
+{}
+
+/// In every run the current table is that of slot 0, in the shape that it was opened with, so its size
+/// is the starting size of the config: so far no table is attached, and none takes its place. It says
+/// nothing of what stands in other slots.
+pub fn first_table<M: Mix>()
+    ensures { FirstTable M M.mix_of }
+{}
+
+/// Where a run serves the commands of workers, each worker's caller in no call at the end, there is a
+/// legal history of what they were answered: each worker's entries are its commands about bindings, with
+/// their replies and lists, in their order, and nobody else has any; and what was closed is what the
+/// history leaves. A command was answered `NoNode` only where more commands need a node than there are
+/// nodes, and `TooBig` only where its count is as many ports as the table may hold, or more, and some
+/// first entries leave so many bound, but for one for each other worker. The history may put the
+/// commands of two workers in any order in which these could have been made. It doesn't say that there
+/// is such a run, and nothing of commands that aren't about bindings.
+pub fn told<M: Mix>()
+    ensures { HasToldHistory M M.mix_of }
 {}

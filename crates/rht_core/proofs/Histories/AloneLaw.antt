@@ -44,7 +44,7 @@ module _ (M : Type 0) (mix : ℕ → ℕ → ℕ → ℕ) (env : Env) where
   left entries = bindings_left kind unbound entries
 
   -- the entries below a number leave what the words stood for behind so many events
-  left-behind : (events : List Event) (history : List Numbered) → Fits M mix env events history → (n : ℕ)
+  pub left-behind : (events : List Event) (history : List Numbered) → Fits M mix env events history → (n : ℕ)
       (low high : List Numbered) → history ≡ low ++ high → AllBelow n low → NeverFalls n high
       → n ≤ length events → Agree (left (history_of low)) (bindings_behind M mix env events n)
   left-behind events history fitting zero [] high is below rising within = opening-agree M mix env

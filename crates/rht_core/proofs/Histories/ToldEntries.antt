@@ -1,0 +1,186 @@
+-- The entries of callers in a history, and those of calls that have ended: lists alone, with no run.
+use Rattle.std.proofs.Common.{◌≡◌, ◌≢◌, ℕ, zero, suc, ◌+◌, ◌<◌, ◌≤◌, ◌==◌, Bool, true, false, cond, List, [], ◌∷◌, ◌++◌, map, refl, sym, ◌∙◌, ap, subst, inl, inr, arith}
+use Rattle.std.specs.Prelude.{is_some, filter}
+use Rattle.std.specs.List.{AllByRecursion}
+use Rattle.std.proofs.lemmas.Bool.{cases_eq, cases_lt, eq-eqb, ne_eqb, eqb-true}
+use Rattle.rht_model.specs.declared.history.Call.{Call}
+use Rattle.rht_model.specs.declared.history.Entry.{Entry}
+use Rattle.rht_model.specs.declared.history.Reply.{Reply}
+use Rattle.rht_model.specs.declared.finished.Finished.{Finished}
+use Rattle.rht_model.specs.Answers.{port_of}
+use Rattle.rht_model.specs.Endings.{Ending, ended_with}
+use Rattle.rht_core.specs.Alone.{entry_done}
+use Rattle.rht_core.specs.Numbered.{Numbered, history_of, NeverFalls, entries_of}
+use Rattle.rht_core.specs.Serving.{Serves}
+use Rattle.rht_core.specs.Traces.{Past}
+use Rattle.rht_core.specs.RunHistories.{IsEntryOf, about_bindings}
+use Rattle.rht_core.specs.ToldHistories.{entries_told, entries_by}
+use Rattle.rht_core.proofs.Histories.NumberedEntries.{AllBelow}
+use Rattle.rht_core.proofs.Histories.CallEnds.{AreEnded}
+use Rattle.rht_core.proofs.Counting.OutnumberedNodes.{calls_made}
+
+-- ---- the entries of one caller
+
+-- without their numbers
+pub entries_by-history_of : (c : ℕ) (history : List Numbered) → entries_by c (history_of history) ≡ history_of (entries_of c history)
+entries_by-history_of c [] = refl
+entries_by-history_of c (x ∷ history) = go (x.entry.caller == c) (entries_by-history_of c history)
+  where
+    go : (t : Bool) → entries_by c (history_of history) ≡ history_of (entries_of c history)
+        → cond t (x.entry ∷ entries_by c (history_of history)) (entries_by c (history_of history))
+        ≡ history_of (cond t (x ∷ entries_of c history) (entries_of c history))
+    go true same = ap (λ rest. x.entry ∷ rest) same
+    go false same = same
+
+-- each is of that caller
+abbrev AreOf : ℕ → List Numbered → Type 0
+AreOf c xs = AllByRecursion (λ x. x.entry.caller ≡ c) xs
+
+AreOf-entries_of : (c : ℕ) (history : List Numbered) → AreOf c (entries_of c history)
+AreOf-entries_of c [] = tt
+AreOf-entries_of c (x ∷ history) = go (x.entry.caller == c) refl (AreOf-entries_of c history)
+  where
+    go : (t : Bool) → (x.entry.caller == c) ≡ t → AreOf c (entries_of c history)
+        → AreOf c (cond t (x ∷ entries_of c history) (entries_of c history))
+    go true own are = (eqb-true x.entry.caller c own, are)
+    go false other are = are
+
+-- ---- the entries of calls that have ended
+
+-- those about bindings, each with its entry
+abbrev pub entries_done : ℕ → List Finished → List Entry
+entries_done c [] = []
+entries_done c (done ∷ rest) =
+    cond (is_some (port_of done.call)) (entry_done c done ∷ entries_done c rest) (entries_done c rest)
+
+-- the entries of a caller's calls say how these ended
+ended-entries : (c : ℕ) (calls : List Past) (xs : List Numbered) → AreOf c xs → AreEnded (about_bindings calls) xs
+    → history_of xs ≡ entries_done c (map (λ (p : Past). p.done) calls)
+ended-entries c [] [] are ended = refl
+ended-entries c [] (x ∷ xs) are ended = absurd ended
+ended-entries c (past ∷ calls) xs are ended = go (is_some (port_of past.done.call)) xs are ended (ended-entries c calls)
+  where
+    go : (t : Bool) (ys : List Numbered) → AreOf c ys → AreEnded (cond t (past ∷ about_bindings calls) (about_bindings calls)) ys
+        → ((zs : List Numbered) → AreOf c zs → AreEnded (about_bindings calls) zs
+        → history_of zs ≡ entries_done c (map (λ (p : Past). p.done) calls))
+        → history_of ys ≡ cond t (entry_done c past.done ∷ entries_done c (map (λ (p : Past). p.done) calls))
+        (entries_done c (map (λ (p : Past). p.done) calls))
+    go true [] are ended others = absurd ended
+    go true (y ∷ ys) are ended others =
+        let of = ended.0 in
+        let here : y.entry ≡ entry_done c past.done =
+        (λ i. record { caller = are.0 i; call = of.call i; reply = of.reply i; owners = of.owners i }) in
+        ap (λ (e : Entry). e ∷ history_of ys) here ∙ ap (λ es. entry_done c past.done ∷ es) (others ys are.1 ended.1)
+    go false ys are ended others = others ys are ended
+
+-- so the entries of a caller in a history are those of its calls that have ended
+pub entries_by-ended : (c : ℕ) (calls : List Past) (history : List Numbered)
+    → AreEnded (about_bindings calls) (entries_of c history)
+    → entries_by c (history_of history) ≡ entries_done c (map (λ (p : Past). p.done) calls)
+entries_by-ended c calls history ended =
+    entries_by-history_of c history ∙ ended-entries c calls (entries_of c history) (AreOf-entries_of c history) ended
+
+-- ---- calls that serve commands
+
+-- they are the commands' calls
+pub calls_made-serves : (calls : List Call) (endings : List Ending) (done : List Finished) → Serves calls endings done
+    → calls_made done ≡ calls
+calls_made-serves [] [] done serves = ap calls_made serves
+calls_made-serves [] (ending ∷ endings) done serves = absurd serves
+calls_made-serves (call ∷ calls) [] done serves = absurd serves
+calls_made-serves (call ∷ calls) (ending ∷ endings) done serves =
+    ap calls_made (serves.whole ∙ ap (λ front. front ++ serves.rest) serves.first_is)
+    ∙ ap (λ rest. call ∷ rest) (calls_made-serves calls endings serves.rest serves.rest_is)
+
+-- their entries are those that the commands tell
+pub entries_done-serves : (c : ℕ) (calls : List Call) (endings : List Ending) (done : List Finished) → Serves calls endings done
+    → entries_done c done ≡ entries_told c calls endings
+entries_done-serves c [] [] done serves = ap (entries_done c) serves
+entries_done-serves c [] (ending ∷ endings) done serves = absurd serves
+entries_done-serves c (call ∷ calls) [] done serves = absurd serves
+entries_done-serves c (call ∷ calls) (ending ∷ endings) done serves =
+    ap (entries_done c) (serves.whole ∙ ap (λ front. front ++ serves.rest) serves.first_is)
+    ∙ ap (λ rest. cond (is_some (port_of call)) (entry_done c (ended_with call ending) ∷ rest) rest)
+    (entries_done-serves c calls endings serves.rest serves.rest_is)
+
+-- and what is so of all their replies is so of the replies to the commands
+pub replies-serves : (P : Reply → Type 0) (calls : List Call) (endings : List Ending) (done : List Finished)
+    → Serves calls endings done → AllByRecursion (λ (d : Finished). P d.reply) done
+    → AllByRecursion (λ (e : Ending). P e.answer.reply) endings
+replies-serves P [] [] done serves all = tt
+replies-serves P [] (ending ∷ endings) done serves all = absurd serves
+replies-serves P (call ∷ calls) [] done serves all = absurd serves
+replies-serves P (call ∷ calls) (ending ∷ endings) done serves all =
+    let is = serves.whole ∙ ap (λ front. front ++ serves.rest) serves.first_is in
+    let each : AllByRecursion (λ (d : Finished). P d.reply) (ended_with call ending ∷ serves.rest) =
+    subst (AllByRecursion (λ (d : Finished). P d.reply)) is all in
+    (each.0, replies-serves P calls endings serves.rest serves.rest_is each.1)
+
+-- no commands have no entries
+pub entries_told-none : (c : ℕ) (calls : List Call) → entries_told c calls [] ≡ []
+entries_told-none c [] = refl
+entries_told-none c (call ∷ calls) = refl
+
+-- what is so of a list of things made of others is so of what is made of each
+pub AllByRecursion-of_map : {X Y : Type 0} (P : Y → Type 0) (f : X → Y) (xs : List X) → AllByRecursion (λ x. P (f x)) xs
+    → AllByRecursion P (map f xs)
+AllByRecursion-of_map P f [] all = tt
+AllByRecursion-of_map P f (x ∷ xs) all = (all.0, AllByRecursion-of_map P f xs all.1)
+
+-- ---- histories of one caller
+
+-- where no other caller has an entry, the first one has all
+pub all_first : (history : List Entry) → ((c : ℕ) → 0 < c → entries_by c history ≡ []) → entries_by 0 history ≡ history
+all_first [] none = refl
+all_first (entry ∷ history) none = elim (cases_eq entry.caller 0) [
+  | inl own ↦
+      let rest = all_first history (λ c more.
+      let other : entry.caller ≢ c = (λ same. omega arith) in
+      let skips : entries_by c (entry ∷ history) ≡ entries_by c history =
+      ap (λ t. cond t (entry ∷ entries_by c history) (entries_by c history)) (ne_eqb entry.caller c other) in
+      sym skips ∙ none c more) in
+      ap (λ t. cond t (entry ∷ entries_by 0 history) (entries_by 0 history)) (eq-eqb entry.caller 0 own)
+      ∙ ap (λ es. entry ∷ es) rest
+  | inr other ↦
+      let c = entry.caller in
+      let has : entries_by c (entry ∷ history) ≡ entry ∷ entries_by c history =
+      ap (λ t. cond t (entry ∷ entries_by c history) (entries_by c history)) (eq-eqb c c refl) in
+      let empty : entry ∷ entries_by c history ≡ [] = sym has ∙ none c (omega arith) in
+      absurd (cc)
+]
+
+-- ---- the entries below a number
+
+-- where those of each caller are, all are
+pub AllBelow-callers : (n : ℕ) (history : List Numbered) → ((c : ℕ) → AllBelow n (entries_of c history)) → AllBelow n history
+AllBelow-callers n [] each = tt
+AllBelow-callers n (x ∷ history) each = (here, AllBelow-callers n history (λ c. fewer (x.entry.caller == c) c (each c)))
+  where
+    fewer : (t : Bool) (c : ℕ) → AllBelow n (cond t (x ∷ entries_of c history) (entries_of c history))
+        → AllBelow n (entries_of c history)
+    fewer true c below = below.1
+    fewer false c below = below
+
+    here : x.number < n
+    here =
+        let c = x.entry.caller in
+        let own : AllBelow n (x ∷ entries_of c history) =
+        subst (λ t. AllBelow n (cond t (x ∷ entries_of c history) (entries_of c history))) (eq-eqb c c refl) (each c) in
+        own.0
+
+-- a history whose numbers never fall falls in two at any number
+pub record IsSplitAt (n : ℕ) (history : List Numbered) : Type 0 where
+  pub low : List Numbered
+  pub high : List Numbered
+  pub is : history ≡ low ++ high
+  pub below : AllBelow n low
+  pub rising : NeverFalls n high
+
+pub split_at : (n from : ℕ) (history : List Numbered) → NeverFalls from history → IsSplitAt n history
+split_at n from [] rising = record { low = []; high = []; is = refl; below = tt; rising = tt }
+split_at n from (x ∷ history) rising = elim (cases_lt x.number n) [
+  | inl low ↦
+      let rest = split_at n x.number history rising.1 in
+      record { low = x ∷ rest.low; high = rest.high; is = ap (λ xs. x ∷ xs) rest.is; below = (low, rest.below); rising = rest.rising }
+  | inr high ↦ record { low = []; high = x ∷ history; is = refl; below = tt; rising = (high, rising.1) }
+]

@@ -1,0 +1,79 @@
+-- What a run tells that serves the commands of workers, in the words of ports and owners: the history of their replies, what it leaves
+-- bound, and where a command may be refused. No word of a table and no event of the run is spoken of.
+use Rattle.std.specs.Prelude.{◌≡◌, ℕ, ◌+◌, ◌-◌, ◌<◌, ◌≤◌, ◌==◌, if◌then◌else◌, is_some, List, [], ◌∷◌, ◌++◌, count_by, filter, slice_index_or}
+use Rattle.std.specs.List.{AllByRecursion}
+use Rattle.rht_words.specs.declared.config.Config.{Config}
+use Rattle.rht_policy.specs.Sizes.{most_ports}
+use Rattle.rht_model.specs.declared.bindings.Closed.{Closed}
+use Rattle.rht_model.specs.declared.history.Call.{Call}
+use Rattle.rht_model.specs.declared.history.Entry.{Entry}
+use Rattle.rht_model.specs.declared.history.Reply.TheVariants.{NoNode, TooBig}
+use Rattle.rht_model.specs.Multimap.{unbound}
+use Rattle.rht_model.specs.Answers.{port_of}
+use Rattle.rht_model.specs.Endings.{Ending, ended_with}
+use Rattle.rht_model.specs.Histories.{IsLegal, bindings_left}
+use Rattle.rht_model.specs.Listing.{Lists}
+use Rattle.rht_core.specs.Alone.{entry_done}
+use Rattle.rht_core.specs.NodesUsed.{needs_node}
+use Rattle.rht_core.specs.Serving.{calls_of, IsServedRun}
+use Rattle.rht_core.specs.StandsFor.{AreBound}
+
+-- the entries of a caller whose calls ended so: one for each call about bindings, in the order of the calls
+abbrev pub entries_told : ℕ → List Call → List Ending → List Entry
+entries_told caller [] endings = []
+entries_told caller (call ∷ calls) [] = []
+entries_told caller (call ∷ calls) (ending ∷ endings) =
+    if is_some (port_of call)
+    then entry_done caller (ended_with call ending) ∷ entries_told caller calls endings
+    else entries_told caller calls endings
+
+-- the entries of a caller in a history
+abbrev pub entries_by : ℕ → List Entry → List Entry
+entries_by caller history = filter (λ entry. entry.caller == caller) history
+
+-- how the calls of a caller ended, where these are the endings of all workers, the first one's first
+abbrev pub endings_by : ℕ → List (List Ending) → List Ending
+endings_by caller endings = slice_index_or endings caller []
+
+-- more commands bind or rebind than there are nodes
+abbrev pub IsOutnumbered : Config → List (ℕ × Call) → Type 0
+IsOutnumbered config commands = config.nodes < count_by (λ command. needs_node command.1) commands
+
+-- The count is as many ports as the table may hold, or more; and some first entries of the history leave so many ports bound, or
+-- fewer by at most one for each worker but one.
+pub record WasFull (config : Config) (history : List Entry) (count : ℕ) : Type 0 where
+  pub full : most_ports config.max ≤ count
+  pub before : List Entry
+  pub behind : List Entry
+  pub split : history ≡ before ++ behind
+  pub bound : ℕ
+  pub are_bound : AreBound (bindings_left config.kind unbound before) bound
+  pub enough : count ≤ bound + (config.callers - 1)
+
+-- The history tells what the commands of all workers were answered, and what is bound behind them.
+pub record IsTold (config : Config) (commands : List (ℕ × Call)) (endings : List (List Ending)) (closed : Closed)
+    (history : List Entry) : Type 0 where
+  -- each reply is the model's answer where it stands, or a refusal that its call may give
+  pub legal : IsLegal config.kind history
+  -- each worker, counted from 1, is the caller of the number below, whose entries are its commands about bindings, in their order;
+  -- there are no others
+  pub entries : (caller : ℕ)
+      → entries_by caller history ≡ entries_told caller (calls_of (caller + 1) commands) (endings_by caller endings)
+  -- so where there is one worker they stand in the order of the script
+  pub in_order : config.callers ≡ 1 → history ≡ entries_told 0 (calls_of 1 commands) (endings_by 0 endings)
+  -- what is bound at the end is what the history leaves
+  pub leaves : Lists closed.bindings.pairs (bindings_left config.kind unbound history)
+  -- a command finds no node only where there are more binds and rebinds than nodes
+  pub no_node : (caller : ℕ)
+      → AllByRecursion (λ ending. ending.answer.reply ≡ NoNode → IsOutnumbered config commands) (endings_by caller endings)
+  -- a command finds the table full only where it was, but for what other workers did meanwhile
+  pub full : (caller count : ℕ)
+      → AllByRecursion (λ ending. ending.answer.reply ≡ TooBig count → WasFull config history count) (endings_by caller endings)
+
+module _ (M : Type 0) (mix : ℕ → ℕ → ℕ → ℕ) where
+  -- of every run that serves commands there is a history that tells so
+  abbrev pub HasToldHistory : Type 0
+  HasToldHistory =
+      (config : Config) (commands : List (ℕ × Call)) (endings : List (List Ending)) (closed : Closed)
+      → IsServedRun M mix config commands endings closed
+      → (history : List Entry) × IsTold config commands endings closed history
