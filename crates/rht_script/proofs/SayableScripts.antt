@@ -3,6 +3,7 @@
 -- command is read with its worker, port and owner within their limits (`ReadCommands`).
 use Rattle.std.proofs.Common.{◌≡◌, ℕ, ◌+◌, ◌*◌, Bool, true, false, not, cond, Ok, Err, List, [], ◌∷◌, length, codes, refl, ap, arith}
 use Rattle.std.specs.Prelude.{IfOk, nat_le, nat_lt}
+use Rattle.std.specs.List.{AllByRecursion}
 use Rattle.std.proofs.lemmas.Bool.{le-leb, leb-true, and_from, and_parts}
 use Rattle.std.proofs.lemmas.List.Elements.{All-from_recursion, All-weaker}
 use Rattle.std.proofs.lemmas.List.Sums.{list_all-from_AllPass}
@@ -26,7 +27,7 @@ use Rattle.rht_script.specs.Grammar.{most_bytes, at_line, words_at, Said, comman
 use Rattle.rht_script.specs.Allowed.{IsAllowed, AreAllowed}
 use Rattle.rht_script.specs.Plain.{IsSayableConfig, IsSayableCall, IsSayableCommand}
 use Rattle.rht_script.specs.Reading.{said_by}
-use Rattle.rht_script.specs.Sound.{is_sound_call, is_sound_command, IsSoundScript}
+use Rattle.rht_script.specs.Sound.{is_sound_call, is_sound_command, IsCommandCall, IsSoundScript}
 use Rattle.rht_script.specs.Laws.{SaysSayable}
 use Rattle.rht_script.proofs.ConfigLemmas.{IsSettled-configured}
 use Rattle.rht_script.proofs.ReadCommands.{IfOk-then, IfOk-after, IfOk-cond, IfOk-at_line, number_within, call_holds, command_holds, reading_holds}
@@ -227,3 +228,18 @@ IsSoundScript-read bytes script read =
       commands = list_all-from_AllPass (is_sound_command script.config) script.commands.items each;
       schedule = rw sayable.schedule refl;
     }
+
+-- ---- what commands ask for
+
+-- each command asks for a call that a command can ask for
+pub commands_asked : (bytes : List ℕ) (said : Said) → reading_of bytes ≡ Ok said
+    → AllByRecursion (λ command. IsCommandCall command.1) said.commands
+commands_asked bytes said read =
+    (reading_holds (λ config command. IsCommandCall command.1) (λ table.
+    command_holds (λ command. IsCommandCall command.1) IsCommandCall table
+    (λ worker call within asked. asked)
+    (call_holds IsCommandCall
+    (λ port owner is_port is_owner. refl)
+    (λ port is_port. tt)
+    (λ port owner is_port is_owner. tt)))
+    bytes said read).each

@@ -1,5 +1,5 @@
 -- Which scripts can be run: those whose config a table can be opened with, and whose lines fit it.
-use Rattle.std.specs.Prelude.{ℕ, ◌≤◌, IsTrue, Bool, true, false, ◌&&◌, ◌==◌, not, is_none, vec_len}
+use Rattle.std.specs.Prelude.{◌≡◌, ℕ, ◌≤◌, IsTrue, Bool, true, false, ◌&&◌, ◌==◌, not, is_none, vec_len}
 use Rattle.std.specs.List.{list_all}
 use Rattle.rht_words.specs.declared.config.Config.{Config}
 use Rattle.rht_words.specs.declared.config.Kind.{Kind}
@@ -7,7 +7,7 @@ use Rattle.rht_words.specs.declared.config.Kind.TheVariants.{Single, Listed}
 use Rattle.rht_words.specs.declared.limits.Limits.{Limits}
 use Rattle.rht_words.specs.Settled.{IsSettled}
 use Rattle.rht_model.specs.declared.history.Call.{Call}
-use Rattle.rht_model.specs.declared.history.Call.TheVariants.{Bind, Rebind, Walk}
+use Rattle.rht_model.specs.declared.history.Call.TheVariants.{Bind, Find, All, Release, Rebind, Walk, Work, Tidy, Count}
 use Rattle.rht_script.specs.declared.script.Script.{Script}
 use Rattle.rht_script.specs.declared.script.Sched.{Sched}
 use Rattle.rht_script.specs.declared.script.Sched.TheVariants.{Step, Skip, Finish}
@@ -30,6 +30,18 @@ is_sound_call config _ = true
 -- the command is a worker's, and its call can be run
 abbrev pub is_sound_command : Config → ℕ × Call → Bool
 is_sound_command config command = is_within (worker_limits config) command.0 && is_sound_call config command.1
+
+-- a command can ask for the call: for any that is about bindings, or counts them; a bind is tried until it ends
+abbrev pub IsCommandCall : Call → Type 0
+IsCommandCall (Bind port owner once) = once ≡ false
+IsCommandCall (Find port) = Unit {0}
+IsCommandCall (All port) = Unit {0}
+IsCommandCall (Release port owner) = Unit {0}
+IsCommandCall (Rebind port owner new) = Unit {0}
+IsCommandCall (Walk from limit) = ⊥
+IsCommandCall Work = ⊥
+IsCommandCall Tidy = ⊥
+IsCommandCall Count = Unit {0}
 
 -- the events of a line of a schedule, and at `finish` the calls that end
 abbrev pub event_limits : Limits

@@ -4,12 +4,13 @@
 //! on the options of a table line. Begin with `read`.
 
 ghost use Rattle.std.specs.Prelude.{◌≡◌, ◌+◌, ◌<◌, ◌≤◌, ◌==◌, Ok, Err, IfOk, IfErr, MatchResult, MatchOption, count_by, length, take, fold};
+ghost use Rattle.std.specs.List.{AllByRecursion};
 ghost use Rattle.rht_script.specs.Grammar.{fault_at, commands_from, said_with, said_from};
 ghost use Rattle.rht_script.specs.TableLines.{no_options, table_of, hash_of, setting_of, options_from};
 ghost use Rattle.rht_script.specs.CommandLines.{command_of, call_of, bind_of, find_of, release_of, is_schedule};
 ghost use Rattle.rht_script.specs.Reading.{IsScript, IsReason, IsReasonFor};
 ghost use Rattle.rht_script.specs.Allowed.{IsAllowed, AreAllowed};
-ghost use Rattle.rht_script.specs.Sound.{IsSoundScript};
+ghost use Rattle.rht_script.specs.Sound.{IsSoundScript, IsCommandCall};
 ghost use Rattle.rht_script.specs.declared.cause.Cause.TheVariants.{ScriptTooLong};
 
 mod cursors;
@@ -41,6 +42,8 @@ pub const MOST_BYTES: usize = 16_777_216;
 pub fn read(alloc: Global, bytes: &[u8]) -> Result<Script, ReadError>
     ensures script { IfOk result (IsScript bytes.now) }
     ensures sound { IfOk result IsSoundScript }
+    ensures asked { IfOk result
+        (λ script. AllByRecursion (λ command. IsCommandCall command.1) script.commands.items) }
     ensures reason { IfErr result (IsReason bytes.now) }
 {
     if bytes.len() > MOST_BYTES {

@@ -4,7 +4,7 @@ use Rattle.rht_script.specs.declared.script.Sched.{Sched}
 use Rattle.rht_script.specs.declared.script.ScriptFault.{ScriptFault}
 use Rattle.rht_script.specs.Grammar.{Said, reading_of, said_from, said_of}
 use Rattle.rht_script.specs.Cursors.{Unread}
-use Rattle.rht_script.proofs.SayableScripts.{IsSoundScript-read}
+use Rattle.rht_script.proofs.SayableScripts.{IsSoundScript-read, commands_asked}
 use Rattle.rht_script.proofs.ReadingLemmas.{reading_of-long, reading_of-lines, said_with-commands, said_with-reason}
 use Rattle.rht_script.proofs.reader.read.Goals as goal
 
@@ -47,3 +47,6 @@ returns-clause-script c =
 
 pub returns-clause-sound : goal.returns-clause-sound
 returns-clause-sound c = IsSoundScript-read c.args.bytes.now _ (returns-clause-script c)
+
+pub returns-clause-asked : goal.returns-clause-asked
+returns-clause-asked c = commands_asked c.args.bytes.now _ (returns-clause-script c)
