@@ -1,6 +1,6 @@
 -- The entries of callers in a history, and those of calls that have ended: lists alone, with no run.
-use Rattle.std.proofs.Common.{◌≡◌, ◌≢◌, ℕ, zero, suc, ◌+◌, ◌<◌, ◌≤◌, ◌==◌, Bool, true, false, cond, List, [], ◌∷◌, ◌++◌, map, refl, sym, ◌∙◌, ap, subst, inl, inr, arith}
-use Rattle.std.specs.Prelude.{is_some, filter}
+use Rattle.std.proofs.Common.{◌≡◌, ◌≢◌, ℕ, ◌<◌, ◌==◌, Bool, true, false, cond, List, [], ◌∷◌, ◌++◌, map, refl, sym, ◌∙◌, ap, subst, inl, inr, arith}
+use Rattle.std.specs.Prelude.{is_some}
 use Rattle.std.specs.List.{AllByRecursion}
 use Rattle.std.proofs.lemmas.Bool.{cases_eq, cases_lt, eq-eqb, ne_eqb, eqb-true}
 use Rattle.rht_model.specs.declared.history.Call.{Call}
@@ -13,7 +13,7 @@ use Rattle.rht_core.specs.Alone.{entry_done}
 use Rattle.rht_core.specs.Numbered.{Numbered, history_of, NeverFalls, entries_of}
 use Rattle.rht_core.specs.Serving.{Serves}
 use Rattle.rht_core.specs.Traces.{Past}
-use Rattle.rht_core.specs.RunHistories.{IsEntryOf, about_bindings}
+use Rattle.rht_core.specs.RunHistories.{about_bindings}
 use Rattle.rht_core.specs.ToldHistories.{entries_told, entries_by}
 use Rattle.rht_core.proofs.Histories.NumberedEntries.{AllBelow}
 use Rattle.rht_core.proofs.Histories.CallEnds.{AreEnded}

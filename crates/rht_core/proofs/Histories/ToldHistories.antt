@@ -3,18 +3,16 @@
 -- together leave what the last words stand for.
 -- Where a command was answered that the table is full, the entries up to the load of the count leave the ports that were bound then,
 -- and each other worker was in the middle of at most one call.
-use Rattle.std.proofs.Common.{◌≡◌, ◌≢◌, ◌⊎◌, ℕ, zero, suc, ◌+◌, ◌-◌, ◌<◌, ◌≤◌, ◌==◌, nat_le, Bool, true, false, cond, List, [], ◌∷◌, ◌++◌, length, map, take, get_or, refl, sym, ◌∙◌, ap, subst, inl, inr, arith}
-use Rattle.std.specs.Prelude.{Option, Some, None, ◌&&◌, not, is_some, sum_by, count_by, slice_index_or}
-use Rattle.std.specs.List.{AllByRecursion, Any, range_with_len}
+use Rattle.std.proofs.Common.{◌≡◌, ◌≢◌, ◌⊎◌, ℕ, ◌+◌, ◌-◌, ◌<◌, ◌≤◌, ◌==◌, Bool, true, false, cond, List, [], ◌++◌, length, map, take, refl, sym, ◌∙◌, ap, subst, inl, inr, arith}
+use Rattle.std.specs.Prelude.{None, ◌&&◌, not, count_by}
+use Rattle.std.specs.List.{AllByRecursion, Any}
 use Rattle.std.proofs.lemmas.Bool.{cases_lt, eq-eqb, ne_eqb}
 use Rattle.std.proofs.lemmas.List.{get_or_past, append-nil, take_all, map-append}
 use Rattle.std.proofs.Math.Seq.{take-length}
 use Rattle.rht_words.specs.declared.env.Env.{Env}
 use Rattle.rht_words.specs.declared.config.Config.{Config}
-use Rattle.rht_words.specs.declared.config.Kind.{Kind}
 use Rattle.rht_words.proofs.EachElement.{AllByRecursion-weaker}
 use Rattle.rht_words.proofs.Members.{count_below, count_below-more, count_below-most, count_by-range}
-use Rattle.rht_policy.specs.Sizes.{most_ports}
 use Rattle.rht_model.specs.declared.bindings.Closed.{Closed}
 use Rattle.rht_model.specs.declared.history.Call.{Call}
 use Rattle.rht_model.specs.declared.history.Call.TheVariants.{Bind, Find, All, Release, Rebind, Walk, Work, Tidy, Count}
@@ -25,19 +23,17 @@ use Rattle.rht_model.specs.declared.finished.Finished.{Finished}
 use Rattle.rht_model.specs.Multimap.{Multimap, Agree, unbound}
 use Rattle.rht_model.specs.Endings.{Ending}
 use Rattle.rht_model.specs.Histories.{bindings_left}
-use Rattle.rht_model.specs.Listing.{Lists, listed_at}
-use Rattle.rht_core.specs.declared.book.Book.{Book}
 use Rattle.rht_core.specs.declared.event.Event.{Event}
 use Rattle.rht_core.specs.Locals.{is_idle}
-use Rattle.rht_core.specs.Runs.{Core, World, View, run_of, local_of, view_of, IsAdmitted}
-use Rattle.rht_core.specs.Traces.{Did, Past, Trace, Traced, traced_of, behind_call}
+use Rattle.rht_core.specs.Runs.{Core, World, View, run_of, local_of, IsAdmitted}
+use Rattle.rht_core.specs.Traces.{Past, Traced, traced_of, behind_call}
 use Rattle.rht_core.specs.Laws.{IsPastCall}
 use Rattle.rht_core.specs.Causes.{others_in_call, CauseOf, HasCause, SawFull}
 use Rattle.rht_core.specs.Closing.{IsClosedOf}
 use Rattle.rht_core.specs.NodesUsed.{needs_node, is_no_node, took_node, may_take_node, takers_of, takers, IsForWant}
 use Rattle.rht_core.specs.Numbered.{Numbered, history_of, entries_of}
 use Rattle.rht_core.specs.RunHistories.{bindings_behind, ChangesBindings, about_bindings, Fits}
-use Rattle.rht_core.specs.Serving.{Serves, calls_of, IsServing, IsServedRun}
+use Rattle.rht_core.specs.Serving.{Serves, calls_of, IsServing}
 use Rattle.rht_core.specs.StandsFor.{stands_for, AreBound}
 use Rattle.rht_core.specs.ToldHistories.{entries_told, entries_by, endings_by, IsOutnumbered, WasFull, IsTold, HasToldHistory}
 use Rattle.rht_core.proofs.Events.CallersNotEnrolled.{not_enrolled}
@@ -51,10 +47,10 @@ use Rattle.rht_core.proofs.Counting.NodesUsed.{nodes}
 use Rattle.rht_core.proofs.Counting.OutnumberedNodes.{sum-below, sum-calls_of, took-needs, NeedsNode, FoundNode, fewer-took}
 use Rattle.rht_core.proofs.Histories.NumberedEntries.{AllBelow}
 use Rattle.rht_core.proofs.Histories.CallEnds.{AreEnded}
-use Rattle.rht_core.proofs.Histories.AloneCalls.{none-progress, about-ended, AreEndedBy, ended-below, past-ends}
+use Rattle.rht_core.proofs.Histories.AloneCalls.{none-progress, about-ended, ended-below, past-ends}
 use Rattle.rht_core.proofs.Histories.AloneLaw.{left-behind}
 use Rattle.rht_core.proofs.Histories.FittingRuns.{fits}
-use Rattle.rht_core.proofs.Histories.ToldEntries.{entries_by-ended, entries_done, entries_done-serves, calls_made-serves, replies-serves, entries_told-none, AllByRecursion-of_map, all_first, AllBelow-callers, IsSplitAt, split_at}
+use Rattle.rht_core.proofs.Histories.ToldEntries.{entries_by-ended, entries_done, entries_done-serves, calls_made-serves, replies-serves, entries_told-none, AllByRecursion-of_map, all_first, AllBelow-callers, split_at}
 
 -- ---- calls that were refused
 
