@@ -1,32 +1,17 @@
--- How the form `run` is served: what was read of a script is its input, what its workers leave is a text of its,
--- and that text was written whole, or where the sink failed a prefix of it.
-use Rattle.std.proofs.Common.{ℕ, List, Option, Result, Ok, Err, refl, ap, ◌∙◌, inl}
+-- How the form `run` is served: what was read of a script is its input, and a text of its was written whole, or where the sink
+-- failed a prefix of it.
+use Rattle.std.proofs.Common.{ℕ, List, Option, Result, Ok, Err, refl, inl}
 use Rattle.rht_io.specs.declared.source.Failed.{Failed}
 use Rattle.rht_io.specs.Told.{Puts}
 use Rattle.rht_script.specs.declared.script.ReadError.{ReadError}
 use Rattle.rht_script.specs.declared.script.ReadError.TheVariants as reads
 use Rattle.rht_script.specs.Grammar.{Said}
 use Rattle.rht_script.specs.Reading.{IsReason}
-use Rattle.rht_script.specs.Text.{run_text}
-use Rattle.rht_cli.specs.declared.registry.Outcome.{Outcome}
 use Rattle.rht_cli.specs.declared.form.Form.TheVariants.{Run}
 use Rattle.rht_cli.specs.Input.{IsRead}
-use Rattle.rht_cli.specs.Outcomes.{workers_endings, IsOutcome}
 use Rattle.rht_cli.specs.Forms.{IsInputOf, IsTextOf}
 use Rattle.rht_cli.specs.Endings.{FailsBy, Serves, of_read_error, served_by}
 use Rattle.rht_cli.proofs.ToldInput.{IsFaultOf-read}
-
--- the text of an outcome is one of the form's
-pub IsTextOf-outcome : (said : Said) (outcome : Outcome) → IsOutcome said outcome
-    → IsTextOf Run said (run_text outcome.replies.items outcome.closed.bindings.pairs outcome.closed.size)
-unfolding IsTextOf
-IsTextOf-outcome said outcome is = record {
-  bound = outcome.closed.bindings.pairs;
-  lists = is.bound;
-  written =
-      ap (λ workers. run_text workers outcome.closed.bindings.pairs outcome.closed.size) is.replies
-      ∙ ap (λ size. run_text (workers_endings said) outcome.closed.bindings.pairs size) is.size;
-}
 
 module _ {S O : Type 0} (left : S → Option (List ℕ)) (sfaults : S → ℕ) (held : O → Option (List ℕ))
     (ofaults : O → ℕ) (s s' : S) where

@@ -3,17 +3,13 @@
 use Rattle.std.specs.Prelude.{◌≡◌, ℕ, if◌then◌else◌, Option, None, Some, Ok, List, [], ◌∷◌, codes}
 use Rattle.std.specs.Io.KnownBytes.{IsAtEnd, Consumes}
 use Rattle.std.specs.Str.{bytes_eq}
-use Rattle.rht_words.specs.Sizes.{first_size}
-use Rattle.rht_model.specs.Multimap.{Port, unbound}
-use Rattle.rht_model.specs.Listing.{Lists}
 use Rattle.rht_script.specs.declared.script.ScriptFault.{ScriptFault}
 use Rattle.rht_script.specs.Grammar.{Said, reading_of}
 use Rattle.rht_script.specs.Reading.{FirstFault}
-use Rattle.rht_script.specs.Text.{run_text}
 use Rattle.rht_cli.specs.declared.form.Form.{Form}
 use Rattle.rht_cli.specs.declared.form.Form.TheVariants.{Run}
 use Rattle.rht_cli.specs.Input.{IsRead}
-use Rattle.rht_cli.specs.Outcomes.{workers_endings, bindings_of}
+use Rattle.rht_cli.specs.RunText.{IsRunText}
 
 -- the form that a single word is
 abbrev pub form_of_word : List ℕ → Option Form
@@ -44,12 +40,6 @@ pub record IsNoScript (left left_after : Option (List ℕ)) (fault : ScriptFault
   pub read : IsRead left left_after bytes
   pub first : FirstFault bytes fault
 
--- The text is that of a plain list of ports that does the commands one after another.
-pub record IsPlainText (said : Said) (text : List ℕ) : Type 0 where
-  pub bound : List (Port × List ℕ)
-  pub lists : Lists bound (bindings_of unbound said.commands)
-  pub written : text ≡ run_text (workers_endings said) bound (first_size said.config)
-
 -- what reading this form's input means, and that the input says this
 unfoldable pub IsInputOf : Form → Option (List ℕ) → Option (List ℕ) → Said → Type 0
 IsInputOf Run left left_after said = IsScriptRead left left_after said
@@ -60,4 +50,4 @@ IsFaultOf Run left left_after fault = IsNoScript left left_after fault
 
 -- the text is one that this form prints where its input says this
 unfoldable pub IsTextOf : Form → Said → List ℕ → Type 0
-IsTextOf Run said text = IsPlainText said text
+IsTextOf Run said text = IsRunText said text

@@ -1,9 +1,9 @@
 //! `rht`, a registry of ports: it reads a script and prints what its commands are answered, and
 //! then the last bindings.
 //!
-//! Stands on `rht_script`, `rht_model`, `rht_words` and `rht_io`. `program` has the top call and
-//! its theorem, and `registry` does a script's commands; `main` here only makes the real source,
-//! sinks and gate.
+//! Stands on `rht_script`, `rht_registry` and `rht_core`, `rht_model`, `rht_policy`, `rht_words` and
+//! `rht_io`. `program` has the top call and its theorem; `main` here only makes the real source, sinks
+//! and gate. A script's commands are done by `rht_registry`.
 #![tactic(auto)]
 
 mod ending;
@@ -11,7 +11,6 @@ mod form;
 mod input;
 pub mod laws;
 pub mod program;
-mod registry;
 #[cfg(test)]
 mod tests;
 

@@ -1,32 +1,37 @@
 //! The top call: the program from bytes to bytes.
 //!
-//! Stands on the forms, the reader of the input, the script's reader and writer, the registry and
-//! the endings. Begin with the clauses of `run`: they say what each status means.
+//! Stands on the forms, the reader of the input, the script's reader and writer, the registry that does
+//! a script's commands on a table, and the endings. Begin with the clauses of `run`: they say what each status means.
 
-ghost use Rattle.std.specs.Prelude.{◌≡◌, ◌≢◌, ◌≤◌, ◌↔◌, ◌⊎◌, None, Some, Option, List, ℕ, string_bytes, map};
+ghost use Rattle.std.specs.Prelude.{◌≡◌, ◌≢◌, ◌≤◌, ◌↔◌, ◌⊎◌, None, Some, Option, List, ℕ, string_bytes, map, IfOk};
+ghost use Rattle.std.specs.List.{AllByRecursion};
 ghost use Rattle.rht_io.specs.Told.{Rose, PutsLine};
 ghost use Rattle.rht_script.specs.declared.script.ScriptFault.{ScriptFault};
 ghost use Rattle.rht_script.specs.Grammar.{Said};
+ghost use Rattle.rht_script.specs.Sound.{IsSoundScript, IsCommandCall};
 ghost use Rattle.rht_script.specs.Text.{fault_line};
 ghost use Rattle.rht_cli.specs.declared.form.Form.{Form};
 ghost use Rattle.rht_cli.specs.declared.form.Form.TheVariants.{Run};
 ghost use Rattle.rht_cli.specs.Forms.{form_of, HasForm, IsInputOf, IsFaultOf};
+ghost use Rattle.rht_cli.specs.RunText.{IsServedBy};
 ghost use Rattle.rht_cli.specs.Endings.{IsDone, IsCutShort, Serves, served_by, ending_of, status_line};
 
 use crate::ending::{Ending, Failure};
 use crate::form::Form;
 use crate::input::read_all;
-use crate::registry::run_workers;
 use rht_io::{Failed, Gate, Sink, Source};
-use rht_script::{read, write_run};
-use std::alloc::Global;
+use rht_policy::{Lookup3, Low};
+use rht_registry::{Outcome, run_workers};
+use rht_script::{Script, read, write_run};
+use rht_words::Hash;
+use std::alloc::{AllocError, Global};
 use std::sync::Wait;
 use std::thread::Threads;
 
 /// Runs the program on the words after its name, and answers its exit status.
 ///
 /// The script comes from the source, the text goes to `out`, and the line of a status above 0
-/// to `err`, whose faults change no status. The gate isn't called yet.
+/// to `err`, whose faults change no status. The gate hears of each command before it and after it.
 pub fn run<R: Threads + Wait + Sync, S: Source, O: Sink, E: Sink, G: Gate + Sync>(
     rt: &R,
     alloc: Global,
@@ -130,8 +135,28 @@ fn serve_run<R: Threads + Wait + Sync, S: Source, O: Sink, G: Gate + Sync>(
 {
     let bytes = read_all(alloc, source)?;
     let script = read(alloc, &bytes)?;
-    let outcome = run_workers(rt, alloc, &script, gate)?;
+    let outcome = run_hashed(rt, alloc, &script, gate)?;
     served_by(write_run(out, &outcome.replies, &outcome.closed))
+}
+
+/// Does a script's commands on a table, whose ports are hashed as its config says. So far a script has
+/// one worker. The one refusal is want of memory.
+fn run_hashed<R: Threads + Wait + Sync, G: Gate + Sync>(
+    rt: &R,
+    alloc: Global,
+    script: &Script,
+    gate: &G,
+) -> Result<Outcome, AllocError>
+    requires sound { IsSoundScript script.now }
+    requires alone { script.now.config.callers ≡ 1 }
+    requires asked { AllByRecursion (λ command. IsCommandCall command.1) script.now.commands.items }
+    ensures { IfOk result (λ outcome. IsServedBy script.now.config.hash script.now.config
+        script.now.commands.items outcome.replies.items outcome.closed) }
+{
+    match script.config.hash {
+        Hash::Mix => run_workers::<Lookup3, _, _>(rt, alloc, script, gate),
+        Hash::Low => run_workers::<Low, _, _>(rt, alloc, script, gate),
+    }
 }
 
 /// How a form is served whose text was put so.

@@ -90,6 +90,22 @@ fn scripts_are_served_and_others_refused(rt: HostRuntime) -> Result<(), Fail> {
             "1: bound\n1: exists 100\n1: absent\n1: found 100\nport 80: 100\nsize 64 keys 1\n",
             "",
         ),
+        // Ports 5, 69 and 133 are in one bucket, of which one leaves from between the others and one
+        // comes again; 6 is in another. Nothing of that shows, whichever hash is named.
+        (
+            "run",
+            "table single hash low\n1 bind 5 1\n1 bind 69 2\n1 bind 133 3\n1 bind 6 4\n1 release 69 2\n1 find 69\n1 find 5\n1 bind 69 7\n1 find 133\n1 release 5 2\n",
+            0,
+            "1: bound\n1: bound\n1: bound\n1: bound\n1: released\n1: missing\n1: found 1\n1: bound\n1: found 3\n1: absent\nport 5: 1\nport 6: 4\nport 69: 7\nport 133: 3\nsize 64 keys 4\n",
+            "",
+        ),
+        (
+            "run",
+            "table single hash mix seed 7 min 4 hint 1\n1 bind 5 1\n1 bind 69 2\n1 find 69\n1 bind 5 3\n",
+            0,
+            "1: bound\n1: bound\n1: found 2\n1: exists 1\nport 5: 1\nport 69: 2\nsize 4 keys 2\n",
+            "",
+        ),
         // The options, comments, blank lines, blanks between words, and a last line that the end of
         // the input cuts. 96 * 4 / 3 = 128; 129 is rounded up to 256.
         ("run", "table single hint 96\n", 0, "size 128 keys 0\n", ""),

@@ -1,15 +1,20 @@
--- Each command of a sound script is one of its workers', and its call is one that a table of the script's config may be given.
-use Rattle.std.proofs.Common.{◌≡◌, ◌≢◌, ℕ, ◌≤◌, Bool, true, false, List, [], ◌∷◌, refl}
-use Rattle.std.specs.Prelude.{IsTrue, ◌&&◌}
+-- Each command of a sound script is one of its workers', and its call is one that a table of the script's config may be given. Where
+-- commands can ask for it there is a machine for it; and where there is one worker all calls are its own.
+use Rattle.std.proofs.Common.{◌≡◌, ◌≢◌, ℕ, ◌≤◌, Bool, true, false, List, [], ◌∷◌, map, refl, sym, ap, subst, arith}
+use Rattle.std.specs.Prelude.{IsTrue, ◌&&◌, is_some}
 use Rattle.std.specs.List.{AllByRecursion, list_all}
-use Rattle.std.proofs.lemmas.Bool.{leb-true}
+use Rattle.std.proofs.lemmas.Bool.{leb-true, eq-eqb}
 use Rattle.rht_words.specs.declared.config.Config.{Config}
 use Rattle.rht_words.specs.declared.config.Kind.{Kind}
 use Rattle.rht_words.specs.declared.config.Kind.TheVariants.{Single, Listed}
 use Rattle.rht_model.specs.declared.history.Call.{Call}
 use Rattle.rht_model.specs.declared.history.Call.TheVariants.{Bind, Find, All, Release, Rebind, Walk, Work, Tidy, Count}
+use Rattle.rht_words.specs.declared.env.Env.{Env}
+use Rattle.rht_core.specs.Locals.{machine_of, rebinding_of}
 use Rattle.rht_core.specs.Runs.{IsBuiltFor}
-use Rattle.rht_script.specs.Sound.{is_single, is_sound_call, is_sound_command}
+use Rattle.rht_core.specs.Serving.{calls_of}
+use Rattle.rht_script.specs.Sound.{is_single, is_sound_call, is_sound_command, IsCommandCall}
+use Rattle.rht_registry.specs.Outcomes.{IsBuiltCommand}
 
 -- the command is one of so many workers', and its call is one for a table of this kind
 pub record IsCommandFor (config : Config) (command : ℕ × Call) : Type 0 where
@@ -49,3 +54,51 @@ sound-commands config (command ∷ commands) sound =
       record { first = leb-true _ _ bounds.0; last = leb-true _ _ bounds.1; kind = sound-built config command.1 within_and_call.1 },
       sound-commands config commands first_and_others.1,
     )
+
+-- ---- machines
+
+-- in a table of one owner for each port there is one for a rebind
+rebinding-single : (M : Type 0) (env : Env) (port owner new : ℕ) (kind : Kind) → is_single kind ≡ true
+    → is_some (rebinding_of {M = M} env 0 port owner new kind) ≡ true
+rebinding-single M env port owner new Single single = refl
+rebinding-single M env port owner new Listed single = absurd (cc)
+
+-- by cases of the call
+machine-asked : (M : Type 0) (config : Config) (call : Call) → is_sound_call config call ≡ true → IsCommandCall call
+    → (env : Env) → env.config ≡ config → is_some (machine_of {M = M} env 0 call) ≡ true
+machine-asked M config (Bind port owner once) sound asked env same = refl
+machine-asked M config (Find port) sound asked env same = refl
+machine-asked M config (All port) sound asked env same = refl
+machine-asked M config (Release port owner) sound asked env same = refl
+machine-asked M config (Rebind port owner new) sound asked env same =
+    rebinding-single M env port owner new env.config.kind
+    (subst (λ (c : Config). is_single c.kind ≡ true) (sym same) sound)
+machine-asked M config (Walk from limit) sound asked env same = absurd asked
+machine-asked M config Work sound asked env same = absurd asked
+machine-asked M config Tidy sound asked env same = absurd asked
+machine-asked M config Count sound asked env same = refl
+
+-- so there is one for each command that can be asked for
+pub built-commands : (M : Type 0) (config : Config) (commands : List (ℕ × Call))
+    → IsTrue (list_all (is_sound_command config) commands)
+    → AllByRecursion (λ command. IsCommandCall command.1) commands → AllByRecursion (IsBuiltCommand M config) commands
+built-commands M config [] sound asked = tt
+built-commands M config (command ∷ commands) sound asked =
+    let first_and_others = both_true (is_sound_command config command) (list_all (is_sound_command config) commands) sound in
+    let within_and_call = both_true _ (is_sound_call config command.1) first_and_others.0 in (
+      machine-asked M config command.1 within_and_call.1 asked.0,
+      built-commands M config commands first_and_others.1 asked.1,
+    )
+
+-- ---- one worker
+
+-- all calls are its own
+pub calls_of-one : (config : Config) (commands : List (ℕ × Call)) → config.callers ≡ 1
+    → AllByRecursion (IsCommandFor config) commands
+    → map (λ command. command.1) commands ≡ calls_of 1 commands
+calls_of-one config [] one all = refl
+calls_of-one config (command ∷ commands) one all =
+    let first = all.0.first in
+    let last = all.0.last in
+    rw (eq-eqb command.0 1 (omega (arith, first, last, one)))
+    (ap (λ l. command.1 ∷ l) (calls_of-one config commands one all.1))

@@ -1,6 +1,5 @@
 use Rattle.std.proofs.Common.{◌≡◌, ℕ, ◌+◌, ◌<◌, ◌≤◌, true, false, List, [], ◌∷◌, ◌++◌, length, map, take, get_or, refl, sym, ◌∙◌, ap, subst, arith}
 use Rattle.std.specs.List.{AllByRecursion}
-use Rattle.std.proofs.lemmas.Bool.{eq-eqb}
 use Rattle.std.proofs.lemmas.List.{take_all, take_more, map-append}
 use Rattle.std.proofs.lemmas.List.Elements.{All-from_recursion}
 use Rattle.rht_words.specs.declared.config.Config.{Config}
@@ -16,17 +15,8 @@ use Rattle.rht_core.specs.Serving.{Serves, calls_of, IsServing, IsServedRun}
 use Rattle.rht_registry.specs.Served.{HasServed}
 use Rattle.rht_registry.specs.Outcomes.{IsBuiltCommand}
 use Rattle.rht_registry.proofs.ServedCalls.{idle-none}
-use Rattle.rht_registry.proofs.SoundCommands.{IsCommandFor, sound-commands}
+use Rattle.rht_registry.proofs.SoundCommands.{IsCommandFor, sound-commands, calls_of-one}
 use Rattle.rht_registry.proofs.registry.run_workers.Goals as goal
-
--- where there is one worker all calls are its own
-calls_of-one : (config : Config) (commands : List (ℕ × Call)) → config.callers ≡ 1 → AllByRecursion (IsCommandFor config) commands
-    → map (λ command. command.1) commands ≡ calls_of 1 commands
-calls_of-one config [] one all = refl
-calls_of-one config (command ∷ commands) one all =
-    let first = all.0.first in
-    let last = all.0.last in
-    rw (eq-eqb command.0 1 (omega (arith, first, last, one))) (ap (λ l. command.1 ∷ l) (calls_of-one config commands one all.1))
 
 -- what one caller has served, with its closing, is a run of the script's commands
 served-run : (M : Type 0) (mix : ℕ → ℕ → ℕ → ℕ) (config : Config) (commands : List (ℕ × Call)) (core : Core M) (endings : List Ending) (closed : Closed)

@@ -1,0 +1,43 @@
+-- The text that `run` prints for what a script says: that of a run of a table which serves the script's commands.
+-- Beside the run stands what it means for who knows ports and owners alone: a history of the replies, and the size.
+use Rattle.std.specs.Prelude.{◌≡◌, ℕ, List, map}
+use Rattle.rht_words.specs.declared.config.Config.{Config}
+use Rattle.rht_words.specs.declared.config.Hash.{Hash}
+use Rattle.rht_words.specs.declared.config.Hash.TheVariants as hashes
+use Rattle.rht_words.specs.Sizes.{first_size}
+use Rattle.rht_policy.specs.declared.mix.Lookup3.{Lookup3}
+use Rattle.rht_policy.specs.declared.mix.Low.{Low}
+use Rattle.rht_policy.specs.Mix.{mix_of_hash}
+use Rattle.rht_model.specs.declared.bindings.Closed.{Closed}
+use Rattle.rht_model.specs.declared.history.Call.{Call}
+use Rattle.rht_model.specs.declared.history.Entry.{Entry}
+use Rattle.rht_model.specs.Endings.{Ending}
+use Rattle.rht_core.specs.Serving.{IsServedRun}
+use Rattle.rht_core.specs.ToldHistories.{entries_told, endings_by, IsTold}
+use Rattle.rht_script.specs.Grammar.{Said}
+use Rattle.rht_script.specs.Text.{run_text}
+
+-- A run of a table of this config, whose ports are hashed so, serves the commands with these endings, and what was closed is what its
+-- last words stand for. The types name what the callers of a table with such a hash do.
+abbrev pub IsServedBy : Hash → Config → List (ℕ × Call) → List (List Ending) → Closed → Type 0
+IsServedBy hashes.Mix config commands endings closed = IsServedRun Lookup3 (mix_of_hash hashes.Mix) config commands endings closed
+IsServedBy hashes.Low config commands endings closed = IsServedRun Low (mix_of_hash hashes.Low) config commands endings closed
+
+-- The text is that of a run which serves what the script says.
+pub record IsRunText (said : Said) (text : List ℕ) : Type 0 where
+  -- how each worker's commands ended, and what was closed
+  pub endings : List (List Ending)
+  pub closed : Closed
+  -- they are those of a run, by the hash that the script names
+  pub served : IsServedBy said.config.hash said.config said.commands endings closed
+  -- and they are what is printed
+  pub written : text ≡ run_text endings closed.bindings.pairs closed.size
+  -- the replies are those of a legal history of the commands, which leaves what is printed as bound; where a command is refused
+  -- for want of a node the script has more binds and rebinds than nodes, and where the table is full it was
+  pub history : List Entry
+  pub told : IsTold said.config said.commands endings closed history
+  -- where there is one worker the history has the commands in the order of the script
+  pub in_order : said.config.callers ≡ 1
+      → history ≡ entries_told 0 (map (λ command. command.1) said.commands) (endings_by 0 endings)
+  -- so far no table grows: the size is the starting one
+  pub size : closed.size ≡ first_size said.config
