@@ -1,6 +1,7 @@
--- What a table is opened with is settled, where its first buckets have room: each number that is set is within
--- its limits, and so is each that isn't; and the least size is rounded, so that rounding it again changes nothing.
-use Rattle.std.proofs.Common.{◌≡◌, ℕ, ◌*◌, ◌^◌, ◌<◌, ◌≤◌, ◌==◌, ◌≢◌, true, ◌||◌, Bool, Option, Some, None, unwrap_or, refl, sym, ap, ◌∙◌, subst, inl, inr, arith}
+-- What a table is opened with is settled, where its sizes agree and its first buckets have room: each number that is set
+-- is within its limits, and so is each that isn't; and the least size and the greatest are rounded, so that rounding them
+-- again changes nothing.
+use Rattle.std.proofs.Common.{◌≡◌, ℕ, ◌*◌, ◌^◌, ◌<◌, ◌≤◌, ◌≢◌, true, ◌||◌, Bool, Option, Some, None, unwrap_or, refl, sym, ap, ◌∙◌, subst, inl, inr, arith}
 use Rattle.std.specs.Prelude.{IfSome, nat_le}
 use Rattle.std.specs.Int.{IsPowerOfTwo}
 use Rattle.std.proofs.lemmas.Bool.{cases_lt, leb-true, ne_eqb}

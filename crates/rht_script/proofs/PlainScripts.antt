@@ -1,9 +1,9 @@
 -- What is spelled plainly is read back. A plain line has the words that it was made of (`PlainWords`), so a command's line
 -- is read as the command, case by case of the verbs, and the table line as the config, option by option: each is set once,
--- its number is within its limits, and the least size is rounded already. By induction over the commands, their lines are
+-- its number is within its limits, and the least size and the greatest are rounded already. By induction over the commands, their lines are
 -- read as they.
-use Rattle.std.proofs.Common.{◌≡◌, ℕ, ◌+◌, ◌*◌, ◌^◌, ◌<◌, ◌≤◌, ◌==◌, ◌||◌, Bool, true, false, cond, Option, Some, None, Ok, List, [], ◌∷◌, ◌++◌, length, length-append, max, unwrap_or, refl, sym, ap, ◌∙◌, inl, inr, arith}
-use Rattle.std.specs.Prelude.{codes, decimal, nat_le}
+use Rattle.std.proofs.Common.{◌≡◌, ℕ, ◌+◌, ◌*◌, ◌^◌, ◌<◌, ◌≤◌, ◌==◌, Bool, true, false, cond, Option, Some, None, Ok, List, [], ◌∷◌, ◌++◌, length, length-append, max, unwrap_or, refl, sym, ap, ◌∙◌, inl, inr, arith}
+use Rattle.std.specs.Prelude.{codes, decimal}
 use Rattle.std.specs.List.{AllByRecursion, flat_map}
 use Rattle.std.proofs.lemmas.Bool.{cases_Bool, le-leb, eqb-false, eqb-true}
 use Rattle.std.proofs.lemmas.List.Elements.{recursion_from_All}
@@ -281,8 +281,9 @@ module _ (config : Config) (sayable : IsSayableConfig config) where
   ]
 
   options_from-plain : options_from no_options (codes "hash" ∷ hash_word config.hash
-      ∷ codes "nodes" ∷ decimal config.nodes ∷ codes "min" ∷ decimal config.min ∷ codes "pages" ∷ decimal config.pages
-      ∷ codes "seed" ∷ decimal config.seed ∷ codes "rewalks" ∷ decimal config.rewalks
+      ∷ codes "nodes" ∷ decimal config.nodes ∷ codes "min" ∷ decimal config.min
+      ∷ codes "pages" ∷ decimal config.pages ∷ codes "seed" ∷ decimal config.seed
+      ∷ codes "rewalks" ∷ decimal config.rewalks
       ∷ (number_or_none (codes "hint") config.hint ++ number_or_none (codes "max") config.max)) ≡ Ok
       (options_said config hint_said max_said)
   options_from-plain =

@@ -71,8 +71,9 @@ hash_word Low = codes "low"
 abbrev pub table_words : Config → List (List ℕ)
 table_words config =
     codes "table" ∷ kind_word config.kind ∷ codes "hash" ∷ hash_word config.hash
-    ∷ codes "nodes" ∷ decimal config.nodes ∷ codes "min" ∷ decimal config.min ∷ codes "pages" ∷ decimal config.pages
-    ∷ codes "seed" ∷ decimal config.seed ∷ codes "rewalks" ∷ decimal config.rewalks
+    ∷ codes "nodes" ∷ decimal config.nodes ∷ codes "min" ∷ decimal config.min
+    ∷ codes "pages" ∷ decimal config.pages ∷ codes "seed" ∷ decimal config.seed
+    ∷ codes "rewalks" ∷ decimal config.rewalks
     ∷ (number_or_none (codes "hint") config.hint ++ number_or_none (codes "max") config.max)
 
 -- the words of a call: its verb and its numbers; of calls for which there is no verb yet, none
