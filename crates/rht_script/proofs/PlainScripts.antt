@@ -1,79 +1,94 @@
 -- What is spelled plainly is read back. A plain line has the words that it was made of (`PlainWords`), so a command's line
 -- is read as the command, case by case of the verbs, and the table line as the config, option by option: each is set once,
--- its number is within its limits, and the least size is rounded already. By induction over the commands, their lines are
+-- its number is within its limits, and the least size and the greatest are rounded already. By induction over the commands, their lines are
 -- read as they.
-use Rattle.std.proofs.Common.{◌≡◌, ℕ, ◌+◌, ◌*◌, ◌^◌, ◌<◌, ◌≤◌, ◌==◌, Bool, true, false, cond, Option, Some, None, Ok, List, [], ◌∷◌, ◌++◌, length, max, unwrap_or, refl, sym, ap, ◌∙◌, inl, inr, arith}
-use Rattle.std.specs.Prelude.{All, codes, decimal}
+use Rattle.std.proofs.Common.{◌≡◌, ℕ, ◌+◌, ◌*◌, ◌^◌, ◌<◌, ◌≤◌, ◌==◌, Bool, true, false, cond, Option, Some, None, Ok, List, [], ◌∷◌, ◌++◌, length, length-append, max, unwrap_or, refl, sym, ap, ◌∙◌, inl, inr, arith}
+use Rattle.std.specs.Prelude.{codes, decimal}
 use Rattle.std.specs.List.{AllByRecursion, flat_map}
 use Rattle.std.proofs.lemmas.Bool.{cases_Bool, le-leb, eqb-false, eqb-true}
-use Rattle.std.proofs.lemmas.List.Elements.{All-head, All-tail}
+use Rattle.std.proofs.lemmas.List.Elements.{recursion_from_All}
 use Rattle.rht_words.specs.declared.config.Config.{Config}
 use Rattle.rht_words.specs.declared.config.Kind.{Kind}
+use Rattle.rht_words.specs.declared.config.Kind.TheVariants.{Single, Listed}
 use Rattle.rht_words.specs.declared.config.Hash.{Hash}
 use Rattle.rht_words.specs.declared.config.Hash.TheVariants.{Mix, Low}
 use Rattle.rht_words.specs.declared.limits.Limits.{Limits}
-use Rattle.rht_words.specs.Limits.{IsWithinLimits, hint_limits, min_limits, page_limits, seed_limits, rewalk_limits, page_words}
+use Rattle.rht_words.specs.Limits.{IsWithinLimits, node_limits, hint_limits, min_limits, max_limits, page_limits, seed_limits, rewalk_limits, page_words}
 use Rattle.rht_words.specs.Settled.{plain_config}
-use Rattle.rht_words.specs.Sizes.{first_size}
+use Rattle.rht_words.specs.Sizes.{rounded_down, first_size}
+use Rattle.rht_words.proofs.EachElement.{AllByRecursion-append}
+use Rattle.rht_words.proofs.Rounding.{rounded_down-zero}
 use Rattle.rht_model.specs.declared.history.Call.{Call}
 use Rattle.rht_model.specs.declared.history.Call.TheVariants.{Bind, Find, All as ListAll, Release, Rebind, Walk, Work, Tidy, Count}
 use Rattle.rht_script.specs.declared.script.TableLine.{TableLine}
 use Rattle.rht_script.specs.declared.options.Setting.{Setting}
-use Rattle.rht_script.specs.declared.options.Setting.TheVariants.{Hint, Min, Pages, Seed, Rewalks, Hashing}
+use Rattle.rht_script.specs.declared.options.Setting.TheVariants.{Nodes, Hint, Min, Max, Pages, Seed, Rewalks, Hashing}
 use Rattle.rht_script.specs.declared.options.Options.{Options}
 use Rattle.rht_script.specs.Spelling.{◌>>=◌, lines_of, is_skipped, number_of}
 use Rattle.rht_script.specs.Grammar.{most_lines, words_at, commands_from, said_from}
-use Rattle.rht_script.specs.TableLines.{no_options, with_setting, setting_of, options_from, configured, has_room, rounded_min, config_of, table_of}
-use Rattle.rht_script.specs.CommandLines.{port_limits, owner_limits, worker_limits, bind_of, find_of, release_of, call_of, command_of}
-use Rattle.rht_script.specs.Plain.{IsSayableConfig, IsSayableCall, IsSayableCommand, hint_words, hash_word, table_words, call_words, command_words, plain_line, plain_script}
+use Rattle.rht_script.specs.TableLines.{no_options, kind_of, with_setting, setting_of, options_from, configured, sizes_agree, has_room, rounded_min, config_of, table_of}
+use Rattle.rht_script.specs.CommandLines.{port_limits, owner_limits, worker_limits, bind_of, find_of, all_of, release_of, of_single, rebind_of, count_of, call_of, command_of}
+use Rattle.rht_script.specs.Plain.{IsSayableConfig, IsSayableCall, IsSayableCommand, number_or_none, kind_word, hash_word, table_words, call_words, command_words, plain_line, plain_script}
 use Rattle.rht_script.specs.Laws.{ReadsBack}
 use Rattle.rht_script.proofs.LineLemmas.{words_at-right}
 use Rattle.rht_script.proofs.PiecesLemmas.{lines_of-empty}
 use Rattle.rht_script.proofs.ReadingLemmas.{reading_of-lines, said_with-commands}
-use Rattle.rht_script.proofs.PlainWords.{number_of-decimal, IsPlainWord, IsPlainWord-decimal, is_schedule-decimal, is_comment-decimal, spaced_words, words_of-spaced, length-spaced, lines_of-plain}
+use Rattle.rht_script.proofs.PlainWords.{number_of-decimal, IsPlainWord, plain_name, IsPlainWord-decimal, is_schedule-decimal, is_comment-decimal, spaced_words, words_of-spaced, length-spaced, lines_of-plain}
 
 -- ---- calls
 
--- by cases: of each call for which there is a verb
-call_of-plain : (call : Call) → IsSayableCall call → call_of (call_words call) ≡ Ok call
-unfolding call_of bind_of find_of release_of
-call_of-plain (Bind port owner once) sayable =
-    let port_is = number_of-decimal port (omega (arith, sayable.0)) port_limits sayable.0 in
-    let owner_is = number_of-decimal owner (omega (arith, sayable.1)) owner_limits sayable.1 in
-    rw (port_is, owner_is) (ap (λ o. Ok (Bind port owner o)) (sym sayable.2))
-call_of-plain (Find port) sayable =
-    rw (number_of-decimal port (omega (arith, sayable)) port_limits sayable) refl
-call_of-plain (ListAll port) sayable = absurd sayable
-call_of-plain (Release port owner) sayable =
-    let port_is = number_of-decimal port (omega (arith, sayable.0)) port_limits sayable.0 in
-    let owner_is = number_of-decimal owner (omega (arith, sayable.1)) owner_limits sayable.1 in
-    rw (port_is, owner_is) refl
-call_of-plain (Rebind port owner new) sayable = absurd sayable
-call_of-plain (Walk from limit) sayable = absurd sayable
-call_of-plain Work sayable = absurd sayable
-call_of-plain Tidy sayable = absurd sayable
-call_of-plain Count sayable = absurd sayable
+module _ (kind : Kind) where
+  -- by cases: of each call for which there is a verb
+  call_of-plain : (call : Call) → IsSayableCall kind call → call_of kind (call_words call) ≡ Ok call
+  unfolding call_of bind_of find_of all_of release_of rebind_of count_of
+  call_of-plain (Bind port owner once) sayable =
+      let port_is = number_of-decimal port (omega (arith, sayable.0)) port_limits sayable.0 in
+      let owner_is = number_of-decimal owner (omega (arith, sayable.1)) owner_limits sayable.1 in
+      rw (port_is, owner_is) (ap (λ o. Ok (Bind port owner o)) (sym sayable.2))
+  call_of-plain (Find port) sayable =
+      rw (number_of-decimal port (omega (arith, sayable)) port_limits sayable) refl
+  call_of-plain (ListAll port) sayable =
+      rw (number_of-decimal port (omega (arith, sayable)) port_limits sayable) refl
+  call_of-plain (Release port owner) sayable =
+      let port_is = number_of-decimal port (omega (arith, sayable.0)) port_limits sayable.0 in
+      let owner_is = number_of-decimal owner (omega (arith, sayable.1)) owner_limits sayable.1 in
+      rw (port_is, owner_is) refl
+  call_of-plain (Rebind port owner new) sayable =
+      let port_is = number_of-decimal port (omega (arith, sayable.0)) port_limits sayable.0 in
+      let owner_is = number_of-decimal owner (omega (arith, sayable.1)) owner_limits sayable.1 in
+      let new_is = number_of-decimal new (omega (arith, sayable.2)) owner_limits sayable.2 in
+      rw (port_is, owner_is, new_is) (ap (λ (k : Kind). of_single k (Rebind port owner new)) sayable.3)
+  call_of-plain (Walk from limit) sayable = absurd sayable
+  call_of-plain Work sayable = absurd sayable
+  call_of-plain Tidy sayable = absurd sayable
+  call_of-plain Count sayable = refl
 
--- the words of a call are plain, and at most three
-call_words-plain : (call : Call) → IsSayableCall call
-    → AllByRecursion IsPlainWord (call_words call) × (length (call_words call) ≤ 3)
-call_words-plain (Bind port owner once) sayable =
-    let port_is = IsPlainWord-decimal port (omega (arith, sayable.0)) in
-    let owner_is = IsPlainWord-decimal owner (omega (arith, sayable.1)) in
-    ((record { some = refl; bytes = refl; short = omega arith }, (port_is, (owner_is, tt))), omega arith)
-call_words-plain (Find port) sayable =
-    let port_is = IsPlainWord-decimal port (omega (arith, sayable)) in
-    ((record { some = refl; bytes = refl; short = omega arith }, (port_is, tt)), omega arith)
-call_words-plain (ListAll port) sayable = absurd sayable
-call_words-plain (Release port owner) sayable =
-    let port_is = IsPlainWord-decimal port (omega (arith, sayable.0)) in
-    let owner_is = IsPlainWord-decimal owner (omega (arith, sayable.1)) in
-    ((record { some = refl; bytes = refl; short = omega arith }, (port_is, (owner_is, tt))), omega arith)
-call_words-plain (Rebind port owner new) sayable = absurd sayable
-call_words-plain (Walk from limit) sayable = absurd sayable
-call_words-plain Work sayable = absurd sayable
-call_words-plain Tidy sayable = absurd sayable
-call_words-plain Count sayable = absurd sayable
+  -- the words of a call are plain, and at most four
+  call_words-plain : (call : Call) → IsSayableCall kind call
+      → AllByRecursion IsPlainWord (call_words call) × (length (call_words call) ≤ 4)
+  call_words-plain (Bind port owner once) sayable =
+      let port_is = IsPlainWord-decimal port (omega (arith, sayable.0)) in
+      let owner_is = IsPlainWord-decimal owner (omega (arith, sayable.1)) in
+      ((plain_name refl, (port_is, (owner_is, tt))), omega arith)
+  call_words-plain (Find port) sayable =
+      let port_is = IsPlainWord-decimal port (omega (arith, sayable)) in
+      ((plain_name refl, (port_is, tt)), omega arith)
+  call_words-plain (ListAll port) sayable =
+      let port_is = IsPlainWord-decimal port (omega (arith, sayable)) in
+      ((plain_name refl, (port_is, tt)), omega arith)
+  call_words-plain (Release port owner) sayable =
+      let port_is = IsPlainWord-decimal port (omega (arith, sayable.0)) in
+      let owner_is = IsPlainWord-decimal owner (omega (arith, sayable.1)) in
+      ((plain_name refl, (port_is, (owner_is, tt))), omega arith)
+  call_words-plain (Rebind port owner new) sayable =
+      let port_is = IsPlainWord-decimal port (omega (arith, sayable.0)) in
+      let owner_is = IsPlainWord-decimal owner (omega (arith, sayable.1)) in
+      let new_is = IsPlainWord-decimal new (omega (arith, sayable.2)) in
+      ((plain_name refl, (port_is, (owner_is, (new_is, tt)))), omega arith)
+  call_words-plain (Walk from limit) sayable = absurd sayable
+  call_words-plain Work sayable = absurd sayable
+  call_words-plain Tidy sayable = absurd sayable
+  call_words-plain Count sayable = ((plain_name refl, tt), omega arith)
 
 -- ---- commands
 
@@ -84,14 +99,15 @@ module _ (table : TableLine) (callers : table.config.callers < 2 ^ 32) where
   command_of-plain command sayable =
       let worker : command.0 < 2 ^ 32 = omega (arith, sayable.0, callers) in
       let worker_is = number_of-decimal command.0 worker (worker_limits table.config) sayable.0 in
-      rw (is_schedule-decimal command.0 worker, worker_is, call_of-plain command.1 sayable.1) refl
+      rw (is_schedule-decimal command.0 worker, worker_is, call_of-plain table.config.kind command.1 sayable.1)
+      refl
 
-  -- the words of a command are plain, and at most four
+  -- the words of a command are plain, and at most five
   command_words-plain : (command : ℕ × Call) → IsSayableCommand table.config command
-      → AllByRecursion IsPlainWord (command_words command) × (length (command_words command) ≤ 4)
+      → AllByRecursion IsPlainWord (command_words command) × (length (command_words command) ≤ 5)
   command_words-plain command sayable =
       let worker : command.0 < 2 ^ 32 = omega (arith, sayable.0, callers) in
-      let call = call_words-plain command.1 sayable.1 in
+      let call = call_words-plain table.config.kind command.1 sayable.1 in
       ((IsPlainWord-decimal command.0 worker, call.0), omega (arith, call.1))
 
   -- By induction: the line of a command is neither skipped nor too long, and is read as the command.
@@ -126,10 +142,22 @@ set_number : (setting : ℕ → Setting) (limits : Limits) (name : List ℕ)
 set_number setting limits name is number small within =
     is (decimal number) ∙ rw (number_of-decimal number small limits within) refl
 
+set_nodes : (number : ℕ) → IsWithinLimits node_limits number
+    → setting_of (codes "nodes") (decimal number) ≡ Ok (Nodes number)
+unfolding setting_of
+set_nodes number within =
+    set_number Nodes node_limits (codes "nodes") (λ value. refl) number (omega (arith, within)) within
+
 set_min : (number : ℕ) → IsWithinLimits min_limits number
     → setting_of (codes "min") (decimal number) ≡ Ok (Min number)
 unfolding setting_of
 set_min number within = set_number Min min_limits (codes "min") (λ value. refl) number
+    (omega (arith, within)) within
+
+set_max : (number : ℕ) → IsWithinLimits max_limits number
+    → setting_of (codes "max") (decimal number) ≡ Ok (Max number)
+unfolding setting_of
+set_max number within = set_number Max max_limits (codes "max") (λ value. refl) number
     (omega (arith, within)) within
 
 set_hint : (number : ℕ) → IsWithinLimits hint_limits number
@@ -168,29 +196,28 @@ options_from-step : (options : Options) (setting : Setting) (name value : List �
 options_from-step options setting name value words is = rw is refl
 
 -- a config of these numbers
-made : Config → ℕ → ℕ → ℕ → ℕ → ℕ → Kind → Bool → Config
-made config nodes callers hint min max kind shrink = record config {
-  nodes = nodes;
+made : Config → ℕ → ℕ → ℕ → ℕ → Bool → Config
+made config callers hint min max shrink = record config {
   callers = callers;
   hint = hint;
   min = min;
   max = max;
-  kind = kind;
   shrink = shrink;
 }
 
 -- a config is made of its own numbers
 made-same : (config : Config)
-    → made config config.nodes config.callers config.hint config.min config.max config.kind
-    config.shrink ≡ config
+    → made config config.callers config.hint config.min config.max config.shrink ≡ config
 unfolding made
 made-same config = refl
 
 -- the options that the config's line sets
-abbrev options_said : Config → Option ℕ → Options
-options_said config hint = record {
+abbrev options_said : Config → Option ℕ → Option ℕ → Options
+options_said config hint most = record {
+  nodes = Some config.nodes;
   hint = hint;
   min = Some config.min;
+  max = most;
   pages = Some config.pages;
   seed = Some config.seed;
   rewalks = Some config.rewalks;
@@ -198,34 +225,75 @@ options_said config hint = record {
   twice = false;
 }
 
+-- a kind is read from its word
+kind_of-plain : (kind : Kind) → kind_of (kind_word kind) ≡ Ok kind
+kind_of-plain Single = refl
+kind_of-plain Listed = refl
+
+-- the words for a kind and for a hash are plain
+kind_word-plain : (kind : Kind) → IsPlainWord (kind_word kind)
+kind_word-plain Single = plain_name refl
+kind_word-plain Listed = plain_name refl
+
+hash_word-plain : (hash : Hash) → IsPlainWord (hash_word hash)
+hash_word-plain Mix = plain_name refl
+hash_word-plain Low = plain_name refl
+
+-- so is a name with its number, or without one
+number_or_none-plain : (name : List ℕ) → IsPlainWord name → (number : ℕ) → number < 2 ^ 32
+    → AllByRecursion IsPlainWord (number_or_none name number) × (length (number_or_none name number) ≤ 2)
+number_or_none-plain name plain number small = elim (cases_Bool (number == 0)) [
+  | inl none ↦ rw none (tt, omega arith)
+  | inr some ↦ rw some ((plain, (IsPlainWord-decimal number small, tt)), omega arith)
+]
+
 module _ (config : Config) (sayable : IsSayableConfig config) where
-  -- the hint, where there is one
+  -- the hint and the greatest size, where there is one
   abbrev hint_said : Option ℕ
   hint_said = cond (config.hint == 0) None (Some config.hint)
 
-  options_from-hint : options_from (options_said config None) (hint_words config.hint) ≡ Ok
-      (options_said config hint_said)
-  options_from-hint = elim (cases_Bool (config.hint == 0)) [
+  abbrev max_said : Option ℕ
+  max_said = cond (config.max == 0) None (Some config.max)
+
+  options_from-max : (hint : Option ℕ)
+      → options_from (options_said config hint None) (number_or_none (codes "max") config.max) ≡ Ok
+      (options_said config hint max_said)
+  options_from-max hint = elim (cases_Bool (config.max == 0)) [
     | inl none ↦ rw none refl
+    | inr some ↦
+        rw some
+        (options_from-step (options_said config hint None) (Max config.max) (codes "max")
+        (decimal config.max) []
+        (set_max config.max (sayable.settled.greatest.within (eqb-false config.max 0 some))))
+  ]
+
+  options_from-hint : options_from (options_said config None None) (number_or_none (codes "hint") config.hint
+      ++ number_or_none (codes "max") config.max) ≡ Ok (options_said config hint_said max_said)
+  options_from-hint = elim (cases_Bool (config.hint == 0)) [
+    | inl none ↦ rw none (options_from-max None)
     | inr some ↦
         let positive : 1 ≤ config.hint = omega (arith, eqb-false config.hint 0 some) in
         rw some
-        (options_from-step (options_said config None) (Hint config.hint) (codes "hint")
-        (decimal config.hint) []
-        (set_hint config.hint (positive, sayable.settled.hint)))
+        (options_from-step (options_said config None None) (Hint config.hint) (codes "hint")
+        (decimal config.hint) (number_or_none (codes "max") config.max)
+        (set_hint config.hint (positive, sayable.settled.hint))
+        ∙ options_from-max (Some config.hint))
   ]
 
   options_from-plain : options_from no_options (codes "hash" ∷ hash_word config.hash
-      ∷ codes "min" ∷ decimal config.min ∷ codes "pages" ∷ decimal config.pages
-      ∷ codes "seed" ∷ decimal config.seed ∷ codes "rewalks" ∷ decimal config.rewalks
-      ∷ hint_words config.hint) ≡ Ok (options_said config hint_said)
+      ∷ codes "nodes" ∷ decimal config.nodes ∷ codes "min" ∷ decimal config.min
+      ∷ codes "pages" ∷ decimal config.pages ∷ codes "seed" ∷ decimal config.seed
+      ∷ codes "rewalks" ∷ decimal config.rewalks
+      ∷ (number_or_none (codes "hint") config.hint ++ number_or_none (codes "max") config.max)) ≡ Ok
+      (options_said config hint_said max_said)
   options_from-plain =
       let s = sayable.settled in
       rw set_hash
+      (rw (set_nodes config.nodes s.geometry.nodes_within)
       (rw (set_min config.min (omega (arith, s.least.within), s.least.within.1))
       (rw (set_pages config.pages s.geometry.pages_within)
       (rw (set_seed config.seed (omega arith, s.seed))
-      (rw (set_rewalks config.rewalks (omega arith, s.rewalks)) options_from-hint))))
+      (rw (set_rewalks config.rewalks (omega arith, s.rewalks)) options_from-hint)))))
 
   hint_same : unwrap_or hint_said plain_config.hint ≡ config.hint
   hint_same = elim (cases_Bool (config.hint == 0)) [
@@ -238,72 +306,91 @@ module _ (config : Config) (sayable : IsSayableConfig config) where
       let least = sayable.settled.least in
       ap (max 4) least.rounded ∙ omega (arith, least.within)
 
+  max_same : rounded_down (unwrap_or max_said plain_config.max) ≡ config.max
+  max_same = elim (cases_Bool (config.max == 0)) [
+    | inl none ↦ rw none (rounded_down-zero ∙ sym (eqb-true config.max 0 none))
+    | inr some ↦ rw some sayable.settled.greatest.rounded
+  ]
+
   -- the options stand for the config
-  configured-said : configured (options_said config hint_said) ≡ config
+  configured-said : configured config.kind (options_said config hint_said max_said) ≡ config
   unfolding configured made
   configured-said =
       let hint = unwrap_or hint_said plain_config.hint in
-      let same : made config plain_config.nodes plain_config.callers hint (rounded_min config.min) plain_config.max plain_config.kind plain_config.shrink
-      ≡ made config config.nodes config.callers config.hint config.min config.max config.kind config.shrink =
-      rw (hint_same, min_same, sayable.nodes, sayable.callers, sayable.max, sayable.kind, sayable.shrink)
-      refl in
+      let most = rounded_down (unwrap_or max_said plain_config.max) in
+      let same : made config plain_config.callers hint (rounded_min config.min) most plain_config.shrink
+      ≡ made config config.callers config.hint config.min config.max config.shrink =
+      rw (hint_same, min_same, max_same, sayable.callers, sayable.shrink) refl in
       same ∙ made-same config
 
-  config_of-plain : config_of (options_said config hint_said) ≡ Ok config
+  sizes_agree-settled : sizes_agree config ≡ true
+  sizes_agree-settled = elim (cases_Bool (config.max == 0)) [
+    | inl none ↦ rw none refl
+    | inr some ↦
+        rw some
+        (le-leb config.min config.max (sayable.settled.agree (eqb-false config.max 0 some)))
+  ]
+
+  config_of-plain : config_of config.kind (options_said config hint_said max_said) ≡ Ok config
   unfolding config_of
   config_of-plain =
       let room : has_room config ≡ true = le-leb (first_size config) (page_words * config.pages)
       sayable.settled.starts in
-      rw (configured-said, room) refl
+      rw (configured-said, sizes_agree-settled, room) refl
 
   table_of-plain : table_of (table_words config) ≡ Ok (record { config = config; auto = true })
   unfolding table_of
-  table_of-plain = rw (options_from-plain, config_of-plain) refl
+  table_of-plain = rw (kind_of-plain config.kind, options_from-plain, config_of-plain) refl
 
-  -- the words of the table line are plain, and at most fourteen
-  hash_word-plain : (hash : Hash) → IsPlainWord (hash_word hash)
-  hash_word-plain Mix = record { some = refl; bytes = refl; short = omega arith }
-  hash_word-plain Low = record { some = refl; bytes = refl; short = omega arith }
-
-  hint_words-plain : AllByRecursion IsPlainWord (hint_words config.hint)
-      × (length (hint_words config.hint) ≤ 2)
-  hint_words-plain = elim (cases_Bool (config.hint == 0)) [
-    | inl none ↦ rw none (tt, omega arith)
-    | inr some ↦
-        let number = IsPlainWord-decimal config.hint (omega (arith, sayable.settled.hint)) in
-        rw some ((record { some = refl; bytes = refl; short = omega arith }, (number, tt)), omega arith)
+  -- the greatest size has up to six digits
+  max_small : config.max < 2 ^ 32
+  max_small = elim (cases_Bool (config.max == 0)) [
+    | inl none ↦ omega (arith, eqb-true config.max 0 none)
+    | inr some ↦ omega (arith, sayable.settled.greatest.within (eqb-false config.max 0 some))
   ]
 
-  table_words-plain : AllByRecursion IsPlainWord (table_words config) × (length (table_words config) ≤ 14)
+  -- the words of the table line are plain, and at most eighteen
+  table_words-plain : AllByRecursion IsPlainWord (table_words config) × (length (table_words config) ≤ 18)
   table_words-plain =
       let s = sayable.settled in
-      let hint = hint_words-plain in
-      let number = IsPlainWord-decimal in (
+      let number = IsPlainWord-decimal in
+      let hint = number_or_none-plain (codes "hint") (plain_name refl) config.hint (omega (arith, s.hint)) in
+      let max = number_or_none-plain (codes "max") (plain_name refl) config.max max_small in
+      let behind = AllByRecursion-append IsPlainWord (number_or_none (codes "hint") config.hint)
+      (number_or_none (codes "max") config.max) hint.0 max.0 in
+      let few = length-append (number_or_none (codes "hint") config.hint)
+      (number_or_none (codes "max") config.max) in (
         (
-          record { some = refl; bytes = refl; short = omega arith },
+          plain_name refl,
           (
-            record { some = refl; bytes = refl; short = omega arith },
+            kind_word-plain config.kind,
             (
-              record { some = refl; bytes = refl; short = omega arith },
+              plain_name refl,
               (
                 hash_word-plain config.hash,
                 (
-                  record { some = refl; bytes = refl; short = omega arith },
+                  plain_name refl,
                   (
-                    number config.min (omega (arith, s.least.within)),
+                    number config.nodes (omega (arith, s.geometry.nodes_within)),
                     (
-                      record { some = refl; bytes = refl; short = omega arith },
+                      plain_name refl,
                       (
-                        number config.pages (omega (arith, s.geometry.pages_within)),
+                        number config.min (omega (arith, s.least.within)),
                         (
-                          record { some = refl; bytes = refl; short = omega arith },
+                          plain_name refl,
                           (
-                            number config.seed (omega (arith, s.seed)),
+                            number config.pages (omega (arith, s.geometry.pages_within)),
                             (
-                              record { some = refl; bytes = refl; short = omega arith },
+                              plain_name refl,
                               (
-                                number config.rewalks (omega (arith, s.rewalks)),
-                                hint.0,
+                                number config.seed (omega (arith, s.seed)),
+                                (
+                                  plain_name refl,
+                                  (
+                                    number config.rewalks (omega (arith, s.rewalks)),
+                                    behind,
+                                  ),
+                                ),
                               ),
                             ),
                           ),
@@ -316,15 +403,10 @@ module _ (config : Config) (sayable : IsSayableConfig config) where
             ),
           ),
         ),
-        omega (arith, hint.1),
+        omega (arith, hint.1, max.1, few),
       )
 
 -- ---- the whole script
-
--- what holds of all holds of each in turn
-by_recursion : {X : Type 0} (P : X → Type 0) (xs : List X) → All P xs → AllByRecursion P xs
-by_recursion P [] all = tt
-by_recursion P (x ∷ xs) all = (All-head P x xs all, by_recursion P xs (All-tail P x xs all))
 
 pub reads_back : ReadsBack
 unfolding plain_script
@@ -340,7 +422,7 @@ reads_back said can short =
     let read : words_at 1 (spaced_words words) ≡ Ok words =
     words_at-right 1 (spaced_words words) (omega arith) (omega (arith, length-spaced words plain.0, plain.1))
     ∙ ap (λ (ws : List (List ℕ)). Ok ws) (words_of-spaced words plain.0) in
-    let each = by_recursion (IsSayableCommand config) commands can.commands in
+    let each = recursion_from_All (IsSayableCommand config) commands can.commands in
     let commands_read = commands_from-plain table callers 2 commands each (omega (arith, can.few)) in
     reading_of-lines (plain_line words ++ behind) short
     ∙ ap (said_from 1) (lines_of-plain words behind plain.0)

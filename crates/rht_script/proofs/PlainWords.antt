@@ -82,6 +82,17 @@ pub record IsPlainWord (word : List ℕ) : Type 0 where
   pub bytes : list_all is_plain_byte word ≡ true
   pub short : length word ≤ 10
 
+-- the test of such a word
+abbrev pub is_plain_word : List ℕ → Bool
+is_plain_word word = is_some_text word && (list_all is_plain_byte word && nat_le (length word) 10)
+
+-- a word that passes is plain, as every name of a script
+pub plain_name : {word : List ℕ} → is_plain_word word ≡ true → IsPlainWord word
+plain_name {word} passes =
+    let parts = and_parts (is_some_text word) _ passes in
+    let others = and_parts (list_all is_plain_byte word) (nat_le (length word) 10) parts.1 in
+    record { some = parts.0; bytes = others.0; short = leb-true (length word) 10 others.1 }
+
 -- a digit is no blank and no line feed
 is_plain_byte-digit : (byte : ℕ) → is_ascii_digit byte ≡ true → is_plain_byte byte ≡ true
 is_plain_byte-digit byte digit =

@@ -6,16 +6,18 @@ use Rattle.std.specs.List.{AllByRecursion}
 use Rattle.std.proofs.lemmas.Bool.{ltb-false}
 use Rattle.std.proofs.lemmas.Result.{IfOk-at_ok}
 use Rattle.rht_words.specs.declared.config.Config.{Config}
+use Rattle.rht_words.specs.declared.config.Kind.{Kind}
+use Rattle.rht_words.specs.declared.config.Kind.TheVariants.{Single, Listed}
 use Rattle.rht_words.specs.declared.limits.Limits.{Limits}
 use Rattle.rht_model.specs.declared.history.Call.{Call}
-use Rattle.rht_model.specs.declared.history.Call.TheVariants.{Bind, Find, Release}
+use Rattle.rht_model.specs.declared.history.Call.TheVariants.{Bind, Find, All, Release, Rebind, Count}
 use Rattle.rht_script.specs.declared.script.TableLine.{TableLine}
 use Rattle.rht_script.specs.declared.script.ScriptFault.{ScriptFault}
 use Rattle.rht_script.specs.declared.cause.Cause.{Cause}
 use Rattle.rht_script.specs.declared.cause.Cause.TheVariants.{BadNumber, OutOfRange, UnknownWord, TooManyLines, LineTooLong}
 use Rattle.rht_script.specs.Grammar.{most_bytes, most_lines, most_in_line, at_line, words_at, commands_from, Said, said_from, reading_of}
 use Rattle.rht_script.specs.TableLines.{table_of}
-use Rattle.rht_script.specs.CommandLines.{port_limits, owner_limits, worker_limits, number_first, end_of, bind_of, find_of, release_of, call_of, is_schedule, command_of}
+use Rattle.rht_script.specs.CommandLines.{port_limits, owner_limits, worker_limits, number_first, end_of, bind_of, find_of, all_of, release_of, of_single, rebind_of, count_of, call_of, is_schedule, command_of}
 use Rattle.rht_script.specs.Spelling.{◌>>=◌, is_word, is_number, value_of, is_within, number_of, lines_of, words_of, is_skipped}
 
 -- ---- what holds of a value holds on the way to it
@@ -89,43 +91,79 @@ module _ (Q : Call → Type 0) where
       IfOk-then (λ (read : ℕ × List (List ℕ)). IsOwner read.0) Q (number_first owner_limits words) next
       (first_within owner_limits words) holds
 
-module _ (Q : Call → Type 0) (bind : (port owner : ℕ) → IsPort port → IsOwner owner
-    → Q (Bind port owner false))
-    (find : (port : ℕ) → IsPort port → Q (Find port))
-    (release : (port owner : ℕ) → IsPort port → IsOwner owner → Q (Release port owner)) where
+-- what is for tables of one owner each holds where it is in one
+of_single_holds : (Q : Call → Type 0) (kind : Kind) (call : Call) → (kind ≡ Single → Q call)
+    → IfOk (of_single kind call) Q
+of_single_holds Q Single call holds = holds refl
+of_single_holds Q Listed call holds = tt
+
+-- It holds of each call that a line can ask of a table of this kind, whatever the port and the owners.
+pub record HoldsOfCalls (kind : Kind) (Q : Call → Type 0) : Type 0 where
+  pub bind : (port owner : ℕ) → IsPort port → IsOwner owner → Q (Bind port owner false)
+  pub find : (port : ℕ) → IsPort port → Q (Find port)
+  pub list : (port : ℕ) → IsPort port → Q (All port)
+  pub release : (port owner : ℕ) → IsPort port → IsOwner owner → Q (Release port owner)
+  pub rebind : (port owner new : ℕ) → IsPort port → IsOwner owner → IsOwner new → kind ≡ Single
+      → Q (Rebind port owner new)
+  pub count : Q Count
+
+module _ (kind : Kind) (Q : Call → Type 0) (holds : HoldsOfCalls kind Q) where
   bind_holds : (words : List (List ℕ)) → IfOk (bind_of words) Q
   unfolding bind_of
   bind_holds words =
       behind_port Q words _ (λ port is_port.
       behind_owner Q port.1 _ (λ owner is_owner.
-      IfOk-after Q (end_of owner.1) _ (λ end. bind port.0 owner.0 is_port is_owner)))
+      IfOk-after Q (end_of owner.1) _ (λ end. holds.bind port.0 owner.0 is_port is_owner)))
 
   find_holds : (words : List (List ℕ)) → IfOk (find_of words) Q
   unfolding find_of
   find_holds words =
       behind_port Q words _ (λ port is_port.
-      IfOk-after Q (end_of port.1) _ (λ end. find port.0 is_port))
+      IfOk-after Q (end_of port.1) _ (λ end. holds.find port.0 is_port))
+
+  all_holds : (words : List (List ℕ)) → IfOk (all_of words) Q
+  unfolding all_of
+  all_holds words =
+      behind_port Q words _ (λ port is_port.
+      IfOk-after Q (end_of port.1) _ (λ end. holds.list port.0 is_port))
 
   release_holds : (words : List (List ℕ)) → IfOk (release_of words) Q
   unfolding release_of
   release_holds words =
       behind_port Q words _ (λ port is_port.
       behind_owner Q port.1 _ (λ owner is_owner.
-      IfOk-after Q (end_of owner.1) _ (λ end. release port.0 owner.0 is_port is_owner)))
+      IfOk-after Q (end_of owner.1) _ (λ end. holds.release port.0 owner.0 is_port is_owner)))
+
+  rebind_holds : (words : List (List ℕ)) → IfOk (rebind_of kind words) Q
+  unfolding rebind_of
+  rebind_holds words =
+      behind_port Q words _ (λ port is_port.
+      behind_owner Q port.1 _ (λ owner is_owner.
+      behind_owner Q owner.1 _ (λ new is_new.
+      IfOk-after Q (end_of new.1) _ (λ end.
+      of_single_holds Q kind (Rebind port.0 owner.0 new.0)
+      (holds.rebind port.0 owner.0 new.0 is_port is_owner is_new)))))
+
+  count_holds : (words : List (List ℕ)) → IfOk (count_of words) Q
+  unfolding count_of
+  count_holds words = IfOk-after Q (end_of words) _ (λ end. holds.count)
 
   -- what holds of each call that can be written holds of what a verb asks
-  pub call_holds : (words : List (List ℕ)) → IfOk (call_of words) Q
+  pub call_holds : (words : List (List ℕ)) → IfOk (call_of kind words) Q
   unfolding call_of
   call_holds [] = tt
   call_holds (verb ∷ words) =
       IfOk-cond Q (is_word verb (codes "bind")) _ _ (bind_holds words)
       (IfOk-cond Q (is_word verb (codes "find")) _ _ (find_holds words)
-      (IfOk-cond Q (is_word verb (codes "release")) _ (Err UnknownWord) (release_holds words) tt))
+      (IfOk-cond Q (is_word verb (codes "all")) _ _ (all_holds words)
+      (IfOk-cond Q (is_word verb (codes "release")) _ _ (release_holds words)
+      (IfOk-cond Q (is_word verb (codes "rebind")) _ _ (rebind_holds words)
+      (IfOk-cond Q (is_word verb (codes "count")) _ (Err UnknownWord) (count_holds words) tt)))))
 
 module _ (P : ℕ × Call → Type 0) (Q : Call → Type 0) (table : TableLine)
     (both : (worker : ℕ) (call : Call) → is_within (worker_limits table.config) worker ≡ true → Q call
     → P (worker, call))
-    (each : (words : List (List ℕ)) → IfOk (call_of words) Q) where
+    (each : (words : List (List ℕ)) → IfOk (call_of table.config.kind words) Q) where
   -- what holds of a worker's calls holds of a command line
   pub command_holds : (words : List (List ℕ)) → IfOk (command_of table words) P
   unfolding command_of
@@ -135,7 +173,7 @@ module _ (P : ℕ × Call → Type 0) (Q : Call → Type 0) (table : TableLine)
       IfOk-cond P (is_schedule worker) (Err UnknownWord) _ tt
       (IfOk-then (λ number. is_within limits number ≡ true) P (number_of limits worker) _
       (number_within limits worker) (λ number within.
-      IfOk-then Q P (call_of words) _ (each words) (λ call holds. both number call within holds)))
+      IfOk-then Q P (call_of table.config.kind words) _ (each words) (λ call holds. both number call within holds)))
 
 -- ---- all command lines
 

@@ -1,7 +1,7 @@
 -- Whatever is read, today's words can say. Each number of an option is read within its limits, so the options are
 -- allowed, and where their first table has room their config is settled; what no option sets is as without options. Each
 -- command is read with its worker, port and owner within their limits (`ReadCommands`).
-use Rattle.std.proofs.Common.{◌≡◌, ℕ, ◌+◌, ◌*◌, Bool, true, false, not, cond, Ok, Err, List, [], ◌∷◌, length, codes, refl, ap, arith}
+use Rattle.std.proofs.Common.{◌≡◌, ℕ, ◌+◌, ◌*◌, Bool, true, false, not, ◌&&◌, cond, Ok, Err, List, [], ◌∷◌, length, codes, refl, ap, arith}
 use Rattle.std.specs.Prelude.{IfOk, nat_le, nat_lt}
 use Rattle.std.specs.List.{AllByRecursion}
 use Rattle.std.proofs.lemmas.Bool.{le-leb, leb-true, and_from, and_parts}
@@ -9,8 +9,9 @@ use Rattle.std.proofs.lemmas.List.Elements.{All-from_recursion, All-weaker}
 use Rattle.std.proofs.lemmas.List.Sums.{list_all-from_AllPass}
 use Rattle.std.proofs.lemmas.Result.{IfOk-at_ok}
 use Rattle.rht_words.specs.declared.config.Config.{Config}
+use Rattle.rht_words.specs.declared.config.Kind.{Kind}
 use Rattle.rht_words.specs.declared.limits.Limits.{Limits}
-use Rattle.rht_words.specs.Limits.{IsWithinLimits, hint_limits, min_limits, page_limits, seed_limits, rewalk_limits, page_words}
+use Rattle.rht_words.specs.Limits.{IsWithinLimits, node_limits, hint_limits, min_limits, max_limits, page_limits, seed_limits, rewalk_limits, page_words}
 use Rattle.rht_words.specs.Sizes.{first_size}
 use Rattle.rht_model.specs.declared.history.Call.{Call}
 use Rattle.rht_model.specs.declared.history.Call.TheVariants.{Bind, Find, All as ListAll, Release, Rebind, Walk, Work, Tidy, Count}
@@ -18,16 +19,16 @@ use Rattle.rht_script.specs.declared.script.Script.{Script}
 use Rattle.rht_script.specs.declared.script.TableLine.{TableLine}
 use Rattle.rht_script.specs.declared.cause.Cause.TheVariants.{NoTableLine, UnknownWord, OptionsDisagree}
 use Rattle.rht_script.specs.declared.options.Setting.{Setting}
-use Rattle.rht_script.specs.declared.options.Setting.TheVariants.{Hint, Min, Pages, Seed, Rewalks, Hashing}
+use Rattle.rht_script.specs.declared.options.Setting.TheVariants.{Nodes, Hint, Min, Max, Pages, Seed, Rewalks, Hashing}
 use Rattle.rht_script.specs.declared.options.Options.{Options}
 use Rattle.rht_script.specs.Spelling.{is_word, is_within, number_of, lines_of, is_skipped}
-use Rattle.rht_script.specs.TableLines.{numbered, hash_of, setting_of, no_options, with_setting, options_from, configured, has_room, config_of, table_of}
+use Rattle.rht_script.specs.TableLines.{numbered, kind_of, hash_of, setting_of, no_options, with_setting, options_from, configured, sizes_agree, has_room, config_of, table_of}
 use Rattle.rht_script.specs.CommandLines.{port_limits, owner_limits, worker_limits, command_of}
 use Rattle.rht_script.specs.Grammar.{most_bytes, at_line, words_at, Said, commands_from, said_from, reading_of}
 use Rattle.rht_script.specs.Allowed.{IsAllowed, AreAllowed}
 use Rattle.rht_script.specs.Plain.{IsSayableConfig, IsSayableCall, IsSayableCommand}
 use Rattle.rht_script.specs.Reading.{said_by}
-use Rattle.rht_script.specs.Sound.{is_sound_call, is_sound_command, IsCommandCall, IsSoundScript}
+use Rattle.rht_script.specs.Sound.{is_single, is_sound_call, is_sound_command, IsCommandCall, IsSoundScript}
 use Rattle.rht_script.specs.Laws.{SaysSayable}
 use Rattle.rht_script.proofs.ConfigLemmas.{IsSettled-configured}
 use Rattle.rht_script.proofs.ReadCommands.{IfOk-then, IfOk-after, IfOk-cond, IfOk-at_line, number_within, call_holds, command_holds, reading_holds}
@@ -55,10 +56,14 @@ module _ (value : List ℕ) where
   setting_allowed : (name : List ℕ) → IfOk (setting_of name value) IsAllowed
   unfolding setting_of
   setting_allowed name =
-      IfOk-cond IsAllowed (is_word name (codes "hint")) _ _
+      IfOk-cond IsAllowed (is_word name (codes "nodes")) _ _
+      (numbered_allowed Nodes node_limits (λ number within. within))
+      (IfOk-cond IsAllowed (is_word name (codes "hint")) _ _
       (numbered_allowed Hint hint_limits (λ number within. within))
       (IfOk-cond IsAllowed (is_word name (codes "min")) _ _
       (numbered_allowed Min min_limits (λ number within. within))
+      (IfOk-cond IsAllowed (is_word name (codes "max")) _ _
+      (numbered_allowed Max max_limits (λ number within. within))
       (IfOk-cond IsAllowed (is_word name (codes "pages")) _ _
       (numbered_allowed Pages page_limits (λ number within. within))
       (IfOk-cond IsAllowed (is_word name (codes "seed")) _ _
@@ -66,23 +71,27 @@ module _ (value : List ℕ) where
       (IfOk-cond IsAllowed (is_word name (codes "rewalks")) _ _
       (numbered_allowed Rewalks rewalk_limits (λ number within. within))
       (IfOk-cond IsAllowed (is_word name (codes "hash")) _ (Err UnknownWord)
-      (IfOk-after IsAllowed (hash_of value) _ (λ hash. tt)) tt)))))
+      (IfOk-after IsAllowed (hash_of value) _ (λ hash. tt)) tt)))))))
 
 -- by cases of the setting
 AreAllowed-with : (options : Options) (setting : Setting) → AreAllowed options → IsAllowed setting
     → AreAllowed (with_setting options setting)
+AreAllowed-with options (Nodes number) are is =
+    record { nodes = is; hint = are.hint; min = are.min; max = are.max; pages = are.pages; seed = are.seed; rewalks = are.rewalks }
 AreAllowed-with options (Hint number) are is =
-    record { hint = is; min = are.min; pages = are.pages; seed = are.seed; rewalks = are.rewalks }
+    record { nodes = are.nodes; hint = is; min = are.min; max = are.max; pages = are.pages; seed = are.seed; rewalks = are.rewalks }
 AreAllowed-with options (Min number) are is =
-    record { hint = are.hint; min = is; pages = are.pages; seed = are.seed; rewalks = are.rewalks }
+    record { nodes = are.nodes; hint = are.hint; min = is; max = are.max; pages = are.pages; seed = are.seed; rewalks = are.rewalks }
+AreAllowed-with options (Max number) are is =
+    record { nodes = are.nodes; hint = are.hint; min = are.min; max = is; pages = are.pages; seed = are.seed; rewalks = are.rewalks }
 AreAllowed-with options (Pages number) are is =
-    record { hint = are.hint; min = are.min; pages = is; seed = are.seed; rewalks = are.rewalks }
+    record { nodes = are.nodes; hint = are.hint; min = are.min; max = are.max; pages = is; seed = are.seed; rewalks = are.rewalks }
 AreAllowed-with options (Seed number) are is =
-    record { hint = are.hint; min = are.min; pages = are.pages; seed = is; rewalks = are.rewalks }
+    record { nodes = are.nodes; hint = are.hint; min = are.min; max = are.max; pages = are.pages; seed = is; rewalks = are.rewalks }
 AreAllowed-with options (Rewalks number) are is =
-    record { hint = are.hint; min = are.min; pages = are.pages; seed = are.seed; rewalks = is }
+    record { nodes = are.nodes; hint = are.hint; min = are.min; max = are.max; pages = are.pages; seed = are.seed; rewalks = is }
 AreAllowed-with options (Hashing hash) are is =
-    record { hint = are.hint; min = are.min; pages = are.pages; seed = are.seed; rewalks = are.rewalks }
+    record { nodes = are.nodes; hint = are.hint; min = are.min; max = are.max; pages = are.pages; seed = are.seed; rewalks = are.rewalks }
 
 -- by induction over the words, two at a time
 options_allowed : (options : Options) (words : List (List ℕ)) → AreAllowed options
@@ -95,29 +104,29 @@ options_allowed options (name ∷ value ∷ words) are =
     (AreAllowed-with options setting are is))
 
 no_options_allowed : AreAllowed no_options
-no_options_allowed = record { hint = tt; min = tt; pages = tt; seed = tt; rewalks = tt }
+no_options_allowed = record { nodes = tt; hint = tt; min = tt; max = tt; pages = tt; seed = tt; rewalks = tt }
 
 -- ---- the table line
 
-config_sayable : (options : Options) → AreAllowed options → IfOk (config_of options) IsSayableConfig
-unfolding config_of configured
-config_sayable options are =
-    IfOk-cond IsSayableConfig options.twice (Err OptionsDisagree) _ tt
-    (where_room (has_room (configured options)) refl)
-  where
-    where_room : (room : Bool) → has_room (configured options) ≡ room
-        → IfOk (cond room (Ok (configured options)) (Err OptionsDisagree)) IsSayableConfig
-    where_room true is = record {
-      settled =
-          IsSettled-configured options are
-          (leb-true (first_size (configured options)) (page_words * (configured options).pages) is);
-      kind = refl;
-      nodes = refl;
-      callers = refl;
-      max = refl;
-      shrink = refl;
-    }
-    where_room false is = tt
+module _ (kind : Kind) (options : Options) (are : AreAllowed options) where
+  -- what a table of this kind is opened with
+  abbrev config : Config
+  config = configured kind options
+
+  where_agreed : (agreed : Bool) → (sizes_agree config && has_room config) ≡ agreed
+      → IfOk (cond agreed (Ok config) (Err OptionsDisagree)) IsSayableConfig
+  unfolding configured
+  where_agreed true is =
+      let parts = and_parts (sizes_agree config) (has_room config) is in
+      let room = leb-true (first_size config) (page_words * config.pages) parts.1 in
+      record { settled = IsSettled-configured kind options are parts.0 room; callers = refl; shrink = refl }
+  where_agreed false is = tt
+
+  config_sayable : IfOk (config_of kind options) IsSayableConfig
+  unfolding config_of
+  config_sayable =
+      IfOk-cond IsSayableConfig options.twice (Err OptionsDisagree) _ tt
+      (where_agreed (sizes_agree config && has_room config) refl)
 
 -- what a table line says: a config that can be said, and that workers run `work` by themselves
 record IsSayableTable (table : TableLine) : Type 0 where
@@ -131,12 +140,12 @@ table_sayable (table ∷ []) = IfOk-cond IsSayableTable (is_word table (codes "t
     tt tt
 table_sayable (table ∷ kind ∷ words) =
     IfOk-cond IsSayableTable (is_word table (codes "table")) _ (Err NoTableLine)
-    (IfOk-cond IsSayableTable (is_word kind (codes "single")) _ (Err UnknownWord)
-    (IfOk-then AreAllowed IsSayableTable (options_from no_options words) _
+    (IfOk-after IsSayableTable (kind_of kind) _ (λ kind.
+    IfOk-then AreAllowed IsSayableTable (options_from no_options words) _
     (options_allowed no_options words no_options_allowed) (λ options are.
-    IfOk-then IsSayableConfig IsSayableTable (config_of options) _ (config_sayable options are) (λ config is.
-    record { config = is; auto = refl })))
-    tt)
+    IfOk-then IsSayableConfig IsSayableTable (config_of kind options) _ (config_sayable kind options are)
+    (λ config is.
+    record { config = is; auto = refl }))))
     tt
 
 -- ---- the whole script
@@ -165,12 +174,18 @@ command_sayable : (table : TableLine) (words : List (List ℕ))
 command_sayable table =
     let port_is = IsWithinLimits-test port_limits in
     let owner_is = IsWithinLimits-test owner_limits in
-    command_holds (IsSayableCommand table.config) IsSayableCall table
+    let kind = table.config.kind in
+    command_holds (IsSayableCommand table.config) (IsSayableCall kind) table
     (λ worker call within sayable. (IsWithinLimits-test (worker_limits table.config) worker within, sayable))
-    (call_holds IsSayableCall
-    (λ port owner is_port is_owner. (port_is port is_port, owner_is owner is_owner, refl))
-    (λ port is_port. port_is port is_port)
-    (λ port owner is_port is_owner. (port_is port is_port, owner_is owner is_owner)))
+    (call_holds kind (IsSayableCall kind) record {
+      bind = λ port owner is_port is_owner. (port_is port is_port, owner_is owner is_owner, refl);
+      find = λ port is_port. port_is port is_port;
+      list = λ port is_port. port_is port is_port;
+      release = λ port owner is_port is_owner. (port_is port is_port, owner_is owner is_owner);
+      rebind = λ port owner new is_port is_owner is_new single.
+          (port_is port is_port, owner_is owner is_owner, owner_is new is_new, single);
+      count = tt;
+    })
 
 pub says_sayable : SaysSayable
 unfolding reading_of
@@ -191,17 +206,17 @@ says_sayable bytes said read =
 -- ---- sound scripts
 
 -- a call for which there is a verb can be run
-is_sound_call-sayable : (config : Config) (call : Call) → IsSayableCall call
+is_sound_call-sayable : (config : Config) (call : Call) → IsSayableCall config.kind call
     → is_sound_call config call ≡ true
 is_sound_call-sayable config (Bind port owner once) sayable = ap not sayable.2
 is_sound_call-sayable config (Find port) sayable = refl
-is_sound_call-sayable config (ListAll port) sayable = absurd sayable
+is_sound_call-sayable config (ListAll port) sayable = refl
 is_sound_call-sayable config (Release port owner) sayable = refl
-is_sound_call-sayable config (Rebind port owner new) sayable = absurd sayable
+is_sound_call-sayable config (Rebind port owner new) sayable = ap is_single sayable.3
 is_sound_call-sayable config (Walk from limit) sayable = absurd sayable
 is_sound_call-sayable config Work sayable = absurd sayable
 is_sound_call-sayable config Tidy sayable = absurd sayable
-is_sound_call-sayable config Count sayable = absurd sayable
+is_sound_call-sayable config Count sayable = refl
 
 -- so a command that can be said is sound
 is_sound_command-sayable : (config : Config) (command : ℕ × Call) → IsSayableCommand config command
@@ -238,8 +253,12 @@ commands_asked bytes said read =
     (reading_holds (λ config command. IsCommandCall command.1) (λ table.
     command_holds (λ command. IsCommandCall command.1) IsCommandCall table
     (λ worker call within asked. asked)
-    (call_holds IsCommandCall
-    (λ port owner is_port is_owner. refl)
-    (λ port is_port. tt)
-    (λ port owner is_port is_owner. tt)))
+    (call_holds table.config.kind IsCommandCall record {
+      bind = λ port owner is_port is_owner. refl;
+      find = λ port is_port. tt;
+      list = λ port is_port. tt;
+      release = λ port owner is_port is_owner. tt;
+      rebind = λ port owner new is_port is_owner is_new single. tt;
+      count = tt;
+    }))
     bytes said read).each

@@ -5,21 +5,22 @@
 use Rattle.std.proofs.Common.{◌≡◌, ℕ, ◌+◌, true, false, Ok, Err, List, [], ◌∷◌, ◌++◌, map, replicate, codes, refl}
 use Rattle.rht_words.specs.Settled.{plain_config}
 use Rattle.rht_words.specs.Sizes.{powers, rounded_up}
+use Rattle.rht_words.specs.declared.config.Kind.TheVariants.{Listed}
 use Rattle.rht_words.specs.declared.config.Config.{Config}
 use Rattle.rht_words.specs.declared.config.Hash.TheVariants.{Low}
 use Rattle.rht_model.specs.declared.history.Call.{Call}
-use Rattle.rht_model.specs.declared.history.Call.TheVariants.{Bind, Find, Release}
+use Rattle.rht_model.specs.declared.history.Call.TheVariants.{Bind, Find, All, Release, Rebind, Count}
 use Rattle.rht_script.specs.declared.cause.Cause.{Cause}
-use Rattle.rht_script.specs.declared.cause.Cause.TheVariants.{NoTableLine, UnknownWord, BadNumber, OutOfRange, LineTooLong, OptionsDisagree}
+use Rattle.rht_script.specs.declared.cause.Cause.TheVariants.{NoTableLine, UnknownWord, BadNumber, OutOfRange, LineTooLong, WrongKind, OptionsDisagree}
 use Rattle.rht_script.specs.Spelling.{lines_of, words_of, number_of}
 use Rattle.rht_script.specs.TableLines.{setting_of, configured, config_of, table_of}
-use Rattle.rht_script.specs.CommandLines.{bind_of, find_of, release_of, call_of, command_of}
+use Rattle.rht_script.specs.CommandLines.{bind_of, find_of, all_of, release_of, rebind_of, count_of, call_of, command_of}
 use Rattle.rht_script.specs.Grammar.{most_in_line, fault_at, reading_of}
 
 -- the definitions that reading a text computes
 whole_reading : Unit {0}
 unfolding reading_of lines_of words_of number_of table_of setting_of config_of configured rounded_up powers
-    command_of call_of bind_of find_of release_of
+    command_of call_of bind_of find_of all_of release_of rebind_of count_of
 whole_reading = tt
 
 -- each of these texts has its first fault at this line, of this cause
@@ -56,8 +57,9 @@ ends_without_table_line = refl
 
 -- a word of the table line can't stand there, or is missing
 unknown_words_of_tables : HaveFault 1 UnknownWord (
-    codes "table\n" ∷ codes "table listed\n" ∷ codes "table single single\n"
-    ∷ codes "table single max 4\n" ∷ codes "table single work auto\n" ∷ codes "table single hint\n"
+    codes "table\n" ∷ codes "table double\n" ∷ codes "table single single\n"
+    ∷ codes "table single listed\n" ∷ codes "table single workers 2\n" ∷ codes "table single work auto\n"
+    ∷ codes "table single hint\n" ∷ codes "table listed nodes\n" ∷ codes "table single max\n"
     ∷ codes "table single hint 96 97\n" ∷ codes "table single hash 1\n" ∷ [])
 unfolding whole_reading
 unknown_words_of_tables = refl
@@ -67,6 +69,8 @@ unknown_words_of_commands : HaveFault 2 UnknownWord (below_table (
     codes "1\n" ∷ codes "1 lookup\n" ∷ codes "1 Find 80\n" ∷ codes "1 bind\n" ∷ codes "1 bind 80\n"
     ∷ codes "1 find\n" ∷ codes "1 release 80\n" ∷ codes "1 bind 80 100 7\n"
     ∷ codes "1 find 80 100\n" ∷ codes "1 find 80 # who?\n" ∷ codes "1 release 80 100 7\n"
+    ∷ codes "1 all\n" ∷ codes "1 all 80 100\n" ∷ codes "1 rebind 80\n" ∷ codes "1 rebind 80 1\n"
+    ∷ codes "1 rebind 80 1 2 3\n" ∷ codes "1 count 80\n" ∷ codes "1 work\n" ∷ codes "1 walk\n"
     ∷ codes "step 1 5\n" ∷ codes "skip x\n" ∷ codes "finish\n" ∷ []))
 unfolding whole_reading
 unknown_words_of_commands = refl
@@ -75,7 +79,8 @@ unknown_words_of_commands = refl
 bad_numbers_of_tables : HaveFault 1 BadNumber (
     codes "table single hint x\n" ∷ codes "table single min +4\n"
     ∷ codes "table single pages 0x10\n" ∷ codes "table single seed -1\n"
-    ∷ codes "table single rewalks 000000000000000000008\n" ∷ [])
+    ∷ codes "table single rewalks 000000000000000000008\n" ∷ codes "table listed nodes x\n"
+    ∷ codes "table single max x\n" ∷ [])
 unfolding whole_reading
 bad_numbers_of_tables = refl
 
@@ -83,7 +88,9 @@ bad_numbers_of_tables = refl
 bad_numbers_of_commands : HaveFault 2 BadNumber (below_table (
     codes "x find 80\n" ∷ codes "1: find 80\n" ∷ codes "bind 80 100\n" ∷ codes "1 find http\n"
     ∷ codes "1 bind x 100\n" ∷ codes "1 bind 80 x\n" ∷ codes "1 release x 100\n"
-    ∷ codes "1 release 80 x\n" ∷ codes "1 find 000000000000000000080\n" ∷ []))
+    ∷ codes "1 release 80 x\n" ∷ codes "1 find 000000000000000000080\n" ∷ codes "1 all x\n"
+    ∷ codes "1 rebind x 1 2\n" ∷ codes "1 rebind 80 x 2\n" ∷ codes "1 rebind 80 1 x\n"
+    ∷ codes "x count\n" ∷ []))
 unfolding whole_reading
 bad_numbers_of_commands = refl
 
@@ -92,7 +99,9 @@ numbers_out_of_range_of_tables : HaveFault 1 OutOfRange (
     codes "table single hint 0\n" ∷ codes "table single hint 65537\n" ∷ codes "table single min 0\n"
     ∷ codes "table single min 65537\n" ∷ codes "table single pages 3\n"
     ∷ codes "table single pages 4097\n" ∷ codes "table single seed 4294967296\n"
-    ∷ codes "table single rewalks 256\n" ∷ codes "table single seed 18446744073709551616\n" ∷ [])
+    ∷ codes "table single rewalks 256\n" ∷ codes "table single seed 18446744073709551616\n"
+    ∷ codes "table single nodes 0\n" ∷ codes "table single nodes 65537\n" ∷ codes "table single max 3\n"
+    ∷ codes "table single max 131073\n" ∷ [])
 unfolding whole_reading
 numbers_out_of_range_of_tables = refl
 
@@ -101,7 +110,9 @@ numbers_out_of_range_of_commands : HaveFault 2 OutOfRange (below_table (
     codes "0 find 80\n" ∷ codes "2 find 80\n" ∷ codes "1 find 4294967296\n"
     ∷ codes "1 bind 4294967296 100\n" ∷ codes "1 bind 80 4294967296\n"
     ∷ codes "1 release 4294967296 100\n" ∷ codes "1 release 80 4294967296\n"
-    ∷ codes "1 find 18446744073709551696\n" ∷ []))
+    ∷ codes "1 find 18446744073709551696\n" ∷ codes "1 all 4294967296\n"
+    ∷ codes "1 rebind 4294967296 1 2\n" ∷ codes "1 rebind 80 4294967296 2\n"
+    ∷ codes "1 rebind 80 1 4294967296\n" ∷ []))
 unfolding whole_reading
 numbers_out_of_range_of_commands = refl
 
@@ -119,9 +130,23 @@ later_line_too_long = refl
 options_twice : HaveFault 1 OptionsDisagree (
     codes "table single hint 96 hint 96\n" ∷ codes "table single min 4 seed 1 min 4\n"
     ∷ codes "table single pages 4 pages 4\n" ∷ codes "table single seed 1 seed 2 seed 3\n"
-    ∷ codes "table single rewalks 8 rewalks 8\n" ∷ codes "table single hash low hash low\n" ∷ [])
+    ∷ codes "table single rewalks 8 rewalks 8\n" ∷ codes "table single hash low hash low\n"
+    ∷ codes "table listed nodes 16 nodes 16\n" ∷ codes "table single max 4 max 4\n" ∷ [])
 unfolding whole_reading
 options_twice = refl
+
+-- the least size is above the greatest once both are rounded: 8 and 4, 8 and 4, and 128 and 64
+sizes_disagree : HaveFault 1 OptionsDisagree (
+    codes "table single min 5 max 4\n" ∷ codes "table single max 7 min 5\n"
+    ∷ codes "table listed min 65 max 127\n" ∷ [])
+unfolding whole_reading
+sizes_disagree = refl
+
+-- a rebind in a table of lists
+wrong_kind : HaveFault 2 WrongKind (
+    codes "table listed\n1 rebind 80 1 2\n" ∷ codes "table listed max 8\n1 rebind 0 0 0" ∷ [])
+unfolding whole_reading
+wrong_kind = refl
 
 -- the first table has more buckets than its pages: 512, 512 and 131,072
 no_room : HaveFault 1 OptionsDisagree (
@@ -154,7 +179,7 @@ no_table_line_before_words = refl
 
 -- of two words of a table line the left one comes first: an unknown word, before a number
 unknown_word_left_of_number : HaveFault 1 UnknownWord (
-    codes "table listed hint x\n" ∷ codes "table single speed x\n" ∷ codes "table listed hint 0\n"
+    codes "table double hint x\n" ∷ codes "table single speed x\n" ∷ codes "table double hint 0\n"
     ∷ [])
 unfolding whole_reading
 unknown_word_left_of_number = refl
@@ -167,7 +192,7 @@ bad_number_left = refl
 
 -- and a number out of range, before an unknown word and a bad number
 number_out_of_range_left : HaveFault 1 OutOfRange (
-    codes "table single hint 0 max 4\n" ∷ codes "table single hint 0 seed x\n" ∷ [])
+    codes "table single hint 0 speed 4\n" ∷ codes "table single hint 0 seed x\n" ∷ [])
 unfolding whole_reading
 number_out_of_range_left = refl
 
@@ -193,8 +218,8 @@ number_out_of_range_left_in_command = refl
 
 -- that options disagree comes last, behind an unknown word
 unknown_word_before_options : HaveFault 1 UnknownWord (
-    codes "table single hint 96 hint\n" ∷ codes "table single hint 96 hint 96 max 4\n"
-    ∷ codes "table single pages 4 hint 300 max 4\n" ∷ [])
+    codes "table single hint 96 hint\n" ∷ codes "table single hint 96 hint 96 speed 4\n"
+    ∷ codes "table single pages 4 hint 300 max\n" ∷ codes "table single min 5 max 4 nodes\n" ∷ [])
 unfolding whole_reading
 unknown_word_before_options = refl
 
@@ -210,9 +235,29 @@ number_out_of_range_before_options : HaveFault 1 OutOfRange (
 unfolding whole_reading
 number_out_of_range_before_options = refl
 
+-- that the table is of the wrong kind comes last too, behind an unknown, a missing and an extra word
+unknown_word_before_kind : HaveFault 2 UnknownWord (
+    codes "table listed\n1 rebind\n" ∷ codes "table listed\n1 rebind 80 1\n"
+    ∷ codes "table listed\n1 rebind 80 1 2 3\n" ∷ [])
+unfolding whole_reading
+unknown_word_before_kind = refl
+
+-- behind a bad number
+bad_number_before_kind : HaveFault 2 BadNumber (
+    codes "table listed\nx rebind 80 1 2\n" ∷ codes "table listed\n1 rebind x 1 2\n"
+    ∷ codes "table listed\n1 rebind 80 1 x\n" ∷ [])
+unfolding whole_reading
+bad_number_before_kind = refl
+
+-- and behind a number out of range
+number_out_of_range_before_kind : HaveFault 2 OutOfRange (
+    codes "table listed\n2 rebind 80 1 2\n" ∷ codes "table listed\n1 rebind 80 1 4294967296\n" ∷ [])
+unfolding whole_reading
+number_out_of_range_before_kind = refl
+
 -- of two lines the upper one comes first, whatever is wrong with the other: a table line with an unknown word
 table_line_before_commands : HaveFault 1 UnknownWord (
-    codes "table\n1 find x\n" ∷ codes "table listed\n2 find 80\n" ∷ [])
+    codes "table\n1 find x\n" ∷ codes "table double\n2 find 80\n" ∷ [])
 unfolding whole_reading
 table_line_before_commands = refl
 
@@ -240,6 +285,17 @@ number_out_of_range_before_later_lines : HaveFault 2 OutOfRange (below_table (
 unfolding whole_reading
 number_out_of_range_before_later_lines = refl
 
+-- with a rebind in a table of lists, and above one
+wrong_kind_before_later_lines : HaveFault 2 WrongKind (
+    codes "table listed\n1 rebind 80 1 2\n1 lookup\n" ∷ [])
+unfolding whole_reading
+wrong_kind_before_later_lines = refl
+
+unknown_word_before_wrong_kind : HaveFault 2 UnknownWord (
+    codes "table listed\n1 lookup\n1 rebind 80 1 2\n" ∷ [])
+unfolding whole_reading
+unknown_word_before_wrong_kind = refl
+
 -- so it is with a line that is too long, above or below
 too_long_before_later_lines : HaveFault 2 LineTooLong
     (below_table (too_long (codes "1 find 80\n1 lookup\n" ∷ [])))
@@ -254,10 +310,32 @@ unknown_word_before_too_long = refl
 -- ---- scripts
 
 -- a table line without options, and a command of each verb
-verbs : Says (codes "table single\n1 bind 80 100\n1 find 80\n1 release 80 100") plain_config
-    ((1, Bind 80 100 false) ∷ (1, Find 80) ∷ (1, Release 80 100) ∷ [])
+verbs : Says (codes
+    "table single\n1 bind 80 100\n1 find 80\n1 all 80\n1 rebind 80 100 7\n1 count\n1 release 80 7")
+    plain_config
+    ((1, Bind 80 100 false) ∷ (1, Find 80) ∷ (1, All 80) ∷ (1, Rebind 80 100 7) ∷ (1, Count)
+    ∷ (1, Release 80 7) ∷ [])
 unfolding whole_reading
 verbs = refl
+
+-- a table of lists, in which everything but a rebind can be asked
+lists : Says (codes "table listed\n1 bind 80 1\n1 all 80\n1 count\n1 release 80 1\n")
+    (record plain_config { kind = Listed })
+    ((1, Bind 80 1 false) ∷ (1, All 80) ∷ (1, Count) ∷ (1, Release 80 1) ∷ [])
+unfolding whole_reading
+lists = refl
+
+-- The greatest size is rounded down to a power of two, and cuts the first size: 64 to 4, so that it has room in the pages.
+greatest_size : Says (codes "table single max 7 nodes 16 pages 4 min 3\n")
+    (record plain_config { max = 4; nodes = 16; pages = 4 }) []
+unfolding whole_reading
+greatest_size = refl
+
+-- a hint of 65,536 would take 131,072 buckets; a greatest size of 16,384 is room for what the pages have without options
+cut_to_greatest : Says (codes "table listed hint 65536 max 32767\n")
+    (record plain_config { kind = Listed; hint = 65536; max = 16384 }) []
+unfolding whole_reading
+cut_to_greatest = refl
 
 -- each option; a hint of 192 takes 256 buckets, which have room in 4 pages, and 5 is rounded up to 8
 options : Says (codes "table single hash low rewalks 0 seed 7 pages 4 min 5 hint 192\n")

@@ -1,12 +1,14 @@
 -- What the words of a command line stand for: a worker, and what that asks. Words are read from left to right.
 use Rattle.std.specs.Prelude.{ℕ, Bool, false, ◌||◌, if◌then◌else◌, Result, Ok, Err, List, [], ◌∷◌, codes}
 use Rattle.rht_words.specs.declared.config.Config.{Config}
+use Rattle.rht_words.specs.declared.config.Kind.{Kind}
+use Rattle.rht_words.specs.declared.config.Kind.TheVariants.{Single, Listed}
 use Rattle.rht_words.specs.declared.limits.Limits.{Limits}
 use Rattle.rht_model.specs.declared.history.Call.{Call}
-use Rattle.rht_model.specs.declared.history.Call.TheVariants.{Bind, Find, Release}
+use Rattle.rht_model.specs.declared.history.Call.TheVariants.{Bind, Find, All, Release, Rebind, Count}
 use Rattle.rht_script.specs.declared.script.TableLine.{TableLine}
 use Rattle.rht_script.specs.declared.cause.Cause.{Cause}
-use Rattle.rht_script.specs.declared.cause.Cause.TheVariants.{UnknownWord}
+use Rattle.rht_script.specs.declared.cause.Cause.TheVariants.{UnknownWord, WrongKind}
 use Rattle.rht_script.specs.Spelling.{◌>>=◌, is_word, number_of}
 
 -- a port and an owner are any number of 32 bits
@@ -42,6 +44,12 @@ find_of words = do
   end ← end_of port.1
   Ok (Find port.0)
 
+unfoldable pub all_of : List (List ℕ) → Result Call Cause
+all_of words = do
+  port ← number_first port_limits words
+  end ← end_of port.1
+  Ok (All port.0)
+
 unfoldable pub release_of : List (List ℕ) → Result Call Cause
 release_of words = do
   port ← number_first port_limits words
@@ -49,13 +57,35 @@ release_of words = do
   end ← end_of owner.1
   Ok (Release port.0 owner.0)
 
--- what a verb asks with the words behind it
-unfoldable pub call_of : List (List ℕ) → Result Call Cause
-call_of [] = Err UnknownWord
-call_of (verb ∷ words) =
+-- a call that is for tables of one owner each alone, in a table of this kind
+abbrev pub of_single : Kind → Call → Result Call Cause
+of_single Single call = Ok call
+of_single Listed call = Err WrongKind
+
+-- that the table is of the wrong kind is asked of the whole line, last
+unfoldable pub rebind_of : Kind → List (List ℕ) → Result Call Cause
+rebind_of kind words = do
+  port ← number_first port_limits words
+  owner ← number_first owner_limits port.1
+  new ← number_first owner_limits owner.1
+  end ← end_of new.1
+  of_single kind (Rebind port.0 owner.0 new.0)
+
+unfoldable pub count_of : List (List ℕ) → Result Call Cause
+count_of words = do
+  end ← end_of words
+  Ok Count
+
+-- what a verb asks of a table of this kind with the words behind it
+unfoldable pub call_of : Kind → List (List ℕ) → Result Call Cause
+call_of kind [] = Err UnknownWord
+call_of kind (verb ∷ words) =
     if is_word verb (codes "bind") then bind_of words
     else if is_word verb (codes "find") then find_of words
+    else if is_word verb (codes "all") then all_of words
     else if is_word verb (codes "release") then release_of words
+    else if is_word verb (codes "rebind") then rebind_of kind words
+    else if is_word verb (codes "count") then count_of words
     else Err UnknownWord
 
 -- the word begins a line of a schedule, of which there are none yet
@@ -73,5 +103,5 @@ command_of table (worker ∷ words) =
     if is_schedule worker then Err UnknownWord
     else do
       number ← number_of (worker_limits table.config) worker
-      call ← call_of words
+      call ← call_of table.config.kind words
       Ok (number, call)

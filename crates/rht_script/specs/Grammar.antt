@@ -7,7 +7,7 @@ use Rattle.rht_script.specs.declared.script.Sched.{Sched}
 use Rattle.rht_script.specs.declared.script.ScriptFault.{ScriptFault}
 use Rattle.rht_script.specs.declared.script.TableLine.{TableLine}
 use Rattle.rht_script.specs.declared.cause.Cause.{Cause}
-use Rattle.rht_script.specs.declared.cause.Cause.TheVariants.{NoTableLine, UnknownWord, BadNumber, OutOfRange, TooManyLines, LineTooLong, OptionsDisagree, ScriptTooLong}
+use Rattle.rht_script.specs.declared.cause.Cause.TheVariants.{NoTableLine, UnknownWord, BadNumber, OutOfRange, TooManyLines, LineTooLong, WrongKind, OptionsDisagree, ScriptTooLong}
 use Rattle.rht_script.specs.Spelling.{◌>>=◌, lines_of, words_of, is_skipped}
 use Rattle.rht_script.specs.TableLines.{table_of}
 use Rattle.rht_script.specs.CommandLines.{command_of}
@@ -30,6 +30,7 @@ code_of BadNumber = 3
 code_of OutOfRange = 4
 code_of TooManyLines = 5
 code_of LineTooLong = 6
+code_of WrongKind = 7
 code_of OptionsDisagree = 8
 code_of ScriptTooLong = 9
 

@@ -3,6 +3,8 @@
 use Rattle.std.specs.Prelude.{◌≡◌, ℕ, ◌<◌, ◌==◌, true, false, if◌then◌else◌, All, List, [], ◌∷◌, ◌++◌, length, codes, decimal}
 use Rattle.std.specs.List.{flat_map, join_with_byte}
 use Rattle.rht_words.specs.declared.config.Config.{Config}
+use Rattle.rht_words.specs.declared.config.Kind.{Kind}
+use Rattle.rht_words.specs.declared.config.Kind.TheVariants.{Single, Listed}
 use Rattle.rht_words.specs.declared.config.Hash.{Hash}
 use Rattle.rht_words.specs.declared.config.Hash.TheVariants.{Mix, Low}
 use Rattle.rht_words.specs.Limits.{IsWithinLimits}
@@ -17,29 +19,29 @@ use Rattle.rht_script.specs.CommandLines.{port_limits, owner_limits, worker_limi
 -- the options can say the config: a table can be opened with it, and what no option sets is as without options
 pub record IsSayableConfig (config : Config) : Type 0 where
   pub settled : IsSettled config
-  pub kind : config.kind ≡ plain_config.kind
-  pub nodes : config.nodes ≡ plain_config.nodes
   pub callers : config.callers ≡ plain_config.callers
-  pub max : config.max ≡ plain_config.max
   pub shrink : config.shrink ≡ plain_config.shrink
 
--- there is a verb for the call: a bind that is tried until it ends, a look-up and a release, each of any port and owner
-abbrev pub IsSayableCall : Call → Type 0
-IsSayableCall (Bind port owner once) =
+-- There is a verb for the call in a table of this kind: a bind that is tried until it ends, a look-up, a listing, a release
+-- and a rebind, each of any port and owners, and a reading of the count. A rebind is in a table of one owner each.
+abbrev pub IsSayableCall : Kind → Call → Type 0
+IsSayableCall kind (Bind port owner once) =
     IsWithinLimits port_limits port × IsWithinLimits owner_limits owner × (once ≡ false)
-IsSayableCall (Find port) = IsWithinLimits port_limits port
-IsSayableCall (ListAll port) = ⊥
-IsSayableCall (Release port owner) = IsWithinLimits port_limits port × IsWithinLimits owner_limits owner
-IsSayableCall (Rebind port owner new) = ⊥
-IsSayableCall (Walk from limit) = ⊥
-IsSayableCall Work = ⊥
-IsSayableCall Tidy = ⊥
-IsSayableCall Count = ⊥
+IsSayableCall kind (Find port) = IsWithinLimits port_limits port
+IsSayableCall kind (ListAll port) = IsWithinLimits port_limits port
+IsSayableCall kind (Release port owner) = IsWithinLimits port_limits port × IsWithinLimits owner_limits owner
+IsSayableCall kind (Rebind port owner new) =
+    IsWithinLimits port_limits port × IsWithinLimits owner_limits owner × IsWithinLimits owner_limits new
+    × (kind ≡ Single)
+IsSayableCall kind (Walk from limit) = ⊥
+IsSayableCall kind Work = ⊥
+IsSayableCall kind Tidy = ⊥
+IsSayableCall kind Count = Unit {0}
 
 -- a command line can say the command: it is one of a worker of the table
 abbrev pub IsSayableCommand : Config → ℕ × Call → Type 0
 IsSayableCommand config command =
-    IsWithinLimits (worker_limits config) command.0 × IsSayableCall command.1
+    IsWithinLimits (worker_limits config) command.0 × IsSayableCall config.kind command.1
 
 -- today's words can say this: a config and commands that they can say, one line each, and nothing else
 pub record IsSayable (said : Said) : Type 0 where
@@ -51,9 +53,14 @@ pub record IsSayable (said : Said) : Type 0 where
 
 -- ---- how it is spelled
 
--- the words for a hint; no words say that there is none
-abbrev pub hint_words : ℕ → List (List ℕ)
-hint_words hint = if hint == 0 then [] else codes "hint" ∷ decimal hint ∷ []
+-- the words for an option that is a number or none, which is 0; no words say that there is none
+abbrev pub number_or_none : List ℕ → ℕ → List (List ℕ)
+number_or_none name number = if number == 0 then [] else name ∷ decimal number ∷ []
+
+-- the word for a kind
+abbrev pub kind_word : Kind → List ℕ
+kind_word Single = codes "single"
+kind_word Listed = codes "listed"
 
 -- the word for a hash
 abbrev pub hash_word : Hash → List ℕ
@@ -63,22 +70,24 @@ hash_word Low = codes "low"
 -- the words of the table line of a config: every option
 abbrev pub table_words : Config → List (List ℕ)
 table_words config =
-    codes "table" ∷ codes "single" ∷ codes "hash" ∷ hash_word config.hash
-    ∷ codes "min" ∷ decimal config.min ∷ codes "pages" ∷ decimal config.pages
-    ∷ codes "seed" ∷ decimal config.seed ∷ codes "rewalks" ∷ decimal config.rewalks
-    ∷ hint_words config.hint
+    codes "table" ∷ kind_word config.kind ∷ codes "hash" ∷ hash_word config.hash
+    ∷ codes "nodes" ∷ decimal config.nodes ∷ codes "min" ∷ decimal config.min
+    ∷ codes "pages" ∷ decimal config.pages ∷ codes "seed" ∷ decimal config.seed
+    ∷ codes "rewalks" ∷ decimal config.rewalks
+    ∷ (number_or_none (codes "hint") config.hint ++ number_or_none (codes "max") config.max)
 
 -- the words of a call: its verb and its numbers; of calls for which there is no verb yet, none
 abbrev pub call_words : Call → List (List ℕ)
 call_words (Bind port owner once) = codes "bind" ∷ decimal port ∷ decimal owner ∷ []
 call_words (Find port) = codes "find" ∷ decimal port ∷ []
-call_words (ListAll port) = []
+call_words (ListAll port) = codes "all" ∷ decimal port ∷ []
 call_words (Release port owner) = codes "release" ∷ decimal port ∷ decimal owner ∷ []
-call_words (Rebind port owner new) = []
+call_words (Rebind port owner new) =
+    codes "rebind" ∷ decimal port ∷ decimal owner ∷ decimal new ∷ []
 call_words (Walk from limit) = []
 call_words Work = []
 call_words Tidy = []
-call_words Count = []
+call_words Count = codes "count" ∷ []
 
 -- the words of a command: its worker, and the call's
 abbrev pub command_words : ℕ × Call → List (List ℕ)

@@ -1,18 +1,20 @@
 -- What the words of a table line stand for: what the table is opened with.
 -- Words are read from left to right; that the options agree is asked of the whole line, last.
-use Rattle.std.specs.Prelude.{ℕ, ◌*◌, Bool, true, false, ◌||◌, nat_le, max, if◌then◌else◌, None, Some, is_some, unwrap_or, Result, Ok, Err, List, [], ◌∷◌, codes}
+use Rattle.std.specs.Prelude.{ℕ, ◌*◌, Bool, true, false, ◌&&◌, ◌||◌, ◌==◌, nat_le, max, if◌then◌else◌, None, Some, is_some, unwrap_or, Result, Ok, Err, List, [], ◌∷◌, codes}
 use Rattle.rht_words.specs.declared.config.Config.{Config}
+use Rattle.rht_words.specs.declared.config.Kind.{Kind}
+use Rattle.rht_words.specs.declared.config.Kind.TheVariants.{Single, Listed}
 use Rattle.rht_words.specs.declared.config.Hash.{Hash}
 use Rattle.rht_words.specs.declared.config.Hash.TheVariants.{Mix, Low}
 use Rattle.rht_words.specs.declared.limits.Limits.{Limits}
-use Rattle.rht_words.specs.Limits.{hint_limits, min_limits, page_limits, seed_limits, rewalk_limits, least_size, page_words}
+use Rattle.rht_words.specs.Limits.{node_limits, hint_limits, min_limits, max_limits, page_limits, seed_limits, rewalk_limits, least_size, page_words}
 use Rattle.rht_words.specs.Settled.{plain_config}
-use Rattle.rht_words.specs.Sizes.{rounded_up, first_size}
+use Rattle.rht_words.specs.Sizes.{rounded_up, rounded_down, first_size}
 use Rattle.rht_script.specs.declared.script.TableLine.{TableLine}
 use Rattle.rht_script.specs.declared.cause.Cause.{Cause}
 use Rattle.rht_script.specs.declared.cause.Cause.TheVariants.{NoTableLine, UnknownWord, OptionsDisagree}
 use Rattle.rht_script.specs.declared.options.Setting.{Setting}
-use Rattle.rht_script.specs.declared.options.Setting.TheVariants.{Hint, Min, Pages, Seed, Rewalks, Hashing}
+use Rattle.rht_script.specs.declared.options.Setting.TheVariants.{Nodes, Hint, Min, Max, Pages, Seed, Rewalks, Hashing}
 use Rattle.rht_script.specs.declared.options.Options.{Options}
 use Rattle.rht_script.specs.Spelling.{◌>>=◌, is_word, number_of}
 
@@ -21,6 +23,13 @@ abbrev pub numbered : (ℕ → Setting) → Limits → List ℕ → Result Setti
 numbered setting limits value = do
   number ← number_of limits value
   Ok (setting number)
+
+-- the kind of table of this name
+abbrev pub kind_of : List ℕ → Result Kind Cause
+kind_of word =
+    if is_word word (codes "single") then Ok Single
+    else if is_word word (codes "listed") then Ok Listed
+    else Err UnknownWord
 
 -- the hash of this name
 abbrev pub hash_of : List ℕ → Result Hash Cause
@@ -32,8 +41,10 @@ hash_of value =
 -- what an option of this name is set to by its value
 unfoldable pub setting_of : List ℕ → List ℕ → Result Setting Cause
 setting_of name value =
-    if is_word name (codes "hint") then numbered Hint hint_limits value
+    if is_word name (codes "nodes") then numbered Nodes node_limits value
+    else if is_word name (codes "hint") then numbered Hint hint_limits value
     else if is_word name (codes "min") then numbered Min min_limits value
+    else if is_word name (codes "max") then numbered Max max_limits value
     else if is_word name (codes "pages") then numbered Pages page_limits value
     else if is_word name (codes "seed") then numbered Seed seed_limits value
     else if is_word name (codes "rewalks") then numbered Rewalks rewalk_limits value
@@ -43,8 +54,10 @@ setting_of name value =
 -- nothing is set
 abbrev pub no_options : Options
 no_options = record {
+  nodes = None;
   hint = None;
   min = None;
+  max = None;
   pages = None;
   seed = None;
   rewalks = None;
@@ -54,24 +67,22 @@ no_options = record {
 
 -- the options with a further setting; one that was set already is set twice
 abbrev pub with_setting : Options → Setting → Options
+with_setting options (Nodes number) =
+    record options { nodes = Some number; twice = options.twice || is_some options.nodes }
 with_setting options (Hint number) =
     record options { hint = Some number; twice = options.twice || is_some options.hint }
-with_setting options (Min number) = record options {
-  min = Some number;
-  twice = options.twice || is_some
-      options.min;
-}
+with_setting options (Min number) =
+    record options { min = Some number; twice = options.twice || is_some options.min }
+with_setting options (Max number) =
+    record options { max = Some number; twice = options.twice || is_some options.max }
 with_setting options (Pages number) =
     record options { pages = Some number; twice = options.twice || is_some options.pages }
 with_setting options (Seed number) =
     record options { seed = Some number; twice = options.twice || is_some options.seed }
 with_setting options (Rewalks number) =
     record options { rewalks = Some number; twice = options.twice || is_some options.rewalks }
-with_setting options (Hashing hash) = record options {
-  hash = Some hash;
-  twice = options.twice || is_some
-      options.hash;
-}
+with_setting options (Hashing hash) =
+    record options { hash = Some hash; twice = options.twice || is_some options.hash }
 
 -- the options of these words, which are names each with its value
 abbrev pub options_from : Options → List (List ℕ) → Result Options Cause
@@ -85,39 +96,49 @@ options_from options (name ∷ value ∷ words) = do
 abbrev pub rounded_min : ℕ → ℕ
 rounded_min number = max least_size (rounded_up number)
 
--- what a table with these options is opened with
-unfoldable pub configured : Options → Config
-configured options = record plain_config {
+-- what a table of this kind with these options is opened with; the greatest size is rounded down to a power of two
+unfoldable pub configured : Kind → Options → Config
+configured kind options = record plain_config {
+  kind = kind;
+  nodes = unwrap_or options.nodes plain_config.nodes;
   pages = unwrap_or options.pages plain_config.pages;
   hint = unwrap_or options.hint plain_config.hint;
   min = rounded_min (unwrap_or options.min plain_config.min);
+  max = rounded_down (unwrap_or options.max plain_config.max);
   seed = unwrap_or options.seed plain_config.seed;
   rewalks = unwrap_or options.rewalks plain_config.rewalks;
   hash = unwrap_or options.hash plain_config.hash;
 }
 
--- a table can be opened so: its first buckets have room in its pages
+-- the least size isn't above the greatest, where there is one
+abbrev pub sizes_agree : Config → Bool
+sizes_agree config = config.max == 0 || nat_le config.min config.max
+
+-- the first buckets have room in the pages
 abbrev pub has_room : Config → Bool
 has_room config = nat_le (first_size config) (page_words * config.pages)
 
--- the config of these options, where they agree
-unfoldable pub config_of : Options → Result Config Cause
-config_of options =
+-- the config of a table of this kind with these options, where they agree
+unfoldable pub config_of : Kind → Options → Result Config Cause
+config_of kind options =
     if options.twice then Err OptionsDisagree
-    else if has_room (configured options) then Ok (configured options)
+    else if sizes_agree (configured kind options) && has_room (configured kind options)
+    then Ok (configured kind options)
     else Err OptionsDisagree
 
 -- what the words of a table line behind its kind say; no word says yet that a worker doesn't run `work` by itself
-abbrev pub table_with : List (List ℕ) → Result TableLine Cause
-table_with words = do
+abbrev pub table_with : Kind → List (List ℕ) → Result TableLine Cause
+table_with kind words = do
   options ← options_from no_options words
-  config ← config_of options
+  config ← config_of kind options
   Ok (record { config = config; auto = true })
 
--- what the words of a table line behind `table` say: the kind, which is single, and the options
+-- what the words of a table line behind `table` say: the kind, and the options
 abbrev pub table_below : List (List ℕ) → Result TableLine Cause
 table_below [] = Err UnknownWord
-table_below (kind ∷ words) = if is_word kind (codes "single") then table_with words else Err UnknownWord
+table_below (word ∷ words) = do
+  kind ← kind_of word
+  table_with kind words
 
 -- what a table line of these words says
 unfoldable pub table_of : List (List ℕ) → Result TableLine Cause

@@ -20,7 +20,9 @@ pub(crate) enum Cause {
     TooManyLines = 5,
     /// The line has too many bytes.
     LineTooLong = 6,
-    /// An option stands twice, or the first table has no room.
+    /// The line is a command that a table of this kind doesn't serve.
+    WrongKind = 7,
+    /// An option stands twice, the least size is above the greatest, or the first table has no room.
     OptionsDisagree = 8,
     /// The script has too many bytes.
     ScriptTooLong = 9,

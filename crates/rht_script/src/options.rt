@@ -3,18 +3,20 @@
 //! Stands on `rht_words`, which rounds sizes and says how large a first table is.
 
 ghost use Rattle.std.specs.Prelude.{◌≡◌};
-ghost use Rattle.rht_script.specs.TableLines.{no_options, with_setting, configured, config_of};
+ghost use Rattle.rht_script.specs.TableLines.{no_options, with_setting, sizes_agree, configured, config_of};
 ghost use Rattle.rht_script.specs.Allowed.{AreAllowed, IsAllowed};
 
 use crate::cause::Cause;
 use rht_words::limits::{LEAST_SIZE, PAGE_WORDS};
-use rht_words::{Config, Hash, rounded_up};
+use rht_words::{Config, Hash, Kind, rounded_down, rounded_up};
 
 /// An option with its value.
 #[derive(Clone, Copy, Debug, PartialEq, Eq)]
 pub(crate) enum Setting {
+    Nodes(u32),
     Hint(u32),
     Min(u32),
+    Max(u32),
     Pages(u32),
     Seed(u32),
     Rewalks(u32),
@@ -24,8 +26,10 @@ pub(crate) enum Setting {
 /// What is set so far, and whether an option was set twice.
 #[derive(Clone, Copy, Debug, PartialEq, Eq)]
 pub(crate) struct Options {
+    pub(crate) nodes: Option<u32>,
     pub(crate) hint: Option<u32>,
     pub(crate) min: Option<u32>,
+    pub(crate) max: Option<u32>,
     pub(crate) pages: Option<u32>,
     pub(crate) seed: Option<u32>,
     pub(crate) rewalks: Option<u32>,
@@ -40,8 +44,10 @@ impl Options {
         ensures allowed { AreAllowed result }
     {
         Options {
+            nodes: None,
             hint: None,
             min: None,
+            max: None,
             pages: None,
             seed: None,
             rewalks: None,
@@ -58,6 +64,11 @@ impl Options {
         ensures allowed { AreAllowed result }
     {
         match setting {
+            Setting::Nodes(nodes) => Options {
+                nodes: Some(nodes),
+                twice: self.twice || self.nodes.is_some(),
+                ..self
+            },
             Setting::Hint(hint) => Options {
                 hint: Some(hint),
                 twice: self.twice || self.hint.is_some(),
@@ -66,6 +77,11 @@ impl Options {
             Setting::Min(min) => Options {
                 min: Some(min),
                 twice: self.twice || self.min.is_some(),
+                ..self
+            },
+            Setting::Max(max) => Options {
+                max: Some(max),
+                twice: self.twice || self.max.is_some(),
                 ..self
             },
             Setting::Pages(pages) => Options {
@@ -91,34 +107,47 @@ impl Options {
         }
     }
 
-    /// The config of these options, where they agree.
+    /// The config of a table of this kind with these options, where they agree.
     #[tactic(auto, unfolding(crate::specs::TableLines::config_of))]
-    pub(crate) fn config(self) -> Result<Config, Cause>
+    pub(crate) fn config(self, kind: Kind) -> Result<Config, Cause>
         requires { AreAllowed self }
-        ensures { result ≡ config_of self }
+        ensures { result ≡ config_of kind self }
     {
-        let config = self.configured();
-        if self.twice || config.starting_size() > PAGE_WORDS * config.pages {
+        let config = self.configured(kind);
+        if self.twice
+            || !sizes_agree(&config)
+            || config.starting_size() > PAGE_WORDS * config.pages
+        {
             return Err(Cause::OptionsDisagree);
         }
         Ok(config)
     }
 
-    /// What a table is opened with, also where the options don't agree.
+    /// What a table of this kind is opened with, also where the options don't agree.
     #[tactic(auto, unfolding(crate::specs::TableLines::configured))]
-    fn configured(self) -> Config
+    fn configured(self, kind: Kind) -> Config
         requires { AreAllowed self }
-        ensures { result ≡ configured self }
+        ensures { result ≡ configured kind self }
     {
         let plain = Config::plain();
         Config {
+            kind,
+            nodes: self.nodes.unwrap_or(plain.nodes),
             pages: self.pages.unwrap_or(plain.pages),
             hint: self.hint.unwrap_or(plain.hint),
             min: rounded_up(self.min.unwrap_or(plain.min)).max(LEAST_SIZE),
+            max: rounded_down(self.max.unwrap_or(plain.max)),
             seed: self.seed.unwrap_or(plain.seed),
             rewalks: self.rewalks.unwrap_or(plain.rewalks),
             hash: self.hash.unwrap_or(plain.hash),
             ..plain
         }
     }
+}
+
+/// Whether the least size isn't above the greatest, where there is one.
+fn sizes_agree(config: &Config) -> bool
+    ensures { result ≡ sizes_agree config.now }
+{
+    config.max == 0 || config.min <= config.max
 }

@@ -6,8 +6,8 @@
 ghost use Rattle.std.specs.Prelude.{◌≡◌, ◌+◌, ◌<◌, ◌≤◌, ◌==◌, Ok, Err, IfOk, IfErr, MatchResult, MatchOption, count_by, length, take, fold};
 ghost use Rattle.std.specs.List.{AllByRecursion};
 ghost use Rattle.rht_script.specs.Grammar.{fault_at, commands_from, said_with, said_from};
-ghost use Rattle.rht_script.specs.TableLines.{no_options, table_of, hash_of, setting_of, options_from};
-ghost use Rattle.rht_script.specs.CommandLines.{command_of, call_of, bind_of, find_of, release_of, is_schedule};
+ghost use Rattle.rht_script.specs.TableLines.{no_options, table_of, kind_of, hash_of, setting_of, options_from};
+ghost use Rattle.rht_script.specs.CommandLines.{command_of, call_of, bind_of, find_of, all_of, release_of, rebind_of, count_of, is_schedule};
 ghost use Rattle.rht_script.specs.Reading.{IsScript, IsReason, IsReasonFor};
 ghost use Rattle.rht_script.specs.Allowed.{IsAllowed, AreAllowed};
 ghost use Rattle.rht_script.specs.Sound.{IsSoundScript, IsCommandCall};
@@ -24,12 +24,12 @@ use crate::options::{Options, Setting};
 use crate::script::{ReadError, Script, ScriptFault, TableLine, worker_limits};
 use cursors::{Lines, Words};
 use names::{
-    BIND, FIND, FINISH, HASH, HINT, LOW, MIN, MIX, PAGES, RELEASE, REWALKS, SEED, SINGLE, SKIP,
-    STEP, TABLE,
+    ALL, BIND, COUNT, FIND, FINISH, HASH, HINT, LISTED, LOW, MAX, MIN, MIX, NODES, PAGES, REBIND,
+    RELEASE, REWALKS, SEED, SINGLE, SKIP, STEP, TABLE,
 };
 use numbers::{OWNER, PORT, number_within};
 use rht_model::Call;
-use rht_words::{Hash, limits};
+use rht_words::{Hash, Kind, limits};
 use std::alloc::Global;
 
 /// The greatest number of bytes of a script.
@@ -122,13 +122,24 @@ fn table(mut words: Words) -> Result<TableLine, Cause>
     if words.next() != Some(TABLE) {
         return Err(Cause::NoTableLine);
     }
-    if words.next() != Some(SINGLE) {
-        return Err(Cause::UnknownWord);
-    }
+    let kind = kind(words.next().ok_or(Cause::UnknownWord)?)?;
     Ok(TableLine {
-        config: options(words)?.config()?,
+        config: options(words)?.config(kind)?,
         auto: true,
     })
+}
+
+/// The kind of table of this name.
+fn kind(word: &[u8]) -> Result<Kind, Cause>
+    ensures { result ≡ kind_of word.now }
+{
+    if word == SINGLE {
+        Ok(Kind::Single)
+    } else if word == LISTED {
+        Ok(Kind::Listed)
+    } else {
+        Err(Cause::UnknownWord)
+    }
 }
 
 /// The options of the words behind the kind, which are names each with its value.
@@ -152,10 +163,14 @@ fn setting(name: &[u8], value: &[u8]) -> Result<Setting, Cause>
     ensures value { result ≡ setting_of name.now value.now }
     ensures allowed { IfOk result IsAllowed }
 {
-    if name == HINT {
+    if name == NODES {
+        Ok(Setting::Nodes(number_within(limits::NODES, value)?))
+    } else if name == HINT {
         Ok(Setting::Hint(number_within(limits::HINT, value)?))
     } else if name == MIN {
         Ok(Setting::Min(number_within(limits::MIN, value)?))
+    } else if name == MAX {
+        Ok(Setting::Max(number_within(limits::MAX, value)?))
     } else if name == PAGES {
         Ok(Setting::Pages(number_within(limits::PAGES, value)?))
     } else if name == SEED {
@@ -192,7 +207,7 @@ fn command(table: &TableLine, mut words: Words) -> Result<(u32, Call), Cause>
         return Err(Cause::UnknownWord);
     }
     let worker = number_within(worker_limits(&table.config), worker)?;
-    Ok((worker, call(words)?))
+    Ok((worker, call(table.config.kind, words)?))
 }
 
 /// Whether the word begins a line of a schedule, of which there are none yet.
@@ -202,18 +217,24 @@ fn is_schedule(word: &[u8]) -> bool
     word == STEP || word == SKIP || word == FINISH
 }
 
-/// What a verb asks with the words behind it.
+/// What a verb asks of a table of this kind with the words behind it.
 #[tactic(auto, unfolding(crate::specs::CommandLines::call_of))]
-fn call(mut words: Words) -> Result<Call, Cause>
-    ensures { result ≡ call_of words.entry }
+fn call(kind: Kind, mut words: Words) -> Result<Call, Cause>
+    ensures { result ≡ call_of kind words.entry }
 {
     let verb = words.next().ok_or(Cause::UnknownWord)?;
     if verb == BIND {
         bind(words)
     } else if verb == FIND {
         find(words)
+    } else if verb == ALL {
+        all(words)
     } else if verb == RELEASE {
         release(words)
+    } else if verb == REBIND {
+        rebind(kind, words)
+    } else if verb == COUNT {
+        count(words)
     } else {
         Err(Cause::UnknownWord)
     }
@@ -244,6 +265,16 @@ fn find(mut words: Words) -> Result<Call, Cause>
     Ok(Call::Find { port })
 }
 
+/// A listing of these words.
+#[tactic(auto, unfolding(crate::specs::CommandLines::all_of))]
+fn all(mut words: Words) -> Result<Call, Cause>
+    ensures { result ≡ all_of words.entry }
+{
+    let port = words.number(PORT)?;
+    words.end()?;
+    Ok(Call::All { port })
+}
+
 /// A release of these words.
 #[tactic(auto, unfolding(crate::specs::CommandLines::release_of))]
 fn release(mut words: Words) -> Result<Call, Cause>
@@ -253,4 +284,28 @@ fn release(mut words: Words) -> Result<Call, Cause>
     let owner = words.number(OWNER)?;
     words.end()?;
     Ok(Call::Release { port, owner })
+}
+
+/// A rebind of these words. That the table is of the wrong kind is the line's last fault.
+#[tactic(auto, unfolding(crate::specs::CommandLines::rebind_of))]
+fn rebind(kind: Kind, mut words: Words) -> Result<Call, Cause>
+    ensures { result ≡ rebind_of kind words.entry }
+{
+    let port = words.number(PORT)?;
+    let owner = words.number(OWNER)?;
+    let new = words.number(OWNER)?;
+    words.end()?;
+    match kind {
+        Kind::Single => Ok(Call::Rebind { port, owner, new }),
+        Kind::Listed => Err(Cause::WrongKind),
+    }
+}
+
+/// A reading of the count, behind which no word stands.
+#[tactic(auto, unfolding(crate::specs::CommandLines::count_of))]
+fn count(mut words: Words) -> Result<Call, Cause>
+    ensures { result ≡ count_of words.entry }
+{
+    words.end()?;
+    Ok(Call::Count)
 }

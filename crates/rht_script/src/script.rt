@@ -130,7 +130,7 @@ pub struct ScriptFault {
     pub line: u32,
     /// The cause: 1, no table line; 2, a word that is unknown, missing or one too many; 3, no
     /// number where one has to stand; 4, a number out of range; 5, too many lines; 6, a line too
-    /// long; 8, options that disagree; 9, too many bytes. No reading gives 7 yet.
+    /// long; 7, a rebind in a table of lists; 8, options that disagree; 9, too many bytes.
     pub cause: u8,
 }
 

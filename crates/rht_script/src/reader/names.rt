@@ -6,11 +6,20 @@ pub const TABLE: &[u8] = b"table";
 /// The kind of a table in which a port has at most one owner.
 pub const SINGLE: &[u8] = b"single";
 
+/// The kind of a table in which a port has a list of owners.
+pub const LISTED: &[u8] = b"listed";
+
+/// The objects that can be bound at one time.
+pub const NODES: &[u8] = b"nodes";
+
 /// How many ports are expected.
 pub const HINT: &[u8] = b"hint";
 
 /// The least size in buckets.
 pub const MIN: &[u8] = b"min";
+
+/// The greatest size in buckets.
+pub const MAX: &[u8] = b"max";
 
 /// The pages that buckets are kept in.
 pub const PAGES: &[u8] = b"pages";
@@ -36,8 +45,17 @@ pub const BIND: &[u8] = b"bind";
 /// The verb that looks a port up.
 pub const FIND: &[u8] = b"find";
 
+/// The verb that lists all owners of a port.
+pub const ALL: &[u8] = b"all";
+
 /// The verb that takes a binding out.
 pub const RELEASE: &[u8] = b"release";
+
+/// The verb that puts a new owner in the only one's place.
+pub const REBIND: &[u8] = b"rebind";
+
+/// The verb that counts the bound ports.
+pub const COUNT: &[u8] = b"count";
 
 /// The first words of the lines of a schedule.
 pub const STEP: &[u8] = b"step";

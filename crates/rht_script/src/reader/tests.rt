@@ -24,11 +24,12 @@ const FAULTS: &[(&str, u32, u8)] = &[
     ("table\n", 1, 2),
     ("table #\n", 1, 2),
     ("table double\n", 1, 2),
-    ("table listed\n", 1, 2),
     ("table single single\n", 1, 2),
+    ("table single listed\n", 1, 2),
     ("table single 96\n", 1, 2),
-    ("table single max 4\n", 1, 2),
-    ("table single nodes 16\n", 1, 2),
+    ("table listed 16 nodes\n", 1, 2),
+    ("table single nodes\n", 1, 2),
+    ("table listed max\n", 1, 2),
     ("table single workers 2\n", 1, 2),
     ("table single shrink on\n", 1, 2),
     ("table single work auto\n", 1, 2),
@@ -45,6 +46,12 @@ const FAULTS: &[(&str, u32, u8)] = &[
     ("table single pages 0x10\n", 1, 3),
     ("table single seed -1\n", 1, 3),
     ("table single rewalks 000000000000000000008\n", 1, 3),
+    ("table single nodes 16x\n", 1, 3),
+    ("table listed max -4\n", 1, 3),
+    ("table single nodes 0\n", 1, 4),
+    ("table single nodes 65537\n", 1, 4),
+    ("table single max 3\n", 1, 4),
+    ("table single max 131073\n", 1, 4),
     ("table single hint 0\n", 1, 4),
     ("table single hint 65537\n", 1, 4),
     ("table single min 0\n", 1, 4),
@@ -63,6 +70,13 @@ const FAULTS: &[(&str, u32, u8)] = &[
     ("table single seed 1 seed 2 seed 3\n", 1, 8),
     ("table single rewalks 8 rewalks 8\n", 1, 8),
     ("table single hash low hash low\n", 1, 8),
+    ("table listed nodes 16 nodes 16\n", 1, 8),
+    ("table single max 4 hash low max 8\n", 1, 8),
+    // The least size is rounded up, to 8 and 128, and the greatest down, to 4 and 64.
+    ("table single min 5 max 4\n", 1, 8),
+    ("table single max 7 min 5\n", 1, 8),
+    ("table listed min 65 max 127\n", 1, 8),
+    ("table listed max 4 min 65536\n", 1, 8),
     // 300 * 4 / 3 = 400, rounded up to 512; 4 pages have 256 buckets.
     ("table single pages 4 hint 300\n", 1, 8),
     ("table single hint 300 pages 4\n", 1, 8),
@@ -70,8 +84,10 @@ const FAULTS: &[(&str, u32, u8)] = &[
     // 65,536 * 4 / 3 = 87,381, rounded up to 131,072, which is 2,048 pages.
     ("table single hint 65536\n", 1, 8),
     ("table single hint 65536 pages 2047\n", 1, 8),
+    // A greatest size of 512 cuts that to 512, and 4 pages have 256.
+    ("table single hint 65536 pages 4 max 1023\n", 1, 8),
     // In the table line: the leftmost word first, and the whole line last.
-    ("table listed hint x\n", 1, 2),
+    ("table double hint x\n", 1, 2),
     ("table single speed x\n", 1, 2),
     ("table single hint x speed 1\n", 1, 3),
     ("table single hint 0 seed x\n", 1, 4),
@@ -80,16 +96,14 @@ const FAULTS: &[(&str, u32, u8)] = &[
     ("table single hint 96 hint\n", 1, 2),
     ("table single hint 96 hint x\n", 1, 3),
     ("table single hint 96 hint 0\n", 1, 4),
-    ("table single hint 96 hint 96 max 4\n", 1, 2),
+    ("table single hint 96 hint 96 speed 4\n", 1, 2),
+    ("table single min 5 max 4 nodes 0\n", 1, 4),
     ("table single pages 4 hint 300 seed x\n", 1, 3),
     // Words of a command line that can't stand there, are missing, or are too many.
     ("table single\n1\n", 2, 2),
     ("table single\n1 lookup 80\n", 2, 2),
     ("table single\n1 Find 80\n", 2, 2),
     ("table single\n1 80 find\n", 2, 2),
-    ("table single\n1 all 80\n", 2, 2),
-    ("table single\n1 rebind 80 1 2\n", 2, 2),
-    ("table single\n1 count\n", 2, 2),
     ("table single\n1 work\n", 2, 2),
     ("table single\n1 walk\n", 2, 2),
     ("table single\n1 tidy\n", 2, 2),
@@ -101,6 +115,13 @@ const FAULTS: &[(&str, u32, u8)] = &[
     ("table single\n1 find 80 # who?\n", 2, 2),
     ("table single\n1 release 80\n", 2, 2),
     ("table single\n1 release 80 100 7\n", 2, 2),
+    ("table single\n1 all\n", 2, 2),
+    ("table listed\n1 all 80 1\n", 2, 2),
+    ("table single\n1 rebind\n", 2, 2),
+    ("table single\n1 rebind 80\n", 2, 2),
+    ("table single\n1 rebind 80 1", 2, 2),
+    ("table single\n1 rebind 80 1 2 3\n", 2, 2),
+    ("table single\n1 count 80\n", 2, 2),
     // A form feed parts no words.
     ("table single\n1 find\u{c}80\n", 2, 2),
     // There are no lines of a schedule yet, whatever follows their first word.
@@ -119,6 +140,11 @@ const FAULTS: &[(&str, u32, u8)] = &[
     ("table single\n1 find 000000000000000000080\n", 2, 3),
     ("table single\n1 bind 80 x\n", 2, 3),
     ("table single\n1 release x 100\n", 2, 3),
+    ("table listed\n1 all x\n", 2, 3),
+    ("table single\n1 rebind x 1 2\n", 2, 3),
+    ("table single\n1 rebind 80 x 2\n", 2, 3),
+    ("table single\n1 rebind 80 1 x\n", 2, 3),
+    ("table single\none count\n", 2, 3),
     ("table single\n0 find 80\n", 2, 4),
     ("table single\n2 find 1\n", 2, 4),
     ("table single\n99999999999999999999 find 80\n", 2, 4),
@@ -128,6 +154,11 @@ const FAULTS: &[(&str, u32, u8)] = &[
         4,
     ),
     ("table single\n1 bind 80 4294967296\n", 2, 4),
+    ("table listed\n1 all 4294967296\n", 2, 4),
+    ("table single\n1 rebind 4294967296 1 2\n", 2, 4),
+    ("table single\n1 rebind 80 4294967296 2\n", 2, 4),
+    ("table single\n1 rebind 80 1 4294967296\n", 2, 4),
+    ("table single\n2 count\n", 2, 4),
     // 2^64 + 80, and the greatest number of 20 digits.
     ("table single\n1 find 18446744073709551696\n", 2, 4),
     ("table single\n1 find 99999999999999999999\n", 2, 4),
@@ -141,6 +172,16 @@ const FAULTS: &[(&str, u32, u8)] = &[
     ("table single\n1 bind 4294967296 x\n", 2, 4),
     ("table single\n1 find x 100\n", 2, 3),
     ("table single\n1 bind 80 4294967296 7\n", 2, 4),
+    // The table is of the wrong kind, which is asked last.
+    ("table listed\n1 rebind 80 1 2\n", 2, 7),
+    ("table listed max 8\n# a\n1 rebind 80 1 1", 3, 7),
+    ("table listed\n1 rebind 80 1\n", 2, 2),
+    ("table listed\n1 rebind 80 1 2 3\n", 2, 2),
+    ("table listed\n1 rebind 80 x 2\n", 2, 3),
+    ("table listed\n1 rebind 80 1 4294967296\n", 2, 4),
+    ("table listed\n2 rebind 80 1 2\n", 2, 4),
+    ("table listed\n1 rebind 80 1 2\n1 lookup\n", 2, 7),
+    ("table listed\n1 lookup\n1 rebind 80 1 2\n", 2, 2),
     // The first line at fault, with those that are skipped counted too.
     ("table single\n1 find x\n1 lookup\n", 2, 3),
     ("\n# a\ntable single\n\n# b\n 1 find\n2 find\n", 6, 2),
@@ -176,7 +217,7 @@ fn finds_the_first_fault(rt: HostRuntime) {
 fn reads_scripts(rt: HostRuntime) -> Result<(), Fail> {
     let plain = Config::plain();
     // the input, the config that it stands for, and its commands
-    let scripts: [(&str, Config, &[(u32, Call)]); 16] = [
+    let scripts: [(&str, Config, &[(u32, Call)]); 25] = [
         ("table single", plain, &[]),
         ("table single\n", plain, &[]),
         ("\n# a\n \t\r\n\ttable  single \r\n#b\n\n", plain, &[]),
@@ -208,6 +249,51 @@ fn reads_scripts(rt: HostRuntime) -> Result<(), Fail> {
                 rewalks: 255,
                 min: 65536,
                 pages: 2048,
+                ..plain
+            },
+            &[],
+        ),
+        (
+            "table listed\n",
+            Config {
+                kind: Kind::Listed,
+                ..plain
+            },
+            &[],
+        ),
+        ("table single nodes 1\n", Config { nodes: 1, ..plain }, &[]),
+        (
+            "table listed nodes 65536\n",
+            Config {
+                kind: Kind::Listed,
+                nodes: 65536,
+                ..plain
+            },
+            &[],
+        ),
+        // The greatest size is rounded down.
+        ("table single max 4\n", Config { max: 4, ..plain }, &[]),
+        ("table single max 7\n", Config { max: 4, ..plain }, &[]),
+        ("table single max 8\n", Config { max: 8, ..plain }, &[]),
+        (
+            "table single max 131072 min 65536 hint 65536 pages 2048\n",
+            Config {
+                max: 131072,
+                min: 65536,
+                hint: 65536,
+                pages: 2048,
+                ..plain
+            },
+            &[],
+        ),
+        // 131,072 buckets would be wished for; 256 of them have room in 4 pages.
+        (
+            "table single hint 65536 pages 4 max 511 min 129\n",
+            Config {
+                hint: 65536,
+                pages: 4,
+                max: 256,
+                min: 256,
                 ..plain
             },
             &[],
@@ -246,6 +332,22 @@ fn reads_scripts(rt: HostRuntime) -> Result<(), Fail> {
             ],
         ),
         (
+            "table single\n1 all 80\n1 rebind 80 100 4294967295\n1 count\n",
+            plain,
+            &[
+                (1, Call::All { port: 80 }),
+                (
+                    1,
+                    Call::Rebind {
+                        port: 80,
+                        owner: 100,
+                        new: 4294967295,
+                    },
+                ),
+                (1, Call::Count),
+            ],
+        ),
+        (
             "table single\r\n\r\n\t1 find\t0 \r\n# b\n00000000000000000001 find 00000000004294967295\n\n",
             plain,
             &[
@@ -255,7 +357,7 @@ fn reads_scripts(rt: HostRuntime) -> Result<(), Fail> {
         ),
     ];
     for (text, config, commands) in scripts {
-        let script = read(rt.alloc(), text.as_bytes()).ok().ok_or("refused")?;
+        let script = read(rt.alloc(), text.as_bytes())?;
         assert_eq!(rt; script.config, config, "at {text:?}");
         assert_eq!(rt; script.commands.as_slice(), commands, "at {text:?}");
         assert!(rt; script.auto && script.schedule.is_empty());
@@ -302,7 +404,7 @@ fn repeated(alloc: Global, line: &[u8], count: usize) -> Result<Vec<u8>, AllocEr
 fn reads_a_million_lines(rt: HostRuntime) -> Result<(), Fail> {
     let alloc = rt.alloc();
     let mut bytes = repeated(alloc, b"1 bind 80 5\n", 999_999)?;
-    let script = read(alloc, &bytes).ok().ok_or("refused")?;
+    let script = read(alloc, &bytes)?;
     assert_eq!(rt; script.commands.len(), 999_999);
     // One line more, also where it is blank.
     bytes.extend_from_slice(b"\n")?;
@@ -329,7 +431,7 @@ fn reads_sixteen_mebibytes(rt: HostRuntime) -> Result<(), Fail> {
     let mut bytes = repeated(alloc, b"1 find 00000000000000000080\n", 599_185)?;
     bytes.extend_from_slice(b"1 find 000000000000080\n")?;
     assert_eq!(rt; bytes.len(), 16_777_216);
-    let script = read(alloc, &bytes).ok().ok_or("refused")?;
+    let script = read(alloc, &bytes)?;
     assert_eq!(rt; script.commands.len(), 599_186);
     // One byte more stands behind 599,187 line feeds.
     bytes.push(b'\n')?;

@@ -7,7 +7,7 @@ pub starting_size-requires : goal.starting_size-requires
 starting_size-requires c =
     omega (
       arith,
-      hint_within c.args.self c.requires,
+      hint_within c.args.kind c.args.self c.requires,
       ap (λ (config : Config). config.hint)
           c.configured-config.ensures,
     )
@@ -16,7 +16,7 @@ pub overflow_mul-config : goal.overflow_mul-config
 overflow_mul-config c =
     omega (
       arith,
-      pages_within c.args.self c.requires,
+      pages_within c.args.kind c.args.self c.requires,
       ap (λ (config : Config). config.pages)
           c.configured-config.ensures,
     )
