@@ -18,3 +18,9 @@ pub mod RunBits
 pub mod RunsStay
 -- on which words the taking and giving back of runs work
 pub mod RunsPlanned
+-- none is answered exactly where the runs were seen taken in their turn
+pub mod RunsSeen
+-- a run that is answered was taken page by page
+pub mod RunsTaken
+-- giving a run back sets the bits of its pages
+pub mod RunsGiven

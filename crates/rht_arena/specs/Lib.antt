@@ -10,5 +10,7 @@ pub mod Runs
 pub mod TakeRun
 -- how a run of pages is given back
 pub mod GiveRun
--- what the other machines rely on
+-- what the other machines rely on: nodes
 pub mod Laws
+-- and runs of pages
+pub mod RunLaws
