@@ -71,17 +71,54 @@ sees_no_run g pages first index step is all sees =
     absurd (omega (arith, set, sees.sees.taken))
 
 -- where the machine stands after an operation
-abbrev StandsAt : Geometry → ℕ → ℕ → TakeRunModel × Next (Option ℕ) → Type 0
+abbrev pub StandsAt : Geometry → ℕ → ℕ → TakeRunModel × Next (Option ℕ) → Type 0
 StandsAt g pages end (m, Go) = next_unseen pages m.at ≡ end
 StandsAt g pages end (m, Done None) = g.pages < end + pages
 StandsAt g pages end (m, Done (Some first)) = end + pages ≤ g.pages
 
 -- an operation goes to the next run where it sees the machine's own taken, and else stays
-record GoesOn (g : Geometry) (pages stand : ℕ) (step : Performed) (next : TakeRunModel × Next (Option ℕ)) : Type 0 where
-  end : ℕ
-  went : ((end ≡ stand) × (SeesRunTaken g pages stand step → ⊥))
-      ⊎ ((end ≡ stand + pages) × SeesRunTaken g pages stand step)
-  stands : StandsAt g pages end next
+abbrev pub Went : Geometry → ℕ → ℕ → ℕ → Performed → Type 0
+Went g pages stand end step =
+    ((end ≡ stand) × (SeesRunTaken g pages stand step → ⊥))
+    ⊎ ((end ≡ stand + pages) × SeesRunTaken g pages stand step)
+
+pub record GoesOn (g : Geometry) (pages stand : ℕ) (step : Performed) (next : TakeRunModel × Next (Option ℕ)) : Type 0 where
+  pub end : ℕ
+  pub went : Went g pages stand end step
+  pub stands : StandsAt g pages end next
+
+-- the place is that of a run so many runs behind the first
+abbrev pub IsAhead : ℕ → ℕ → ℕ → Type 0
+IsAhead pages first place = (ahead : ℕ) × (place ≡ first + ahead * pages)
+
+module _ (g : Geometry) (pages stand end : ℕ) (step : Performed) where
+  -- where the runs behind are seen in turn, so are those from the machine's own on
+  pub turn_before : (steps : List Performed) → Went g pages stand end step
+      → AreRunsSeenInTurn g pages end steps → AreRunsSeenInTurn g pages stand (step ∷ steps)
+  turn_before steps (inl stays) behind = inl (subst (λ e. AreRunsSeenInTurn g pages e steps) stays.0 behind)
+  turn_before steps (inr goes) behind =
+      inr (goes.1, subst (λ e. AreRunsSeenInTurn g pages e steps) goes.0 behind)
+
+  -- where the machine stands at the next run that is to be seen or behind it, it does so after the operation
+  ahead_of_turn : (first ahead : ℕ) → stand ≡ first + ahead * pages → Went g pages stand end step
+      → (Behind : ℕ → Type 0) → Behind first ⊎ (SeesRunTaken g pages first step × Behind (first + pages))
+      → (next : ℕ) × (Behind next × IsAhead pages next end)
+  ahead_of_turn first ahead is (inl stays) Behind (inl turn) =
+      (first, (turn, (ahead, omega (arith, is, stays.0))))
+  ahead_of_turn first ahead is (inr goes) Behind (inl turn) =
+      (first, (turn, (ahead + 1, omega (arith, is, goes.0))))
+  ahead_of_turn first zero is (inl stays) Behind (inr (sees, turn)) =
+      let same : first ≡ stand = omega (arith, is) in
+      absurd (stays.1 (subst (λ f. SeesRunTaken g pages f step) same sees))
+  ahead_of_turn first (suc ahead) is (inl stays) Behind (inr (sees, turn)) =
+      (first + pages, (turn, (ahead, omega (arith, is, stays.0))))
+  ahead_of_turn first ahead is (inr goes) Behind (inr (sees, turn)) =
+      (first + pages, (turn, (ahead, omega (arith, is, goes.0))))
+
+  pub ahead_after : (first : ℕ) → IsAhead pages first stand → Went g pages stand end step
+      → (Behind : ℕ → Type 0) → Behind first ⊎ (SeesRunTaken g pages first step × Behind (first + pages))
+      → (next : ℕ) × (Behind next × IsAhead pages next end)
+  ahead_after first at went Behind turn = ahead_of_turn first at.0 at.1 went Behind turn
 
 module _ (m : TakeRunModel) where
   abbrev g : Geometry
@@ -150,6 +187,20 @@ module _ (m : TakeRunModel) where
     stands = given_below-at first index;
   }
 
+-- and so it is of a machine of this table that takes so many pages
+pub goes_on_in : (g : Geometry) (pages : ℕ) (m : TakeRunModel) (old : ℕ) → m.geometry ≡ g → m.pages ≡ pages
+    → IsTakeRunAtIn g pages m.at
+    → GoesOn g pages (next_unseen pages m.at) (performed take_run_plan take_run_after m old) (take_run_after m old)
+goes_on_in g pages m old table many here =
+    let step = performed take_run_plan take_run_after m old in
+    let next = take_run_after m old in
+    let own : IsTakeRunAtIn m.geometry m.pages m.at =
+    subst (λ p. IsTakeRunAtIn m.geometry p m.at) (sym many)
+    (subst (λ (h : Geometry). IsTakeRunAtIn h pages m.at) (sym table) here) in
+    subst (λ p. GoesOn g p (next_unseen p m.at) step next) many
+    (subst (λ (h : Geometry). GoesOn h m.pages (next_unseen m.pages m.at) step next) table
+    (goes_on_at m m.at step refl own))
+
 -- ---- a run of the machine
 
 -- what comes of a machine
@@ -174,64 +225,36 @@ module _ (m : TakeRunModel) (old : ℕ) (rest : Ran (Option ℕ)) (here : IsTake
       → GoesOn table m.pages stand step (left, next)
   goes next is = subst (λ n. GoesOn table m.pages stand step (left, n)) is (goes_on_at m m.at step refl here)
 
-  -- where the runs behind are seen in turn, so are those from the machine's own on
-  in_turn : (end : ℕ) (steps : List Performed)
-      → ((end ≡ stand) × (SeesRunTaken table m.pages stand step → ⊥))
-      ⊎ ((end ≡ stand + m.pages) × SeesRunTaken table m.pages stand step)
-      → AreRunsSeenInTurn table m.pages end steps → AreRunsSeenInTurn table m.pages stand (step ∷ steps)
-  in_turn end steps (inl stays) behind = inl (subst (λ e. AreRunsSeenInTurn table m.pages e steps) stays.0 behind)
-  in_turn end steps (inr goes) behind =
-      inr (goes.1, subst (λ e. AreRunsSeenInTurn table m.pages e steps) goes.0 behind)
-
   none_step : (next : Next (Option ℕ)) → (take_run_after m old).1 ≡ next
       → (rest.next ≡ Done None → AreRunsSeenInTurn table m.pages (next_unseen m.pages left.at) rest.steps)
       → (went_on step next rest).next ≡ Done None
       → AreRunsSeenInTurn table m.pages stand (went_on step next rest).steps
   none_step Go is later none =
       let on = goes Go is in
-      in_turn on.end rest.steps on.went
+      turn_before table m.pages stand on.end step rest.steps on.went
       (subst (λ e. AreRunsSeenInTurn table m.pages e rest.steps) on.stands (later none))
-  none_step (Done None) is later none = let on = goes (Done None) is in in_turn on.end [] on.went on.stands
+  none_step (Done None) is later none =
+      let on = goes (Done None) is in
+      turn_before table m.pages stand on.end step [] on.went on.stands
   none_step (Done (Some first)) is later none = absurd (cc)
 
-  -- the machine stands at the next run that is to be seen, or so many behind it
-  abbrev IsAhead : ℕ → ℕ → Type 0
-  IsAhead first place = (ahead : ℕ) × (place ≡ first + ahead * m.pages)
-
-  -- and so it does after an operation
-  ahead_after : (end first ahead : ℕ) → stand ≡ first + ahead * m.pages
-      → ((end ≡ stand) × (SeesRunTaken table m.pages stand step → ⊥))
-      ⊎ ((end ≡ stand + m.pages) × SeesRunTaken table m.pages stand step)
-      → (Behind : ℕ → Type 0) → Behind first ⊎ (SeesRunTaken table m.pages first step × Behind (first + m.pages))
-      → (next : ℕ) × (Behind next × IsAhead next end)
-  ahead_after end first ahead is (inl stays) Behind (inl turn) =
-      (first, (turn, (ahead, omega (arith, is, stays.0))))
-  ahead_after end first ahead is (inr goes) Behind (inl turn) =
-      (first, (turn, (ahead + 1, omega (arith, is, goes.0))))
-  ahead_after end first zero is (inl stays) Behind (inr (sees, turn)) =
-      let same : first ≡ stand = omega (arith, is) in
-      absurd (stays.1 (subst (λ f. SeesRunTaken table m.pages f step) same sees))
-  ahead_after end first (suc ahead) is (inl stays) Behind (inr (sees, turn)) =
-      (first + m.pages, (turn, (ahead, omega (arith, is, stays.0))))
-  ahead_after end first ahead is (inr goes) Behind (inr (sees, turn)) =
-      (first + m.pages, (turn, (ahead, omega (arith, is, goes.0))))
-
   none_follows : (next : Next (Option ℕ)) → (take_run_after m old).1 ≡ next
-      → (first ahead : ℕ) → stand ≡ first + ahead * m.pages
-      → ((first : ℕ) → IsAhead first (next_unseen m.pages left.at)
+      → (first : ℕ) → IsAhead m.pages first stand
+      → ((first : ℕ) → IsAhead m.pages first (next_unseen m.pages left.at)
       → AreRunsSeenInTurn table m.pages first rest.steps
       → (answer : Option ℕ) → rest.next ≡ Done answer → answer ≡ None)
       → AreRunsSeenInTurn table m.pages first (went_on step next rest).steps
       → (answer : Option ℕ) → (went_on step next rest).next ≡ Done answer → answer ≡ None
-  none_follows Go is first ahead at later turn answer done =
+  none_follows Go is first at later turn answer done =
       let on = goes Go is in
-      let after = ahead_after on.end first ahead at on.went
+      let after = ahead_after table m.pages stand on.end step first at on.went
       (λ f. AreRunsSeenInTurn table m.pages f rest.steps) turn in
-      later after.0 (subst (IsAhead after.0) (sym on.stands) after.1.1) after.1.0 answer done
-  none_follows (Done None) is first ahead at later turn answer done = cc
-  none_follows (Done (Some answered)) is first ahead at later turn answer done =
+      later after.0 (subst (IsAhead m.pages after.0) (sym on.stands) after.1.1) after.1.0 answer done
+  none_follows (Done None) is first at later turn answer done = cc
+  none_follows (Done (Some answered)) is first at later turn answer done =
       let on = goes (Done (Some answered)) is in
-      let after = ahead_after on.end first ahead at on.went (λ f. table.pages < f + m.pages) turn in
+      let after = ahead_after table m.pages stand on.end step first at on.went
+      (λ f. table.pages < f + m.pages) turn in
       absurd (omega (arith, on.stands, after.1.0, after.1.1.1))
 
 -- the machine after an operation, in its own table and with its own number of pages
@@ -263,11 +286,11 @@ module _ (m : TakeRunModel) (old : ℕ) (here : IsTakeRunAtIn m.geometry m.pages
       (subst (λ (h : Geometry). AreRunsSeenInTurn h m.pages first steps) (sym stays.geometry_same) turn)
 
   -- and it stands as many runs ahead
-  ahead_of : (first : ℕ) → (ahead : ℕ) × (next_unseen m.pages behind.at ≡ first + ahead * m.pages)
-      → (ahead : ℕ) × (next_unseen behind.pages behind.at ≡ first + ahead * behind.pages)
+  ahead_of : (first : ℕ) → IsAhead m.pages first (next_unseen m.pages behind.at)
+      → IsAhead behind.pages first (next_unseen behind.pages behind.at)
   ahead_of first ahead =
       let stays = take_run_after-in m old here in
-      subst (λ p. (n : ℕ) × (next_unseen p behind.at ≡ first + n * p)) (sym stays.pages_same) ahead
+      subst (λ p. IsAhead p first (next_unseen p behind.at)) (sym stays.pages_same) ahead
 
 -- By induction over the words that the operations find.
 none-in_turn : (m : TakeRunModel) (olds : List ℕ) → IsTakeRunAtIn m.geometry m.pages m.at
@@ -284,17 +307,16 @@ none-in_turn m (old ∷ olds) here none =
     none
 
 in_turn-none : (m : TakeRunModel) (olds : List ℕ) → IsTakeRunAtIn m.geometry m.pages m.at
-    → (first ahead : ℕ) → next_unseen m.pages m.at ≡ first + ahead * m.pages
+    → (first : ℕ) → IsAhead m.pages first (next_unseen m.pages m.at)
     → AreRunsSeenInTurn m.geometry m.pages first (taken m olds).steps
     → (answer : Option ℕ) → (taken m olds).next ≡ Done answer → answer ≡ None
-in_turn-none m [] here first ahead at turn answer done = absurd (cc)
-in_turn-none m (old ∷ olds) here first ahead at turn answer done =
+in_turn-none m [] here first at turn answer done = absurd (cc)
+in_turn-none m (old ∷ olds) here first at turn answer done =
     let left = (take_run_after m old).0 in
     let rest = taken left olds in
-    none_follows m old rest here (take_run_after m old).1 refl first ahead at
+    none_follows m old rest here (take_run_after m old).1 refl first at
     (λ f is_ahead seen found is.
-    let there = ahead_of m old here f is_ahead in
-    in_turn-none left olds (behind-in m old here) f there.0 there.1
+    in_turn-none left olds (behind-in m old here) f (ahead_of m old here f is_ahead)
     (from_own m old here f rest.steps seen) found is)
     turn answer done
 
@@ -313,7 +335,7 @@ none_where_runs_taken_in_turn g pages olds answer run done = (
       none-in_turn (first_run g pages) olds (begins-in g pages run)
       (subst (λ (a : Option ℕ). (run_taking_ran g pages olds).next ≡ Done a) none done),
   λ turn.
-      in_turn-none (first_run g pages) olds (begins-in g pages run) 0 0 (omega arith) turn answer done,
+      in_turn-none (first_run g pages) olds (begins-in g pages run) 0 (0, omega arith) turn answer done,
 )
 
 -- what is so of one behind the first is so of one of all
