@@ -27,28 +27,28 @@ use Rattle.rht_arena.proofs.RunsStay.{take_run_after-in}
 use Rattle.rht_arena.proofs.RunsSeen.{begins-in}
 
 -- the run's pages in the words before this one were each taken
-abbrev TookBelow : Geometry → List Performed → ℕ → ℕ → Type 0
+abbrev pub TookBelow : Geometry → List Performed → ℕ → ℕ → Type 0
 TookBelow g steps first index = (page : ℕ) → first ≤ page → page < 64 * index → Any (TakesPage g page) steps
 
 -- and so it is at the state, but where pages are given back
-abbrev TookAtState : Geometry → List Performed → TakeRunAt → Type 0
+abbrev pub TookAtState : Geometry → List Performed → TakeRunAt → Type 0
 TookAtState g steps (MapWord first index) = TookBelow g steps first index
 TookAtState g steps (Claim first index) = TookBelow g steps first index
 TookAtState g steps (GiveBack first index bits) = Unit {0}
 
 -- the first page of the state's run
-abbrev run_of : TakeRunAt → ℕ
+abbrev pub run_of : TakeRunAt → ℕ
 run_of (MapWord first index) = first
 run_of (Claim first index) = first
 run_of (GiveBack first index bits) = first
 
-record TookAt (g : Geometry) (pages : ℕ) (steps : List Performed) (at : TakeRunAt) : Type 0 where
-  multiple : ℕ
-  aligned : run_of at ≡ multiple * pages
-  took : TookAtState g steps at
+pub record TookAt (g : Geometry) (pages : ℕ) (steps : List Performed) (at : TakeRunAt) : Type 0 where
+  pub multiple : ℕ
+  pub aligned : run_of at ≡ multiple * pages
+  pub took : TookAtState g steps at
 
 -- so it stays, and gives at the end that the answer's run was taken
-abbrev KeepsTook : Geometry → ℕ → List Performed → TakeRunModel × Next (Option ℕ) → Type 0
+abbrev pub KeepsTook : Geometry → ℕ → List Performed → TakeRunModel × Next (Option ℕ) → Type 0
 KeepsTook g pages steps (m, Go) = TookAt g pages steps m.at
 KeepsTook g pages steps (m, Done None) = Unit {0}
 KeepsTook g pages steps (m, Done (Some first)) = RunWasTaken g pages first steps
@@ -163,23 +163,23 @@ module _ (m : TakeRunModel) (steps : List Performed) (step : Performed) where
       })
       (λ f. given_below-took first index multiple aligned)
 
-  took_after : (state : TakeRunAt) → IsTakeRunAtIn g m.pages state → TookAt g m.pages steps state
+  took_at : (state : TakeRunAt) → IsTakeRunAtIn g m.pages state → TookAt g m.pages steps state
       → step.op ≡ take_run_plan_at g m.pages state
       → KeepsTook g m.pages done (take_run_after_at m state step.old)
-  took_after (MapWord first index) here so_far is = looked-took first index so_far.multiple so_far.aligned so_far.took
-  took_after (Claim first index) here so_far is =
+  took_at (MapWord first index) here so_far is = looked-took first index so_far.multiple so_far.aligned so_far.took
+  took_at (Claim first index) here so_far is =
       cleared-took first index so_far.multiple here so_far.aligned so_far.took is
-  took_after (GiveBack first index bits) here so_far is =
+  took_at (GiveBack first index bits) here so_far is =
       given_below-took first index so_far.multiple so_far.aligned
 
 -- ---- a run of the machine
 
 -- The invariant, of a machine of this table that takes so many pages.
-record TookSoFar (g : Geometry) (pages : ℕ) (steps : List Performed) (m : TakeRunModel) : Type 0 where
-  geometry_same : m.geometry ≡ g
-  pages_same : m.pages ≡ pages
-  here : IsTakeRunAtIn g pages m.at
-  took : TookAt g pages steps m.at
+pub record TookSoFar (g : Geometry) (pages : ℕ) (steps : List Performed) (m : TakeRunModel) : Type 0 where
+  pub geometry_same : m.geometry ≡ g
+  pub pages_same : m.pages ≡ pages
+  pub here : IsTakeRunAtIn g pages m.at
+  pub took : TookAt g pages steps m.at
 
 -- what is said of an answer
 abbrev IsTakenRun : Geometry → ℕ → List Performed → Option ℕ → Type 0
@@ -205,14 +205,14 @@ module _ (g : Geometry) (pages : ℕ) (steps : List Performed) (m : TakeRunModel
   kept =
       subst (λ p. KeepsTook g p with_it (take_run_after m old)) so_far.pages_same
       (subst (λ (h : Geometry). KeepsTook h m.pages with_it (take_run_after m old)) so_far.geometry_same
-      (took_after m steps step_of m.at own.0 own.1 refl))
+      (took_at m steps step_of m.at own.0 own.1 refl))
 
   kept_as : (next : Next (Option ℕ)) → (take_run_after m old).1 ≡ next
       → KeepsTook g pages with_it ((take_run_after m old).0, next)
   kept_as next is = subst (λ n. KeepsTook g pages with_it ((take_run_after m old).0, n)) is kept
 
-  goes_on : (take_run_after m old).1 ≡ Go → TookSoFar g pages with_it (take_run_after m old).0
-  goes_on is =
+  pub took_goes_on : (take_run_after m old).1 ≡ Go → TookSoFar g pages with_it (take_run_after m old).0
+  took_goes_on is =
       let stays = take_run_after-in m old own.0 in
       let left = (take_run_after m old).0 in
       record {
@@ -224,9 +224,37 @@ module _ (g : Geometry) (pages : ℕ) (steps : List Performed) (m : TakeRunModel
         took = kept_as Go is;
       }
 
+  -- and a run that is answered was taken
+  pub took_after : (first : ℕ) → (take_run_after m old).1 ≡ Done (Some first) → RunWasTaken g pages first with_it
+  took_after first is = kept_as (Done (Some first)) is
+
   answers : (answer : Option ℕ) → (take_run_after m old).1 ≡ Done answer → IsTakenRun g pages with_it answer
   answers None is = tt
-  answers (Some first) is = kept_as (Done (Some first)) is
+  answers (Some first) is = took_after first is
+
+-- what was taken stays so
+pub RunWasTaken-push : (g : Geometry) (pages first : ℕ) (steps : List Performed) (step : Performed)
+    → RunWasTaken g pages first steps → RunWasTaken g pages first (steps ++ step ∷ [])
+RunWasTaken-push g pages first steps step was = record {
+  run = was.run;
+  multiple = was.multiple;
+  aligned = was.aligned;
+  taken = λ page of_run. Any-append_left (TakesPage g page) steps (step ∷ []) (was.taken page of_run);
+}
+
+-- a machine that begins has taken nothing
+pub took_so_far-begins : (g : Geometry) (pages : ℕ) (steps : List Performed) → IsRunIn g 0 pages
+    → TookSoFar g pages steps (first_run g pages)
+took_so_far-begins g pages steps run = record {
+  geometry_same = refl;
+  pages_same = refl;
+  here = begins-in g pages run;
+  took = record {
+    multiple = 0;
+    aligned = omega arith;
+    took = λ page from below. absurd (omega (arith, below));
+  };
+}
 
 -- nothing is asked of the words that the operations find
 anything : (olds : List ℕ) → AllByRecursion (λ (old : ℕ). Unit {0}) olds
@@ -236,18 +264,9 @@ anything (old ∷ olds) = (tt, anything olds)
 pub taken_run_was_free : TakenRunWasFree
 taken_run_was_free g pages olds first run done =
     kept_to_end take_run_plan take_run_after (λ old. Unit {0}) (TookSoFar g pages) (IsTakenRun g pages)
-    (λ steps m old known so_far is. goes_on g pages steps m old so_far is)
+    (λ steps m old known so_far is. took_goes_on g pages steps m old so_far is)
     (λ steps m old answer known so_far is. answers g pages steps m old so_far answer is)
     [] (first_run g pages) olds (Some first)
     (All-from_recursion (λ (old : ℕ). Unit {0}) olds (anything olds))
-    (record {
-      geometry_same = refl;
-      pages_same = refl;
-      here = begins-in g pages run;
-      took = record {
-        multiple = 0;
-        aligned = omega arith;
-        took = λ page from below. absurd (omega (arith, below));
-      };
-    })
+    (took_so_far-begins g pages [] run)
     done
