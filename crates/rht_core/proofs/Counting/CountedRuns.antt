@@ -15,7 +15,7 @@ use Rattle.rht_core.specs.Jobs.{job_of}
 use Rattle.rht_core.specs.Runs.{Core, World, local_of, view_of, run_of}
 use Rattle.rht_core.specs.StandsFor.{shape_of, nodes_of}
 use Rattle.rht_core.specs.Counts.{is_raising, raising, IsListed, IsPlaced, IsBucketInForce, taken_out, Counted, AtRest}
-use Rattle.rht_core.proofs.Theory.Ghosts.{Owner, Free, Held, First, Leaving, Behind, Taken, Ghost, is_used, IsUsed, lock_bit, some-same}
+use Rattle.rht_core.proofs.Theory.Ghosts.{Owner, Free, Held, First, Leaving, Behind, Taken, Ghost, is_used, IsUsed, lock_bit, some-same, seat-used}
 use Rattle.rht_core.proofs.Theory.Wholes.{key_of, place_at, firsts, raisers, outs, IsBuilt, Whole}
 use Rattle.rht_core.proofs.Theory.Steps.{mem}
 use Rattle.rht_core.proofs.Machines.JobSteps.{KnowsNothing}
@@ -25,7 +25,7 @@ use Rattle.rht_core.proofs.Events.BooksInRuns.{ended_outs, idle-says, has_books}
 use Rattle.rht_core.proofs.Meaning.BoundPorts.{attached, index, index-within, place-index, one_in_force, listed_bound}
 use Rattle.rht_core.proofs.Counting.CountedPorts.{firsts-AreAllBound}
 use Rattle.rht_core.proofs.Counting.CountedNodes.{count_few}
-use Rattle.rht_core.proofs.Counting.NodesOut.{is_out, out_nodes, out_nodes-distinct, out_nodes-among, out_nodes-many, out_nodes-in, out_nodes-out, sum_by-same}
+use Rattle.rht_core.proofs.Counting.NodesOut.{is_out, out_nodes, out_nodes-distinct, out_nodes-among, out_nodes-many, out_nodes-in, out_nodes-out, sum_by-same, seat-is_out}
 use Rattle.rht_core.proofs.Counting.FullTables.{raises}
 
 module _ (env : Env) (mix : ℕ → ℕ → ℕ → ℕ) (words : List ℕ) (G : Ghost)
@@ -47,7 +47,7 @@ module _ (env : Env) (mix : ℕ → ℕ → ℕ → ℕ) (words : List ℕ) (G :
       go [] b i = absurd i
       go (first ∷ behind) b (inl same) =
           let to = whole.owned.bound_to port first behind b in
-          ap is_used (ap G.node same ∙ to.first)
+          ap is_used (ap G.node same) ∙ seat-used (G.node first) to.bucket to.first
       go (first ∷ behind) b (inr i) = ap is_used ((whole.owned.bound_to port first behind b).each n i)
 
   -- and isn't out
@@ -58,7 +58,8 @@ module _ (env : Env) (mix : ℕ → ℕ → ℕ → ℕ) (words : List ℕ) (G :
       go : (bound : List ℕ) → G.bound port ≡ bound → In n bound → is_out (G.node n) ≡ false
       go [] b i = absurd i
       go (first ∷ behind) b (inl same) =
-          ap is_out (ap G.node same ∙ (whole.owned.bound_to port first behind b).first)
+          let to = whole.owned.bound_to port first behind b in
+          ap is_out (ap G.node same) ∙ seat-is_out (G.node first) to.bucket to.first
       go (first ∷ behind) b (inr i) = ap is_out ((whole.owned.bound_to port first behind b).each n i)
 
   abbrev out : List ℕ
@@ -89,7 +90,10 @@ module _ (env : Env) (mix : ℕ → ℕ → ℕ → ℕ) (words : List ℕ) (G :
           let at = whole.owned.first_at n j e in
           is_listed n (key_of (mem env mix words) n) l (ap is_used e) (ap is_out e)
           (subst (In n) (sym at.bound_to) (inl refl))
-      go (Leaving j) e b = absurd b
+      go (Leaving j) e b =
+          let at = whole.owned.leaving_at n j e in
+          is_listed n (key_of (mem env mix words) n) l (ap is_used e) (ap is_out e)
+          (subst (In n) (sym at.bound_to) (inl refl))
       go (Behind k) e b =
           let is = whole.owned.behind_in n k e in
           is_listed n k l (ap is_used e) (ap is_out e) (subst (In n) (sym is.bound_to) (inr is.there))

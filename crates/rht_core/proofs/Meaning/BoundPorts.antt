@@ -1,7 +1,7 @@
 -- What the words stand for is what the ghost says: the owners of the nodes to which each port is bound.
 -- The table in force is the one table; the nodes met in each bucket are the bucket's nodes; and of all these at most one has
 -- the port's key, the first of those to which the port is bound; the others are met along its list.
-use Rattle.std.proofs.Common.{◌≡◌, ℕ, zero, suc, ◌+◌, ◌-◌, ◌*◌, ◌%◌, ◌<◌, ◌≤◌, List, [], ◌∷◌, length, Option, Some, None, true, cond, refl, sym, ◌∙◌, ap, subst, inl, inr, slice_index, arith}
+use Rattle.std.proofs.Common.{◌≡◌, ℕ, zero, suc, ◌+◌, ◌-◌, ◌*◌, ◌%◌, ◌<◌, ◌≤◌, List, [], ◌∷◌, length, Option, Some, None, true, cond, refl, sym, ◌∙◌, ap, subst, inl, inr, slice_index, arith, ◌≢◌}
 use Rattle.std.proofs.lemmas.Bool.{eqb-true, eq-eqb, lt-ltb, le-ltb}
 use Rattle.std.proofs.lemmas.Bool.Decides.{nat_tests}
 use Rattle.std.proofs.lemmas.List.{append-nil}
@@ -18,8 +18,8 @@ use Rattle.rht_words.specs.Members.{In}
 use Rattle.rht_words.proofs.Members.{In-flat_map, flat_map-In, In-range_with_len, range_with_len-In, flat_map-same, find-Some, find-None, In-AllByRecursion, count_below-most, length-count_below}
 use Rattle.rht_nest.specs.Place.{bucket_place, bucket_index}
 use Rattle.rht_core.specs.StandsFor.{in_force, chain_from, bucket_nodes, table_nodes, has_key, first_node, list_from, nodes_of, stands_for}
-use Rattle.rht_core.proofs.Theory.Ghosts.{Ghost, lock_bit, table_at, some-same}
-use Rattle.rht_core.proofs.Theory.Wholes.{chain_of, list_of, key_of, home, hash_in, place_at, future_in, Whole}
+use Rattle.rht_core.proofs.Theory.Ghosts.{Ghost, lock_bit, table_at, some-same, First, Leaving, seat_of, seated}
+use Rattle.rht_core.proofs.Theory.Wholes.{chain_of, list_of, key_of, home, hash_in, place_at, future_in, Whole, stop}
 use Rattle.rht_core.proofs.Theory.Passed.{hash-below, home-index}
 use Rattle.rht_core.proofs.Pieces.Lists.{list_among, list_few}
 use Rattle.rht_core.proofs.Theory.Steps.{mem, owners, owners_in}
@@ -38,6 +38,30 @@ module _ (env : Env) (mix : ℕ → ℕ → ℕ → ℕ) (words : List ℕ) (G :
 
   abbrev M : Memory
   M = mem env mix words
+
+  -- so far one table is attached, so nothing is on its way
+  none_leaving : (n j : ℕ) → G.node n ≢ Leaving j
+  none_leaving n j leaving =
+      let next = (whole.owned.leaving_at n j leaving).next in
+      absurd (omega (arith, next.later, next.attached, whole.one))
+
+  pub nothing_out : (j : ℕ) → (G.bucket j).out ≡ None
+  nothing_out j = go (G.bucket j).out refl
+    where
+      go : (out : Option ℕ) → (G.bucket j).out ≡ out → out ≡ None
+      go None is = refl
+      go (Some entry) is = absurd (elim (whole.moving.out j entry is).owner [
+        | inl leaving ↦ none_leaving entry j leaving
+        | inr further ↦
+            let there = (whole.owned.first_at entry further.bucket further.first).at_home in
+            omega (arith, further.later, there.attached, whole.one)
+      ])
+
+  pub first_of_seat : (n j : ℕ) → seat_of (G.node n) ≡ Some j → G.node n ≡ First j
+  first_of_seat n j is = elim (seated (G.node n) j is) [
+    | inl first ↦ first
+    | inr leaving ↦ absurd (none_leaving n j leaving)
+  ]
 
   -- the nodes met from a link are those of its chain, where there is fuel for all of them
   chain_met : (left link : ℕ) (nodes : List ℕ) (stop : ℕ) → length nodes ≤ left
@@ -73,13 +97,15 @@ module _ (env : Env) (mix : ℕ → ℕ → ℕ → ℕ) (words : List ℕ) (G :
       ∙ head_of-locked (place_at env mix j) b.plain b.holder right.locked.even in
       rw first (chain_met g.nodes (head_of (place_at env mix j) b.plain) b.nodes
       (marker_of (place_at env mix j)) (omega (arith, few, most))
-      (links_tell_apart.marker_names_no_node g.nodes (place_at env mix j)) among right.chained.segment)
+      (links_tell_apart.marker_names_no_node g.nodes (place_at env mix j)) among
+      (subst (λ out. IsSegment (chain_of M) (head_of (place_at env mix j) b.plain) b.nodes
+      (stop env mix (place_at env mix j) out)) (nothing_out j) right.chained.segment))
 
   -- ---- the one table
 
   -- so far one table is attached, in the slot of the current one
   pub attached : 0 < G.attached
-  attached = omega (arith, whole.tables.one)
+  attached = omega (arith, whole.one)
 
   abbrev pub size : ℕ
   size = size_of (unpacked (G.table 0).shape)
@@ -111,13 +137,13 @@ module _ (env : Env) (mix : ℕ → ℕ → ℕ → ℕ) (words : List ℕ) (G :
   pub one_in_force : in_force g words ≡ (G.table 0).slot ∷ []
   one_in_force =
       let right = whole.tables.each 0 attached in
-      let current : G.current ≡ 0 = omega (arith, whole.tables.current_in, whole.tables.one) in
+      let current : G.current ≡ 0 = omega (arith, whole.tables.current_in, whole.one) in
       let first : table_of (M CurrentTable) ≡ (G.table 0).slot =
       ap table_of (whole.tables.current_is ∙ ap (λ τ. (G.table τ).slot) current)
       ∙ (let l = right.slot_in in omega arith) in
       let last : future_in env mix G 0 ≡ 0 =
       ap (λ t. cond t (future_of (G.table 1).slot) 0)
-      (le-ltb 1 G.attached (omega (arith, whole.tables.one))) in
+      (le-ltb 1 G.attached (omega (arith, whole.one))) in
       let none : M (Slot (G.table 0).slot FutureWord) ≡ 0 = right.future_is ∙ last in
       rw first (rw none refl)
 
@@ -137,11 +163,11 @@ module _ (env : Env) (mix : ℕ → ℕ → ℕ → ℕ) (words : List ℕ) (G :
       → In n all_nodes × (key_of M n ≡ port)
   bound_met port n behind b =
       let to = whole.owned.bound_to port n behind b in
-      let at = whole.owned.first_at n to.bucket to.first in
+      let at = whole.owned.first_at n to.bucket (first_of_seat n to.bucket to.first) in
       let key = key_of M n in
       let bucket = hash_in env mix G key 0 in
       let below = hash-below env mix M G whole key 0 in
-      let table : table_at G to.bucket ≡ 0 = omega (arith, at.at_home.attached, whole.tables.one) in
+      let table : table_at G to.bucket ≡ 0 = omega (arith, at.at_home.attached, whole.one) in
       let there : index bucket ≡ to.bucket =
       some-same (index bucket) to.bucket (sym (home-index env mix M G whole key 0 attached)
       ∙ ap (home env mix G key) (sym table) ∙ at.at_home.here) in (
