@@ -22,7 +22,7 @@ use Rattle.rht_core.proofs.Machines.JobSteps.{KnowsNothing}
 use Rattle.rht_core.proofs.Events.Invariants.{Inv, idle_knows}
 use Rattle.rht_core.proofs.Events.InvariantRuns.{has_inv}
 use Rattle.rht_core.proofs.Events.BooksInRuns.{ended_outs, idle-says, has_books}
-use Rattle.rht_core.proofs.Meaning.BoundPorts.{attached, index, index-within, place-index, one_in_force, listed_bound}
+use Rattle.rht_core.proofs.Meaning.BoundPorts.{bucket_in_force, listed_bound}
 use Rattle.rht_core.proofs.Counting.CountedPorts.{firsts-AreAllBound}
 use Rattle.rht_core.proofs.Counting.CountedNodes.{count_few}
 use Rattle.rht_core.proofs.Counting.NodesOut.{is_out, out_nodes, out_nodes-distinct, out_nodes-among, out_nodes-many, out_nodes-in, out_nodes-out, sum_by-same, seat-is_out}
@@ -103,26 +103,6 @@ module _ (env : Env) (mix : ℕ → ℕ → ℕ → ℕ) (words : List ℕ) (G :
         (λ is. let q = sym (listed_out n is) ∙ ap is_out e in cc),
       ))
 
-  -- a bucket in force is one of the one table's
-  in_one_table : (place : ℕ) → IsBucketInForce env.geometry words place
-      → (j : ℕ) × (j < 64 * env.geometry.pages) × (place ≡ place_at env mix j)
-  in_one_table place is =
-      let shape = (whole.tables.each 0 (attached env mix words G whole)).shape_is in
-      let one : is.table ≡ (G.table 0).slot =
-      only_one (subst (In is.table) (one_in_force env mix words G whole) is.of_table) in
-      let same : shape_of env.geometry words is.table ≡ (G.table 0).shape = ap
-      (shape_of env.geometry words) one ∙ shape in
-      let within = subst (λ s. is.bucket < size_of (unpacked s)) same is.within in
-      let j = index env mix words G whole is.bucket in
-      let there : Some place ≡ Some (place_at env mix j) =
-      sym (subst (λ s. bucket_place env.geometry s is.bucket ≡ Some place) same is.there)
-      ∙ place-index env mix words G whole is.bucket within in
-      (j, index-within env mix words G whole is.bucket within, some-same place (place_at env mix j) there)
-    where
-      only_one : {x y : ℕ} → In x (y ∷ []) → x ≡ y
-      only_one (inl same) = same
-      only_one (inr none) = absurd none
-
 module _ (M : Type 0) (mix : ℕ → ℕ → ℕ → ℕ) where
   raising-raisers : (env : Env) (core : Core M) (G : Ghost) → Inv env mix M core G
       → raising core ≡ raisers env mix G
@@ -171,10 +151,11 @@ module _ (M : Type 0) (mix : ℕ → ℕ → ℕ → ℕ) where
       (sym has.inv.same_env) in
       record {
         unlocked = λ place is.
-            let at = in_one_table env mix core.words G has.inv.whole place is in
-            let j = at.0 in
-            let right = (has.inv.whole.buckets j at.1).locked in
-            subst (λ p. slice_index core.words p % 2 ≡ 0) (sym at.2)
+            let at = bucket_in_force env mix core.words G has.inv.whole is.table is.bucket place is.of_table
+            is.within is.there in
+            let j = at.index in
+            let right = (has.inv.whole.buckets j at.within).locked in
+            subst (λ p. slice_index core.words p % 2 ≡ 0) (sym at.place_is)
             (even_word (G.bucket j).holder (G.bucket j).plain
             (word_at env.geometry core.words (PageWord j)) right.word_is right.even
             (λ c h. elim ((knows c).only.locks j h) [ inl e ↦ absurd (cc) | inr e ↦ absurd (cc) ]));

@@ -21,7 +21,7 @@ use Rattle.rht_arena.specs.NewNode.{NewNodeModel, new_node_plan, new_node_after,
 use Rattle.rht_arena.specs.declared.new_node.NewNodeAt.{NewNodeAt}
 use Rattle.rht_arena.specs.declared.new_node.NewNodeAt.TheVariants as news
 use Rattle.rht_arena.proofs.TakenWereFree.{claims}
-use Rattle.rht_core.proofs.Theory.Ghosts.{put, put-same, put-all, Owner, Free, Held, Ghost, IsUsed, is_used, is_taken_by, held_not_used, with_owner}
+use Rattle.rht_core.proofs.Theory.Ghosts.{put-same, put-all, Owner, Free, Held, Ghost, IsUsed, is_used, is_taken_by, held_not_used, with_owner}
 use Rattle.rht_core.proofs.Theory.Wholes.{Whole}
 use Rattle.rht_core.proofs.Theory.Knowledge.{members_used, IsPlain, BucketMeans-own, KnownNode, KnownTable, KnownBucket, knows_plain, TablesStay, NodeMeans, TableMeans, Knowing, TableMeans-stay, BucketMeans-stay}
 use Rattle.rht_core.proofs.Theory.Frames.{chains_stay, same_chains, chains_passes, tables_stay}

@@ -12,7 +12,7 @@ use Rattle.rht_words.proofs.Memory.{Memory}
 use Rattle.rht_words.specs.Members.{In, IsDistinct}
 use Rattle.rht_words.proofs.Members.{count_below}
 use Rattle.rht_policy.specs.Mix.{bucket_of}
-use Rattle.rht_core.proofs.Theory.Ghosts.{Bucket, blank_bucket, Owner, Free, Held, First, Leaving, Behind, Taken, Ghost, Live, lock_bit, state_word, is_first, is_taken_by, seat_of, IsSeated, seated, table_at, has_table, index_at, PageOwner, PageFree, PageHeld, PageOf}
+use Rattle.rht_core.proofs.Theory.Ghosts.{Bucket, blank_bucket, Owner, Free, Held, First, Leaving, Behind, Taken, Ghost, Live, lock_bit, state_word, is_first, is_taken_by, seat_of, seated, table_at, has_table, index_at, PageOwner, PageFree, PageHeld, PageOf}
 
 -- the links behind nodes
 abbrev pub chain_of : Memory → ℕ → ℕ
