@@ -16,7 +16,7 @@ use Rattle.rht_core.specs.declared.event.Event.TheVariants.{Enroll, Begin, Step}
 use Rattle.rht_core.specs.Runs.{Core, World, planned_in, enrolling, core_step, run_of, opening, IsAdmitted}
 use Rattle.rht_core.specs.FirstTable.{FirstTable}
 use Rattle.rht_core.proofs.Theory.Ghosts.{Table, Ghost}
-use Rattle.rht_core.proofs.Theory.Knowledge.{TablesStay}
+use Rattle.rht_core.proofs.Theory.Reliance.{TablesStay}
 use Rattle.rht_core.proofs.Theory.Steps.{mem}
 use Rattle.rht_core.proofs.Theory.Wholes.{Whole}
 use Rattle.rht_core.proofs.Events.Invariants.{Inv, kept, step_of}

@@ -11,7 +11,8 @@ use Rattle.rht_words.specs.Links.{head_of}
 use Rattle.rht_core.proofs.Theory.Ghosts.{Table, Bucket, Owner, First, Leaving, Behind, Ghost, lock_bit, state_word, is_used, is_taken_by, IsUsed, PageOwner, PageFree, PageHeld, PageOf, SlotOwner, seat_of, seat_in, seat, seat-used, has_table, index_at, table_at}
 use Rattle.rht_core.proofs.Theory.Wholes.{chain_of, list_of, key_of, place_at, home, stop, pages_of, IsNoBucket, TableRight, TablesRight, SlotsRight, PagesRight, LockedRight, BucketRight, ChainedRight, ArmedRight, OutRight, MovingRight, IsHomeOf, IsLeavingAt, Owned, ArenaRight, Whole, seated_at, out-seated, firsts, raisers}
 use Rattle.rht_core.proofs.Theory.Passed.{TablesGrow, PassesStay, Passed-stays}
-use Rattle.rht_core.proofs.Theory.Knowledge.{HasNode, TablesStay, HoldingsStay, WorkStays, IsEmptied, WordStays, ChainsStay, bound_used, Rely}
+use Rattle.rht_core.proofs.Theory.Knowledge.{HasNode, IsEmptied}
+use Rattle.rht_core.proofs.Theory.Reliance.{TablesStay, HoldingsStay, WorkStays, WordStays, ChainsStay, bound_used, Rely}
 
 module _ (env : Env) (mix : ℕ → ℕ → ℕ → ℕ) where
   -- what everybody but this caller can count on
