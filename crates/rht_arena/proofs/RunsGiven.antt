@@ -15,16 +15,16 @@ use Rattle.rht_arena.specs.Runs.{run_bits}
 use Rattle.rht_arena.specs.GiveRun.{GiveRunModel, give_run_plan, give_run_after}
 use Rattle.rht_arena.specs.RunLaws.{page_place, page_bit, IsOfRun, GivesPage, GivingRunSetsItsBits}
 use Rattle.rht_arena.proofs.RunBits.{bit_at-run, bit_at-run_from, bit_at-run_until}
-use Rattle.rht_arena.proofs.RunsSeen.{Any-behind}
+use Rattle.rht_arena.proofs.NodesInTurn.{Any-behind}
 
 module _ (g : Geometry) (first pages : ℕ) where
   -- the giving back at a word of the map
-  abbrev giving : ℕ → GiveRunModel
+  abbrev pub giving : ℕ → GiveRunModel
   giving index = record { geometry = g; first = first; pages = pages; index = index }
 
   module _ (page : ℕ) (of_run : IsOfRun first pages page) where
     -- the operation at the page's word sets its bit
-    gives_page : (index old : ℕ) → page / 64 ≡ index
+    pub gives_page : (index old : ℕ) → page / 64 ≡ index
         → GivesPage g page (record { op = give_run_plan (giving index); old = old })
     gives_page index old is =
         let bits = run_bits first pages index in

@@ -25,6 +25,7 @@ use Rattle.rht_arena.specs.TakeRun.{TakeRunModel, first_run, take_run_plan, take
 use Rattle.rht_arena.specs.RunLaws.{page_place, page_bit, IsOfRun, SeesPageTaken, SeesRunTaken, AreRunsSeenInTurn, run_taking_ran, NoneOnlyWhereRunsTaken, NoneWhereRunsTakenInTurn}
 use Rattle.rht_arena.proofs.RunBits.{run_bits-fits, bit_at-run, bit_at-run_from, bit_at-run_until, has_each, lacks_bit}
 use Rattle.rht_arena.proofs.RunsStay.{take_run_after-in}
+use Rattle.rht_arena.proofs.NodesInTurn.{Any-behind}
 
 -- the run at which the machine stands
 abbrev pub next_unseen : ℕ → TakeRunAt → ℕ
@@ -337,10 +338,6 @@ none_where_runs_taken_in_turn g pages olds answer run done = (
   λ turn.
       in_turn-none (first_run g pages) olds (begins-in g pages run) 0 (0, omega arith) turn answer done,
 )
-
--- what is so of one behind the first is so of one of all
-pub Any-behind : {X : Type 0} (P : X → Type 0) (x : X) (xs : List X) → Any P xs → Any P (x ∷ xs)
-Any-behind P x xs (k, y, within, is, holds) = (suc k, y, omega (arith, within), is, holds)
 
 -- runs that are seen in turn are each seen
 in_turn-seen : (g : Geometry) (pages first : ℕ) (steps : List Performed)

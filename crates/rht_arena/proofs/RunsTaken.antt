@@ -257,7 +257,7 @@ took_so_far-begins g pages steps run = record {
 }
 
 -- nothing is asked of the words that the operations find
-anything : (olds : List ℕ) → AllByRecursion (λ (old : ℕ). Unit {0}) olds
+pub anything : (olds : List ℕ) → AllByRecursion (λ (old : ℕ). Unit {0}) olds
 anything [] = tt
 anything (old ∷ olds) = (tt, anything olds)
 
