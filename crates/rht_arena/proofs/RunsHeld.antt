@@ -3,20 +3,18 @@
 --
 -- A page is held where it stands in the run below the machine's word (`in_part`), or in that word and among the bits that
 -- are given back. An And adds what it found of the run's bits in its word, and an Or leaves what stands below its word.
-use Rattle.std.proofs.Common.{◌≡◌, ℕ, ◌+◌, ◌-◌, ◌*◌, ◌/◌, ◌%◌, ◌^◌, ◌<◌, ◌≤◌, Some, None, inl, inr, refl, sym, ap, ◌∙◌, subst, bit_and, min, arith}
-use Rattle.std.specs.Prelude.{Option, Bool, ◌⊎◌, true, false, not, ◌&&◌, ◌||◌, ◌==◌, nat_le, nat_lt, if◌then◌else◌}
-use Rattle.std.proofs.lemmas.Bool.{cases_lt, cases_eq, cases_Bool, cond_both, eqb-true, eqb-false, eq-eqb, ltb-true, ltb-false, leb-true, leb-false, lt-ltb, le-leb, and_parts, and_from, and_cases, or_cases, or_left, or_right, or_from, false_from_ne_true, not_from_true, not_from_false}
+use Rattle.std.proofs.Common.{◌≡◌, ℕ, ◌+◌, ◌-◌, ◌*◌, ◌/◌, ◌%◌, ◌^◌, ◌<◌, ◌≤◌, inl, inr, refl, sym, ap, ◌∙◌, bit_and, arith}
+use Rattle.std.specs.Prelude.{Option, Bool, ◌⊎◌, true, false, not, ◌&&◌, ◌||◌, ◌==◌, nat_le, nat_lt}
+use Rattle.std.proofs.lemmas.Bool.{cases_lt, cond_both, eqb-true, eq-eqb, ltb-true, ltb-false, leb-true, leb-false, lt-ltb, le-leb, and_parts, and_from, or_cases, or_left, or_right, false_from_ne_true}
 use Rattle.std.proofs.lemmas.Nat.Bits.{bit_at_and, bit_at_not, bit_at-lt, bit_at-zero}
 use Rattle.std.specs.Int.{bit_at, bit_not, w64}
 use Rattle.rht_words.specs.declared.machine.Next.{Next}
-use Rattle.rht_words.specs.declared.machine.Next.TheVariants.{Go, Done}
-use Rattle.rht_words.specs.declared.geometry.Geometry.{Geometry}
 use Rattle.rht_words.specs.Places.{PageMap, place_of}
 use Rattle.rht_arena.specs.declared.take_run.TakeRunAt.{TakeRunAt}
 use Rattle.rht_arena.specs.declared.take_run.TakeRunAt.TheVariants.{MapWord, Claim, GiveBack}
-use Rattle.rht_arena.specs.Runs.{run_bits, is_in_run}
-use Rattle.rht_arena.specs.TakeRun.{TakeRunModel, take_run_plan, take_run_plan_at, take_run_after, take_run_after_at, next_run, given_below, given_from, claimed, looked, cleared, has_run, has_page, IsRunAt, IsTakeRunAtIn, IsTakeRunIn}
-use Rattle.rht_arena.specs.RunLaws.{page_place, page_bit, has_after, has_next, HoldsWhatItTook}
+use Rattle.rht_arena.specs.Runs.{run_bits}
+use Rattle.rht_arena.specs.TakeRun.{TakeRunModel, take_run_plan_at, take_run_after_at, next_run, given_below, given_from, claimed, has_run, has_page, IsRunAt, IsTakeRunAtIn}
+use Rattle.rht_arena.specs.RunLaws.{page_place, has_after, has_next, HoldsWhatItTook}
 use Rattle.rht_arena.proofs.RunBits.{run_bits-fits, bit_at-run, bit_at-run_from, bit_at-run_until}
 
 -- two tests that hold together are one

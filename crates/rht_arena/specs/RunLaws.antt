@@ -1,5 +1,5 @@
 -- What the machines that take and give back runs of pages rely on.
-use Rattle.std.specs.Prelude.{◌≡◌, ◌≢◌, ◌↔◌, ℕ, Bool, false, not, ◌+◌, ◌*◌, ◌/◌, ◌%◌, ◌<◌, ◌≤◌, ◌⊎◌, ◌==◌, ◌&&◌, ◌||◌, Option, None, Some, List, [], ◌∷◌}
+use Rattle.std.specs.Prelude.{◌≡◌, ◌↔◌, ℕ, Bool, false, not, ◌+◌, ◌*◌, ◌/◌, ◌%◌, ◌<◌, ◌≤◌, ◌⊎◌, ◌==◌, ◌&&◌, ◌||◌, Option, None, Some, List, [], ◌∷◌}
 use Rattle.std.specs.List.{Any}
 use Rattle.std.specs.Int.{bit_at}
 use Rattle.rht_words.specs.declared.op.Op.{Op}
