@@ -24,3 +24,5 @@ pub mod RunsSeen
 pub mod RunsTaken
 -- giving a run back sets the bits of its pages
 pub mod RunsGiven
+-- what the taking of a run holds changes by its operations
+pub mod RunsHeld

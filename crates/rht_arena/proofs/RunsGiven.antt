@@ -1,12 +1,12 @@
 -- Giving a run back sets the bits of its pages, and no other page's.
-use Rattle.std.proofs.Common.{◌≡◌, ℕ, suc, ◌+◌, ◌*◌, ◌/◌, ◌%◌, ◌<◌, ◌≤◌, List, [], ◌∷◌, inl, inr, refl, sym, ap, arith}
+use Rattle.std.proofs.Common.{◌≡◌, ℕ, ◌+◌, ◌*◌, ◌/◌, ◌%◌, ◌<◌, ◌≤◌, List, [], ◌∷◌, inl, inr, refl, sym, ap, arith}
 use Rattle.std.proofs.lemmas.Bool.{cases_lt, cases_eq, cond_both, ltb-false}
 use Rattle.std.proofs.lemmas.Nat.Bits.{bit_at_or, bit_at-lt}
 use Rattle.std.specs.Prelude.{nat_lt}
 use Rattle.std.specs.Int.{bit_at}
 use Rattle.std.specs.List.{Any}
 use Rattle.rht_words.specs.declared.machine.Next.{Next}
-use Rattle.rht_words.specs.declared.machine.Next.TheVariants.{Go, Done}
+use Rattle.rht_words.specs.declared.machine.Next.TheVariants.{Done}
 use Rattle.rht_words.specs.declared.geometry.Geometry.{Geometry}
 use Rattle.rht_words.specs.Places.{PageMap, place_of}
 use Rattle.rht_words.specs.Operations.{op_place, word_after}
@@ -15,16 +15,16 @@ use Rattle.rht_arena.specs.Runs.{run_bits}
 use Rattle.rht_arena.specs.GiveRun.{GiveRunModel, give_run_plan, give_run_after}
 use Rattle.rht_arena.specs.RunLaws.{page_place, page_bit, IsOfRun, GivesPage, GivingRunSetsItsBits}
 use Rattle.rht_arena.proofs.RunBits.{bit_at-run, bit_at-run_from, bit_at-run_until}
-use Rattle.rht_arena.proofs.RunsSeen.{Any-behind}
+use Rattle.rht_arena.proofs.NodesInTurn.{Any-behind}
 
 module _ (g : Geometry) (first pages : ℕ) where
   -- the giving back at a word of the map
-  abbrev giving : ℕ → GiveRunModel
+  abbrev pub giving : ℕ → GiveRunModel
   giving index = record { geometry = g; first = first; pages = pages; index = index }
 
   module _ (page : ℕ) (of_run : IsOfRun first pages page) where
     -- the operation at the page's word sets its bit
-    gives_page : (index old : ℕ) → page / 64 ≡ index
+    pub gives_page : (index old : ℕ) → page / 64 ≡ index
         → GivesPage g page (record { op = give_run_plan (giving index); old = old })
     gives_page index old is =
         let bits = run_bits first pages index in

@@ -4,11 +4,9 @@
 -- load or an And that doesn't find all bits of the run's pages in a word. While it gives pages back it stands at the next
 -- run already. So where it finds none, each run was seen in turn. And where runs are seen in turn, the machine stands at
 -- the next one that is to be seen or behind it (`in_turn-none`), so it has none left to answer.
-use Rattle.std.proofs.Common.{◌≡◌, ℕ, zero, suc, ◌+◌, ◌-◌, ◌*◌, ◌/◌, ◌%◌, ◌<◌, ◌≤◌, List, [], ◌∷◌, Some, None, inl, inr, refl, sym, ap, ◌∙◌, subst, bit_and, arith}
-use Rattle.std.proofs.lemmas.Bool.{cond_both, eqb-true, eqb-false, ltb-false, leb-true, leb-false}
-use Rattle.std.proofs.lemmas.List.Quantifiers.{Any-push}
+use Rattle.std.proofs.Common.{◌≡◌, ℕ, zero, suc, ◌+◌, ◌*◌, ◌/◌, ◌%◌, ◌<◌, ◌≤◌, List, [], ◌∷◌, Some, None, inl, inr, refl, sym, ap, subst, bit_and, arith}
+use Rattle.std.proofs.lemmas.Bool.{cond_both, eqb-true, eqb-false, leb-false}
 use Rattle.std.specs.Prelude.{Option, ◌⊎◌, ◌==◌, nat_le, nat_lt, if◌then◌else◌}
-use Rattle.std.specs.Int.{bit_at}
 use Rattle.std.specs.List.{Any}
 use Rattle.rht_words.specs.declared.machine.Next.{Next}
 use Rattle.rht_words.specs.declared.machine.Next.TheVariants.{Go, Done}
@@ -22,9 +20,10 @@ use Rattle.rht_arena.specs.declared.take_run.TakeRunAt.TheVariants.{MapWord, Cla
 use Rattle.rht_arena.specs.Laws.{IsLook}
 use Rattle.rht_arena.specs.Runs.{run_bits, IsRunIn, IsRunWord}
 use Rattle.rht_arena.specs.TakeRun.{TakeRunModel, first_run, take_run_plan, take_run_plan_at, take_run_after, take_run_after_at, next_run, given_below, given_from, claimed, has_run, IsRunAt, IsTakeRunAtIn}
-use Rattle.rht_arena.specs.RunLaws.{page_place, page_bit, IsOfRun, SeesPageTaken, SeesRunTaken, AreRunsSeenInTurn, run_taking_ran, NoneOnlyWhereRunsTaken, NoneWhereRunsTakenInTurn}
+use Rattle.rht_arena.specs.RunLaws.{SeesRunTaken, AreRunsSeenInTurn, run_taking_ran, NoneOnlyWhereRunsTaken, NoneWhereRunsTakenInTurn}
 use Rattle.rht_arena.proofs.RunBits.{run_bits-fits, bit_at-run, bit_at-run_from, bit_at-run_until, has_each, lacks_bit}
 use Rattle.rht_arena.proofs.RunsStay.{take_run_after-in}
+use Rattle.rht_arena.proofs.NodesInTurn.{Any-behind}
 
 -- the run at which the machine stands
 abbrev pub next_unseen : ℕ → TakeRunAt → ℕ
@@ -337,10 +336,6 @@ none_where_runs_taken_in_turn g pages olds answer run done = (
   λ turn.
       in_turn-none (first_run g pages) olds (begins-in g pages run) 0 (0, omega arith) turn answer done,
 )
-
--- what is so of one behind the first is so of one of all
-pub Any-behind : {X : Type 0} (P : X → Type 0) (x : X) (xs : List X) → Any P xs → Any P (x ∷ xs)
-Any-behind P x xs (k, y, within, is, holds) = (suc k, y, omega (arith, within), is, holds)
 
 -- runs that are seen in turn are each seen
 in_turn-seen : (g : Geometry) (pages first : ℕ) (steps : List Performed)

@@ -1,11 +1,11 @@
 -- Whatever words it is told, the taking of a run stays at a run of the table, and the giving back in its run.
-use Rattle.std.proofs.Common.{◌≡◌, ℕ, ◌+◌, ◌-◌, ◌*◌, ◌/◌, ◌<◌, ◌≤◌, refl, sym, subst, ◌∙◌, arith}
-use Rattle.std.specs.Prelude.{Option, Some, None, ◌==◌, nat_lt, nat_le, bit_and}
+use Rattle.std.proofs.Common.{◌≡◌, ℕ, ◌+◌, ◌-◌, ◌*◌, ◌<◌, ◌≤◌, refl, sym, subst, ◌∙◌, arith}
+use Rattle.std.specs.Prelude.{Option, ◌==◌, nat_lt, nat_le, bit_and}
 use Rattle.std.specs.Int.Bits.{and_self}
 use Rattle.std.proofs.lemmas.Bool.{cond_both, ltb-true, leb-true, leb-false}
 use Rattle.rht_words.specs.declared.geometry.Geometry.{Geometry}
 use Rattle.rht_words.specs.declared.machine.Next.{Next}
-use Rattle.rht_arena.specs.Runs.{run_bits, IsRunIn, IsRunWord}
+use Rattle.rht_arena.specs.Runs.{run_bits, IsRunIn}
 use Rattle.rht_arena.specs.TakeRun.{TakeRunModel, take_run_after, take_run_after_at, next_run, given_below, given_from, claimed, looked, cleared, has_run, IsRunAt, IsTakeRunAtIn, IsTakeRunIn, IsRunEndIn}
 use Rattle.rht_arena.specs.declared.take_run.TakeRunAt.{TakeRunAt}
 use Rattle.rht_arena.specs.declared.take_run.TakeRunAt.TheVariants.{MapWord, Claim, GiveBack}

@@ -2,14 +2,14 @@
 --
 -- The invariant (`TookAt`): at a run, the pages in the words before the machine's were each taken by one of the operations.
 -- It goes on to the next word only by an And that found all bits of the run's pages in its word.
-use Rattle.std.proofs.Common.{◌≡◌, ℕ, ◌+◌, ◌*◌, ◌/◌, ◌%◌, ◌^◌, ◌<◌, ◌≤◌, List, [], ◌∷◌, ◌++◌, Some, None, inl, inr, refl, sym, ap, ◌∙◌, subst, bit_and, min, arith}
+use Rattle.std.proofs.Common.{◌≡◌, ℕ, ◌+◌, ◌*◌, ◌/◌, ◌%◌, ◌^◌, ◌<◌, ◌≤◌, List, [], ◌∷◌, ◌++◌, Some, None, inl, inr, refl, sym, ap, ◌∙◌, subst, bit_and, arith}
 use Rattle.std.proofs.lemmas.Bool.{cases_lt, cond_both, eqb-true, ltb-true, ltb-false}
-use Rattle.std.proofs.lemmas.Nat.Bits.{bit_at_and, bit_at_not, bit_at-lt}
+use Rattle.std.proofs.lemmas.Nat.Bits.{bit_at_and, bit_at_not}
 use Rattle.std.proofs.lemmas.List.Quantifiers.{Any-push}
 use Rattle.std.proofs.lemmas.List.Elements.{All-from_recursion}
 use Rattle.std.specs.Prelude.{Option, ◌==◌, nat_le, nat_lt}
-use Rattle.std.specs.Int.{bit_at, bit_not, w64}
-use Rattle.std.specs.List.{All, AllByRecursion, Any}
+use Rattle.std.specs.Int.{bit_not, w64}
+use Rattle.std.specs.List.{AllByRecursion, Any}
 use Rattle.rht_words.specs.declared.machine.Next.{Next}
 use Rattle.rht_words.specs.declared.machine.Next.TheVariants.{Go, Done}
 use Rattle.rht_words.specs.declared.geometry.Geometry.{Geometry}
@@ -19,9 +19,9 @@ use Rattle.rht_words.proofs.EachElement.{Any-append_left}
 use Rattle.rht_words.proofs.MachineRuns.{performed, kept_to_end}
 use Rattle.rht_arena.specs.declared.take_run.TakeRunAt.{TakeRunAt}
 use Rattle.rht_arena.specs.declared.take_run.TakeRunAt.TheVariants.{MapWord, Claim, GiveBack}
-use Rattle.rht_arena.specs.Runs.{run_bits, IsRunIn, IsRunWord}
+use Rattle.rht_arena.specs.Runs.{run_bits, IsRunIn}
 use Rattle.rht_arena.specs.TakeRun.{TakeRunModel, first_run, take_run_plan, take_run_plan_at, take_run_after, take_run_after_at, next_run, given_below, given_from, claimed, looked, cleared, has_run, IsRunAt, IsTakeRunAtIn}
-use Rattle.rht_arena.specs.RunLaws.{page_place, page_bit, IsOfRun, TakesPage, RunWasTaken, run_taking_ran, TakenRunWasFree}
+use Rattle.rht_arena.specs.RunLaws.{IsOfRun, TakesPage, RunWasTaken, TakenRunWasFree}
 use Rattle.rht_arena.proofs.RunBits.{run_bits-fits, bit_at-run, has_each}
 use Rattle.rht_arena.proofs.RunsStay.{take_run_after-in}
 use Rattle.rht_arena.proofs.RunsSeen.{begins-in}
@@ -257,7 +257,7 @@ took_so_far-begins g pages steps run = record {
 }
 
 -- nothing is asked of the words that the operations find
-anything : (olds : List ℕ) → AllByRecursion (λ (old : ℕ). Unit {0}) olds
+pub anything : (olds : List ℕ) → AllByRecursion (λ (old : ℕ). Unit {0}) olds
 anything [] = tt
 anything (old ∷ olds) = (tt, anything olds)
 

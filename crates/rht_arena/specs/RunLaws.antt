@@ -1,15 +1,17 @@
 -- What the machines that take and give back runs of pages rely on.
-use Rattle.std.specs.Prelude.{◌≡◌, ◌≢◌, ◌↔◌, ℕ, ◌+◌, ◌*◌, ◌/◌, ◌%◌, ◌<◌, ◌≤◌, ◌⊎◌, Option, None, Some, List, [], ◌∷◌}
+use Rattle.std.specs.Prelude.{◌≡◌, ◌↔◌, ℕ, Bool, false, not, ◌+◌, ◌*◌, ◌/◌, ◌%◌, ◌<◌, ◌≤◌, ◌⊎◌, ◌==◌, ◌&&◌, ◌||◌, Option, None, Some, List, [], ◌∷◌}
 use Rattle.std.specs.List.{Any}
 use Rattle.std.specs.Int.{bit_at}
 use Rattle.rht_words.specs.declared.op.Op.{Op}
+use Rattle.rht_words.specs.declared.op.Op.TheVariants.{Load, Store, Exchange, Add, Sub, And, Or}
+use Rattle.rht_words.specs.declared.machine.Next.{Next}
 use Rattle.rht_words.specs.declared.machine.Next.TheVariants.{Go, Done}
 use Rattle.rht_words.specs.declared.geometry.Geometry.{Geometry}
 use Rattle.rht_words.specs.Places.{PageMap, place_of}
 use Rattle.rht_words.specs.Operations.{op_place, word_after}
 use Rattle.rht_words.specs.Machines.{Performed, Ran, ran}
-use Rattle.rht_arena.specs.Runs.{IsRunIn}
-use Rattle.rht_arena.specs.TakeRun.{TakeRunModel, first_run, take_run_plan, take_run_after}
+use Rattle.rht_arena.specs.Runs.{is_in_run, IsRunIn}
+use Rattle.rht_arena.specs.TakeRun.{TakeRunModel, first_run, take_run_plan, take_run_after, has_page, IsTakeRunAtIn}
 use Rattle.rht_arena.specs.GiveRun.{GiveRunModel, give_run_new, give_run_plan, give_run_after}
 use Rattle.rht_arena.specs.Laws.{IsLook}
 
@@ -90,6 +92,35 @@ NoneWhereRunsTakenInTurn =
     (g : Geometry) (pages : ℕ) (olds : List ℕ) (answer : Option ℕ) → IsRunIn g 0 pages
     → (run_taking_ran g pages olds).next ≡ Done answer
     → (answer ≡ None) ↔ AreRunsSeenInTurn g pages 0 (run_taking_ran g pages olds).steps
+
+-- ---- what the taking holds
+
+-- Whether a caller that has cleared the page's bit, or not, has cleared it and not given it back after an operation that
+-- found this word: an And that clears the bit, and found it set, takes it; an Or that sets it gives it back.
+abbrev pub has_after : Geometry → ℕ → Bool → ℕ → Op → Bool
+has_after g page has old (Load place) = has
+has_after g page has old (Store place value) = has
+has_after g page has old (Exchange place before after) = has
+has_after g page has old (Add place by) = has
+has_after g page has old (Sub place by) = has
+has_after g page has old (And place mask) =
+    has
+    || ((place == page_place g page) && ((bit_at mask (page_bit page) == 0) && (bit_at old (page_bit page) == 1)))
+has_after g page has old (Or place mask) =
+    has && not ((place == page_place g page) && (bit_at mask (page_bit page) == 1))
+
+-- and after an operation of the taking of a run; once it has ended those of the run that it answers
+abbrev pub has_next : ℕ → TakeRunModel × Next (Option ℕ) → ℕ → Bool
+has_next pages (m, Go) page = has_page pages m.at page
+has_next pages (m, Done None) page = false
+has_next pages (m, Done (Some first)) page = is_in_run first pages page
+
+-- each operation changes what the machine holds as it changes the bits; so where none is answered nothing is held
+abbrev pub HoldsWhatItTook : Type 0
+HoldsWhatItTook =
+    (m : TakeRunModel) (old page : ℕ) → IsTakeRunAtIn m.geometry m.pages m.at
+    → has_next m.pages (take_run_after m old) page
+    ≡ has_after m.geometry page (has_page m.pages m.at page) old (take_run_plan m)
 
 -- ---- giving back
 

@@ -2,7 +2,7 @@
 //! and its clause is the law.
 
 ghost use Rattle.rht_arena.specs.Laws.{TakenWasFree, AnswersSayWhatWasDone, NoneOnlyWhereTaken, NoneWhereTakenInTurn, GivingSetsOneBit};
-ghost use Rattle.rht_arena.specs.RunLaws.{TakenRunWasFree, NoneOnlyWhereRunsTaken, NoneWhereRunsTakenInTurn, GivingRunSetsItsBits};
+ghost use Rattle.rht_arena.specs.RunLaws.{TakenRunWasFree, NoneOnlyWhereRunsTaken, NoneWhereRunsTakenInTurn, HoldsWhatItTook, GivingRunSetsItsBits};
 
 /// A node that is answered was free until the operation after which it is answered, which took it.
 pub fn taken_was_free()
@@ -52,6 +52,13 @@ pub fn none_only_where_runs_taken()
 /// operation of its own, in rising order.
 pub fn none_where_runs_taken_in_turn()
     ensures { NoneWhereRunsTakenInTurn }
+{}
+
+/// Each operation of the taking of a run changes what the machine holds as it changes the bits: an
+/// `and` takes the pages whose bits it clears, and an `or` gives back those whose bits it sets. So where
+/// none is answered nothing is held any more, and where a run is, just its pages.
+pub fn holds_what_it_took()
+    ensures { HoldsWhatItTook }
 {}
 
 /// Giving a run back sets the bit of each of its pages, and changes no other page's bit.

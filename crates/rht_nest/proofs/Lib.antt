@@ -10,3 +10,5 @@ pub mod MakesPlanned
 pub mod MakesInTurn
 -- a table that is answered was made of a slot and pages that were free
 pub mod MakesMade
+-- a table that is given back gives its pages and its slot back
+pub mod UnmakesGive

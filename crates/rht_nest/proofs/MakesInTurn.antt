@@ -24,13 +24,14 @@ use Rattle.rht_arena.specs.Runs.{IsRunIn}
 use Rattle.rht_arena.specs.TakeRun.{TakeRunModel, take_run_new, take_run_plan, take_run_plan_at, take_run_after, run_length, first_run, IsTakeRunIn, IsTakeRunAtIn}
 use Rattle.rht_arena.specs.RunLaws.{SeesRunTaken, AreRunsSeenInTurn}
 use Rattle.rht_arena.proofs.RunsStay.{TakeRunIsIn, take_run_stays}
-use Rattle.rht_arena.proofs.RunsSeen.{next_unseen, GoesOn, Went, IsAhead, turn_before, ahead_after, goes_on_in, begins-in, Any-behind}
+use Rattle.rht_arena.proofs.RunsSeen.{next_unseen, GoesOn, Went, IsAhead, turn_before, ahead_after, goes_on_in}
+use Rattle.rht_arena.proofs.NodesInTurn.{Any-behind}
 use Rattle.rht_nest.specs.Make.{MakeModel, make_plan, make_plan_at, make_after, make_after_at, made_pages, run_taken, run_started, slot_seen, IsTakingIn}
 use Rattle.rht_nest.specs.Tables.{exponent_made}
 use Rattle.rht_nest.specs.MakeLaws.{slot_taking, SeesSlotTaken, AreSlotsSeenTaken, NoneWhereSlotsOrRunsTaken}
 use Rattle.rht_nest.specs.declared.make.MakeAt.{MakeAt}
 use Rattle.rht_nest.specs.declared.make.MakeAt.TheVariants as at
-use Rattle.rht_nest.proofs.MakesStay.{made_pages-some}
+use Rattle.rht_nest.proofs.MakesStay.{made_pages-some, begins_taking}
 
 -- what is so of one of all is so of the first or of one behind it
 Any-parts : {X : Type 0} (P : X → Type 0) (x : X) (xs : List X) → Any P (x ∷ xs) → P x ⊎ Any P xs
@@ -299,14 +300,7 @@ module _ (g : Geometry) (exponent seed : ℕ) (nested : Bool) where
       → (answer ≡ None) ↔ AreRunsSeenInTurn g pages 0 (from (run_started slot start) olds).steps)
       (λ t answer done.
       let fits : run_length pages ≤ g.pages = leb-true (run_length pages) g.pages t in
-      let here : IsTakingIn g pages slot begin = record {
-        slot_in = slot_in;
-        pages_same = same;
-        take_in = record {
-          geometry_same = refl;
-          at_in = begins-in g (run_length pages) (record { some = omega arith; within = omega (arith, fits) });
-        };
-      } in (
+      let here = begins_taking g exponent slot slot_in fits in (
         λ none. taking_turn olds slot begin here
             (subst (λ (a : Option (ℕ × ℕ)). (from (at.Taking slot begin) olds).next ≡ Done a) none done),
         λ turn. taking_none olds slot begin here 0 (0, omega arith) turn answer done,

@@ -22,7 +22,7 @@ use Rattle.rht_words.proofs.EachElement.{Any-append_left}
 use Rattle.rht_words.proofs.MachineRuns.{performed, kept_to_end}
 use Rattle.rht_arena.specs.TakeRun.{TakeRunModel, take_run_new, take_run_after, run_length, first_run}
 use Rattle.rht_arena.specs.RunLaws.{RunWasTaken}
-use Rattle.rht_arena.proofs.RunsTaken.{TookSoFar, KeepsTook, took_so_far-begins, took_goes_on, took_after, RunWasTaken-push}
+use Rattle.rht_arena.proofs.RunsTaken.{TookSoFar, KeepsTook, took_so_far-begins, took_goes_on, took_after, RunWasTaken-push, anything}
 use Rattle.rht_nest.specs.Tables.{exponent_made, flat_shape, table_pages, table_seed}
 use Rattle.rht_nest.specs.Laws.{IsFlatIn, end_word}
 use Rattle.rht_nest.specs.Make.{MakeModel, make_new, make_plan, make_plan_at, make_after, make_after_at, made_pages, made_shape, run_taken, run_started, slot_seen}
@@ -284,11 +284,6 @@ module _ (g : Geometry) (size seed : ℕ) (nested : Bool) where
   same_after : (m : MakeModel) (old : ℕ) → making m.at ≡ m
       → making (make_after m old).0.at ≡ (make_after m old).0
   same_after m old is = subst (λ (n : MakeModel). making (make_after n old).0.at ≡ (make_after n old).0) is refl
-
--- nothing is asked of the words that the operations find
-anything : (olds : List ℕ) → AllByRecursion (λ (old : ℕ). Unit {0}) olds
-anything [] = tt
-anything (old ∷ olds) = (tt, anything olds)
 
 pub made_of_what_was_free : MadeOfWhatWasFree
 made_of_what_was_free g size seed nested olds slot shape ends =

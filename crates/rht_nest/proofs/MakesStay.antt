@@ -35,24 +35,27 @@ module _ (g : Geometry) (exponent : ℕ) where
   abbrev pages : ℕ
   pages = made_pages exponent
 
-  -- with a slot taken, the taking of pages begins in range
-  run_started-in : (slot : ℕ) → slot < 8 → IsMakeAtIn g pages (run_started slot (take_run_new g pages))
-  run_started-in slot slot_in =
+  -- with a slot taken, and pages enough, the taking of pages begins in range
+  pub begins_taking : (slot : ℕ) → slot < 8 → run_length pages ≤ g.pages
+      → IsTakingIn g pages slot (first_run g (run_length pages))
+  begins_taking slot slot_in fits =
       let some = made_pages-some exponent in
-      let same : run_length pages ≡ pages = omega (arith, some) in
-      cond_both (nat_le (run_length pages) g.pages) (starts.Running (first_run g (run_length pages)))
-      (starts.Done None)
-      (λ start. IsMakeAtIn g pages (run_started slot start))
-      (λ t.
-      let fits : run_length pages ≤ g.pages = leb-true (run_length pages) g.pages t in
       record {
         slot_in = slot_in;
-        pages_same = same;
+        pages_same = omega (arith, some);
         take_in = record {
           geometry_same = refl;
           at_in = begins-in g (run_length pages) (record { some = omega arith; within = omega (arith, fits) });
         };
-      })
+      }
+
+  -- and where there are too few the slot is given back
+  run_started-in : (slot : ℕ) → slot < 8 → IsMakeAtIn g pages (run_started slot (take_run_new g pages))
+  run_started-in slot slot_in =
+      cond_both (nat_le (run_length pages) g.pages) (starts.Running (first_run g (run_length pages)))
+      (starts.Done None)
+      (λ start. IsMakeAtIn g pages (run_started slot start))
+      (λ t. begins_taking slot slot_in (leb-true (run_length pages) g.pages t))
       (λ f. slot_in)
 
   slot_seen-in : (slot state : ℕ) → slot < 8 → MakeStays g exponent (slot_seen g exponent slot state)

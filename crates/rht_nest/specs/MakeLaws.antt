@@ -1,5 +1,5 @@
 -- What the machines that attach tables rely on.
-use Rattle.std.specs.Prelude.{◌≡◌, ◌≢◌, ◌↔◌, ℕ, Bool, ◌<◌, ◌⊎◌, Option, None, Some, List}
+use Rattle.std.specs.Prelude.{◌≡◌, ◌≢◌, ◌↔◌, ℕ, Bool, ◌<◌, ◌⊎◌, Option, None, Some, List, [], ◌∷◌, ◌++◌}
 use Rattle.std.specs.List.{Any}
 use Rattle.rht_words.specs.declared.op.Op.{Op}
 use Rattle.rht_words.specs.declared.op.Op.TheVariants.{Store, Exchange, Add}
@@ -7,10 +7,11 @@ use Rattle.rht_words.specs.declared.machine.Next.TheVariants.{Done}
 use Rattle.rht_words.specs.declared.geometry.Geometry.{Geometry}
 use Rattle.rht_words.specs.Places.{NextSerial, Slot, SlotWord, ShapeWord, SeedWord, FutureWord, SerialWord, StateWord, place_of}
 use Rattle.rht_words.specs.Machines.{Performed, Ran, ran}
-use Rattle.rht_arena.specs.RunLaws.{RunWasTaken, AreRunsSeenInTurn}
-use Rattle.rht_nest.specs.Tables.{exponent_made, flat_shape, table_seed}
+use Rattle.rht_arena.specs.RunLaws.{IsOfRun, RunWasTaken, AreRunsSeenInTurn, GivesPage}
+use Rattle.rht_nest.specs.Tables.{exponent_made, flat_shape, run_first, run_pages, table_seed}
 use Rattle.rht_nest.specs.Laws.{IsFlatIn}
 use Rattle.rht_nest.specs.Make.{make_new, make_plan, make_after, made_pages, made_shape}
+use Rattle.rht_nest.specs.Unmake.{unmake_new, unmake_plan, unmake_after}
 
 -- the making of a table of this size, whose operations find these words
 abbrev pub making_ran : Geometry → ℕ → ℕ → Bool → List ℕ → Ran (Option (ℕ × ℕ))
@@ -81,3 +82,24 @@ MadeOfWhatWasFree =
     (g : Geometry) (size seed : ℕ) (nested : Bool) (olds : List ℕ) (slot shape : ℕ)
     → (making_ran g size seed nested olds).next ≡ Done (Some (slot, shape))
     → TableWasMade g size seed slot shape (making_ran g size seed nested olds).steps
+
+-- ---- a table that is given back
+
+-- the last operation stored that the slot is free
+pub record EndsWithSlot (g : Geometry) (slot : ℕ) (steps : List Performed) : Type 0 where
+  pub before : List Performed
+  pub old : ℕ
+  pub are : steps ≡ before ++ record { op = Store (place_of g (Slot slot StateWord)) 0; old = old } ∷ []
+
+-- each page of the table's run was given back, and the slot last
+pub record TableWasGiven (g : Geometry) (slot shape : ℕ) (steps : List Performed) : Type 0 where
+  pub pages_given :
+      (page : ℕ) → IsOfRun (run_first g shape) (run_pages g shape) page → Any (GivesPage g page) steps
+  pub slot_given : EndsWithSlot g slot steps
+
+-- a giving back that has ended gave back what the table of this shape has
+abbrev pub GivesTableBack : Type 0
+GivesTableBack =
+    (g : Geometry) (slot shape : ℕ) (olds : List ℕ)
+    → (ran unmake_plan unmake_after (unmake_new g slot shape) olds).next ≡ Done tt
+    → TableWasGiven g slot shape (ran unmake_plan unmake_after (unmake_new g slot shape) olds).steps

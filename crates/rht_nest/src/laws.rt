@@ -2,7 +2,7 @@
 //! the law.
 
 ghost use Rattle.rht_nest.specs.Laws.{BucketsStandInARow, BucketsNeverMeet};
-ghost use Rattle.rht_nest.specs.MakeLaws.{MadeOfWhatWasFree, NoneWhereSlotsOrRunsTaken};
+ghost use Rattle.rht_nest.specs.MakeLaws.{MadeOfWhatWasFree, NoneWhereSlotsOrRunsTaken, GivesTableBack};
 
 /// A flat table's buckets stand in a row from its first page on.
 pub fn buckets_stand_in_a_row()
@@ -25,4 +25,10 @@ pub fn made_of_what_was_free()
 /// of as many pages as the table takes was seen taken in its turn.
 pub fn none_where_slots_or_runs_taken()
     ensures { NoneWhereSlotsOrRunsTaken }
+{}
+
+/// A giving back that has ended set the bit of each page of the table, and stored last that the slot is
+/// free.
+pub fn gives_table_back()
+    ensures { GivesTableBack }
 {}

@@ -61,10 +61,10 @@ impl Model for Make {
 }
 
 impl Make {
-    /// Before the first slot. The size is a power of two from 4 to 131,072, as the nearest of which the
-    /// greatest power of two that divides another number is read. The seed is the config's. `nested`
-    /// says whether a nested table may be made where there is no run of pages for a flat one; none is
-    /// made yet.
+    /// Before the first slot. The size is a power of two from 4 to 131,072; another number is read as
+    /// the greatest power of two that divides it, and that as the nearest of these. The seed is the
+    /// config's. `nested` says whether a nested table may be made where there is no run of pages for a
+    /// flat one; none is made yet.
     #[inline(always)]
     pub fn new(geometry: Geometry, size: u32, seed: u32, nested: bool) -> Make
         ensures { result ≡ make_new geometry size seed nested }
