@@ -18,6 +18,8 @@ pub mod KnowledgeKept
 pub mod Readiness
 -- what a step leaves where it writes elsewhere
 pub mod Frames
+-- and of the parts of the whole
+pub mod WholeFrames
 -- what an operation says about bindings, and what is known of a call's answer
 pub mod Answering
 -- one operation of a caller, and what it knows afterwards

@@ -17,7 +17,8 @@ use Rattle.rht_core.proofs.Theory.Passed.{home-within, home-table, held-bucket, 
 use Rattle.rht_core.proofs.Theory.Knowledge.{ArmedFor, IsEmptied}
 use Rattle.rht_core.proofs.Theory.Reliance.{bound_used}
 use Rattle.rht_core.proofs.Theory.Readiness.{linked_bucket, linked, IsReady}
-use Rattle.rht_core.proofs.Theory.Frames.{Made, UsedStay, used_stay, chains_stay, seat_stays, first_stays, SameTables, same_tables, tables_stay, holdings_stay, entries_stay, work_stays, TablesRight-write, SlotsRight-write, PagesRight-write, IsHomeOf-same, BucketRight-frame, MovingStays, entry_words, MovingRight-frame, Leaving-frame}
+use Rattle.rht_core.proofs.Theory.Frames.{Made, UsedStay, used_stay, chains_stay, seat_stays, first_stays, SameTables, same_tables, tables_stay, holdings_stay, entries_stay, work_stays}
+use Rattle.rht_core.proofs.Theory.WholeFrames.{TablesRight-write, SlotsRight-write, PagesRight-write, IsHomeOf-same, BucketRight-frame, MovingStays, entry_words, MovingRight-frame, Leaving-frame}
 
 module _ (env : Env) (mix : ℕ → ℕ → ℕ → ℕ) where
   head_of-link : (place n : ℕ) → head_of place (link_of n) ≡ link_of n

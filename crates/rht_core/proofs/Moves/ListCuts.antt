@@ -13,7 +13,8 @@ use Rattle.rht_core.proofs.Theory.Ghosts.{put, put-same, put-other, put-all, Fir
 use Rattle.rht_core.proofs.Theory.Passed.{home-within}
 use Rattle.rht_core.proofs.Theory.Wholes.{list_of, key_of, MovesNone, IsHomeOf, IsFirstAt, IsBehindIn, IsBoundTo, IsBuilt, Whole, firsts, raisers}
 use Rattle.rht_core.proofs.Theory.Knowns.{last_of}
-use Rattle.rht_core.proofs.Theory.Frames.{Made, same_tables, IsHomeOf-same, BucketRight-frame}
+use Rattle.rht_core.proofs.Theory.Frames.{Made, same_tables}
+use Rattle.rht_core.proofs.Theory.WholeFrames.{IsHomeOf-same, BucketRight-frame}
 use Rattle.rht_core.proofs.Theory.Readiness.{Change, changed}
 use Rattle.rht_core.proofs.Moves.Rebinding.{IsStoreFor, IsChanged, IsRebound, rebind}
 use Rattle.rht_core.proofs.Moves.Relinking.{segment_relinked, last_in}

@@ -14,7 +14,8 @@ use Rattle.rht_core.proofs.Theory.Wholes.{list_of, key_of, IsNoBucket, BucketRig
 use Rattle.rht_core.proofs.Theory.Passed.{held-bucket, PassesStay, WasSeated}
 use Rattle.rht_core.proofs.Theory.Knowledge.{IsEmptied}
 use Rattle.rht_core.proofs.Theory.Reliance.{bound_used}
-use Rattle.rht_core.proofs.Theory.Frames.{Made, Others, IsNoTableWord, SameTables, same_tables, tables_stay, slots_stay, holdings_stay, work_stays, is_apart, TablesRight-write, SlotsRight-write, PagesRight-write, IsHomeOf-same, BucketRight-frame, MovingStays, EntryWords, MovingRight-frame, Leaving-frame}
+use Rattle.rht_core.proofs.Theory.Frames.{Made, Others, IsNoTableWord, SameTables, same_tables, tables_stay, slots_stay, holdings_stay, work_stays}
+use Rattle.rht_core.proofs.Theory.WholeFrames.{is_apart, TablesRight-write, SlotsRight-write, PagesRight-write, IsHomeOf-same, BucketRight-frame, MovingStays, EntryWords, MovingRight-frame, Leaving-frame}
 use Rattle.rht_core.proofs.Theory.Readiness.{Change, changed}
 
 module _ (env : Env) (mix : ℕ → ℕ → ℕ → ℕ) (d : ℕ) (change : Change) (M M' : Memory) (G : Ghost)

@@ -15,7 +15,8 @@ use Rattle.rht_core.proofs.Theory.Ghosts.{put, put-same, put-other, put-all, Own
 use Rattle.rht_core.proofs.Theory.Wholes.{chain_of, list_of, key_of, place_at, stop, MovesNone, none_out, IsHomeOf, BucketRight, IsFirstAt, IsBehindIn, IsBoundTo, IsBuilt, Whole, firsts, raisers}
 use Rattle.rht_core.proofs.Theory.Passed.{home-within}
 use Rattle.rht_core.proofs.Theory.Knowns.{last_of}
-use Rattle.rht_core.proofs.Theory.Frames.{Made, same_tables, IsHomeOf-same}
+use Rattle.rht_core.proofs.Theory.Frames.{Made, same_tables}
+use Rattle.rht_core.proofs.Theory.WholeFrames.{IsHomeOf-same}
 use Rattle.rht_core.proofs.Theory.Readiness.{Change, changed}
 use Rattle.rht_core.proofs.Moves.Rebinding.{IsStoreFor, IsChanged, IsRebound, rebind}
 use Rattle.rht_core.proofs.Moves.Relinking.{relink_address, relink_value, relinked, relinked_right, last_in}

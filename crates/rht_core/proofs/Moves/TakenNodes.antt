@@ -14,7 +14,8 @@ use Rattle.rht_core.proofs.Theory.Ghosts.{put, put-other, put-all, Owner, Free, 
 use Rattle.rht_core.proofs.Theory.Wholes.{key_of, ArenaRight, IsBuilt, Whole, seated_at, firsts as count_firsts, raisers}
 use Rattle.rht_core.proofs.Theory.Knowledge.{HasNode}
 use Rattle.rht_core.proofs.Theory.Reliance.{bound_used}
-use Rattle.rht_core.proofs.Theory.Frames.{Made, UsedStay, used_stay, chains_stay, chains_passes, holdings_stay, entries_stay, work_stays, tables_stay, same_tables, Rely-same, SameChains, same_chains, Whole-frame, locks_stay, arena_stays}
+use Rattle.rht_core.proofs.Theory.Frames.{Made, UsedStay, used_stay, chains_stay, holdings_stay, entries_stay, work_stays, tables_stay, same_tables, Rely-same}
+use Rattle.rht_core.proofs.Theory.WholeFrames.{chains_passes, SameChains, same_chains, Whole-frame, locks_stay, arena_stays}
 
 module _ (env : Env) (mix : ℕ → ℕ → ℕ → ℕ) where
   -- ---- a word of a node that the caller has

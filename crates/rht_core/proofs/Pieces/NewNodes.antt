@@ -27,7 +27,8 @@ use Rattle.rht_core.proofs.Theory.Knowns.{KnownNode, KnownTable, KnownBucket, kn
 use Rattle.rht_core.proofs.Theory.Knowledge.{IsPlain, NodeMeans, TableMeans, Knowing}
 use Rattle.rht_core.proofs.Theory.Reliance.{members_used, TablesStay}
 use Rattle.rht_core.proofs.Theory.KnowledgeStays.{BucketMeans-own, TableMeans-stay, BucketMeans-stay}
-use Rattle.rht_core.proofs.Theory.Frames.{chains_stay, same_chains, chains_passes, tables_stay}
+use Rattle.rht_core.proofs.Theory.Frames.{chains_stay, tables_stay}
+use Rattle.rht_core.proofs.Theory.WholeFrames.{same_chains, chains_passes}
 use Rattle.rht_core.proofs.Theory.Steps.{Quiet, TakesNode, GivesNode, by_test, Holding, mem, Moved, moved, loads}
 use Rattle.rht_core.proofs.Moves.TakenNodes.{reowned_chains, fill, take_node, give_node, retouch}
 

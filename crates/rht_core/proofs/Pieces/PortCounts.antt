@@ -11,7 +11,8 @@ use Rattle.rht_core.proofs.Theory.Knowns.{KnownNode, KnownTable, KnownBucket, kn
 use Rattle.rht_core.proofs.Theory.Knowledge.{Knowing}
 use Rattle.rht_core.proofs.Theory.Reliance.{members_used}
 use Rattle.rht_core.proofs.Theory.KnowledgeStays.{NodeMeans-stay, TableMeans-stay, BucketMeans-own}
-use Rattle.rht_core.proofs.Theory.Frames.{chains_stay, same_chains, chains_passes, tables_stay}
+use Rattle.rht_core.proofs.Theory.Frames.{chains_stay, tables_stay}
+use Rattle.rht_core.proofs.Theory.WholeFrames.{same_chains, chains_passes}
 use Rattle.rht_core.proofs.Theory.Steps.{Raises, Holding, mem, Moved, moved}
 use Rattle.rht_core.proofs.Moves.Quiet.{count_up}
 
