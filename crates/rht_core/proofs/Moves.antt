@@ -12,3 +12,19 @@ pub mod Relinking
 pub mod Removing
 -- the store that takes a node out of a list
 pub mod ListCuts
+-- which table is the current one, which are retired, and who does the work
+pub mod Standing
+-- the work lock
+pub mod WorkLocks
+-- a table is left behind
+pub mod Publishing
+-- a store by which an entry is moved
+pub mod Reseating
+-- an entry goes out of its bucket and into another one
+pub mod Departures
+-- the bucket that it was in is cut off before it
+pub mod CutOffs
+-- the moves of the work by what is known before and after them
+pub mod Working
+-- what the work has after its moves
+pub mod WorkHoldings

@@ -18,3 +18,5 @@ pub mod Rebounds
 pub mod Relinks
 -- a node is put in front of the list of a port
 pub mod ListFronts
+-- what the caller that does the work learns by its loads
+pub mod WorkLoads

@@ -16,6 +16,8 @@ pub mod KnowledgeStays
 pub mod KnowledgeKept
 -- what has to be known where a store binds a port
 pub mod Readiness
+-- what the work makes of the ghost, and what must be known where it does
+pub mod Departures
 -- what a step leaves where it writes elsewhere
 pub mod Frames
 -- and of the parts of the whole

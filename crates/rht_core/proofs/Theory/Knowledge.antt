@@ -11,9 +11,9 @@ use Rattle.rht_words.specs.Held as held
 use Rattle.rht_words.proofs.Memory.{Memory}
 use Rattle.rht_words.specs.Members.{In}
 use Rattle.rht_core.proofs.Theory.Ghosts.{Bucket, Held, Leaving, First, PageHeld, SlotHeld, Ghost, is_taken_by, table_at, has_table, index_at}
-use Rattle.rht_core.proofs.Theory.Wholes.{chain_of, key_of, place_at, word_index, home, pages_of, MovesNone, moves_none, Whole}
+use Rattle.rht_core.proofs.Theory.Wholes.{chain_of, key_of, place_at, word_index, home, pages_of, MovesNone, moves_none, IsFurther, Whole}
 use Rattle.rht_core.proofs.Theory.Passed.{NoKey, Passed}
-use Rattle.rht_core.proofs.Theory.Knowns.{Armed, AtEntry, AtHome, AtNode, AtTail, Brings, Collected, CollectedTo, CutsOut, Differing, Differs, Empties, FirstLink, Found, HasBrought, HasMade, HasTaken, InList, InSlot, IsAmong, IsCollected, IsCollectedTo, IsCutOut, IsLeading, IsLeadingTo, IsOtherOwner, IsOwnersNode, IsPromoting, Known, KnownBucket, KnownEntry, KnownList, KnownMaking, KnownNode, KnownSlot, KnownTable, KnownWork, Leads, LeadsTo, Listing, Locks, LocksTakenOut, MakesNothing, Matching, Member, Missed, NoWork, Nowhere, Passes, Promotes, Replaces, Rooted, Shaped, Stands, StandsAt, StandsInList, Succeeds, TakenOut, TakesOut, Unlocked, Unlocks, WithShape, Works, last_of}
+use Rattle.rht_core.proofs.Theory.Knowns.{Armed, KnownAim, NoAim, From, Beyond, KnownRehash, KnownPlace, Follows, Faces, InBucket, Bare, Aims, LeavesBehind, AtEntry, AtHome, AtNode, AtTail, Brings, Collected, CollectedTo, CutsOut, Differing, Differs, Empties, FirstLink, Found, HasBrought, HasMade, HasTaken, InList, InSlot, IsAmong, IsCollected, IsCollectedTo, IsCutOut, IsLeading, IsLeadingTo, IsOtherOwner, IsOwnersNode, IsPromoting, Known, KnownBucket, KnownEntry, KnownList, KnownMaking, KnownNode, KnownSlot, KnownTable, KnownWork, Leads, LeadsTo, Listing, Locks, LocksTakenOut, MakesNothing, Matching, Member, Missed, NoWork, Nowhere, Passes, Promotes, Replaces, Rooted, Shaped, Stands, StandsAt, StandsInList, Succeeds, TakenOut, TakesOut, Unlocked, Unlocks, WithShape, Works, last_of}
 
 module _ (env : Env) (mix : ℕ → ℕ → ℕ → ℕ) where
   -- ---- what it means
@@ -257,59 +257,120 @@ module _ (env : Env) (mix : ℕ → ℕ → ℕ → ℕ) where
     pub out : b.out ≡ None
     pub armed : b.armed ≡ None
 
-  -- a table is behind the current one, in the slot `root`, whose buckets with smaller numbers are emptied
-  pub record IsEmptying (G : Ghost) (root count : ℕ) : Type 0 where
+  -- a table is behind the current one, and these are their slots
+  pub record IsFollowed (G : Ghost) (root future : ℕ) : Type 0 where
     pub root_is : IsRoot G root
-    pub within : count ≤ size_of (unpacked (G.table G.current).shape)
+    pub future_is : (G.table (G.current + 1)).slot ≡ future
     pub more : G.current + 1 < G.attached
+
+  -- and the buckets of the current one with smaller numbers are emptied
+  pub record IsEmptying (G : Ghost) (root : KnownRehash) (count : ℕ) : Type 0 where
+    pub followed : IsFollowed G root.root root.future
+    pub shape_is : (G.table G.current).shape ≡ root.shape
+    pub within : count ≤ size_of (unpacked (G.table G.current).shape)
     pub each : (b j : ℕ) → b < count → (G.table G.current).place b ≡ Some j → IsEmptied (G.bucket j)
 
-  -- an entry of the bucket of the current table that is to be emptied next
-  pub record IsEntry (c : ℕ) (G : Ghost) (root count : ℕ) (at : KnownEntry) : Type 0 where
-    pub empties : IsEmptying G root count
+  -- a table that isn't before the current one, or one behind it
+  pub record IsFrom (G : Ghost) (slot : ℕ) : Type 0 where
+    pub table : has_table (G.slot slot) ≡ true
+    pub from : G.current ≤ index_at G slot
+
+  pub record IsBeyond (G : Ghost) (slot : ℕ) (shape seed : Option ℕ) : Type 0 where
+    pub table : has_table (G.slot slot) ≡ true
+    pub later : G.current < index_at G slot
+    pub shape_is : IfSome shape (λ s. (G.table (index_at G slot)).shape ≡ s)
+    pub seed_is : IfSome seed (λ s. (G.table (index_at G slot)).seed ≡ s)
+
+  abbrev pub AimMeans : Ghost → KnownAim → Type 0
+  AimMeans G NoAim = Unit {0}
+  AimMeans G (From slot) = IsFrom G slot
+  AimMeans G (Beyond slot shape seed) = IsBeyond G slot shape seed
+
+  pub record IsRooted (G : Ghost) (root : ℕ) (aim : KnownAim) : Type 0 where
+    pub root_is : IsRoot G root
+    pub aim_is : AimMeans G aim
+
+  -- a table was left behind by the current one
+  pub record IsLeftBehind (G : Ghost) (slot : ℕ) : Type 0 where
+    pub table : has_table (G.slot slot) ≡ true
+    pub earlier : index_at G slot < G.current
+
+  -- the place of the bucket of the current table that is to be emptied next
+  pub record IsFacing (G : Ghost) (root : KnownRehash) (number place : ℕ) : Type 0 where
+    pub empties : IsEmptying G root number
+    pub below : number < size_of (unpacked (G.table G.current).shape)
+    pub bucket : IsBucketPlace env.geometry place
+    pub here : (G.table G.current).place number ≡ Some (word_index env mix place)
+
+  -- and it is locked
+  pub record IsNext (c : ℕ) (G : Ghost) (root : KnownRehash) (at : KnownPlace) : Type 0 where
+    pub empties : IsEmptying G root at.number
+    pub below : at.number < size_of (unpacked (G.table G.current).shape)
     pub lock : HasLock c G at.place at.word
-    pub here : (G.table G.current).place count ≡ Some (word_index env mix at.place)
+    pub here : (G.table G.current).place at.number ≡ Some (word_index env mix at.place)
+
+  -- and nothing is on its way out of it
+  pub record IsInBucket (c : ℕ) (G : Ghost) (root : KnownRehash) (at : KnownPlace) (aim : KnownAim) : Type 0 where
+    pub next : IsNext c G root at
     pub out : (bucket_at G at.place).out ≡ None
-    pub among : IsAmong (bucket_at G at.place).nodes at.entry at.before
+    pub aim_is : AimMeans G aim
 
-  -- and the last one there
-  pub record IsTail (c : ℕ) (G : Ghost) (root count : ℕ) (at : KnownEntry) : Type 0 where
-    pub entry : IsEntry c G root count at
-    pub last : entry.among.rear ≡ []
+  -- it has no entry
+  pub record IsBare (c : ℕ) (G : Ghost) (root : KnownRehash) (at : KnownPlace) : Type 0 where
+    pub bucket : IsInBucket c G root at NoAim
+    pub none : (bucket_at G at.place).nodes ≡ []
 
-  -- the place is locked to which an entry goes, in a table behind the current one
-  pub record IsTarget (c : ℕ) (M : Memory) (G : Ghost) (entry place word : ℕ) : Type 0 where
-    pub lock : HasLock c G place word
+  -- an entry is in it
+  pub record IsEntry (c : ℕ) (G : Ghost) (root : KnownRehash) (at : KnownPlace) (entry : KnownEntry) (aim : KnownAim) :
+      Type 0 where
+    pub bucket : IsInBucket c G root at aim
+    pub among : IsAmong (bucket_at G at.place).nodes entry.node entry.before
+
+  -- and is the last one there
+  pub record IsTail (c : ℕ) (G : Ghost) (root : KnownRehash) (at : KnownPlace) (entry : KnownEntry) (aim : KnownAim) :
+      Type 0 where
+    pub stands : IsEntry c G root at entry aim
+    pub last : stands.among.rear ≡ []
+
+  -- the place to which an entry goes, in a table behind the current one
+  pub record IsAim (M : Memory) (G : Ghost) (entry place : ℕ) : Type 0 where
+    pub bucket : IsBucketPlace env.geometry place
     pub table : ℕ
     pub later : G.current < table
     pub attached : table < G.attached
     pub here : home env mix G (key_of M entry) table ≡ Some (word_index env mix place)
 
-  pub record IsBringing (c : ℕ) (M : Memory) (G : Ghost) (root count : ℕ) (at : KnownEntry)
+  pub record IsAiming (c : ℕ) (M : Memory) (G : Ghost) (root : KnownRehash) (at : KnownPlace) (entry : KnownEntry)
+      (place : ℕ) : Type 0 where
+    pub tail : IsTail c G root at entry NoAim
+    pub aim : IsAim M G entry.node place
+
+  -- and it is locked
+  pub record IsTarget (c : ℕ) (M : Memory) (G : Ghost) (entry place word : ℕ) : Type 0 where
+    pub lock : HasLock c G place word
+    pub aim : IsAim M G entry place
+
+  pub record IsBringing (c : ℕ) (M : Memory) (G : Ghost) (root : KnownRehash) (at : KnownPlace) (entry : KnownEntry)
       (place word : ℕ) : Type 0 where
-    pub tail : IsTail c G root count at
-    pub target : IsTarget c M G at.entry place word
+    pub tail : IsTail c G root at entry NoAim
+    pub target : IsTarget c M G entry.node place word
 
-  -- the entry of a bucket that the work has locked is on its way out of it, and was behind this one
-  pub record IsOutOf (c : ℕ) (G : Ghost) (root count : ℕ) (at : KnownEntry) : Type 0 where
-    pub empties : IsEmptying G root count
-    pub lock : HasLock c G at.place at.word
-    pub here : (G.table G.current).place count ≡ Some (word_index env mix at.place)
-    pub out : (bucket_at G at.place).out ≡ Some at.entry
-    pub last : at.before ≡ last_of (bucket_at G at.place).nodes
+  -- the entry is on its way out of the bucket, and was behind this one
+  pub record IsOutOf (c : ℕ) (G : Ghost) (root : KnownRehash) (at : KnownPlace) (entry : KnownEntry) : Type 0 where
+    pub next : IsNext c G root at
+    pub out : (bucket_at G at.place).out ≡ Some entry.node
+    pub last : entry.before ≡ last_of (bucket_at G at.place).nodes
 
-  pub record IsTakenOut (c : ℕ) (M : Memory) (G : Ghost) (root count : ℕ) (at : KnownEntry)
+  pub record IsTakenOut (c : ℕ) (M : Memory) (G : Ghost) (root : KnownRehash) (at : KnownPlace) (entry : KnownEntry)
       (place word : ℕ) : Type 0 where
-    pub out : IsOutOf c G root count at
-    pub leaving : G.node at.entry ≡ Leaving (word_index env mix at.place)
-    pub target : IsTarget c M G at.entry place word
-    pub chain : chain_of M at.entry ≡ head_of place word
+    pub out : IsOutOf c G root at entry
+    pub leaving : G.node entry.node ≡ Leaving (word_index env mix at.place)
+    pub target : IsTarget c M G entry.node place word
+    pub chain : chain_of M entry.node ≡ head_of place word
 
-  pub record IsBrought (c : ℕ) (G : Ghost) (root count : ℕ) (at : KnownEntry) : Type 0 where
-    pub out : IsOutOf c G root count at
-    pub bucket : ℕ
-    pub first : G.node at.entry ≡ First bucket
-    pub later : G.current < table_at G bucket
+  pub record IsBrought (c : ℕ) (G : Ghost) (root : KnownRehash) (at : KnownPlace) (entry : KnownEntry) : Type 0 where
+    pub out : IsOutOf c G root at entry
+    pub further : IsFurther env mix G entry.node
 
   -- what is known while the caller does the work
   pub record IsWorking (c : ℕ) (G : Ghost) (More : Type 0) : Type 0 where
@@ -319,13 +380,19 @@ module _ (env : Env) (mix : ℕ → ℕ → ℕ → ℕ) where
   abbrev pub WorkMeans : ℕ → Memory → Ghost → KnownWork → Type 0
   WorkMeans c M G NoWork = Unit {0}
   WorkMeans c M G Works = IsWorking c G (Unit {0})
-  WorkMeans c M G (Rooted root) = IsWorking c G (IsRoot G root)
+  WorkMeans c M G (Rooted root aim) = IsWorking c G (IsRooted G root aim)
+  WorkMeans c M G (Follows root future) = IsWorking c G (IsFollowed G root future)
   WorkMeans c M G (Empties root count) = IsWorking c G (IsEmptying G root count)
-  WorkMeans c M G (AtEntry root count at) = IsWorking c G (IsEntry c G root count at)
-  WorkMeans c M G (AtTail root count at) = IsWorking c G (IsTail c G root count at)
-  WorkMeans c M G (Brings root count at place word) = IsWorking c G (IsBringing c M G root count at place word)
-  WorkMeans c M G (TakesOut root count at place word) = IsWorking c G (IsTakenOut c M G root count at place word)
-  WorkMeans c M G (HasBrought root count at) = IsWorking c G (IsBrought c G root count at)
+  WorkMeans c M G (LeavesBehind slot) = IsWorking c G (IsLeftBehind G slot)
+  WorkMeans c M G (Faces root number place) = IsWorking c G (IsFacing G root number place)
+  WorkMeans c M G (InBucket root at aim) = IsWorking c G (IsInBucket c G root at aim)
+  WorkMeans c M G (Bare root at) = IsWorking c G (IsBare c G root at)
+  WorkMeans c M G (AtEntry root at entry aim) = IsWorking c G (IsEntry c G root at entry aim)
+  WorkMeans c M G (AtTail root at entry aim) = IsWorking c G (IsTail c G root at entry aim)
+  WorkMeans c M G (Aims root at entry place) = IsWorking c G (IsAiming c M G root at entry place)
+  WorkMeans c M G (Brings root at entry place word) = IsWorking c G (IsBringing c M G root at entry place word)
+  WorkMeans c M G (TakesOut root at entry place word) = IsWorking c G (IsTakenOut c M G root at entry place word)
+  WorkMeans c M G (HasBrought root at entry) = IsWorking c G (IsBrought c G root at entry)
 
   pub record Means (c : ℕ) (M : Memory) (G : Ghost) (known : Known) : Type 0 where
     pub node : IfSome known.node (NodeMeans c M G)

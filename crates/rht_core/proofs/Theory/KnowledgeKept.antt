@@ -1,19 +1,19 @@
 -- What is known outlives a step of anybody else, and so does that there is nothing more.
-use Rattle.std.proofs.Common.{◌≡◌, ℕ, ◌≤◌, List, Option, Some, None, Bool, sym, ◌∙◌, ap, subst, arith}
+use Rattle.std.proofs.Common.{◌≡◌, ℕ, ◌+◌, ◌<◌, ◌≤◌, List, Option, Some, None, Bool, true, sym, ◌∙◌, ap, subst, arith}
 use Rattle.std.specs.Prelude.{IfSome}
 use Rattle.rht_words.specs.declared.env.Env.{Env}
-use Rattle.rht_words.specs.Places.{Slot, SlotWord, ShapeWord, SeedWord, FutureWord, SerialWord, IsSlotWord, ChainLink}
+use Rattle.rht_words.specs.Places.{Slot, SlotWord, ShapeWord, SeedWord, FutureWord, SerialWord, IsSlotWord, ChainLink, KeyWord}
 use Rattle.rht_words.specs.Shapes.{unpacked, size_of}
 use Rattle.rht_words.specs.Held as held
 use Rattle.rht_words.proofs.Memory.{Memory}
 use Rattle.rht_words.specs.Members.{In}
 use Rattle.rht_words.proofs.Members.{in-middle}
-use Rattle.rht_core.proofs.Theory.Ghosts.{Ghost, seat-used}
+use Rattle.rht_core.proofs.Theory.Ghosts.{Ghost, has_table, index_at, seat-used}
 use Rattle.rht_core.proofs.Theory.Wholes.{key_of, word_index, home, out-seated, Whole}
-use Rattle.rht_core.proofs.Theory.Passed.{place-table, table_at-grows, home-stays}
-use Rattle.rht_core.proofs.Theory.Knowns.{AtEntry, AtTail, Brings, Empties, HasBrought, HasMade, HasTaken, Known, KnownEntry, KnownMaking, KnownWork, MakesNothing, NoWork, Rooted, TakesOut, Works, last_of}
-use Rattle.rht_core.proofs.Theory.Knowledge.{HasLock, HasOnly, HasSlot, IsBringing, IsBrought, IsEmptying, IsEntry, IsOutOf, IsRoot, IsTail, IsTakenOut, IsTarget, Knowing, MakingMeans, Means, WorkMeans, bucket_at}
-use Rattle.rht_core.proofs.Theory.Reliance.{HoldingsStay, Rely, WorkStays, members_used}
+use Rattle.rht_core.proofs.Theory.Passed.{place-table, TablesGrow, table_at-grows, home-stays}
+use Rattle.rht_core.proofs.Theory.Knowns.{KnownAim, NoAim, From, Beyond, KnownRehash, KnownPlace, Follows, Faces, KnownEntry, InBucket, Bare, AtEntry, AtTail, Aims, Brings, Empties, LeavesBehind, HasBrought, HasMade, HasTaken, Known, KnownMaking, KnownWork, MakesNothing, NoWork, Rooted, TakesOut, Works, last_of}
+use Rattle.rht_core.proofs.Theory.Knowledge.{AimMeans, IsRooted, IsFollowed, IsFacing, IsLeftBehind, IsNext, IsInBucket, IsBare, IsAim, IsAiming, IsWorking, HasLock, HasOnly, HasSlot, IsBringing, IsBrought, IsEmptying, IsEntry, IsOutOf, IsRoot, IsTail, IsTakenOut, IsTarget, Knowing, MakingMeans, Means, WorkMeans, bucket_at}
+use Rattle.rht_core.proofs.Theory.Reliance.{HoldingsStay, Rely, WordStays, WorkStays, members_used}
 use Rattle.rht_core.proofs.Theory.KnowledgeStays.{BucketMeans-own, NodeMeans-stay, TableMeans-stay}
 
 module _ (env : Env) (mix : ℕ → ℕ → ℕ → ℕ) where
@@ -52,18 +52,25 @@ module _ (env : Env) (mix : ℕ → ℕ → ℕ → ℕ) where
       run = λ p from below. stay.pages p (means.run p from below);
     }
 
+  -- what a caller that does the work needs of a step, its own or another's, so that it knows still what it knew
+  pub record KeepsWork (c : ℕ) (M : Memory) (G : Ghost) (M' : Memory) (G' : Ghost) : Type 0 where
+    pub grow : TablesGrow env mix G G'
+    pub locks : (j : ℕ) → (G.bucket j).holder ≡ Some c → G'.bucket j ≡ G.bucket j
+    pub keys : WordStays env mix KeyWord M G M'
+    pub work : G.worker ≡ Some c → WorkStays env mix c M G M' G'
+
   -- of the work: where the current table stays, the caller's buckets, and the entry on its way
-  module _ (c : ℕ) (M M' : Memory) (G G' : Ghost) (whole : Whole env mix M G) (rely : Rely env mix c M G M' G')
+  module _ (c : ℕ) (M M' : Memory) (G G' : Ghost) (whole : Whole env mix M G) (keeps : KeepsWork c M G M' G')
       (works : G.worker ≡ Some c) where
     stays : WorkStays env mix c M G M' G'
-    stays = rely.work works
+    stays = keeps.work works
 
     same_table : G'.table G'.current ≡ G.table G.current
-    same_table = ap G'.table stays.current ∙ rely.tables.grow.tables G.current whole.tables.current_in
+    same_table = ap G'.table stays.current ∙ keeps.grow.tables G.current whole.tables.current_in
 
     lock-stays : (place word : ℕ) → HasLock env mix c G place word → HasLock env mix c G' place word
     lock-stays place word holds =
-        let same = rely.locks (word_index env mix place) holds.holder in
+        let same = keeps.locks (word_index env mix place) holds.holder in
         record {
           bucket = holds.bucket;
           holder = ap (λ b. b.holder) same ∙ holds.holder;
@@ -73,135 +80,240 @@ module _ (env : Env) (mix : ℕ → ℕ → ℕ → ℕ) where
     IsRoot-stay : (root : ℕ) → IsRoot env mix G root → IsRoot env mix G' root
     IsRoot-stay root is = ap (λ t. t.slot) same_table ∙ is
 
-    IsEmptying-stay : (root count : ℕ) → IsEmptying env mix G root count → IsEmptying env mix G' root count
-    IsEmptying-stay root count is = record {
+    IsFollowed-stay : (root future : ℕ) → IsFollowed env mix G root future → IsFollowed env mix G' root future
+    IsFollowed-stay root future is = record {
       root_is = IsRoot-stay root is.root_is;
+      future_is = ap (λ τ. (G'.table (τ + 1)).slot) stays.current
+          ∙ ap (λ t. t.slot) (keeps.grow.tables (G.current + 1) is.more) ∙ is.future_is;
+      more = omega (arith, is.more, stays.current, keeps.grow.attached);
+    }
+
+    IsEmptying-stay : (root : KnownRehash) (count : ℕ) → IsEmptying env mix G root count
+        → IsEmptying env mix G' root count
+    IsEmptying-stay root count is = record {
+      followed = IsFollowed-stay root.root root.future is.followed;
+      shape_is = ap (λ t. t.shape) same_table ∙ is.shape_is;
       within = subst (λ t. count ≤ size_of (unpacked t.shape)) (sym same_table) is.within;
-      more = omega (arith, is.more, stays.current, rely.tables.grow.attached);
       each = λ b j l at.
           let was : (G.table G.current).place b ≡ Some j = ap (λ t. t.place b) (sym same_table) ∙ at in
           let there = place-table env mix M G whole G.current b j whole.tables.current_in
           (omega (arith, l, is.within)) was in
-          stays.emptied is.more j there (is.each b j l was);
+          stays.emptied is.followed.more j there (is.each b j l was);
     }
 
     bucket-stays : (place word : ℕ) → HasLock env mix c G place word → bucket_at env mix G' place ≡ bucket_at env mix G place
-    bucket-stays place word lock = rely.locks (word_index env mix place) lock.holder
+    bucket-stays place word lock = keeps.locks (word_index env mix place) lock.holder
 
-    IsEntry-stay : (root count : ℕ) (at : KnownEntry) → IsEntry env mix c G root count at → IsEntry env mix c G' root count at
-    IsEntry-stay root count at is =
-        let same = bucket-stays at.place at.word is.lock in
-        record {
-          empties = IsEmptying-stay root count is.empties;
-          lock = lock-stays at.place at.word is.lock;
-          here = ap (λ t. t.place count) same_table ∙ is.here;
-          out = ap (λ b. b.out) same ∙ is.out;
-          among = record {
-            front = is.among.front;
-            rear = is.among.rear;
-            split = ap (λ b. b.nodes) same ∙ is.among.split;
-            last = is.among.last;
-          };
-        }
+    index-stays : (slot : ℕ) → has_table (G.slot slot) ≡ true → index_at G' slot ≡ index_at G slot
+    index-stays slot has = keeps.grow.indices slot has
 
-    IsTail-stay : (root count : ℕ) (at : KnownEntry) → IsTail env mix c G root count at → IsTail env mix c G' root count at
+    table-stays : (slot : ℕ) → has_table (G.slot slot) ≡ true
+        → G'.table (index_at G' slot) ≡ G.table (index_at G slot)
+    table-stays slot has = ap G'.table (index-stays slot has)
+        ∙ keeps.grow.tables (index_at G slot) (whole.tables.slots slot has).attached
+
+    known-shape_stays : (slot : ℕ) (shape : Option ℕ) → has_table (G.slot slot) ≡ true
+        → IfSome shape (λ s. (G.table (index_at G slot)).shape ≡ s)
+        → IfSome shape (λ s. (G'.table (index_at G' slot)).shape ≡ s)
+    known-shape_stays slot None has is = tt
+    known-shape_stays slot (Some s) has is = ap (λ t. t.shape) (table-stays slot has) ∙ is
+
+    known-seed_stays : (slot : ℕ) (seed : Option ℕ) → has_table (G.slot slot) ≡ true
+        → IfSome seed (λ s. (G.table (index_at G slot)).seed ≡ s)
+        → IfSome seed (λ s. (G'.table (index_at G' slot)).seed ≡ s)
+    known-seed_stays slot None has is = tt
+    known-seed_stays slot (Some s) has is = ap (λ t. t.seed) (table-stays slot has) ∙ is
+
+    AimMeans-stay : (aim : KnownAim) → AimMeans env mix G aim → AimMeans env mix G' aim
+    AimMeans-stay NoAim is = tt
+    AimMeans-stay (From slot) is = record {
+      table = keeps.grow.slots slot is.table;
+      from = omega (arith, is.from, stays.current, index-stays slot is.table);
+    }
+    AimMeans-stay (Beyond slot shape seed) is = record {
+      table = keeps.grow.slots slot is.table;
+      later = omega (arith, is.later, stays.current, index-stays slot is.table);
+      shape_is = known-shape_stays slot shape is.table is.shape_is;
+      seed_is = known-seed_stays slot seed is.table is.seed_is;
+    }
+
+    IsRooted-stay : (root : ℕ) (aim : KnownAim) → IsRooted env mix G root aim → IsRooted env mix G' root aim
+    IsRooted-stay root aim is =
+        record { root_is = IsRoot-stay root is.root_is; aim_is = AimMeans-stay aim is.aim_is }
+
+    IsLeftBehind-stay : (slot : ℕ) → IsLeftBehind env mix G slot → IsLeftBehind env mix G' slot
+    IsLeftBehind-stay slot is = record {
+      table = keeps.grow.slots slot is.table;
+      earlier = omega (arith, is.earlier, stays.current, index-stays slot is.table);
+    }
+
+    IsFacing-stay : (root : KnownRehash) (number place : ℕ) → IsFacing env mix G root number place
+        → IsFacing env mix G' root number place
+    IsFacing-stay root number place is = record {
+      empties = IsEmptying-stay root number is.empties;
+      below = subst (λ t. number < size_of (unpacked t.shape)) (sym same_table) is.below;
+      bucket = is.bucket;
+      here = ap (λ t. t.place number) same_table ∙ is.here;
+    }
+
+    IsNext-stay : (root : KnownRehash) (at : KnownPlace) → IsNext env mix c G root at → IsNext env mix c G' root at
+    IsNext-stay root at is = record {
+      empties = IsEmptying-stay root at.number is.empties;
+      below = subst (λ t. at.number < size_of (unpacked t.shape)) (sym same_table) is.below;
+      lock = lock-stays at.place at.word is.lock;
+      here = ap (λ t. t.place at.number) same_table ∙ is.here;
+    }
+
+    IsInBucket-stay : (root : KnownRehash) (at : KnownPlace) (aim : KnownAim) → IsInBucket env mix c G root at aim
+        → IsInBucket env mix c G' root at aim
+    IsInBucket-stay root at aim is = record {
+      next = IsNext-stay root at is.next;
+      out = ap (λ b. b.out) (bucket-stays at.place at.word is.next.lock) ∙ is.out;
+      aim_is = AimMeans-stay aim is.aim_is;
+    }
+
+    IsBare-stay : (root : KnownRehash) (at : KnownPlace) → IsBare env mix c G root at → IsBare env mix c G' root at
+    IsBare-stay root at is = record {
+      bucket = IsInBucket-stay root at NoAim is.bucket;
+      none = ap (λ b. b.nodes) (bucket-stays at.place at.word is.bucket.next.lock) ∙ is.none;
+    }
+
+    IsEntry-stay : (root : KnownRehash) (at : KnownPlace) (entry : KnownEntry) (aim : KnownAim)
+        → IsEntry env mix c G root at entry aim → IsEntry env mix c G' root at entry aim
+    IsEntry-stay root at entry aim is = record {
+      bucket = IsInBucket-stay root at aim is.bucket;
+      among = record {
+        front = is.among.front;
+        rear = is.among.rear;
+        split = ap (λ b. b.nodes) (bucket-stays at.place at.word is.bucket.next.lock) ∙ is.among.split;
+        last = is.among.last;
+      };
+    }
+
+    IsTail-stay : (root : KnownRehash) (at : KnownPlace) (entry : KnownEntry) (aim : KnownAim)
+        → IsTail env mix c G root at entry aim → IsTail env mix c G' root at entry aim
     unfolding IsEntry-stay
-    IsTail-stay root count at is = record { entry = IsEntry-stay root count at is.entry; last = is.last }
+    IsTail-stay root at entry aim is =
+        record { stands = IsEntry-stay root at entry aim is.stands; last = is.last }
+
+    IsAim-stay : (entry place : ℕ) → key_of M' entry ≡ key_of M entry → IsAim env mix M G entry place
+        → IsAim env mix M' G' entry place
+    IsAim-stay entry place key is = record {
+      bucket = is.bucket;
+      table = is.table;
+      later = omega (arith, is.later, stays.current);
+      attached = omega (arith, is.attached, keeps.grow.attached);
+      here = ap (λ k. home env mix G' k is.table) key
+          ∙ home-stays env mix G G' keeps.grow (key_of M entry) is.table is.attached ∙ is.here;
+    }
 
     IsTarget-stay : (entry place word : ℕ) → key_of M' entry ≡ key_of M entry → IsTarget env mix c M G entry place word
         → IsTarget env mix c M' G' entry place word
-    IsTarget-stay entry place word key is = record {
-      lock = lock-stays place word is.lock;
-      table = is.table;
-      later = omega (arith, is.later, stays.current);
-      attached = omega (arith, is.attached, rely.tables.grow.attached);
-      here = ap (λ k. home env mix G' k is.table) key
-          ∙ home-stays env mix G G' rely.tables.grow (key_of M entry) is.table is.attached ∙ is.here;
+    IsTarget-stay entry place word key is =
+        record { lock = lock-stays place word is.lock; aim = IsAim-stay entry place key is.aim }
+
+    tail-key : (root : KnownRehash) (at : KnownPlace) (entry : KnownEntry) → IsTail env mix c G root at entry NoAim
+        → key_of M' entry.node ≡ key_of M entry.node
+    tail-key root at entry is =
+        let among = is.stands.among in
+        let j = word_index env mix at.place in
+        let there : In entry.node (G.bucket j).nodes =
+        rw among.split (in-middle entry.node among.front among.rear) in
+        let used = (members_used env mix M G whole).member j entry.node there in
+        keeps.keys entry.node used.0 used.1
+
+    IsAiming-stay : (root : KnownRehash) (at : KnownPlace) (entry : KnownEntry) (place : ℕ)
+        → IsAiming env mix c M G root at entry place → IsAiming env mix c M' G' root at entry place
+    IsAiming-stay root at entry place is = record {
+      tail = IsTail-stay root at entry NoAim is.tail;
+      aim = IsAim-stay entry.node place (tail-key root at entry is.tail) is.aim;
     }
 
-    IsBringing-stay : (root count : ℕ) (at : KnownEntry) (place word : ℕ)
-        → IsBringing env mix c M G root count at place word → IsBringing env mix c M' G' root count at place word
-    IsBringing-stay root count at place word is =
-        let among = is.tail.entry.among in
-        let j = word_index env mix at.place in
-        let there : In at.entry (G.bucket j).nodes = rw among.split (in-middle at.entry among.front among.rear) in
-        let used = (members_used env mix M G whole).member j at.entry there in
-        record {
-          tail = IsTail-stay root count at is.tail;
-          target = IsTarget-stay at.entry place word (rely.keys at.entry used.0 used.1) is.target;
-        }
+    IsBringing-stay : (root : KnownRehash) (at : KnownPlace) (entry : KnownEntry) (place word : ℕ)
+        → IsBringing env mix c M G root at entry place word → IsBringing env mix c M' G' root at entry place word
+    IsBringing-stay root at entry place word is = record {
+      tail = IsTail-stay root at entry NoAim is.tail;
+      target = IsTarget-stay entry.node place word (tail-key root at entry is.tail) is.target;
+    }
 
-    IsOutOf-stay : (root count : ℕ) (at : KnownEntry) → IsOutOf env mix c G root count at → IsOutOf env mix c G' root count at
-    IsOutOf-stay root count at is =
-        let same = bucket-stays at.place at.word is.lock in
+    IsOutOf-stay : (root : KnownRehash) (at : KnownPlace) (entry : KnownEntry) → IsOutOf env mix c G root at entry
+        → IsOutOf env mix c G' root at entry
+    IsOutOf-stay root at entry is =
+        let same = bucket-stays at.place at.word is.next.lock in
         record {
-          empties = IsEmptying-stay root count is.empties;
-          lock = lock-stays at.place at.word is.lock;
-          here = ap (λ t. t.place count) same_table ∙ is.here;
+          next = IsNext-stay root at is.next;
           out = ap (λ b. b.out) same ∙ is.out;
           last = is.last ∙ sym (ap (λ b. last_of b.nodes) same);
         }
 
-    out-key : (root count : ℕ) (at : KnownEntry) → IsOutOf env mix c G root count at
-        → key_of M' at.entry ≡ key_of M at.entry
-    out-key root count at is =
-        let out = whole.moving.out (word_index env mix at.place) at.entry is.out in
-        let seat = out-seated env mix M G (word_index env mix at.place) at.entry out in
-        rely.keys at.entry out.among (seat-used (G.node at.entry) seat.0 seat.1)
+    out-key : (root : KnownRehash) (at : KnownPlace) (entry : KnownEntry) → IsOutOf env mix c G root at entry
+        → key_of M' entry.node ≡ key_of M entry.node
+    out-key root at entry is =
+        let j = word_index env mix at.place in
+        let out = whole.moving.out j entry.node is.out in
+        let seat = out-seated env mix M G j entry.node out in
+        keeps.keys entry.node out.among (seat-used (G.node entry.node) seat.0 seat.1)
 
-    IsTakenOut-stay : (root count : ℕ) (at : KnownEntry) (place word : ℕ)
-        → IsTakenOut env mix c M G root count at place word → IsTakenOut env mix c M' G' root count at place word
-    IsTakenOut-stay root count at place word is =
+    IsTakenOut-stay : (root : KnownRehash) (at : KnownPlace) (entry : KnownEntry) (place word : ℕ)
+        → IsTakenOut env mix c M G root at entry place word → IsTakenOut env mix c M' G' root at entry place word
+    IsTakenOut-stay root at entry place word is =
         let j = word_index env mix at.place in
         record {
-          out = IsOutOf-stay root count at is.out;
-          leaving = stays.entries j at.entry is.out.out ∙ is.leaving;
-          target = IsTarget-stay at.entry place word (out-key root count at is.out) is.target;
-          chain = stays.chains at.entry j is.leaving ∙ is.chain;
+          out = IsOutOf-stay root at entry is.out;
+          leaving = stays.entries j entry.node is.out.out ∙ is.leaving;
+          target = IsTarget-stay entry.node place word (out-key root at entry is.out) is.target;
+          chain = stays.chains entry.node j is.leaving ∙ is.chain;
         }
 
-    IsBrought-stay : (root count : ℕ) (at : KnownEntry) → IsBrought env mix c G root count at
-        → IsBrought env mix c G' root count at
-    IsBrought-stay root count at is = record {
-      out = IsOutOf-stay root count at is.out;
-      bucket = is.bucket;
-      first = stays.entries (word_index env mix at.place) at.entry is.out.out ∙ is.first;
-      later = omega (arith, is.later, stays.current, table_at-grows env mix G G' rely.tables.grow is.bucket);
-    }
+    IsBrought-stay : (root : KnownRehash) (at : KnownPlace) (entry : KnownEntry) → IsBrought env mix c G root at entry
+        → IsBrought env mix c G' root at entry
+    IsBrought-stay root at entry is =
+        let bucket = is.further.bucket in
+        record {
+          out = IsOutOf-stay root at entry is.out;
+          further = record {
+            bucket = bucket;
+            first = stays.entries (word_index env mix at.place) entry.node is.out.out ∙ is.further.first;
+            later = omega (arith, is.further.later, stays.current,
+                table_at-grows env mix G G' keeps.grow bucket);
+          };
+        }
 
   -- whatever it is
-  module _ (c : ℕ) (M M' : Memory) (G G' : Ghost) (whole : Whole env mix M G) (rely : Rely env mix c M G M' G') where
+  module _ (c : ℕ) (M M' : Memory) (G G' : Ghost) (whole : Whole env mix M G) (keeps : KeepsWork c M G M' G') where
+    still-working : {More More' : Type 0} → (IsWorking env mix c G More) → (G.worker ≡ Some c → More → More')
+        → IsWorking env mix c G' More'
+    still-working means go = record { works = (keeps.work means.works).worker; more = go means.works means.more }
+
     pub WorkMeans-stay : (known : KnownWork) → WorkMeans env mix c M G known → WorkMeans env mix c M' G' known
     WorkMeans-stay NoWork means = tt
-    WorkMeans-stay Works means = record { works = (rely.work means.works).worker; more = tt }
-    WorkMeans-stay (Rooted root) means = record {
-      works = (rely.work means.works).worker;
-      more = IsRoot-stay c M M' G G' whole rely means.works root means.more;
-    }
-    WorkMeans-stay (Empties root count) means = record {
-      works = (rely.work means.works).worker;
-      more = IsEmptying-stay c M M' G G' whole rely means.works root count means.more;
-    }
-    WorkMeans-stay (AtEntry root count at) means = record {
-      works = (rely.work means.works).worker;
-      more = IsEntry-stay c M M' G G' whole rely means.works root count at means.more;
-    }
-    WorkMeans-stay (AtTail root count at) means = record {
-      works = (rely.work means.works).worker;
-      more = IsTail-stay c M M' G G' whole rely means.works root count at means.more;
-    }
-    WorkMeans-stay (Brings root count at place word) means = record {
-      works = (rely.work means.works).worker;
-      more = IsBringing-stay c M M' G G' whole rely means.works root count at place word means.more;
-    }
-    WorkMeans-stay (TakesOut root count at place word) means = record {
-      works = (rely.work means.works).worker;
-      more = IsTakenOut-stay c M M' G G' whole rely means.works root count at place word means.more;
-    }
-    WorkMeans-stay (HasBrought root count at) means = record {
-      works = (rely.work means.works).worker;
-      more = IsBrought-stay c M M' G G' whole rely means.works root count at means.more;
-    }
+    WorkMeans-stay Works means = still-working means (λ works more. tt)
+    WorkMeans-stay (Rooted root aim) means =
+        still-working means (λ works. IsRooted-stay c M M' G G' whole keeps works root aim)
+    WorkMeans-stay (Follows root future) means =
+        still-working means (λ works. IsFollowed-stay c M M' G G' whole keeps works root future)
+    WorkMeans-stay (Empties root count) means =
+        still-working means (λ works. IsEmptying-stay c M M' G G' whole keeps works root count)
+    WorkMeans-stay (LeavesBehind slot) means =
+        still-working means (λ works. IsLeftBehind-stay c M M' G G' whole keeps works slot)
+    WorkMeans-stay (Faces root number place) means =
+        still-working means (λ works. IsFacing-stay c M M' G G' whole keeps works root number place)
+    WorkMeans-stay (InBucket root at aim) means =
+        still-working means (λ works. IsInBucket-stay c M M' G G' whole keeps works root at aim)
+    WorkMeans-stay (Bare root at) means =
+        still-working means (λ works. IsBare-stay c M M' G G' whole keeps works root at)
+    WorkMeans-stay (AtEntry root at entry aim) means =
+        still-working means (λ works. IsEntry-stay c M M' G G' whole keeps works root at entry aim)
+    WorkMeans-stay (AtTail root at entry aim) means =
+        still-working means (λ works. IsTail-stay c M M' G G' whole keeps works root at entry aim)
+    WorkMeans-stay (Aims root at entry place) means =
+        still-working means (λ works. IsAiming-stay c M M' G G' whole keeps works root at entry place)
+    WorkMeans-stay (Brings root at entry place word) means =
+        still-working means (λ works. IsBringing-stay c M M' G G' whole keeps works root at entry place word)
+    WorkMeans-stay (TakesOut root at entry place word) means =
+        still-working means (λ works. IsTakenOut-stay c M M' G G' whole keeps works root at entry place word)
+    WorkMeans-stay (HasBrought root at entry) means =
+        still-working means (λ works. IsBrought-stay c M M' G G' whole keeps works root at entry)
 
   -- what is known outlives a step of anybody else, and so does that there is nothing more
   module _ (c : ℕ) (M M' : Memory) (G G' : Ghost) (whole : Whole env mix M G) (rely : Rely env mix c M G M' G') where
@@ -217,7 +329,9 @@ module _ (env : Env) (mix : ℕ → ℕ → ℕ → ℕ) where
                 ChainLink,
           )) means.bucket;
       making = MakingMeans-stay c M M' G G' rely.holdings known.making means.making;
-      work = WorkMeans-stay c M M' G G' whole rely known.work means.work;
+      work = WorkMeans-stay c M M' G G' whole
+          (record { grow = rely.tables.grow; locks = rely.locks; keys = rely.keys; work = rely.work }) known.work
+          means.work;
     }
 
     pub Only-rely : (has lock second : Option ℕ) (raised : Bool) (slot : Option ℕ) (pages : List ℕ)

@@ -83,27 +83,51 @@ pub data KnownMaking : Type 0 where
   HasTaken : KnownSlot → List ℕ → KnownMaking
   HasMade : ℕ → ℕ → ℕ → KnownMaking
 
--- an entry of a bucket that the work has locked: the place of the bucket's word, what that was before, the entry, and the one before it
-pub record KnownEntry : Type 0 where
+-- Of the table to which the work brings entries: nothing; the slot of one that isn't before the current one; or that of one behind it,
+-- and its shape and seed, where they are known.
+pub data KnownAim : Type 0 where
+  NoAim : KnownAim
+  From : ℕ → KnownAim
+  Beyond : ℕ → Option ℕ → Option ℕ → KnownAim
+
+-- a table whose entries are moved to those behind it: its slot, that of the next table, and its shape
+pub record KnownRehash : Type 0 where
+  pub root : ℕ
+  pub future : ℕ
+  pub shape : ℕ
+
+-- the bucket of the current table that the work has locked: its number there, the place of its word, and what that was before
+pub record KnownPlace : Type 0 where
+  pub number : ℕ
   pub place : ℕ
   pub word : ℕ
-  pub entry : ℕ
+
+-- an entry, and the one before it
+pub record KnownEntry : Type 0 where
+  pub node : ℕ
   pub before : Option ℕ
 
--- Of the work that the caller does: none; that it does the work; the slot of the current table; and how many of that table's buckets are
--- emptied. Of an entry of the next one: that it is in it; that it is the last one there; that the place is locked, whose word was
--- this, to which the entry goes; that it is out of its bucket, and its link leads to the first node of that place; and that it is in a
--- table behind the current one.
+-- Of the work that the caller does: none; that it does the work; the slot of the current table; that of the next one too; how many of
+-- the current table's buckets are emptied; and that the table in a slot was left behind. Of the next bucket: the place of its word; that
+-- it is locked; that it has no entry; that an entry is
+-- in it; and that this is the last one. Of that one: the place to which it goes; that this is locked, and its word was this before; that
+-- the entry is out of its bucket, and its link leads to the first node of that place; and that it is in a table behind the current one.
 pub data KnownWork : Type 0 where
   NoWork : KnownWork
   Works : KnownWork
-  Rooted : ℕ → KnownWork
-  Empties : ℕ → ℕ → KnownWork
-  AtEntry : ℕ → ℕ → KnownEntry → KnownWork
-  AtTail : ℕ → ℕ → KnownEntry → KnownWork
-  Brings : ℕ → ℕ → KnownEntry → ℕ → ℕ → KnownWork
-  TakesOut : ℕ → ℕ → KnownEntry → ℕ → ℕ → KnownWork
-  HasBrought : ℕ → ℕ → KnownEntry → KnownWork
+  Rooted : ℕ → KnownAim → KnownWork
+  Follows : ℕ → ℕ → KnownWork
+  Empties : KnownRehash → ℕ → KnownWork
+  LeavesBehind : ℕ → KnownWork
+  Faces : KnownRehash → ℕ → ℕ → KnownWork
+  InBucket : KnownRehash → KnownPlace → KnownAim → KnownWork
+  Bare : KnownRehash → KnownPlace → KnownWork
+  AtEntry : KnownRehash → KnownPlace → KnownEntry → KnownAim → KnownWork
+  AtTail : KnownRehash → KnownPlace → KnownEntry → KnownAim → KnownWork
+  Aims : KnownRehash → KnownPlace → KnownEntry → ℕ → KnownWork
+  Brings : KnownRehash → KnownPlace → KnownEntry → ℕ → ℕ → KnownWork
+  TakesOut : KnownRehash → KnownPlace → KnownEntry → ℕ → ℕ → KnownWork
+  HasBrought : KnownRehash → KnownPlace → KnownEntry → KnownWork
 
 -- what a caller knows in a state
 pub record Known : Type 0 where

@@ -1,0 +1,448 @@
+-- What the caller that does the work learns by its loads.
+use Rattle.std.proofs.Common.{◌≡◌, ℕ, ◌+◌, ◌*◌, ◌%◌, ◌^◌, ◌<◌, ◌≤◌, List, [], ◌∷◌, ◌++◌, Option, Some, None, true, cond, refl, sym, ◌∙◌, ap, subst, inl, inr, arith}
+use Rattle.std.proofs.Math.Nat.{mod-eq_of_lt}
+use Rattle.std.proofs.Math.Seq.{append_snoc}
+use Rattle.std.proofs.lemmas.Bool.{lt-ltb, cases_lt, le-ltb}
+use Rattle.std.proofs.lemmas.Bool.Decides.{nat_tests}
+use Rattle.rht_words.specs.declared.env.Env.{Env}
+use Rattle.rht_words.specs.Links.{link_of, head_of, marker_of, table_of, slot_of, future_of, node_of, unlocked}
+use Rattle.rht_words.specs.Ports.{port_of}
+use Rattle.rht_words.specs.Chains.{IsSegment}
+use Rattle.rht_words.specs.Shapes.{unpacked, size_of}
+use Rattle.rht_words.specs.Places.{CurrentTable, Slot, SlotWord, ShapeWord, SeedWord, FutureWord, Node, KeyWord, PageWord, IsBucketPlace}
+use Rattle.rht_words.specs.Members.{In}
+use Rattle.rht_words.proofs.Memory.{Memory}
+use Rattle.rht_words.proofs.Members.{in-middle}
+use Rattle.rht_words.proofs.LinksRead.{links_tell_apart}
+use Rattle.rht_words.proofs.ChainLemmas.{IsSegment-cut}
+use Rattle.rht_policy.specs.Mix.{bucket_of}
+use Rattle.rht_nest.specs.Place.{bucket_index, bucket_place}
+use Rattle.rht_core.proofs.Theory.Ghosts.{Ghost, has_table, index_at, lock_bit, none-some, some-same}
+use Rattle.rht_core.proofs.Theory.Wholes.{chain_of, key_of, place_at, word_index, place_at-index, index-place_at, index-within, home, hash_in, future_in, stop, TableRight, IsNoBucket, Whole}
+use Rattle.rht_core.proofs.Theory.Passed.{hash-below, home-index}
+use Rattle.rht_core.proofs.Theory.Knowns.{last_of, KnownAim, NoAim, From, Beyond, KnownRehash, KnownPlace, KnownEntry, KnownWork, Works, Rooted, Follows, Empties, Faces, InBucket, Bare, AtEntry, AtTail, Aims}
+use Rattle.rht_core.proofs.Theory.Knowledge.{HasLock, IsRooted, IsFollowed, IsEmptying, IsFacing, IsInBucket, IsEntry, IsTail, IsWorking, WorkMeans}
+use Rattle.rht_core.proofs.Moves.Relinking.{last_of-more}
+
+-- Behind a load of a table's future: the last table, which may be the current one, and the last one where there is one behind the
+-- current one
+abbrev pub last_sought : ℕ → Option ℕ → KnownAim
+last_sought slot None = From slot
+last_sought slot (Some next) = From next
+
+abbrev pub aim_sought : ℕ → Option ℕ → KnownAim
+aim_sought slot None = Beyond slot None None
+aim_sought slot (Some next) = From next
+
+-- behind a load of a locked bucket's word: its first entry, or that it has none
+abbrev pub first_known : KnownRehash → KnownPlace → KnownAim → Option ℕ → KnownWork
+first_known root at aim None = Bare root at
+first_known root at aim (Some node) = AtEntry root at (record { node = node; before = None }) aim
+
+-- and behind a load of an entry's link: the next entry, or that this one is the last
+abbrev pub next_known : KnownRehash → KnownPlace → KnownEntry → KnownAim → Option ℕ → KnownWork
+next_known root at entry aim None = AtTail root at entry aim
+next_known root at entry aim (Some next) = AtEntry root at (record { node = next; before = Some entry.node }) aim
+
+module _ (env : Env) (mix : ℕ → ℕ → ℕ → ℕ) (c : ℕ) (M : Memory) (G : Ghost) (whole : Whole env mix M G) where
+  abbrev index : ℕ → ℕ
+  index place = word_index env mix place
+
+  abbrev Knows : KnownWork → Type 0
+  Knows known = WorkMeans env mix c M G known
+
+  -- ---- words of tables
+
+  table_right : (slot : ℕ) → has_table (G.slot slot) ≡ true → TableRight env mix M G (index_at G slot)
+  table_right slot has = whole.tables.each (index_at G slot) (whole.tables.slots slot has).attached
+
+  slot_word : (slot : ℕ) (w : SlotWord) → has_table (G.slot slot) ≡ true
+      → M (Slot slot w) ≡ M (Slot (G.table (index_at G slot)).slot w)
+  slot_word slot w has = ap (λ s. M (Slot s w)) (sym (whole.tables.slots slot has).slot)
+
+  shape_word : (slot : ℕ) → (has : has_table (G.slot slot) ≡ true)
+      → M (Slot slot ShapeWord) ≡ (G.table (index_at G slot)).shape
+  shape_word slot has = slot_word slot ShapeWord has ∙ (table_right slot has).shape_is
+
+  seed_word : (slot : ℕ) → (has : has_table (G.slot slot) ≡ true)
+      → M (Slot slot SeedWord) ≡ (G.table (index_at G slot)).seed
+  seed_word slot has = slot_word slot SeedWord has ∙ (table_right slot has).seed_is
+
+  slot_named : (next : ℕ) → next < 8 → slot_of (future_of next) ≡ Some next
+  slot_named next l = grind (arith, nat_tests)
+
+  -- what the future of a table is read as: none for the last one, and else the slot of the next one
+  record IsNextTable (τ next : ℕ) : Type 0 where
+    attached : τ + 1 < G.attached
+    slot_is : (G.table (τ + 1)).slot ≡ next
+    table : has_table (G.slot next) ≡ true
+    index_is : index_at G next ≡ τ + 1
+
+  abbrev LeadsTo : ℕ → Option ℕ → Type 0
+  LeadsTo τ None = τ + 1 ≡ G.attached
+  LeadsTo τ (Some next) = IsNextTable τ next
+
+  future_leads : (slot : ℕ) → has_table (G.slot slot) ≡ true
+      → LeadsTo (index_at G slot) (slot_of (M (Slot slot FutureWord)))
+  future_leads slot has =
+      let τ = index_at G slot in
+      let future : M (Slot slot FutureWord) ≡ future_in env mix G τ = slot_word slot FutureWord has
+      ∙ (table_right slot has).future_is in
+      let attached = (whole.tables.slots slot has).attached in
+      rw future (elim (cases_lt (τ + 1) G.attached) [
+        | inl more ↦
+            let right = whole.tables.each (τ + 1) more in
+            let next = (G.table (τ + 1)).slot in
+            let is : future_in env mix G τ ≡ future_of next = ap (λ t. cond t (future_of next) 0)
+            (lt-ltb (τ + 1) G.attached more) in
+            rw is (rw (slot_named next right.slot_in) (record {
+              attached = more;
+              slot_is = refl;
+              table = right.has_slot;
+              index_is = right.index;
+            }))
+        | inr last ↦
+            let is : future_in env mix G τ ≡ 0 = ap (λ t. cond t (future_of (G.table (τ + 1)).slot) 0)
+            (le-ltb (τ + 1) G.attached last) in
+            rw is (let e : τ + 1 ≡ G.attached = omega (arith, attached, last) in e)
+      ])
+
+  -- ---- tables
+
+  -- the current table
+  pub root_seen : Knows Works → Knows (Rooted (table_of (M CurrentTable)) NoAim)
+  root_seen knows =
+      let right = whole.tables.each G.current whole.tables.current_in in
+      let slot = (G.table G.current).slot in
+      let is : table_of (M CurrentTable) ≡ slot = (let word = whole.tables.current_is in omega
+      (arith, right.slot_in, word)) in
+      record { works = knows.works; more = record { root_is = sym is; aim_is = tt } }
+
+  -- it has a slot
+  root_has : (root : ℕ) → (G.table G.current).slot ≡ root
+      → (has_table (G.slot root) ≡ true) × (index_at G root ≡ G.current)
+  root_has root is =
+      let right = whole.tables.each G.current whole.tables.current_in in
+      (ap (λ s. has_table (G.slot s)) (sym is) ∙ right.has_slot, ap (index_at G) (sym is) ∙ right.index)
+
+  pub from_root : (root : ℕ) → Knows (Rooted root NoAim) → Knows (Rooted root (From root))
+  from_root root knows =
+      let has = root_has root knows.more.root_is in
+      record {
+        works = knows.works;
+        more = record {
+          root_is = knows.more.root_is;
+          aim_is = record { table = has.0; from = omega (arith, has.1) };
+        };
+      }
+
+  -- the last table
+  pub last_seen : (root slot : ℕ) → Knows (Rooted root (From slot))
+      → Knows (Rooted root (last_sought slot (slot_of (M (Slot slot FutureWord)))))
+  last_seen root slot knows = go (slot_of (M (Slot slot FutureWord))) (future_leads slot knows.more.aim_is.table)
+    where
+      go : (next : Option ℕ) → LeadsTo (index_at G slot) next → Knows (Rooted root (last_sought slot next))
+      go None leads = knows
+      go (Some next) leads = record {
+        works = knows.works;
+        more = record {
+          root_is = knows.more.root_is;
+          aim_is = record { table = leads.table; from = omega (arith, leads.index_is, knows.more.aim_is.from) };
+        };
+      }
+
+  -- the table behind the current one, and the current one's shape
+  pub future_seen : (root future : ℕ) → Knows (Rooted root NoAim)
+      → slot_of (M (Slot root FutureWord)) ≡ Some future → Knows (Follows root future)
+  future_seen root future knows is =
+      let has = root_has root knows.more.root_is in
+      let leads : IsNextTable (index_at G root) future = subst (LeadsTo (index_at G root)) is
+      (future_leads root has.0) in
+      record {
+        works = knows.works;
+        more = record {
+          root_is = knows.more.root_is;
+          future_is = ap (λ τ. (G.table (τ + 1)).slot) (sym has.1) ∙ leads.slot_is;
+          more = omega (arith, leads.attached, has.1);
+        };
+      }
+
+  pub shape_seen : (root future : ℕ) → Knows (Follows root future)
+      → Knows (Empties (record { root = root; future = future; shape = M (Slot root ShapeWord) }) 0)
+  shape_seen root future knows =
+      let has = root_has root knows.more.root_is in
+      record {
+        works = knows.works;
+        more = record {
+          followed = knows.more;
+          shape_is = sym (shape_word root has.0 ∙ ap (λ τ. (G.table τ).shape) has.1);
+          within = omega arith;
+          each = λ b j l at. absurd (omega (arith, l));
+        };
+      }
+
+  -- the place of the next bucket
+  pub record HasPlace (root : KnownRehash) (number : ℕ) : Type 0 where
+    pub place : ℕ
+    pub there : bucket_place env.geometry root.shape number ≡ Some place
+    pub knows : Knows (Faces root number place)
+
+  pub place_seen : (root : KnownRehash) (number : ℕ) → Knows (Empties root number)
+      → number < size_of (unpacked root.shape) → HasPlace root number
+  place_seen root number knows l =
+      let is = knows.more in
+      let placed = (whole.tables.each G.current whole.tables.current_in).placed in
+      let below : number < size_of (unpacked (G.table G.current).shape) =
+      subst (λ s. number < size_of (unpacked s)) (sym is.shape_is) l in
+      let j = bucket_index (G.table G.current).shape number in
+      let within : j < 64 * env.geometry.pages = omega (arith, below, placed.fits) in
+      record {
+        place = place_at env mix j;
+        there = subst (λ s. bucket_place env.geometry s number ≡ Some (place_at env mix j)) is.shape_is
+            (ap (λ t. cond t (Some (place_at env mix j)) None) (lt-ltb j (64 * env.geometry.pages) within));
+        knows = record {
+          works = knows.works;
+          more = record {
+            empties = is;
+            below = below;
+            bucket = (omega arith, omega (arith, within));
+            here = placed.places number below ∙ ap Some (sym (index-place_at env mix j));
+          };
+        };
+      }
+
+  -- ---- the table to which an entry goes
+
+  in_bucket : (root : KnownRehash) (at : KnownPlace) (aim more : KnownAim) → Knows (InBucket root at aim)
+      → ((is : IsInBucket env mix c G root at aim) → IsInBucket env mix c G root at more) → Knows (InBucket root at more)
+  in_bucket root at aim more knows to = record { works = knows.works; more = to knows.more }
+
+  pub from_current : (root : KnownRehash) (at : KnownPlace) (aim : KnownAim) → Knows (InBucket root at aim)
+      → Knows (InBucket root at (From root.root))
+  from_current root at aim knows = in_bucket root at aim (From root.root) knows (λ is.
+      let has = root_has root.root is.next.empties.followed.root_is in
+      record {
+        next = is.next;
+        out = is.out;
+        aim_is = record { table = has.0; from = omega (arith, has.1) };
+      })
+
+  pub aim_seen : (root : KnownRehash) (at : KnownPlace) (slot : ℕ) → Knows (InBucket root at (From slot))
+      → Knows (InBucket root at (aim_sought slot (slot_of (M (Slot slot FutureWord)))))
+  aim_seen root at slot knows =
+      go (slot_of (M (Slot slot FutureWord))) (future_leads slot knows.more.aim_is.table)
+    where
+      from : G.current ≤ index_at G slot
+      from = knows.more.aim_is.from
+
+      more : G.current + 1 < G.attached
+      more = knows.more.next.empties.followed.more
+
+      go : (next : Option ℕ) → LeadsTo (index_at G slot) next → Knows (InBucket root at (aim_sought slot next))
+      go None leads = in_bucket root at (From slot) (Beyond slot None None) knows (λ is. record {
+        next = is.next;
+        out = is.out;
+        aim_is = record {
+          table = is.aim_is.table;
+          later = omega (arith, leads, more);
+          shape_is = tt;
+          seed_is = tt;
+        };
+      })
+      go (Some next) leads = in_bucket root at (From slot) (From next) knows (λ is. record {
+        next = is.next;
+        out = is.out;
+        aim_is = record { table = leads.table; from = omega (arith, leads.index_is, from) };
+      })
+
+  pub aim_shape : (root : KnownRehash) (at : KnownPlace) (slot : ℕ) → Knows (InBucket root at (Beyond slot None None))
+      → Knows (InBucket root at (Beyond slot (Some (M (Slot slot ShapeWord))) None))
+  aim_shape root at slot knows =
+      in_bucket root at (Beyond slot None None) (Beyond slot (Some (M (Slot slot ShapeWord))) None) knows
+      (λ is. record {
+        next = is.next;
+        out = is.out;
+        aim_is = record {
+          table = is.aim_is.table;
+          later = is.aim_is.later;
+          shape_is = sym (shape_word slot is.aim_is.table);
+          seed_is = tt;
+        };
+      })
+
+  pub aim_seed : (root : KnownRehash) (at : KnownPlace) (slot : ℕ) (shape : Option ℕ)
+      → Knows (InBucket root at (Beyond slot shape None))
+      → Knows (InBucket root at (Beyond slot shape (Some (M (Slot slot SeedWord)))))
+  aim_seed root at slot shape knows =
+      in_bucket root at (Beyond slot shape None) (Beyond slot shape (Some (M (Slot slot SeedWord)))) knows
+      (λ is. record {
+        next = is.next;
+        out = is.out;
+        aim_is = record {
+          table = is.aim_is.table;
+          later = is.aim_is.later;
+          shape_is = is.aim_is.shape_is;
+          seed_is = sym (seed_word slot is.aim_is.table);
+        };
+      })
+
+  -- ---- the entries of the bucket
+
+  -- its word, without the lock
+  pub word_seen : (place word : ℕ) → HasLock env mix c G place word → unlocked (M (PageWord (index place))) ≡ word
+  word_seen place word lock =
+      let right = (whole.buckets (index place) (index-within env mix place lock.bucket)).locked in
+      let locked : lock_bit (G.bucket (index place)).holder ≡ 1 = ap lock_bit lock.holder in
+      omega (arith, right.word_is, right.even, locked, lock.plain)
+
+  chain_here : (root : KnownRehash) (at : KnownPlace) (aim : KnownAim) → IsInBucket env mix c G root at aim
+      → IsSegment (chain_of M) (head_of at.place at.word) (G.bucket (index at.place)).nodes (marker_of at.place)
+  chain_here root at aim is =
+      let lock = is.next.lock in
+      let b = G.bucket (index at.place) in
+      let segment : IsSegment (chain_of M) (head_of (place_at env mix (index at.place)) b.plain) b.nodes
+      (marker_of (place_at env mix (index at.place))) =
+      subst (λ out. IsSegment (chain_of M) (head_of (place_at env mix (index at.place)) b.plain) b.nodes
+      (stop env mix (place_at env mix (index at.place)) out)) is.out
+      (whole.buckets (index at.place) (index-within env mix at.place lock.bucket)).chained.segment in
+      subst (λ w. IsSegment (chain_of M) (head_of at.place w) b.nodes (marker_of at.place)) lock.plain
+      (subst (λ p. IsSegment (chain_of M) (head_of p b.plain) b.nodes (marker_of p))
+      (place_at-index env mix at.place lock.bucket) segment)
+
+  marker_ends : (place link : ℕ) → link ≡ marker_of place → node_of env.geometry.nodes link ≡ None
+  marker_ends place link is = rw is (links_tell_apart.marker_names_no_node env.geometry.nodes place)
+
+  link_names : (j link n : ℕ) → link ≡ link_of n → In n (G.bucket j).nodes
+      → node_of env.geometry.nodes link ≡ Some n
+  link_names j link n is i = rw is (links_tell_apart.link_names env.geometry.nodes n
+      (whole.owned.first_at n j (whole.owned.member j n i)).among)
+
+  pub first_seen : (root : KnownRehash) (at : KnownPlace) (aim : KnownAim) → Knows (InBucket root at aim)
+      → Knows (first_known root at aim (node_of env.geometry.nodes (head_of at.place at.word)))
+  first_seen root at aim knows = go (G.bucket j).nodes refl (chain_here root at aim knows.more)
+    where
+      j : ℕ
+      j = index at.place
+
+      link : ℕ
+      link = head_of at.place at.word
+
+      go : (nodes : List ℕ) → (G.bucket j).nodes ≡ nodes
+          → IsSegment (chain_of M) link (G.bucket j).nodes (marker_of at.place)
+          → Knows (first_known root at aim (node_of env.geometry.nodes link))
+      go [] e s =
+          let ends : link ≡ marker_of at.place = subst (λ l. IsSegment (chain_of M) link l (marker_of at.place)) e s in
+          rw (marker_ends at.place link ends) (record {
+            works = knows.works;
+            more = record {
+              bucket = record { next = knows.more.next; out = knows.more.out; aim_is = tt };
+              none = e;
+            };
+          })
+      go (n ∷ nodes) e s =
+          let split = subst (λ l. IsSegment (chain_of M) link l (marker_of at.place)) e s in
+          rw (link_names j link n split.0 (rw e (inl refl))) (record {
+            works = knows.works;
+            more = record {
+              bucket = knows.more;
+              among = record { front = []; rear = nodes; split = e; last = refl };
+            };
+          })
+
+  pub next_seen : (root : KnownRehash) (at : KnownPlace) (entry : KnownEntry) (aim : KnownAim)
+      → Knows (AtEntry root at entry aim)
+      → Knows (next_known root at entry aim (node_of env.geometry.nodes (chain_of M entry.node)))
+  next_seen root at entry aim knows = go rear knows.more.among.split refl
+    where
+      j : ℕ
+      j = index at.place
+
+      n : ℕ
+      n = entry.node
+
+      front : List ℕ
+      front = knows.more.among.front
+
+      rear : List ℕ
+      rear = knows.more.among.rear
+
+      link : ℕ
+      link = chain_of M n
+
+      cut : (more : List ℕ) → (G.bucket j).nodes ≡ front ++ n ∷ more
+          → IsSegment (chain_of M) link more (marker_of at.place)
+      cut more e = (IsSegment-cut (chain_of M) front n more (head_of at.place at.word) (marker_of at.place)
+          (subst (λ l. IsSegment (chain_of M) (head_of at.place at.word) l (marker_of at.place)) e
+          (chain_here root at aim knows.more.bucket))).1
+
+      go : (more : List ℕ) → (G.bucket j).nodes ≡ front ++ n ∷ more → rear ≡ more
+          → Knows (next_known root at entry aim (node_of env.geometry.nodes link))
+      go [] e is = rw (marker_ends at.place link (cut [] e))
+          (record { works = knows.works; more = record { stands = knows.more; last = is } })
+      go (next ∷ more) e is =
+          let split : (G.bucket j).nodes ≡ (front ++ n ∷ []) ++ next ∷ more = e
+          ∙ sym (append_snoc front n (next ∷ more)) in
+          rw (link_names j link next (cut (next ∷ more) e).0
+          (rw split (in-middle next (front ++ n ∷ []) more))) (record {
+            works = knows.works;
+            more = record {
+              bucket = knows.more.bucket;
+              among = record {
+                front = front ++ n ∷ [];
+                rear = more;
+                split = split;
+                last = last_of-more front n;
+              };
+            };
+          })
+
+  -- ---- the place to which the last entry goes
+
+  pub record HasAim (root : KnownRehash) (at : KnownPlace) (entry : KnownEntry) (shape seed : ℕ) : Type 0 where
+    pub place : ℕ
+    pub there : bucket_place env.geometry shape (bucket_of mix (port_of (M (Node entry.node KeyWord))) shape seed)
+        ≡ Some place
+    pub knows : Knows (Aims root at entry place)
+
+  -- by its key, which is a port's
+  pub key_seen : (root : KnownRehash) (at : KnownPlace) (entry : KnownEntry) (slot shape seed : ℕ)
+      → Knows (AtTail root at entry (Beyond slot (Some shape) (Some seed)))
+      → M (Node entry.node KeyWord) < 2 ^ 32 → HasAim root at entry shape seed
+  key_seen root at entry slot shape seed knows small =
+      let tail = knows.more in
+      let bucket = tail.stands.bucket in
+      let aim = bucket.aim_is in
+      let τ = index_at G slot in
+      let attached = (whole.tables.slots slot aim.table).attached in
+      let key = key_of M entry.node in
+      let placed = (whole.tables.each τ attached).placed in
+      let j = bucket_index (G.table τ).shape (hash_in env mix G key τ) in
+      let within : j < 64 * env.geometry.pages = omega (arith, hash-below env mix M G whole key τ, placed.fits) in
+      let same : port_of key ≡ key = mod-eq_of_lt {n = key} {m = 2 ^ 32} small in
+      record {
+        place = place_at env mix j;
+        there = ap (λ k. bucket_place env.geometry shape (bucket_of mix k shape seed)) same
+            ∙ ap (λ s. bucket_place env.geometry s (bucket_of mix key s seed)) (sym aim.shape_is)
+            ∙ ap (λ d. bucket_place env.geometry (G.table τ).shape (bucket_of mix key (G.table τ).shape d))
+            (sym aim.seed_is)
+            ∙ ap (λ t. cond t (Some (place_at env mix j)) None) (lt-ltb j (64 * env.geometry.pages) within);
+        knows = record {
+          works = knows.works;
+          more = record {
+            tail = record {
+              stands = record {
+                bucket = record { next = bucket.next; out = bucket.out; aim_is = tt };
+                among = tail.stands.among;
+              };
+              last = tail.last;
+            };
+            aim = record {
+              bucket = (omega arith, omega (arith, within));
+              table = τ;
+              later = aim.later;
+              attached = attached;
+              here = home-index env mix M G whole key τ attached ∙ ap Some (sym (index-place_at env mix j));
+            };
+          };
+        };
+      }
