@@ -10,6 +10,8 @@ pub mod Knowledge
 pub mod Readiness
 -- what a step leaves where it writes elsewhere
 pub mod Frames
+-- what a step leaves that changes tables, slots and pages alone
+pub mod TableFrames
 -- what an operation says about bindings, and what is known of a call's answer
 pub mod Answering
 -- one operation of a caller, and what it knows afterwards

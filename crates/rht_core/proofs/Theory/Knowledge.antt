@@ -85,12 +85,12 @@ pub record KnownSlot : Type 0 where
   pub future : Option ℕ
   pub serial : Option ℕ
 
--- Of a table that the caller makes: nothing; the slot that it has taken and its pages; or the slot, with the shape and the seed of a
--- table that can be attached.
+-- Of a table that the caller makes: nothing; the slot that it has taken and its pages; or the slot, with the shape of a table that can be
+-- attached.
 pub data KnownMaking : Type 0 where
   MakesNothing : KnownMaking
   HasTaken : KnownSlot → List ℕ → KnownMaking
-  HasMade : ℕ → ℕ → ℕ → KnownMaking
+  HasMade : ℕ → ℕ → KnownMaking
 
 -- an entry of a bucket that the work has locked: the place of the bucket's word, what that was before, the entry, and the one before it
 pub record KnownEntry : Type 0 where
@@ -425,10 +425,9 @@ module _ (env : Env) (mix : ℕ → ℕ → ℕ → ℕ) where
     pub mine : (p : ℕ) → In p pages → G.page p ≡ PageHeld c
 
   -- the slot's words are those of a flat table that nothing follows, and the caller has all the pages of its run
-  pub record IsMade (c : ℕ) (M : Memory) (G : Ghost) (slot shape seed : ℕ) : Type 0 where
+  pub record IsMade (c : ℕ) (M : Memory) (G : Ghost) (slot shape : ℕ) : Type 0 where
     pub has : HasSlot c G slot
     pub shape_is : M (Slot slot ShapeWord) ≡ shape
-    pub seed_is : M (Slot slot SeedWord) ≡ seed
     pub future_is : M (Slot slot FutureWord) ≡ 0
     pub flat : (unpacked shape).nest ≡ 0
     pub fits : (unpacked shape).page + pages_of env mix shape ≤ env.geometry.pages
@@ -438,7 +437,7 @@ module _ (env : Env) (mix : ℕ → ℕ → ℕ → ℕ) where
   abbrev pub MakingMeans : ℕ → Memory → Ghost → KnownMaking → Type 0
   MakingMeans c M G MakesNothing = Unit {0}
   MakingMeans c M G (HasTaken slot pages) = IsTaken c M G slot pages
-  MakingMeans c M G (HasMade slot shape seed) = IsMade c M G slot shape seed
+  MakingMeans c M G (HasMade slot shape) = IsMade c M G slot shape
 
   -- ---- the work
 
@@ -1128,10 +1127,9 @@ module _ (env : Env) (mix : ℕ → ℕ → ℕ → ℕ) where
           };
           mine = λ p i. stay.pages p (means.mine p i);
         }
-    MakingMeans-stay (HasMade slot shape seed) means = record {
+    MakingMeans-stay (HasMade slot shape) means = record {
       has = HasSlot-stay slot means.has;
       shape_is = stay.slot_words slot ShapeWord means.has tt ∙ means.shape_is;
-      seed_is = stay.slot_words slot SeedWord means.has tt ∙ means.seed_is;
       future_is = stay.slot_words slot FutureWord means.has tt ∙ means.future_is;
       flat = means.flat;
       fits = means.fits;
