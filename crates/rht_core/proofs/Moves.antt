@@ -12,3 +12,9 @@ pub mod Relinking
 pub mod Removing
 -- the store that takes a node out of a list
 pub mod ListCuts
+-- slots are taken and given back, and their words are written
+pub mod Slots
+-- pages are taken and given back
+pub mod Pages
+-- a table is attached behind the last one
+pub mod Attaching

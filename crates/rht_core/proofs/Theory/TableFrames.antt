@@ -4,7 +4,7 @@ use Rattle.std.proofs.Common.{◌≡◌, ◌≢◌, ℕ, ◌+◌, ◌*◌, ◌/�
 use Rattle.rht_words.specs.declared.env.Env.{Env}
 use Rattle.rht_words.specs.Links.{head_of}
 use Rattle.rht_words.specs.Shapes.{unpacked, size_of}
-use Rattle.rht_words.specs.Places.{Address, PortCount, Slot, ShapeWord, SeedWord, FutureWord, NodeMap, Node, NodeWord, ChainLink, KeyWord, OwnerWord, ListLink, PageWord}
+use Rattle.rht_words.specs.Places.{Address, CurrentTable, PortCount, Slot, SlotWord, IsSlotWord, ShapeWord, SeedWord, FutureWord, NodeMap, PageMap, Node, NodeWord, ChainLink, KeyWord, OwnerWord, ListLink, PageWord}
 use Rattle.rht_words.specs.Members.{In}
 use Rattle.rht_words.proofs.Memory.{Memory, IsWrite}
 use Rattle.rht_words.proofs.ChainLemmas.{IsSegment-members}
@@ -12,7 +12,14 @@ use Rattle.rht_core.proofs.Theory.Ghosts.{Table, Bucket, PageOwner, PageFree, Pa
 use Rattle.rht_core.proofs.Theory.Wholes.{chain_of, key_of, list_of, place_at, home, future_in, IsNoBucket, PlacedRight, TableRight, TablesRight, SlotsRight, PagesRight, MovingRight, OutRight, IsHomeOf, IsFirstAt, IsBehindIn, IsBoundTo, IsLeavingAt, Owned, Whole, seated_at}
 use Rattle.rht_core.proofs.Theory.Passed.{held-bucket, home-stays, TablesGrow, PassesStay, Passed-stays}
 use Rattle.rht_core.proofs.Theory.Knowledge.{TablesStay, HoldingsStay, WorkStays, members_used, Rely}
-use Rattle.rht_core.proofs.Theory.Frames.{passes_same, used_stay, chains_stay, BucketRight-frame, locks_stay, arena_stays}
+use Rattle.rht_core.proofs.Theory.Frames.{IsApart, no_bucket, passes_same, used_stay, chains_stay, BucketRight-frame, locks_stay, arena_stays}
+
+-- the address is no word of a node or a bucket, nor of the map of nodes, nor the count
+pub record IsNoBucketWord (a : Address) : Type 0 where
+  pub nodes : (n : ℕ) (w : NodeWord) → Node n w ≢ a
+  pub buckets : (j : ℕ) → PageWord j ≢ a
+  pub map : (i : ℕ) → NodeMap i ≢ a
+  pub count : PortCount ≢ a
 
 module _ (env : Env) (mix : ℕ → ℕ → ℕ → ℕ) where
   -- the ghost with other tables, slots and pages
@@ -26,13 +33,6 @@ module _ (env : Env) (mix : ℕ → ℕ → ℕ → ℕ) where
     pub more : G.attached ≤ attached
     pub slots : (s : ℕ) → has_table (G.slot s) ≡ true → slot s ≡ G.slot s
     pub pages : (p τ : ℕ) → G.page p ≡ PageOf τ → page p ≡ PageOf τ
-
-  -- the address is no word of a node or a bucket, nor of the map of nodes, nor the count
-  pub record IsNoBucketWord (a : Address) : Type 0 where
-    pub nodes : (n : ℕ) (w : NodeWord) → Node n w ≢ a
-    pub buckets : (j : ℕ) → PageWord j ≢ a
-    pub map : (i : ℕ) → NodeMap i ≢ a
-    pub count : PortCount ≢ a
 
   -- a page that no table has, or the word of none of its buckets
   pub no_table-no_bucket : (G : Ghost) (owner : PageOwner) (j : ℕ) → ((τ : ℕ) → owner ≢ PageOf τ)
@@ -303,3 +303,42 @@ module _ (env : Env) (mix : ℕ → ℕ → ℕ → ℕ) where
                   kept.pages ((64 * (unpacked (table τ).shape).page + b) / 64) τ
                   (ap (λ (t : Table). G.page ((64 * (unpacked t.shape).page + b) / 64)) same ∙ was);
             }
+
+  -- tables that stay are right, where the slots that have tables are those that had them, with the words that they had
+  pub TablesRight-kept : (M M' : Memory) (G : Ghost) (slot : ℕ → SlotOwner) (page : ℕ → PageOwner)
+      → Whole env mix M G → TablesKept G G.table G.attached slot page → (a : Address) (v : ℕ)
+      → IsWrite env.geometry M M' a v → IsNoBucketWord a → IsApart env mix G a
+      → ((s : ℕ) → has_table (slot s) ≡ true → slot s ≡ G.slot s)
+      → TablesRight env mix M' (retabled G G.table G.attached slot page)
+  TablesRight-kept M M' G slot page whole kept a v write words apart back =
+      let right = whole.tables in
+      record {
+        current_in = right.current_in;
+        current_is = write.others CurrentTable tt apart.current ∙ right.current_is;
+        each = λ τ l.
+            let here = right.each τ l in
+            let s = (G.table τ).slot in
+            let same : (w : SlotWord) → IsSlotWord w → M' (Slot s w) ≡ M (Slot s w) =
+            λ w is. write.others (Slot s w) (here.slot_in, is) (apart.slots s w here.has_slot) in
+            TableRight-kept M M' G G.table G.attached slot page whole kept a v write words τ l (same ShapeWord tt)
+            (same SeedWord tt) (same FutureWord tt ∙ here.future_is);
+        slots = λ s has.
+            let owner = back s has in
+            let is = right.slots s (sym (ap has_table owner) ∙ has) in
+            let index : table_of_slot (slot s) ≡ index_at G s = ap table_of_slot owner in
+            record {
+              attached = omega (arith, is.attached, index);
+              slot = ap (λ τ. (G.table τ).slot) index ∙ is.slot;
+            };
+      }
+
+  -- and pages are, where only slots change
+  pub PagesRight-kept : (M M' : Memory) (G : Ghost) (slot : ℕ → SlotOwner) (a : Address) (v : ℕ)
+      → IsWrite env.geometry M M' a v → ((i : ℕ) → PageMap i ≢ a) → PagesRight env mix M G
+      → PagesRight env mix M' (retabled G G.table G.attached slot G.page)
+  PagesRight-kept M M' G slot a v write apart right = record {
+    bits = λ p l. rw (write.others (PageMap (p / 64)) (omega arith) (apart (p / 64))) (right.bits p l);
+    page_of = λ p τ is.
+        let of = right.page_of p τ is in record { attached = of.attached; from = of.from; below = of.below };
+    blank = λ j is. right.blank j (no_bucket env mix G (retabled G G.table G.attached slot G.page) refl (G.page (j / 64)) j is);
+  }
