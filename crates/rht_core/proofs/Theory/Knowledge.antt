@@ -1136,18 +1136,25 @@ module _ (env : Env) (mix : ℕ → ℕ → ℕ → ℕ) where
       run = λ p from below. stay.pages p (means.run p from below);
     }
 
+  -- what a caller that does the work needs of a step, its own or another's, so that it knows still what it knew
+  pub record KeepsWork (c : ℕ) (M : Memory) (G : Ghost) (M' : Memory) (G' : Ghost) : Type 0 where
+    pub grow : TablesGrow env mix G G'
+    pub locks : (j : ℕ) → (G.bucket j).holder ≡ Some c → G'.bucket j ≡ G.bucket j
+    pub keys : WordStays KeyWord M G M'
+    pub work : G.worker ≡ Some c → WorkStays c M G M' G'
+
   -- of the work: where the current table stays, the caller's buckets, and the entry on its way
-  module _ (c : ℕ) (M M' : Memory) (G G' : Ghost) (whole : Whole env mix M G) (rely : Rely c M G M' G')
+  module _ (c : ℕ) (M M' : Memory) (G G' : Ghost) (whole : Whole env mix M G) (keeps : KeepsWork c M G M' G')
       (works : G.worker ≡ Some c) where
     stays : WorkStays c M G M' G'
-    stays = rely.work works
+    stays = keeps.work works
 
     same_table : G'.table G'.current ≡ G.table G.current
-    same_table = ap G'.table stays.current ∙ rely.tables.grow.tables G.current whole.tables.current_in
+    same_table = ap G'.table stays.current ∙ keeps.grow.tables G.current whole.tables.current_in
 
     lock-stays : (place word : ℕ) → HasLock c G place word → HasLock c G' place word
     lock-stays place word holds =
-        let same = rely.locks (word_index env mix place) holds.holder in
+        let same = keeps.locks (word_index env mix place) holds.holder in
         record {
           bucket = holds.bucket;
           holder = ap (λ b. b.holder) same ∙ holds.holder;
@@ -1161,7 +1168,7 @@ module _ (env : Env) (mix : ℕ → ℕ → ℕ → ℕ) where
     IsEmptying-stay root count is = record {
       root_is = IsRoot-stay root is.root_is;
       within = subst (λ t. count ≤ size_of (unpacked t.shape)) (sym same_table) is.within;
-      more = omega (arith, is.more, stays.current, rely.tables.grow.attached);
+      more = omega (arith, is.more, stays.current, keeps.grow.attached);
       each = λ b j l at.
           let was : (G.table G.current).place b ≡ Some j = ap (λ t. t.place b) (sym same_table) ∙ at in
           let there = place-table env mix M G whole G.current b j whole.tables.current_in
@@ -1170,7 +1177,7 @@ module _ (env : Env) (mix : ℕ → ℕ → ℕ → ℕ) where
     }
 
     bucket-stays : (place word : ℕ) → HasLock c G place word → bucket_at G' place ≡ bucket_at G place
-    bucket-stays place word lock = rely.locks (word_index env mix place) lock.holder
+    bucket-stays place word lock = keeps.locks (word_index env mix place) lock.holder
 
     IsEntry-stay : (root count : ℕ) (at : KnownEntry) → IsEntry c G root count at → IsEntry c G' root count at
     IsEntry-stay root count at is =
@@ -1198,9 +1205,9 @@ module _ (env : Env) (mix : ℕ → ℕ → ℕ → ℕ) where
       lock = lock-stays place word is.lock;
       table = is.table;
       later = omega (arith, is.later, stays.current);
-      attached = omega (arith, is.attached, rely.tables.grow.attached);
+      attached = omega (arith, is.attached, keeps.grow.attached);
       here = ap (λ k. home env mix G' k is.table) key
-          ∙ home-stays env mix G G' rely.tables.grow (key_of M entry) is.table is.attached ∙ is.here;
+          ∙ home-stays env mix G G' keeps.grow (key_of M entry) is.table is.attached ∙ is.here;
     }
 
     IsBringing-stay : (root count : ℕ) (at : KnownEntry) (place word : ℕ)
@@ -1212,7 +1219,7 @@ module _ (env : Env) (mix : ℕ → ℕ → ℕ → ℕ) where
         let used = (members_used M G whole).member j at.entry there in
         record {
           tail = IsTail-stay root count at is.tail;
-          target = IsTarget-stay at.entry place word (rely.keys at.entry used.0 used.1) is.target;
+          target = IsTarget-stay at.entry place word (keeps.keys at.entry used.0 used.1) is.target;
         }
 
     IsOutOf-stay : (root count : ℕ) (at : KnownEntry) → IsOutOf c G root count at → IsOutOf c G' root count at
@@ -1231,7 +1238,7 @@ module _ (env : Env) (mix : ℕ → ℕ → ℕ → ℕ) where
     out-key root count at is =
         let out = whole.moving.out (word_index env mix at.place) at.entry is.out in
         let seat = out-seated env mix M G (word_index env mix at.place) at.entry out in
-        rely.keys at.entry out.among (seat-used (G.node at.entry) seat.0 seat.1)
+        keeps.keys at.entry out.among (seat-used (G.node at.entry) seat.0 seat.1)
 
     IsTakenOut-stay : (root count : ℕ) (at : KnownEntry) (place word : ℕ)
         → IsTakenOut c M G root count at place word → IsTakenOut c M' G' root count at place word
@@ -1250,41 +1257,41 @@ module _ (env : Env) (mix : ℕ → ℕ → ℕ → ℕ) where
       out = IsOutOf-stay root count at is.out;
       bucket = is.bucket;
       first = stays.entries (word_index env mix at.place) at.entry is.out.out ∙ is.first;
-      later = omega (arith, is.later, stays.current, table_at-grows env mix G G' rely.tables.grow is.bucket);
+      later = omega (arith, is.later, stays.current, table_at-grows env mix G G' keeps.grow is.bucket);
     }
 
   -- whatever it is
-  module _ (c : ℕ) (M M' : Memory) (G G' : Ghost) (whole : Whole env mix M G) (rely : Rely c M G M' G') where
+  module _ (c : ℕ) (M M' : Memory) (G G' : Ghost) (whole : Whole env mix M G) (keeps : KeepsWork c M G M' G') where
     pub WorkMeans-stay : (known : KnownWork) → WorkMeans c M G known → WorkMeans c M' G' known
     WorkMeans-stay NoWork means = tt
-    WorkMeans-stay Works means = record { works = (rely.work means.works).worker; more = tt }
+    WorkMeans-stay Works means = record { works = (keeps.work means.works).worker; more = tt }
     WorkMeans-stay (Rooted root) means = record {
-      works = (rely.work means.works).worker;
-      more = IsRoot-stay c M M' G G' whole rely means.works root means.more;
+      works = (keeps.work means.works).worker;
+      more = IsRoot-stay c M M' G G' whole keeps means.works root means.more;
     }
     WorkMeans-stay (Empties root count) means = record {
-      works = (rely.work means.works).worker;
-      more = IsEmptying-stay c M M' G G' whole rely means.works root count means.more;
+      works = (keeps.work means.works).worker;
+      more = IsEmptying-stay c M M' G G' whole keeps means.works root count means.more;
     }
     WorkMeans-stay (AtEntry root count at) means = record {
-      works = (rely.work means.works).worker;
-      more = IsEntry-stay c M M' G G' whole rely means.works root count at means.more;
+      works = (keeps.work means.works).worker;
+      more = IsEntry-stay c M M' G G' whole keeps means.works root count at means.more;
     }
     WorkMeans-stay (AtTail root count at) means = record {
-      works = (rely.work means.works).worker;
-      more = IsTail-stay c M M' G G' whole rely means.works root count at means.more;
+      works = (keeps.work means.works).worker;
+      more = IsTail-stay c M M' G G' whole keeps means.works root count at means.more;
     }
     WorkMeans-stay (Brings root count at place word) means = record {
-      works = (rely.work means.works).worker;
-      more = IsBringing-stay c M M' G G' whole rely means.works root count at place word means.more;
+      works = (keeps.work means.works).worker;
+      more = IsBringing-stay c M M' G G' whole keeps means.works root count at place word means.more;
     }
     WorkMeans-stay (TakesOut root count at place word) means = record {
-      works = (rely.work means.works).worker;
-      more = IsTakenOut-stay c M M' G G' whole rely means.works root count at place word means.more;
+      works = (keeps.work means.works).worker;
+      more = IsTakenOut-stay c M M' G G' whole keeps means.works root count at place word means.more;
     }
     WorkMeans-stay (HasBrought root count at) means = record {
-      works = (rely.work means.works).worker;
-      more = IsBrought-stay c M M' G G' whole rely means.works root count at means.more;
+      works = (keeps.work means.works).worker;
+      more = IsBrought-stay c M M' G G' whole keeps means.works root count at means.more;
     }
 
   -- what is known outlives a step of anybody else, and so does that there is nothing more
@@ -1301,7 +1308,9 @@ module _ (env : Env) (mix : ℕ → ℕ → ℕ → ℕ) where
                 ChainLink,
           )) means.bucket;
       making = MakingMeans-stay c M M' G G' rely.holdings known.making means.making;
-      work = WorkMeans-stay c M M' G G' whole rely known.work means.work;
+      work = WorkMeans-stay c M M' G G' whole
+          (record { grow = rely.tables.grow; locks = rely.locks; keys = rely.keys; work = rely.work }) known.work
+          means.work;
     }
 
     pub Only-rely : (has lock second : Option ℕ) (raised : Bool) (slot : Option ℕ) (pages : List ℕ)
