@@ -18,3 +18,5 @@ pub mod Rebounds
 pub mod Relinks
 -- a node is put in front of the list of a port
 pub mod ListFronts
+-- a caller's slots and pages: they are taken, written and given back
+pub mod Holdings

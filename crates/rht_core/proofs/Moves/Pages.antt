@@ -42,6 +42,17 @@ module _ (env : Env) (mix : ℕ → ℕ → ℕ → ℕ) where
 
   -- ---- the owner of pages that no table has, before and after
 
+  -- tables keep theirs
+  pub pages_kept : (index bits : ℕ) (before after : PageOwner) (G : Ghost) → ArePagesOf env mix G index bits before
+      → NoTable before → TablesKept env mix G G.table G.attached G.slot (put_in (has_bit index bits) after G.page)
+  pages_kept index bits before after G was none = record {
+    tables = λ τ l. refl;
+    more = omega arith;
+    slots = λ s has. refl;
+    pages = λ p τ. put_in-all (λ q o. G.page q ≡ PageOf τ → o ≡ PageOf τ) (has_bit index bits) after G.page
+        (λ q there is. absurd (none τ (sym (was.owned q there) ∙ is))) (λ q there is. is) p;
+  }
+
   module _ (index bits v : ℕ) (before after : PageOwner) (M M' : Memory) (G : Ghost) (whole : Whole env mix M G)
       (was : ArePagesOf env mix G index bits before) (none_before : NoTable before) (none_after : NoTable after)
       (write : IsWrite env.geometry M M' (PageMap index) v)
@@ -53,14 +64,8 @@ module _ (env : Env) (mix : ℕ → ℕ → ℕ → ℕ) where
     abbrev G' : Ghost
     G' = with_pages G index bits after
 
-    pages_kept : TablesKept env mix G G.table G.attached G.slot page
-    pages_kept = record {
-      tables = λ τ l. refl;
-      more = omega arith;
-      slots = λ s has. refl;
-      pages = λ p τ. put_in-all (λ q o. G.page q ≡ PageOf τ → o ≡ PageOf τ) (has_bit index bits) after G.page
-          (λ q there is. absurd (none_before τ (sym (was.owned q there) ∙ is))) (λ q there is. is) p;
-    }
+    kept : TablesKept env mix G G.table G.attached G.slot page
+    kept = pages_kept index bits before after G was none_before
 
     bits_right : (p : ℕ) → p < env.geometry.pages
         → (bit_at (M' (PageMap (p / 64))) (p % 64) ≡ 1) ↔ (page p ≡ PageFree)
@@ -107,16 +112,16 @@ module _ (env : Env) (mix : ℕ → ℕ → ℕ → ℕ) where
     }
 
     repaged : Whole env mix M' G'
-    repaged = Whole-retabled env mix M M' G G.table G.attached G.slot page whole pages_kept (PageMap index) v write
+    repaged = Whole-retabled env mix M M' G G.table G.attached G.slot page whole kept (PageMap index) v write
         (map_word-apart index)
-        (TablesRight-kept env mix M M' G G.slot page whole pages_kept (PageMap index) v write (map_word-apart index)
+        (TablesRight-kept env mix M M' G G.slot page whole kept (PageMap index) v write (map_word-apart index)
         (record { current = λ e. cc; slots = λ s w has e. cc }) (λ s has. refl))
         slots_right pages_right
 
     repaged_others : (d : ℕ) → ((c : ℕ) → c ≢ d → before ≢ PageHeld c) → ((c : ℕ) → c ≢ d → after ≢ PageHeld c)
         → Others env mix d M G M' G'
     repaged_others d not_before not_after c ne =
-        Rely-retabled env mix M M' G G.table G.attached G.slot page whole pages_kept (PageMap index) v write
+        Rely-retabled env mix M M' G G.table G.attached G.slot page whole kept (PageMap index) v write
         (map_word-apart index) c (record {
           slots = λ s is. is;
           slot_words = λ s w has is. write.others (Slot s w) (has.within, is) (λ e. cc);

@@ -43,7 +43,7 @@ module _ (env : Env) (mix : ℕ → ℕ → ℕ → ℕ) where
     no_table : (t : ℕ) → has_table (G.slot t) ≡ true → t ≢ s
     no_table t has e = let z : true ≡ false = sym has ∙ ap (λ i. has_table (G.slot i)) e ∙ was in cc
 
-    slots_kept : TablesKept env mix G G.table G.attached slot G.page
+    pub slots_kept : TablesKept env mix G G.table G.attached slot G.page
     slots_kept = record {
       tables = λ τ l. refl;
       more = omega arith;

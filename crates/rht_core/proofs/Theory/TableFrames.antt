@@ -2,16 +2,17 @@
 -- Buckets, nodes, what is bound, and who does the work are what they were.
 use Rattle.std.proofs.Common.{◌≡◌, ◌≢◌, ℕ, ◌+◌, ◌*◌, ◌/◌, ◌<◌, ◌≤◌, List, Option, Some, None, Bool, true, false, refl, sym, ◌∙◌, ap, subst, inl, inr, arith}
 use Rattle.rht_words.specs.declared.env.Env.{Env}
+use Rattle.rht_words.specs.Held as held
 use Rattle.rht_words.specs.Links.{head_of}
 use Rattle.rht_words.specs.Shapes.{unpacked, size_of}
 use Rattle.rht_words.specs.Places.{Address, CurrentTable, PortCount, Slot, SlotWord, IsSlotWord, ShapeWord, SeedWord, FutureWord, NodeMap, PageMap, Node, NodeWord, ChainLink, KeyWord, OwnerWord, ListLink, PageWord}
 use Rattle.rht_words.specs.Members.{In}
 use Rattle.rht_words.proofs.Memory.{Memory, IsWrite}
 use Rattle.rht_words.proofs.ChainLemmas.{IsSegment-members}
-use Rattle.rht_core.proofs.Theory.Ghosts.{Table, Bucket, PageOwner, PageFree, PageHeld, PageOf, SlotOwner, Ghost, is_used, seat-used, none-some, table_of_page, table_of_slot, table_at, has_table, index_at}
+use Rattle.rht_core.proofs.Theory.Ghosts.{Table, Bucket, PageOwner, PageFree, PageHeld, PageOf, SlotOwner, SlotHeld, Ghost, is_used, seat-used, none-some, table_of_page, table_of_slot, table_at, has_table, index_at}
 use Rattle.rht_core.proofs.Theory.Wholes.{chain_of, key_of, list_of, place_at, home, future_in, IsNoBucket, PlacedRight, TableRight, TablesRight, SlotsRight, PagesRight, MovingRight, OutRight, IsHomeOf, IsFirstAt, IsBehindIn, IsBoundTo, IsLeavingAt, Owned, Whole, seated_at}
 use Rattle.rht_core.proofs.Theory.Passed.{held-bucket, home-stays, TablesGrow, PassesStay, Passed-stays}
-use Rattle.rht_core.proofs.Theory.Knowledge.{TablesStay, HoldingsStay, WorkStays, members_used, Rely}
+use Rattle.rht_core.proofs.Theory.Knowledge.{Known, KnownMaking, MakingMeans, TablesStay, HoldingsStay, WorkStays, members_used, Rely, NodeMeans-stay, TableMeans-stay, BucketMeans-own, WorkMeans-stay, Knowing}
 use Rattle.rht_core.proofs.Theory.Frames.{IsApart, no_bucket, passes_same, used_stay, chains_stay, BucketRight-frame, locks_stay, arena_stays}
 
 -- the address is no word of a node or a bucket, nor of the map of nodes, nor the count
@@ -261,6 +262,41 @@ module _ (env : Env) (mix : ℕ → ℕ → ℕ → ℕ) where
       no_work = λ is. is;
       no_node = λ n h. h;
       no_lock = λ j h. h;
+    }
+
+    -- what the caller itself knows after a step of its own, beside its slot and pages and what it knows of these
+    pub Knowing-retabled : {A : Type 0} → (c : ℕ) (h : held.Held A) (known : Known) (has : Option ℕ)
+        (pages : List ℕ) (making : KnownMaking) → Knowing env mix c h known M G
+        → ((s : ℕ) → slot s ≡ SlotHeld c → has ≡ Some s) → ((p : ℕ) → page p ≡ PageHeld c → In p pages)
+        → MakingMeans env mix c M' G' making
+        → Knowing env mix c (record h { slot = has; pages = pages }) (record known { making = making }) M' G'
+    Knowing-retabled c h known has pages making knows slots_in pages_in means = record {
+      only = record {
+        nodes = knows.only.nodes;
+        locks = knows.only.locks;
+        raising = knows.only.raising;
+        slots = slots_in;
+        pages_in = pages_in;
+        works = knows.only.works;
+      };
+      means = record {
+        node = NodeMeans-stay env mix c M M' G G' (λ n has. has.mine) (λ n has w. node_word n w has.among)
+            known.node knows.means.node;
+        table = TableMeans-stay env mix c M M' G G' kept_stay known.table knows.means.table;
+        bucket = BucketMeans-own env mix c M M' G G' (members_used env mix M G whole) (λ j h. refl) (λ j n h i. refl)
+            (chains_stay env mix c M M' G a v whole write (λ n used. apart.nodes n ChainLink))
+            (λ n l used. node_word n KeyWord l) (λ n l used. node_word n OwnerWord l) (λ n. refl) kept_stay
+            (λ port τ j is. is.unbound) known.bucket
+            (λ n has. (record { mine = has.mine; among = has.among }, node_word n ChainLink has.among))
+            knows.means.bucket;
+        making = means;
+        work = WorkMeans-stay env mix c M M' G G' whole (record {
+          grow = kept_grow;
+          locks = λ j h. refl;
+          keys = λ n l used. node_word n KeyWord l;
+          work = work_kept c;
+        }) known.work knows.means.work;
+      };
     }
 
     -- ---- tables
