@@ -20,3 +20,11 @@ pub mod Relinks
 pub mod ListFronts
 -- what the caller that does the work learns by its loads
 pub mod WorkLoads
+-- a caller's slots and pages: they are taken, written and given back
+pub mod Holdings
+-- the pages that the taking and giving back of a run have
+pub mod RunPages
+-- a run of pages is taken and given back
+pub mod Runs
+-- a table is made and given back
+pub mod Makes

@@ -1,6 +1,6 @@
--- In every run the current table is the one that was opened. By the invariant one table is attached, so it is the current one; an
--- operation of a caller leaves what others can count on, and with it the tables that were attached; and a caller that enrols, or
--- begins a call, changes none of these words.
+-- In every run the current table is the one that was opened. So far no operation of a caller makes another one the current table; it
+-- leaves what others can count on, and with it the tables that were attached; and a caller that enrols, or begins a call, changes none
+-- of these words.
 use Rattle.std.proofs.Common.{◌≡◌, ◌≢◌, ℕ, suc, ◌<◌, List, [], refl, sym, ◌∙◌, ap, arith}
 use Rattle.std.specs.Prelude.{Option, Some, None}
 use Rattle.rht_words.specs.declared.op.Op.{Op}
@@ -17,7 +17,7 @@ use Rattle.rht_core.specs.Runs.{Core, World, planned_in, enrolling, core_step, r
 use Rattle.rht_core.specs.FirstTable.{FirstTable}
 use Rattle.rht_core.proofs.Theory.Ghosts.{Table, Ghost}
 use Rattle.rht_core.proofs.Theory.Reliance.{TablesStay}
-use Rattle.rht_core.proofs.Theory.Steps.{mem}
+use Rattle.rht_core.proofs.Theory.Steps.{Move, Quiet, TakesNode, GivesNode, TakesLock, DropsLock, Raises, Links, Lowers, Rebinds, LinksBehind, Arms, TakesSlot, GivesSlot, TakesPages, GivesPages, Attaches, ghost_after, mem}
 use Rattle.rht_core.proofs.Theory.Wholes.{Whole}
 use Rattle.rht_core.proofs.Events.Invariants.{Inv, kept, step_of}
 use Rattle.rht_core.proofs.Events.InvariantRuns.{HasInv, has_inv}
@@ -30,27 +30,44 @@ module _ (env : Env) (mix : ℕ → ℕ → ℕ → ℕ) where
     current : M CurrentTable ≡ 0
     shape : M (Slot 0 ShapeWord) ≡ opening_word env (Slot 0 ShapeWord)
 
-  -- the one table that is attached is that of slot 0
-  slot_first : (M : Memory) (G : Ghost) → Whole env mix M G → IsFirst M → (G.table 0).slot ≡ 0
-  slot_first M G whole first =
-      let current : G.current ≡ 0 = omega (arith, whole.tables.current_in, whole.one) in
-      ap (λ τ. (G.table τ).slot) (sym current) ∙ sym whole.tables.current_is ∙ first.current
+  -- the current table is that of slot 0
+  slot_first : (M : Memory) (G : Ghost) → Whole env mix M G → IsFirst M → (G.table G.current).slot ≡ 0
+  slot_first M G whole first = sym whole.tables.current_is ∙ first.current
 
-  -- it stays so where the tables that were attached do
+  -- no move makes another table the current one
+  current_same : (c : ℕ) (move : Move) (G : Ghost) → (ghost_after env mix c move G).current ≡ G.current
+  current_same c Quiet G = refl
+  current_same c (TakesNode n) G = refl
+  current_same c (GivesNode n) G = refl
+  current_same c (TakesLock j) G = refl
+  current_same c (DropsLock j) G = refl
+  current_same c Raises G = refl
+  current_same c (Links n port j) G = refl
+  current_same c Lowers G = refl
+  current_same c (Rebinds change) G = refl
+  current_same c (LinksBehind n) G = refl
+  current_same c (Arms j) G = refl
+  current_same c (TakesSlot s) G = refl
+  current_same c (GivesSlot s) G = refl
+  current_same c (TakesPages i mask) G = refl
+  current_same c (GivesPages i mask) G = refl
+  current_same c (Attaches slot shape seed serial) G = refl
+
+  -- it stays so where the tables that were attached do, and the current one
   first-stays : (M M' : Memory) (G G' : Ghost) → Whole env mix M G → Whole env mix M' G' → TablesStay env mix G G'
-      → IsFirst M → IsFirst M'
-  first-stays M M' G G' whole whole' stay first =
-      let low : 0 < G.attached = omega (arith, whole.one) in
-      let low' : 0 < G'.attached = omega (arith, whole'.one) in
-      let same : G'.table 0 ≡ G.table 0 = stay.grow.tables 0 low in
+      → G'.current ≡ G.current → IsFirst M → IsFirst M'
+  first-stays M M' G G' whole whole' stay keeps first =
+      let low = whole.tables.current_in in
+      let low' : G.current < G'.attached = omega (arith, low, stay.grow.attached) in
+      let same : G'.table G.current ≡ G.table G.current = stay.grow.tables G.current low in
       let slot = slot_first M G whole first in
-      let slot' : (G'.table 0).slot ≡ 0 = ap (λ (t : Table). t.slot) same ∙ slot in
-      let current : G'.current ≡ 0 = omega (arith, whole'.tables.current_in, whole'.one) in
+      let slot' : (G'.table G.current).slot ≡ 0 = ap (λ (t : Table). t.slot) same ∙ slot in
       record {
-        current = whole'.tables.current_is ∙ ap (λ τ. (G'.table τ).slot) current ∙ slot';
+        current = whole'.tables.current_is ∙ ap (λ τ. (G'.table τ).slot) keeps ∙ slot';
         shape =
-            ap (λ s. M' (Slot s ShapeWord)) (sym slot') ∙ (whole'.tables.each 0 low').shape_is ∙ ap (λ (t : Table). t.shape) same
-            ∙ sym (whole.tables.each 0 low).shape_is ∙ ap (λ s. M (Slot s ShapeWord)) slot ∙ first.shape;
+            ap (λ s. M' (Slot s ShapeWord)) (sym slot') ∙ (whole'.tables.each G.current low').shape_is
+            ∙ ap (λ (t : Table). t.shape) same ∙ sym (whole.tables.each G.current low).shape_is
+            ∙ ap (λ s. M (Slot s ShapeWord)) slot ∙ first.shape;
       }
 
   module _ (L : Type 0) where
@@ -61,7 +78,8 @@ module _ (env : Env) (mix : ℕ → ℕ → ℕ → ℕ) where
     first-step core G c (Some op) sound inv is first =
         let of = step_of env mix L core G c op sound inv is in
         let other : suc c ≢ c = λ e. absurd (omega arith) in
-        rw is (first-stays (mem env mix core.words) _ G _ inv.whole of.step.made.whole (of.step.made.others (suc c) other).tables first)
+        rw is (first-stays (mem env mix core.words) _ G _ inv.whole of.step.made.whole (of.step.made.others (suc c) other).tables
+        (current_same c of.step.move G) first)
 
     -- each event leaves it so
     first-event : (core : Core L) (event : Event) → HasInv env mix L core → IsFirst (mem env mix core.words)
