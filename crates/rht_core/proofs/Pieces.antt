@@ -20,3 +20,5 @@ pub mod Relinks
 pub mod ListFronts
 -- what the caller that does the work learns by its loads
 pub mod WorkLoads
+-- the operations of the caller that does the work
+pub mod WorkSteps
