@@ -118,7 +118,7 @@ none_where_taken_in_turn g olds = (
 )
 
 -- what is so of one behind the first is so of one of all
-Any-behind : {X : Type 0} (P : X → Type 0) (x : X) (xs : List X) → Any P xs → Any P (x ∷ xs)
+pub Any-behind : {X : Type 0} (P : X → Type 0) (x : X) (xs : List X) → Any P xs → Any P (x ∷ xs)
 Any-behind P x xs (k, y, within, is, holds) = (suc k, y, omega (arith, within), is, holds)
 
 -- nodes that are seen in turn are each seen

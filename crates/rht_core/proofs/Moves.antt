@@ -28,3 +28,9 @@ pub mod CutOffs
 pub mod Working
 -- what the work has after its moves
 pub mod WorkHoldings
+-- slots are taken and given back, and their words are written
+pub mod Slots
+-- pages are taken and given back
+pub mod Pages
+-- a table is attached behind the last one
+pub mod Attaching

@@ -22,3 +22,11 @@ pub mod ListFronts
 pub mod WorkLoads
 -- the operations of the caller that does the work
 pub mod WorkSteps
+-- a caller's slots and pages: they are taken, written and given back
+pub mod Holdings
+-- the pages that the taking and giving back of a run have
+pub mod RunPages
+-- a run of pages is taken and given back
+pub mod Runs
+-- a table is made and given back
+pub mod Makes

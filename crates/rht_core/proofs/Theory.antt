@@ -22,6 +22,8 @@ pub mod Departures
 pub mod Frames
 -- and of the parts of the whole
 pub mod WholeFrames
+-- what a step leaves that changes tables, slots and pages alone
+pub mod TableFrames
 -- what an operation says about bindings, and what is known of a call's answer
 pub mod Answering
 -- one operation of a caller, and what it knows afterwards

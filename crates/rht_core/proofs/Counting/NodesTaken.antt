@@ -15,7 +15,7 @@ use Rattle.rht_words.specs.declared.machine.Next.{Next}
 use Rattle.rht_words.specs.declared.machine.Next.TheVariants.{Go, Done}
 use Rattle.rht_words.specs.Maps.{bit_of}
 use Rattle.rht_words.specs.Operations.{op_place, word_after}
-use Rattle.rht_words.specs.Places.{nodes_at}
+use Rattle.rht_words.specs.Places.{Slot, SlotWord, ShapeWord, SeedWord, FutureWord, SerialWord, StateWord, LoadedSection, PageMap, nodes_at, slot_offset, place_of}
 use Rattle.rht_words.proofs.BitChanges.{bit_at-set, bit_at-set_other}
 use Rattle.rht_words.proofs.EachElement.{AllByRecursion-push}
 use Rattle.rht_words.proofs.PlacesApart.{parts_in_order}
@@ -33,7 +33,7 @@ use Rattle.rht_core.specs.Traces.{Did, Traced, traced_of}
 use Rattle.rht_core.specs.Laws.{IsNoTake, IsTakeOf, TakesNone, TakesOne, IsTakenBy, IsTakenIn, TakenAlone}
 use Rattle.rht_core.proofs.Theory.Wholes.{place_at}
 use Rattle.rht_core.proofs.Theory.Answering.{TellsNode, TellsNode-same, known_so, unknown_before}
-use Rattle.rht_core.proofs.Theory.Steps.{Holding, Move, Quiet, TakesNode, GivesNode, TakesLock, DropsLock, Raises, Links, Lowers, Rebinds, LinksBehind, Does, Arms, DoesQuiet}
+use Rattle.rht_core.proofs.Theory.Steps.{Holding, Move, Quiet, TakesNode, GivesNode, TakesLock, DropsLock, Raises, Links, Lowers, Rebinds, LinksBehind, Arms, TakesSlot, GivesSlot, TakesPages, GivesPages, Attaches, Does, IsTableWord, IsAside, DoesQuiet}
 use Rattle.rht_core.proofs.Events.JobsOfCallers.{same_call, first_unknown, first_without}
 use Rattle.rht_core.proofs.Tracing.TracedJobs.{Performs, LeadsOn, IsKeeping, jobs_keep}
 
@@ -73,6 +73,26 @@ module _ (g : Geometry) (did : Did) where
       let kept = keeps (map_bit node) (omega arith) clears.free in
       absurd (omega (arith, kept, clears.taken))
 
+-- and so does one on a word of the map of pages, and one on a word of a slot
+on_page_map : (g : Geometry) (did : Did) (index : ℕ) → op_place did.op ≡ place_of g (PageMap index)
+    → IsNoTake g did
+on_page_map g did index on node clears =
+    let parts = parts_in_order g in
+    let there : op_place did.op ≡ 280 + node / 64 = clears.place in
+    absurd (omega (arith, on, there, clears.within, parts.page_map))
+
+offset-less : (word : SlotWord) → IsTableWord word → slot_offset word < 4
+offset-less ShapeWord of_table = omega arith
+offset-less SeedWord of_table = omega arith
+offset-less FutureWord of_table = omega arith
+offset-less SerialWord of_table = omega arith
+offset-less StateWord of_table = absurd of_table
+offset-less (LoadedSection caller) of_table = absurd of_table
+
+on_slot : (g : Geometry) (did : Did) (slot : ℕ) (word : SlotWord) → slot < 8 → slot_offset word < 8
+    → op_place did.op ≡ place_of g (Slot slot word) → IsNoTake g did
+on_slot g did slot word within few on = off_map g did (inl (omega (arith, on, within, few)))
+
 -- and so does one on the word of a bucket
 on_bucket : (env : Env) (mix : ℕ → ℕ → ℕ → ℕ) (did : Did) (j : ℕ) → op_place did.op ≡ place_at env mix j
     → IsNoTake env.geometry did
@@ -108,10 +128,18 @@ took_none env mix did h h' does =
     record {
       none = elim does.leaves [
         | inl leaves ↦ keeps_bits g did (λ bit l set. leaves bit l ∙ set)
-        | inr own ↦ off_map g did (inr (omega (arith, own.place)))
+        | inr beside ↦ aside_none beside
       ];
       left = inl (ap (λ (h : Holding). h.node) does.holds);
     }
+  where
+    aside_none : IsAside env.geometry did.op h → IsNoTake env.geometry did
+    aside_none (inl own) =
+        let parts = parts_in_order env.geometry in off_map env.geometry did (inr (omega (arith, own.place)))
+    aside_none (inr (inl own)) = on_slot env.geometry did own.slot own.word own.within
+        (let few = offset-less own.word own.of_table in omega (arith, few)) own.place
+    aside_none (inr (inr serial)) = off_map env.geometry did
+        (inl (let on : op_place did.op ≡ 3 = ap op_place serial in omega (arith, on)))
 
 -- By the move.
 took : (env : Env) (mix : ℕ → ℕ → ℕ → ℕ) (move : Move) (did : Did) (h h' : Holding)
@@ -163,6 +191,26 @@ took env mix (LinksBehind n) did h h' does =
       left = inl
           (ap (λ (h : Holding). h.node) does.holds);
     }
+took env mix (TakesSlot s) did h h' does = inl record {
+  none = on_slot env.geometry did s StateWord does.within (omega arith) (ap op_place does.taking);
+  left = inl (ap (λ (h : Holding). h.node) does.holds);
+}
+took env mix (GivesSlot s) did h h' does = inl record {
+  none = on_slot env.geometry did s StateWord does.within (omega arith) (ap op_place does.giving);
+  left = inl (ap (λ (h : Holding). h.node) does.holds);
+}
+took env mix (TakesPages index bits) did h h' does = inl record {
+  none = on_page_map env.geometry did index does.clears.on;
+  left = inl (ap (λ (h : Holding). h.node) does.holds);
+}
+took env mix (GivesPages index bits) did h h' does = inl record {
+  none = on_page_map env.geometry did index does.sets.on;
+  left = inl (ap (λ (h : Holding). h.node) does.holds);
+}
+took env mix (Attaches slot shape seed serial) did h h' does = inl record {
+  none = on_slot env.geometry did does.last FutureWord does.within (omega arith) (ap op_place does.attaching);
+  left = inl (ap (λ (h : Holding). h.node) does.holds);
+}
 
 -- ---- what a call has taken
 

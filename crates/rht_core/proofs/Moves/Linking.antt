@@ -320,7 +320,6 @@ module _ (env : Env) (mix : ℕ → ℕ → ℕ → ℕ) where
     pub link_head : Made env mix d M G M' G'
     link_head = record {
       whole = record {
-        one = same.attached ∙ whole.one;
         tables =
             TablesRight-write env mix M M' G G' (PageWord here) (link_of n) write
             (record { current = λ e. cc; slots = λ s w h e. cc }) same whole.tables;

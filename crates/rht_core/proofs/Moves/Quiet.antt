@@ -209,7 +209,6 @@ module _ (env : Env) (mix : ℕ → ℕ → ℕ → ℕ) where
       let unwritten = unwritten_words env mix M G in
       record {
         whole = record {
-          one = whole.one;
           tables = TablesRight-same env mix M G G' same whole.tables;
           slots = record { states = whole.slots.states; worker_is = whole.slots.worker_is };
           pages = record {

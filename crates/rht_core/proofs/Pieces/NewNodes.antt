@@ -193,13 +193,7 @@ module _ (env : Env) (mix : ℕ → ℕ → ℕ → ℕ) (c : ℕ) (h : Holding)
         (fill env mix c known.node w value M M' G whole has write)
         (record {
           holds = refl;
-          leaves = inr (record {
-            node = known.node;
-            word = w;
-            has = refl;
-            place =
-                refl;
-          });
+          leaves = inr (inl (record { node = known.node; word = w; has = refl; place = refl }));
         })
         (record {
           only = knows.only;

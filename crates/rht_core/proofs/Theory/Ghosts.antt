@@ -2,7 +2,12 @@
 -- page and slot, which table each slot has, which nodes each bucket has, and which nodes each port is bound to.
 -- It stands in no definition of a run. The invariant says that there is such a ghost after each event.
 use Rattle.std.proofs.Common.{◌≡◌, ◌≢◌, ◌⊎◌, ℕ, ◌/◌, List, [], ◌∷◌, refl, sym, ap, ◌∙◌, inl, inr, Bool, true, false, cond, Option, Some, None, ◌==◌}
+use Rattle.std.specs.Prelude.{◌+◌, ◌*◌, ◌%◌, ◌&&◌}
+use Rattle.std.specs.Int.{bit_at}
 use Rattle.std.proofs.lemmas.Bool.{cases_eq, eqb-true, eq-eqb}
+use Rattle.rht_words.specs.Shapes.{unpacked}
+use Rattle.rht_arena.specs.Runs.{is_in_run}
+use Rattle.rht_nest.specs.Tables.{table_pages}
 
 -- ---- functions changed at one place
 
@@ -30,6 +35,30 @@ put-all P f j v here other i =
       | inr ne ↦
           rw (put-other f j v i ne) (other i ne)
     ]
+
+-- a function changed at all places of which this is so
+unfoldable pub put_in : {A : Type 0} → (ℕ → Bool) → A → (ℕ → A) → ℕ → A
+put_in there v f i = cond (there i) v (f i)
+
+pub put_in-there : {A : Type 0} → (there : ℕ → Bool) (v : A) (f : ℕ → A) (i : ℕ) → there i ≡ true
+    → put_in there v f i ≡ v
+unfolding put_in
+put_in-there there v f i is = rw is refl
+
+pub put_in-other : {A : Type 0} → (there : ℕ → Bool) (v : A) (f : ℕ → A) (i : ℕ) → there i ≡ false
+    → put_in there v f i ≡ f i
+unfolding put_in
+put_in-other there v f i is = rw is refl
+
+pub put_in-all : {A : Type 0} → (P : ℕ → A → Type 0) (there : ℕ → Bool) (v : A) (f : ℕ → A)
+    → ((i : ℕ) → there i ≡ true → P i v) → ((i : ℕ) → there i ≡ false → P i (f i)) → (i : ℕ)
+    → P i (put_in there v f i)
+unfolding put_in
+put_in-all P there v f here other i = go (there i) refl
+  where
+    go : (t : Bool) → there i ≡ t → P i (cond t v (f i))
+    go true is = here i is
+    go false is = other i is
 
 -- ---- ghosts
 
@@ -279,3 +308,38 @@ with_owner G n owner = record G { node = put G.node n owner }
 -- a caller that has raised the count, or has no longer
 abbrev pub with_raised : Ghost → ℕ → Bool → Ghost
 with_raised G d now = record G { raised = put G.raised d now }
+
+-- a slot with another owner
+abbrev pub with_slot : Ghost → ℕ → SlotOwner → Ghost
+with_slot G slot owner = record G { slot = put G.slot slot owner }
+
+-- the page's bit is one of these bits of this word of the map
+abbrev pub has_bit : ℕ → ℕ → ℕ → Bool
+has_bit index bits page = (page / 64 == index) && (bit_at bits (page % 64) == 1)
+
+-- the pages of these bits of a word of the map with another owner
+abbrev pub with_pages : Ghost → ℕ → ℕ → PageOwner → Ghost
+with_pages G index bits owner = record G { page = put_in (has_bit index bits) owner G.page }
+
+-- a flat table in a slot: its buckets stand in a row from its first page on
+abbrev pub flat_table : ℕ → ℕ → ℕ → ℕ → Table
+flat_table slot shape seed serial = record {
+  slot = slot;
+  shape = shape;
+  seed = seed;
+  serial = serial;
+  place = λ b. Some (64 * (unpacked shape).page + b);
+}
+
+-- the page is one of those of a table with this shape
+abbrev pub is_page_for : ℕ → ℕ → Bool
+is_page_for shape page = is_in_run (unpacked shape).page (table_pages (unpacked shape)) page
+
+-- this table behind all others, with its slot and its pages
+abbrev pub with_table : Ghost → Table → Ghost
+with_table G table = record G {
+  table = put G.table G.attached table;
+  attached = G.attached + 1;
+  slot = put G.slot table.slot (Live G.attached);
+  page = put_in (is_page_for table.shape) (PageOf G.attached) G.page;
+}

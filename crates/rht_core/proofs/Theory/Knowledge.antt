@@ -231,10 +231,9 @@ module _ (env : Env) (mix : ℕ → ℕ → ℕ → ℕ) where
     pub mine : (p : ℕ) → In p pages → G.page p ≡ PageHeld c
 
   -- the slot's words are those of a flat table that nothing follows, and the caller has all the pages of its run
-  pub record IsMade (c : ℕ) (M : Memory) (G : Ghost) (slot shape seed : ℕ) : Type 0 where
+  pub record IsMade (c : ℕ) (M : Memory) (G : Ghost) (slot shape : ℕ) : Type 0 where
     pub has : HasSlot c G slot
     pub shape_is : M (Slot slot ShapeWord) ≡ shape
-    pub seed_is : M (Slot slot SeedWord) ≡ seed
     pub future_is : M (Slot slot FutureWord) ≡ 0
     pub flat : (unpacked shape).nest ≡ 0
     pub fits : (unpacked shape).page + pages_of env mix shape ≤ env.geometry.pages
@@ -244,7 +243,7 @@ module _ (env : Env) (mix : ℕ → ℕ → ℕ → ℕ) where
   abbrev pub MakingMeans : ℕ → Memory → Ghost → KnownMaking → Type 0
   MakingMeans c M G MakesNothing = Unit {0}
   MakingMeans c M G (HasTaken slot pages) = IsTaken c M G slot pages
-  MakingMeans c M G (HasMade slot shape seed) = IsMade c M G slot shape seed
+  MakingMeans c M G (HasMade slot shape) = IsMade c M G slot shape
 
   -- ---- the work
 

@@ -42,10 +42,9 @@ module _ (env : Env) (mix : ℕ → ℕ → ℕ → ℕ) where
           };
           mine = λ p i. stay.pages p (means.mine p i);
         }
-    MakingMeans-stay (HasMade slot shape seed) means = record {
+    MakingMeans-stay (HasMade slot shape) means = record {
       has = HasSlot-stay slot means.has;
       shape_is = stay.slot_words slot ShapeWord means.has tt ∙ means.shape_is;
-      seed_is = stay.slot_words slot SeedWord means.has tt ∙ means.seed_is;
       future_is = stay.slot_words slot FutureWord means.has tt ∙ means.future_is;
       flat = means.flat;
       fits = means.fits;

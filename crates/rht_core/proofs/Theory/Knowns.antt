@@ -76,12 +76,12 @@ pub record KnownSlot : Type 0 where
   pub future : Option ℕ
   pub serial : Option ℕ
 
--- Of a table that the caller makes: nothing; the slot that it has taken and its pages; or the slot, with the shape and the seed of a
--- table that can be attached.
+-- Of a table that the caller makes: nothing; the slot that it has taken and its pages; or the slot, with the shape of a table that can be
+-- attached.
 pub data KnownMaking : Type 0 where
   MakesNothing : KnownMaking
   HasTaken : KnownSlot → List ℕ → KnownMaking
-  HasMade : ℕ → ℕ → ℕ → KnownMaking
+  HasMade : ℕ → ℕ → KnownMaking
 
 -- Of the table to which the work brings entries: nothing; the slot of one that isn't before the current one; or that of one behind it,
 -- and its shape and seed, where they are known.

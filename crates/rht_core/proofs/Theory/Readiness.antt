@@ -2,11 +2,11 @@
 use Rattle.std.proofs.Common.{◌≡◌, ℕ, ◌+◌, ◌<◌, ◌≤◌, List, [], ◌∷◌, Some, None, Bool, true, false}
 use Rattle.rht_words.specs.declared.env.Env.{Env}
 use Rattle.rht_words.specs.Links.{link_of, head_of}
-use Rattle.rht_words.specs.Places.{Node, ListLink}
+use Rattle.rht_words.specs.Places.{Slot, SeedWord, Node, ListLink}
 use Rattle.rht_words.proofs.Memory.{Memory}
-use Rattle.rht_core.proofs.Theory.Ghosts.{put, Bucket, Owner, First, Ghost, table_at}
+use Rattle.rht_core.proofs.Theory.Ghosts.{put, Bucket, Owner, First, PageOwner, Ghost, table_at, has_bit}
 use Rattle.rht_core.proofs.Theory.Wholes.{chain_of, key_of, place_at, MovesNone}
-use Rattle.rht_core.proofs.Theory.Knowledge.{HasNode, ArmedFor}
+use Rattle.rht_core.proofs.Theory.Knowledge.{HasNode, ArmedFor, IsMade}
 
 -- the bucket with a new first node, unlocked, in which nobody is armed any more
 abbrev pub linked_bucket : Bucket → ℕ → Bucket
@@ -62,3 +62,13 @@ module _ (env : Env) (mix : ℕ → ℕ → ℕ → ℕ) where
     pub holder : (G.bucket j).holder ≡ Some d
     pub current : G.current ≤ table_at G j
     pub last : table_at G j + 1 ≡ G.attached
+
+  -- the pages of these bits of a word of the map are there, and all have this owner
+  pub record ArePagesOf (G : Ghost) (index bits : ℕ) (owner : PageOwner) : Type 0 where
+    pub among : (p : ℕ) → has_bit index bits p ≡ true → p < env.geometry.pages
+    pub owned : (p : ℕ) → has_bit index bits p ≡ true → G.page p ≡ owner
+
+  -- What is known when a table is attached: the caller has made it, with this seed.
+  pub record IsAttaching (d slot shape seed : ℕ) (M : Memory) (G : Ghost) : Type 0 where
+    pub made : IsMade env mix d M G slot shape
+    pub seed_is : M (Slot slot SeedWord) ≡ seed

@@ -1,16 +1,17 @@
 -- What one operation of a caller makes of the words, the ghost, what its call holds, and what it knows.
-use Rattle.std.proofs.Common.{◌≡◌, ◌≢◌, ◌⊎◌, ℕ, suc, ◌+◌, ◌%◌, ◌<◌, ◌≤◌, List, [], ◌∷◌, map, Option, Some, None, Bool, true, false, refl, sym, ◌∙◌, ap, inl, inr, arith}
+use Rattle.std.proofs.Common.{◌≡◌, ◌≢◌, ◌⊎◌, ◌↔◌, ℕ, suc, ◌+◌, ◌%◌, ◌<◌, ◌≤◌, List, [], ◌∷◌, map, Option, Some, None, Bool, true, false, refl, sym, ◌∙◌, ap, inl, inr, arith}
 use Rattle.std.specs.Int.{bit_at}
 use Rattle.std.proofs.lemmas.List.{set-get_or}
 use Rattle.rht_words.specs.declared.env.Env.{Env}
 use Rattle.rht_words.specs.declared.geometry.Geometry.{Geometry}
 use Rattle.rht_words.specs.declared.op.Op.{Op}
-use Rattle.rht_words.specs.declared.op.Op.TheVariants.{Add, Sub, Or}
+use Rattle.rht_words.specs.declared.op.Op.TheVariants.{Store, Exchange, Add, Sub, Or}
 use Rattle.rht_words.specs.Held as held
+use Rattle.rht_words.specs.Links.{future_of}
 use Rattle.rht_words.specs.Maps.{bit_of}
 use Rattle.rht_words.specs.Ports.{owner_of}
 use Rattle.rht_words.specs.Operations.{op_place, old_of, word_after, applied}
-use Rattle.rht_words.specs.Places.{PortCount, Node, NodeWord, ChainLink, OwnerWord, nodes_at, place_of, word_at}
+use Rattle.rht_words.specs.Places.{PortCount, NextSerial, Slot, SlotWord, ShapeWord, SeedWord, FutureWord, SerialWord, StateWord, LoadedSection, PageMap, Node, NodeWord, ChainLink, OwnerWord, nodes_at, place_of, word_at}
 use Rattle.rht_words.specs.Members.{In}
 use Rattle.rht_words.proofs.Members.{count_below-same}
 use Rattle.rht_words.proofs.Memory.{Memory}
@@ -18,16 +19,17 @@ use Rattle.rht_model.specs.declared.history.Call.{Call}
 use Rattle.rht_model.specs.Multimap.{Multimap, Agree}
 use Rattle.rht_model.specs.Answers.{Answer}
 use Rattle.rht_arena.specs.Laws.{map_place, map_bit, IsTaking}
-use Rattle.rht_core.proofs.Theory.Ghosts.{put, put-all, Owner, Free, Held, Ghost, is_taken_by, with_holder, with_armed, with_owner, with_raised}
+use Rattle.rht_core.proofs.Theory.Ghosts.{put, put-all, Owner, Free, Held, PageFree, PageHeld, SlotFree, SlotHeld, Ghost, is_taken_by, with_holder, with_armed, with_owner, with_raised, with_slot, has_bit, with_pages, flat_table, with_table}
 use Rattle.rht_core.proofs.Theory.Wholes.{place_at, outs, Whole}
 use Rattle.rht_core.proofs.Theory.Reliance.{bound_used}
 use Rattle.rht_core.proofs.Theory.Frames.{Made, still}
 use Rattle.rht_core.proofs.Theory.Answering.{outs_of, SaysStill-agree, Says, IsRight, Tells, told-says, told-outs, told-right}
-use Rattle.rht_core.proofs.Theory.Readiness.{linked, IsReady, IsArming, Change, changed}
+use Rattle.rht_core.proofs.Theory.Readiness.{linked, IsReady, IsArming, ArePagesOf, IsAttaching, Change, changed}
 
 -- What an operation does beside what it finds: nothing that others see, a node taken or given back, a lock taken or dropped,
 -- the count raised or lowered, a node linked for a port into a bucket, what a port is bound to changed, a node behind a port's
--- first one given its link in the chain, or found that no table is behind that of a locked bucket
+-- first one given its link in the chain, or found that no table is behind that of a locked bucket; a slot taken or given back, the pages
+-- of these bits of a word of the map taken or given back, or the table in a slot attached that has this shape, seed and serial
 pub data Move : Type 0 where
   Quiet : Move
   TakesNode : ℕ → Move
@@ -40,6 +42,11 @@ pub data Move : Type 0 where
   Rebinds : Change → Move
   LinksBehind : ℕ → Move
   Arms : ℕ → Move
+  TakesSlot : ℕ → Move
+  GivesSlot : ℕ → Move
+  TakesPages : ℕ → ℕ → Move
+  GivesPages : ℕ → ℕ → Move
+  Attaches : ℕ → ℕ → ℕ → ℕ → Move
 
 -- a test's two cases, with what the test says
 pub by_test : (C : Bool → Type 0) (b : Bool) → ((b ≡ true) → C true) → ((b ≡ false) → C false) → C b
@@ -75,6 +82,15 @@ still_has same = record {
 abbrev pub LeavesBits : Op → ℕ → Type 0
 LeavesBits op old = (bit : ℕ) → bit < 64 → bit_at (word_after old op) bit ≡ bit_at old bit
 
+-- the word is one of a slot's that say something of its table
+abbrev pub IsTableWord : SlotWord → Type 0
+IsTableWord ShapeWord = Unit {0}
+IsTableWord SeedWord = Unit {0}
+IsTableWord FutureWord = Unit {0}
+IsTableWord SerialWord = Unit {0}
+IsTableWord StateWord = ⊥
+IsTableWord (LoadedSection caller) = ⊥
+
 module _ (g : Geometry) where
   -- the operation is on a word of the node that the call has
   pub record IsOnOwnNode (op : Op) (h : Holding) : Type 0 where
@@ -83,10 +99,27 @@ module _ (g : Geometry) where
     pub has : h.node ≡ Some node
     pub place : op_place op ≡ place_of g (Node node word)
 
+  -- the operation is on a word of the slot that the call has
+  pub record IsOnOwnSlot (op : Op) (h : Holding) : Type 0 where
+    pub slot : ℕ
+    pub word : SlotWord
+    pub within : slot < 8
+    pub of_table : IsTableWord word
+    pub has : h.slot ≡ Some slot
+    pub place : op_place op ≡ place_of g (Slot slot word)
+
+  -- the operation takes the next serial
+  abbrev pub IsNextSerial : Op → Type 0
+  IsNextSerial op = op ≡ Add (place_of g NextSerial) 1
+
+  -- the operation is on a word that nobody else looks at, or takes the next serial
+  abbrev pub IsAside : Op → Holding → Type 0
+  IsAside op h = IsOnOwnNode op h ⊎ IsOnOwnSlot op h ⊎ IsNextSerial op
+
   -- what the operation is for each move, and how what the call holds changes
   pub record DoesQuiet (op : Op) (old : ℕ) (h h' : Holding) : Type 0 where
     pub holds : HoldsSame h h'
-    pub leaves : LeavesBits op old ⊎ IsOnOwnNode op h
+    pub leaves : LeavesBits op old ⊎ IsAside op h
 
   pub record DoesTakeNode (node : ℕ) (op : Op) (old : ℕ) (h h' : Holding) : Type 0 where
     pub taking : IsTaking g node old op
@@ -141,6 +174,54 @@ module _ (g : Geometry) where
     pub on : op_place op ≡ place_of g (Node node ChainLink)
     pub holds : HoldsSame h h'
 
+  pub record DoesTakeSlot (slot : ℕ) (op : Op) (old : ℕ) (h h' : Holding) : Type 0 where
+    pub within : slot < 8
+    pub taking : op ≡ Exchange (place_of g (Slot slot StateWord)) 0 1
+    pub free : old ≡ 0
+    pub none : h.slot ≡ None
+    pub holds : h' ≡ record h { slot = Some slot; answer = h'.answer }
+
+  -- the pages of a slot are given back before it
+  pub record DoesGiveSlot (slot : ℕ) (op : Op) (h h' : Holding) : Type 0 where
+    pub within : slot < 8
+    pub giving : op ≡ Store (place_of g (Slot slot StateWord)) 0
+    pub has : h.slot ≡ Some slot
+    pub empty : h.pages ≡ []
+    pub holds : h' ≡ record h { slot = None; answer = h'.answer }
+
+  -- the operation clears these bits of a word of the map of pages, all of which it found set, and leaves the others
+  pub record ClearsBits (index bits : ℕ) (op : Op) (old : ℕ) : Type 0 where
+    pub on : op_place op ≡ place_of g (PageMap index)
+    pub found : (bit : ℕ) → bit < 64 → bit_at bits bit ≡ 1 → bit_at old bit ≡ 1
+    pub cleared : (bit : ℕ) → bit < 64 → bit_at bits bit ≡ 1 → bit_at (word_after old op) bit ≡ 0
+    pub others : (bit : ℕ) → bit < 64 → bit_at bits bit ≢ 1 → bit_at (word_after old op) bit ≡ bit_at old bit
+
+  pub record DoesTakePages (index bits : ℕ) (op : Op) (old : ℕ) (h h' : Holding) : Type 0 where
+    pub clears : ClearsBits index bits op old
+    pub pages : (p : ℕ) → In p h'.pages ↔ (In p h.pages ⊎ (has_bit index bits p ≡ true))
+    pub holds : h' ≡ record h { pages = h'.pages; answer = h'.answer }
+
+  -- or sets them, and leaves the others
+  pub record SetsBits (index bits : ℕ) (op : Op) (old : ℕ) : Type 0 where
+    pub on : op_place op ≡ place_of g (PageMap index)
+    pub set : (bit : ℕ) → bit < 64 → bit_at bits bit ≡ 1 → bit_at (word_after old op) bit ≡ 1
+    pub others : (bit : ℕ) → bit < 64 → bit_at bits bit ≢ 1 → bit_at (word_after old op) bit ≡ bit_at old bit
+
+  pub record DoesGivePages (index bits : ℕ) (op : Op) (old : ℕ) (h h' : Holding) : Type 0 where
+    pub sets : SetsBits index bits op old
+    pub had : (p : ℕ) → has_bit index bits p ≡ true → In p h.pages
+    pub pages : (p : ℕ) → In p h'.pages ↔ (In p h.pages × (has_bit index bits p ≡ false))
+    pub holds : h' ≡ record h { pages = h'.pages; answer = h'.answer }
+
+  -- the exchange of the future of a table, in whose slot this is, finds that nothing follows it
+  pub record DoesAttach (slot : ℕ) (op : Op) (old : ℕ) (h h' : Holding) : Type 0 where
+    pub last : ℕ
+    pub within : last < 8
+    pub attaching : op ≡ Exchange (place_of g (Slot last FutureWord)) 0 (future_of slot)
+    pub found : old ≡ 0
+    pub has : h.slot ≡ Some slot
+    pub holds : h' ≡ record h { slot = None; pages = []; answer = h'.answer }
+
 module _ (env : Env) (mix : ℕ → ℕ → ℕ → ℕ) where
   -- the ghost after a move of a caller
   abbrev pub ghost_after : ℕ → Move → Ghost → Ghost
@@ -155,6 +236,11 @@ module _ (env : Env) (mix : ℕ → ℕ → ℕ → ℕ) where
   ghost_after c (Rebinds change) G = changed G c change
   ghost_after c (LinksBehind n) G = G
   ghost_after c (Arms j) G = with_armed G j c
+  ghost_after c (TakesSlot s) G = with_slot G s (SlotHeld c)
+  ghost_after c (GivesSlot s) G = with_slot G s SlotFree
+  ghost_after c (TakesPages index bits) G = with_pages G index bits (PageHeld c)
+  ghost_after c (GivesPages index bits) G = with_pages G index bits PageFree
+  ghost_after c (Attaches slot shape seed serial) G = with_table G (flat_table slot shape seed serial)
 
   -- the words as a memory
   abbrev pub mem : List ℕ → Memory
@@ -167,7 +253,8 @@ module _ (env : Env) (mix : ℕ → ℕ → ℕ → ℕ) where
   abbrev pub owners : Memory → Ghost → Multimap
   owners M G port = owners_in M (G.bound port)
 
-  -- what a move needs: to link a node, all that makes it ready, and to be armed, the lock of a bucket in the last table
+  -- What a move needs: to link a node, all that makes it ready, and to be armed, the lock of a bucket in the last table. To take a slot or
+  -- pages, that they are free, to give them back, that the caller has them, and to attach a table, that the caller has made it.
   abbrev pub ReadyFor : ℕ → Memory → Ghost → Move → Type 0
   ReadyFor c M G Quiet = Unit {0}
   ReadyFor c M G (TakesNode n) = G.node n ≡ Free
@@ -180,6 +267,11 @@ module _ (env : Env) (mix : ℕ → ℕ → ℕ → ℕ) where
   ReadyFor c M G (Rebinds change) = Unit {0}
   ReadyFor c M G (LinksBehind n) = Unit {0}
   ReadyFor c M G (Arms j) = IsArming env mix c j G
+  ReadyFor c M G (TakesSlot s) = G.slot s ≡ SlotFree
+  ReadyFor c M G (GivesSlot s) = G.slot s ≡ SlotHeld c
+  ReadyFor c M G (TakesPages index bits) = ArePagesOf env mix G index bits PageFree
+  ReadyFor c M G (GivesPages index bits) = ArePagesOf env mix G index bits (PageHeld c)
+  ReadyFor c M G (Attaches slot shape seed serial) = IsAttaching env mix c slot shape seed M G
 
   -- which operation the move is, and how what the call holds changes by it
   abbrev pub Does : Move → Op → ℕ → Holding → Holding → Type 0
@@ -195,6 +287,11 @@ module _ (env : Env) (mix : ℕ → ℕ → ℕ → ℕ) where
       (place_at env mix change.place) op h h'
   Does (LinksBehind n) op old h h' = DoesLinkBehind env.geometry n op h h'
   Does (Arms j) op old h h' = DoesQuiet env.geometry op old h h'
+  Does (TakesSlot s) op old h h' = DoesTakeSlot env.geometry s op old h h'
+  Does (GivesSlot s) op old h h' = DoesGiveSlot env.geometry s op h h'
+  Does (TakesPages index bits) op old h h' = DoesTakePages env.geometry index bits op old h h'
+  Does (GivesPages index bits) op old h h' = DoesGivePages env.geometry index bits op old h h'
+  Does (Attaches slot shape seed serial) op old h h' = DoesAttach env.geometry slot op old h h'
 
   -- An operation of a caller in a call, which holds this before it and that after it, with what it knows afterwards.
   pub record Step (c : ℕ) (call : Call) (words : List ℕ) (G : Ghost) (op : Op) (h h' : Holding)
@@ -290,6 +387,11 @@ module _ (env : Env) (mix : ℕ → ℕ → ℕ → ℕ) where
   LinksNone (Rebinds change) = ⊥
   LinksNone (LinksBehind n) = Unit {0}
   LinksNone (Arms j) = Unit {0}
+  LinksNone (TakesSlot s) = Unit {0}
+  LinksNone (GivesSlot s) = Unit {0}
+  LinksNone (TakesPages index bits) = Unit {0}
+  LinksNone (GivesPages index bits) = Unit {0}
+  LinksNone (Attaches slot shape seed serial) = Unit {0}
 
   same_bound : (c : ℕ) (move : Move) (G : Ghost) (port : ℕ) → LinksNone move
       → (ghost_after c move G).bound port ≡ G.bound port
@@ -304,6 +406,11 @@ module _ (env : Env) (mix : ℕ → ℕ → ℕ → ℕ) where
   same_bound c (Rebinds change) G port none = absurd none
   same_bound c (LinksBehind n) G port none = refl
   same_bound c (Arms j) G port none = refl
+  same_bound c (TakesSlot s) G port none = refl
+  same_bound c (GivesSlot s) G port none = refl
+  same_bound c (TakesPages index bits) G port none = refl
+  same_bound c (GivesPages index bits) G port none = refl
+  same_bound c (Attaches slot shape seed serial) G port none = refl
 
   -- nor does it take one out of a list
   same_outs : (c : ℕ) (move : Move) (M : Memory) (G : Ghost) → LinksNone move → ReadyFor c M G move
@@ -319,6 +426,11 @@ module _ (env : Env) (mix : ℕ → ℕ → ℕ → ℕ) where
   same_outs c (Rebinds change) M G none ready = absurd none
   same_outs c (LinksBehind n) M G none ready = refl
   same_outs c (Arms j) M G none ready = refl
+  same_outs c (TakesSlot s) M G none ready = refl
+  same_outs c (GivesSlot s) M G none ready = refl
+  same_outs c (TakesPages index bits) M G none ready = refl
+  same_outs c (GivesPages index bits) M G none ready = refl
+  same_outs c (Attaches slot shape seed serial) M G none ready = refl
 
   pub moved : (c : ℕ) (words : List ℕ) (G : Ghost) (op : Op) (h h' : Holding) (Knows : Memory → Ghost
       → Type 0) (move : Move)
@@ -438,6 +550,39 @@ module _ (env : Env) (mix : ℕ → ℕ → ℕ → ℕ) where
       record { on = does.on; holds = ap (λ x. with_answer x answer) does.holds }
   does-answered (Arms j) op old h h' answer does =
       record { holds = ap (λ x. with_answer x answer) does.holds; leaves = does.leaves }
+  does-answered (TakesSlot s) op old h h' answer does = record {
+    within = does.within;
+    taking = does.taking;
+    free = does.free;
+    none = does.none;
+    holds = ap (λ x. with_answer x answer) does.holds;
+  }
+  does-answered (GivesSlot s) op old h h' answer does = record {
+    within = does.within;
+    giving = does.giving;
+    has = does.has;
+    empty = does.empty;
+    holds = ap (λ x. with_answer x answer) does.holds;
+  }
+  does-answered (TakesPages index bits) op old h h' answer does = record {
+    clears = does.clears;
+    pages = does.pages;
+    holds = ap (λ x. with_answer x answer) does.holds;
+  }
+  does-answered (GivesPages index bits) op old h h' answer does = record {
+    sets = does.sets;
+    had = does.had;
+    pages = does.pages;
+    holds = ap (λ x. with_answer x answer) does.holds;
+  }
+  does-answered (Attaches slot shape seed serial) op old h h' answer does = record {
+    last = does.last;
+    within = does.within;
+    attaching = does.attaching;
+    found = does.found;
+    has = does.has;
+    holds = ap (λ x. with_answer x answer) does.holds;
+  }
 
   -- an operation that leaves bindings is a step, with what it says of the answer on the bindings as they are
   pub answered : (c : ℕ) (call : Call) (words : List ℕ) (G : Ghost) (op : Op) (h h' : Holding)

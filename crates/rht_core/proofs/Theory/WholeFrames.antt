@@ -408,7 +408,6 @@ module _ (env : Env) (mix : ℕ → ℕ → ℕ → ℕ) where
       → ((j : ℕ) → j < 64 * env.geometry.pages → LockedRight env mix M' j (G'.bucket j))
       → ArenaRight env mix M' G' → M' PortCount ≡ firsts env mix G' + raisers env mix G' → Whole env mix M' G'
   Whole-frame M M' G G' a v whole write apart same words blanks locked arena counted = record {
-    one = same.tables.attached ∙ whole.one;
     tables = TablesRight-write M M' G G' a v write (is_apart G a apart) same.tables whole.tables;
     slots = SlotsRight-write M M' G G' a v write apart.work (λ s. apart.slots s StateWord) same.tables whole.slots;
     pages = PagesRight-write M M' G G' a v write apart.pages same.tables blanks whole.pages;

@@ -254,9 +254,7 @@ module _ (env : Env) (mix : ℕ → ℕ → ℕ → ℕ) where
   abbrev pub raisers : Ghost → ℕ
   raisers G = count_below G.raised env.geometry.callers
 
-  -- so far one table is attached
   pub record Whole (M : Memory) (G : Ghost) : Type 0 where
-    pub one : G.attached ≡ 1
     pub tables : TablesRight M G
     pub slots : SlotsRight M G
     pub pages : PagesRight M G

@@ -1,0 +1,351 @@
+-- The pages that the taking and the giving back of a run have, as lists, and what one operation makes of them.
+use Rattle.std.proofs.Common.{◌≡◌, ◌≢◌, ◌⊎◌, ◌↔◌, ℕ, zero, suc, ◌+◌, ◌-◌, ◌*◌, ◌/◌, ◌%◌, ◌<◌, ◌≤◌, List, [], ◌∷◌, Option, Some, None, Bool, true, false, cond, min, bit_and, nat_lt, refl, sym, ◌∙◌, ap, subst, inl, inr, arith}
+use Rattle.std.specs.Prelude.{◌==◌, ◌&&◌, ◌||◌, nat_le}
+use Rattle.std.specs.Int.{bit_at}
+use Rattle.std.specs.List.{filter, range_with_len}
+use Rattle.std.proofs.lemmas.Bool.{cases_lt, cond_both, eqb-true, eq-eqb, ltb-true, ltb-false, lt-ltb, leb-true, leb-false, and_parts, and_from, or_cases, or_left, or_right, both_ways}
+use Rattle.std.proofs.lemmas.Bool.Decides.{nat_tests}
+use Rattle.std.proofs.lemmas.Nat.Bits.{bit_at_and, bit_at-lt, bit_at-zero}
+use Rattle.rht_words.specs.declared.machine.Next.{Next}
+use Rattle.rht_words.specs.declared.machine.Next.TheVariants.{Go, Done}
+use Rattle.rht_words.specs.Members.{In}
+use Rattle.rht_words.proofs.Members.{In-range_with_len, range_with_len-In}
+use Rattle.rht_arena.specs.Runs.{run_bits, IsRunIn}
+use Rattle.rht_arena.specs.TakeRun.{TakeRunModel, next_run, given_below, given_from, claimed, cleared, has_run, has_page, pages_of_take_run, IsRunAt, IsGivenAt}
+use Rattle.rht_arena.specs.declared.take_run.TakeRunAt.{TakeRunAt}
+use Rattle.rht_arena.specs.declared.take_run.TakeRunAt.TheVariants.{MapWord, Claim, GiveBack}
+use Rattle.rht_arena.proofs.RunBits.{bit_at-run, bit_at-run_from, bit_at-run_until}
+use Rattle.rht_core.proofs.Theory.Ghosts.{has_bit}
+use Rattle.rht_core.proofs.Moves.Pages.{has_bit-is, is_has_bit}
+
+-- ---- lists by tests
+
+-- what isn't true is false, and two tests that give one another are the same
+pub false_from : (b : Bool) → (b ≡ true → ⊥) → b ≡ false
+false_from true none = absurd (none refl)
+false_from false none = refl
+
+pub same_tests : (s t : Bool) → (s ≡ true → t ≡ true) → (t ≡ true → s ≡ true) → s ≡ t
+same_tests true true there back = refl
+same_tests true false there back = sym (there refl)
+same_tests false true there back = back refl
+same_tests false false there back = refl
+
+-- a member of the numbers that pass a test is one of them and passes it
+pub filter-In : (t : ℕ → Bool) (x : ℕ) (xs : List ℕ) → In x (filter t xs) → In x xs × (t x ≡ true)
+filter-In t x [] i = absurd i
+filter-In t x (y ∷ ys) i =
+    cond_both (t y) (y ∷ filter t ys) (filter t ys) (λ zs. In x zs → In x (y ∷ ys) × (t x ≡ true))
+    (λ is member. elim member [
+      | inl same ↦ (inl same, ap t same ∙ is)
+      | inr rest ↦ let r = filter-In t x ys rest in (inr r.0, r.1)
+    ])
+    (λ is rest. let r = filter-In t x ys rest in (inr r.0, r.1)) i
+
+pub In-filter : (t : ℕ → Bool) (x : ℕ) (xs : List ℕ) → In x xs → t x ≡ true → In x (filter t xs)
+In-filter t x [] i is = absurd i
+In-filter t x (y ∷ ys) (inl same) is =
+    cond_both (t y) (y ∷ filter t ys) (filter t ys) (In x) (λ passes. inl same)
+    (λ fails. absurd (both_ways (t y) fails (ap t (sym same) ∙ is)))
+In-filter t x (y ∷ ys) (inr rest) is =
+    cond_both (t y) (y ∷ filter t ys) (filter t ys) (In x) (λ passes. inr (In-filter t x ys rest is))
+    (λ fails. In-filter t x ys rest is)
+
+pub filter-same : (t u : ℕ → Bool) (xs : List ℕ) → ((x : ℕ) → t x ≡ u x) → filter t xs ≡ filter u xs
+filter-same t u [] same = refl
+filter-same t u (y ∷ ys) same =
+    ap (λ b. cond b (y ∷ filter t ys) (filter t ys)) (same y)
+    ∙ ap (λ zs. cond (u y) (y ∷ zs) zs) (filter-same t u ys same)
+
+pub filter-none : (t : ℕ → Bool) (xs : List ℕ) → ((x : ℕ) → t x ≡ false) → filter t xs ≡ []
+filter-none t [] none = refl
+filter-none t (y ∷ ys) none =
+    ap (λ b. cond b (y ∷ filter t ys) (filter t ys)) (none y) ∙ filter-none t ys none
+
+-- a member of a range is none before its first
+pub range_with_len-from : (a n x : ℕ) → In x (range_with_len a n) → a ≤ x
+range_with_len-from a zero x i = absurd i
+range_with_len-from a (suc n) x (inl same) = omega (arith, same)
+range_with_len-from a (suc n) x (inr rest) = let from = range_with_len-from (a + 1) n x rest in omega (arith, from)
+
+-- the numbers below a bound
+pub below-In : (bound x : ℕ) → x < bound → In x (range_with_len 0 bound)
+below-In bound x l = In-range_with_len 0 bound x (omega arith) (omega (arith, l))
+
+pub In-below : (bound x : ℕ) → In x (range_with_len 0 bound) → x < bound
+In-below bound x i = let l = range_with_len-In 0 bound x i in omega (arith, l)
+
+-- from the first number on, and below the second
+abbrev pub is_between : ℕ → ℕ → ℕ → Bool
+is_between low high x = nat_le low x && nat_lt x high
+
+pub between-is : (low high x : ℕ) → is_between low high x ≡ true → (low ≤ x) × (x < high)
+between-is low high x is =
+    let both = and_parts (nat_le low x) (nat_lt x high) is in
+    (leb-true low x both.0, ltb-true x high both.1)
+
+is-between : (low high x : ℕ) → low ≤ x → x < high → is_between low high x ≡ true
+is-between low high x from below = grind (arith, nat_tests, from, below)
+
+-- ---- the taking of a run
+
+-- what it has behind an operation: once it has ended, the run or nothing
+abbrev pub pages_behind : TakeRunModel × Next (Option ℕ) → List ℕ
+pages_behind (n, Go) = pages_of_take_run n
+pages_behind (n, Done None) = []
+pages_behind (n, Done (Some first)) = range_with_len first n.pages
+
+module _ (m : TakeRunModel) where
+  abbrev pages : ℕ
+  pages = m.pages
+
+  abbrev all : ℕ
+  all = m.geometry.pages
+
+  -- the pages from the run's first on, in the words before this one
+  abbrev pub before : ℕ → ℕ → List ℕ
+  before first index = filter (is_between first (64 * index)) (range_with_len 0 all)
+
+  before-is : (first index p : ℕ) → In p (before first index) → (p < all) × (first ≤ p) × (p < 64 * index)
+  before-is first index p i =
+      let member = filter-In (is_between first (64 * index)) p (range_with_len 0 all) i in
+      let range = between-is first (64 * index) p member.1 in
+      (In-below all p member.0, range.0, range.1)
+
+  is-before : (first index p : ℕ) → p < all → first ≤ p → p < 64 * index → In p (before first index)
+  is-before first index p l from below =
+      In-filter (is_between first (64 * index)) p (range_with_len 0 all)
+      (below-In all p l) (is-between first (64 * index) p from below)
+
+  -- behind a run comes the next one, of which nothing was taken
+  next_run-pages : (first : ℕ) → pages_behind (next_run m first) ≡ []
+  next_run-pages first =
+      cond_both (nat_le (first + 2 * pages) all) _ _ (λ r. pages_behind r ≡ [])
+      (λ t. filter-none (is_between (first + pages) (64 * ((first + pages) / 64))) (range_with_len 0 all)
+      (λ x. false_from (is_between (first + pages) (64 * ((first + pages) / 64)) x)
+      (λ is. let range = between-is (first + pages) (64 * ((first + pages) / 64)) x is in
+      omega (arith, range.0, range.1))))
+      (λ f. refl)
+
+  -- what is given back of the word before is what was taken of it
+  given-pages : (first index : ℕ) → IsRunAt m.geometry pages first index → first < 64 * index → (x : ℕ)
+      → has_page pages (GiveBack first (index - 1) (run_bits first pages (index - 1))) x
+      ≡ is_between first (64 * index) x
+  given-pages first index at later x =
+      let i = index - 1 in
+      let bits = run_bits first pages i in
+      same_tests (has_page pages (GiveBack first i bits) x) (is_between first (64 * index) x)
+      (λ is. elim (or_cases (is_between first (64 * i) x) (has_bit i bits x) is) [
+        | inl earlier ↦
+            let range = between-is first (64 * i) x earlier in
+            is-between first (64 * index) x range.0 (omega (arith, range.1))
+        | inr here ↦
+            let bit = has_bit-is i bits x here in
+            let from = bit_at-run_from first pages i (x % 64) (omega arith) bit.1 in
+            is-between first (64 * index) x (omega (arith, from, bit.0)) (omega (arith, bit.0, later))
+      ])
+      (λ is.
+      let range = between-is first (64 * index) x is in
+      elim (cases_lt x (64 * i)) [
+        | inl earlier ↦ or_left (is_between first (64 * i) x) (has_bit i bits x)
+            (is-between first (64 * i) x range.0 earlier)
+        | inr here ↦
+            let word : x / 64 ≡ i = omega (arith, here, range.1) in
+            let until = at.word.until in
+            or_right (is_between first (64 * i) x) (has_bit i bits x)
+            (is_has_bit i bits x word (bit_at-run first pages i (x % 64) (omega arith)
+            (omega (arith, range.0, word)) (omega (arith, range.1, word, until))))
+      ])
+
+  -- so a run that was seen taken has still what was taken of it
+  pub given_below-pages : (first index : ℕ) → IsRunAt m.geometry pages first index
+      → pages_behind (given_below m first index) ≡ before first index
+  given_below-pages first index at =
+      cond_both (nat_le (64 * index) first) _ _ (λ r. pages_behind r ≡ before first index)
+      (λ t.
+      let low : 64 * index ≤ first = leb-true (64 * index) first t in
+      next_run-pages first ∙ sym (filter-none (is_between first (64 * index)) (range_with_len 0 all)
+      (λ x. false_from (is_between first (64 * index) x)
+      (λ is. let range = between-is first (64 * index) x is in omega (arith, low, range.0, range.1)))))
+      (λ f. filter-same (has_page pages (GiveBack first (index - 1) (run_bits first pages (index - 1))))
+      (is_between first (64 * index)) (range_with_len 0 all)
+      (given-pages first index at (leb-false (64 * index) first f)))
+
+  -- ---- what an And takes
+
+  -- the pages behind are those before, and those of these bits of this word
+  abbrev pub IsMore : ℕ → ℕ → ℕ → List ℕ → Type 0
+  IsMore first index bits after = (p : ℕ) → In p after ↔ (In p (before first index) ⊎ (has_bit index bits p ≡ true))
+
+  module _ (first index : ℕ) (at : IsRunAt m.geometry pages first index) where
+    abbrev run : ℕ
+    run = run_bits first pages index
+
+    -- a page of the run in this word, and the other way round
+    bit_in_run : (p : ℕ) → has_bit index run p ≡ true → (p / 64 ≡ index) × (first ≤ p) × (p < first + pages)
+    bit_in_run p there =
+        let bit = has_bit-is index run p there in
+        let from = bit_at-run_from first pages index (p % 64) (omega arith) bit.1 in
+        let until = bit_at-run_until first pages index (p % 64) (omega arith) bit.1 in
+        (bit.0, omega (arith, from, bit.0), omega (arith, until, bit.0))
+
+    -- so is a page of what an And finds of it
+    pub found_within : (word p : ℕ) → has_bit index (bit_and word run) p ≡ true → p < all
+    found_within word p there =
+        let bit = has_bit-is index (bit_and word run) p there in
+        let of_run : has_bit index run p ≡ true = is_has_bit index run p bit.0
+        (omega (arith, bit.1, bit_at_and word run (p % 64), bit_at-lt run (p % 64))) in
+        let is = bit_in_run p of_run in
+        let within = at.run.within in
+        omega (arith, is.2, within)
+
+    in_run-bit : (p : ℕ) → p / 64 ≡ index → first ≤ p → p < first + pages → has_bit index run p ≡ true
+    in_run-bit p word from until =
+        is_has_bit index run p word (bit_at-run first pages index (p % 64) (omega arith) (omega (arith, from, word))
+        (omega (arith, until, word)))
+
+    claimed-more : IsMore first index run (pages_behind (claimed m first index))
+    claimed-more p =
+        let within = at.run.within in
+        let until_word = at.word.until in
+        cond_both (nat_lt (64 * (index + 1)) (first + pages)) _ _
+        (λ r. In p (pages_behind r) ↔ (In p (before first index) ⊎ (has_bit index run p ≡ true)))
+        (λ t.
+        let more : 64 * (index + 1) < first + pages = ltb-true (64 * (index + 1)) (first + pages) t in (
+          λ i.
+              let is = before-is first (index + 1) p i in
+              elim (cases_lt p (64 * index)) [
+                | inl earlier ↦ inl (is-before first index p is.0 is.1 earlier)
+                | inr here ↦ inr (in_run-bit p (omega (arith, here, is.2)) is.1 (omega (arith, is.2, more)))
+              ],
+          λ some. elim some [
+            | inl earlier ↦
+                let is = before-is first index p earlier in
+                is-before first (index + 1) p is.0 is.1 (omega (arith, is.2))
+            | inr here ↦
+                let is = bit_in_run p here in
+                is-before first (index + 1) p (omega (arith, is.2, within)) is.1 (omega (arith, is.0))
+          ],
+        ))
+        (λ f.
+        let last : first + pages ≤ 64 * (index + 1) = ltb-false (64 * (index + 1)) (first + pages) f in (
+          λ i.
+              let from = range_with_len-from first pages p i in
+              let until = range_with_len-In first pages p i in
+              elim (cases_lt p (64 * index)) [
+                | inl earlier ↦ inl (is-before first index p (omega (arith, until, within)) from earlier)
+                | inr here ↦ inr (in_run-bit p (omega (arith, here, until, last)) from until)
+              ],
+          λ some. elim some [
+            | inl earlier ↦
+                let is = before-is first index p earlier in
+                In-range_with_len first pages p is.1 (omega (arith, is.2, until_word))
+            | inr here ↦ let is = bit_in_run p here in In-range_with_len first pages p is.1 is.2
+          ],
+        ))
+
+    -- where the And lost the run, what it cleared is given back
+    lost-more : (word : ℕ) → IsMore first index (bit_and word run)
+        (pages_behind (given_from m first index (bit_and word run)))
+    lost-more word p =
+        let bits = bit_and word run in
+        let within = at.run.within in
+        cond_both (bits == 0) _ _
+        (λ r. In p (pages_behind r) ↔ (In p (before first index) ⊎ (has_bit index bits p ≡ true)))
+        (λ t.
+        let none : bits ≡ 0 = eqb-true bits 0 t in
+        let same = given_below-pages first index at in (
+          λ i. inl (subst (In p) same i),
+          λ some. elim some [
+            | inl earlier ↦ subst (In p) (sym same) earlier
+            | inr here ↦
+                let bit = has_bit-is index bits p here in
+                let zero : bit_at bits (p % 64) ≡ 0 = ap (λ w. bit_at w (p % 64)) none ∙ bit_at-zero (p % 64) in
+                absurd (omega (arith, bit.1, zero))
+          ],
+        ))
+        (λ f.
+        let test = has_page pages (GiveBack first index bits) in (
+          λ i.
+              let member = filter-In test p (range_with_len 0 all) i in
+              let l = In-below all p member.0 in
+              elim (or_cases (is_between first (64 * index) p) (has_bit index bits p) member.1) [
+                | inl earlier ↦
+                    let range = between-is first (64 * index) p earlier in
+                    inl (is-before first index p l range.0 range.1)
+                | inr here ↦ inr here
+              ],
+          λ some. elim some [
+            | inl earlier ↦
+                let is = before-is first index p earlier in
+                In-filter test p (range_with_len 0 all) (below-In all p is.0)
+                (or_left (is_between first (64 * index) p) (has_bit index bits p)
+                (is-between first (64 * index) p is.1 is.2))
+            | inr here ↦
+                let bit = has_bit-is index bits p here in
+                let of_run : has_bit index run p ≡ true = is_has_bit index run p bit.0
+                (omega (arith, bit.1, bit_at_and word run (p % 64), bit_at-lt run (p % 64))) in
+                let is = bit_in_run p of_run in
+                In-filter test p (range_with_len 0 all)
+                (below-In all p (omega (arith, is.2, within)))
+                (or_right (is_between first (64 * index) p) (has_bit index bits p) here)
+          ],
+        ))
+
+    -- whatever the And found
+    pub cleared-more : (word : ℕ) → IsMore first index (bit_and word run) (pages_behind (cleared m first index word))
+    cleared-more word p =
+        cond_both (has_run first pages index word) _ _
+        (λ r. In p (pages_behind r) ↔ (In p (before first index) ⊎ (has_bit index (bit_and word run) p ≡ true)))
+        (λ t.
+        let every : bit_and word run ≡ run = eqb-true (bit_and word run) run t in
+        subst (λ bits. In p (pages_behind (claimed m first index))
+        ↔ (In p (before first index) ⊎ (has_bit index bits p ≡ true))) (sym every) (claimed-more p))
+        (λ f. lost-more word p)
+
+    -- ---- what an Or gives back
+
+    module _ (bits : ℕ) (of_run : bit_and bits run ≡ bits) where
+      bits_in_run : (p : ℕ) → has_bit index bits p ≡ true → (p / 64 ≡ index) × (first ≤ p) × (p < first + pages)
+      bits_in_run p there =
+          let bit = has_bit-is index bits p there in
+          let same : bit_at (bit_and bits run) (p % 64) ≡ bit_at bits (p % 64) = ap (λ w. bit_at w (p % 64)) of_run in
+          bit_in_run p (is_has_bit index run p bit.0
+          (omega (arith, bit.1, same, bit_at_and bits run (p % 64), bit_at-lt run (p % 64))))
+
+      pub given_within : (p : ℕ) → has_bit index bits p ≡ true → p < all
+      given_within p there = let is = bits_in_run p there in let within = at.run.within in omega (arith, is.2, within)
+
+      pub given-had : (p : ℕ) → has_bit index bits p ≡ true
+          → In p (filter (has_page pages (GiveBack first index bits)) (range_with_len 0 all))
+      given-had p there =
+          let is = bits_in_run p there in
+          let within = at.run.within in
+          In-filter (has_page pages (GiveBack first index bits)) p (range_with_len 0 all)
+          (below-In all p (omega (arith, is.2, within)))
+          (or_right (is_between first (64 * index) p) (has_bit index bits p) there)
+
+      pub given-less : (p : ℕ) → In p (pages_behind (given_below m first index))
+          ↔ (In p (filter (has_page pages (GiveBack first index bits)) (range_with_len 0 all))
+          × (has_bit index bits p ≡ false))
+      given-less p =
+          let same = given_below-pages first index at in
+          let test = has_page pages (GiveBack first index bits) in (
+            λ i.
+                let is = before-is first index p (subst (In p) same i) in (
+                  In-filter test p (range_with_len 0 all) (below-In all p is.0)
+                      (or_left (is_between first (64 * index) p) (has_bit index bits p)
+                      (is-between first (64 * index) p is.1 is.2)),
+                  false_from (has_bit index bits p)
+                      (λ there. let bit = has_bit-is index bits p there in omega (arith, bit.0, is.2)),
+                ),
+            λ both.
+                let member = filter-In test p (range_with_len 0 all) both.0 in
+                let l = In-below all p member.0 in
+                elim (or_cases (is_between first (64 * index) p) (has_bit index bits p) member.1) [
+                  | inl earlier ↦
+                      let range = between-is first (64 * index) p earlier in
+                      subst (In p) (sym same) (is-before first index p l range.0 range.1)
+                  | inr here ↦ absurd (both_ways (has_bit index bits p) both.1 here)
+                ],
+          )
