@@ -20,6 +20,8 @@ pub mod Relinks
 pub mod ListFronts
 -- what the caller that does the work learns by its loads
 pub mod WorkLoads
+-- the operations of the caller that does the work
+pub mod WorkSteps
 -- a caller's slots and pages: they are taken, written and given back
 pub mod Holdings
 -- the pages that the taking and giving back of a run have

@@ -291,7 +291,6 @@ module _ (env : Env) (mix : ℕ → ℕ → ℕ → ℕ) (d here entry : ℕ) (b
 
     reseated_whole : Whole env mix M' G'
     reseated_whole = record {
-      one = whole.one;
       tables = TablesRight-write env mix M M' G G' a v store.write (is_apart env mix G a store.no_table) same
           whole.tables;
       slots = SlotsRight-write env mix M M' G G' a v store.write store.no_table.work

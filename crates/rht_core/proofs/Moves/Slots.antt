@@ -7,8 +7,10 @@ use Rattle.rht_words.specs.Places.{WorkLock, NextSerial, Slot, SlotWord, StateWo
 use Rattle.rht_words.proofs.Memory.{Memory, IsWrite}
 use Rattle.rht_core.proofs.Theory.Ghosts.{put, put-same, put-other, put-all, SlotOwner, SlotFree, SlotHeld, Live, Retired, Ghost, state_word, has_table, with_slot}
 use Rattle.rht_core.proofs.Theory.Wholes.{SlotsRight, Whole}
-use Rattle.rht_core.proofs.Theory.Knowledge.{HasSlot, HoldingsStay, Rely}
-use Rattle.rht_core.proofs.Theory.Frames.{Others, Made, IsApart, SlotsRight-write, same_tables}
+use Rattle.rht_core.proofs.Theory.Knowledge.{HasSlot}
+use Rattle.rht_core.proofs.Theory.Reliance.{HoldingsStay, Rely}
+use Rattle.rht_core.proofs.Theory.Frames.{Others, Made, same_tables}
+use Rattle.rht_core.proofs.Theory.WholeFrames.{IsApart, SlotsRight-write}
 use Rattle.rht_core.proofs.Theory.TableFrames.{TablesKept, IsNoBucketWord, Whole-retabled, Rely-retabled, TablesRight-kept, PagesRight-kept}
 use Rattle.rht_core.proofs.Theory.Steps.{IsTableWord}
 use Rattle.rht_core.proofs.Moves.Quiet.{aside}

@@ -221,7 +221,6 @@ module _ (env : Env) (mix : ℕ → ℕ → ℕ → ℕ) where
 
       restated_whole : Whole env mix M' after
       restated_whole = record {
-        one = whole.one;
         tables = restated_tables;
         slots = record { states = is.states; worker_is = is.worker_is };
         pages = restated_pages;

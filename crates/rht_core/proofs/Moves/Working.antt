@@ -1,20 +1,20 @@
 -- The moves of the caller that does the work, by what it knows before each of them, and what it knows after it.
-use Rattle.std.proofs.Common.{◌≡◌, ◌≢◌, ◌⊎◌, ℕ, ◌+◌, ◌*◌, ◌/◌, ◌%◌, ◌<◌, ◌≤◌, List, [], ◌∷◌, ◌++◌, Option, Some, None, Bool, true, refl, sym, ◌∙◌, ap, subst, inl, inr, arith}
+use Rattle.std.proofs.Common.{◌≡◌, ◌⊎◌, ℕ, ◌+◌, ◌*◌, ◌/◌, ◌%◌, List, [], ◌∷◌, ◌++◌, Option, Some, None, refl, sym, ◌∙◌, ap, subst, inl, inr, arith}
 use Rattle.std.proofs.lemmas.Bool.{cases_eq}
 use Rattle.rht_words.specs.declared.env.Env.{Env}
 use Rattle.rht_words.specs.Links.{link_of, head_of}
 use Rattle.rht_words.specs.Shapes.{unpacked, size_of}
-use Rattle.rht_words.specs.Places.{CurrentTable, WorkLock, Slot, StateWord, Node, ChainLink, KeyWord, PageWord, IsBucketPlace}
+use Rattle.rht_words.specs.Places.{CurrentTable, WorkLock, Slot, StateWord, Node, ChainLink, KeyWord, PageWord}
 use Rattle.rht_words.specs.Members.{In}
 use Rattle.rht_words.proofs.Memory.{Memory, IsWrite}
 use Rattle.rht_words.proofs.Members.{in-middle}
 use Rattle.rht_core.proofs.Theory.Ghosts.{put, put-same, put-other, put-all, Bucket, Owner, First, Leaving, PageOf, Ghost, has_table, index_at, table_at, held_by, with_holder, none-some, some-same}
-use Rattle.rht_core.proofs.Theory.Wholes.{chain_of, key_of, place_at, word_index, place_at-index, index-place_at, index-within, home, IsNoBucket, MovesNone, Whole}
-use Rattle.rht_core.proofs.Theory.Passed.{place-table, home-table, home-bucket, held-bucket}
-use Rattle.rht_core.proofs.Theory.Knowns.{last_of, KnownAim, NoAim, KnownRehash, KnownPlace, KnownEntry, KnownWork, NoWork, Works, Rooted, Empties, LeavesBehind, InBucket, Bare, AtEntry, AtTail, Aims, Brings, TakesOut, HasBrought}
-use Rattle.rht_core.proofs.Theory.Knowledge.{bucket_at, HasLock, HasOnly, IsRoot, IsEmptied, IsEmptying, IsLeftBehind, IsFacing, IsNext, IsInBucket, IsBare, IsEntry, IsTail, IsAim, IsAiming, IsTarget, IsBringing, IsOutOf, IsTakenOut, IsBrought, IsWorking, WorkMeans}
+use Rattle.rht_core.proofs.Theory.Wholes.{key_of, place_at, word_index, place_at-index, index-place_at, index-within, home, IsNoBucket, MovesNone, Whole}
+use Rattle.rht_core.proofs.Theory.Passed.{place-table, home-table, home-bucket}
+use Rattle.rht_core.proofs.Theory.Knowns.{last_of, KnownAim, NoAim, KnownRehash, KnownPlace, KnownEntry, KnownWork, NoWork, Works, Empties, LeavesBehind, InBucket, Brings, TakesOut, HasBrought}
+use Rattle.rht_core.proofs.Theory.Knowledge.{IsEmptied, IsEmptying, IsLeftBehind, IsFacing, IsNext, IsInBucket, IsBare, IsEntry, IsAim, IsAiming, IsTarget, IsBringing, IsTakenOut, IsBrought, WorkMeans}
 use Rattle.rht_core.proofs.Theory.Frames.{Made}
-use Rattle.rht_core.proofs.Theory.Departures.{with_worker, published, retired, left_by, left, arrived, cut_plain, cut_by, cut_off, IsNextPlace, CanLeave, CanArrive, CanCut, CanPublish, CanRetire}
+use Rattle.rht_core.proofs.Theory.Departures.{with_worker, published, retired, left_by, left, arrived, cut_plain, cut_by, cut_off, IsNextPlace, CanLeave, CanArrive, CanCut}
 use Rattle.rht_core.proofs.Theory.Readiness.{linked_bucket}
 use Rattle.rht_core.proofs.Moves.Quiet.{take_lock, drop_lock, free-still}
 use Rattle.rht_core.proofs.Moves.Relinking.{relink_address}

@@ -1,5 +1,5 @@
 -- What the caller that does the work learns by its loads.
-use Rattle.std.proofs.Common.{◌≡◌, ℕ, ◌+◌, ◌*◌, ◌%◌, ◌^◌, ◌<◌, ◌≤◌, List, [], ◌∷◌, ◌++◌, Option, Some, None, true, cond, refl, sym, ◌∙◌, ap, subst, inl, inr, arith}
+use Rattle.std.proofs.Common.{◌≡◌, ℕ, ◌+◌, ◌*◌, ◌^◌, ◌<◌, ◌≤◌, List, [], ◌∷◌, ◌++◌, Option, Some, None, true, cond, refl, sym, ◌∙◌, ap, subst, inl, inr, arith}
 use Rattle.std.proofs.Math.Nat.{mod-eq_of_lt}
 use Rattle.std.proofs.Math.Seq.{append_snoc}
 use Rattle.std.proofs.lemmas.Bool.{lt-ltb, cases_lt, le-ltb}
@@ -9,7 +9,7 @@ use Rattle.rht_words.specs.Links.{link_of, head_of, marker_of, table_of, slot_of
 use Rattle.rht_words.specs.Ports.{port_of}
 use Rattle.rht_words.specs.Chains.{IsSegment}
 use Rattle.rht_words.specs.Shapes.{unpacked, size_of}
-use Rattle.rht_words.specs.Places.{CurrentTable, Slot, SlotWord, ShapeWord, SeedWord, FutureWord, Node, KeyWord, PageWord, IsBucketPlace}
+use Rattle.rht_words.specs.Places.{CurrentTable, Slot, SlotWord, ShapeWord, SeedWord, FutureWord, Node, KeyWord, PageWord}
 use Rattle.rht_words.specs.Members.{In}
 use Rattle.rht_words.proofs.Memory.{Memory}
 use Rattle.rht_words.proofs.Members.{in-middle}
@@ -17,11 +17,11 @@ use Rattle.rht_words.proofs.LinksRead.{links_tell_apart}
 use Rattle.rht_words.proofs.ChainLemmas.{IsSegment-cut}
 use Rattle.rht_policy.specs.Mix.{bucket_of}
 use Rattle.rht_nest.specs.Place.{bucket_index, bucket_place}
-use Rattle.rht_core.proofs.Theory.Ghosts.{Ghost, has_table, index_at, lock_bit, none-some, some-same}
-use Rattle.rht_core.proofs.Theory.Wholes.{chain_of, key_of, place_at, word_index, place_at-index, index-place_at, index-within, home, hash_in, future_in, stop, TableRight, IsNoBucket, Whole}
+use Rattle.rht_core.proofs.Theory.Ghosts.{Ghost, has_table, index_at, lock_bit}
+use Rattle.rht_core.proofs.Theory.Wholes.{chain_of, key_of, place_at, word_index, place_at-index, index-place_at, index-within, hash_in, future_in, stop, TableRight, Whole}
 use Rattle.rht_core.proofs.Theory.Passed.{hash-below, home-index}
-use Rattle.rht_core.proofs.Theory.Knowns.{last_of, KnownAim, NoAim, From, Beyond, KnownRehash, KnownPlace, KnownEntry, KnownWork, Works, Rooted, Follows, Empties, Faces, InBucket, Bare, AtEntry, AtTail, Aims}
-use Rattle.rht_core.proofs.Theory.Knowledge.{HasLock, IsRooted, IsFollowed, IsEmptying, IsFacing, IsInBucket, IsEntry, IsTail, IsWorking, WorkMeans}
+use Rattle.rht_core.proofs.Theory.Knowns.{KnownAim, NoAim, From, Beyond, KnownRehash, KnownPlace, KnownEntry, KnownWork, Works, Rooted, Follows, Empties, Faces, InBucket, Bare, AtEntry, AtTail, Aims}
+use Rattle.rht_core.proofs.Theory.Knowledge.{HasLock, IsInBucket, WorkMeans}
 use Rattle.rht_core.proofs.Moves.Relinking.{last_of-more}
 
 -- Behind a load of a table's future: the last table, which may be the current one, and the last one where there is one behind the
@@ -135,6 +135,11 @@ module _ (env : Env) (mix : ℕ → ℕ → ℕ → ℕ) (c : ℕ) (M : Memory) 
           aim_is = record { table = has.0; from = omega (arith, has.1) };
         };
       }
+
+  -- which table was looked at need not be known any more
+  pub root_alone : (root : ℕ) (aim : KnownAim) → Knows (Rooted root aim) → Knows (Rooted root NoAim)
+  root_alone root aim knows =
+      record { works = knows.works; more = record { root_is = knows.more.root_is; aim_is = tt } }
 
   -- the last table
   pub last_seen : (root slot : ℕ) → Knows (Rooted root (From slot))

@@ -273,8 +273,12 @@ module _ (env : Env) (mix : ℕ → ℕ → ℕ → ℕ) where
           further = record {
             bucket = bucket;
             first = stays.entries (word_index env mix at.place) entry.node is.out.out ∙ is.further.first;
-            later = omega (arith, is.further.later, stays.current,
-                table_at-grows env mix G G' keeps.grow bucket);
+            later = omega (
+              arith,
+              is.further.later,
+              stays.current,
+              table_at-grows env mix G G' keeps.grow bucket,
+            );
           };
         }
 
