@@ -4,12 +4,22 @@ pub mod Ghosts
 pub mod Wholes
 -- what a caller that goes from table to table has passed
 pub mod Passed
--- what each caller knows, and why others leave it
+-- what may be known
+pub mod Knowns
+-- what each caller knows
 pub mod Knowledge
+-- what a caller can count on
+pub mod Reliance
+-- what is known stays where a step leaves what it speaks of
+pub mod KnowledgeStays
+-- and why others leave it
+pub mod KnowledgeKept
 -- what has to be known where a store binds a port
 pub mod Readiness
 -- what a step leaves where it writes elsewhere
 pub mod Frames
+-- and of the parts of the whole
+pub mod WholeFrames
 -- what a step leaves that changes tables, slots and pages alone
 pub mod TableFrames
 -- what an operation says about bindings, and what is known of a call's answer

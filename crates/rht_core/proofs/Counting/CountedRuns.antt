@@ -1,22 +1,20 @@
 -- The count of ports, and a table that nobody uses.
 -- As many different ports are bound as there are nodes in chains, and no more. A caller has raised the count exactly where its
 -- job has. While nobody is in a call nobody has a lock or a node.
-use Rattle.std.proofs.Common.{◌≡◌, ◌≢◌, ℕ, ◌+◌, ◌*◌, ◌%◌, ◌<◌, ◌≤◌, length, slice_index, subst, false, List, [], ◌∷◌, Option, Some, None, refl, sym, ◌∙◌, ap, inl, inr, arith}
+use Rattle.std.proofs.Common.{◌≡◌, ◌≢◌, ℕ, ◌+◌, ◌%◌, ◌<◌, ◌≤◌, length, slice_index, subst, false, List, [], ◌∷◌, Option, Some, None, refl, sym, ◌∙◌, ap, inl, inr, arith}
 use Rattle.std.specs.Prelude.{count_by, sum_by}
 use Rattle.std.specs.List.{range_with_len}
 use Rattle.rht_words.specs.declared.env.Env.{Env}
 use Rattle.rht_words.specs.declared.config.Kind.TheVariants.{Single}
 use Rattle.rht_words.specs.Places.{PortCount, PageWord, word_at}
 use Rattle.rht_words.specs.Members.{In}
-use Rattle.rht_words.specs.Shapes.{unpacked, size_of}
-use Rattle.rht_nest.specs.Place.{bucket_place}
 use Rattle.rht_words.proofs.Members.{count_by-range, count_below-same, count_below-none}
 use Rattle.rht_core.specs.Jobs.{job_of}
 use Rattle.rht_core.specs.Runs.{Core, World, local_of, view_of, run_of}
-use Rattle.rht_core.specs.StandsFor.{shape_of, nodes_of}
-use Rattle.rht_core.specs.Counts.{is_raising, raising, IsListed, IsPlaced, IsBucketInForce, taken_out, Counted, AtRest}
-use Rattle.rht_core.proofs.Theory.Ghosts.{Owner, Free, Held, First, Leaving, Behind, Taken, Ghost, is_used, IsUsed, lock_bit, some-same, seat-used}
-use Rattle.rht_core.proofs.Theory.Wholes.{key_of, place_at, firsts, raisers, outs, IsBuilt, Whole}
+use Rattle.rht_core.specs.StandsFor.{nodes_of}
+use Rattle.rht_core.specs.Counts.{is_raising, raising, IsListed, IsPlaced, taken_out, Counted, AtRest}
+use Rattle.rht_core.proofs.Theory.Ghosts.{Owner, Free, Held, First, Leaving, Behind, Taken, Ghost, is_used, IsUsed, lock_bit, seat-used}
+use Rattle.rht_core.proofs.Theory.Wholes.{key_of, firsts, raisers, outs, IsBuilt, Whole}
 use Rattle.rht_core.proofs.Theory.Steps.{mem}
 use Rattle.rht_core.proofs.Machines.JobSteps.{KnowsNothing}
 use Rattle.rht_core.proofs.Events.Invariants.{Inv, idle_knows}

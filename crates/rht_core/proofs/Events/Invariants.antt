@@ -33,7 +33,8 @@ use Rattle.rht_core.proofs.Events.JobsOfCallers.{plan-job, left-job, nothing-job
 use Rattle.rht_core.proofs.Theory.Ghosts.{Ghost, is_taken_by}
 use Rattle.rht_core.proofs.Theory.Wholes.{outs, Whole}
 use Rattle.rht_core.proofs.Theory.Answering.{outs_of}
-use Rattle.rht_core.proofs.Theory.Knowledge.{Rely, Knowing-rely}
+use Rattle.rht_core.proofs.Theory.Reliance.{Rely}
+use Rattle.rht_core.proofs.Theory.KnowledgeKept.{Knowing-rely}
 use Rattle.rht_core.proofs.Theory.Steps.{mem, Step, ghost_after}
 use Rattle.rht_core.proofs.Moves.Quiet.{aside}
 use Rattle.rht_core.proofs.Machines.FindSteps.{known_nothing}

@@ -29,7 +29,8 @@ use Rattle.rht_release.specs.declared.all.AllAt.{AllAt}
 use Rattle.rht_release.specs.declared.all.AllAt.TheVariants as at
 use Rattle.rht_core.proofs.Theory.Ghosts.{Ghost}
 use Rattle.rht_core.proofs.Theory.Wholes.{list_of, Whole}
-use Rattle.rht_core.proofs.Theory.Knowledge.{Nowhere, Locks, Collected, CollectedTo, Known, Knowing, last_of}
+use Rattle.rht_core.proofs.Theory.Knowns.{Nowhere, Locks, Collected, CollectedTo, Known, last_of}
+use Rattle.rht_core.proofs.Theory.Knowledge.{Knowing}
 use Rattle.rht_core.proofs.Theory.Answering.{IsLegalOn, IsRight, Tells, keeps, learns}
 use Rattle.rht_core.proofs.Theory.Steps.{Holding, mem, owners, owners_in, moved-map, Step, step-map, answered, reads, HoldsSame, still_has}
 use Rattle.rht_core.proofs.Pieces.Locks.{unlock_step}

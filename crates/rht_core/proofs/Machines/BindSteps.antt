@@ -47,7 +47,9 @@ use Rattle.rht_bind.specs.declared.bind.BindAt.TheVariants as at
 use Rattle.rht_core.proofs.Theory.Ghosts.{put, put-same, put-other, put-all, Held, First, Ghost, is_taken_by, index_at, table_at, with_armed, armed_by}
 use Rattle.rht_core.proofs.Theory.Wholes.{chain_of, key_of, place_at, word_index, place_at-index, index-within, Whole}
 use Rattle.rht_core.proofs.Theory.Passed.{home-table, Passed-stays}
-use Rattle.rht_core.proofs.Theory.Knowledge.{HasOnly, KnownNode, KnownTable, Nowhere, Passes, AtHome, KnownBucket, Unlocked, Locks, Missed, Found, Member, InList, KnownList, FirstLink, Replaces, Known, HoldsLock, IsMember, Knowing, Unlocks, Armed, has_lock, knows_plain, idle_moves_none, TableMeans-stay}
+use Rattle.rht_core.proofs.Theory.Knowns.{KnownNode, KnownTable, Nowhere, Passes, AtHome, KnownBucket, Unlocked, Locks, Missed, Found, Member, InList, KnownList, FirstLink, Replaces, Known, Unlocks, Armed, knows_plain}
+use Rattle.rht_core.proofs.Theory.Knowledge.{HasOnly, HoldsLock, IsMember, Knowing, has_lock, idle_moves_none}
+use Rattle.rht_core.proofs.Theory.KnowledgeStays.{TableMeans-stay}
 use Rattle.rht_core.proofs.Theory.Frames.{Made, same_tables, same_grow, tables_stay}
 use Rattle.rht_core.specs.Replies.{IsBindReply, AreOwnersWith, ArePairsWith}
 use Rattle.rht_core.proofs.Theory.Answering.{KeepsAnswer, IsLegalOn, IsRight, keeps, learns}

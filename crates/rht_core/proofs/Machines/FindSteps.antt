@@ -31,7 +31,8 @@ use Rattle.rht_find.specs.declared.find.FindAt.{FindAt}
 use Rattle.rht_find.specs.declared.find.FindAt.TheVariants as at
 use Rattle.rht_core.proofs.Theory.Ghosts.{Ghost}
 use Rattle.rht_core.proofs.Theory.Wholes.{word_index, Whole}
-use Rattle.rht_core.proofs.Theory.Knowledge.{KnownTable, Nowhere, Passes, AtHome, KnownBucket, Unlocked, Locks, Missed, Member, Listing, Known, Knowing, knows_plain}
+use Rattle.rht_core.proofs.Theory.Knowns.{KnownTable, Nowhere, Passes, AtHome, KnownBucket, Unlocked, Locks, Missed, Member, Listing, Known, knows_plain}
+use Rattle.rht_core.proofs.Theory.Knowledge.{Knowing}
 use Rattle.rht_core.proofs.Theory.Answering.{KeepsAnswer, keeps, learns}
 use Rattle.rht_core.proofs.Theory.Steps.{Holding, mem, owners, owners_in, Moved, moved-map, with_knowledge, Step, answered, reads, HoldsSame, still_has}
 use Rattle.rht_core.proofs.Pieces.Locates.{known_locate, first_passed, locate_step, LocateKnows, FutureIs, future_is}

@@ -35,7 +35,10 @@ use Rattle.rht_release.specs.Rebind as rebind_at
 use Rattle.rht_release.specs.declared.rebind.RebindAt.{RebindAt}
 use Rattle.rht_core.proofs.Theory.Ghosts.{Ghost}
 use Rattle.rht_core.proofs.Theory.Wholes.{Whole}
-use Rattle.rht_core.proofs.Theory.Knowledge.{Known, Rely, Knowing, Knowing-rely}
+use Rattle.rht_core.proofs.Theory.Knowns.{Known}
+use Rattle.rht_core.proofs.Theory.Knowledge.{Knowing}
+use Rattle.rht_core.proofs.Theory.Reliance.{Rely}
+use Rattle.rht_core.proofs.Theory.KnowledgeKept.{Knowing-rely}
 use Rattle.rht_core.proofs.Theory.Steps.{mem, Holding, Step, step-map, reads}
 use Rattle.rht_core.proofs.Machines.FindSteps.{known_nothing, known_of_find, fits_find, find_holds, FindNext, find_step}
 use Rattle.rht_core.proofs.Machines.BindSteps.{known_of_bind, fits_bind, bind_holds, BindNext, bind_step}

@@ -39,7 +39,8 @@ use Rattle.rht_release.specs.declared.release.ReleaseAt.{ReleaseAt}
 use Rattle.rht_release.specs.declared.release.ReleaseAt.TheVariants as at
 use Rattle.rht_core.proofs.Theory.Ghosts.{put-same, First, Behind, Ghost}
 use Rattle.rht_core.proofs.Theory.Wholes.{chain_of, list_of, word_index, Whole}
-use Rattle.rht_core.proofs.Theory.Knowledge.{Nowhere, KnownBucket, Locks, TakenOut, LocksTakenOut, KnownList, AtNode, Differing, Matching, CutsOut, Leads, LeadsTo, Promotes, Known, Knowing, NoOwner, ListMeans, list_link, first_of_list}
+use Rattle.rht_core.proofs.Theory.Knowns.{Nowhere, KnownBucket, Locks, TakenOut, LocksTakenOut, KnownList, AtNode, Differing, Matching, CutsOut, Leads, LeadsTo, Promotes, Known, NoOwner, list_link, first_of_list}
+use Rattle.rht_core.proofs.Theory.Knowledge.{Knowing, ListMeans}
 use Rattle.rht_core.proofs.Theory.Answering.{KeepsAnswer, IsLegalOn, IsRight, keeps, learns}
 use Rattle.rht_core.proofs.Theory.Steps.{Lowers, LinksBehind, Holding, HoldsSame, by_test, mem, owners, owners_in, moved, moved-map, Step, step-map, answered, reads, still_has}
 use Rattle.rht_core.proofs.Moves.Quiet.{count_down}

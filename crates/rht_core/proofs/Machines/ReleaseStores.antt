@@ -28,7 +28,8 @@ use Rattle.rht_release.specs.FoundPort.{relink_of}
 use Rattle.rht_release.specs.declared.found_port.FoundPort.{FoundPort}
 use Rattle.rht_core.proofs.Theory.Ghosts.{index_at, put-same, put-other, Bucket, Owner, Held, First, Taken, Ghost, is_taken_by, taken_by_one}
 use Rattle.rht_core.proofs.Theory.Wholes.{list_of, place_at, word_index, place_at-index, MovesNone, Whole, outs as count_outs}
-use Rattle.rht_core.proofs.Theory.Knowledge.{HasOnly, idle_moves_none, HoldsLock, IsAtHome, knows_plain, HasTakenOut, Nowhere, KnownBucket, TakenOut, LocksTakenOut, KnownList, CutsOut, LeadsTo, Promotes, Known, Knowing, NoOwner, IsFound, BucketMeans, last_of, first_of_list}
+use Rattle.rht_core.proofs.Theory.Knowns.{knows_plain, Nowhere, KnownBucket, TakenOut, LocksTakenOut, KnownList, CutsOut, LeadsTo, Promotes, Known, NoOwner, last_of, first_of_list}
+use Rattle.rht_core.proofs.Theory.Knowledge.{HasOnly, idle_moves_none, HoldsLock, IsAtHome, HasTakenOut, Knowing, IsFound, BucketMeans}
 use Rattle.rht_core.proofs.Theory.Passed.{stays_in}
 use Rattle.rht_core.proofs.Theory.Frames.{Made}
 use Rattle.rht_core.proofs.Theory.Readiness.{Change, changed}

@@ -2,7 +2,7 @@
 -- The tables in force are those from the current one on, in the order in which they were attached. Each node that is met in them has a
 -- seat: it is in the chain of a bucket, or on its way out of one, and is the first of those to which its port is bound. And each such
 -- node is met. So the first one that has a port's key is the first to which the port is bound; the others are met along its list.
-use Rattle.std.proofs.Common.{◌≡◌, ℕ, zero, suc, ◌+◌, ◌-◌, ◌*◌, ◌%◌, ◌<◌, ◌≤◌, List, [], ◌∷◌, length, Option, Some, None, true, cond, refl, sym, ◌∙◌, ap, subst, inl, inr, slice_index, arith, ◌≢◌, map, ◌++◌, Bool, false}
+use Rattle.std.proofs.Common.{◌≡◌, ℕ, zero, suc, ◌+◌, ◌-◌, ◌*◌, ◌%◌, ◌<◌, ◌≤◌, List, [], ◌∷◌, length, Option, Some, None, true, cond, refl, sym, ◌∙◌, ap, subst, inl, inr, slice_index, arith, map, ◌++◌}
 use Rattle.std.proofs.lemmas.Bool.{eqb-true, eq-eqb, lt-ltb, le-ltb, cases_eq}
 use Rattle.std.proofs.lemmas.Bool.Decides.{nat_tests}
 use Rattle.std.proofs.lemmas.List.{append-nil}
@@ -11,18 +11,18 @@ use Rattle.std.specs.List.{AllByRecursion, find, flat_map, range_with_len}
 use Rattle.rht_words.specs.declared.env.Env.{Env}
 use Rattle.rht_words.specs.declared.geometry.Geometry.{Geometry}
 use Rattle.rht_words.proofs.Memory.{Memory}
-use Rattle.rht_words.specs.Links.{node_of, table_of, future_of, head_of, marker_of, link_of, slot_of}
+use Rattle.rht_words.specs.Links.{node_of, table_of, future_of, head_of, link_of, slot_of}
 use Rattle.rht_words.specs.Shapes.{unpacked, size_of}
 use Rattle.rht_words.specs.Chains.{IsSegment}
 use Rattle.rht_words.specs.Places.{CurrentTable, Slot, FutureWord}
 use Rattle.rht_words.proofs.ChainLemmas.{IsSegment-append}
 use Rattle.rht_words.proofs.LinksRead.{links_tell_apart, entries_come_back}
 use Rattle.rht_words.specs.Members.{In, IsDistinct, NotIn}
-use Rattle.rht_words.proofs.Members.{In-flat_map, flat_map-In, In-range_with_len, range_with_len-In, flat_map-same, find-Some, find-None, In-AllByRecursion, count_below-most, length-count_below, not_in_from, In-append_cases, In-append_right, IsDistinct-with}
+use Rattle.rht_words.proofs.Members.{In-flat_map, flat_map-In, In-range_with_len, range_with_len-In, find-Some, find-None, In-AllByRecursion, count_below-most, length-count_below, not_in_from, In-append_cases, In-append_right, IsDistinct-with}
 use Rattle.rht_nest.specs.Place.{bucket_place, bucket_index}
 use Rattle.rht_core.specs.StandsFor.{in_force, chain_from, bucket_nodes, table_nodes, has_key, first_node, list_from, nodes_of, stands_for, shape_of, tables_from}
 use Rattle.rht_core.proofs.Theory.Ghosts.{Ghost, lock_bit, table_at, some-same, First, Leaving, seat_of, seated, index_at}
-use Rattle.rht_core.proofs.Theory.Wholes.{chain_of, list_of, key_of, home, hash_in, place_at, future_in, Whole, stop, out-seated, seated_at, IsHomeOf}
+use Rattle.rht_core.proofs.Theory.Wholes.{chain_of, list_of, key_of, hash_in, place_at, Whole, stop, out-seated, seated_at, IsHomeOf}
 use Rattle.rht_core.proofs.Theory.Passed.{hash-below, home-index, home-within}
 use Rattle.rht_core.proofs.Pieces.Lists.{list_among, list_few}
 use Rattle.rht_core.proofs.Theory.Steps.{mem, owners, owners_in}

@@ -14,9 +14,11 @@ use Rattle.rht_words.proofs.ChainLemmas.{IsSegment-members}
 use Rattle.rht_core.proofs.Theory.Ghosts.{put, put-same, put-other, put-all, Free, Held, First, Leaving, Behind, Ghost, is_first, is_used, is_taken_by, IsUsed, seat_of, seat_in, seat, seat-used, held_not_used, held_by_one, none-some, some-same, table_at}
 use Rattle.rht_core.proofs.Theory.Wholes.{chain_of, list_of, key_of, place_at, home, stop, IsNoBucket, BucketRight, ArmedRight, IsHomeOf, IsFirstAt, IsBehindIn, IsBoundTo, Owned, ArenaRight, IsBuilt, Whole, none_out, out-seated, firsts, raisers}
 use Rattle.rht_core.proofs.Theory.Passed.{home-within, home-table, held-bucket, PassesStay, IsArmedFor}
-use Rattle.rht_core.proofs.Theory.Knowledge.{ArmedFor, IsEmptied, bound_used}
+use Rattle.rht_core.proofs.Theory.Knowledge.{ArmedFor, IsEmptied}
+use Rattle.rht_core.proofs.Theory.Reliance.{bound_used}
 use Rattle.rht_core.proofs.Theory.Readiness.{linked_bucket, linked, IsReady}
-use Rattle.rht_core.proofs.Theory.Frames.{Made, UsedStay, used_stay, chains_stay, seat_stays, first_stays, SameTables, same_tables, tables_stay, holdings_stay, entries_stay, work_stays, TablesRight-write, SlotsRight-write, PagesRight-write, IsHomeOf-same, BucketRight-frame, MovingStays, entry_words, MovingRight-frame, Leaving-frame}
+use Rattle.rht_core.proofs.Theory.Frames.{Made, UsedStay, used_stay, chains_stay, seat_stays, first_stays, SameTables, same_tables, tables_stay, holdings_stay, entries_stay, work_stays}
+use Rattle.rht_core.proofs.Theory.WholeFrames.{TablesRight-write, SlotsRight-write, PagesRight-write, IsHomeOf-same, BucketRight-frame, MovingStays, entry_words, MovingRight-frame, Leaving-frame}
 
 module _ (env : Env) (mix : ℕ → ℕ → ℕ → ℕ) where
   head_of-link : (place n : ℕ) → head_of place (link_of n) ≡ link_of n

@@ -12,8 +12,9 @@ use Rattle.rht_words.proofs.Members.{in_and_not, in-middle, In-append_left, In-a
 use Rattle.rht_core.proofs.Theory.Ghosts.{put, put-same, put-other, put-all, First, Behind, Taken, Ghost, seat_of, is_first, is_used, taken_by_one, held_not_used, table_at}
 use Rattle.rht_core.proofs.Theory.Passed.{home-within}
 use Rattle.rht_core.proofs.Theory.Wholes.{list_of, key_of, MovesNone, IsHomeOf, IsFirstAt, IsBehindIn, IsBoundTo, IsBuilt, Whole, firsts, raisers}
-use Rattle.rht_core.proofs.Theory.Knowledge.{last_of}
-use Rattle.rht_core.proofs.Theory.Frames.{Made, same_tables, IsHomeOf-same, BucketRight-frame}
+use Rattle.rht_core.proofs.Theory.Knowns.{last_of}
+use Rattle.rht_core.proofs.Theory.Frames.{Made, same_tables}
+use Rattle.rht_core.proofs.Theory.WholeFrames.{IsHomeOf-same, BucketRight-frame}
 use Rattle.rht_core.proofs.Theory.Readiness.{Change, changed}
 use Rattle.rht_core.proofs.Moves.Rebinding.{IsStoreFor, IsChanged, IsRebound, rebind}
 use Rattle.rht_core.proofs.Moves.Relinking.{segment_relinked, last_in}

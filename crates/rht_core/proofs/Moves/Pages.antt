@@ -11,7 +11,8 @@ use Rattle.rht_words.proofs.Memory.{Memory, IsWrite}
 use Rattle.rht_core.proofs.Theory.Ghosts.{blank_bucket, put_in, put_in-all, PageOwner, PageFree, PageHeld, PageOf, Ghost, has_bit, with_pages}
 use Rattle.rht_core.proofs.Theory.Wholes.{IsNoBucket, IsPageOf, SlotsRight, PagesRight, Whole}
 use Rattle.rht_core.proofs.Theory.Readiness.{ArePagesOf}
-use Rattle.rht_core.proofs.Theory.Frames.{Others, Made, no_bucket}
+use Rattle.rht_core.proofs.Theory.Frames.{Others, Made}
+use Rattle.rht_core.proofs.Theory.WholeFrames.{no_bucket}
 use Rattle.rht_core.proofs.Theory.TableFrames.{TablesKept, IsNoBucketWord, no_table-no_bucket, Whole-retabled, Rely-retabled, TablesRight-kept}
 
 -- no word of the map of pages is a bucket's or a node's

@@ -9,8 +9,10 @@ use Rattle.rht_core.proofs.Theory.Ghosts.{put, put-same, put-other, put-all, Gho
 use Rattle.rht_core.proofs.Theory.Wholes.{LockedRight, BucketRight, ArmedRight, IsNoBucket, MovesNone, Whole, firsts, raisers}
 use Rattle.rht_core.proofs.Theory.Passed.{held-bucket, PassesStay, WasOut}
 use Rattle.rht_core.proofs.Theory.Readiness.{IsArming}
-use Rattle.rht_core.proofs.Theory.Knowledge.{IsEmptied, Rely}
-use Rattle.rht_core.proofs.Theory.Frames.{Others, Made, IsNoTableWord, unwritten_words, used_stay, chains_stay, slots_stay, holdings_stay, entries_stay, work_stays, tables_stay, same_tables, Rely-same, TablesRight-same, no_bucket, MovingStays, entry_words, MovingRight-frame, Owned-frame, SameChains, same_chains, chains_passes, Whole-frame, locks_stay, arena_stays}
+use Rattle.rht_core.proofs.Theory.Knowledge.{IsEmptied}
+use Rattle.rht_core.proofs.Theory.Reliance.{Rely}
+use Rattle.rht_core.proofs.Theory.Frames.{Others, Made, IsNoTableWord, unwritten_words, used_stay, chains_stay, slots_stay, holdings_stay, entries_stay, work_stays, tables_stay, same_tables, Rely-same}
+use Rattle.rht_core.proofs.Theory.WholeFrames.{TablesRight-same, no_bucket, MovingStays, entry_words, MovingRight-frame, Owned-frame, SameChains, same_chains, chains_passes, Whole-frame, locks_stay, arena_stays}
 
 module _ (env : Env) (mix : ℕ → ℕ → ℕ → ℕ) where
   -- ---- the lock of a bucket

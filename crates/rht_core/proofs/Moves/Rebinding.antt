@@ -12,8 +12,10 @@ use Rattle.rht_words.proofs.ChainLemmas.{IsSegment-members}
 use Rattle.rht_core.proofs.Theory.Ghosts.{put, put-same, put-other, put-all, Owner, Free, Held, First, Leaving, Behind, Ghost, is_used, is_taken_by, IsUsed, seat_of, seat_in, seat, table_at, held_not_used, held_by_one, none-some, some-same}
 use Rattle.rht_core.proofs.Theory.Wholes.{list_of, key_of, IsNoBucket, BucketRight, ArmedRight, IsFirstAt, IsBehindIn, IsBoundTo, Owned, ArenaRight, IsBuilt, Whole, MovesNone, seated_at, out-seated, firsts, raisers}
 use Rattle.rht_core.proofs.Theory.Passed.{held-bucket, PassesStay, WasSeated}
-use Rattle.rht_core.proofs.Theory.Knowledge.{IsEmptied, bound_used}
-use Rattle.rht_core.proofs.Theory.Frames.{Made, Others, IsNoTableWord, SameTables, same_tables, tables_stay, slots_stay, holdings_stay, work_stays, is_apart, TablesRight-write, SlotsRight-write, PagesRight-write, IsHomeOf-same, BucketRight-frame, MovingStays, EntryWords, MovingRight-frame, Leaving-frame}
+use Rattle.rht_core.proofs.Theory.Knowledge.{IsEmptied}
+use Rattle.rht_core.proofs.Theory.Reliance.{bound_used}
+use Rattle.rht_core.proofs.Theory.Frames.{Made, Others, IsNoTableWord, SameTables, same_tables, tables_stay, slots_stay, holdings_stay, work_stays}
+use Rattle.rht_core.proofs.Theory.WholeFrames.{is_apart, TablesRight-write, SlotsRight-write, PagesRight-write, IsHomeOf-same, BucketRight-frame, MovingStays, EntryWords, MovingRight-frame, Leaving-frame}
 use Rattle.rht_core.proofs.Theory.Readiness.{Change, changed}
 
 module _ (env : Env) (mix : ℕ → ℕ → ℕ → ℕ) (d : ℕ) (change : Change) (M M' : Memory) (G : Ghost)

@@ -13,7 +13,7 @@ use Rattle.rht_words.proofs.ChainLemmas.{IsSegment-cut, IsSegment-members}
 use Rattle.rht_words.proofs.Members.{in_and_not, In-append_left, In-append_right, IsDistinct-left, IsDistinct-apart}
 use Rattle.rht_core.proofs.Theory.Ghosts.{Bucket}
 use Rattle.rht_core.proofs.Theory.Wholes.{chain_of, place_at, stop, BucketRight}
-use Rattle.rht_core.proofs.Theory.Knowledge.{last_of}
+use Rattle.rht_core.proofs.Theory.Knowns.{last_of}
 
 -- ---- the last of a row
 

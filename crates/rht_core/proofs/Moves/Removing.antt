@@ -14,8 +14,9 @@ use Rattle.rht_words.proofs.Members.{not_in_from, in_and_not, in-middle, In-appe
 use Rattle.rht_core.proofs.Theory.Ghosts.{put, put-same, put-other, put-all, Owner, Held, First, Leaving, Behind, Taken, Ghost, is_first, is_used, is_taken_by, seat_of, taken_by_one, held_not_used, table_at}
 use Rattle.rht_core.proofs.Theory.Wholes.{chain_of, list_of, key_of, place_at, stop, MovesNone, none_out, IsHomeOf, BucketRight, IsFirstAt, IsBehindIn, IsBoundTo, IsBuilt, Whole, firsts, raisers}
 use Rattle.rht_core.proofs.Theory.Passed.{home-within}
-use Rattle.rht_core.proofs.Theory.Knowledge.{last_of}
-use Rattle.rht_core.proofs.Theory.Frames.{Made, same_tables, IsHomeOf-same}
+use Rattle.rht_core.proofs.Theory.Knowns.{last_of}
+use Rattle.rht_core.proofs.Theory.Frames.{Made, same_tables}
+use Rattle.rht_core.proofs.Theory.WholeFrames.{IsHomeOf-same}
 use Rattle.rht_core.proofs.Theory.Readiness.{Change, changed}
 use Rattle.rht_core.proofs.Moves.Rebinding.{IsStoreFor, IsChanged, IsRebound, rebind}
 use Rattle.rht_core.proofs.Moves.Relinking.{relink_address, relink_value, relinked, relinked_right, last_in}

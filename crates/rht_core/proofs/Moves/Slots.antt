@@ -7,7 +7,8 @@ use Rattle.rht_words.proofs.Memory.{Memory, IsWrite}
 use Rattle.rht_core.proofs.Theory.Ghosts.{put, put-other, put-all, SlotOwner, SlotFree, SlotHeld, Live, Retired, Ghost, state_word, has_table, with_slot}
 use Rattle.rht_core.proofs.Theory.Wholes.{SlotsRight, Whole}
 use Rattle.rht_core.proofs.Theory.Knowledge.{HasSlot}
-use Rattle.rht_core.proofs.Theory.Frames.{Others, Made, SlotsRight-write, same_tables}
+use Rattle.rht_core.proofs.Theory.Frames.{Others, Made, same_tables}
+use Rattle.rht_core.proofs.Theory.WholeFrames.{SlotsRight-write}
 use Rattle.rht_core.proofs.Theory.TableFrames.{TablesKept, IsNoBucketWord, Whole-retabled, Rely-retabled, TablesRight-kept, PagesRight-kept}
 use Rattle.rht_core.proofs.Theory.Steps.{IsTableWord}
 use Rattle.rht_core.proofs.Moves.Quiet.{aside}

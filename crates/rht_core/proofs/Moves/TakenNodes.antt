@@ -12,8 +12,10 @@ use Rattle.rht_words.specs.Members.{In}
 use Rattle.rht_words.proofs.Members.{count_below-same}
 use Rattle.rht_core.proofs.Theory.Ghosts.{put, put-other, put-all, Owner, Free, Held, First, Behind, Ghost, is_first, is_used, is_taken_by, IsUsed, seat_of, seat-used, none-some, unused-not_first, behind_one, held_not_used, held_by_one, with_owner}
 use Rattle.rht_core.proofs.Theory.Wholes.{key_of, ArenaRight, IsBuilt, Whole, seated_at, firsts as count_firsts, raisers}
-use Rattle.rht_core.proofs.Theory.Knowledge.{HasNode, bound_used}
-use Rattle.rht_core.proofs.Theory.Frames.{Made, UsedStay, used_stay, chains_stay, chains_passes, holdings_stay, entries_stay, work_stays, tables_stay, same_tables, Rely-same, SameChains, same_chains, Whole-frame, locks_stay, arena_stays}
+use Rattle.rht_core.proofs.Theory.Knowledge.{HasNode}
+use Rattle.rht_core.proofs.Theory.Reliance.{bound_used}
+use Rattle.rht_core.proofs.Theory.Frames.{Made, UsedStay, used_stay, chains_stay, holdings_stay, entries_stay, work_stays, tables_stay, same_tables, Rely-same}
+use Rattle.rht_core.proofs.Theory.WholeFrames.{chains_passes, SameChains, same_chains, Whole-frame, locks_stay, arena_stays}
 
 module _ (env : Env) (mix : ℕ → ℕ → ℕ → ℕ) where
   -- ---- a word of a node that the caller has

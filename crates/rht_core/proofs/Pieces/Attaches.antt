@@ -16,7 +16,8 @@ use Rattle.rht_arena.specs.GiveRun.{give_run_new, pages_of_give_run}
 use Rattle.rht_nest.specs.Tables.{table_pages, run_first, run_pages, pages_of_table}
 use Rattle.rht_core.proofs.Theory.Ghosts.{put, put-all, put_in, put_in-all, PageHeld, PageOf, SlotHeld, Live, Ghost, has_table, index_at, flat_table, is_page_for}
 use Rattle.rht_core.proofs.Theory.Wholes.{Whole}
-use Rattle.rht_core.proofs.Theory.Knowledge.{Known, MakesNothing, HasTaken, HasMade, IsMade}
+use Rattle.rht_core.proofs.Theory.Knowns.{Known, MakesNothing, HasTaken, HasMade}
+use Rattle.rht_core.proofs.Theory.Knowledge.{IsMade}
 use Rattle.rht_core.proofs.Theory.Readiness.{IsAttaching}
 use Rattle.rht_core.proofs.Theory.TableFrames.{Knowing-retabled}
 use Rattle.rht_core.proofs.Theory.Steps.{Attaches, Holding, mem, Moved, moved, loads}

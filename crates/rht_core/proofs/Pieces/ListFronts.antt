@@ -10,7 +10,9 @@ use Rattle.rht_words.proofs.Memory.{Memory, IsWrite}
 use Rattle.rht_core.proofs.Theory.Ghosts.{put, put-same, put-all, Held, First, Behind, Bucket, Ghost, is_taken_by, held_not_used, with_owner}
 use Rattle.rht_core.proofs.Theory.Wholes.{list_of, key_of, place_at, word_index, place_at-index, home, MovesNone, outs, Whole}
 use Rattle.rht_core.proofs.Theory.Passed.{Passed, stays_in}
-use Rattle.rht_core.proofs.Theory.Knowledge.{HasOnly, HoldsLock, IsInList, Replaces, StandsAt, bound_used}
+use Rattle.rht_core.proofs.Theory.Knowns.{Replaces, StandsAt}
+use Rattle.rht_core.proofs.Theory.Knowledge.{HasOnly, HoldsLock, IsInList}
+use Rattle.rht_core.proofs.Theory.Reliance.{bound_used}
 use Rattle.rht_core.proofs.Theory.Frames.{Made}
 use Rattle.rht_core.proofs.Theory.Readiness.{Change, changed}
 use Rattle.rht_core.proofs.Theory.Steps.{reowned-outs}

@@ -10,7 +10,8 @@ use Rattle.rht_words.proofs.Memory.{Memory}
 use Rattle.rht_words.proofs.Members.{in-middle, In-AllByRecursion, count_below-most, length-count_below}
 use Rattle.rht_core.proofs.Theory.Ghosts.{Ghost}
 use Rattle.rht_core.proofs.Theory.Wholes.{list_of, word_index, seated_at, Whole}
-use Rattle.rht_core.proofs.Theory.Knowledge.{IsAmong, IsFound, list_link, first_of_list}
+use Rattle.rht_core.proofs.Theory.Knowns.{IsAmong, list_link, first_of_list}
+use Rattle.rht_core.proofs.Theory.Knowledge.{IsFound}
 
 -- the next one of these nodes
 pub record IsNextOf (nodes : List ℕ) (link : ℕ) : Type 0 where

@@ -18,7 +18,8 @@ use Rattle.rht_nest.specs.declared.locate.Located.{Located}
 use Rattle.rht_core.proofs.Theory.Ghosts.{Ghost, has_table, index_at, none-some}
 use Rattle.rht_core.proofs.Theory.Wholes.{TableRight, Whole, hash_in, place_at, word_index, future_in, index-place_at}
 use Rattle.rht_core.proofs.Theory.Passed.{passed_first, hash-below, home-index, unbound_at_last, go_on}
-use Rattle.rht_core.proofs.Theory.Knowledge.{KnownNode, KnownTable, Passes, Shaped, AtHome, KnownBucket, knows_plain, IsPassing, IsMissed, Knowing}
+use Rattle.rht_core.proofs.Theory.Knowns.{KnownNode, KnownTable, Passes, Shaped, AtHome, KnownBucket, knows_plain}
+use Rattle.rht_core.proofs.Theory.Knowledge.{IsPassing, IsMissed, Knowing}
 use Rattle.rht_core.proofs.Theory.Steps.{Holding, mem, Moved, loads}
 
 -- what is known on the way to the bucket of a port

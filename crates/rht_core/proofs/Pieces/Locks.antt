@@ -8,8 +8,11 @@ use Rattle.rht_words.specs.Places.{Node, PageWord, words_in}
 use Rattle.rht_words.proofs.Memory.{Memory, IsWrite, is_write}
 use Rattle.rht_core.proofs.Theory.Ghosts.{put, put-all, Ghost, lock_bit, held_by, with_holder}
 use Rattle.rht_core.proofs.Theory.Wholes.{place_at, word_index, place_at-index, index-within, MovesNone, moves_none, Whole}
-use Rattle.rht_core.proofs.Theory.Knowledge.{KnownNode, KnownTable, KnownBucket, Unlocked, Unlocks, Locks, TakenOut, LocksTakenOut, knows_plain, HasLock, has_lock, BucketMeans, TableMeans-stay, NodeMeans-stay, Knowing}
-use Rattle.rht_core.proofs.Theory.Frames.{tables_stay, chains_passes}
+use Rattle.rht_core.proofs.Theory.Knowns.{KnownNode, KnownTable, KnownBucket, Unlocked, Unlocks, Locks, TakenOut, LocksTakenOut, knows_plain}
+use Rattle.rht_core.proofs.Theory.Knowledge.{HasLock, has_lock, BucketMeans, Knowing}
+use Rattle.rht_core.proofs.Theory.KnowledgeStays.{TableMeans-stay, NodeMeans-stay}
+use Rattle.rht_core.proofs.Theory.Frames.{tables_stay}
+use Rattle.rht_core.proofs.Theory.WholeFrames.{chains_passes}
 use Rattle.rht_core.proofs.Theory.Steps.{DropsLock, Holding, mem, Moved, moved}
 use Rattle.rht_core.proofs.Moves.Quiet.{IsUnworked, unworked_by, held_chains, drop_lock}
 

@@ -27,7 +27,8 @@ use Rattle.rht_nest.specs.declared.unmake.UnmakeAt.{UnmakeAt}
 use Rattle.rht_nest.specs.declared.unmake.UnmakeAt.TheVariants as gives
 use Rattle.rht_core.proofs.Theory.Ghosts.{Ghost}
 use Rattle.rht_core.proofs.Theory.Wholes.{Whole}
-use Rattle.rht_core.proofs.Theory.Knowledge.{Known, KnownSlot, KnownMaking, MakesNothing, HasTaken, HasMade, MakingMeans}
+use Rattle.rht_core.proofs.Theory.Knowns.{Known, KnownSlot, KnownMaking, MakesNothing, HasTaken, HasMade}
+use Rattle.rht_core.proofs.Theory.Knowledge.{MakingMeans}
 use Rattle.rht_core.proofs.Theory.Steps.{Holding, mem, Moved, moved-map}
 use Rattle.rht_core.proofs.Pieces.RunPages.{filter-none, false_from, is_between, between-is}
 use Rattle.rht_core.proofs.Pieces.Holdings.{bare_slot, with_slot_word, holding, knowing, take_slot_step, lose_slot_step, give_slot_step, fill_slot_step, serial_step}

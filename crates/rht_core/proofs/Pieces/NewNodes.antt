@@ -23,8 +23,12 @@ use Rattle.rht_arena.specs.declared.new_node.NewNodeAt.TheVariants as news
 use Rattle.rht_arena.proofs.TakenWereFree.{claims}
 use Rattle.rht_core.proofs.Theory.Ghosts.{put-same, put-all, Owner, Free, Held, Ghost, IsUsed, is_used, is_taken_by, held_not_used, with_owner}
 use Rattle.rht_core.proofs.Theory.Wholes.{Whole}
-use Rattle.rht_core.proofs.Theory.Knowledge.{members_used, IsPlain, BucketMeans-own, KnownNode, KnownTable, KnownBucket, knows_plain, TablesStay, NodeMeans, TableMeans, Knowing, TableMeans-stay, BucketMeans-stay}
-use Rattle.rht_core.proofs.Theory.Frames.{chains_stay, same_chains, chains_passes, tables_stay}
+use Rattle.rht_core.proofs.Theory.Knowns.{KnownNode, KnownTable, KnownBucket, knows_plain}
+use Rattle.rht_core.proofs.Theory.Knowledge.{IsPlain, NodeMeans, TableMeans, Knowing}
+use Rattle.rht_core.proofs.Theory.Reliance.{members_used, TablesStay}
+use Rattle.rht_core.proofs.Theory.KnowledgeStays.{BucketMeans-own, TableMeans-stay, BucketMeans-stay}
+use Rattle.rht_core.proofs.Theory.Frames.{chains_stay, tables_stay}
+use Rattle.rht_core.proofs.Theory.WholeFrames.{same_chains, chains_passes}
 use Rattle.rht_core.proofs.Theory.Steps.{Quiet, TakesNode, GivesNode, by_test, Holding, mem, Moved, moved, loads}
 use Rattle.rht_core.proofs.Moves.TakenNodes.{reowned_chains, fill, take_node, give_node, retouch}
 

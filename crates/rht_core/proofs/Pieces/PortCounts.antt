@@ -7,8 +7,12 @@ use Rattle.rht_words.specs.Places.{PortCount, Node, ChainLink, KeyWord, OwnerWor
 use Rattle.rht_words.proofs.Memory.{Memory, IsWrite, is_write}
 use Rattle.rht_core.proofs.Theory.Ghosts.{put-same, Ghost, with_raised}
 use Rattle.rht_core.proofs.Theory.Wholes.{Whole}
-use Rattle.rht_core.proofs.Theory.Knowledge.{members_used, KnownNode, KnownTable, KnownBucket, knows_plain, Knowing, NodeMeans-stay, TableMeans-stay, BucketMeans-own}
-use Rattle.rht_core.proofs.Theory.Frames.{chains_stay, same_chains, chains_passes, tables_stay}
+use Rattle.rht_core.proofs.Theory.Knowns.{KnownNode, KnownTable, KnownBucket, knows_plain}
+use Rattle.rht_core.proofs.Theory.Knowledge.{Knowing}
+use Rattle.rht_core.proofs.Theory.Reliance.{members_used}
+use Rattle.rht_core.proofs.Theory.KnowledgeStays.{NodeMeans-stay, TableMeans-stay, BucketMeans-own}
+use Rattle.rht_core.proofs.Theory.Frames.{chains_stay, tables_stay}
+use Rattle.rht_core.proofs.Theory.WholeFrames.{same_chains, chains_passes}
 use Rattle.rht_core.proofs.Theory.Steps.{Raises, Holding, mem, Moved, moved}
 use Rattle.rht_core.proofs.Moves.Quiet.{count_up}
 

@@ -33,7 +33,8 @@ use Rattle.rht_chain.specs.declared.probe.Probed.{Probed}
 use Rattle.rht_core.proofs.Theory.Ghosts.{put-same, put-all, Ghost, held_by, index_at}
 use Rattle.rht_core.proofs.Theory.Wholes.{chain_of, key_of, place_at, word_index, place_at-index, index-within, stop, Whole}
 use Rattle.rht_core.proofs.Theory.Passed.{NoKey, home-bucket}
-use Rattle.rht_core.proofs.Theory.Knowledge.{KnownNode, AtHome, KnownBucket, Unlocked, Locks, Stands, Differs, Missed, Found, knows_plain, StandsAt, HoldsLock, BucketMeans, Knowing}
+use Rattle.rht_core.proofs.Theory.Knowns.{KnownNode, AtHome, KnownBucket, Unlocked, Locks, Stands, Differs, Missed, Found, knows_plain, StandsAt}
+use Rattle.rht_core.proofs.Theory.Knowledge.{HoldsLock, BucketMeans, Knowing}
 use Rattle.rht_core.proofs.Theory.Steps.{TakesLock, by_test, Holding, mem, Moved, moved, moved-map, loads}
 use Rattle.rht_core.proofs.Moves.Quiet.{take_lock, unworked_free, free-still}
 use Rattle.rht_core.proofs.Moves.Relinking.{last_of-more}

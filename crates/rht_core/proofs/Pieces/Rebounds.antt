@@ -11,7 +11,8 @@ use Rattle.rht_words.proofs.Memory.{Memory}
 use Rattle.rht_words.proofs.PlacesApart.{parts_in_order}
 use Rattle.rht_core.proofs.Theory.Ghosts.{put, put-same, put-other, put-all, Owner, Held, Taken, Ghost, is_used, is_taken_by}
 use Rattle.rht_core.proofs.Theory.Wholes.{key_of, place_at, word_index, Whole}
-use Rattle.rht_core.proofs.Theory.Knowledge.{HasOnly, IsFound, bound_used}
+use Rattle.rht_core.proofs.Theory.Knowledge.{HasOnly, IsFound}
+use Rattle.rht_core.proofs.Theory.Reliance.{bound_used}
 use Rattle.rht_core.proofs.Theory.Passed.{NoKey-same}
 use Rattle.rht_core.proofs.Theory.Frames.{Made}
 use Rattle.rht_core.proofs.Theory.Readiness.{Change, changed}

@@ -23,7 +23,7 @@ use Rattle.rht_arena.specs.GiveRun.{GiveRunModel, give_run_plan, give_run_after,
 use Rattle.rht_arena.proofs.RunBits.{run_bits-fits, bit_at-run, bit_at-run_from, bit_at-run_until}
 use Rattle.rht_core.proofs.Theory.Ghosts.{Ghost, has_bit}
 use Rattle.rht_core.proofs.Theory.Wholes.{Whole}
-use Rattle.rht_core.proofs.Theory.Knowledge.{Known, KnownSlot, HasTaken}
+use Rattle.rht_core.proofs.Theory.Knowns.{Known, KnownSlot, HasTaken}
 use Rattle.rht_core.proofs.Theory.Steps.{Holding, mem, Moved, loads}
 use Rattle.rht_core.proofs.Moves.Pages.{has_bit-is, is_has_bit}
 use Rattle.rht_core.proofs.Pieces.RunPages.{false_from, filter-In, In-filter, below-In, In-below, pages_behind, given_below-pages, cleared-more, given-had, given-less, found_within, given_within}

@@ -240,15 +240,6 @@ seat-first (Leaving i) j is = refl
 seat-first (Behind k) j is = absurd (cc)
 seat-first (Taken c) j is = absurd (cc)
 
--- nobody has taken it out
-pub seat-not_out : (o : Owner) (j c : ℕ) → seat_of o ≡ Some j → is_taken_by c o ≡ false
-seat-not_out Free j c is = absurd (cc)
-seat-not_out (Held d) j c is = absurd (cc)
-seat-not_out (First i) j c is = refl
-seat-not_out (Leaving i) j c is = refl
-seat-not_out (Behind k) j c is = absurd (cc)
-seat-not_out (Taken d) j c is = absurd (cc)
-
 -- a node that is no port's is in no chain
 pub unused-not_first : (o : Owner) → is_used o ≡ false → is_first o ≡ false
 unused-not_first Free is = refl

@@ -11,8 +11,13 @@ use Rattle.rht_words.proofs.ChainLemmas.{IsSegment-members}
 use Rattle.rht_core.proofs.Theory.Ghosts.{Table, Bucket, PageOwner, PageFree, PageHeld, PageOf, SlotOwner, SlotHeld, Ghost, table_of_page, table_of_slot, table_at, has_table, index_at}
 use Rattle.rht_core.proofs.Theory.Wholes.{key_of, list_of, home, future_in, IsNoBucket, PlacedRight, TableRight, TablesRight, SlotsRight, PagesRight, MovingRight, OutRight, IsHomeOf, IsFirstAt, IsLeavingAt, Owned, Whole, seated_at}
 use Rattle.rht_core.proofs.Theory.Passed.{held-bucket, home-stays, TablesGrow, PassesStay, Passed-stays}
-use Rattle.rht_core.proofs.Theory.Knowledge.{Known, KnownMaking, MakingMeans, TablesStay, HoldingsStay, WorkStays, members_used, Rely, NodeMeans-stay, TableMeans-stay, BucketMeans-own, WorkMeans-stay, Knowing}
-use Rattle.rht_core.proofs.Theory.Frames.{IsApart, no_bucket, passes_same, chains_stay, BucketRight-frame, arena_stays}
+use Rattle.rht_core.proofs.Theory.Knowns.{Known, KnownMaking}
+use Rattle.rht_core.proofs.Theory.Knowledge.{MakingMeans, Knowing}
+use Rattle.rht_core.proofs.Theory.Reliance.{TablesStay, HoldingsStay, WorkStays, members_used, Rely}
+use Rattle.rht_core.proofs.Theory.KnowledgeStays.{NodeMeans-stay, TableMeans-stay, BucketMeans-own}
+use Rattle.rht_core.proofs.Theory.KnowledgeKept.{WorkMeans-stay}
+use Rattle.rht_core.proofs.Theory.Frames.{passes_same, chains_stay}
+use Rattle.rht_core.proofs.Theory.WholeFrames.{IsApart, no_bucket, BucketRight-frame, arena_stays}
 
 -- the address is no word of a node or a bucket, nor of the map of nodes, nor the count
 pub record IsNoBucketWord (a : Address) : Type 0 where
