@@ -30,3 +30,5 @@ pub mod RunPages
 pub mod Runs
 -- a table is made and given back
 pub mod Makes
+-- a table that was made is attached, or is to be given back
+pub mod Attaches
