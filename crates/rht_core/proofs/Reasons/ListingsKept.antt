@@ -92,6 +92,7 @@ module _ (g : Geometry) where
       → loads_owner g (Load (place_of g address)) ≡ false
   at_other address there other = ap is_owner_word (address_at-place_of g address there) ∙ other
 
+  -- and of the word of a bucket
   at_bucket : (place : ℕ) → IsBucketPlace g place → loads_owner g (Load place) ≡ false
   at_bucket place there =
       let index = place - pages_at g in
