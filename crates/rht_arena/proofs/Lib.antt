@@ -12,3 +12,15 @@ pub mod NodesSeen
 pub mod NodesInTurn
 -- which operations see two nodes taken in their turn, worked out
 pub mod WorkedTurns
+-- the bits of a run's pages
+pub mod RunBits
+-- whatever words they are told, the taking and giving back of a run stay in it
+pub mod RunsStay
+-- on which words the taking and giving back of runs work
+pub mod RunsPlanned
+-- none is answered exactly where the runs were seen taken in their turn
+pub mod RunsSeen
+-- a run that is answered was taken page by page
+pub mod RunsTaken
+-- giving a run back sets the bits of its pages
+pub mod RunsGiven

@@ -4,5 +4,13 @@ pub mod TakeNode
 pub mod NewNode
 -- how a node is given back
 pub mod GiveNode
--- what the other machines rely on
+-- runs of pages
+pub mod Runs
+-- how a run of free pages is taken
+pub mod TakeRun
+-- how a run of pages is given back
+pub mod GiveRun
+-- what the other machines rely on: nodes
 pub mod Laws
+-- and runs of pages
+pub mod RunLaws

@@ -1,7 +1,8 @@
-//! What the machines that take and give back nodes rely on. Each function is empty, and its clause
-//! is the law.
+//! What the machines that take and give back nodes and runs of pages rely on. Each function is empty,
+//! and its clause is the law.
 
 ghost use Rattle.rht_arena.specs.Laws.{TakenWasFree, AnswersSayWhatWasDone, NoneOnlyWhereTaken, NoneWhereTakenInTurn, GivingSetsOneBit};
+ghost use Rattle.rht_arena.specs.RunLaws.{TakenRunWasFree, NoneOnlyWhereRunsTaken, NoneWhereRunsTakenInTurn, GivingRunSetsItsBits};
 
 /// A node that is answered was free until the operation after which it is answered, which took it.
 pub fn taken_was_free()
@@ -32,4 +33,28 @@ pub fn none_where_taken_in_turn()
 /// Giving a node back sets its bit and no other.
 pub fn giving_sets_one_bit()
     ensures { GivingSetsOneBit }
+{}
+
+/// A run that is answered begins at a multiple of its length, and each of its pages was taken by an
+/// operation that found it free. So each `and` of the run found all of its bits set.
+pub fn taken_run_was_free()
+    ensures { TakenRunWasFree }
+{}
+
+/// None is answered only where of each run that begins at a multiple of its length a page was seen
+/// taken, by some operation. It doesn't say that this was so at one moment, nor that a run whose page
+/// was once seen taken isn't answered: each run is looked at anew when it is come to.
+pub fn none_only_where_runs_taken()
+    ensures { NoneOnlyWhereRunsTaken }
+{}
+
+/// A machine that has ended answers none exactly where each run was seen taken in its turn: by an
+/// operation of its own, in rising order.
+pub fn none_where_runs_taken_in_turn()
+    ensures { NoneWhereRunsTakenInTurn }
+{}
+
+/// Giving a run back sets the bit of each of its pages, and changes no other page's bit.
+pub fn giving_run_sets_its_bits()
+    ensures { GivingRunSetsItsBits }
 {}

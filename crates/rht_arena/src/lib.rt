@@ -6,13 +6,18 @@
 #![tactic(auto)]
 
 mod give_node;
+mod give_run;
 pub mod laws;
 mod new_node;
+mod run_bits;
 mod take_node;
+mod take_run;
 
 pub use give_node::GiveNode;
+pub use give_run::GiveRun;
 pub use new_node::{NewNode, NewNodeAt};
 pub use take_node::{TakeNode, TakeNodeAt};
+pub use take_run::{TakeRun, TakeRunAt};
 
 #[cfg(test)]
 mod tests;

@@ -1,8 +1,9 @@
 //! Operations and old values, worked out by hand from the map: bit `n % 64` of the word at
-//! `280 + n / 64` is set where node n is free.
+//! `280 + n / 64` is set where node n is free. With 8 nodes the words of the page map stand from
+//! place 281 on.
 
-use super::{GiveNode, NewNode, TakeNode};
-use rht_words::{Geometry, Next, Op, assert_performs};
+use super::{GiveNode, GiveRun, NewNode, TakeNode, TakeRun, TakeRunAt};
+use rht_words::{Geometry, Next, Op, Start, assert_performs};
 use std::test::Fail;
 
 /// All bits of a word.
@@ -108,6 +109,189 @@ fn a_new_node_is_taken_and_filled(rt: HostRuntime) -> Result<(), Fail> {
     ];
     for (steps, want) in cases {
         assert_performs!(rt; NewNode::new(geometry, 5, 9), steps => want);
+    }
+    Ok(())
+}
+
+/// The lower half of a word's bits.
+const HALF: u64 = 4_294_967_295;
+
+#[test]
+fn runs_are_taken_whole(rt: HostRuntime) -> Result<(), Fail> {
+    // the pages of the table, those of the run, the operations with what each finds, and the answer
+    let cases: [(u32, u32, &[(Op, u64)], Option<u32>); 8] = [
+        // all four pages are free, and 0 pages are read as 1
+        (
+            4,
+            1,
+            &[(Op::load(281), 15), (Op::and(281, ALL - 1), 15)],
+            Some(0),
+        ),
+        (
+            4,
+            0,
+            &[
+                (Op::load(281), 14),
+                (Op::load(281), 14),
+                (Op::and(281, ALL - 2), 14),
+            ],
+            Some(1),
+        ),
+        // page 0 is taken, and so the run from page 2 on is the first free one
+        (
+            4,
+            2,
+            &[
+                (Op::load(281), 14),
+                (Op::load(281), 14),
+                (Op::and(281, ALL - 12), 14),
+            ],
+            Some(2),
+        ),
+        // page 0 is lost between the load and the and, so page 1 is given back
+        (
+            4,
+            2,
+            &[
+                (Op::load(281), 15),
+                (Op::and(281, ALL - 3), 14),
+                (Op::or(281, 2), 12),
+                (Op::load(281), 14),
+                (Op::and(281, ALL - 12), 12),
+            ],
+            Some(2),
+        ),
+        // both are lost, and nothing is given back
+        (
+            4,
+            2,
+            &[
+                (Op::load(281), 15),
+                (Op::and(281, ALL - 3), 12),
+                (Op::load(281), 8),
+            ],
+            None,
+        ),
+        // pages 4 to 6 are no run of four, since there are but seven pages
+        (7, 4, &[(Op::load(281), 126)], None),
+        // the second word of the map
+        (
+            128,
+            32,
+            &[
+                (Op::load(281), 0),
+                (Op::load(281), HALF),
+                (Op::load(282), HALF),
+                (Op::and(282, ALL - HALF), ALL),
+            ],
+            Some(64),
+        ),
+        // a page that was seen taken is free by the time at which its run is come to
+        (
+            4,
+            1,
+            &[
+                (Op::load(281), 0),
+                (Op::load(281), 2),
+                (Op::and(281, ALL - 2), 2),
+            ],
+            Some(1),
+        ),
+    ];
+    for (pages, length, steps, want) in cases {
+        let geometry = Geometry::new(8, pages, 1).ok_or("within limits")?;
+        let Start::Running(machine) = TakeRun::new(geometry, length) else {
+            return Err("there is such a run".into());
+        };
+        assert_performs!(rt; machine, steps => want);
+    }
+    Ok(())
+}
+
+#[test]
+fn runs_of_several_words_are_given_back_from_the_last_on(rt: HostRuntime) -> Result<(), Fail> {
+    // 128 pages of 128, so that there is one run, in two words of the map
+    let cases: [(&[(Op, u64)], Option<u32>); 4] = [
+        (
+            &[
+                (Op::load(281), ALL),
+                (Op::and(281, 0), ALL),
+                (Op::load(282), ALL),
+                (Op::and(282, 0), ALL),
+            ],
+            Some(0),
+        ),
+        // page 64 is seen taken
+        (
+            &[
+                (Op::load(281), ALL),
+                (Op::and(281, 0), ALL),
+                (Op::load(282), ALL - 1),
+                (Op::or(281, ALL), 0),
+            ],
+            None,
+        ),
+        // it is lost between the load and the and
+        (
+            &[
+                (Op::load(281), ALL),
+                (Op::and(281, 0), ALL),
+                (Op::load(282), ALL),
+                (Op::and(282, 0), ALL - 1),
+                (Op::or(282, ALL - 1), 0),
+                (Op::or(281, ALL), 0),
+            ],
+            None,
+        ),
+        // page 0 is lost
+        (
+            &[
+                (Op::load(281), ALL),
+                (Op::and(281, 0), ALL - 1),
+                (Op::or(281, ALL - 1), 0),
+            ],
+            None,
+        ),
+    ];
+    let geometry = Geometry::new(8, 128, 1).ok_or("within limits")?;
+    for (steps, want) in cases {
+        let Start::Running(machine) = TakeRun::new(geometry, 128) else {
+            return Err("there is such a run".into());
+        };
+        assert_performs!(rt; machine, steps => want);
+    }
+    Ok(())
+}
+
+#[test]
+fn there_is_no_run_of_more_pages_than_there_are(rt: HostRuntime) -> Result<(), Fail> {
+    let geometry = Geometry::new(8, 7, 1).ok_or("within limits")?;
+    assert_eq!(rt; TakeRun::new(geometry, 8), Start::Done(None));
+    assert_eq!(rt; TakeRun::new(geometry, u32::MAX), Start::Done(None));
+    let Start::Running(machine) = TakeRun::new(geometry, 2) else {
+        return Err("there is such a run".into());
+    };
+    // behind the run from page 4 on there is none of two pages
+    let last = machine.with(TakeRunAt::MapWord { first: 4, index: 0 });
+    assert_eq!(rt;
+        (last.plan(), last.after(16).1),
+        (Op::load(281), Next::Done(None))
+    );
+    Ok(())
+}
+
+#[test]
+fn runs_are_given_back_word_by_word(rt: HostRuntime) -> Result<(), Fail> {
+    let geometry = Geometry::new(8, 256, 1).ok_or("within limits")?;
+    // the first page, how many there are, and the operations
+    let cases: [(u32, u32, &[(Op, u64)]); 4] = [
+        (0, 1, &[(Op::or(281, 1), 0)]),
+        (2, 2, &[(Op::or(281, 12), 3)]),
+        (96, 32, &[(Op::or(282, ALL - HALF), 0)]),
+        (128, 128, &[(Op::or(283, ALL), 0), (Op::or(284, ALL), 0)]),
+    ];
+    for (first, pages, steps) in cases {
+        assert_performs!(rt; GiveRun::new(geometry, first, pages), steps => ());
     }
     Ok(())
 }

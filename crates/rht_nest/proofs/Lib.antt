@@ -2,3 +2,11 @@
 pub mod BucketsApart
 -- the finding of a bucket stays in its table, and works on the slot's words
 pub mod Locates
+-- the making and the giving back of a table stay in range
+pub mod MakesStay
+-- and on which words they work
+pub mod MakesPlanned
+-- no table is made exactly where no slot or no run of pages was to be had
+pub mod MakesInTurn
+-- a table that is answered was made of a slot and pages that were free
+pub mod MakesMade

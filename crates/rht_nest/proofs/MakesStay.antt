@@ -1,0 +1,145 @@
+-- Whatever words they are told, the making of a table and the giving back of one stay among the slots and pages that
+-- there are, and a table that is made is one of the table of words.
+use Rattle.std.proofs.Common.{◌≡◌, ℕ, ◌+◌, ◌<◌, ◌≤◌, max, min, refl, sym, subst, ◌∙◌, ap, arith}
+use Rattle.std.specs.Prelude.{Option, Some, None, ◌==◌, nat_le, nat_lt}
+use Rattle.std.proofs.lemmas.Bool.{cond_both, ltb-true, leb-true}
+use Rattle.rht_words.specs.declared.geometry.Geometry.{Geometry}
+use Rattle.rht_words.specs.declared.machine.Next.{Next}
+use Rattle.rht_words.specs.declared.machine.Next.TheVariants.{Go, Done}
+use Rattle.rht_words.specs.declared.machine.Start.{Start}
+use Rattle.rht_words.specs.declared.machine.Start.TheVariants as starts
+use Rattle.rht_words.specs.Planned.{IsWord}
+use Rattle.rht_arena.specs.Runs.{IsRunIn}
+use Rattle.rht_arena.specs.TakeRun.{TakeRunModel, take_run_new, take_run_after, run_length, first_run, IsTakeRunIn, IsRunEndIn}
+use Rattle.rht_arena.specs.GiveRun.{GiveRunModel, give_run_after, IsGiveRunIn}
+use Rattle.rht_arena.proofs.RunsStay.{TakeRunIsIn, take_run_stays, give_run_stays}
+use Rattle.rht_arena.proofs.RunsSeen.{begins-in}
+use Rattle.rht_nest.specs.Tables.{flat_shape, table_pages}
+use Rattle.rht_nest.specs.Make.{MakeModel, make_after, make_after_at, made_pages, made_shape, run_taken, run_started, slot_seen, IsSlotAndRun, IsNumbered, IsTakingIn, IsMakeAtIn, IsMakeIn, IsMadeIn, IsMakeEndIn}
+use Rattle.rht_nest.specs.declared.make.MakeAt.{MakeAt}
+use Rattle.rht_nest.specs.declared.make.MakeAt.TheVariants as at
+use Rattle.rht_nest.specs.Unmake.{UnmakeModel, unmake_after, unmake_after_at, run_given, IsUnmakeAtIn, IsUnmakeIn}
+use Rattle.rht_nest.specs.declared.unmake.UnmakeAt.{UnmakeAt}
+use Rattle.rht_nest.specs.declared.unmake.UnmakeAt.TheVariants as gives
+
+-- a table takes a page at least
+pub made_pages-some : (exponent : ℕ) → 1 ≤ made_pages exponent
+made_pages-some exponent = omega arith
+
+-- the state stays in this table, and a table that is answered is one
+pub record MakeStays (g : Geometry) (exponent : ℕ) (next : MakeAt × Next (Option (ℕ × ℕ))) : Type 0 where
+  pub at_in : IsMakeAtIn g (made_pages exponent) next.0
+  pub made_in : IsMakeEndIn g exponent next.1
+
+module _ (g : Geometry) (exponent : ℕ) where
+  abbrev pages : ℕ
+  pages = made_pages exponent
+
+  -- with a slot taken, the taking of pages begins in range
+  run_started-in : (slot : ℕ) → slot < 8 → IsMakeAtIn g pages (run_started slot (take_run_new g pages))
+  run_started-in slot slot_in =
+      let some = made_pages-some exponent in
+      let same : run_length pages ≡ pages = omega (arith, some) in
+      cond_both (nat_le (run_length pages) g.pages) (starts.Running (first_run g (run_length pages)))
+      (starts.Done None)
+      (λ start. IsMakeAtIn g pages (run_started slot start))
+      (λ t.
+      let fits : run_length pages ≤ g.pages = leb-true (run_length pages) g.pages t in
+      record {
+        slot_in = slot_in;
+        pages_same = same;
+        take_in = record {
+          geometry_same = refl;
+          at_in = begins-in g (run_length pages) (record { some = omega arith; within = omega (arith, fits) });
+        };
+      })
+      (λ f. slot_in)
+
+  slot_seen-in : (slot state : ℕ) → slot < 8 → MakeStays g exponent (slot_seen g exponent slot state)
+  slot_seen-in slot state slot_in =
+      cond_both (state == 0) _ _ (MakeStays g exponent)
+      (λ t. record { at_in = run_started-in slot slot_in; made_in = tt })
+      (λ f.
+      cond_both (nat_lt (slot + 1) 8) _ _ (MakeStays g exponent)
+      (λ t. record { at_in = ltb-true (slot + 1) 8 t; made_in = tt })
+      (λ f. record { at_in = slot_in; made_in = tt }))
+
+  run_taken-in : (slot : ℕ) (take : TakeRunModel) (next : Next (Option ℕ)) → slot < 8
+      → TakeRunIsIn g pages (take, next) → IsMakeAtIn g pages (run_taken slot take next)
+  run_taken-in slot take Go slot_in stays =
+      record { slot_in = slot_in; pages_same = stays.pages_same; take_in = stays.take_in }
+  run_taken-in slot take (Done None) slot_in stays = slot_in
+  run_taken-in slot take (Done (Some page)) slot_in stays = record { slot_in = slot_in; run_in = stays.run_in }
+
+  pub make_stays_at : (at : MakeAt) (word : ℕ) → IsWord word → IsMakeAtIn g pages at
+      → MakeStays g exponent (make_after_at g exponent at word)
+  make_stays_at (at.Slot slot) word told here = slot_seen-in slot word here
+  make_stays_at (at.Taking slot take) word told here =
+      let stays = take_run_stays g take word here.take_in in
+      let in_table : TakeRunIsIn g pages (take_run_after take word) =
+      subst (λ p. TakeRunIsIn g p (take_run_after take word)) here.pages_same stays in
+      record {
+        at_in = run_taken-in slot (take_run_after take word).0 (take_run_after take word).1 here.slot_in in_table;
+        made_in = tt;
+      }
+  make_stays_at (at.SlotBack slot) word told here = record { at_in = here; made_in = tt }
+  make_stays_at (at.NextSerial slot page) word told here =
+      record { at_in = record { taken = here; serial_in = told }; made_in = tt }
+  make_stays_at (at.Shape slot page serial) word told here = record { at_in = here; made_in = tt }
+  make_stays_at (at.Seed slot page serial) word told here = record { at_in = here; made_in = tt }
+  make_stays_at (at.Future slot page serial) word told here = record { at_in = here; made_in = tt }
+  make_stays_at (at.Serial slot page serial) word told here = record {
+    at_in = here;
+    made_in = record {
+      slot_in = here.taken.slot_in;
+      page = page;
+      shape_is = refl;
+      run_in = here.taken.run_in;
+    };
+  }
+
+-- and so does the machine
+pub record MakeIsIn (g : Geometry) (exponent : ℕ) (next : MakeModel × Next (Option (ℕ × ℕ))) : Type 0 where
+  pub make_in : IsMakeIn g next.0
+  pub made_in : IsMakeEndIn g exponent next.1
+
+pub make_stays : (g : Geometry) (m : MakeModel) (word : ℕ) → IsMakeIn g m → IsWord word
+    → MakeIsIn g m.exponent (make_after m word)
+make_stays g m word within told =
+    let stays = make_stays_at g m.exponent m.at word told within.at_in in
+    subst
+    (λ (h : Geometry). MakeIsIn g m.exponent (
+      record m { at = (make_after_at h m.exponent m.at word).0 },
+      (make_after_at h m.exponent m.at word).1,
+    ))
+    (sym within.geometry_same)
+    (record {
+      make_in = record {
+        geometry_same = within.geometry_same;
+        least = within.least;
+        greatest = within.greatest;
+        at_in = stays.at_in;
+      };
+      made_in = stays.made_in;
+    })
+
+-- ---- giving a table back
+
+module _ (g : Geometry) where
+  run_given-in : (give : GiveRunModel) (next : Next (Unit {0})) → IsGiveRunIn g give
+      → IsUnmakeAtIn g (run_given give next)
+  run_given-in give Go stays = stays
+  run_given-in give (Done answer) stays = tt
+
+  pub unmake_stays_at : (at : UnmakeAt) (word : ℕ) → IsUnmakeAtIn g at
+      → IsUnmakeAtIn g (unmake_after_at at word).0
+  unmake_stays_at (gives.Giving give) word here =
+      run_given-in (give_run_after give word).0 (give_run_after give word).1 (give_run_stays g give word here)
+  unmake_stays_at gives.SlotBack word here = tt
+
+  pub unmake_stays : (m : UnmakeModel) (word : ℕ) → IsUnmakeIn g m → IsUnmakeIn g (unmake_after m word).0
+  unmake_stays m word within = record {
+    geometry_same = within.geometry_same;
+    slot_in = within.slot_in;
+    at_in = unmake_stays_at m.at word within.at_in;
+  }

@@ -1,0 +1,28 @@
+//! The runs of pages of flat tables.
+
+ghost use Rattle.std.specs.Prelude.{◌≡◌};
+ghost use Rattle.rht_arena.specs.Runs.{IsRunIn};
+ghost use Rattle.rht_nest.specs.Tables.{table_pages, run_first, run_pages};
+
+use rht_words::{Geometry, Shape};
+
+/// How many pages the buckets of a flat table take.
+#[inline(always)]
+pub(crate) fn table_pages(shape: Shape) -> u32
+    ensures { result ≡ table_pages shape }
+{
+    (shape.size() / 64).max(1)
+}
+
+/// The first page of the table whose shape is packed into this word, and how many pages it takes. A
+/// page past the last one is read as the last, and a run that goes past it as ending there.
+#[inline(always)]
+pub fn run_of(geometry: Geometry, shape: u64) -> (u32, u32)
+    ensures run { result ≡ (run_first geometry shape, run_pages geometry shape) }
+    ensures within { IsRunIn geometry result.0 result.1 }
+{
+    let shape = Shape::from(shape);
+    let first = shape.page.min(geometry.pages - 1);
+    let pages = table_pages(shape).min(geometry.pages - first);
+    (first, pages)
+}
