@@ -1,0 +1,8 @@
+-- the search for the last table stays among the slots
+pub mod LastTables
+-- the walk to a chain's last node stays at nodes
+pub mod LastEntries
+-- whatever words it is told, a worker stays in its table
+pub mod WorkStays
+-- on which words a worker works
+pub mod WorkPlanned
