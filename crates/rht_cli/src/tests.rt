@@ -106,6 +106,37 @@ fn scripts_are_served_and_others_refused(rt: HostRuntime) -> Result<(), Fail> {
             "1: bound\n1: bound\n1: found 2\n1: exists 1\nport 5: 1\nport 69: 2\nsize 4 keys 2\n",
             "",
         ),
+        // The words of owners: who has a port alone gives it away, and a list has its last owner first.
+        (
+            "run",
+            "table single\n1 bind 80 1\n1 rebind 80 2 3\n1 rebind 80 1 3\n1 all 80\n1 all 81\n1 count\n",
+            0,
+            "1: bound\n1: absent\n1: rebound\n1: list 3\n1: list\n1: count 1\nport 80: 3\nsize 64 keys 1\n",
+            "",
+        ),
+        (
+            "run",
+            "table listed\n1 bind 80 1\n1 bind 80 2\n1 bind 80 3\n1 all 80\n1 release 80 2\n1 find 80\n1 all 81\n",
+            0,
+            "1: bound\n1: bound\n1: bound\n1: list 3 2 1\n1: released\n1: found 3\n1: list\nport 80: 3 1\nsize 64 keys 1\n",
+            "",
+        ),
+        // Refusals: a table of at most 4 buckets holds 8 ports, all of them in 4 buckets; and of 1 node
+        // none is left once it was taken, also where it was taken out again.
+        (
+            "run",
+            "table single max 4 hash low\n1 bind 0 9\n1 bind 1 9\n1 bind 2 9\n1 bind 3 9\n1 bind 4 9\n1 bind 5 9\n1 bind 6 9\n1 bind 7 9\n1 bind 8 9\n",
+            0,
+            "1: bound\n1: bound\n1: bound\n1: bound\n1: bound\n1: bound\n1: bound\n1: bound\n1: toobig 8\nport 0: 9\nport 1: 9\nport 2: 9\nport 3: 9\nport 4: 9\nport 5: 9\nport 6: 9\nport 7: 9\nsize 4 keys 8\n",
+            "",
+        ),
+        (
+            "run",
+            "table single nodes 1\n1 bind 80 1\n1 bind 81 1\n1 release 80 1\n1 bind 81 1\n",
+            0,
+            "1: bound\n1: nonode\n1: released\n1: nonode\nsize 64 keys 0\n",
+            "",
+        ),
         // The options, comments, blank lines, blanks between words, and a last line that the end of
         // the input cuts. 96 * 4 / 3 = 128; 129 is rounded up to 256.
         ("run", "table single hint 96\n", 0, "size 128 keys 0\n", ""),
@@ -122,7 +153,7 @@ fn scripts_are_served_and_others_refused(rt: HostRuntime) -> Result<(), Fail> {
         ("run", "1 find 80\n", 2, "", NO_TABLE_LINE),
         (
             "run",
-            "table single max 4\n",
+            "table single most 4\n",
             2,
             "",
             "rht: line 1: unknown or missing word\n",

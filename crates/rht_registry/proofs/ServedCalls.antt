@@ -71,6 +71,13 @@ module _ (M : Type 0) (mix : ℕ → ℕ → ℕ → ℕ) where
 
   -- ---- one more event
 
+  -- it leaves what the table was opened with
+  pub env-stays : (core after : Core M) (event : Event) (stepped : Stepped) → (after, stepped) ≡ core_step mix core event
+      → after.env ≡ core.env
+  env-stays core after event stepped is =
+      let kept : (core_step mix core event).0.env ≡ core.env = event-env M mix core event in
+      ap (λ p. p.0.env) is ∙ kept
+
   -- what the event makes of the caller is what it makes of the run
   pub run-more : (core after : Core M) (event : Event) (stepped : Stepped) (was now : Option Call) (done then_ : List Finished)
       → (run : IsRunTo M mix core was done) → IsAdmittedEvent core.env.config.kind event → (after, stepped) ≡ core_step mix core event
@@ -89,7 +96,7 @@ module _ (M : Type 0) (mix : ℕ → ℕ → ℕ → ℕ) where
             (subst (λ (e : Env). IsAdmittedEvent e.config.kind event) run.same_env more, tt);
         same =
             ap (λ (v : World M). v.core) pushed ∙ ap (λ (k : Core M). (core_step mix k event).0) run.same ∙ sym (ap (λ p. p.0) is);
-        same_env = ap (λ p. p.0.env) is ∙ event-env M mix core event ∙ run.same_env;
+        same_env = env-stays core after event stepped is ∙ run.same_env;
         enrolled = omega (arith, run.enrolled, kept);
         call_is = ap (λ (v : World M). (v.books 0).call) pushed ∙ call_is;
         done_is = ap (λ (v : World M). (v.books 0).finished) pushed ∙ done_is;

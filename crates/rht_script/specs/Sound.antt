@@ -31,7 +31,7 @@ is_sound_call config _ = true
 abbrev pub is_sound_command : Config → ℕ × Call → Bool
 is_sound_command config command = is_within (worker_limits config) command.0 && is_sound_call config command.1
 
--- a command can ask for the call: for any that is about bindings, or counts them; a bind is tried until it ends
+-- a command can ask for the call: for any that is about bindings, where a bind is tried until it ends, and for the count
 abbrev pub IsCommandCall : Call → Type 0
 IsCommandCall (Bind port owner once) = once ≡ false
 IsCommandCall (Find port) = Unit {0}

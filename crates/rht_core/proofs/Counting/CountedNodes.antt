@@ -72,7 +72,7 @@ module _ (env : Env) (mix : ℕ → ℕ → ℕ → ℕ) (c : ℕ) (M : Memory) 
   taken-own node took = record { node = node; among = took.among; mine = inr (taken_is c (G.node node) took.taken) }
 
   unlinking-own : (port owner : ℕ) (found : FoundPort) (known : KnownList) (stored : Bool)
-      → BucketMeans env mix c M G (known_relinking port owner found known stored)
+      → BucketMeans env mix c M G (known_relinking port owner found known stored).bucket
       → (holds_relinking found true stored).raised ≡ true → OwnNode env G c
   unlinking-own port owner found known false means is = absurd (cc)
   unlinking-own port owner found known true means is = taken-own found.node means.took

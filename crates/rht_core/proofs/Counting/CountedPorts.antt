@@ -1,7 +1,7 @@
 -- As many ports are bound as there are nodes in chains.
 -- Each node in a chain is what the port of its key is bound to, and all that it is bound to: so different nodes have different ports,
 -- and each bound port has its own node.
-use Rattle.std.proofs.Common.{◌≡◌, ◌≢◌, ℕ, zero, suc, ◌<◌, Bool, true, false, List, [], ◌∷◌, length, map, refl, sym, ap, ◌∙◌, inl, inr, arith}
+use Rattle.std.proofs.Common.{◌≡◌, ◌≢◌, ℕ, zero, suc, ◌<◌, Bool, true, false, List, [], ◌∷◌, length, map, refl, sym, ap, ◌∙◌, inl, inr, arith, Some}
 use Rattle.std.specs.List.{AllByRecursion}
 use Rattle.rht_words.specs.declared.env.Env.{Env}
 use Rattle.rht_words.specs.Ports.{owner_of}
@@ -10,8 +10,8 @@ use Rattle.rht_words.specs.Members.{In, NotIn, IsDistinct}
 use Rattle.rht_words.proofs.Members.{count_below, one_if, not_in_from, AllByRecursion-In, length-count_below}
 use Rattle.rht_words.proofs.EachElement.{AllByRecursion-weaker}
 use Rattle.rht_core.specs.StandsFor.{stands_for, AreBound, AreAllBound}
-use Rattle.rht_core.proofs.Theory.Ghosts.{Owner, Free, Held, First, Leaving, Behind, Taken, Ghost, is_first}
-use Rattle.rht_core.proofs.Theory.Wholes.{key_of, firsts, IsBuilt, Whole}
+use Rattle.rht_core.proofs.Theory.Ghosts.{Owner, Free, Held, First, Leaving, Behind, Taken, Ghost, is_first, seat-first, seat_of}
+use Rattle.rht_core.proofs.Theory.Wholes.{key_of, firsts, Whole, seated_at}
 use Rattle.rht_core.proofs.Theory.Steps.{mem, owners_in}
 use Rattle.rht_core.proofs.Meaning.BoundPorts.{stands_for_bound}
 
@@ -22,15 +22,14 @@ none_of : (P : ℕ → Type 0) (x : ℕ) → ((y : ℕ) → P y → x ≢ y) →
     → NotIn x ys
 none_of P x other ys all = not_in_from x ys (λ i. other x (AllByRecursion-In P x ys all i) refl)
 
--- a node of which this is said is in the chain of a bucket
-first_in : (env : Env) (mix : ℕ → ℕ → ℕ → ℕ) (owner : Owner) → IsBuilt env mix owner → is_first owner ≡ true
-    → (j : ℕ) × (owner ≡ First j)
-first_in env mix Free built is = absurd (cc)
-first_in env mix (Held c) built is = absurd (cc)
-first_in env mix (First j) built is = (j, refl)
-first_in env mix (Leaving j) built is = absurd built
-first_in env mix (Behind k) built is = absurd (cc)
-first_in env mix (Taken c) built is = absurd (cc)
+-- a node of which this is said has a seat
+first_in : (owner : Owner) → is_first owner ≡ true → (j : ℕ) × (seat_of owner ≡ Some j)
+first_in Free is = absurd (cc)
+first_in (Held c) is = absurd (cc)
+first_in (First j) is = (j, refl)
+first_in (Leaving j) is = (j, refl)
+first_in (Behind k) is = absurd (cc)
+first_in (Taken c) is = absurd (cc)
 
 module _ (env : Env) (mix : ℕ → ℕ → ℕ → ℕ) (words : List ℕ) (G : Ghost)
     (whole : Whole env mix (mem env mix words) G) where
@@ -67,8 +66,8 @@ module _ (env : Env) (mix : ℕ → ℕ → ℕ → ℕ) (words : List ℕ) (G :
   -- the port of one more node in a chain is another one, since it is bound to that node
   one_more : (n : ℕ) → PortsBelow n → (in_it : Bool) → in_chain n ≡ in_it → PortsBelow (suc n)
   one_more n before true is =
-      let first = first_in env mix (G.node n) (whole.arena.built n) is in
-      let here = whole.owned.first_at n first.0 first.1 in
+      let first = first_in (G.node n) is in
+      let here = seated_at env mix (mem env mix words) G whole n first.0 first.1 in
       let port = key_of (mem env mix words) n in
       record {
         ports = port ∷ before.ports;
@@ -146,8 +145,8 @@ module _ (env : Env) (mix : ℕ → ℕ → ℕ → ℕ) (words : List ℕ) (G :
           let to = whole.owned.bound_to port n behind b in
           let here : node_of_port port ≡ n = ap node_for b in
           record {
-            among = rw here (whole.owned.first_at n to.bucket to.first).among;
-            first = ap (λ m. is_first (G.node m)) here ∙ ap is_first to.first;
+            among = rw here (seated_at env mix (mem env mix words) G whole n to.bucket to.first).among;
+            first = ap (λ m. is_first (G.node m)) here ∙ seat-first (G.node n) to.bucket to.first;
             key = ap (key_of (mem env mix words)) here ∙ to.key_is;
           }
 

@@ -15,17 +15,17 @@ use Rattle.rht_core.specs.Jobs.{job_of}
 use Rattle.rht_core.specs.Runs.{Core, World, local_of, view_of, run_of}
 use Rattle.rht_core.specs.StandsFor.{shape_of, nodes_of}
 use Rattle.rht_core.specs.Counts.{is_raising, raising, IsListed, IsPlaced, IsBucketInForce, taken_out, Counted, AtRest}
-use Rattle.rht_core.proofs.Theory.Ghosts.{Owner, Free, Held, First, Leaving, Behind, Taken, Ghost, is_used, IsUsed, lock_bit, some-same}
+use Rattle.rht_core.proofs.Theory.Ghosts.{Owner, Free, Held, First, Leaving, Behind, Taken, Ghost, is_used, IsUsed, lock_bit, some-same, seat-used}
 use Rattle.rht_core.proofs.Theory.Wholes.{key_of, place_at, firsts, raisers, outs, IsBuilt, Whole}
 use Rattle.rht_core.proofs.Theory.Steps.{mem}
 use Rattle.rht_core.proofs.Machines.JobSteps.{KnowsNothing}
 use Rattle.rht_core.proofs.Events.Invariants.{Inv, idle_knows}
 use Rattle.rht_core.proofs.Events.InvariantRuns.{has_inv}
 use Rattle.rht_core.proofs.Events.BooksInRuns.{ended_outs, idle-says, has_books}
-use Rattle.rht_core.proofs.Meaning.BoundPorts.{attached, index, index-within, place-index, one_in_force, listed_bound}
+use Rattle.rht_core.proofs.Meaning.BoundPorts.{bucket_in_force, listed_bound}
 use Rattle.rht_core.proofs.Counting.CountedPorts.{firsts-AreAllBound}
 use Rattle.rht_core.proofs.Counting.CountedNodes.{count_few}
-use Rattle.rht_core.proofs.Counting.NodesOut.{is_out, out_nodes, out_nodes-distinct, out_nodes-among, out_nodes-many, out_nodes-in, out_nodes-out, sum_by-same}
+use Rattle.rht_core.proofs.Counting.NodesOut.{is_out, out_nodes, out_nodes-distinct, out_nodes-among, out_nodes-many, out_nodes-in, out_nodes-out, sum_by-same, seat-is_out}
 use Rattle.rht_core.proofs.Counting.FullTables.{raises}
 
 module _ (env : Env) (mix : ℕ → ℕ → ℕ → ℕ) (words : List ℕ) (G : Ghost)
@@ -47,7 +47,7 @@ module _ (env : Env) (mix : ℕ → ℕ → ℕ → ℕ) (words : List ℕ) (G :
       go [] b i = absurd i
       go (first ∷ behind) b (inl same) =
           let to = whole.owned.bound_to port first behind b in
-          ap is_used (ap G.node same ∙ to.first)
+          ap is_used (ap G.node same) ∙ seat-used (G.node first) to.bucket to.first
       go (first ∷ behind) b (inr i) = ap is_used ((whole.owned.bound_to port first behind b).each n i)
 
   -- and isn't out
@@ -58,7 +58,8 @@ module _ (env : Env) (mix : ℕ → ℕ → ℕ → ℕ) (words : List ℕ) (G :
       go : (bound : List ℕ) → G.bound port ≡ bound → In n bound → is_out (G.node n) ≡ false
       go [] b i = absurd i
       go (first ∷ behind) b (inl same) =
-          ap is_out (ap G.node same ∙ (whole.owned.bound_to port first behind b).first)
+          let to = whole.owned.bound_to port first behind b in
+          ap is_out (ap G.node same) ∙ seat-is_out (G.node first) to.bucket to.first
       go (first ∷ behind) b (inr i) = ap is_out ((whole.owned.bound_to port first behind b).each n i)
 
   abbrev out : List ℕ
@@ -89,7 +90,10 @@ module _ (env : Env) (mix : ℕ → ℕ → ℕ → ℕ) (words : List ℕ) (G :
           let at = whole.owned.first_at n j e in
           is_listed n (key_of (mem env mix words) n) l (ap is_used e) (ap is_out e)
           (subst (In n) (sym at.bound_to) (inl refl))
-      go (Leaving j) e b = absurd b
+      go (Leaving j) e b =
+          let at = whole.owned.leaving_at n j e in
+          is_listed n (key_of (mem env mix words) n) l (ap is_used e) (ap is_out e)
+          (subst (In n) (sym at.bound_to) (inl refl))
       go (Behind k) e b =
           let is = whole.owned.behind_in n k e in
           is_listed n k l (ap is_used e) (ap is_out e) (subst (In n) (sym is.bound_to) (inr is.there))
@@ -98,26 +102,6 @@ module _ (env : Env) (mix : ℕ → ℕ → ℕ → ℕ) (words : List ℕ) (G :
         (λ free. let q = sym e ∙ (whole.arena.bits n l).0 free in cc),
         (λ is. let q = sym (listed_out n is) ∙ ap is_out e in cc),
       ))
-
-  -- a bucket in force is one of the one table's
-  in_one_table : (place : ℕ) → IsBucketInForce env.geometry words place
-      → (j : ℕ) × (j < 64 * env.geometry.pages) × (place ≡ place_at env mix j)
-  in_one_table place is =
-      let shape = (whole.tables.each 0 (attached env mix words G whole)).shape_is in
-      let one : is.table ≡ (G.table 0).slot =
-      only_one (subst (In is.table) (one_in_force env mix words G whole) is.of_table) in
-      let same : shape_of env.geometry words is.table ≡ (G.table 0).shape = ap
-      (shape_of env.geometry words) one ∙ shape in
-      let within = subst (λ s. is.bucket < size_of (unpacked s)) same is.within in
-      let j = index env mix words G whole is.bucket in
-      let there : Some place ≡ Some (place_at env mix j) =
-      sym (subst (λ s. bucket_place env.geometry s is.bucket ≡ Some place) same is.there)
-      ∙ place-index env mix words G whole is.bucket within in
-      (j, index-within env mix words G whole is.bucket within, some-same place (place_at env mix j) there)
-    where
-      only_one : {x y : ℕ} → In x (y ∷ []) → x ≡ y
-      only_one (inl same) = same
-      only_one (inr none) = absurd none
 
 module _ (M : Type 0) (mix : ℕ → ℕ → ℕ → ℕ) where
   raising-raisers : (env : Env) (core : Core M) (G : Ghost) → Inv env mix M core G
@@ -167,10 +151,11 @@ module _ (M : Type 0) (mix : ℕ → ℕ → ℕ → ℕ) where
       (sym has.inv.same_env) in
       record {
         unlocked = λ place is.
-            let at = in_one_table env mix core.words G has.inv.whole place is in
-            let j = at.0 in
-            let right = (has.inv.whole.buckets j at.1).locked in
-            subst (λ p. slice_index core.words p % 2 ≡ 0) (sym at.2)
+            let at = bucket_in_force env mix core.words G has.inv.whole is.table is.bucket place is.of_table
+            is.within is.there in
+            let j = at.index in
+            let right = (has.inv.whole.buckets j at.within).locked in
+            subst (λ p. slice_index core.words p % 2 ≡ 0) (sym at.place_is)
             (even_word (G.bucket j).holder (G.bucket j).plain
             (word_at env.geometry core.words (PageWord j)) right.word_is right.even
             (λ c h. elim ((knows c).only.locks j h) [ inl e ↦ absurd (cc) | inr e ↦ absurd (cc) ]));

@@ -1,6 +1,6 @@
 -- The nodes that are out: those that calls have taken out of ports' lists. There are as many of them as calls that have ended say,
 -- while nobody is in a call.
-use Rattle.std.proofs.Common.{◌≡◌, ℕ, zero, suc, ◌+◌, ◌<◌, ◌==◌, Bool, true, false, cond, List, [], ◌∷◌, length, refl, sym, ap, ◌∙◌, inl, inr, arith}
+use Rattle.std.proofs.Common.{◌≡◌, ℕ, zero, suc, ◌+◌, ◌<◌, ◌==◌, Bool, true, false, cond, List, [], ◌∷◌, length, refl, sym, ap, ◌∙◌, inl, inr, arith, Some}
 use Rattle.std.specs.Prelude.{sum_by}
 use Rattle.std.specs.List.{AllByRecursion, range_with_len}
 use Rattle.std.proofs.lemmas.Bool.{cases_eq, eq-eqb, ne_eqb}
@@ -9,7 +9,7 @@ use Rattle.rht_words.specs.declared.env.Env.{Env}
 use Rattle.rht_words.specs.Members.{In, NotIn, IsDistinct}
 use Rattle.rht_words.proofs.Members.{one_if, count_below, count_below-more, count_below-none, count_by-range}
 use Rattle.rht_words.proofs.EachElement.{AllByRecursion-weaker}
-use Rattle.rht_core.proofs.Theory.Ghosts.{Owner, Free, Held, First, Leaving, Behind, Taken, Ghost, is_taken_by}
+use Rattle.rht_core.proofs.Theory.Ghosts.{Owner, Free, Held, First, Leaving, Behind, Taken, Ghost, is_taken_by, seat_of}
 use Rattle.rht_core.proofs.Theory.Wholes.{IsBuilt, outs}
 
 -- somebody has taken the node out
@@ -20,6 +20,15 @@ is_out (First j) = false
 is_out (Leaving j) = false
 is_out (Behind k) = false
 is_out (Taken c) = true
+
+-- a node with a seat isn't
+pub seat-is_out : (o : Owner) (j : ℕ) → seat_of o ≡ Some j → is_out o ≡ false
+seat-is_out Free j is = absurd (cc)
+seat-is_out (Held c) j is = absurd (cc)
+seat-is_out (First i) j is = refl
+seat-is_out (Leaving i) j is = refl
+seat-is_out (Behind k) j is = absurd (cc)
+seat-is_out (Taken c) j is = absurd (cc)
 
 -- ---- sums over callers
 

@@ -33,7 +33,7 @@ use Rattle.rht_core.specs.Traces.{Did, Traced, traced_of}
 use Rattle.rht_core.specs.Laws.{IsNoTake, IsTakeOf, TakesNone, TakesOne, IsTakenBy, IsTakenIn, TakenAlone}
 use Rattle.rht_core.proofs.Theory.Wholes.{place_at}
 use Rattle.rht_core.proofs.Theory.Answering.{TellsNode, TellsNode-same, known_so, unknown_before}
-use Rattle.rht_core.proofs.Theory.Steps.{Holding, Move, Quiet, TakesNode, GivesNode, TakesLock, DropsLock, Raises, Links, Lowers, Rebinds, LinksBehind, Does}
+use Rattle.rht_core.proofs.Theory.Steps.{Holding, Move, Quiet, TakesNode, GivesNode, TakesLock, DropsLock, Raises, Links, Lowers, Rebinds, LinksBehind, Does, Arms, DoesQuiet}
 use Rattle.rht_core.proofs.Events.JobsOfCallers.{same_call, first_unknown, first_without}
 use Rattle.rht_core.proofs.Tracing.TracedJobs.{Performs, LeadsOn, IsKeeping, jobs_keep}
 
@@ -99,20 +99,26 @@ record TookOne (g : Geometry) (h h' : Holding) (did : Did) : Type 0 where
   now : h'.node ≡ Some node
   takes : IsTakeOf g node did
 
--- By the move.
-took : (env : Env) (mix : ℕ → ℕ → ℕ → ℕ) (move : Move) (did : Did) (h h' : Holding)
-    → Does env mix move did.op did.old h h'
-    → TookNone env.geometry h h' did ⊎ TookOne env.geometry h h' did
-took env mix Quiet did h h' does =
+-- an operation that others don't see takes none
+took_none : (env : Env) (mix : ℕ → ℕ → ℕ → ℕ) (did : Did) (h h' : Holding)
+    → DoesQuiet env.geometry did.op did.old h h' → TookNone env.geometry h h' did
+took_none env mix did h h' does =
     let g = env.geometry in
     let parts = parts_in_order g in
-    inl record {
+    record {
       none = elim does.leaves [
         | inl leaves ↦ keeps_bits g did (λ bit l set. leaves bit l ∙ set)
         | inr own ↦ off_map g did (inr (omega (arith, own.place)))
       ];
       left = inl (ap (λ (h : Holding). h.node) does.holds);
     }
+
+-- By the move.
+took : (env : Env) (mix : ℕ → ℕ → ℕ → ℕ) (move : Move) (did : Did) (h h' : Holding)
+    → Does env mix move did.op did.old h h'
+    → TookNone env.geometry h h' did ⊎ TookOne env.geometry h h' did
+took env mix Quiet did h h' does = inl (took_none env mix did h h' does)
+took env mix (Arms j) did h h' does = inl (took_none env mix did h h' does)
 took env mix (TakesNode n) did h h' does = inr record {
   node = n;
   before = does.none;

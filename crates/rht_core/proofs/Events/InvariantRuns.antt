@@ -1,12 +1,13 @@
 -- The invariant holds at opening, and so after each event of each run whose events are admitted.
-use Rattle.std.proofs.Common.{◌≡◌, ℕ, ◌+◌, ◌*◌, ◌/◌, ◌<◌, ◌≤◌, List, [], replicate, true, false, refl, sym, ap, ◌∙◌, subst, inl, inr, arith}
+use Rattle.std.proofs.Common.{◌≡◌, ℕ, ◌+◌, ◌*◌, ◌/◌, ◌<◌, ◌≤◌, List, [], replicate, true, false, refl, sym, ap, ◌∙◌, subst, inl, inr, arith, ◌≢◌, ◌⊎◌, ◌↔◌, ◌%◌, max, cond, nat_lt}
 use Rattle.std.specs.Prelude.{Some, None}
-use Rattle.std.proofs.lemmas.Bool.{cases_eq}
+use Rattle.std.specs.Int.{bit_at}
+use Rattle.std.proofs.lemmas.Bool.{cases_eq, cases_lt, lt-ltb, le-ltb, ne_eqb}
 use Rattle.rht_words.specs.declared.env.Env.{Env}
-use Rattle.rht_words.specs.Places.{Address, CurrentTable, PortCount, Slot, ShapeWord, SeedWord, FutureWord, NodeMap, PageWord, IsAddress}
+use Rattle.rht_words.specs.Places.{Address, CurrentTable, PortCount, Slot, ShapeWord, SeedWord, FutureWord, NodeMap, PageWord, IsAddress, WorkLock, StateWord, PageMap}
 use Rattle.rht_words.specs.declared.shape.Shape.{Shape}
-use Rattle.rht_words.specs.Shapes.{size_of}
-use Rattle.rht_words.specs.Opening.{opening_word, opening_words}
+use Rattle.rht_words.specs.Shapes.{size_of, unpacked}
+use Rattle.rht_words.specs.Opening.{opening_word, opening_words, first_pages, first_shape}
 use Rattle.rht_words.proofs.OpeningLaws.{stand_in_place, opens_flat, opens_free}
 use Rattle.rht_words.proofs.Members.{count_below-none}
 use Rattle.rht_words.proofs.EachElement.{each_replicate}
@@ -16,14 +17,10 @@ use Rattle.rht_core.specs.Locals.{fresh}
 use Rattle.rht_core.specs.Runs.{Core, World, local_in, opening, opening_core, run_of, IsAdmitted}
 use Rattle.rht_core.proofs.Events.Worlds.{run_keeps_admitted}
 use Rattle.rht_core.proofs.Events.RangesInRuns.{AllIn, opens-all, event-all}
-use Rattle.rht_core.proofs.Theory.Ghosts.{Bucket, Free, Ghost, Table, PageOf, SlotFree, Live, is_first, has_table, put, put-same, put-other}
-use Rattle.rht_core.proofs.Theory.Wholes.{Whole, TableRight}
+use Rattle.rht_core.proofs.Theory.Ghosts.{Free, Ghost, Table, PageOf, SlotFree, Live, is_first, has_table, put, put-same, put-other, blank_bucket, PageOwner, PageFree, PageHeld, SlotHeld, state_word, put-all}
+use Rattle.rht_core.proofs.Theory.Wholes.{Whole, TableRight, PagesRight}
 use Rattle.rht_core.proofs.Theory.Steps.{mem}
 use Rattle.rht_core.proofs.Events.Invariants.{Inv, kept}
-
--- a bucket without nodes that nobody has locked
-abbrev pub empty_bucket : Bucket
-empty_bucket = record { nodes = []; plain = 0; holder = None; out = None; armed = None }
 
 -- the first table, which stands in slot 0 and has its buckets in a row from the first page on
 abbrev pub first_table : Env → Table
@@ -35,20 +32,30 @@ first_table env = record {
   place = λ b. Some b;
 }
 
+-- the first pages are the first table's, and nobody has the others
+abbrev pub opening_page : Env → ℕ → PageOwner
+opening_page env p = cond (nat_lt p (first_pages env)) (PageOf 0) PageFree
+
 -- the ghost at opening: the first table is there, and nothing else is anybody's
 abbrev pub opening_ghost : Env → Ghost
 opening_ghost env = record {
   table = λ τ. first_table env;
   attached = 1;
   current = 0;
-  bucket = λ j. empty_bucket;
+  bucket = λ j. blank_bucket;
   node = λ n. Free;
   bound = λ port. [];
-  page = λ p. PageOf 0;
+  page = opening_page env;
   slot = put (λ s. SlotFree) 0 (Live 0);
   worker = None;
   raised = λ c. false;
 }
+
+first_page : (env : Env) (p : ℕ) → p < first_pages env → opening_page env p ≡ PageOf 0
+first_page env p l = ap (λ t. cond t (PageOf 0) PageFree) (lt-ltb p (first_pages env) l)
+
+other_page : (env : Env) (p : ℕ) → first_pages env ≤ p → opening_page env p ≡ PageFree
+other_page env p l = ap (λ t. cond t (PageOf 0) PageFree) (le-ltb p (first_pages env) l)
 
 module _ (env : Env) (mix : ℕ → ℕ → ℕ → ℕ) where
   opened : (a : Address) → IsAddress env.geometry a → mem env mix (opening_words env) a ≡ opening_word env a
@@ -83,14 +90,66 @@ module _ (env : Env) (mix : ℕ → ℕ → ℕ → ℕ) where
               (omega (arith, opens.holds, opens.fits)));
           places = λ b l. subst (λ (s : Shape). Some b ≡ Some (64 * s.page + b)) (sym opens.shape)
               (ap Some (omega arith));
-          pages = λ b l. refl;
+          pages = λ b l. first_page env ((64 * (unpacked (first_table env).shape).page + b) / 64)
+              (subst (λ (s : Shape). (64 * s.page + b) / 64 < first_pages env) (sym opens.shape)
+              (first_within (subst (λ (s : Shape). b < size_of s) opens.shape l)));
         };
       })
+    where
+      first_within : {b : ℕ} → b < size_of (first_shape env) → (64 * 0 + b) / 64 < first_pages env
+      first_within {b} l = let opens = opens_flat env in omega (arith, opens.size, opens.holds, l)
+
+  -- the state words of slots
+  opening_states : (s : ℕ) → s < 8
+      → mem env mix (opening_words env) (Slot s StateWord) ≡ state_word ((opening_ghost env).slot s)
+  opening_states s l = opened (Slot s StateWord) (l, tt) ∙ go (cases_eq s 0)
+    where
+      go : (s ≡ 0) ⊎ (s ≢ 0) → opening_word env (Slot s StateWord) ≡ state_word ((opening_ghost env).slot s)
+      go (inl zero) = rw zero (sym (ap state_word (put-same (λ s. SlotFree) 0 (Live 0))))
+      go (inr other) = ap (λ t. cond t 1 0) (ne_eqb s 0 other)
+          ∙ sym (ap state_word (put-other (λ s. SlotFree) 0 (Live 0) s other))
+
+  -- the pages of the first table
+  opening_pages : PagesRight env mix (mem env mix (opening_words env)) (opening_ghost env)
+  opening_pages = record {
+    bits = λ p l. rw (opened (PageMap (p / 64)) (omega arith)) (page_bit p l);
+    page_of = λ p τ is. elim (cases_lt p (first_pages env)) [
+      | inl below ↦
+          let opens = opens_flat env in
+          let same : ◌≡◌ {A = PageOwner} (PageOf 0) (PageOf τ) = sym (first_page env p below) ∙ is in
+          let zero : 0 ≡ τ = cc in
+          record {
+            attached = omega (arith, zero);
+            from = subst (λ (s : Shape). s.page ≤ p) (sym opens.shape) (omega arith);
+            below = subst (λ (s : Shape). p < s.page + max 1 (size_of s / 64)) (sym opens.shape)
+                (subst (λ size. p < 0 + max 1 (size / 64)) (sym opens.size) (omega (arith, below)));
+          }
+      | inr past ↦ let same : ◌≡◌ {A = PageOwner} PageFree (PageOf τ) = sym (other_page env p past) ∙ is in
+          absurd (cc)
+    ];
+    blank = λ j is. refl;
+  }
+    where
+      page_bit : (p : ℕ) → p < env.geometry.pages
+          → (bit_at (opening_word env (PageMap (p / 64))) (p % 64) ≡ 1) ↔ (opening_page env p ≡ PageFree)
+      page_bit p l =
+          let free = (opens_free env).pages p in (
+            (λ set. other_page env p (free.0 set).0),
+            (λ is. elim (cases_lt p (first_pages env)) [
+              | inl below ↦
+                  let same : ◌≡◌ {A = PageOwner} (PageOf 0) PageFree = sym (first_page env p below) ∙ is in
+                  absurd (cc)
+              | inr past ↦ free.1 (past, l)
+            ]),
+          )
 
   pub opening_whole : Whole env mix (mem env mix (opening_words env)) (opening_ghost env)
   opening_whole = record {
+    one = refl;
+    slots = record { states = opening_states; worker_is = opened WorkLock tt };
+    pages = opening_pages;
+    moving = record { armed = λ j c is. absurd (cc); out = λ j entry is. absurd (cc) };
     tables = record {
-      one = refl;
       current_in = omega arith;
       current_is = opened CurrentTable tt;
       each = opening_table;
@@ -101,12 +160,13 @@ module _ (env : Env) (mix : ℕ → ℕ → ℕ → ℕ) where
       });
     };
     buckets = λ j l. record {
-      locked = record { word_is = opened (PageWord j) l; even = refl; none_out = refl; none_armed = refl };
+      locked = record { word_is = opened (PageWord j) l; even = refl };
       chained = record { segment = refl; distinct = tt };
     };
     owned = record {
       member = λ j n i. absurd i;
       first_at = λ n j f. absurd (cc);
+      leaving_at = λ n j f. absurd (cc);
       behind_in = λ n port f. absurd (cc);
       bound_to = λ port n behind b. absurd (cc);
       single = λ one port n behind b. absurd (cc);
@@ -123,6 +183,19 @@ module _ (env : Env) (mix : ℕ → ℕ → ℕ → ℕ) where
     ));
   }
 
+  -- nobody has a slot or a page
+  no_slot_held : (s c : ℕ) → (opening_ghost env).slot s ≡ SlotHeld c → ⊥
+  no_slot_held s c = put-all (λ s o. o ≡ SlotHeld c → ⊥) (λ s. SlotFree) 0 (Live 0) (λ e. absurd (cc))
+      (λ s ne e. absurd (cc)) s
+
+  no_page_held : (p c : ℕ) → opening_page env p ≡ PageHeld c → ⊥
+  no_page_held p c held = elim (cases_lt p (first_pages env)) [
+    | inl below ↦
+        let same : ◌≡◌ {A = PageOwner} (PageOf 0) (PageHeld c) = sym (first_page env p below) ∙ held in absurd (cc)
+    | inr past ↦
+        let same : ◌≡◌ {A = PageOwner} PageFree (PageHeld c) = sym (other_page env p past) ∙ held in absurd (cc)
+  ]
+
   module _ (L : Type 0) where
     pub idle_at_opening : (c : ℕ) → ◌≡◌ {A = Local L}
         (local_in env (replicate env.geometry.callers (fresh env)) c) (fresh env)
@@ -134,8 +207,15 @@ module _ (env : Env) (mix : ℕ → ℕ → ℕ → ℕ) where
       same_env = refl;
       whole = opening_whole;
       each = λ c. rw (idle_at_opening c) (record {
-        only = record { nodes = λ n held. absurd (cc); locks = λ j holds. absurd (cc); raising = refl };
-        means = record { node = tt; table = tt; bucket = tt };
+        only = record {
+          nodes = λ n held. absurd (cc);
+          locks = λ j holds. absurd (cc);
+          raising = refl;
+          slots = λ s held. absurd (no_slot_held s c held);
+          pages_in = λ p held. absurd (no_page_held p c held);
+          works = λ works. absurd (cc);
+        };
+        means = record { node = tt; table = tt; bucket = tt; making = tt; work = tt };
       });
     }
 

@@ -33,7 +33,7 @@ use Rattle.rht_core.proofs.Events.JobsOfCallers.{plan-job, left-job, nothing-job
 use Rattle.rht_core.proofs.Theory.Ghosts.{Ghost, is_taken_by}
 use Rattle.rht_core.proofs.Theory.Wholes.{outs, Whole}
 use Rattle.rht_core.proofs.Theory.Answering.{outs_of}
-use Rattle.rht_core.proofs.Theory.Knowledge.{members_used, Rely, Knowing-rely}
+use Rattle.rht_core.proofs.Theory.Knowledge.{Rely, Knowing-rely}
 use Rattle.rht_core.proofs.Theory.Steps.{mem, Step, ghost_after}
 use Rattle.rht_core.proofs.Moves.Quiet.{aside}
 use Rattle.rht_core.proofs.Machines.FindSteps.{known_nothing}
@@ -49,9 +49,9 @@ module _ (env : Env) (mix : ℕ → ℕ → ℕ → ℕ) where
       → Rely env mix c M G M' G'
       → Knows c job M G → Knows c job M' G'
   Knows-rely c None M M' G G' whole rely knows =
-      Knowing-rely env mix c M M' G G' holds_no known_nothing (members_used env mix M G whole) rely knows
+      Knowing-rely env mix c M M' G G' holds_no known_nothing whole rely knows
   Knows-rely c (Some job) M M' G G' whole rely knows = JobKnows-rely env mix c job M M' G G'
-      (members_used env mix M G whole) rely knows
+      whole rely knows
 
   -- what a caller knows after an operation is what the job that is left says
   knows-told : (c : ℕ) (r : Job × Next Ending) (M : Memory) (G : Ghost) → JobNext env mix c r M G
@@ -265,7 +265,7 @@ module _ (env : Env) (mix : ℕ → ℕ → ℕ → ℕ) where
         let kept = aside env mix EnrolledCallers (word_after
         (word_at env.geometry core.words EnrolledCallers) op) (mem env mix core.words) M' G inv.whole
         write
-        (record { current = λ e. cc; slots = λ s w h e. cc }) (λ j e. cc) (λ n w e. cc) (λ i e. cc)
+        (record { current = λ e. cc; work = λ e. cc; slots = λ s w e. cc; pages = λ i e. cc }) (λ j e. cc) (λ n w e. cc) (λ i e. cc)
         (λ e. cc) in
         record {
           ghost = G;

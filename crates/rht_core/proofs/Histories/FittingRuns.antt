@@ -185,7 +185,7 @@ module _ (M : Type 0) (mix : ℕ → ℕ → ℕ → ℕ) (env : Env) where
       let kept = aside env mix EnrolledCallers (word_after
       (word_at env.geometry core.words EnrolledCallers) (enrolling env)) (mem env mix core.words)
       (mem env mix (applied core.words (enrolling env))) G has.inv.whole write
-      (record { current = λ e. cc; slots = λ s w h e. cc }) (λ j e. cc) (λ n w e. cc) (λ i e. cc) (λ e. cc) in
+      (record { current = λ e. cc; work = λ e. cc; slots = λ s w e. cc; pages = λ i e. cc }) (λ j e. cc) (λ n w e. cc) (λ i e. cc) (λ e. cc) in
       let made : Made env mix 0 (mem env mix core.words) G (mem env mix (applied core.words (enrolling env))) G =
       record { whole = kept.0; others = λ k ne. kept.1 k } in
       ap (λ (b : Multimap). b p) (end-next events Enroll)

@@ -29,7 +29,7 @@ use Rattle.rht_release.specs.declared.all.AllAt.{AllAt}
 use Rattle.rht_release.specs.declared.all.AllAt.TheVariants as at
 use Rattle.rht_core.proofs.Theory.Ghosts.{Ghost}
 use Rattle.rht_core.proofs.Theory.Wholes.{list_of, Whole}
-use Rattle.rht_core.proofs.Theory.Knowledge.{Nowhere, Locks, Collected, CollectedTo, Known, Knowing, last_of}
+use Rattle.rht_core.proofs.Theory.Knowledge.{Nowhere, Locks, Collected, CollectedTo, Known, Knowing, last_of, knows_plain}
 use Rattle.rht_core.proofs.Theory.Answering.{IsLegalOn, IsRight, Tells, keeps, learns}
 use Rattle.rht_core.proofs.Theory.Steps.{Holding, mem, owners, owners_in, moved-map, Step, step-map, answered, reads, HoldsSame, still_has}
 use Rattle.rht_core.proofs.Pieces.Locks.{unlock_step}
@@ -166,6 +166,8 @@ module _ (env : Env) (mix : ℕ → ℕ → ℕ → ℕ) (c : ℕ) (port : ℕ) 
                       ∙ sym (map-append owner_at is.among.front (node ∷ []));
                 };
               };
+              making = tt;
+              work = tt;
             };
           };
           fits = tt;
@@ -194,7 +196,7 @@ module _ (env : Env) (mix : ℕ → ℕ → ℕ → ℕ) (c : ℕ) (port : ℕ) 
         (record {
           knowing = record {
             only = known.knowing.only;
-            means = record { node = tt; table = tt; bucket = listed.found.standing.lock };
+            means = record { node = tt; table = tt; bucket = listed.found.standing.lock; making = tt; work = tt };
           };
           fits = tt;
         }))
@@ -233,6 +235,8 @@ module _ (env : Env) (mix : ℕ → ℕ → ℕ → ℕ) (c : ℕ) (port : ℕ) 
                   owners_are = is.owners_are;
                 };
               };
+              making = tt;
+              work = tt;
             };
           };
           fits = tt;
@@ -278,6 +282,8 @@ module _ (env : Env) (mix : ℕ → ℕ → ℕ → ℕ) (c : ℕ) (port : ℕ) 
                   owners_are = none;
                 };
               };
+              making = tt;
+              work = tt;
             };
           };
           fits = tt;
@@ -322,4 +328,4 @@ module _ (env : Env) (mix : ℕ → ℕ → ℕ → ℕ) (c : ℕ) (port : ℕ) 
         (AllNext room (state, Done tt)) (inl (keeps answer)) (still_has refl)
         (moved-map env mix c words G (plan_at env state) (held_of_all room.items state) told _
         (AllNext room (state, Done tt)) (λ M' G' w k. k)
-        (unlock_step env mix c told None Nowhere words G all whole unlock.place unlock.word known.knowing))
+        (unlock_step env mix c told None Nowhere words G all whole refl unlock.place unlock.word known.knowing))

@@ -44,21 +44,22 @@ use Rattle.rht_bind.specs.declared.bind.Claimed.{Claimed}
 use Rattle.rht_bind.specs.declared.bind.FoundList.{FoundList}
 use Rattle.rht_bind.specs.declared.bind.BindAt.{BindAt}
 use Rattle.rht_bind.specs.declared.bind.BindAt.TheVariants as at
-use Rattle.rht_core.proofs.Theory.Ghosts.{put, put-same, put-other, put-all, Held, First, Ghost, is_taken_by, index_at, table_at}
-use Rattle.rht_core.proofs.Theory.Wholes.{chain_of, key_of, home, place_at, word_index, place_at-index, index-within, Whole}
-use Rattle.rht_core.proofs.Theory.Passed.{home-table, unbound_at_last}
-use Rattle.rht_core.proofs.Theory.Knowledge.{HasOnly, KnownNode, KnownTable, Nowhere, Passes, AtHome, KnownBucket, Unlocked, Locks, Missed, Found, Member, InList, KnownList, FirstLink, Replaces, Known, HoldsLock, IsMember, Knowing}
-use Rattle.rht_core.proofs.Theory.Frames.{Made}
+use Rattle.rht_core.proofs.Theory.Ghosts.{put, put-same, put-other, put-all, Held, First, Ghost, is_taken_by, index_at, table_at, with_armed, armed_by}
+use Rattle.rht_core.proofs.Theory.Wholes.{chain_of, key_of, place_at, word_index, place_at-index, index-within, Whole}
+use Rattle.rht_core.proofs.Theory.Passed.{home-table, Passed-stays}
+use Rattle.rht_core.proofs.Theory.Knowledge.{HasOnly, KnownNode, KnownTable, Nowhere, Passes, AtHome, KnownBucket, Unlocked, Locks, Missed, Found, Member, InList, KnownList, FirstLink, Replaces, Known, HoldsLock, IsMember, Knowing, Unlocks, Armed, has_lock, knows_plain, idle_moves_none, TableMeans-stay}
+use Rattle.rht_core.proofs.Theory.Frames.{Made, same_tables, same_grow, tables_stay}
 use Rattle.rht_core.specs.Replies.{IsBindReply, AreOwnersWith, ArePairsWith}
 use Rattle.rht_core.proofs.Theory.Answering.{KeepsAnswer, IsLegalOn, IsRight, keeps, learns}
-use Rattle.rht_core.proofs.Theory.Steps.{Links, Rebinds, Holding, HoldsSame, by_test, mem, owners, owners_in, owners-stay, owners_in-stay, ghost_after, Moved, moved-map, with_knowledge, still_has, reowned-outs, Step, answered, reads}
-use Rattle.rht_core.proofs.Theory.Readiness.{linked_bucket, IsReady}
+use Rattle.rht_core.proofs.Theory.Steps.{Links, Rebinds, Holding, HoldsSame, by_test, mem, owners, owners_in, owners-stay, owners_in-stay, ghost_after, Moved, moved-map, with_knowledge, still_has, reowned-outs, Step, answered, reads, Arms, unchanged, moved}
+use Rattle.rht_core.proofs.Theory.Readiness.{linked_bucket, IsReady, IsArming}
+use Rattle.rht_core.proofs.Moves.Quiet.{armed_passes, arm}
 use Rattle.rht_core.proofs.Moves.Linking.{link_head}
 use Rattle.rht_core.proofs.Moves.Relinking.{relink_address, relink_value}
 use Rattle.rht_core.proofs.Pieces.ListFronts.{lock_left, change, fronted, front_made, front_only, front_locks, front_outs}
 use Rattle.rht_core.proofs.Pieces.NewNodes as nodes
-use Rattle.rht_core.proofs.Pieces.Locates.{known_locate, first_passed, locate_step, LocateKnows, FutureIs, future_is}
-use Rattle.rht_core.proofs.Pieces.Locks.{unlock_step}
+use Rattle.rht_core.proofs.Pieces.Locates.{known_locate, first_passed, locate_step, LocateKnows, FutureIs, future_is, is_last}
+use Rattle.rht_core.proofs.Pieces.Locks.{unlock_step, unlock_any}
 use Rattle.rht_core.proofs.Pieces.Probes.{known_probe, known_found, place_of_probe, IsProbeFor, probed_by, ProbeKnows, probe_step}
 use Rattle.rht_core.proofs.Pieces.PortCounts.{raise_step}
 use Rattle.rht_core.proofs.Machines.FindSteps.{known_nothing, known_behind}
@@ -77,13 +78,17 @@ module _ (port owner : ℕ) where
 
   -- what it knows of its node, of the way to a bucket, and of the bucket that it has locked
   abbrev knows_of : KnownNode → KnownTable → KnownBucket → Known
-  knows_of node table bucket = record { node = Some node; table = table; bucket = bucket }
+  knows_of node table bucket = knows_plain (Some node) table bucket
 
   abbrev at_home : Claimed → KnownTable
   at_home claimed = AtHome port claimed.table (Some claimed.shape) claimed.bucket.place
 
   abbrev missed : Claimed → KnownBucket
   missed claimed = Missed claimed.bucket.place claimed.bucket.word port
+
+  -- and once it is known that no table is behind it
+  abbrev armed : Claimed → KnownBucket
+  armed claimed = Armed claimed.bucket.place claimed.bucket.word port
 
   -- the node with the link to the first one of the port's list, and what is known of that list
   abbrev in_front : FoundList → KnownNode
@@ -97,18 +102,13 @@ module _ (port owner : ℕ) where
 
   -- while the node is put in front of the list: before the store of the link, and behind it
   abbrev known_replacing : FoundList → Bool → Known
-  known_replacing list false = knows_of (in_front list) Nowhere (of_list list (Replaces list.claimed.node))
+  known_replacing list false = knows_of (in_front list) (at_home list.claimed) (of_list list (Replaces list.claimed.node))
   known_replacing list true =
-      record {
-        node = None;
-        table = Nowhere;
-        bucket = Locks list.claimed.bucket.place
-            list.claimed.bucket.word;
-      }
+      knows_plain None Nowhere (Locks list.claimed.bucket.place list.claimed.bucket.word)
 
   -- what a bind knows in a state
   abbrev pub known_of_bind : BindAt → Known
-  known_of_bind (at.Filling new) = record { node = nodes.known_at port owner new.at; table = Nowhere; bucket = Unlocked }
+  known_of_bind (at.Filling new) = knows_plain (nodes.known_at port owner new.at) Nowhere Unlocked
   known_of_bind (at.CurrentTable n) = knows_of (own n) Nowhere Unlocked
   known_of_bind (at.Locating n locate) = knows_of (own n) (known_locate port locate.table locate.at) Unlocked
   known_of_bind (at.Probing n table shape probe) = knows_of (own n) (AtHome port table (Some shape) (place_of_probe probe.at)) (known_probe port probe.at)
@@ -120,12 +120,12 @@ module _ (port owner : ℕ) where
       (of_list list (FirstLink link))
   known_of_bind (at.Replacing list relink) = known_replacing list (has_relinked list.before relink.at)
   known_of_bind (at.Future claimed length) = knows_of (own claimed.node) (at_home claimed) (missed claimed)
-  known_of_bind (at.Count claimed) = knows_of (own claimed.node) (at_home claimed) (missed claimed)
-  known_of_bind (at.Link claimed) = knows_of (own claimed.node) (at_home claimed) (missed claimed)
-  known_of_bind (at.Raise claimed) = knows_of (chained claimed.node claimed.bucket.place claimed.bucket.word) (at_home claimed) (missed claimed)
+  known_of_bind (at.Count claimed) = knows_of (own claimed.node) (at_home claimed) (armed claimed)
+  known_of_bind (at.Link claimed) = knows_of (own claimed.node) (at_home claimed) (armed claimed)
+  known_of_bind (at.Raise claimed) = knows_of (chained claimed.node claimed.bucket.place claimed.bucket.word) (at_home claimed) (armed claimed)
   known_of_bind (at.Publish n table relink kick) =
-      knows_of (chained n relink.place relink.word) (AtHome port table None relink.place) (Missed relink.place relink.word port)
-  known_of_bind (at.Unlocking n table unlock next) = knows_of (own n) (known_behind port next) (Locks unlock.place unlock.word)
+      knows_of (chained n relink.place relink.word) (AtHome port table None relink.place) (Armed relink.place relink.word port)
+  known_of_bind (at.Unlocking n table unlock next) = knows_of (own n) (known_behind port next) (Unlocks unlock.place unlock.word)
   known_of_bind (at.Giving give reply) = knows_of (own give.node) Nowhere Unlocked
 
 module _ (env : Env) (mix : ℕ → ℕ → ℕ → ℕ) (c : ℕ) (port owner : ℕ) (once : Bool) where
@@ -284,6 +284,8 @@ module _ (env : Env) (mix : ℕ → ℕ → ℕ → ℕ) (c : ℕ) (port owner :
                     is.standing.stands.rear);
                 key_is = is.key_is;
               };
+              making = tt;
+              work = tt;
             };
           };
           fits = single;
@@ -325,17 +327,97 @@ module _ (env : Env) (mix : ℕ → ℕ → ℕ → ℕ) (c : ℕ) (port owner :
         (moved-map env mix c words G (probe_plan probe) (holds_node (Some n) (lock_of_probe probe.at)) (holds_claimed claimed) _ (BindNext (there, Go))
         (λ M' G' w k. seen_knows claimed end.seen.found end.seen.before end.seen.length M' G' k) step))
 
+    -- where no table is behind that in which the port was looked for in vain, the bind is armed in its bucket
+    arms : (claimed : Claimed) (count : ℕ) → G.bound port ≡ [] → index_at G claimed.table + 1 ≡ G.attached
+        → BindKnows (at.Future claimed count) M G → BindMoved (at.Future claimed count) (at.Count claimed, Go)
+    arms claimed count unbound last known =
+        let op = plan_at env (at.Future claimed count) in
+        let k = known.knowing in
+        let home_is = k.means.table in
+        let lock = k.means.bucket.lock in
+        let j = word_index env mix claimed.bucket.place in
+        let τ = index_at G claimed.table in
+        let table : table_at G j ≡ τ =
+        home-table env mix M G whole port τ j home_is.passing.passed.attached home_is.here in
+        let ready : IsArming env mix c j G = record {
+          holder = lock.holder;
+          current = omega (arith, whole.tables.current_in, table, last);
+          last = omega (arith, table, last);
+        } in
+        let made = arm env mix c j M G whole (idle_moves_none env mix M G whole c k.only) ready in
+        let G' = with_armed G j c in
+        let b = armed_by (G.bucket j) c in
+        let same : (applied words op) ≡ words = unchanged words op refl in
+        answered env mix c call words G op (holds_claimed claimed) (holds_claimed claimed) None
+        (BindNext (at.Count claimed, Go)) (inl refl) (still_has refl)
+        (moved env mix c words G op (holds_claimed claimed) (holds_claimed claimed)
+        (BindNext (at.Count claimed, Go)) (Arms j) whole ready tt
+        (subst (λ w. Made env mix c M G (mem env mix w) G') (sym same) made)
+        (record { holds = refl; leaves = inl (λ bit l. refl) })
+        (subst (λ w. BindNext (at.Count claimed, Go) (mem env mix w) G') (sym same) (record {
+          knowing = record {
+            only = record {
+              nodes = k.only.nodes;
+              locks = λ i. put-all (λ n bucket. bucket.holder ≡ Some c
+                  → (Some claimed.bucket.place ≡ Some (place_at env mix n))
+                  ⊎ (◌≡◌ {A = Option ℕ} None (Some (place_at env mix n)))) G.bucket j b
+                  (k.only.locks j) (λ n ne. k.only.locks n) i;
+              raising = k.only.raising;
+              slots = k.only.slots;
+              pages_in = k.only.pages_in;
+              works = k.only.works;
+            };
+            means = record {
+              node = record {
+                has = record { mine = k.means.node.has.mine; among = k.means.node.has.among };
+                chain = k.means.node.chain;
+                key = k.means.node.key;
+                owner = k.means.node.owner;
+                list = k.means.node.list;
+              };
+              table = TableMeans-stay env mix c M M G G'
+                  (tables_stay env mix M G G' whole (same_tables env mix G G'.bucket G.node G.bound G.raised)
+                  (armed_passes env mix c j G ready)) (at_home port owner claimed) home_is;
+              bucket = record {
+                lock = record {
+                  bucket = lock.bucket;
+                  holder = ap (λ x. x.holder) (put-same G.bucket j b) ∙ lock.holder;
+                  plain = ap (λ x. x.plain) (put-same G.bucket j b) ∙ lock.plain;
+                };
+                table = τ;
+                armed = record {
+                  passed = Passed-stays env mix M G G' whole
+                      (same_grow env mix G G' (same_tables env mix G G'.bucket G.node G.bound G.raised))
+                      (armed_passes env mix c j G ready) port τ home_is.passing.passed;
+                  here = home_is.here;
+                  armed = ap (λ x. x.armed) (put-same G.bucket j b);
+                  unbound = unbound;
+                };
+              };
+              making = tt;
+              work = tt;
+            };
+          };
+          fits = tt;
+        })))
+
     -- the future of a table in which the port was looked for in vain
     future_next : (claimed : Claimed) (count : ℕ) (future : Option ℕ)
         → FutureIs env mix c (holds_claimed claimed) (Some (own port owner claimed.node)) (missed port owner claimed) words G whole port future
+        → (future ≡ None → index_at G claimed.table + 1 ≡ G.attached)
         → BindKnows (at.Future claimed count) M G → BindMoved (at.Future claimed count) (future_or_count claimed future, Go)
-    future_next claimed count None unbound known =
-        goes_on (at.Future claimed count) (at.Count claimed) refl refl refl (record { knowing = known.knowing; fits = tt })
-    future_next claimed count (Some next) passing known =
+    future_next claimed count None unbound last known = arms claimed count unbound (last refl) known
+    future_next claimed count (Some next) passing last known =
         goes_on (at.Future claimed count) (unlocking claimed (Table next)) refl refl refl (record {
           knowing = record {
             only = known.knowing.only;
-            means = record { node = known.knowing.means.node; table = passing; bucket = known.knowing.means.bucket.lock };
+            means = record {
+              node = known.knowing.means.node;
+              table = passing;
+              bucket = has_lock env mix c G claimed.bucket.place claimed.bucket.word known.knowing.means.bucket.lock;
+              making = tt;
+              work = tt;
+            };
           };
           fits = tt;
         })
@@ -344,7 +426,7 @@ module _ (env : Env) (mix : ℕ → ℕ → ℕ → ℕ) (c : ℕ) (port owner :
     unlocking_knows : (claimed : Claimed) (reply : Reply) → Knowing env mix c (holds_claimed claimed) (known_of_bind port owner (at.Count claimed)) M G
         → BindKnows (unlocking claimed (Answer reply)) M G
     unlocking_knows claimed reply k = record {
-      knowing = record { only = k.only; means = record { node = k.means.node; table = tt; bucket = k.means.bucket.lock } };
+      knowing = record { only = k.only; means = record { node = k.means.node; table = tt; bucket = k.means.bucket.lock; making = tt; work = tt } };
       fits = tt;
     }
 
@@ -392,31 +474,24 @@ module _ (env : Env) (mix : ℕ → ℕ → ℕ → ℕ) (c : ℕ) (port owner :
         (with_node claimed.node (Exists first) tt refl refl (λ e. cc)) refl
         (exists known.fits first (bound_here known.fits claimed.bucket.place claimed.bucket.word found is)))
         (record {
-          knowing = record { only = known.knowing.only; means = record { node = known.knowing.means.node; table = tt; bucket = is.lock } };
+          knowing = record { only = known.knowing.only; means = record { node = known.knowing.means.node; table = tt; bucket = has_lock env mix c G claimed.bucket.place claimed.bucket.word is.lock; making = tt; work = tt } };
           fits = tt;
         })
 
     -- ---- the store that binds the port
 
-    -- what the store needs: so far one table is attached, so none is behind it, and the port is bound nowhere
-    publish_ready : (n table place word : ℕ) → Knowing env mix c (holds_publishing n place) (knows_of port owner (chained port owner n place word) (AtHome port table None place) (Missed place word port)) M G
+    -- what the store needs
+    publish_ready : (n table place word : ℕ) → Knowing env mix c (holds_publishing n place) (knows_of port owner (chained port owner n place word) (AtHome port table None place) (Armed place word port)) M G
         → IsReady env mix c n port (word_index env mix place) M G
     publish_ready n table place word k =
-        let at = k.means.table in
-        let τ = index_at G table in
         let j = word_index env mix place in
-        let attached = at.passing.passed.attached in
         let is = k.means.bucket in
         let node = k.means.node in
-        let here : table_at G j ≡ τ = home-table env mix M G whole port τ j attached at.here in
         record {
           low = low;
-          home_of = record {
-            here = ap (home env mix G port) here ∙ at.here;
-            current = omega (arith, whole.tables.current_in, whole.tables.one);
-            attached = omega (arith, here, attached);
-          };
-          unbound = unbound_at_last env mix M G whole port τ j at.passing.passed at.here is.none (omega (arith, attached, whole.tables.one));
+          table = is.table;
+          armed = is.armed;
+          moves_none = idle_moves_none env mix M G whole c k.only;
           has = node.has;
           key = node.key;
           list = node.list;
@@ -453,8 +528,8 @@ module _ (env : Env) (mix : ℕ → ℕ → ℕ → ℕ) (c : ℕ) (port owner :
     ]
 
     -- nothing is held any more
-    nothing_left : (n j place : ℕ) → place_at env mix j ≡ place → HasOnly env mix c G (Some n) (Some place) None true
-        → HasOnly env mix c (ghost_after env mix c (Links n port j) G) None None None false
+    nothing_left : (n j place : ℕ) → place_at env mix j ≡ place → HasOnly env mix c G (Some n) (Some place) None true None [] false
+        → HasOnly env mix c (ghost_after env mix c (Links n port j) G) None None None false None [] false
     nothing_left n j place is only = record {
       nodes = put-all (λ m o. o ≡ Held c → ◌≡◌ {A = Option ℕ} None (Some m)) G.node n (First j) (λ e. absurd (cc))
           (λ m ne holds. let q = only.nodes m holds in absurd (ne (cc)));
@@ -465,6 +540,9 @@ module _ (env : Env) (mix : ℕ → ℕ → ℕ → ℕ) (c : ℕ) (port owner :
             | inr second ↦ absurd (cc)
           ]);
       raising = put-same G.raised c false;
+      slots = only.slots;
+      pages_in = only.pages_in;
+      works = only.works;
     }
 
     plain_of-link : (place n : ℕ) → plain_of place (link_of n) ≡ link_of n
@@ -487,7 +565,7 @@ module _ (env : Env) (mix : ℕ → ℕ → ℕ → ℕ) (c : ℕ) (port owner :
         let node = known.knowing.means.node in
         let owner_word : owner_of (M' (Node n OwnerWord)) ≡ owner =
         ap owner_of (write.others (Node n OwnerWord) node.has.among (λ e. cc) ∙ node.owner) ∙ mod-eq_of_lt {n = owner} {m = 2 ^ 32} small in
-        let none : now port ≡ [] = ap (owners_in env mix M) ready.unbound in
+        let none : now port ≡ [] = ap (owners_in env mix M) ready.armed.unbound in
         let bindings = stored_bindings (n ∷ []) M' (ghost_after env mix c (Links n port j) G) made refl
         (ap (λ o. o ∷ []) owner_word ∙ sym (first_owner env.config.kind) ∙
         ap (owners_bound env.config.kind owner) (sym none)) in
@@ -513,7 +591,7 @@ module _ (env : Env) (mix : ℕ → ℕ → ℕ → ℕ) (c : ℕ) (port owner :
           outs = ap (λ o. o + 0) (reowned-outs env mix c n (First j) G (ap (is_taken_by c) ready.has.mine) refl);
           knows = record {
             only = nothing_left n j place is known.knowing.only;
-            means = record { node = tt; table = tt; bucket = tt };
+            means = record { node = tt; table = tt; bucket = tt; making = tt; work = tt };
           };
         }
 
@@ -547,6 +625,8 @@ module _ (env : Env) (mix : ℕ → ℕ → ℕ → ℕ) (c : ℕ) (port owner :
                 bound_to = ap G.bound (sym is.key_is) ∙ owned.bound_to;
                 means = refl;
               };
+              making = tt;
+              work = tt;
             };
           };
           fits = known.fits;
@@ -586,13 +666,15 @@ module _ (env : Env) (mix : ℕ → ℕ → ℕ → ℕ) (c : ℕ) (port owner :
                     owner = node.owner;
                     list = node.list;
                   };
-                  table = tt;
+                  table = k.means.table;
                   bucket = record {
                     found = is.found;
                     behind = is.behind;
                     bound_to = is.bound_to;
                     means = record { has = node.has; alike = node.chain ∙ sym is.means };
                   };
+                  making = tt;
+                  work = tt;
                 };
               });
           fits = record { listed = known.fits; relink_is = refl; at_is = first.1 };
@@ -627,7 +709,7 @@ module _ (env : Env) (mix : ℕ → ℕ → ℕ → ℕ) (c : ℕ) (port owner :
 
       -- what the caller has behind it: no node, and the lock where a node is before
       record LeftInFront : Type 0 where
-        only : HasOnly env mix c front None (lock_left bucket.place list.before) None false
+        only : HasOnly env mix c front None (lock_left bucket.place list.before) None false None [] false
         locks : (node : ℕ) → list.before ≡ Some node → HoldsLock env mix c front bucket.place bucket.word
 
       front_left : LeftInFront
@@ -638,7 +720,14 @@ module _ (env : Env) (mix : ℕ → ℕ → ℕ → ℕ) (c : ℕ) (port owner :
             only =
                 front_only env mix c port bucket.place bucket.word list.first n list.before
                 M stored G whole is
-                (record { nodes = k.only.nodes; locks = k.only.locks; raising = k.only.raising });
+                (record {
+                  nodes = k.only.nodes;
+                  locks = k.only.locks;
+                  raising = k.only.raising;
+                  slots = k.only.slots;
+                  pages_in = k.only.pages_in;
+                  works = k.only.works;
+                });
             locks =
                 front_locks env mix c port bucket.place bucket.word list.first n list.before
                 M stored G whole is;
@@ -672,7 +761,8 @@ module _ (env : Env) (mix : ℕ → ℕ → ℕ → ℕ) (c : ℕ) (port owner :
           let back = place_at-index env mix bucket.place is.found.standing.lock.bucket in
           let made =
           front_made env mix c port bucket.place bucket.word list.first n list.before M stored G whole is
-          listed k.means.node.key k.means.node.list write in
+          listed k.means.node.key k.means.node.list (idle_moves_none env mix M G whole c k.only)
+          (index_at G list.claimed.table) k.means.table.passing.passed k.means.table.here write in
           let before : now port ≡ owners_in env mix M rest = ap (owners_in env mix M) is.bound_to in
           let first : owner_of (stored (Node n OwnerWord)) ≡ owner =
           ap owner_of (front_owner list.before write ∙ k.means.node.owner)
@@ -745,7 +835,7 @@ module _ (env : Env) (mix : ℕ → ℕ → ℕ → ℕ) (c : ℕ) (port owner :
         (subst (IsWrite env.geometry M (mem env mix (applied words op)) (PageWord j)) value
         (is_write env.geometry words (PageWord j) op all (index-within env mix claimed.bucket.place there)
         (sym back)))
-        (λ left. record { only = left.only; means = record { node = tt; table = tt; bucket = tt } })
+        (λ left. record { only = left.only; means = record { node = tt; table = tt; bucket = tt; making = tt; work = tt } })
     front_at claimed first (Some before) (relinks.ChainLink node) is known =
         let list : FoundList = record { claimed = claimed; first = first; before = Some before } in
         let op = Store (place_of env.geometry (Node node ChainLink)) (link_of claimed.node) in
@@ -762,6 +852,8 @@ module _ (env : Env) (mix : ℕ → ℕ → ℕ → ℕ) (c : ℕ) (port owner :
               table = tt;
               bucket = left.locks
                   before refl;
+              making = tt;
+              work = tt;
             };
           };
           fits = record { listed = known.fits.listed; relink_is = refl; at_is = refl };
@@ -776,7 +868,7 @@ module _ (env : Env) (mix : ℕ → ℕ → ℕ → ℕ) (c : ℕ) (port owner :
         (sym known.fits.at_is)
         (answered env mix c call words G (Store place claimed.bucket.word) (holds_front (Some place)) told
         (Some (plain (Bound false))) Ended (inl (keeps (Some (plain (Bound false))))) (still_has refl)
-        (unlock_step env mix c told None Nowhere words G all whole place claimed.bucket.word known.knowing))
+        (unlock_step env mix c told None Nowhere words G all whole refl place claimed.bucket.word known.knowing))
 
     front_step : (list : FoundList) (relink : RelinkModel) → IsBindAtIn env (at.Replacing list relink)
         → BindKnows (at.Replacing list relink) M G → BindStep (at.Replacing list relink)
@@ -803,6 +895,8 @@ module _ (env : Env) (mix : ℕ → ℕ → ℕ → ℕ) (c : ℕ) (port owner :
               node = known.knowing.means.node;
               table = first_passed env mix c (holds_node (Some n) None) (Some (own port owner n)) Unlocked words G whole port;
               bucket = tt;
+              making = tt;
+              work = tt;
             };
           };
           fits = tt;
@@ -829,14 +923,15 @@ module _ (env : Env) (mix : ℕ → ℕ → ℕ → ℕ) (c : ℕ) (port owner :
     bind_step (at.Replacing list relink) is known = front_step list relink is known
     bind_step (at.Future claimed count) is known =
         future_next claimed count (slot_of (M (Slot claimed.table FutureWord)))
-        (future_is env mix c (holds_claimed claimed) (Some (own port owner claimed.node)) (missed port owner claimed) words G whole port claimed.table claimed.bucket.place (Some claimed.shape)
-        known.knowing known.knowing.means.bucket.none) known
+        (future_is env mix c (holds_claimed claimed) (Some (own port owner claimed.node)) (missed port owner claimed) words G whole port claimed.table claimed.bucket.place claimed.bucket.word (Some claimed.shape)
+        known.knowing known.knowing.means.bucket)
+        (is_last env mix c (holds_claimed claimed) (Some (own port owner claimed.node)) (missed port owner claimed) words G whole port claimed.table claimed.bucket.place (Some claimed.shape) known.knowing) known
     bind_step (at.Count claimed) is known = count_next claimed known
     bind_step (at.Link claimed) is known =
         answered env mix c call words G (plan_at env (at.Link claimed)) (holds_claimed claimed) (holds_claimed claimed) None (BindNext (at.Raise claimed, Go)) (inl refl) (still_has refl)
         (moved-map env mix c words G (plan_at env (at.Link claimed)) (holds_claimed claimed) (holds_claimed claimed) _ (BindNext (at.Raise claimed, Go))
         (λ M' G' w k. record { knowing = k; fits = tt })
-        (nodes.fill_step env mix c (holds_node None (Some claimed.bucket.place)) (at_home port owner claimed) (missed port owner claimed) words G all whole tt (own port owner claimed.node) ChainLink (head_of claimed.bucket.place claimed.bucket.word) known.knowing))
+        (nodes.fill_step env mix c (holds_node None (Some claimed.bucket.place)) (at_home port owner claimed) (armed port owner claimed) words G all whole tt (own port owner claimed.node) ChainLink (head_of claimed.bucket.place claimed.bucket.word) known.knowing))
     bind_step (at.Raise claimed) is known =
         let kick = kicks env claimed.shape (M PortCount) in
         let p = claimed.bucket.place in
@@ -849,25 +944,27 @@ module _ (env : Env) (mix : ℕ → ℕ → ℕ → ℕ) (c : ℕ) (port owner :
               node = k.means.node;
               table = record { passing = table.passing; shape_is = tt; bucket = table.bucket; here = table.here };
               bucket = k.means.bucket;
+              making = tt;
+              work = tt;
             };
           };
           fits = refl;
         })
-        (raise_step env mix c (holds_claimed claimed) (known_of_bind port owner (at.Raise claimed)) words G all whole low known.knowing))
+        (raise_step env mix c (holds_claimed claimed) (Some (chained port owner claimed.node claimed.bucket.place claimed.bucket.word)) (at_home port owner claimed) (armed port owner claimed) words G all whole low known.knowing))
     bind_step (at.Publish n table relink kick) is known = publish_step n table relink kick known
     bind_step (at.Unlocking n table unlock (Table next)) is known =
         answered env mix c call words G (plan_at env (at.Unlocking n table unlock (Table next))) (held_of_bind (at.Unlocking n table unlock (Table next))) (holds_node (Some n) None) None
         (BindNext (at.Locating n (locate_new env.geometry next), Go)) (inl refl) (still_has refl)
         (moved-map env mix c words G (plan_at env (at.Unlocking n table unlock (Table next))) (holds_node (Some n) (Some unlock.place)) (holds_node (Some n) None) _ (BindNext (at.Locating n (locate_new env.geometry next), Go))
         (λ M' G' w k. record { knowing = k; fits = tt })
-        (unlock_step env mix c (holds_node (Some n) None) (Some (own port owner n)) (Passes port next) words G all whole unlock.place unlock.word known.knowing))
+        (unlock_any env mix c (holds_node (Some n) None) (Some (own port owner n)) (Passes port next) words G all whole refl unlock.place unlock.word known.knowing))
     bind_step (at.Unlocking n table unlock (Answer reply)) is known =
         let told : Holding = record held.holds_nothing { node = Some n; answer = Some (plain reply) } in
         answered env mix c call words G (plan_at env (at.Unlocking n table unlock (Answer reply))) (held_of_bind (at.Unlocking n table unlock (Answer reply))) told (Some (plain reply))
         (BindNext (giving env n reply, Go)) (inl (keeps (Some (plain reply)))) (still_has refl)
         (moved-map env mix c words G (plan_at env (at.Unlocking n table unlock (Answer reply))) (record told { lock = Some unlock.place }) told _ (BindNext (giving env n reply, Go))
         (λ M' G' w k. record { knowing = k; fits = tt })
-        (unlock_step env mix c told (Some (own port owner n)) Nowhere words G all whole unlock.place unlock.word known.knowing))
+        (unlock_any env mix c told (Some (own port owner n)) Nowhere words G all whole refl unlock.place unlock.word known.knowing))
     bind_step (at.Giving give reply) is known =
         let told : Holding = record held.holds_nothing { answer = Some (plain reply) } in
         subst (λ g. Step env mix c call words G (give_node_plan (record { geometry = g; node = give.node })) (record told { node = Some give.node }) told (Knowing env mix c told known_nothing))

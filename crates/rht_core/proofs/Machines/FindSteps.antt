@@ -31,7 +31,7 @@ use Rattle.rht_find.specs.declared.find.FindAt.{FindAt}
 use Rattle.rht_find.specs.declared.find.FindAt.TheVariants as at
 use Rattle.rht_core.proofs.Theory.Ghosts.{Ghost}
 use Rattle.rht_core.proofs.Theory.Wholes.{word_index, Whole}
-use Rattle.rht_core.proofs.Theory.Knowledge.{KnownTable, Nowhere, Passes, AtHome, KnownBucket, Unlocked, Locks, Missed, Member, Listing, Known, Knowing}
+use Rattle.rht_core.proofs.Theory.Knowledge.{KnownTable, Nowhere, Passes, AtHome, KnownBucket, Unlocked, Locks, Missed, Member, Listing, Known, Knowing, knows_plain}
 use Rattle.rht_core.proofs.Theory.Answering.{KeepsAnswer, keeps, learns}
 use Rattle.rht_core.proofs.Theory.Steps.{Holding, mem, owners, owners_in, Moved, moved-map, with_knowledge, Step, answered, reads, HoldsSame, still_has}
 use Rattle.rht_core.proofs.Pieces.Locates.{known_locate, first_passed, locate_step, LocateKnows, FutureIs, future_is}
@@ -41,7 +41,7 @@ use Rattle.rht_core.proofs.Pieces.Probes.{known_probe, known_found, place_of_pro
 
 -- what a caller knows in no call
 abbrev pub known_nothing : Known
-known_nothing = record { node = None; table = Nowhere; bucket = Unlocked }
+known_nothing = knows_plain None Nowhere Unlocked
 
 -- what a call holds that has nothing but this lock
 abbrev at_lock : Option ℕ → Holding
@@ -49,7 +49,7 @@ at_lock lock = record held.holds_nothing { lock = lock }
 
 -- what it knows of the way to a bucket, and of the bucket that it has locked
 abbrev knows_of : KnownTable → KnownBucket → Known
-knows_of table bucket = record { node = None; table = table; bucket = bucket }
+knows_of table bucket = knows_plain None table bucket
 
 -- where the call goes on behind an unlocking, the port has been passed there
 abbrev pub known_behind : ℕ → Then Reply → KnownTable
@@ -168,6 +168,8 @@ module _ (env : Env) (mix : ℕ → ℕ → ℕ → ℕ) (c : ℕ) (port : ℕ) 
                     table.here;
               };
               bucket = tt;
+              making = tt;
+              work = tt;
             };
           };
           fits = (refl, tt);
@@ -194,6 +196,8 @@ module _ (env : Env) (mix : ℕ → ℕ → ℕ → ℕ) (c : ℕ) (port : ℕ) 
                     is.standing.stands.rear);
                 key_is = is.key_is;
               };
+              making = tt;
+              work = tt;
             };
           };
           fits = tt;
@@ -251,7 +255,7 @@ module _ (env : Env) (mix : ℕ → ℕ → ℕ → ℕ) (c : ℕ) (port : ℕ) 
           knowing = record {
             only = known.knowing.only;
             means =
-                record { node = tt; table = tt; bucket = known.knowing.means.bucket.lock };
+                record { node = tt; table = tt; bucket = known.knowing.means.bucket.lock; making = tt; work = tt };
           };
           fits = tt;
         })
@@ -260,7 +264,7 @@ module _ (env : Env) (mix : ℕ → ℕ → ℕ → ℕ) (c : ℕ) (port : ℕ) 
           knowing = record {
             only = known.knowing.only;
             means =
-                record { node = tt; table = passing; bucket = known.knowing.means.bucket.lock };
+                record { node = tt; table = passing; bucket = known.knowing.means.bucket.lock; making = tt; work = tt };
           };
           fits = tt;
         })
@@ -290,7 +294,7 @@ module _ (env : Env) (mix : ℕ → ℕ → ℕ → ℕ) (c : ℕ) (port : ℕ) 
           knowing = record {
             only = known.knowing.only;
             means =
-                record { node = tt; table = tt; bucket = here.member.lock };
+                record { node = tt; table = tt; bucket = here.member.lock; making = tt; work = tt };
           };
           fits = tt;
         }))
@@ -323,6 +327,8 @@ module _ (env : Env) (mix : ℕ → ℕ → ℕ → ℕ) (c : ℕ) (port : ℕ) 
                 listed = inr next.there;
                 owner_is = here.owner_is;
               };
+              making = tt;
+              work = tt;
             };
           };
           fits = tt;
@@ -340,6 +346,8 @@ module _ (env : Env) (mix : ℕ → ℕ → ℕ → ℕ) (c : ℕ) (port : ℕ) 
               table = first_passed env mix c held.holds_nothing None Unlocked
                   words G whole port;
               bucket = tt;
+              making = tt;
+              work = tt;
             };
           };
           fits = tt;
@@ -355,8 +363,8 @@ module _ (env : Env) (mix : ℕ → ℕ → ℕ → ℕ) (c : ℕ) (port : ℕ) 
     find_step (at.Future table bucket) is known =
         future_next table bucket (slot_of (M (Slot table FutureWord)))
         (future_is env mix c (at_lock (Some bucket.place)) None (Missed bucket.place bucket.word port)
-        words G whole port table bucket.place None
-        known.knowing known.knowing.means.bucket.none) known
+        words G whole port table bucket.place bucket.word None
+        known.knowing known.knowing.means.bucket) known
     find_step (at.FirstOwner table bucket node) is known =
         let member = known.knowing.means.bucket in
         let j = word_index env mix bucket.place in
@@ -376,6 +384,8 @@ module _ (env : Env) (mix : ℕ → ℕ → ℕ → ℕ) (c : ℕ) (port : ℕ) 
                 listed = inl refl;
                 owner_is = refl;
               };
+              making = tt;
+              work = tt;
             };
           };
           fits = tt;
@@ -397,7 +407,7 @@ module _ (env : Env) (mix : ℕ → ℕ → ℕ → ℕ) (c : ℕ) (port : ℕ) 
         (at_lock (Some unlock.place)) held.holds_nothing _
         (FindNext (at.Locating (locate_new env.geometry next), Go))
         (λ M' G' w k. record { knowing = k; fits = tt })
-        (unlock_step env mix c held.holds_nothing None (Passes port next) words G all whole unlock.place
+        (unlock_step env mix c held.holds_nothing None (Passes port next) words G all whole refl unlock.place
         unlock.word known.knowing))
     find_step (at.Unlocking table unlock (Answer reply)) is known =
         let told : Holding = record held.holds_nothing { answer = Some (plain reply) } in
@@ -408,4 +418,4 @@ module _ (env : Env) (mix : ℕ → ℕ → ℕ → ℕ) (c : ℕ) (port : ℕ) 
         (moved-map env mix c words G (plan_at env (at.Unlocking table unlock (Answer reply)))
         (record told { lock = Some unlock.place }) told _
         (FindNext (at.Unlocking table unlock (Answer reply), Done reply)) (λ M' G' w k. k)
-        (unlock_step env mix c told None Nowhere words G all whole unlock.place unlock.word known.knowing))
+        (unlock_step env mix c told None Nowhere words G all whole refl unlock.place unlock.word known.knowing))

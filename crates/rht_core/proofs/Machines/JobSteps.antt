@@ -35,7 +35,7 @@ use Rattle.rht_release.specs.Rebind as rebind_at
 use Rattle.rht_release.specs.declared.rebind.RebindAt.{RebindAt}
 use Rattle.rht_core.proofs.Theory.Ghosts.{Ghost}
 use Rattle.rht_core.proofs.Theory.Wholes.{Whole}
-use Rattle.rht_core.proofs.Theory.Knowledge.{Known, MembersUsed, Rely, Knowing, Knowing-rely}
+use Rattle.rht_core.proofs.Theory.Knowledge.{Known, Rely, Knowing, Knowing-rely}
 use Rattle.rht_core.proofs.Theory.Steps.{mem, Holding, Step, step-map, reads}
 use Rattle.rht_core.proofs.Machines.FindSteps.{known_nothing, known_of_find, fits_find, find_holds, FindNext, find_step}
 use Rattle.rht_core.proofs.Machines.BindSteps.{known_of_bind, fits_bind, bind_holds, BindNext, bind_step}
@@ -113,11 +113,11 @@ module _ (env : Env) (mix : ℕ → ℕ → ℕ → ℕ) (c : ℕ) where
   JobNext (job, Done ending) M G = Knowing env mix c (held.ended_with ending.answer) known_nothing M G
 
   -- what it knows outlives a step of anybody else
-  pub JobKnows-rely : (job : Job) (M M' : Memory) (G G' : Ghost) → MembersUsed env mix G → Rely env mix c M G M' G'
+  pub JobKnows-rely : (job : Job) (M M' : Memory) (G G' : Ghost) → Whole env mix M G → Rely env mix c M G M' G'
       → JobKnows job M G → JobKnows job M' G'
-  JobKnows-rely job M M' G G' members rely knows = record {
+  JobKnows-rely job M M' G G' whole rely knows = record {
     built = knows.built;
-    knowing = Knowing-rely env mix c M M' G G' (held_of job) (known_of job) members rely knows.knowing;
+    knowing = Knowing-rely env mix c M M' G G' (held_of job) (known_of job) whole rely knows.knowing;
     fits = knows.fits;
   }
 

@@ -36,9 +36,10 @@ use Rattle.rht_release.specs.declared.found_port.FoundPort.{FoundPort}
 use Rattle.rht_release.specs.declared.rebind.RebindAt.{RebindAt}
 use Rattle.rht_release.specs.declared.rebind.RebindAt.TheVariants as at
 use Rattle.rht_core.specs.Replies.{IsRebindReply, AreOwnersWith, ArePairsWith}
-use Rattle.rht_core.proofs.Theory.Ghosts.{put-same, put-other, First, Taken, Ghost, is_taken_by, held_not_first, taken_by_one}
-use Rattle.rht_core.proofs.Theory.Wholes.{word_index, place_at, place_at-index, outs, Whole}
-use Rattle.rht_core.proofs.Theory.Knowledge.{HasOnly, HoldsLock, HasTakenOut, KnownNode, Nowhere, KnownBucket, Unlocked, Locks, Leads, LeadsTo, Succeeds, Known, Knowing, first_of_list}
+use Rattle.rht_core.proofs.Theory.Ghosts.{put-same, put-other, First, Taken, Ghost, is_taken_by, held_not_first, taken_by_one, index_at}
+use Rattle.rht_core.proofs.Theory.Wholes.{word_index, place_at, place_at-index, outs, Whole, MovesNone}
+use Rattle.rht_core.proofs.Theory.Passed.{stays_in}
+use Rattle.rht_core.proofs.Theory.Knowledge.{HasOnly, HoldsLock, HasTakenOut, KnownNode, Nowhere, KnownBucket, Unlocked, Locks, Leads, LeadsTo, Succeeds, Known, Knowing, first_of_list, knows_plain, idle_moves_none, IsAtHome, KnownList}
 use Rattle.rht_core.proofs.Theory.Frames.{Made}
 use Rattle.rht_core.proofs.Theory.Readiness.{Change, changed}
 use Rattle.rht_core.proofs.Theory.Answering.{KeepsAnswer, IsLegalOn, IsRight, Stills, ChangesBindings, Says, Tells, keeps, learns}
@@ -63,21 +64,26 @@ module _ (port owner new : ℕ) where
 
   -- what it knows of its node, and of the bucket that it has locked
   abbrev knows_of : ℕ → KnownBucket → Known
-  knows_of n bucket = record { node = Some (own n); table = Nowhere; bucket = bucket }
+  knows_of n bucket = knows_plain (Some (own n)) Nowhere bucket
+
+  -- and of the list of the port, to whose bucket it has come
+  abbrev listed : ℕ → FoundPort → KnownList → Known
+  listed n found known = knows_plain (Some (own n)) (seeks.home_of port found) (in_list port found known)
 
   -- before the store that puts its node in the place of the old one; and behind it, when that is taken out
   abbrev known_replacing : ℕ → FoundPort → Bool → Known
-  known_replacing n found false = knows_of n (in_list port found (Succeeds n owner))
+  known_replacing n found false = listed n found (Succeeds n owner)
   known_replacing n found true = here (locks_taken found found.node)
 
   -- what a rebind knows in a state
   abbrev pub known_of_rebind : RebindAt → Known
   known_of_rebind (at.Filling fresh) =
-      record { node = nodes.known_at port new fresh.at; table = Nowhere; bucket = Unlocked }
+      knows_plain (nodes.known_at port new fresh.at) Nowhere Unlocked
   known_of_rebind (at.Seeking n seek) = seeks.known_of_seek port (Some (own n)) seek.at
-  known_of_rebind (at.Owner n found) = knows_of n (seeks.known_port port found)
-  known_of_rebind (at.ChainLink n found) = knows_of n (in_list port found (Leads None owner))
-  known_of_rebind (at.Link n found link) = knows_of n (in_list port found (LeadsTo None link owner))
+  known_of_rebind (at.Owner n found) =
+      knows_plain (Some (own n)) (seeks.home_of port found) (seeks.known_port port found)
+  known_of_rebind (at.ChainLink n found) = listed n found (Leads None owner)
+  known_of_rebind (at.Link n found link) = listed n found (LeadsTo None link owner)
   known_of_rebind (at.Replacing n found relink) =
       known_replacing n found (has_relinked found.before relink.at)
   known_of_rebind (at.Unlocking n table unlock) = knows_of n (Locks unlock.place unlock.word)
@@ -263,7 +269,13 @@ module _ (env : Env) (mix : ℕ → ℕ → ℕ → ℕ) (c : ℕ) (port owner n
         (λ M' G' w k. record {
           knowing = record {
             only = k.only;
-            means = record { node = k.means.node; table = tt; bucket = k.means.bucket };
+            means = record {
+              node = k.means.node;
+              table = k.means.table;
+              bucket = k.means.bucket;
+              making = tt;
+              work = tt;
+            };
           };
           fits = tt;
         }) step
@@ -302,13 +314,15 @@ module _ (env : Env) (mix : ℕ → ℕ → ℕ → ℕ) (c : ℕ) (port owner n
             only = known.knowing.only;
             means = record {
               node = known.knowing.means.node;
-              table = tt;
+              table = known.knowing.means.table;
               bucket = record {
                 found = known.knowing.means.bucket;
                 behind = list.behind;
                 bound_to = list.bound_to;
                 means = record { owner_is = same; second_is = sym (ap first_of_list list.alone) };
               };
+              making = tt;
+              work = tt;
             };
           };
           fits = tt;
@@ -336,6 +350,8 @@ module _ (env : Env) (mix : ℕ → ℕ → ℕ → ℕ) (c : ℕ) (port owner n
               node = known.knowing.means.node;
               table = tt;
               bucket = known.knowing.means.bucket.standing.lock;
+              making = tt;
+              work = tt;
             };
           };
           fits = tt;
@@ -385,7 +401,7 @@ module _ (env : Env) (mix : ℕ → ℕ → ℕ → ℕ) (c : ℕ) (port owner n
                 owner = node.owner;
                 list = node.list;
               };
-              table = tt;
+              table = k.means.table;
               bucket = record {
                 found = is.found;
                 behind = is.behind;
@@ -395,11 +411,13 @@ module _ (env : Env) (mix : ℕ → ℕ → ℕ → ℕ) (c : ℕ) (port owner n
                   replaces = record { has = node.has; alike = node.chain ∙ sym is.means.link_is };
                 };
               };
+              making = tt;
+              work = tt;
             };
           },
           refl,
         ))
-        (nodes.fill_step env mix c locked Nowhere bucket words G all whole tt (own port owner new n)
+        (nodes.fill_step env mix c locked (seeks.home_of port found) bucket words G all whole tt (own port owner new n)
         ChainLink link known.knowing))
 
     link_next : (n : ℕ) (found : FoundPort) (link : ℕ) → RebindKnows (at.Link n found link) M G
@@ -457,19 +475,31 @@ module _ (env : Env) (mix : ℕ → ℕ → ℕ → ℕ) (c : ℕ) (port owner n
           let alone = whole.owned.single single port m list.behind list.bound_to in
           list.bound_to ∙ ap (λ behind. m ∷ behind) alone
 
+      first : G.node m ≡ First j
+      first =
+          let s = k.means.bucket.found.standing.stands in
+          whole.owned.member j m (subst (In m) (sym s.split) (in-middle m front rear))
+
+      -- the way to the bucket, and that no entry of its own is on its way
+      table : IsAtHome env mix G port found.table (Some found.shape) place
+      table = k.means.table
+
+      none : MovesNone env mix G c
+      none = idle_moves_none env mix M G whole c k.only
+
       in_bucket : IsFoundIn env mix c port j m front rear before M M' G []
       in_bucket =
-          let listed = k.means.bucket.found in
+          let there = k.means.bucket.found in
           record {
             holder = lock.holder;
-            split = listed.standing.stands.split;
-            last = listed.standing.stands.last;
-            key_is = listed.key_is;
+            split = there.standing.stands.split;
+            last = there.standing.stands.last;
+            key_is = there.key_is;
             bound_to = bound;
+            moves_none = none;
+            not_out = stays_in env mix M G whole c port (index_at G found.table) j m [] table.passing.passed table.here
+                lock.holder none bound first;
           }
-
-      first : G.node m ≡ First j
-      first = whole.owned.member j m (subst (In m) (sym in_bucket.split) (in-middle m front rear))
 
       apart : n ≢ m
       apart e = held_not_first (G.node n) c j k.means.node.has.mine (ap G.node e ∙ first)
@@ -486,6 +516,7 @@ module _ (env : Env) (mix : ℕ → ℕ → ℕ → ℕ) (c : ℕ) (port owner n
             list = node.list;
             distinct = (tt, tt);
             used = refl;
+            stays = λ i e. cc;
             built = low;
             no_first = refl;
             no_others = λ d ne. taken_by_one d c ne;
@@ -612,14 +643,21 @@ module _ (env : Env) (mix : ℕ → ℕ → ℕ → ℕ) (c : ℕ) (port owner n
       lock_or_none None = inr refl
       lock_or_none (Some node) = inl refl
 
-      only : HasOnly env mix c G' None (lock_left place before) None false
+      only : HasOnly env mix c G' None (lock_left place before) None false None [] false
       only =
           let holder =
           holder_left env mix place word (link_of n) before c G lock change (front ++ n ∷ rear) refl refl in
           let left =
           only_left env mix c G change place (Some n) (lock_left place before) false place_is (λ e. cc)
           (λ e. cc) (λ x q. inr (cc)) holder k.only in
-          record { nodes = left.nodes; locks = left.locks; raising = left.raising ∙ k.only.raising }
+          record {
+            nodes = left.nodes;
+            locks = left.locks;
+            raising = left.raising ∙ k.only.raising;
+            slots = left.slots;
+            pages_in = left.pages_in;
+            works = left.works;
+          }
 
       still_locked : (node : ℕ) → before ≡ Some node → HoldsLock env mix c G' place word
       still_locked =
@@ -668,7 +706,7 @@ module _ (env : Env) (mix : ℕ → ℕ → ℕ → ℕ) (c : ℕ) (port owner n
         store_step n there within k (RebindNext (ends (at.Replacing n there (replaces n there false)) found))
         (record {
           only = only n there within k;
-          means = record { node = tt; table = tt; bucket = taken_out n there within k };
+          means = record { node = tt; table = tt; bucket = taken_out n there within k; making = tt; work = tt };
         })
     first_leads n found (Some node) within k =
         let there : FoundPort = record found { before = Some node } in
@@ -683,6 +721,8 @@ module _ (env : Env) (mix : ℕ → ℕ → ℕ → ℕ) (c : ℕ) (port owner n
                 lock = still_locked n there within k node refl;
                 took = taken_out n there within k;
               };
+              making = tt;
+              work = tt;
             };
           };
           fits = refl;
@@ -697,7 +737,7 @@ module _ (env : Env) (mix : ℕ → ℕ → ℕ → ℕ) (c : ℕ) (port owner n
         let answer = Some (plain Rebound) in
         let told : Holding = record held.holds_nothing { answer = answer } in
         moves_on state (ends state found) told answer _ (inl (keeps answer)) (still_has refl) (λ M' G' w k. k)
-        (unlock_taken env mix c told None Nowhere words G all whole found.bucket.place found.bucket.word
+        (unlock_taken env mix c told None Nowhere words G all whole refl found.bucket.place found.bucket.word
         found.node k)
 
     replacing_step : (n : ℕ) (found : FoundPort) (relink : RelinkModel)
@@ -731,20 +771,22 @@ module _ (env : Env) (mix : ℕ → ℕ → ℕ → ℕ) (c : ℕ) (port owner n
         (record { knowing = known.knowing; fits = known.fits }))
     rebind_step (at.Owner n found) is known = owner_next n found known
     rebind_step (at.ChainLink n found) is known =
-        let listed = known.knowing.means.bucket in
+        let there = known.knowing.means.bucket in
         let next = at.Link n found (M (Node found.node ChainLink)) in
         goes_on (at.ChainLink n found) next refl refl refl (record {
           knowing = record {
             only = known.knowing.only;
             means = record {
               node = known.knowing.means.node;
-              table = tt;
+              table = known.knowing.means.table;
               bucket = record {
-                found = listed.found;
-                behind = listed.behind;
-                bound_to = listed.bound_to;
-                means = record { leads = listed.means; link_is = refl };
+                found = there.found;
+                behind = there.behind;
+                bound_to = there.bound_to;
+                means = record { leads = there.means; link_is = refl };
               };
+              making = tt;
+              work = tt;
             };
           };
           fits = tt;
@@ -757,7 +799,7 @@ module _ (env : Env) (mix : ℕ → ℕ → ℕ → ℕ) (c : ℕ) (port owner n
         let told : Holding = record held.holds_nothing { node = Some n; answer = answer } in
         moves_on (at.Unlocking n table unlock) (giving env.geometry n, Go) told answer _ (inl (keeps answer))
         (still_has refl) (λ M' G' w k. record { knowing = k; fits = tt })
-        (unlock_step env mix c told (Some (own port owner new n)) Nowhere words G all whole
+        (unlock_step env mix c told (Some (own port owner new n)) Nowhere words G all whole refl
         unlock.place unlock.word known.knowing)
     rebind_step (at.Giving give) is known =
         let answer = Some (plain Absent) in

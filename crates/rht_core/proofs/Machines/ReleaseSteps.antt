@@ -1,6 +1,6 @@
 -- What a release knows in each state, and that each of its operations leads from what it knows to what it
 -- knows next.
-use Rattle.std.proofs.Common.{◌≡◌, ◌≢◌, ℕ, ◌+◌, ◌-◌, ◌/◌, ◌%◌, ◌^◌, ◌<◌, List, [], ◌∷◌, ◌++◌, length, Option, Some, None, Bool, true, false, cond, ◌==◌, refl, sym, ◌∙◌, ap, subst, inl, inr, arith}
+use Rattle.std.proofs.Common.{◌≡◌, ◌≢◌, ℕ, ◌+◌, ◌-◌, ◌/◌, ◌%◌, ◌^◌, ◌<◌, List, [], ◌∷◌, ◌++◌, length, Option, Some, None, Bool, true, false, ◌==◌, refl, sym, ◌∙◌, ap, subst, inl, inr, arith}
 use Rattle.std.proofs.Math.Seq.{append_snoc}
 use Rattle.std.proofs.lemmas.Bool.{cases_eq, eqb-true, eqb-false}
 use Rattle.rht_words.specs.declared.env.Env.{Env}
@@ -39,7 +39,7 @@ use Rattle.rht_release.specs.declared.release.ReleaseAt.{ReleaseAt}
 use Rattle.rht_release.specs.declared.release.ReleaseAt.TheVariants as at
 use Rattle.rht_core.proofs.Theory.Ghosts.{put-same, First, Behind, Ghost}
 use Rattle.rht_core.proofs.Theory.Wholes.{chain_of, list_of, word_index, Whole}
-use Rattle.rht_core.proofs.Theory.Knowledge.{Nowhere, KnownBucket, Locks, TakenOut, LocksTakenOut, KnownList, AtNode, Differing, Matching, CutsOut, Leads, LeadsTo, Promotes, Known, Knowing, NoOwner, ListMeans, list_link, first_of_list}
+use Rattle.rht_core.proofs.Theory.Knowledge.{Nowhere, KnownBucket, Locks, TakenOut, LocksTakenOut, KnownList, AtNode, Differing, Matching, CutsOut, Leads, LeadsTo, Promotes, Known, Knowing, NoOwner, ListMeans, list_link, first_of_list, knows_plain}
 use Rattle.rht_core.proofs.Theory.Answering.{KeepsAnswer, IsLegalOn, IsRight, keeps, learns}
 use Rattle.rht_core.proofs.Theory.Steps.{Lowers, LinksBehind, Holding, HoldsSame, by_test, mem, owners, owners_in, moved, moved-map, Step, step-map, answered, reads, still_has}
 use Rattle.rht_core.proofs.Moves.Quiet.{count_down}
@@ -52,7 +52,7 @@ use Rattle.rht_core.proofs.Pieces.Relinks.{relinking, unstored, relinking_so}
 use Rattle.rht_core.proofs.Pieces.Seeks.{in_list}
 use Rattle.rht_core.proofs.Pieces.Seeks as seeks
 use Rattle.rht_core.proofs.Machines.FindSteps.{known_nothing}
-use Rattle.rht_core.proofs.Machines.ReleaseStores.{here, locks_taken, known_left, holds_left}
+use Rattle.rht_core.proofs.Machines.ReleaseStores.{here, listed, locks_taken, known_left, holds_left}
 use Rattle.rht_core.proofs.Machines.ReleaseStores as stores
 
 -- the node to which a link leads
@@ -73,7 +73,7 @@ pub nothing_known : (env : Env) (mix : ℕ → ℕ → ℕ → ℕ) (c : ℕ) (h
     (G : Ghost) → Knowing env mix c h (known_removed removed) M G → Knowing env mix c h known_nothing M G
 nothing_known env mix c h None M G k = k
 nothing_known env mix c h (Some node) M G k =
-    record { only = k.only; means = record { node = tt; table = tt; bucket = tt } }
+    record { only = k.only; means = record { node = tt; table = tt; bucket = tt; making = tt; work = tt } }
 
 -- the port was found, and its first node has another one before it in the chain, or none
 abbrev behind_node : FoundPort → Option ℕ → FoundPort
@@ -81,24 +81,25 @@ behind_node found before = record found { before = before }
 
 module _ (port owner : ℕ) where
   -- while the chain is changed: this of the list, or that the first node was taken out
-  abbrev pub known_relinking : FoundPort → KnownList → Bool → KnownBucket
-  known_relinking found known stored = cond stored (locks_taken found found.node) (in_list port found known)
+  abbrev pub known_relinking : FoundPort → KnownList → Bool → Known
+  known_relinking found known false = listed port found known
+  known_relinking found known true = here (locks_taken found found.node)
 
   -- what a release knows in a state
   abbrev pub known_of_release : ReleaseAt → Known
   known_of_release (at.Seeking seek) = seeks.known_of_seek port None seek.at
-  known_of_release (at.Owner found node before) = here (in_list port found (AtNode node before owner))
-  known_of_release (at.ListLink found node) = here (in_list port found (Differing node owner))
-  known_of_release (at.LinkBehind found node before) = here (in_list port found (Matching node before owner))
+  known_of_release (at.Owner found node before) = listed port found (AtNode node before owner)
+  known_of_release (at.ListLink found node) = listed port found (Differing node owner)
+  known_of_release (at.LinkBehind found node before) = listed port found (Matching node before owner)
   known_of_release (at.CuttingOut found node before link) =
-      here (in_list port found (CutsOut node before link owner))
-  known_of_release (at.ChainLink found second) = here (in_list port found (Leads second owner))
+      listed port found (CutsOut node before link owner)
+  known_of_release (at.ChainLink found second) = listed port found (Leads second owner)
   known_of_release (at.SecondLink found second link) =
-      here (in_list port found (LeadsTo (Some second) link owner))
+      listed port found (LeadsTo (Some second) link owner)
   known_of_release (at.Promoting found relink) =
-      here (known_relinking found (Promotes (led_to relink.link) owner) (has_relinked found.before relink.at))
+      known_relinking found (Promotes (led_to relink.link) owner) (has_relinked found.before relink.at)
   known_of_release (at.Unlinking found relink) =
-      here (known_relinking found (LeadsTo None relink.link owner) (has_relinked found.before relink.at))
+      known_relinking found (LeadsTo None relink.link owner) (has_relinked found.before relink.at)
   known_of_release (at.Lowering node shape) = here (TakenOut node)
   known_of_release (at.Unlocking table unlock removed) = here (known_unlocking unlock removed)
 
@@ -224,8 +225,10 @@ module _ (env : Env) (mix : ℕ → ℕ → ℕ → ℕ) (c : ℕ) (port owner :
           only = k.only;
           means = record {
             node = tt;
-            table = tt;
+            table = k.means.table;
             bucket = record { found = is.found; behind = is.behind; bound_to = is.bound_to; means = means };
+            making = tt;
+            work = tt;
           };
         }
 
@@ -284,7 +287,7 @@ module _ (env : Env) (mix : ℕ → ℕ → ℕ → ℕ) (c : ℕ) (port owner :
             only = k.only;
             means = record {
               node = tt;
-              table = tt;
+              table = k.means.table;
               bucket = record {
                 found = is;
                 behind = list.0;
@@ -294,6 +297,8 @@ module _ (env : Env) (mix : ℕ → ℕ → ℕ → ℕ) (c : ℕ) (port owner :
                   none = tt;
                 };
               };
+              making = tt;
+              work = tt;
             };
           };
           fits = tt;
@@ -360,7 +365,7 @@ module _ (env : Env) (mix : ℕ → ℕ → ℕ → ℕ) (c : ℕ) (port owner :
             (record {
               knowing = record {
                 only = known.knowing.only;
-                means = record { node = tt; table = tt; bucket = is.found.standing.lock };
+                means = record { node = tt; table = tt; bucket = is.found.standing.lock; making = tt; work = tt };
               };
               fits = tt;
             }))
@@ -506,7 +511,7 @@ module _ (env : Env) (mix : ℕ → ℕ → ℕ → ℕ) (c : ℕ) (port owner :
           only = k.only;
           means = record {
             node = tt;
-            table = tt;
+            table = k.means.table;
             bucket = record {
               found = found_kept env mix c G M M' whole made found.bucket.place found.bucket.word port m
                   found.before
@@ -518,6 +523,8 @@ module _ (env : Env) (mix : ℕ → ℕ → ℕ → ℕ) (c : ℕ) (port owner :
                 alike = write.same ∙ sym is.means.link_is ∙ sym first_link;
               };
             };
+            making = tt;
+            work = tt;
           };
         }))))
       where
@@ -542,7 +549,7 @@ module _ (env : Env) (mix : ℕ → ℕ → ℕ → ℕ) (c : ℕ) (port owner :
         (answered env mix c call words G op locked h h.answer (ReleaseNext r) (inl (keeps h.answer))
         (still_has refl)
         (moved-map env mix c words G op locked h _ (ReleaseNext r) (λ M' G' w k. next M' G' k)
-        (unlock_taken env mix c h None Nowhere words G all whole place word node k)))
+        (unlock_taken env mix c h None Nowhere words G all whole refl place word node k)))
 
     -- where a relinking stands: so it is of each that is before its first store, and of each behind it
     abbrev IsSoOf : (FoundPort → RelinkModel → ReleaseAt) → FoundPort → Option ℕ → RelinkModel → Type 0
@@ -658,11 +665,16 @@ module _ (env : Env) (mix : ℕ → ℕ → ℕ → ℕ) (c : ℕ) (port owner :
             nodes = k.only.nodes;
             locks = k.only.locks;
             raising = put-same G.raised c false;
+            slots = k.only.slots;
+            pages_in = k.only.pages_in;
+            works = k.only.works;
           };
           means = record {
             node = tt;
             table = tt;
             bucket = record { among = k.means.bucket.among; taken = k.means.bucket.taken };
+            making = tt;
+            work = tt;
           };
         }))
 
@@ -679,7 +691,7 @@ module _ (env : Env) (mix : ℕ → ℕ → ℕ → ℕ) (c : ℕ) (port owner :
         answered env mix c call words G op locked told told.answer Knows (inl (keeps told.answer))
         (still_has refl)
         (moved-map env mix c words G op locked told _ Knows (λ M' G' w k. k)
-        (unlock_step env mix c told None Nowhere words G all whole unlock.place unlock.word known.knowing))
+        (unlock_step env mix c told None Nowhere words G all whole refl unlock.place unlock.word known.knowing))
     unlocking_step table unlock (Some node) known =
         unlock_left unlock.place unlock.word node false
         (at.Unlocking table unlock (Some node), Done (Released false, Some node)) refl

@@ -26,9 +26,10 @@ use Rattle.rht_model.proofs.ReleasedOwners.{release_reply-there, owners_released
 use Rattle.rht_release.specs.ReleaseHeld.{holds_bucket, holds_removed}
 use Rattle.rht_release.specs.FoundPort.{relink_of}
 use Rattle.rht_release.specs.declared.found_port.FoundPort.{FoundPort}
-use Rattle.rht_core.proofs.Theory.Ghosts.{put-same, put-other, Bucket, Owner, Held, First, Taken, Ghost, is_taken_by, taken_by_one}
-use Rattle.rht_core.proofs.Theory.Wholes.{list_of, place_at, word_index, place_at-index, Whole, outs as count_outs}
-use Rattle.rht_core.proofs.Theory.Knowledge.{HasOnly, HoldsLock, HasTakenOut, Nowhere, KnownBucket, TakenOut, LocksTakenOut, KnownList, CutsOut, LeadsTo, Promotes, Known, Knowing, NoOwner, IsFound, BucketMeans, last_of, first_of_list}
+use Rattle.rht_core.proofs.Theory.Ghosts.{index_at, put-same, put-other, Bucket, Owner, Held, First, Taken, Ghost, is_taken_by, taken_by_one}
+use Rattle.rht_core.proofs.Theory.Wholes.{list_of, place_at, word_index, place_at-index, MovesNone, Whole, outs as count_outs}
+use Rattle.rht_core.proofs.Theory.Knowledge.{HasOnly, idle_moves_none, HoldsLock, IsAtHome, knows_plain, HasTakenOut, Nowhere, KnownBucket, TakenOut, LocksTakenOut, KnownList, CutsOut, LeadsTo, Promotes, Known, Knowing, NoOwner, IsFound, BucketMeans, last_of, first_of_list}
+use Rattle.rht_core.proofs.Theory.Passed.{stays_in}
 use Rattle.rht_core.proofs.Theory.Frames.{Made}
 use Rattle.rht_core.proofs.Theory.Readiness.{Change, changed}
 use Rattle.rht_core.proofs.Theory.Answering.{IsRight, ChangesBindings}
@@ -38,12 +39,16 @@ use Rattle.rht_core.proofs.Moves.Removing.{IsFoundIn, CanReplace, unlink, replac
 use Rattle.rht_core.proofs.Moves.ListCuts.{cut_list}
 use Rattle.rht_core.proofs.Pieces.Lists.{segment_link, list_among, list_rest}
 use Rattle.rht_core.proofs.Pieces.Rebounds.{IsTakenWith, taken_then, taken_more, only_rebound, owners_kept, node_behind_maps}
-use Rattle.rht_core.proofs.Pieces.Seeks.{in_list}
+use Rattle.rht_core.proofs.Pieces.Seeks.{home_of, in_list}
 use Rattle.rht_core.proofs.Pieces.Relinks.{lock_left, relink_write, relink_behind_maps, holder_left, lock_kept}
 
 -- what is known of the bucket alone
 abbrev pub here : KnownBucket → Known
-here bucket = record { node = None; table = Nowhere; bucket = bucket }
+here bucket = knows_plain None Nowhere bucket
+
+-- what is known of the list of a port that was found
+abbrev pub listed : ℕ → FoundPort → KnownList → Known
+listed port found known = knows_plain None (home_of port found) (in_list port found known)
 
 -- the bucket is locked, and this node taken out
 abbrev pub locks_taken : FoundPort → ℕ → KnownBucket
@@ -64,7 +69,7 @@ module _ (env : Env) (mix : ℕ → ℕ → ℕ → ℕ) (c : ℕ) (port owner :
 
   -- what is known of the list while the bucket is locked, and what once a node was taken out
   abbrev pub KnowsList : FoundPort → KnownList → Memory → Ghost → Type 0
-  KnowsList found known M G = Knowing env mix c (holds_bucket found) (here (in_list port found known)) M G
+  KnowsList found known M G = Knowing env mix c (holds_bucket found) (listed port found known) M G
 
   abbrev pub KnowsLeft : Option ℕ → Bool → KnownBucket → Memory → Ghost → Type 0
   KnowsLeft lock raised known M G = Knowing env mix c (holds_left lock raised) (here known) M G
@@ -117,7 +122,7 @@ module _ (env : Env) (mix : ℕ → ℕ → ℕ → ℕ) (c : ℕ) (port owner :
     record TakesOut (found : FoundPort) (op : Op) (node : ℕ) (front rear : List ℕ) (change : Change)
         (lock : Option ℕ)
         (known : KnownBucket) : Type 0 where
-      only : HasOnly env mix c G None (Some found.bucket.place) None false
+      only : HasOnly env mix c G None (Some found.bucket.place) None false None [] false
       there : place_at env mix (word_index env mix found.bucket.place) ≡ found.bucket.place
       behind_maps : nodes_at env.geometry ≤ op_place op
       bound_to : G.bound port ≡ front ++ node ∷ rear
@@ -215,7 +220,14 @@ module _ (env : Env) (mix : ℕ → ℕ → ℕ → ℕ) (c : ℕ) (port owner :
           in_time = still_has refl;
           outs = omega (arith, more);
           knows = record {
-            only = record { nodes = only.nodes; locks = only.locks; raising = only.raising ∙ sym same };
+            only = record {
+              nodes = only.nodes;
+              locks = only.locks;
+              raising = only.raising ∙ sym same;
+              slots = only.slots;
+              pages_in = only.pages_in;
+              works = only.works;
+            };
             means = record {
               node = tt;
               table = tt;
@@ -223,9 +235,25 @@ module _ (env : Env) (mix : ℕ → ℕ → ℕ → ℕ) (c : ℕ) (port owner :
                 among = takes.among;
                 taken = taken_then c node x x_owner G.node takes.with_other;
               });
+              making = tt;
+              work = tt;
             };
           };
         }
+
+    -- The port's first node isn't on its way out of any bucket, where it was found in the bucket to which the caller has come.
+    found_stays : (found : FoundPort) (behind : List ℕ)
+        → (is : IsFound env mix c M G found.bucket.place found.bucket.word port found.node found.before)
+        → IsAtHome env mix G port found.table (Some found.shape) found.bucket.place
+        → MovesNone env mix G c → G.bound port ≡ found.node ∷ behind
+        → (i : ℕ) → (G.bucket i).out ≢ Some found.node
+    found_stays found behind is at none bound =
+        let m = found.node in
+        let j = word_index env mix found.bucket.place in
+        let s = is.standing.stands in
+        let first = whole.owned.member j m (subst (In m) (sym s.split) (in-middle m s.front s.rear)) in
+        stays_in env mix M G whole c port (index_at G found.table) j m behind at.passing.passed at.here
+        is.standing.lock.holder none bound first
 
     -- ---- a node behind the first one is cut out of the list
 
@@ -293,6 +321,9 @@ module _ (env : Env) (mix : ℕ → ℕ → ℕ → ℕ) (c : ℕ) (port owner :
                     key_is = is.found.key_is;
                     bound_to = bound;
                     last = last_is;
+                    moves_none = idle_moves_none env mix M G whole c k.only;
+                    not_out = found_stays found nodes is.found k.means.table
+                        (idle_moves_none env mix M G whole c k.only) bound;
                   }) write;
               left = inl refl;
               holder = λ e. refl;
@@ -301,6 +332,8 @@ module _ (env : Env) (mix : ℕ → ℕ → ℕ → ℕ) (c : ℕ) (port owner :
                   bucket = lock.bucket;
                   holder = ap (λ b. b.holder) (put-same G.bucket j (G.bucket j)) ∙ lock.holder;
                   plain = ap (λ b. b.plain) (put-same G.bucket j (G.bucket j)) ∙ lock.plain;
+                  unarmed = ap (λ b. b.armed) (put-same G.bucket j (G.bucket j)) ∙ lock.unarmed;
+                  still = ap (λ b. b.out) (put-same G.bucket j (G.bucket j)) ∙ lock.still;
                 };
                 took = took;
               };
@@ -327,7 +360,7 @@ module _ (env : Env) (mix : ℕ → ℕ → ℕ → ℕ) (c : ℕ) (port owner :
 
     -- The port's first node has the owner, and others are behind it, which are then the port's alone.
     record TakesFirst (found : FoundPort) (link : ℕ) (rear : List ℕ) (change : Change) : Type 0 where
-      only : HasOnly env mix c G None (Some found.bucket.place) None false
+      only : HasOnly env mix c G None (Some found.bucket.place) None false None [] false
       is : IsFound env mix c M G found.bucket.place found.bucket.word port found.node found.before
       bound_to : G.bound port ≡ found.node ∷ rear
       owner_is : owner_of (M (Node found.node OwnerWord)) ≡ owner
@@ -386,16 +419,19 @@ module _ (env : Env) (mix : ℕ → ℕ → ℕ → ℕ) (c : ℕ) (port owner :
     -- what the moves of such a store ask
     found_in : (found : FoundPort) (link : ℕ)
         (is : IsFound env mix c M G found.bucket.place found.bucket.word port found.node found.before)
-        (behind : List ℕ) → G.bound port ≡ found.node ∷ behind
+        (behind : List ℕ) → IsAtHome env mix G port found.table (Some found.shape) found.bucket.place
+        → MovesNone env mix G c → G.bound port ≡ found.node ∷ behind
         → let s = is.standing.stands in
         IsFoundIn env mix c port (word_index env mix found.bucket.place) found.node s.front s.rear found.before M
         (after (relink_op found link)) G behind
-    found_in found link is behind bound = record {
+    found_in found link is behind at none bound = record {
       holder = is.standing.lock.holder;
       split = is.standing.stands.split;
       last = is.standing.stands.last;
       key_is = is.key_is;
       bound_to = bound;
+      moves_none = none;
+      not_out = found_stays found behind is at none bound;
     }
 
     first_write : (found : FoundPort) (link : ℕ) → IsBucketPlace env.geometry found.bucket.place
@@ -429,7 +465,7 @@ module _ (env : Env) (mix : ℕ → ℕ → ℕ → ℕ) (c : ℕ) (port owner :
           made = unlink env mix c port j found.node s.front s.rear found.before M
               (after (relink_op found link)) G
               whole low k.only.raising low link is.means.link_is
-              (found_in found link is.found [] bound) (first_write found link lock.bucket before_in);
+              (found_in found link is.found [] k.means.table (idle_moves_none env mix M G whole c k.only) bound) (first_write found link lock.bucket before_in);
         })
       where
         none_behind : (nodes : List ℕ) → None ≡ first_of_list nodes → nodes ≡ []
@@ -473,6 +509,7 @@ module _ (env : Env) (mix : ℕ → ℕ → ℕ → ℕ) (c : ℕ) (port owner :
               list = to.list.1;
               distinct = to.distinct.1;
               used = refl;
+              stays = λ i e. cc;
               built = low;
               no_first = refl;
               no_others = λ d ne. taken_by_one d c ne;
@@ -492,6 +529,7 @@ module _ (env : Env) (mix : ℕ → ℕ → ℕ → ℕ) (c : ℕ) (port owner :
               with_other = inr (other, ap (is_taken_by c) mine, refl);
               not_held = λ e. cc;
               made = replace env mix c port j m s.front s.rear found.before M (after op) G whole behind
-                  (found_in found (link_of second) is.found behind bound) second tail (Taken c) can
+                  (found_in found (link_of second) is.found behind k.means.table
+                  (idle_moves_none env mix M G whole c k.only) bound) second tail (Taken c) can
                   (first_write found (link_of second) lock.bucket before_in);
             })

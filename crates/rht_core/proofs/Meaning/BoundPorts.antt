@@ -1,26 +1,29 @@
 -- What the words stand for is what the ghost says: the owners of the nodes to which each port is bound.
--- The table in force is the one table; the nodes met in each bucket are the bucket's nodes; and of all these at most one has
--- the port's key, the first of those to which the port is bound; the others are met along its list.
-use Rattle.std.proofs.Common.{◌≡◌, ℕ, zero, suc, ◌+◌, ◌-◌, ◌*◌, ◌%◌, ◌<◌, ◌≤◌, List, [], ◌∷◌, length, Option, Some, None, true, cond, refl, sym, ◌∙◌, ap, subst, inl, inr, slice_index, arith}
-use Rattle.std.proofs.lemmas.Bool.{eqb-true, eq-eqb, lt-ltb, le-ltb}
+-- The tables in force are those from the current one on, in the order in which they were attached. Each node that is met in them has a
+-- seat: it is in the chain of a bucket, or on its way out of one, and is the first of those to which its port is bound. And each such
+-- node is met. So the first one that has a port's key is the first to which the port is bound; the others are met along its list.
+use Rattle.std.proofs.Common.{◌≡◌, ℕ, zero, suc, ◌+◌, ◌-◌, ◌*◌, ◌%◌, ◌<◌, ◌≤◌, List, [], ◌∷◌, length, Option, Some, None, true, cond, refl, sym, ◌∙◌, ap, subst, inl, inr, slice_index, arith, ◌≢◌, map, ◌++◌, Bool, false}
+use Rattle.std.proofs.lemmas.Bool.{eqb-true, eq-eqb, lt-ltb, le-ltb, cases_eq}
 use Rattle.std.proofs.lemmas.Bool.Decides.{nat_tests}
 use Rattle.std.proofs.lemmas.List.{append-nil}
-use Rattle.std.specs.List.{find, flat_map, range_with_len}
+use Rattle.std.specs.Prelude.{IfSome}
+use Rattle.std.specs.List.{AllByRecursion, find, flat_map, range_with_len}
 use Rattle.rht_words.specs.declared.env.Env.{Env}
 use Rattle.rht_words.specs.declared.geometry.Geometry.{Geometry}
 use Rattle.rht_words.proofs.Memory.{Memory}
-use Rattle.rht_words.specs.Links.{node_of, table_of, future_of, head_of, marker_of}
+use Rattle.rht_words.specs.Links.{node_of, table_of, future_of, head_of, marker_of, link_of, slot_of}
 use Rattle.rht_words.specs.Shapes.{unpacked, size_of}
 use Rattle.rht_words.specs.Chains.{IsSegment}
 use Rattle.rht_words.specs.Places.{CurrentTable, Slot, FutureWord}
-use Rattle.rht_words.proofs.LinksRead.{links_tell_apart}
-use Rattle.rht_words.specs.Members.{In}
-use Rattle.rht_words.proofs.Members.{In-flat_map, flat_map-In, In-range_with_len, range_with_len-In, flat_map-same, find-Some, find-None, In-AllByRecursion, count_below-most, length-count_below}
+use Rattle.rht_words.proofs.ChainLemmas.{IsSegment-append}
+use Rattle.rht_words.proofs.LinksRead.{links_tell_apart, entries_come_back}
+use Rattle.rht_words.specs.Members.{In, IsDistinct, NotIn}
+use Rattle.rht_words.proofs.Members.{In-flat_map, flat_map-In, In-range_with_len, range_with_len-In, flat_map-same, find-Some, find-None, In-AllByRecursion, count_below-most, length-count_below, not_in_from, In-append_cases, In-append_right, IsDistinct-with}
 use Rattle.rht_nest.specs.Place.{bucket_place, bucket_index}
-use Rattle.rht_core.specs.StandsFor.{in_force, chain_from, bucket_nodes, table_nodes, has_key, first_node, list_from, nodes_of, stands_for}
-use Rattle.rht_core.proofs.Theory.Ghosts.{Ghost, lock_bit, table_at, some-same}
-use Rattle.rht_core.proofs.Theory.Wholes.{chain_of, list_of, key_of, home, hash_in, place_at, future_in, Whole}
-use Rattle.rht_core.proofs.Theory.Passed.{hash-below, home-index}
+use Rattle.rht_core.specs.StandsFor.{in_force, chain_from, bucket_nodes, table_nodes, has_key, first_node, list_from, nodes_of, stands_for, shape_of, tables_from}
+use Rattle.rht_core.proofs.Theory.Ghosts.{Ghost, lock_bit, table_at, some-same, First, Leaving, seat_of, seated, index_at}
+use Rattle.rht_core.proofs.Theory.Wholes.{chain_of, list_of, key_of, home, hash_in, place_at, future_in, Whole, stop, out-seated, seated_at, IsHomeOf}
+use Rattle.rht_core.proofs.Theory.Passed.{hash-below, home-index, home-within}
 use Rattle.rht_core.proofs.Pieces.Lists.{list_among, list_few}
 use Rattle.rht_core.proofs.Theory.Steps.{mem, owners, owners_in}
 
@@ -39,17 +42,18 @@ module _ (env : Env) (mix : ℕ → ℕ → ℕ → ℕ) (words : List ℕ) (G :
   abbrev M : Memory
   M = mem env mix words
 
-  -- the nodes met from a link are those of its chain, where there is fuel for all of them
-  chain_met : (left link : ℕ) (nodes : List ℕ) (stop : ℕ) → length nodes ≤ left
-      → node_of g.nodes stop ≡ None → ((n : ℕ) → In n nodes → n < g.nodes)
-      → IsSegment (chain_of M) link nodes stop → chain_from g words left (node_of g.nodes link) ≡ nodes
-  chain_met zero link [] stop fuel ends among s = refl
-  chain_met (suc left) link [] stop fuel ends among s = rw (ap (node_of g.nodes) s ∙ ends) refl
-  chain_met zero link (n ∷ nodes) stop fuel ends among s = absurd (omega arith)
-  chain_met (suc left) link (n ∷ nodes) stop fuel ends among s =
-      rw (ap (node_of g.nodes) s.0 ∙ links_tell_apart.link_names g.nodes n (among n (inl refl)))
-      (ap (λ rest. n ∷ rest) (chain_met left (chain_of M n) nodes stop (omega arith) ends
-      (λ m i. among m (inr i)) s.1))
+  -- a node of a segment is met from the segment's link, where there is fuel for all of them
+  segment_met : (left link : ℕ) (nodes : List ℕ) (stop : ℕ) → length nodes ≤ left
+      → ((n : ℕ) → In n nodes → n < g.nodes) → IsSegment (chain_of M) link nodes stop
+      → (n : ℕ) → In n nodes → In n (chain_from g words left (node_of g.nodes link))
+  segment_met left link [] stop fuel among s n i = absurd i
+  segment_met zero link (m ∷ nodes) stop fuel among s n i = absurd (omega arith)
+  segment_met (suc left) link (m ∷ nodes) stop fuel among s n i =
+      rw (ap (node_of g.nodes) s.0 ∙ links_tell_apart.link_names g.nodes m (among m (inl refl)))
+      (elim i [
+        | inl e ↦ inl e
+        | inr k ↦ inr (segment_met left (chain_of M m) nodes stop (omega arith) (λ x j. among x (inr j)) s.1 n k)
+      ])
 
   -- a bucket's word with its lock leads to the same first link
   head_of-locked : (place plain : ℕ) (holder : Option ℕ) → plain % 2 ≡ 0
@@ -57,97 +61,369 @@ module _ (env : Env) (mix : ℕ → ℕ → ℕ → ℕ) (words : List ℕ) (G :
   head_of-locked place plain None even = ap (head_of place) (omega arith)
   head_of-locked place plain (Some c) even = grind (arith, nat_tests, even)
 
-  bucket_met : (j : ℕ) → j < 64 * g.pages → bucket_nodes g words
-      (Some (place_at env mix j)) ≡ (G.bucket j).nodes
-  bucket_met j l =
-      let right = whole.buckets j l in
-      let b = G.bucket j in
-      let among : (n : ℕ) → In n b.nodes → n < g.nodes =
-      λ n i. (whole.owned.first_at n j (whole.owned.member j n i)).among in
-      let few =
-      length-count_below (λ n. true) g.nodes b.nodes right.chained.distinct
-      (In-AllByRecursion (λ n. n < g.nodes) b.nodes among) (λ n i. refl) in
-      let most = count_below-most (λ n. true) g.nodes in
-      let first : head_of (place_at env mix j) (slice_index words (place_at env mix j)) ≡ head_of (place_at env mix j) b.plain
-      = ap (head_of (place_at env mix j)) right.locked.word_is
-      ∙ head_of-locked (place_at env mix j) b.plain b.holder right.locked.even in
-      rw first (chain_met g.nodes (head_of (place_at env mix j) b.plain) b.nodes
-      (marker_of (place_at env mix j)) (omega (arith, few, most))
-      (links_tell_apart.marker_names_no_node g.nodes (place_at env mix j)) among right.chained.segment)
+  first_link : (j : ℕ) → j < 64 * g.pages
+      → head_of (place_at env mix j) (slice_index words (place_at env mix j))
+      ≡ head_of (place_at env mix j) (G.bucket j).plain
+  first_link j l =
+      let right = (whole.buckets j l).locked in
+      ap (head_of (place_at env mix j)) right.word_is
+      ∙ head_of-locked (place_at env mix j) (G.bucket j).plain (G.bucket j).holder right.even
 
-  -- ---- the one table
+  -- ---- which nodes are met
 
-  -- so far one table is attached, in the slot of the current one
-  pub attached : 0 < G.attached
-  attached = omega (arith, whole.tables.one)
+  -- a node that has a seat
+  abbrev HasSeat : ℕ → Type 0
+  HasSeat n = (j : ℕ) × (seat_of (G.node n) ≡ Some j)
 
-  abbrev pub size : ℕ
-  size = size_of (unpacked (G.table 0).shape)
+  -- a link leads to such a node, or to none
+  abbrev LeadsOn : ℕ → Type 0
+  LeadsOn link = IfSome (node_of g.nodes link) HasSeat
+
+  first-seat : (j n : ℕ) → In n (G.bucket j).nodes → HasSeat n
+  first-seat j n i = (j, ap seat_of (whole.owned.member j n i))
+
+  out-seat : (j entry : ℕ) → (G.bucket j).out ≡ Some entry → HasSeat entry
+  out-seat j entry is = out-seated env mix M G j entry (whole.moving.out j entry is)
+
+  seat-among : (n : ℕ) → HasSeat n → n < g.nodes
+  seat-among n has = (seated_at env mix M G whole n has.0 has.1).among
+
+  link_leads : (link n : ℕ) → link ≡ link_of n → HasSeat n → LeadsOn link
+  link_leads link n is has = rw (ap (node_of g.nodes) is ∙ links_tell_apart.link_names g.nodes n (seat-among n has)) has
+
+  -- the end of a bucket's chain, and any link in it
+  stop_leads : (j : ℕ) → LeadsOn (stop env mix (place_at env mix j) (G.bucket j).out)
+  stop_leads j = go (G.bucket j).out refl
+    where
+      go : (out : Option ℕ) → (G.bucket j).out ≡ out → LeadsOn (stop env mix (place_at env mix j) out)
+      go None is = rw (links_tell_apart.marker_names_no_node g.nodes (place_at env mix j)) tt
+      go (Some entry) is = link_leads (link_of entry) entry refl (out-seat j entry is)
+
+  segment_leads : (link : ℕ) (nodes : List ℕ) (end : ℕ) → IsSegment (chain_of M) link nodes end
+      → ((n : ℕ) → In n nodes → HasSeat n) → LeadsOn end
+      → LeadsOn link × ((n : ℕ) → In n nodes → LeadsOn (chain_of M n))
+  segment_leads link [] end s seats last = (subst LeadsOn (sym s) last, λ n i. absurd i)
+  segment_leads link (m ∷ nodes) end s seats last =
+      let rest = segment_leads (chain_of M m) nodes end s.1 (λ n i. seats n (inr i)) last in (
+        link_leads link m s.0 (seats m (inl refl)),
+        λ n i. elim i [
+          | inl e ↦ rw e rest.0
+          | inr k ↦ rest.1 n k
+        ],
+      )
+
+  bucket_leads : (j : ℕ) → j < 64 * g.pages
+      → LeadsOn (head_of (place_at env mix j) (G.bucket j).plain)
+      × ((n : ℕ) → In n (G.bucket j).nodes → LeadsOn (chain_of M n))
+  bucket_leads j l =
+      segment_leads (head_of (place_at env mix j) (G.bucket j).plain) (G.bucket j).nodes
+      (stop env mix (place_at env mix j) (G.bucket j).out) (whole.buckets j l).chained.segment
+      (first-seat j) (stop_leads j)
+
+  home-below : (port j : ℕ) → IsHomeOf env mix G port j → j < 64 * g.pages
+  home-below port j is = home-within env mix M G whole port (table_at G j) j is.attached is.here
+
+  -- from a node that has a seat a link leads to another one, or to none
+  seat_leads : (n : ℕ) → HasSeat n → LeadsOn (chain_of M n)
+  seat_leads n has = elim (seated (G.node n) has.0 has.1) [
+    | inl first ↦
+        let at = whole.owned.first_at n has.0 first in
+        (bucket_leads has.0 (home-below (key_of M n) has.0 at.at_home)).1 n at.there
+    | inr leaving ↦
+        let next = (whole.owned.leaving_at n has.0 leaving).next in
+        let below = home-within env mix M G whole (key_of M n) (table_at G next.bucket) next.bucket next.attached
+        next.here in
+        subst LeadsOn (sym next.chain) (bucket_leads next.bucket below).0
+  ]
+
+  -- so each node that is met along chains has a seat
+  chain_seats : (left : ℕ) (first : Option ℕ) → IfSome first HasSeat → (n : ℕ)
+      → In n (chain_from g words left first) → HasSeat n
+  chain_seats zero first has n i = absurd i
+  chain_seats (suc left) None has n i = absurd i
+  chain_seats (suc left) (Some m) has n i = elim i [
+    | inl e ↦ rw e has
+    | inr k ↦ chain_seats left (node_of g.nodes (chain_of M m)) (seat_leads m has) n k
+  ]
+
+  bucket_seats : (j n : ℕ) → j < 64 * g.pages → In n (bucket_nodes g words (Some (place_at env mix j)))
+      → HasSeat n
+  bucket_seats j n l i =
+      chain_seats g.nodes (node_of g.nodes (head_of (place_at env mix j) (G.bucket j).plain)) (bucket_leads j l).0 n
+      (subst (λ link. In n (chain_from g words g.nodes (node_of g.nodes link))) (first_link j l) i)
+
+  -- ---- and each node that has a seat is met in its bucket
+
+  distinct_met : (j : ℕ) → j < 64 * g.pages → (nodes : List ℕ) (end : ℕ) → IsDistinct nodes
+      → ((n : ℕ) → In n nodes → HasSeat n)
+      → IsSegment (chain_of M) (head_of (place_at env mix j) (G.bucket j).plain) nodes end
+      → (n : ℕ) → In n nodes → In n (bucket_nodes g words (Some (place_at env mix j)))
+  distinct_met j l nodes end distinct seats segment n i =
+      let among : (m : ℕ) → In m nodes → m < g.nodes = λ m k. seat-among m (seats m k) in
+      let few = length-count_below (λ m. true) g.nodes nodes distinct
+      (In-AllByRecursion (λ m. m < g.nodes) nodes among) (λ m k. refl) in
+      let most = count_below-most (λ m. true) g.nodes in
+      subst (λ link. In n (chain_from g words g.nodes (node_of g.nodes link))) (sym (first_link j l))
+      (segment_met g.nodes (head_of (place_at env mix j) (G.bucket j).plain) nodes end (omega (arith, few, most))
+      among segment n i)
+
+  member_met : (j n : ℕ) → j < 64 * g.pages → In n (G.bucket j).nodes
+      → In n (bucket_nodes g words (Some (place_at env mix j)))
+  member_met j n l i =
+      let chained = (whole.buckets j l).chained in
+      distinct_met j l (G.bucket j).nodes (stop env mix (place_at env mix j) (G.bucket j).out) chained.distinct
+      (first-seat j) chained.segment n i
+
+  -- an entry on its way is met behind the bucket's nodes, of which it is none
+  leaving_met : (j n : ℕ) → j < 64 * g.pages → G.node n ≡ Leaving j
+      → In n (bucket_nodes g words (Some (place_at env mix j)))
+  leaving_met j n l leaving =
+      let at = whole.owned.leaving_at n j leaving in
+      let chained = (whole.buckets j l).chained in
+      let nodes = (G.bucket j).nodes in
+      let first = head_of (place_at env mix j) (G.bucket j).plain in
+      let apart : NotIn n nodes = not_in_from n nodes
+      (λ i. let e : First j ≡ Leaving j = sym (whole.owned.member j n i) ∙ leaving in cc) in
+      let upto : IsSegment (chain_of M) first nodes (link_of n) =
+      subst (λ out. IsSegment (chain_of M) first nodes (stop env mix (place_at env mix j) out)) at.out
+      chained.segment in
+      distinct_met j l (nodes ++ n ∷ []) (chain_of M n)
+      (IsDistinct-with nodes n [] (subst IsDistinct (sym (append-nil nodes)) chained.distinct) apart tt)
+      (λ m i. elim (In-append_cases m nodes (n ∷ []) i) [
+        | inl k ↦ first-seat j m k
+        | inr k ↦ elim k [ inl e ↦ (j, ap seat_of (ap G.node e ∙ leaving)) | inr none ↦ absurd none ]
+      ])
+      (IsSegment-append (chain_of M) nodes (n ∷ []) first (link_of n) (chain_of M n) upto (refl, refl))
+      n (In-append_right n nodes (n ∷ []) (inl refl))
+
+  seat_met : (n j : ℕ) → j < 64 * g.pages → seat_of (G.node n) ≡ Some j
+      → In n (bucket_nodes g words (Some (place_at env mix j)))
+  seat_met n j l seat = elim (seated (G.node n) j seat) [
+    | inl first ↦ member_met j n l (whole.owned.first_at n j first).there
+    | inr leaving ↦ leaving_met j n l leaving
+  ]
+
+  -- ---- one table
+
+  size : ℕ → ℕ
+  size τ = size_of (unpacked (G.table τ).shape)
 
   -- the index of a bucket's word
-  abbrev pub index : ℕ → ℕ
-  index bucket = bucket_index (G.table 0).shape bucket
+  abbrev index : ℕ → ℕ → ℕ
+  index τ bucket = bucket_index (G.table τ).shape bucket
 
-  pub index-within : (bucket : ℕ) → bucket < size → index bucket < 64 * g.pages
-  index-within bucket below = let fits = (whole.tables.each 0 attached).placed.fits in omega arith
+  index-within : (τ bucket : ℕ) → τ < G.attached → bucket < size τ → index τ bucket < 64 * g.pages
+  unfolding size
+  index-within τ bucket l below = let fits = (whole.tables.each τ l).placed.fits in omega arith
 
-  pub place-index : (bucket : ℕ) → bucket < size → bucket_place g (G.table 0).shape bucket ≡ Some
-      (place_at env mix (index bucket))
-  place-index bucket below =
-      ap (λ t. cond t (Some (place_at env mix (index bucket))) None)
-      (lt-ltb (index bucket) (64 * g.pages) (index-within bucket below))
+  place-index : (τ bucket : ℕ) → τ < G.attached → bucket < size τ
+      → bucket_place g (G.table τ).shape bucket ≡ Some (place_at env mix (index τ bucket))
+  place-index τ bucket l below =
+      ap (λ t. cond t (Some (place_at env mix (index τ bucket))) None)
+      (lt-ltb (index τ bucket) (64 * g.pages) (index-within τ bucket l below))
+
+  -- a bucket of a table that was attached is one of the words of the pages
+  pub record IsBucketAt (place : ℕ) : Type 0 where
+    pub index : ℕ
+    pub within : index < 64 * g.pages
+    pub place_is : place ≡ place_at env mix index
+
+  bucket_in : (τ bucket place : ℕ) → τ < G.attached
+      → bucket < size_of (unpacked (shape_of g words (G.table τ).slot))
+      → bucket_place g (shape_of g words (G.table τ).slot) bucket ≡ Some place → IsBucketAt place
+  unfolding size
+  bucket_in τ bucket place l below there =
+      let shape = (whole.tables.each τ l).shape_is in
+      let less : bucket < size τ = subst (λ s. bucket < size_of (unpacked s)) shape below in
+      record {
+        index = index τ bucket;
+        within = index-within τ bucket l less;
+        place_is = some-same place (place_at env mix (index τ bucket))
+            (sym (subst (λ s. bucket_place g s bucket ≡ Some place) shape there) ∙ place-index τ bucket l less);
+      }
+
+  -- ---- the tables in force
+
+  -- the slots of the tables from this one on, where the last ones are attached
+  abbrev slots_from : ℕ → ℕ → List ℕ
+  slots_from τ count = map (λ σ. (G.table σ).slot) (range_with_len τ count)
+
+  -- the slot of the next table, where one is attached
+  abbrev next_slot : ℕ → ℕ → Option ℕ
+  next_slot τ zero = None
+  next_slot τ (suc count) = Some (G.table τ).slot
+
+  future-leads : (τ count : ℕ) → τ + 1 + count ≡ G.attached
+      → slot_of (M (Slot (G.table τ).slot FutureWord)) ≡ next_slot (τ + 1) count
+  future-leads τ zero all =
+      ap slot_of ((whole.tables.each τ (omega (arith, all))).future_is
+      ∙ ap (λ t. cond t (future_of (G.table (τ + 1)).slot) 0) (le-ltb (τ + 1) G.attached (omega (arith, all))))
+  future-leads τ (suc count) all =
+      let next = whole.tables.each (τ + 1) (omega (arith, all)) in
+      ap slot_of ((whole.tables.each τ (omega (arith, all))).future_is
+      ∙ ap (λ t. cond t (future_of (G.table (τ + 1)).slot) 0) (lt-ltb (τ + 1) G.attached (omega (arith, all))))
+      ∙ entries_come_back.future_names (G.table (τ + 1)).slot next.slot_in
+
+  tables_met : (left τ count : ℕ) → count ≤ left → τ + count ≡ G.attached
+      → tables_from g words left (next_slot τ count) ≡ slots_from τ count
+  tables_met zero τ zero fuel all = refl
+  tables_met (suc left) τ zero fuel all = refl
+  tables_met zero τ (suc count) fuel all = absurd (omega (arith, fuel))
+  tables_met (suc left) τ (suc count) fuel all =
+      ap (λ rest. (G.table τ).slot ∷ rest)
+      (ap (tables_from g words left) (future-leads τ count (omega (arith, all)))
+      ∙ tables_met left (τ + 1) count (omega (arith, fuel)) (omega (arith, all)))
+
+  -- tables have slots of their own, of which there are eight
+  own_slot : (τ σ : ℕ) → τ < G.attached → σ < G.attached → (G.table τ).slot ≡ (G.table σ).slot → τ ≡ σ
+  own_slot τ σ l m same =
+      sym (whole.tables.each τ l).index ∙ ap (index_at G) same ∙ (whole.tables.each σ m).index
+
+  slots_apart : (τ σ count : ℕ) → τ < σ → σ + count ≡ G.attached → NotIn (G.table τ).slot (slots_from σ count)
+  slots_apart τ σ zero less all = tt
+  slots_apart τ σ (suc count) less all = (
+    (λ same. let e = own_slot τ σ (omega (arith, less, all)) (omega (arith, all)) same in absurd (omega (arith, e, less))),
+    slots_apart τ (σ + 1) count (omega (arith, less)) (omega (arith, all)),
+  )
+
+  slots_distinct : (τ count : ℕ) → τ + count ≡ G.attached → IsDistinct (slots_from τ count)
+  slots_distinct τ zero all = tt
+  slots_distinct τ (suc count) all =
+      (slots_apart τ (τ + 1) count (omega arith) (omega (arith, all)), slots_distinct (τ + 1) count (omega (arith, all)))
+
+  slots_below : (τ count : ℕ) → τ + count ≡ G.attached → AllByRecursion (λ s. s < 8) (slots_from τ count)
+  slots_below τ zero all = tt
+  slots_below τ (suc count) all =
+      ((whole.tables.each τ (omega (arith, all))).slot_in, slots_below (τ + 1) count (omega (arith, all)))
+
+  slots_many : (τ count : ℕ) → length (slots_from τ count) ≡ count
+  slots_many τ zero = refl
+  slots_many τ (suc count) = ap suc (slots_many (τ + 1) count)
+
+  -- how many tables are in force
+  abbrev in_use : ℕ
+  in_use = G.attached - G.current
+
+  tables_in_force : in_force g words ≡ slots_from G.current in_use
+  tables_in_force = go in_use refl
+    where
+      go : (count : ℕ) → in_use ≡ count → in_force g words ≡ slots_from G.current count
+      go zero is = absurd (omega (arith, is, whole.tables.current_in))
+      go (suc count) is =
+          let all : G.current + suc count ≡ G.attached = omega (arith, is, whole.tables.current_in) in
+          let right = whole.tables.each G.current whole.tables.current_in in
+          let few = length-count_below (λ s. true) 8 (slots_from G.current (suc count))
+          (slots_distinct G.current (suc count) all) (slots_below G.current (suc count) all) (λ s i. refl) in
+          let most = count_below-most (λ s. true) 8 in
+          let fuel : suc count ≤ 8 = omega (arith, few, most, slots_many G.current (suc count)) in
+          let first : table_of (M CurrentTable) ≡ (G.table G.current).slot =
+          (let word = whole.tables.current_is in omega (arith, right.slot_in, word)) in
+          ap (λ s. tables_from g words 8 (Some s)) first ∙ tables_met 8 G.current (suc count) fuel all
+
+  -- a table in force is one of those from the current one on
+  pub record IsTableInForce (slot : ℕ) : Type 0 where
+    pub table : ℕ
+    pub current : G.current ≤ table
+    pub attached : table < G.attached
+    pub slot_is : slot ≡ (G.table table).slot
+
+  slot_in : (slot τ count : ℕ) → G.current ≤ τ → τ + count ≡ G.attached → In slot (slots_from τ count)
+      → IsTableInForce slot
+  slot_in slot τ zero low all i = absurd i
+  slot_in slot τ (suc count) low all i = elim i [
+    | inl e ↦ record { table = τ; current = low; attached = omega (arith, all); slot_is = e }
+    | inr k ↦ slot_in slot (τ + 1) count (omega (arith, low)) (omega (arith, all)) k
+  ]
+
+  pub in_force_is : (slot : ℕ) → In slot (in_force g words) → IsTableInForce slot
+  in_force_is slot i =
+      slot_in slot G.current in_use (omega arith) (let l = whole.tables.current_in in omega (arith, l))
+      (subst (In slot) tables_in_force i)
+
+  in_slots : (τ σ count : ℕ) → σ ≤ τ → τ < σ + count → In (G.table τ).slot (slots_from σ count)
+  in_slots τ σ zero low high = absurd (omega (arith, low, high))
+  in_slots τ σ (suc count) low high = elim (cases_eq τ σ) [
+    | inl e ↦ inl (ap (λ t. (G.table t).slot) e)
+    | inr ne ↦ inr (in_slots τ (σ + 1) count (omega (arith, low, ne)) (omega (arith, high)))
+  ]
+
+  table_in_force : (τ : ℕ) → G.current ≤ τ → τ < G.attached → In (G.table τ).slot (in_force g words)
+  table_in_force τ low high =
+      subst (In (G.table τ).slot) (sym tables_in_force) (in_slots τ G.current in_use low (omega (arith, low, high)))
+
+  -- a bucket of a table in force is one of the words of the pages
+  pub bucket_in_force : (slot bucket place : ℕ) → In slot (in_force g words)
+      → bucket < size_of (unpacked (shape_of g words slot))
+      → bucket_place g (shape_of g words slot) bucket ≡ Some place → IsBucketAt place
+  bucket_in_force slot bucket place i below there =
+      let is = in_force_is slot i in
+      bucket_in is.table bucket place is.attached
+      (subst (λ s. bucket < size_of (unpacked (shape_of g words s))) is.slot_is below)
+      (subst (λ s. bucket_place g (shape_of g words s) bucket ≡ Some place) is.slot_is there)
+
+  -- ---- all nodes that are met
 
   abbrev all_nodes : List ℕ
-  all_nodes = flat_map (λ bucket. (G.bucket (index bucket)).nodes) (range_with_len 0 size)
+  all_nodes = flat_map (table_nodes g words) (in_force g words)
 
-  table_met : table_nodes g words (G.table 0).slot ≡ all_nodes
-  table_met = rw (whole.tables.each 0 attached).shape_is
-      (flat_map-same (λ bucket. bucket_nodes g words (bucket_place g (G.table 0).shape bucket))
-      (λ bucket. (G.bucket (index bucket)).nodes) (range_with_len 0 size)
-      (λ bucket i. let below : bucket < size = omega (arith, range_with_len-In 0 size bucket i) in
-      ap (bucket_nodes g words) (place-index bucket below)
-      ∙ bucket_met (index bucket) (index-within bucket below)))
+  -- the buckets of a table
+  abbrev buckets_in : ℕ → ℕ → List ℕ
+  buckets_in shape bucket = bucket_nodes g words (bucket_place g shape bucket)
 
-  pub one_in_force : in_force g words ≡ (G.table 0).slot ∷ []
-  one_in_force =
-      let right = whole.tables.each 0 attached in
-      let current : G.current ≡ 0 = omega (arith, whole.tables.current_in, whole.tables.one) in
-      let first : table_of (M CurrentTable) ≡ (G.table 0).slot =
-      ap table_of (whole.tables.current_is ∙ ap (λ τ. (G.table τ).slot) current)
-      ∙ (let l = right.slot_in in omega arith) in
-      let last : future_in env mix G 0 ≡ 0 =
-      ap (λ t. cond t (future_of (G.table 1).slot) 0)
-      (le-ltb 1 G.attached (omega (arith, whole.tables.one))) in
-      let none : M (Slot (G.table 0).slot FutureWord) ≡ 0 = right.future_is ∙ last in
-      rw first (rw none refl)
-
-  all_met : flat_map (table_nodes g words) (in_force g words) ≡ all_nodes
-  all_met = ap (flat_map (table_nodes g words)) one_in_force
-      ∙ append-nil (table_nodes g words (G.table 0).slot) ∙ table_met
+  table_seats : (τ n : ℕ) → τ < G.attached → In n (table_nodes g words (G.table τ).slot) → HasSeat n
+  unfolding size
+  table_seats τ n l i =
+      let shape = (G.table τ).shape in
+      let there : In n (flat_map (buckets_in shape) (range_with_len 0 (size τ))) =
+      subst (λ s. In n (flat_map (buckets_in s) (range_with_len 0 (size_of (unpacked s)))))
+      (whole.tables.each τ l).shape_is i in
+      let from = flat_map-In (buckets_in shape) n (range_with_len 0 (size τ)) there in
+      let below : from.0 < size τ = (let is = range_with_len-In 0 (size τ) from.0 from.1 in omega (arith, is)) in
+      bucket_seats (index τ from.0) n (index-within τ from.0 l below)
+      (subst (λ place. In n (bucket_nodes g words place)) (place-index τ from.0 l below) from.2)
 
   -- a node that is met is the first of those to which its port is bound
   met_bound : (n : ℕ) → In n all_nodes → (behind : List ℕ) × (G.bound (key_of M n) ≡ n ∷ behind)
   met_bound n i =
-      let from = flat_map-In (λ bucket. (G.bucket (index bucket)).nodes) n (range_with_len 0 size) i in
-      let first = whole.owned.first_at n (index from.0) (whole.owned.member (index from.0) n from.2) in
-      (first.behind, first.bound_to)
+      let from = flat_map-In (table_nodes g words) n (in_force g words) i in
+      let is = in_force_is from.0 from.1 in
+      let has = table_seats is.table n is.attached
+      (subst (λ s. In n (table_nodes g words s)) is.slot_is from.2) in
+      let at = seated_at env mix M G whole n has.0 has.1 in
+      (at.behind, at.bound_to)
 
-  -- a node to which a port is bound is met
+  -- a node that belongs to a table in force is met there
+  table_met : (τ b n : ℕ) → τ < G.attached → b < size τ
+      → In n (bucket_nodes g words (Some (place_at env mix (index τ b))))
+      → In n (table_nodes g words (G.table τ).slot)
+  unfolding size
+  table_met τ b n l below there =
+      let shape = (G.table τ).shape in
+      let here : In n (buckets_in shape b) =
+      subst (λ place. In n (bucket_nodes g words place)) (sym (place-index τ b l below)) there in
+      subst (λ s. In n (flat_map (buckets_in s) (range_with_len 0 (size_of (unpacked s)))))
+      (sym (whole.tables.each τ l).shape_is)
+      (In-flat_map (buckets_in shape) n b (range_with_len 0 (size τ))
+      (In-range_with_len 0 (size τ) b (omega arith) (omega (arith, below))) here)
+
+  -- the first node to which a port is bound is met
   bound_met : (port n : ℕ) (behind : List ℕ) → G.bound port ≡ n ∷ behind
       → In n all_nodes × (key_of M n ≡ port)
+  unfolding size
   bound_met port n behind b =
       let to = whole.owned.bound_to port n behind b in
-      let at = whole.owned.first_at n to.bucket to.first in
+      let at = (seated_at env mix M G whole n to.bucket to.first).at_home in
       let key = key_of M n in
-      let bucket = hash_in env mix G key 0 in
-      let below = hash-below env mix M G whole key 0 in
-      let table : table_at G to.bucket ≡ 0 = omega (arith, at.at_home.attached, whole.tables.one) in
-      let there : index bucket ≡ to.bucket =
-      some-same (index bucket) to.bucket (sym (home-index env mix M G whole key 0 attached)
-      ∙ ap (home env mix G key) (sym table) ∙ at.at_home.here) in (
-        In-flat_map (λ x. (G.bucket (index x)).nodes) n bucket (range_with_len 0 size)
-            (In-range_with_len 0 size bucket (omega arith) (omega (arith, below)))
-            (subst (λ j. In n (G.bucket j).nodes) (sym there) at.there),
+      let τ = table_at G to.bucket in
+      let bucket = hash_in env mix G key τ in
+      let below : bucket < size τ = hash-below env mix M G whole key τ in
+      let there : index τ bucket ≡ to.bucket =
+      some-same (index τ bucket) to.bucket (sym (home-index env mix M G whole key τ at.attached) ∙ at.here) in
+      let seat = seat_met n to.bucket (home-below key to.bucket at) to.first in (
+        In-flat_map (table_nodes g words) n (G.table τ).slot (in_force g words)
+            (table_in_force τ at.current at.attached)
+            (table_met τ bucket n at.attached below
+            (subst (λ j. In n (bucket_nodes g words (Some (place_at env mix j)))) (sym there) seat)),
         to.key_is,
       )
 
@@ -156,7 +432,7 @@ module _ (env : Env) (mix : ℕ → ℕ → ℕ → ℕ) (words : List ℕ) (G :
   -- the first node with the port's key is the one to which the port is bound
   pub first_bound : (port : ℕ) (bound : List ℕ) → G.bound port ≡ bound
       → first_node g words port ≡ head_or_none bound
-  first_bound port bound is = rw all_met (go (find (has_key g words port) all_nodes) bound refl is)
+  first_bound port bound is = go (find (has_key g words port) all_nodes) bound refl is
     where
       go : (found : Option ℕ) (nodes : List ℕ) → find (has_key g words port) all_nodes ≡ found
           → G.bound port ≡ nodes → found ≡ head_or_none nodes

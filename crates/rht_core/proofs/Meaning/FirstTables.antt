@@ -33,19 +33,19 @@ module _ (env : Env) (mix : ℕ → ℕ → ℕ → ℕ) where
   -- the one table that is attached is that of slot 0
   slot_first : (M : Memory) (G : Ghost) → Whole env mix M G → IsFirst M → (G.table 0).slot ≡ 0
   slot_first M G whole first =
-      let current : G.current ≡ 0 = omega (arith, whole.tables.current_in, whole.tables.one) in
+      let current : G.current ≡ 0 = omega (arith, whole.tables.current_in, whole.one) in
       ap (λ τ. (G.table τ).slot) (sym current) ∙ sym whole.tables.current_is ∙ first.current
 
   -- it stays so where the tables that were attached do
   first-stays : (M M' : Memory) (G G' : Ghost) → Whole env mix M G → Whole env mix M' G' → TablesStay env mix G G'
       → IsFirst M → IsFirst M'
   first-stays M M' G G' whole whole' stay first =
-      let low : 0 < G.attached = omega (arith, whole.tables.one) in
-      let low' : 0 < G'.attached = omega (arith, whole'.tables.one) in
-      let same : G'.table 0 ≡ G.table 0 = stay.tables 0 low in
+      let low : 0 < G.attached = omega (arith, whole.one) in
+      let low' : 0 < G'.attached = omega (arith, whole'.one) in
+      let same : G'.table 0 ≡ G.table 0 = stay.grow.tables 0 low in
       let slot = slot_first M G whole first in
       let slot' : (G'.table 0).slot ≡ 0 = ap (λ (t : Table). t.slot) same ∙ slot in
-      let current : G'.current ≡ 0 = omega (arith, whole'.tables.current_in, whole'.tables.one) in
+      let current : G'.current ≡ 0 = omega (arith, whole'.tables.current_in, whole'.one) in
       record {
         current = whole'.tables.current_is ∙ ap (λ τ. (G'.table τ).slot) current ∙ slot';
         shape =

@@ -1,20 +1,22 @@
 -- The store that makes a node the first of its bucket's chain, and unlocks the bucket. From it on the port is bound.
-use Rattle.std.proofs.Common.{◌≡◌, ◌≢◌, ◌↔◌, ℕ, ◌+◌, ◌*◌, ◌/◌, ◌%◌, ◌<◌, List, [], ◌∷◌, Option, Some, false, refl, sym, ◌∙◌, ap, subst, inl, inr, arith}
+use Rattle.std.proofs.Common.{◌≡◌, ◌≢◌, ◌⊎◌, ◌↔◌, ℕ, ◌+◌, ◌*◌, ◌/◌, ◌%◌, ◌<◌, List, [], ◌∷◌, Option, Some, None, false, refl, sym, ◌∙◌, ap, subst, inl, inr, arith}
 use Rattle.std.specs.Int.{bit_at}
+use Rattle.std.proofs.lemmas.Bool.{cases_eq, cases_lt}
 use Rattle.std.proofs.lemmas.Bool.Decides.{nat_tests}
 use Rattle.rht_words.specs.declared.env.Env.{Env}
-use Rattle.rht_words.specs.Links.{link_of, head_of, marker_of}
+use Rattle.rht_words.specs.Links.{link_of, head_of}
 use Rattle.rht_words.specs.Chains.{IsSegment}
-use Rattle.rht_words.specs.Places.{PortCount, NodeMap, Node, NodeWord, ChainLink, KeyWord, ListLink, PageWord}
+use Rattle.rht_words.specs.Places.{PortCount, Slot, NodeMap, Node, NodeWord, ChainLink, KeyWord, ListLink, PageWord}
 use Rattle.rht_words.proofs.Memory.{Memory, IsWrite}
 use Rattle.rht_words.specs.Members.{In, NotIn}
 use Rattle.rht_words.proofs.Members.{not_in_from, count_below-more}
 use Rattle.rht_words.proofs.ChainLemmas.{IsSegment-members}
-use Rattle.rht_core.proofs.Theory.Ghosts.{put, put-same, put-other, put-all, Free, Held, First, Behind, Ghost, is_first, is_used, is_taken_by, IsUsed, held_not_used, held_by_one, table_at}
-use Rattle.rht_core.proofs.Theory.Wholes.{chain_of, list_of, key_of, place_at, BucketRight, IsFirstAt, IsBehindIn, IsBoundTo, Owned, ArenaRight, IsBuilt, Whole, firsts, raisers}
-use Rattle.rht_core.proofs.Theory.Passed.{home-within}
+use Rattle.rht_core.proofs.Theory.Ghosts.{put, put-same, put-other, put-all, Free, Held, First, Leaving, Behind, Ghost, is_first, is_used, is_taken_by, IsUsed, seat_of, seat_in, seat, seat-used, held_not_used, held_by_one, none-some, some-same, table_at}
+use Rattle.rht_core.proofs.Theory.Wholes.{chain_of, list_of, key_of, place_at, home, stop, IsNoBucket, BucketRight, ArmedRight, IsHomeOf, IsFirstAt, IsBehindIn, IsBoundTo, Owned, ArenaRight, IsBuilt, Whole, none_out, out-seated, firsts, raisers}
+use Rattle.rht_core.proofs.Theory.Passed.{home-within, home-table, held-bucket, PassesStay, IsArmedFor}
+use Rattle.rht_core.proofs.Theory.Knowledge.{ArmedFor, IsEmptied, bound_used}
 use Rattle.rht_core.proofs.Theory.Readiness.{linked_bucket, linked, IsReady}
-use Rattle.rht_core.proofs.Theory.Frames.{Made, UsedStay, used_stay, chains_stay, first_stays, SameTables, same_tables, tables_stay, TablesRight-write, IsHomeOf-same, BucketRight-frame}
+use Rattle.rht_core.proofs.Theory.Frames.{Made, UsedStay, used_stay, chains_stay, seat_stays, first_stays, SameTables, same_tables, tables_stay, holdings_stay, entries_stay, work_stays, TablesRight-write, SlotsRight-write, PagesRight-write, IsHomeOf-same, BucketRight-frame, MovingStays, entry_words, MovingRight-frame, Leaving-frame}
 
 module _ (env : Env) (mix : ℕ → ℕ → ℕ → ℕ) where
   head_of-link : (place n : ℕ) → head_of place (link_of n) ≡ link_of n
@@ -31,14 +33,31 @@ module _ (env : Env) (mix : ℕ → ℕ → ℕ → ℕ) where
         (put G.node n (First here)) (put G.bound port (n ∷ [])) (put G.raised d false)
 
     within : here < 64 * env.geometry.pages
-    within = home-within env mix M G whole port (table_at G here) here ready.home_of.attached
-        ready.home_of.here
+    within = home-within env mix M G whole port ready.table here ready.armed.passed.attached ready.armed.here
+
+    -- the bucket is one of a table in force, to which the port belongs
+    home_of : IsHomeOf env mix G port here
+    home_of =
+        let right = whole.moving.armed here d ready.armed.armed in
+        let table = home-table env mix M G whole port ready.table here ready.armed.passed.attached ready.armed.here in
+        record {
+          here = ap (home env mix G port) table ∙ ready.armed.here;
+          current = right.current;
+          attached = right.attached;
+        }
+
+    -- nothing is on its way out of it
+    still : (G.bucket here).out ≡ None
+    still = none_out env mix G d here ready.moves_none ready.holder
 
     used_differs : (m : ℕ) → IsUsed (G.node m) → m ≢ n
     used_differs m used e = held_not_used (G.node n) d ready.has.mine (rw (sym e) used)
 
     first_differs : (m j : ℕ) → G.node m ≡ First j → m ≢ n
     first_differs m j first = used_differs m (ap is_used first)
+
+    seat_differs : (m j : ℕ) → seat_of (G.node m) ≡ Some j → m ≢ n
+    seat_differs m j seat = used_differs m (seat-used (G.node m) j seat)
 
     word_same : (m : ℕ) (w : NodeWord) → m < env.geometry.nodes → M' (Node m w) ≡ M (Node m w)
     word_same m w l = write.others (Node m w) l (λ e. cc)
@@ -49,16 +68,122 @@ module _ (env : Env) (mix : ℕ → ℕ → ℕ → ℕ) where
     first_word : (m j : ℕ) (w : NodeWord) → G.node m ≡ First j → M' (Node m w) ≡ M (Node m w)
     first_word = first_stays env mix M M' G whole words_stay
 
+    seat_word : (m j : ℕ) (w : NodeWord) → seat_of (G.node m) ≡ Some j → M' (Node m w) ≡ M (Node m w)
+    seat_word = seat_stays env mix M M' G whole words_stay
+
+    -- ---- what is on its way
+
+    entry_differs : (j entry : ℕ) → (G.bucket j).out ≡ Some entry → entry ≢ n
+    entry_differs j entry out =
+        let seat = out-seated env mix M G j entry (whole.moving.out j entry out) in seat_differs entry seat.0 seat.1
+
+    linked_moving : MovingStays env mix M G G'
+    linked_moving = record {
+      armed = λ j c. put-all (λ i b. b.armed ≡ Some c
+          → (((G.bucket i).armed ≡ Some c) × (b.holder ≡ (G.bucket i).holder)) ⊎ ArmedRight env mix G' i c)
+          G.bucket here (linked_bucket (G.bucket here) n) (λ e. absurd (cc)) (λ i ne e. inl (e, refl)) j;
+      out = λ j entry. put-all (λ i b. b.out ≡ Some entry → (G.bucket i).out ≡ Some entry) G.bucket here
+          (linked_bucket (G.bucket here) n) (λ e. e) (λ i ne e. e) j;
+      kept = λ i c k entry holds out by. put-other G.bucket here (linked_bucket (G.bucket here) n) i
+          (λ e. let one : ◌≡◌ {A = Option ℕ} (Some d) (Some c) = sym ready.holder
+          ∙ ap (λ m. (G.bucket m).holder) (sym e) ∙ holds in
+          ready.moves_none k entry out (by ∙ sym one));
+      entries = λ j entry out. put-other G.node n (First here) entry (entry_differs j entry out);
+      leaves = λ m j. put-all (λ i o. o ≡ Leaving j → G.node i ≡ Leaving j) G.node n (First here)
+          (λ e. absurd (cc)) (λ i ne e. e) m;
+      heads = λ m j leaving.
+          let at = whole.owned.leaving_at m j leaving in
+          put-other G.bound port (n ∷ []) (key_of M m)
+          (λ e. let q : ◌≡◌ {A = List ℕ} [] (m ∷ at.behind) = sym ready.armed.unbound ∙ ap G.bound (sym e)
+          ∙ at.bound_to in cc);
+    }
+
+    linked_passes : PassesStay env mix G G'
+    linked_passes = record {
+      armed = λ j c. put-all (λ i b. b.armed ≡ Some c
+          → ((G.bucket i).armed ≡ Some c) ⊎ (table_at G i + 1 ≡ G.attached)) G.bucket here
+          (linked_bucket (G.bucket here) n) (λ e. absurd (cc)) (λ i ne e. inl e) j;
+      heads = λ p m j behind b out. elim (cases_eq p port) [
+        | inl e ↦
+            let now : ◌≡◌ {A = List ℕ} (n ∷ []) (m ∷ behind) = sym (put-same G.bound port (n ∷ []))
+            ∙ ap G'.bound (sym e) ∙ b in
+            let one : n ≡ m = cc in
+            absurd (entry_differs j m (linked_moving.out j m out) (sym one))
+        | inr ne ↦ inl (record {
+          behind = behind;
+          bound_to = sym (put-other G.bound port (n ∷ []) p ne) ∙ b;
+          out = linked_moving.out j m out;
+        })
+      ];
+      seats = λ p j s. elim (cases_eq p port) [
+        | inl e ↦
+            let now : seat_of (G'.node n) ≡ Some j = sym (ap (seat_in G'.node)
+            (ap G'.bound e ∙ put-same G.bound port (n ∷ []))) ∙ s in
+            let there : here ≡ j = some-same here j (sym (ap seat_of (put-same G.node n (First here))) ∙ now) in
+            inr (subst (λ i. IsArmedFor env mix G p i) there (record {
+              caller = d;
+              armed = ready.armed.armed;
+              here = ap (λ q. home env mix G q (table_at G here)) e ∙ home_of.here;
+              current = home_of.current;
+            }))
+        | inr ne ↦ inl (record {
+          bucket = j;
+          seat_is = seat_same p ne (G.bound p) refl s;
+          earlier = omega arith;
+        })
+      ];
+    }
+      where
+        seat_same : (p : ℕ) → p ≢ port → (bound : List ℕ) → G.bound p ≡ bound
+            → {j : ℕ} → seat G' p ≡ Some j → seat G p ≡ Some j
+        seat_same p ne [] b s =
+            let none : ◌≡◌ {A = Option ℕ} (seat G' p) None = ap (seat_in G'.node)
+            (put-other G.bound port (n ∷ []) p ne ∙ b) in absurd (none-some none s)
+        seat_same p ne (m ∷ behind) b s =
+            let used = bound_used env mix M G whole p (m ∷ behind) b m (inl refl) in
+            ap (seat_in G.node) b
+            ∙ sym (ap seat_of (put-other G.node n (First here) m (used_differs m used.1)))
+            ∙ sym (ap (seat_in G'.node) (put-other G.bound port (n ∷ []) p ne ∙ b)) ∙ s
+
+    -- who is armed elsewhere isn't for this port
+    linked_unbound : (c : ℕ) → c ≢ d → (p τ i : ℕ) → ArmedFor env mix G c p τ i → G'.bound p ≡ []
+    linked_unbound c ne p τ i for = elim (cases_eq p port) [
+      | inl e ↦ absurd (both_armed e)
+      | inr apart ↦ put-other G.bound port (n ∷ []) p apart ∙ for.unbound
+    ]
+      where
+        -- two that are armed for one port are so in the same table, and so in the same bucket
+        both_armed : p ≡ port → ⊥
+        both_armed e =
+            let mine = ready.armed in
+            let theirs = whole.moving.armed i c for.armed in
+            let their_table = home-table env mix M G whole p τ i for.passed.attached for.here in
+            let my_table = home-table env mix M G whole port ready.table here mine.passed.attached mine.here in
+            let at_home : home env mix G port τ ≡ Some i = ap (λ q. home env mix G q τ) (sym e) ∙ for.here in
+            let my_home : home env mix G p ready.table ≡ Some here = ap (λ q. home env mix G q ready.table) e ∙ mine.here in
+            elim (cases_lt τ ready.table) [
+              | inl less ↦ none-some (mine.passed.quiet τ i (omega (arith, theirs.current, their_table)) less at_home) for.armed
+              | inr least ↦ elim (cases_lt ready.table τ) [
+                | inl less ↦ none-some (for.passed.quiet ready.table here
+                    (omega (arith, home_of.current, my_table)) less my_home) mine.armed
+                | inr most ↦
+                    let same_table : τ ≡ ready.table = omega (arith, least, most) in
+                    let place : i ≡ here = some-same i here (sym at_home ∙ ap (home env mix G port) same_table ∙ mine.here) in
+                    let one : ◌≡◌ {A = Option ℕ} (Some c) (Some d) = sym for.armed ∙ ap (λ k. (G.bucket k).armed) place ∙ mine.armed in
+                    ne (some-same c d one)
+              ]
+            ]
+
     not_in : (j : ℕ) → NotIn n (G.bucket j).nodes
     not_in j = not_in_from n (G.bucket j).nodes (λ i. first_differs n j (whole.owned.member j n i) refl)
 
     linked_right : BucketRight env mix M' here (linked_bucket (G.bucket here) n)
     linked_right =
         let old = whole.buckets here within in
-        let rest : IsSegment (chain_of M') (head_of (place_at env mix here) (G.bucket here).plain) (G.bucket here).nodes (marker_of (place_at env mix here))
+        let rest : IsSegment (chain_of M') (head_of (place_at env mix here) (G.bucket here).plain) (G.bucket here).nodes (stop env mix (place_at env mix here) (G.bucket here).out)
         = IsSegment-members (chain_of M) (chain_of M')
         (head_of (place_at env mix here) (G.bucket here).plain) (G.bucket here).nodes
-        (marker_of (place_at env mix here))
+        (stop env mix (place_at env mix here) (G.bucket here).out)
         (λ m i. first_word m here ChainLink (whole.owned.member here m i)) old.chained.segment in
         let behind : chain_of M' n ≡ head_of (place_at env mix here) (G.bucket here).plain =
         word_same n ChainLink ready.has.among ∙ ready.chain in
@@ -67,9 +192,6 @@ module _ (env : Env) (mix : ℕ → ℕ → ℕ → ℕ) where
               record {
                 word_is = write.same ∙ omega arith;
                 even = omega arith;
-                none_out =
-                    old.locked.none_out;
-                none_armed = old.locked.none_armed;
               };
           chained =
               record {
@@ -93,6 +215,8 @@ module _ (env : Env) (mix : ℕ → ℕ → ℕ → ℕ) where
       first_at = λ m j. put-all (λ k o. o ≡ First j → IsFirstAt env mix M' G' k j) G.node n (First here)
           (λ f. let e : here ≡ j = (cc) in rw (sym e) new_first)
           (λ k ne f. old_first k j ne f) m;
+      leaving_at = Leaving-frame env mix M M' G G' whole same linked_moving
+          (entry_words env mix M M' G whole words_stay);
       behind_in = λ m p. put-all (λ k o. o ≡ Behind p
           → IsBehindIn env mix M' G' k p) G.node n (First here) (λ f. absurd (cc))
           (λ k ne f. old_behind k p f) m;
@@ -101,18 +225,18 @@ module _ (env : Env) (mix : ℕ → ℕ → ℕ → ℕ) where
           (λ e. let same : n ≡ m = (cc) in let none : [] ≡ behind = (cc) in subst
           (λ b. IsBoundTo env mix M' G' port m b) none record {
             bucket = here;
-            first = rw (sym same) (put-same G.node n (First here));
+            first = rw (sym same) (ap seat_of (put-same G.node n (First here)));
             key_is = rw (sym same) (word_same n KeyWord ready.has.among ∙ ready.key);
             list = rw (sym same) (word_same n ListLink ready.has.among ∙ ready.list);
             distinct = (tt, tt);
             each = λ k i. absurd i;
           })
           (λ q ne e. let to = whole.owned.bound_to q m behind e in
-          let link = first_word m to.bucket ListLink to.first in
+          let link = seat_word m to.bucket ListLink to.first in
           record {
             bucket = to.bucket;
-            first = put-other G.node n (First here) m (first_differs m to.bucket to.first) ∙ to.first;
-            key_is = first_word m to.bucket KeyWord to.first ∙ to.key_is;
+            first = ap seat_of (put-other G.node n (First here) m (seat_differs m to.bucket to.first)) ∙ to.first;
+            key_is = seat_word m to.bucket KeyWord to.first ∙ to.key_is;
             list = rw link (IsSegment-members (list_of M) (list_of M') (list_of M m) behind 0
                 (λ k i. words_stay.lists k (whole.owned.behind_in k q (to.each k i)).among
                 (ap is_used (to.each k i))) to.list);
@@ -129,7 +253,7 @@ module _ (env : Env) (mix : ℕ → ℕ → ℕ → ℕ) where
           there = rw (put-same G.bucket here (linked_bucket (G.bucket here) n)) (inl refl);
           among = ready.has.among;
           at_home = rw (word_same n KeyWord ready.has.among
-              ∙ ready.key) (IsHomeOf-same env mix G G' port here same ready.home_of);
+              ∙ ready.key) (IsHomeOf-same env mix G G' port here same home_of);
           behind = [];
           bound_to =
               ap (put G.bound port (n ∷ [])) (word_same n KeyWord ready.has.among ∙ ready.key)
@@ -141,7 +265,7 @@ module _ (env : Env) (mix : ℕ → ℕ → ℕ → ℕ) where
             let at = whole.owned.first_at k j f in
             let key = first_word k j KeyWord f in
             let other : key_of M k ≢ port = λ e. let q : ◌≡◌ {A = List ℕ} [] (k ∷ at.behind) = sym
-            ready.unbound ∙ ap G.bound (sym e) ∙ at.bound_to in cc in
+            ready.armed.unbound ∙ ap G.bound (sym e) ∙ at.bound_to in cc in
             record {
               there =
                   put-all (λ i b. In k (G.bucket i).nodes
@@ -159,7 +283,7 @@ module _ (env : Env) (mix : ℕ → ℕ → ℕ → ℕ) where
         old_behind k p f =
             let is = whole.owned.behind_in k p f in
             let other : p ≢ port = λ e. let q : ◌≡◌ {A = List ℕ} [] (is.first ∷ is.behind) = sym
-            ready.unbound ∙ ap G.bound (sym e) ∙ is.bound_to in cc in
+            ready.armed.unbound ∙ ap G.bound (sym e) ∙ is.bound_to in cc in
             record {
               among = is.among;
               key_is = words_stay.keys k is.among (ap is_used f) ∙ is.key_is;
@@ -194,22 +318,29 @@ module _ (env : Env) (mix : ℕ → ℕ → ℕ → ℕ) where
     pub link_head : Made env mix d M G M' G'
     link_head = record {
       whole = record {
+        one = same.attached ∙ whole.one;
         tables =
             TablesRight-write env mix M M' G G' (PageWord here) (link_of n) write
             (record { current = λ e. cc; slots = λ s w h e. cc }) same whole.tables;
+        slots = SlotsRight-write env mix M M' G G' (PageWord here) (link_of n) write (λ e. cc) (λ s e. cc) same whole.slots;
+        pages = PagesRight-write env mix M M' G G' (PageWord here) (link_of n) write (λ i e. cc) same
+            (λ j blank. put-other G.bucket here (linked_bucket (G.bucket here) n) j
+            (λ e. held-bucket env mix M G whole here d ready.holder
+            (subst (λ k. IsNoBucket env mix G (G.page (k / 64)) k) e blank))) whole.pages;
         buckets = put-all (λ i b. i < 64 * env.geometry.pages
             → BucketRight env mix M' i b) G.bucket here (linked_bucket (G.bucket here) n)
             (λ l. linked_right)
             (λ i ne l. BucketRight-frame env mix M M' i (G.bucket i)
             (write.others (PageWord i) l (λ e. ne (cc)))
             (λ m k. first_word m i ChainLink (whole.owned.member i m k)) (whole.buckets i l));
+        moving = MovingRight-frame env mix M M' G G' whole same linked_moving (entry_words env mix M M' G whole words_stay);
         owned = linked_owned;
         arena = linked_arena;
         counted = write.others PortCount tt (λ e. cc)
             ∙ omega (arith, whole.counted, one_more_first, one_less_raiser);
       };
       others = λ c ne. record {
-        tables = tables_stay env mix M G G' whole same;
+        tables = tables_stay env mix M G G' whole same linked_passes;
         locks =
             λ j h. put-other G.bucket here (linked_bucket (G.bucket here) n) j
             (λ e. let q : ◌≡◌ {A = Option ℕ} (Some d) (Some c) = sym ready.holder
@@ -217,7 +348,7 @@ module _ (env : Env) (mix : ℕ → ℕ → ℕ → ℕ) where
         lists = λ j m h i.
             let at = whole.owned.first_at m j (whole.owned.member j m i) in
             put-other G.bound port (n ∷ []) (key_of M m)
-            (λ e. let q : ◌≡◌ {A = List ℕ} [] (m ∷ at.behind) = sym ready.unbound ∙ ap G.bound (sym e)
+            (λ e. let q : ◌≡◌ {A = List ℕ} [] (m ∷ at.behind) = sym ready.armed.unbound ∙ ap G.bound (sym e)
             ∙ at.bound_to in cc);
         chains = chains_stay env mix c M M' G (PageWord here) (link_of n) whole write (λ m used e. cc);
         keys = words_stay.keys;
@@ -230,6 +361,14 @@ module _ (env : Env) (mix : ℕ → ℕ → ℕ → ℕ) where
         raised = put-other G.raised d false c ne;
         taken = put-all (λ k o. is_taken_by c o ≡ is_taken_by c (G.node k)) G.node n (First here)
             (sym (ap (is_taken_by c) ready.has.mine)) (λ k kn. refl);
+        unbound = linked_unbound c ne;
+        holdings = holdings_stay env mix c M M' G G' same (λ s w l is. write.others (Slot s w) (l, is) (λ e. cc));
+        work = work_stays env mix c M M' G G' same (entries_stay env mix M M' G G' whole words_stay
+            (λ m used. put-other G.node n (First here) m (used_differs m used))
+            (put-all (λ i b. IsEmptied env mix (G.bucket i) → IsEmptied env mix b) G.bucket here
+            (linked_bucket (G.bucket here) n)
+            (λ empty. absurd (none-some empty.armed ready.armed.armed)) (λ i apart empty. empty)));
+        no_work = λ works. works;
         no_node =
             λ m. put-all (λ k o. o ≡ Held c → G.node k ≡ Held c) G.node n (First here) (λ e. absurd (cc))
             (λ k kn h. h) m;

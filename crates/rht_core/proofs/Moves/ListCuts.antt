@@ -9,9 +9,9 @@ use Rattle.rht_words.specs.Members.{In, NotIn}
 use Rattle.rht_words.proofs.Memory.{Memory, IsWrite}
 use Rattle.rht_words.proofs.ChainLemmas.{IsSegment-cut, IsSegment-members}
 use Rattle.rht_words.proofs.Members.{in_and_not, in-middle, In-append_left, In-append_right, In-append_cases, NotIn-cut, NotIn-append, IsDistinct-cut, IsDistinct-without, IsDistinct-left, IsDistinct-apart, count_below-same}
-use Rattle.rht_core.proofs.Theory.Ghosts.{put, put-same, put-other, put-all, First, Behind, Taken, Ghost, is_first, is_used, taken_by_one, held_not_used, table_at}
+use Rattle.rht_core.proofs.Theory.Ghosts.{put, put-same, put-other, put-all, First, Behind, Taken, Ghost, seat_of, is_first, is_used, taken_by_one, held_not_used, table_at}
 use Rattle.rht_core.proofs.Theory.Passed.{home-within}
-use Rattle.rht_core.proofs.Theory.Wholes.{list_of, key_of, IsHomeOf, IsFirstAt, IsBehindIn, IsBoundTo, IsBuilt, Whole, firsts, raisers}
+use Rattle.rht_core.proofs.Theory.Wholes.{list_of, key_of, MovesNone, IsHomeOf, IsFirstAt, IsBehindIn, IsBoundTo, IsBuilt, Whole, firsts, raisers}
 use Rattle.rht_core.proofs.Theory.Knowledge.{last_of}
 use Rattle.rht_core.proofs.Theory.Frames.{Made, same_tables, IsHomeOf-same, BucketRight-frame}
 use Rattle.rht_core.proofs.Theory.Readiness.{Change, changed}
@@ -27,6 +27,8 @@ module _ (env : Env) (mix : ℕ → ℕ → ℕ → ℕ) (d port j m q p : ℕ) 
     pub key_is : key_of M m ≡ port
     pub bound_to : G.bound port ≡ m ∷ (us ++ q ∷ vs)
     pub last : last_of (m ∷ us) ≡ Some p
+    pub moves_none : MovesNone env mix G d
+    pub not_out : (i : ℕ) → (G.bucket i).out ≢ Some m
 
   -- the node goes to the caller
   abbrev pub cutting : Change
@@ -111,13 +113,14 @@ module _ (env : Env) (mix : ℕ → ℕ → ℕ → ℕ) (d port j m q p : ℕ) 
     cut_store : IsStoreFor env mix d cutting M M' G (Node p ListLink) link
     cut_store = record {
       write = write;
-      no_table = record { current = λ e. cc; slots = λ s w h e. cc };
+      no_table = record { current = λ e. cc; work = λ e. cc; slots = λ s w e. cc; pages = λ i e. cc };
       no_map = λ i e. cc;
       no_count = λ e. cc;
       no_key = λ n e. cc;
       no_owner = λ n e. cc;
       other_word = λ i ne e. cc;
       other_link = λ n i ne f e. cc;
+      no_leaving = λ n i leaving e. cc;
       no_behind = λ n other f e. cc;
       other_list = λ n other ne i e.
           let same : n ≡ p = cc in ne (sym (bound_key other n i) ∙ ap (key_of M) same ∙ before_key);
@@ -136,6 +139,7 @@ module _ (env : Env) (mix : ℕ → ℕ → ℕ → ℕ) (d port j m q p : ℕ) 
       before = inl (subst (In q) (sym found.bound_to) (inr (in-middle q us vs)));
       key_is = (whole.owned.behind_in q port mine).key_is;
       used = refl;
+      stays = λ i e. cc;
       built = built;
       no_others = λ c ne. taken_by_one c d ne;
     }
@@ -200,10 +204,13 @@ module _ (env : Env) (mix : ℕ → ℕ → ℕ → ℕ) (d port j m q p : ℕ) 
         front_distinct : NotIn m us
         front_distinct = (NotIn-cut m us q vs to.distinct.0).0
 
+    stays_first : cut.node m ≡ First j
+    stays_first = cut-other m (λ e. let z : First j ≡ Behind port = sym first ∙ ap G.node e ∙ mine in cc) ∙ first
+
     new_bound : IsBoundTo env mix M' cut port m (us ++ vs)
     new_bound = record {
       bucket = j;
-      first = cut-other m (λ e. let z : First j ≡ Behind port = sym first ∙ ap G.node e ∙ mine in cc) ∙ first;
+      first = ap seat_of stays_first;
       key_is = key_stays m at.among ∙ found.key_is;
       list = new_list;
       distinct = (
@@ -261,6 +268,16 @@ module _ (env : Env) (mix : ℕ → ℕ → ℕ → ℕ) (d port j m q p : ℕ) 
     cut_bound = record {
       holder = found.holder;
       released = λ c ne e. ne (let z : ◌≡◌ {A = Option ℕ} (Some d) (Some c) = sym found.holder ∙ e in cc);
+      moves_none = found.moves_none;
+      head = m;
+      tail = us ++ q ∷ vs;
+      bound_to = found.bound_to;
+      not_out = found.not_out;
+      same_out = refl;
+      armed = λ c e. (e, refl);
+      from = λ n more e. let same : m ≡ n = cc in
+          inl (subst (λ k. In k (G.bound port)) same (subst (In m) (sym found.bound_to) (inl refl)));
+      sits = λ n more e. let same : m ≡ n = cc in ap cut.node (sym same) ∙ stays_first;
       one_changed = cut_changed;
       other_changed = cut_changed;
       right = BucketRight-frame env mix M M' j (G.bucket j) (write.others (PageWord j) within (λ e. cc))

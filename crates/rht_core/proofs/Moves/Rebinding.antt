@@ -1,18 +1,19 @@
 -- The store by which a caller that has locked a port's bucket changes what the port is bound to. What it does to other buckets,
 -- ports and callers is shown here once; what it does to the port and to its bucket is asked of each such store.
-use Rattle.std.proofs.Common.{◌≡◌, ◌≢◌, ◌⊎◌, ◌↔◌, ℕ, ◌+◌, ◌*◌, ◌/◌, ◌%◌, ◌<◌, List, [], ◌∷◌, Option, Some, false, refl, sym, ◌∙◌, ap, subst, inl, inr, arith}
+use Rattle.std.proofs.Common.{◌≡◌, ◌≢◌, ◌⊎◌, ◌↔◌, ℕ, ◌+◌, ◌*◌, ◌/◌, ◌%◌, ◌<◌, ◌≤◌, List, [], ◌∷◌, Option, Some, false, refl, sym, ◌∙◌, ap, subst, inl, inr, arith}
 use Rattle.std.specs.Int.{bit_at}
 use Rattle.std.proofs.lemmas.Bool.{cases_eq}
 use Rattle.rht_words.specs.declared.env.Env.{Env}
 use Rattle.rht_words.specs.declared.config.Kind.TheVariants.{Single}
-use Rattle.rht_words.specs.Places.{Address, PortCount, NodeMap, Node, NodeWord, ChainLink, KeyWord, OwnerWord, ListLink, PageWord}
+use Rattle.rht_words.specs.Places.{Address, PortCount, StateWord, NodeMap, Node, NodeWord, ChainLink, KeyWord, OwnerWord, ListLink, PageWord}
 use Rattle.rht_words.specs.Members.{In}
 use Rattle.rht_words.proofs.Memory.{Memory, IsWrite}
 use Rattle.rht_words.proofs.ChainLemmas.{IsSegment-members}
-use Rattle.rht_core.proofs.Theory.Ghosts.{put, put-same, put-other, put-all, Owner, Free, Held, First, Behind, Ghost, is_used, is_taken_by, IsUsed, held_not_used, held_by_one}
-use Rattle.rht_core.proofs.Theory.Wholes.{list_of, key_of, BucketRight, IsFirstAt, IsBehindIn, IsBoundTo, Owned, ArenaRight, IsBuilt, Whole, firsts, raisers}
-use Rattle.rht_core.proofs.Theory.Knowledge.{bound_used}
-use Rattle.rht_core.proofs.Theory.Frames.{Made, Others, IsNoTableWord, SameTables, same_tables, tables_stay, TablesRight-write, IsHomeOf-same, BucketRight-frame}
+use Rattle.rht_core.proofs.Theory.Ghosts.{put, put-same, put-other, put-all, Owner, Free, Held, First, Leaving, Behind, Ghost, is_used, is_taken_by, IsUsed, seat_of, seat_in, seat, table_at, held_not_used, held_by_one, none-some, some-same}
+use Rattle.rht_core.proofs.Theory.Wholes.{list_of, key_of, IsNoBucket, BucketRight, ArmedRight, IsFirstAt, IsBehindIn, IsBoundTo, Owned, ArenaRight, IsBuilt, Whole, MovesNone, seated_at, out-seated, firsts, raisers}
+use Rattle.rht_core.proofs.Theory.Passed.{held-bucket, PassesStay, WasSeated}
+use Rattle.rht_core.proofs.Theory.Knowledge.{IsEmptied, bound_used}
+use Rattle.rht_core.proofs.Theory.Frames.{Made, Others, IsNoTableWord, SameTables, same_tables, tables_stay, slots_stay, holdings_stay, work_stays, is_apart, TablesRight-write, SlotsRight-write, PagesRight-write, IsHomeOf-same, BucketRight-frame, MovingStays, EntryWords, MovingRight-frame, Leaving-frame}
 use Rattle.rht_core.proofs.Theory.Readiness.{Change, changed}
 
 module _ (env : Env) (mix : ℕ → ℕ → ℕ → ℕ) (d : ℕ) (change : Change) (M M' : Memory) (G : Ghost)
@@ -30,13 +31,14 @@ module _ (env : Env) (mix : ℕ → ℕ → ℕ → ℕ) (d : ℕ) (change : Cha
   -- of another port's list, and no word of a node that another caller has
   pub record IsStoreFor : Type 0 where
     pub write : IsWrite env.geometry M M' a v
-    pub no_table : IsNoTableWord env mix G a
+    pub no_table : IsNoTableWord env mix a
     pub no_map : (i : ℕ) → NodeMap i ≢ a
     pub no_count : PortCount ≢ a
     pub no_key : (n : ℕ) → Node n KeyWord ≢ a
     pub no_owner : (n : ℕ) → Node n OwnerWord ≢ a
     pub other_word : (i : ℕ) → i ≢ here → PageWord i ≢ a
     pub other_link : (n i : ℕ) → i ≢ here → G.node n ≡ First i → Node n ChainLink ≢ a
+    pub no_leaving : (n i : ℕ) → G.node n ≡ Leaving i → Node n ChainLink ≢ a
     pub no_behind : (n other : ℕ) → G.node n ≡ Behind other → Node n ChainLink ≢ a
     pub other_list : (n other : ℕ) → other ≢ port → In n (G.bound other) → Node n ListLink ≢ a
     pub other_node : (c n : ℕ) (w : NodeWord) → c ≢ d → G.node n ≡ Held c → Node n w ≢ a
@@ -46,6 +48,7 @@ module _ (env : Env) (mix : ℕ → ℕ → ℕ → ℕ) (d : ℕ) (change : Cha
     pub before : In n (G.bound port) ⊎ (G.node n ≡ Held d)
     pub key_is : key_of M n ≡ port
     pub used : IsUsed owner
+    pub stays : (i : ℕ) → owner ≢ Leaving i
     pub built : IsBuilt env mix owner
     pub no_others : (c : ℕ) → c ≢ d → is_taken_by c owner ≡ false
 
@@ -53,6 +56,18 @@ module _ (env : Env) (mix : ℕ → ℕ → ℕ → ℕ) (d : ℕ) (change : Cha
   pub record IsRebound : Type 0 where
     pub holder : (G.bucket here).holder ≡ Some d
     pub released : (c : ℕ) → c ≢ d → change.bucket.holder ≢ Some c
+    -- nothing is on its way out of the caller's buckets, nor is the first node to which the port is bound; and nobody gets armed
+    pub moves_none : MovesNone env mix G d
+    pub head : ℕ
+    pub tail : List ℕ
+    pub bound_to : G.bound port ≡ head ∷ tail
+    pub not_out : (i : ℕ) → (G.bucket i).out ≢ Some head
+    pub same_out : change.bucket.out ≡ (G.bucket here).out
+    pub armed : (c : ℕ) → change.bucket.armed ≡ Some c
+        → ((G.bucket here).armed ≡ Some c) × (change.bucket.holder ≡ (G.bucket here).holder)
+    -- the one that is the first then was one of the port's nodes or the caller's, and is in the bucket
+    pub from : (n : ℕ) (behind : List ℕ) → change.nodes ≡ n ∷ behind → In n (G.bound port) ⊎ (G.node n ≡ Held d)
+    pub sits : (n : ℕ) (behind : List ℕ) → change.nodes ≡ n ∷ behind → G'.node n ≡ First here
     pub one_changed : IsChanged change.one change.one_owner
     pub other_changed : IsChanged change.other change.other_owner
     pub right : BucketRight env mix M' here change.bucket
@@ -158,6 +173,114 @@ module _ (env : Env) (mix : ℕ → ℕ → ℕ → ℕ) (d : ℕ) (change : Cha
       | inr mine ↦ held_not_used (G.node n) d mine (ap is_used first)
     ])
 
+    -- no node that changes is on its way out of a bucket, nor is any other of the port's
+    listed_not_out : (n i : ℕ) → In n (G.bound port) → (G.bucket i).out ≢ Some n
+    listed_not_out n i there out = go (G.bound port) refl there
+      where
+        go : (nodes : List ℕ) → G.bound port ≡ nodes → In n nodes → ⊥
+        go [] b k = k
+        go (m ∷ behind) b (inl e) =
+            let q : ◌≡◌ {A = List ℕ} (is.head ∷ is.tail) (m ∷ behind) = sym is.bound_to ∙ b in
+            let one : is.head ≡ m = cc in
+            is.not_out i (out ∙ ap Some (e ∙ sym one))
+        go (m ∷ behind) b (inr k) =
+            let seat = out-seated env mix M G i n (whole.moving.out i n out) in
+            none-some (ap seat_of ((whole.owned.bound_to port m behind b).each n k)) seat.1
+
+    mine_not_out : (n i : ℕ) → G.node n ≡ Held d → (G.bucket i).out ≢ Some n
+    mine_not_out n i mine out =
+        let seat = out-seated env mix M G i n (whole.moving.out i n out) in
+        none-some (ap seat_of mine) seat.1
+
+    entry_kept : (i entry : ℕ) → (G.bucket i).out ≡ Some entry → IsKept entry
+    entry_kept i entry out = kept_from entry (λ owner at. elim at.before [
+      | inl there ↦ listed_not_out entry i there out
+      | inr mine ↦ mine_not_out entry i mine out
+    ])
+
+    -- one that is out of its bucket is another port's
+    leaving_key : (n i : ℕ) → G.node n ≡ Leaving i → key_of M n ≢ port
+    leaving_key n i leaving e =
+        let at = whole.owned.leaving_at n i leaving in
+        let q : First here ≡ Leaving i = sym (is.seat n at.behind (ap G.bound (sym e) ∙ at.bound_to)) ∙ leaving in cc
+
+    -- ---- what is on its way
+
+    rebound_moving : MovingStays env mix M G G'
+    rebound_moving = record {
+      armed = λ i c. put-all (λ k b. b.armed ≡ Some c
+          → (((G.bucket k).armed ≡ Some c) × (b.holder ≡ (G.bucket k).holder)) ⊎ ArmedRight env mix G' k c)
+          G.bucket here change.bucket (λ e. inl (is.armed c e)) (λ k ne e. inl (e, refl)) i;
+      out = λ i entry. put-all (λ k b. b.out ≡ Some entry → (G.bucket k).out ≡ Some entry) G.bucket here
+          change.bucket (λ e. sym is.same_out ∙ e) (λ k ne e. e) i;
+      kept = λ i c k entry holds out by. put-other G.bucket here change.bucket i
+          (λ e. let one : ◌≡◌ {A = Option ℕ} (Some d) (Some c) = sym is.holder
+          ∙ ap (λ m. (G.bucket m).holder) (sym e) ∙ holds in
+          is.moves_none k entry out (by ∙ sym one));
+      entries = λ i entry out. kept_owner entry (entry_kept i entry out);
+      leaves = λ n i. owners_all (λ m o. o ≡ Leaving i → G.node m ≡ Leaving i) (λ e. absurd (is.one_changed.stays i e))
+          (λ e. absurd (is.other_changed.stays i e)) (λ m apart other e. e) n;
+      heads = λ n i leaving. put-other G.bound port change.nodes (key_of M n) (leaving_key n i leaving);
+    }
+
+    rebound_words : EntryWords env mix M G M'
+    rebound_words = record {
+      keys = λ i entry out. key_stays entry (whole.moving.out i entry out).among;
+      chains = λ n i leaving.
+          let at = whole.owned.leaving_at n i leaving in
+          store.write.others (Node n ChainLink) (whole.moving.out i n at.out).among (store.no_leaving n i leaving);
+    }
+
+    rebound_passes : PassesStay env mix G G'
+    rebound_passes = record {
+      armed = λ i c. put-all (λ k b. b.armed ≡ Some c
+          → ((G.bucket k).armed ≡ Some c) ⊎ (table_at G k + 1 ≡ G.attached)) G.bucket here change.bucket
+          (λ e. inl (is.armed c e).0) (λ k ne e. inl e) i;
+      heads = λ p n i behind b out. elim (cases_eq p port) [
+        | inl e ↦
+            let now : change.nodes ≡ n ∷ behind = sym (put-same G.bound port change.nodes) ∙ ap G'.bound (sym e) ∙ b in
+            let was = rebound_moving.out i n out in
+            absurd (elim (is.from n behind now) [
+              | inl there ↦ listed_not_out n i there was
+              | inr mine ↦ mine_not_out n i mine was
+            ])
+        | inr ne ↦ inl (record {
+          behind = behind;
+          bound_to = sym (put-other G.bound port change.nodes p ne) ∙ b;
+          out = rebound_moving.out i n out;
+        })
+      ];
+      seats = λ p i s. inl (elim (cases_eq p port) [
+        | inl e ↦ seat_here p i e change.nodes refl s
+        | inr ne ↦ record { bucket = i; seat_is = seat_same p i ne (G.bound p) refl s; earlier = omega arith }
+      ]);
+    }
+      where
+        seat_here : (p i : ℕ) → p ≡ port → (nodes : List ℕ) → change.nodes ≡ nodes → seat G' p ≡ Some i
+            → WasSeated env mix G p i
+        seat_here p i e [] now s =
+            absurd (none-some (ap (seat_in G'.node) (ap G'.bound e ∙ put-same G.bound port change.nodes ∙ now)) s)
+        seat_here p i e (n ∷ behind) now s =
+            let then : seat G' p ≡ Some here =
+            ap (seat_in G'.node) (ap G'.bound e ∙ put-same G.bound port change.nodes ∙ now)
+            ∙ ap seat_of (is.sits n behind now) in
+            let there : here ≡ i = some-same here i (sym then ∙ s) in
+            record {
+              bucket = here;
+              seat_is = ap (seat_in G.node) (ap G.bound e ∙ is.bound_to) ∙ ap seat_of (is.seat is.head is.tail is.bound_to);
+              earlier = subst (λ k. table_at G here ≤ table_at G k) there (omega arith);
+            }
+
+        seat_same : (p i : ℕ) → p ≢ port → (bound : List ℕ) → G.bound p ≡ bound → seat G' p ≡ Some i
+            → seat G p ≡ Some i
+        seat_same p i ne [] b s =
+            absurd (none-some (ap (seat_in G'.node) (put-other G.bound port change.nodes p ne ∙ b)) s)
+        seat_same p i ne (m ∷ behind) b s =
+            let to = whole.owned.bound_to p m behind b in
+            ap (seat_in G.node) b
+            ∙ sym (ap seat_of (kept_owner m (kept_key m (λ e. ne (sym to.key_is ∙ e)))))
+            ∙ sym (ap (seat_in G'.node) (put-other G.bound port change.nodes p ne ∙ b)) ∙ s
+
     -- ---- the whole
 
     other_owned : (n i : ℕ) → key_of M n ≢ port → G.node n ≡ First i → IsFirstAt env mix M' G' n i
@@ -189,13 +312,13 @@ module _ (env : Env) (mix : ℕ → ℕ → ℕ → ℕ) (d : ℕ) (change : Cha
         → IsBoundTo env mix M' G' p n behind
     other_bound p n behind ne b =
         let to = whole.owned.bound_to p n behind b in
-        let at = whole.owned.first_at n to.bucket to.first in
+        let at = seated_at env mix M G whole n to.bucket to.first in
         let there : (m : ℕ) → In m (n ∷ behind) → In m (G.bound p) = λ m i. subst (In m) (sym b) i in
         let link : list_of M' n ≡ list_of M n = store.write.others (Node n ListLink) at.among
         (store.other_list n p ne (there n (inl refl))) in
         record {
           bucket = to.bucket;
-          first = kept_owner n (kept_key n (λ e. ne (sym to.key_is ∙ e))) ∙ to.first;
+          first = ap seat_of (kept_owner n (kept_key n (λ e. ne (sym to.key_is ∙ e)))) ∙ to.first;
           key_is = key_stays n at.among ∙ to.key_is;
           list = rw link (IsSegment-members (list_of M) (list_of M') (list_of M n) behind 0
               (λ m i. let more = whole.owned.behind_in m p (to.each m i) in
@@ -217,6 +340,7 @@ module _ (env : Env) (mix : ℕ → ℕ → ℕ → ℕ) (d : ℕ) (change : Cha
         | inl e ↦ is.first_here n i first e
         | inr ne ↦ other_owned n i ne (sym (kept_owner n (kept_key n ne)) ∙ first)
       ];
+      leaving_at = Leaving-frame env mix M M' G G' whole same rebound_moving rebound_words;
       behind_in = λ n p behind. elim (cases_eq (key_of M n) port) [
         | inl e ↦ is.behind_here n p behind e
         | inr ne ↦ other_behind n p ne (sym (kept_owner n (kept_key n ne)) ∙ behind)
@@ -259,7 +383,15 @@ module _ (env : Env) (mix : ℕ → ℕ → ℕ → ℕ) (d : ℕ) (change : Cha
 
     rebound_whole : Whole env mix M' G'
     rebound_whole = record {
-      tables = TablesRight-write env mix M M' G G' a v store.write store.no_table same whole.tables;
+      one = same.attached ∙ whole.one;
+      tables = TablesRight-write env mix M M' G G' a v store.write (is_apart env mix G a store.no_table) same
+          whole.tables;
+      slots = SlotsRight-write env mix M M' G G' a v store.write store.no_table.work
+          (λ s. store.no_table.slots s StateWord) same whole.slots;
+      pages = PagesRight-write env mix M M' G G' a v store.write store.no_table.pages same
+          (λ i blank. put-other G.bucket here change.bucket i
+          (λ e. held-bucket env mix M G whole here d is.holder
+          (subst (λ k. IsNoBucket env mix G (G.page (k / 64)) k) e blank))) whole.pages;
       buckets = put-all (λ i b. i < 64 * env.geometry.pages
           → BucketRight env mix M' i b) G.bucket here change.bucket (λ l. is.right)
           (λ i ne l. BucketRight-frame env mix M M' i (G.bucket i)
@@ -267,6 +399,7 @@ module _ (env : Env) (mix : ℕ → ℕ → ℕ → ℕ) (d : ℕ) (change : Cha
           (λ n there. let first = whole.owned.member i n there in
           store.write.others (Node n ChainLink) (whole.owned.first_at n i first).among
           (store.other_link n i ne first)) (whole.buckets i l));
+      moving = MovingRight-frame env mix M M' G G' whole same rebound_moving rebound_words;
       owned = rebound_owned;
       arena = rebound_arena;
       counted = store.write.others PortCount tt store.no_count ∙ whole.counted ∙ sym is.counted;
@@ -278,7 +411,7 @@ module _ (env : Env) (mix : ℕ → ℕ → ℕ → ℕ) (d : ℕ) (change : Cha
         λ i h e. ne (let q : ◌≡◌ {A = Option ℕ} (Some d) (Some c) = sym is.holder
         ∙ ap (λ k. (G.bucket k).holder) (sym e) ∙ h in cc) in
         record {
-          tables = tables_stay env mix M G G' whole same;
+          tables = tables_stay env mix M G G' whole same rebound_passes;
           locks = λ i h. put-other G.bucket here change.bucket i (elsewhere i h);
           lists = λ i n h there.
               let first = whole.owned.member i n there in
@@ -304,6 +437,17 @@ module _ (env : Env) (mix : ℕ → ℕ → ℕ → ℕ) (d : ℕ) (change : Cha
               (is.other_changed.no_others c ne
               ∙ sym (was_not_out c change.other change.other_owner is.other_changed))
               (λ n apart other. refl);
+          unbound = λ p τ i for. put-other G.bound port change.nodes p
+              (λ e. let q : ◌≡◌ {A = List ℕ} [] (is.head ∷ is.tail) = sym for.unbound ∙ ap G.bound e
+              ∙ is.bound_to in cc) ∙ for.unbound;
+          holdings = holdings_stay env mix c M M' G G' same (slots_stay env mix M M' a v store.write store.no_table);
+          work = work_stays env mix c M M' G G' same (record {
+            emptied = put-all (λ i b. IsEmptied env mix (G.bucket i) → IsEmptied env mix b) G.bucket here change.bucket
+                (λ empty. absurd (not_emptied empty.nodes)) (λ i apart empty. empty);
+            entries = rebound_moving.entries;
+            chains = rebound_words.chains;
+          });
+          no_work = λ works. works;
           no_node = owners_all (λ n o. o ≡ Held c → G.node n ≡ Held c)
               (λ held. absurd (held_not_used change.one_owner c held is.one_changed.used))
               (λ held. absurd (held_not_used change.other_owner c held is.other_changed.used))
@@ -312,6 +456,11 @@ module _ (env : Env) (mix : ℕ → ℕ → ℕ → ℕ) (d : ℕ) (change : Cha
               → (G.bucket i).holder ≡ Some c) G.bucket here change.bucket
               (λ h. absurd (is.released c ne h)) (λ i apart h. h);
         }
+      where
+        not_emptied : (G.bucket here).nodes ≡ [] → ⊥
+        not_emptied e =
+            let first = is.seat is.head is.tail is.bound_to in
+            subst (In is.head) e (whole.owned.first_at is.head here first).there
 
     pub rebind : Made env mix d M G M' G'
     rebind = record { whole = rebound_whole; others = rebound_others }

@@ -12,7 +12,7 @@ use Rattle.rht_words.proofs.LinksRead.{heads_come_back}
 use Rattle.rht_words.proofs.ChainLemmas.{IsSegment-cut, IsSegment-members}
 use Rattle.rht_words.proofs.Members.{in_and_not, In-append_left, In-append_right, IsDistinct-left, IsDistinct-apart}
 use Rattle.rht_core.proofs.Theory.Ghosts.{Bucket}
-use Rattle.rht_core.proofs.Theory.Wholes.{chain_of, place_at, BucketRight}
+use Rattle.rht_core.proofs.Theory.Wholes.{chain_of, place_at, stop, BucketRight}
 use Rattle.rht_core.proofs.Theory.Knowledge.{last_of}
 
 -- ---- the last of a row
@@ -79,7 +79,8 @@ relink_value place link (Some before) = link
 
 -- the bucket afterwards
 abbrev pub relinked : ℕ → ℕ → Bucket → List ℕ → Option ℕ → Bucket
-relinked place link b nodes None = record b { nodes = nodes; plain = plain_of place link; holder = None }
+relinked place link b nodes None =
+    record b { nodes = nodes; plain = plain_of place link; holder = None; armed = None }
 relinked place link b nodes (Some before) = record b { nodes = nodes }
 
 module _ (env : Env) (mix : ℕ → ℕ → ℕ → ℕ) (M M' : Memory) (j link : ℕ) (b : Bucket) where
@@ -89,6 +90,7 @@ module _ (env : Env) (mix : ℕ → ℕ → ℕ → ℕ) (M M' : Memory) (j link
   -- The bucket has the nodes `front`, then one, then `rear`; from the link that is stored lie other nodes and then `rear`.
   pub record CanRelink (front : List ℕ) (node : ℕ) (rear new : List ℕ) : Type 0 where
     pub right : BucketRight env mix M j b
+    pub still : b.out ≡ None
     pub split : b.nodes ≡ front ++ node ∷ rear
     pub within : j < 64 * env.geometry.pages
     pub behind : IsSegment (chain_of M) link (new ++ rear) (marker_of place)
@@ -109,10 +111,8 @@ module _ (env : Env) (mix : ℕ → ℕ → ℕ → ℕ) (M M' : Memory) (j link
         locked = record {
           word_is = write.same ∙ omega arith;
           even = plain_of-even place link back;
-          none_out = can.right.locked.none_out;
-          none_armed = can.right.locked.none_armed;
         };
-        chained = record { segment = rw back (rw nodes kept); distinct = can.distinct };
+        chained = record { segment = rw can.still (rw back (rw nodes kept)); distinct = can.distinct };
       }
 
   behind_node : (front : List ℕ) (node : ℕ) (rear new : List ℕ) (before : ℕ) → CanRelink front node rear new
@@ -124,7 +124,8 @@ module _ (env : Env) (mix : ℕ → ℕ → ℕ → ℕ) (M M' : Memory) (j link
       let before_in = last_in front before last in
       let cut = IsSegment-cut (chain_of M) front node rear first (marker_of place)
       (subst (λ nodes. IsSegment (chain_of M) first nodes (marker_of place)) can.split
-      can.right.chained.segment) in
+      (subst (λ out. IsSegment (chain_of M) first b.nodes (stop env mix place out)) can.still
+      can.right.chained.segment)) in
       let others : (n : ℕ) → In n (front ++ (new ++ rear)) → n ≢ before → chain_of M' n ≡ chain_of M n =
       λ n i ne. write.others (Node n ChainLink) (can.among n i) (λ e. ne (cc)) in
       let rest : IsSegment (chain_of M') link (new ++ rear) (marker_of place) =
@@ -135,13 +136,11 @@ module _ (env : Env) (mix : ℕ → ℕ → ℕ → ℕ) (M M' : Memory) (j link
         locked = record {
           word_is = write.others (PageWord j) can.within (λ e. cc) ∙ can.right.locked.word_is;
           even = can.right.locked.even;
-          none_out = can.right.locked.none_out;
-          none_armed = can.right.locked.none_armed;
         };
         chained = record {
-          segment = segment_relinked (chain_of M) (chain_of M') front (new ++ rear) before first
+          segment = rw can.still (segment_relinked (chain_of M) (chain_of M') front (new ++ rear) before first
               (link_of node) link (marker_of place) last write.same rest
-              (λ n i ne. others n (In-append_left n front (new ++ rear) i) ne) distinct cut.0;
+              (λ n i ne. others n (In-append_left n front (new ++ rear) i) ne) distinct cut.0);
           distinct = can.distinct;
         };
       }

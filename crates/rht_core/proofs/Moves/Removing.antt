@@ -11,8 +11,8 @@ use Rattle.rht_words.specs.Members.{In, NotIn, IsDistinct}
 use Rattle.rht_words.proofs.Memory.{Memory, IsWrite}
 use Rattle.rht_words.proofs.ChainLemmas.{IsSegment-cut, IsSegment-members}
 use Rattle.rht_words.proofs.Members.{not_in_from, in_and_not, in-middle, In-append_left, In-append_right, In-append_cases, NotIn-append, IsDistinct-cut, IsDistinct-without, IsDistinct-with, count_below, count_below-more, count_below-same}
-use Rattle.rht_core.proofs.Theory.Ghosts.{put, put-same, put-other, put-all, Owner, Held, First, Behind, Taken, Ghost, is_first, is_used, is_taken_by, taken_by_one, held_not_used, table_at}
-use Rattle.rht_core.proofs.Theory.Wholes.{chain_of, list_of, key_of, place_at, IsHomeOf, BucketRight, IsFirstAt, IsBehindIn, IsBoundTo, IsBuilt, Whole, firsts, raisers}
+use Rattle.rht_core.proofs.Theory.Ghosts.{put, put-same, put-other, put-all, Owner, Held, First, Leaving, Behind, Taken, Ghost, is_first, is_used, is_taken_by, seat_of, taken_by_one, held_not_used, table_at}
+use Rattle.rht_core.proofs.Theory.Wholes.{chain_of, list_of, key_of, place_at, stop, MovesNone, none_out, IsHomeOf, BucketRight, IsFirstAt, IsBehindIn, IsBoundTo, IsBuilt, Whole, firsts, raisers}
 use Rattle.rht_core.proofs.Theory.Passed.{home-within}
 use Rattle.rht_core.proofs.Theory.Knowledge.{last_of}
 use Rattle.rht_core.proofs.Theory.Frames.{Made, same_tables, IsHomeOf-same}
@@ -22,13 +22,16 @@ use Rattle.rht_core.proofs.Moves.Relinking.{relink_address, relink_value, relink
 
 module _ (env : Env) (mix : ℕ → ℕ → ℕ → ℕ) (d port j m : ℕ) (front rear : List ℕ) (before : Option ℕ)
     (M M' : Memory) (G : Ghost) where
-  -- The caller has locked the bucket, and has found in it the first node to which the port is bound, between these other nodes.
+  -- The caller has locked the bucket, and has found in it the first node to which the port is bound, between these other nodes. No entry
+  -- of its own is on its way, nor is this node.
   pub record IsFoundIn (behind : List ℕ) : Type 0 where
     pub holder : (G.bucket j).holder ≡ Some d
     pub split : (G.bucket j).nodes ≡ front ++ m ∷ rear
     pub last : before ≡ last_of front
     pub key_is : key_of M m ≡ port
     pub bound_to : G.bound port ≡ m ∷ behind
+    pub moves_none : MovesNone env mix G d
+    pub not_out : (i : ℕ) → (G.bucket i).out ≢ Some m
 
   module _ (whole : Whole env mix M G) (behind : List ℕ) (found : IsFoundIn behind) where
     there : In m (G.bucket j).nodes
@@ -55,13 +58,18 @@ module _ (env : Env) (mix : ℕ → ℕ → ℕ → ℕ) (d port j m : ℕ) (fro
     apart : NotIn m front × NotIn m rear
     apart = IsDistinct-cut front m rear distinct
 
+    -- nothing is on its way out of the bucket
+    still : (G.bucket j).out ≡ None
+    still = none_out env mix G d j found.moves_none found.holder
+
     -- the links behind the node are those of the rest of the chain
     rest : IsSegment (chain_of M) (chain_of M m) rear (marker_of (place_at env mix j))
     rest =
-        (IsSegment-cut (chain_of M) front m rear (head_of (place_at env mix j) (G.bucket j).plain)
-        (marker_of (place_at env mix j))
-        (subst (λ nodes. IsSegment (chain_of M) (head_of (place_at env mix j) (G.bucket j).plain) nodes
-        (marker_of (place_at env mix j))) found.split bucket_right.chained.segment)).1
+        let first_link = head_of (place_at env mix j) (G.bucket j).plain in
+        (IsSegment-cut (chain_of M) front m rear first_link (marker_of (place_at env mix j))
+        (subst (λ nodes. IsSegment (chain_of M) first_link nodes (marker_of (place_at env mix j))) found.split
+        (subst (λ out. IsSegment (chain_of M) first_link (G.bucket j).nodes
+        (stop env mix (place_at env mix j) out)) still bucket_right.chained.segment))).1
 
     -- the other nodes of the bucket are first ones of other ports
     front_first : (n : ℕ) → In n front → G.node n ≡ First j
@@ -100,13 +108,14 @@ module _ (env : Env) (mix : ℕ → ℕ → ℕ → ℕ) (d port j m : ℕ) (fro
             (relink_value (place_at env mix j) link b)
         go None last write = record {
           write = write;
-          no_table = record { current = λ e. cc; slots = λ s w h e. cc };
+          no_table = record { current = λ e. cc; work = λ e. cc; slots = λ s w e. cc; pages = λ i e. cc };
           no_map = λ i e. cc;
           no_count = λ e. cc;
           no_key = λ n e. cc;
           no_owner = λ n e. cc;
           other_word = λ i ne e. ne (let same : i ≡ j = cc in same ∙ sym here);
           other_link = λ n i ne f e. cc;
+          no_leaving = λ n i leaving e. cc;
           no_behind = λ n p f e. cc;
           other_list = λ n p ne i e. cc;
           other_node = λ c n w ne held e. cc;
@@ -115,7 +124,7 @@ module _ (env : Env) (mix : ℕ → ℕ → ℕ → ℕ) (d port j m : ℕ) (fro
             let mine = front_first p (last_in front p (sym last)) in
             record {
               write = write;
-              no_table = record { current = λ e. cc; slots = λ s w h e. cc };
+              no_table = record { current = λ e. cc; work = λ e. cc; slots = λ s w e. cc; pages = λ i e. cc };
               no_map = λ i e. cc;
               no_count = λ e. cc;
               no_key = λ n e. cc;
@@ -125,6 +134,9 @@ module _ (env : Env) (mix : ℕ → ℕ → ℕ → ℕ) (d port j m : ℕ) (fro
                   let same : n ≡ p = cc in
                   let q : First i ≡ First j = sym f ∙ ap G.node same ∙ mine in
                   let place : i ≡ j = cc in place ∙ sym here);
+              no_leaving = λ n i leaving e.
+                  let same : n ≡ p = cc in
+                  let q : Leaving i ≡ First j = sym leaving ∙ ap G.node same ∙ mine in cc;
               no_behind = λ n other f e.
                   let same : n ≡ p = cc in
                   let q : Behind other ≡ First j = sym f ∙ ap G.node same ∙ mine in cc;
@@ -142,6 +154,26 @@ module _ (env : Env) (mix : ℕ → ℕ → ℕ → ℕ) (d port j m : ℕ) (fro
         go : (b : Option ℕ) → (relinked (place_at env mix j) link (G.bucket j) nodes b).holder ≢ Some c
         go None e = cc
         go (Some p) e = ne (let q : ◌≡◌ {A = Option ℕ} (Some d) (Some c) = sym found.holder ∙ e in cc)
+
+    -- nothing gets on its way out of it, and nobody gets armed
+    relinked-out : (link : ℕ) (nodes : List ℕ)
+        → (relinked (place_at env mix j) link (G.bucket j) nodes before).out ≡ (G.bucket j).out
+    relinked-out link nodes = go before
+      where
+        go : (b : Option ℕ) → (relinked (place_at env mix j) link (G.bucket j) nodes b).out ≡ (G.bucket j).out
+        go None = refl
+        go (Some p) = refl
+
+    relinked-armed : (link : ℕ) (nodes : List ℕ) (c : ℕ)
+        → (relinked (place_at env mix j) link (G.bucket j) nodes before).armed ≡ Some c
+        → ((G.bucket j).armed ≡ Some c)
+        × ((relinked (place_at env mix j) link (G.bucket j) nodes before).holder ≡ (G.bucket j).holder)
+    relinked-armed link nodes c = go before
+      where
+        go : (b : Option ℕ) → let after = relinked (place_at env mix j) link (G.bucket j) nodes b in
+            after.armed ≡ Some c → ((G.bucket j).armed ≡ Some c) × (after.holder ≡ (G.bucket j).holder)
+        go None e = absurd (cc)
+        go (Some p) e = (e, refl)
 
     relinked-nodes : (link : ℕ) (nodes : List ℕ)
         → (relinked (place_at env mix j) link (G.bucket j) nodes before).nodes ≡ nodes
@@ -187,6 +219,7 @@ module _ (env : Env) (mix : ℕ → ℕ → ℕ → ℕ) (d port j m : ℕ) (fro
       before = inl (subst (In m) (sym found.bound_to) (inl refl));
       key_is = found.key_is;
       used = refl;
+      stays = λ i e. cc;
       built = built;
       no_others = λ c ne. taken_by_one c d ne;
     }
@@ -209,10 +242,20 @@ module _ (env : Env) (mix : ℕ → ℕ → ℕ → ℕ) (d port j m : ℕ) (fro
     unlinked_bound = record {
       holder = found.holder;
       released = relinked-released whole [] found link (front ++ ([] ++ rear));
+      moves_none = found.moves_none;
+      head = m;
+      tail = [];
+      bound_to = found.bound_to;
+      not_out = found.not_out;
+      same_out = relinked-out whole [] found link (front ++ ([] ++ rear));
+      armed = relinked-armed whole [] found link (front ++ ([] ++ rear));
+      from = λ n behind e. absurd (cc);
+      sits = λ n behind e. absurd (cc);
       one_changed = unlinked_changed;
       other_changed = unlinked_changed;
       right = relinked_right env mix M M' j link (G.bucket j) front m rear [] before (record {
         right = bucket_right whole [] found;
+        still = still whole [] found;
         split = found.split;
         within = within whole [] found;
         behind = subst (λ l. IsSegment (chain_of M) l rear (marker_of (place_at env mix j))) link_is
@@ -288,6 +331,7 @@ module _ (env : Env) (mix : ℕ → ℕ → ℕ → ℕ) (d port j m : ℕ) (fro
     pub distinct : IsDistinct (x ∷ tail)
     pub used : is_used owner ≡ true
     pub built : IsBuilt env mix owner
+    pub stays : (i : ℕ) → owner ≢ Leaving i
     pub no_first : is_first owner ≡ false
     pub no_others : (c : ℕ) → c ≢ d → is_taken_by c owner ≡ false
     pub listed : (n : ℕ) → In n tail → ((n ≡ m) × (owner ≡ Behind port)) ⊎ (In n behind × (n ≢ x))
@@ -396,6 +440,7 @@ module _ (env : Env) (mix : ℕ → ℕ → ℕ → ℕ) (d port j m : ℕ) (fro
       before = inl (subst (In m) (sym found.bound_to) (inl refl));
       key_is = found.key_is;
       used = can.used;
+      stays = can.stays;
       built = can.built;
       no_others = can.no_others;
     }
@@ -409,6 +454,7 @@ module _ (env : Env) (mix : ℕ → ℕ → ℕ → ℕ) (d port j m : ℕ) (fro
       ];
       key_is = can.key_is;
       used = refl;
+      stays = λ i e. cc;
       built = tt;
       no_others = λ c ne. refl;
     }
@@ -416,6 +462,7 @@ module _ (env : Env) (mix : ℕ → ℕ → ℕ → ℕ) (d port j m : ℕ) (fro
     new_right : BucketRight env mix M' j change.bucket
     new_right = relinked_right env mix M M' j (link_of x) (G.bucket j) front m rear (x ∷ []) before (record {
       right = bucket_right whole behind found;
+      still = still whole behind found;
       split = found.split;
       within = within whole behind found;
       behind = (
@@ -449,7 +496,7 @@ module _ (env : Env) (mix : ℕ → ℕ → ℕ → ℕ) (d port j m : ℕ) (fro
     new_bound : IsBoundTo env mix M' replaced port x tail
     new_bound = record {
       bucket = j;
-      first = replaced-new;
+      first = ap seat_of replaced-new;
       key_is = key_stays x can.among ∙ can.key_is;
       list = rw (list_stays x can.among) (IsSegment-members (list_of M) (list_of M') (list_of M x) tail 0
           (λ n i. list_stays n (tail_among n i)) can.list);
@@ -510,6 +557,18 @@ module _ (env : Env) (mix : ℕ → ℕ → ℕ → ℕ) (d port j m : ℕ) (fro
     replaced_bound = record {
       holder = found.holder;
       released = relinked-released whole behind found (link_of x) new_nodes;
+      moves_none = found.moves_none;
+      head = m;
+      tail = behind;
+      bound_to = found.bound_to;
+      not_out = found.not_out;
+      same_out = relinked-out whole behind found (link_of x) new_nodes;
+      armed = relinked-armed whole behind found (link_of x) new_nodes;
+      from = λ n more e. let same : x ≡ n = cc in elim can.from [
+        | inl held ↦ inr (ap G.node (sym same) ∙ held)
+        | inr i ↦ inl (subst (λ k. In k (G.bound port)) same (subst (In x) (sym found.bound_to) (inr i)))
+      ];
+      sits = λ n more e. let same : x ≡ n = cc in ap replaced.node (sym same) ∙ replaced-new;
       one_changed = old_changed;
       other_changed = new_changed;
       right = new_right;

@@ -5,15 +5,15 @@ use Rattle.std.specs.Int.{bit_at, bit_not, w64}
 use Rattle.std.proofs.lemmas.Bool.{cases_eq}
 use Rattle.rht_words.specs.declared.env.Env.{Env}
 use Rattle.rht_words.specs.Maps.{bit_of, IsBitIn}
-use Rattle.rht_words.specs.Places.{PortCount, NodeMap, Node, NodeWord, ChainLink, KeyWord, OwnerWord, ListLink, map_words}
+use Rattle.rht_words.specs.Places.{PortCount, Slot, NodeMap, Node, NodeWord, ChainLink, KeyWord, OwnerWord, ListLink, map_words}
 use Rattle.rht_words.proofs.BitChanges.{bit_at-cleared, bit_at-cleared_other, bit_at-set, bit_at-set_other}
 use Rattle.rht_words.proofs.Memory.{Memory, IsWrite}
 use Rattle.rht_words.specs.Members.{In}
 use Rattle.rht_words.proofs.Members.{count_below-same}
-use Rattle.rht_core.proofs.Theory.Ghosts.{put, put-other, put-all, Owner, Free, Held, First, Behind, Ghost, is_first, is_used, is_taken_by, IsUsed, unused-not_first, behind_one, held_not_used, held_by_one, with_owner}
-use Rattle.rht_core.proofs.Theory.Wholes.{key_of, ArenaRight, IsBuilt, Whole, firsts as count_firsts, raisers}
+use Rattle.rht_core.proofs.Theory.Ghosts.{put, put-other, put-all, Owner, Free, Held, First, Behind, Ghost, is_first, is_used, is_taken_by, IsUsed, seat_of, seat-used, none-some, unused-not_first, behind_one, held_not_used, held_by_one, with_owner}
+use Rattle.rht_core.proofs.Theory.Wholes.{key_of, ArenaRight, IsBuilt, Whole, seated_at, firsts as count_firsts, raisers}
 use Rattle.rht_core.proofs.Theory.Knowledge.{HasNode, bound_used}
-use Rattle.rht_core.proofs.Theory.Frames.{Made, UsedStay, used_stay, chains_stay, tables_stay, same_tables, Rely-same, SameChains, same_chains, Whole-frame, locks_stay, arena_stays}
+use Rattle.rht_core.proofs.Theory.Frames.{Made, UsedStay, used_stay, chains_stay, chains_passes, holdings_stay, entries_stay, work_stays, tables_stay, same_tables, Rely-same, SameChains, same_chains, Whole-frame, locks_stay, arena_stays}
 
 module _ (env : Env) (mix : ℕ → ℕ → ℕ → ℕ) where
   -- ---- a word of a node that the caller has
@@ -30,18 +30,19 @@ module _ (env : Env) (mix : ℕ → ℕ → ℕ → ℕ) where
         keys = λ m l used. others_node m KeyWord l (other m used);
         owners = λ m l used. others_node m OwnerWord l (other m used);
         lists = λ m l used. others_node m ListLink l (other m used);
-        chains = λ m j first. others_node m ChainLink (whole.owned.first_at m j first).among
-            (other m (ap is_used first));
+        chains = λ m j seat. others_node m ChainLink (seated_at env mix M G whole m j seat).among
+            (other m (seat-used (G.node m) j seat));
       } in
       record {
         whole = Whole-frame env mix M M' G G (Node n w) v whole write
-            (record { current = λ e. cc; slots = λ s u h e. cc }) (same_chains env mix G G.raised) words
+            (record { current = λ e. cc; work = λ e. cc; slots = λ s u e. cc; pages = λ i e. cc }) (same_chains env mix G G.raised) words (λ j blank. refl)
             (locks_stay env mix M M' G (Node n w) v whole write (λ j e. cc))
             (arena_stays env mix M M' G (Node n w) v whole write G refl (λ i e. cc))
             (write.others PortCount tt (λ e. cc) ∙ whole.counted);
         others = λ c ne. Rely-same env mix c M M' G G whole
             (same_tables env mix G G.bucket G.node G.bound G.raised) refl refl refl refl words
             (chains_stay env mix c M M' G (Node n w) v whole write (λ m used e. other m used (cc)))
+            (λ s u l is. write.others (Slot s u) (l, is) (λ e. cc))
             (λ m u held. others_node m u held.among (λ e. ne
             (held_by_one (G.node n) c d (ap G.node (sym e) ∙ held.mine) has.mine)));
       }
@@ -58,7 +59,7 @@ module _ (env : Env) (mix : ℕ → ℕ → ℕ → ℕ) where
       go [] b k = absurd k
       go (f ∷ rest) b (inl e) =
           let to = whole.owned.bound_to other f rest b in
-          let q : Behind port ≡ First to.bucket = sym behind ∙ ap G.node e ∙ to.first in absurd (cc)
+          absurd (none-some (ap seat_of (ap G.node (sym e) ∙ behind)) to.first)
       go (f ∷ rest) b (inr k) = behind_one (G.node n) other port
           ((whole.owned.bound_to other f rest b).each n k) behind
 
@@ -69,18 +70,18 @@ module _ (env : Env) (mix : ℕ → ℕ → ℕ → ℕ) where
       → G.bound port ≡ first ∷ behind → G.node first ≡ First j → (G.bucket j).holder ≡ Some d
       → IsWrite env.geometry M M' (Node n ChainLink) v → Made env mix d M G M' G
   chain_behind d n port first j v rest M M' G whole behind bound seat holder write =
-      let unchained : (m j : ℕ) → G.node m ≡ First j → m ≢ n =
-      λ m j first e. let q : First j ≡ Behind port = sym first ∙ ap G.node e ∙ behind in cc in
+      let unchained : (m j : ℕ) → seat_of (G.node m) ≡ Some j → m ≢ n =
+      λ m j seat e. none-some (ap seat_of (ap G.node e ∙ behind)) seat in
       let words : UsedStay env mix M G M' = record {
         keys = λ m l used. write.others (Node m KeyWord) l (λ e. cc);
         owners = λ m l used. write.others (Node m OwnerWord) l (λ e. cc);
         lists = λ m l used. write.others (Node m ListLink) l (λ e. cc);
-        chains = λ m j first. write.others (Node m ChainLink) (whole.owned.first_at m j first).among
-            (λ e. unchained m j first (cc));
+        chains = λ m j seat. write.others (Node m ChainLink) (seated_at env mix M G whole m j seat).among
+            (λ e. unchained m j seat (cc));
       } in
       record {
         whole = Whole-frame env mix M M' G G (Node n ChainLink) v whole write
-            (record { current = λ e. cc; slots = λ s u h e. cc }) (same_chains env mix G G.raised) words
+            (record { current = λ e. cc; work = λ e. cc; slots = λ s u e. cc; pages = λ i e. cc }) (same_chains env mix G G.raised) words (λ j blank. refl)
             (locks_stay env mix M M' G (Node n ChainLink) v whole write (λ j e. cc))
             (arena_stays env mix M M' G (Node n ChainLink) v whole write G refl (λ i e. cc))
             (write.others PortCount tt (λ e. cc) ∙ whole.counted);
@@ -89,6 +90,7 @@ module _ (env : Env) (mix : ℕ → ℕ → ℕ → ℕ) where
             (λ i k m h here b.
             let is = bound_used env mix M G whole (key_of M k) (G.bound (key_of M k)) refl m b in
             write.others (Node m ChainLink) is.0 (λ e. ne (holder_one i k m h here b (cc))))
+            (λ s u l is. write.others (Slot s u) (l, is) (λ e. cc))
             (λ m u held. write.others (Node m u) held.among (λ e.
             let same : m ≡ n = cc in
             let q : Held c ≡ Behind port = sym held.mine ∙ ap G.node same ∙ behind in cc));
@@ -114,22 +116,19 @@ module _ (env : Env) (mix : ℕ → ℕ → ℕ → ℕ) where
   -- ---- the bit of a node
 
   -- neither the old owner of a node nor the new one is a port
-  reowned_chains : (G : Ghost) (n : ℕ) (owner : Owner) → is_used (G.node n) ≡ false
+  pub reowned_chains : (G : Ghost) (n : ℕ) (owner : Owner) → is_used (G.node n) ≡ false
       → is_used owner ≡ false → SameChains env mix G (with_owner G n owner)
   reowned_chains G n owner was now = record {
     tables = same_tables env mix G G.bucket (put G.node n owner) G.bound G.raised;
     nodes = λ j. refl;
     plain = λ j. refl;
-    firsts_before =
-        λ m j. put-all (λ i o. o ≡ First j → G.node i ≡ First j) G.node n owner (λ f. let e = sym now
-        ∙ ap is_used f in absurd (cc)) (λ i ne f. f) m;
-    firsts_after = λ m j f. put-other G.node n owner m (λ e. let q = sym was
-        ∙ ap is_used (ap G.node (sym e) ∙ f) in cc) ∙ f;
-    behind_before =
-        λ m port. put-all (λ i o. o ≡ Behind port → G.node i ≡ Behind port) G.node n owner
-        (λ f. let e = sym now ∙ ap is_used f in absurd (cc)) (λ i ne f. f) m;
-    behind_after = λ m port f. put-other G.node n owner m (λ e. let q = sym was
-        ∙ ap is_used (ap G.node (sym e) ∙ f) in cc) ∙ f;
+    out = λ j. refl;
+    armed = λ j c is. (is, refl);
+    kept = λ i c k entry holds is out. refl;
+    used = λ m used. put-other G.node n owner m
+        (λ e. let q = sym was ∙ ap is_used (ap G.node (sym e)) ∙ used in cc);
+    used_before = λ m. put-all (λ i o. IsUsed o → o ≡ G.node i) G.node n owner
+        (λ used. let q = sym now ∙ used in absurd (cc)) (λ i ne used. refl) m;
     bound = λ port. refl;
   }
 
@@ -184,8 +183,8 @@ module _ (env : Env) (mix : ℕ → ℕ → ℕ → ℕ) where
   reowned i b value owner M M' G whole at is_built write was now here others =
       let n = 64 * i + b in
       Whole-frame env mix M M' G (with_owner G n owner) (NodeMap i) value whole write
-      (record { current = λ e. cc; slots = λ s u h e. cc }) (reowned_chains G n owner was now)
-      (used_stay env mix M M' G (NodeMap i) value whole write (λ m w e. cc))
+      (record { current = λ e. cc; work = λ e. cc; slots = λ s u e. cc; pages = λ i e. cc }) (reowned_chains G n owner was now)
+      (used_stay env mix M M' G (NodeMap i) value whole write (λ m w e. cc)) (λ j blank. refl)
       (locks_stay env mix M M' G (NodeMap i) value whole write (λ j e. cc))
       (reowned_bits i b value owner M M' G whole at is_built write here others)
       (write.others PortCount tt (λ e. cc) ∙ whole.counted
@@ -200,7 +199,7 @@ module _ (env : Env) (mix : ℕ → ℕ → ℕ → ℕ) where
       let words = used_stay env mix M M' G (NodeMap i) value whole write (λ m w e. cc) in
       record {
         whole = Whole-frame env mix M M' G G (NodeMap i) value whole write
-            (record { current = λ e. cc; slots = λ s u h e. cc }) (same_chains env mix G G.raised) words
+            (record { current = λ e. cc; work = λ e. cc; slots = λ s u e. cc; pages = λ i e. cc }) (same_chains env mix G G.raised) words (λ j blank. refl)
             (locks_stay env mix M M' G (NodeMap i) value whole write (λ j e. cc))
             (record {
               built = whole.arena.built;
@@ -213,6 +212,7 @@ module _ (env : Env) (mix : ℕ → ℕ → ℕ → ℕ) where
             λ c ne. Rely-same env mix c M M' G G whole
             (same_tables env mix G G.bucket G.node G.bound G.raised) refl refl refl refl words
             (chains_stay env mix c M M' G (NodeMap i) value whole write (λ m used e. cc))
+            (λ s w l is. write.others (Slot s w) (l, is) (λ e. cc))
             (λ m w has. write.others (Node m w) has.among (λ e. cc));
       }
 
@@ -228,7 +228,8 @@ module _ (env : Env) (mix : ℕ → ℕ → ℕ → ℕ) where
       let free : G.node n ≡ Free = (whole.arena.bits n at.below).0 (rw word (rw bit found)) in
       let was : is_used (G.node n) ≡ false = ap is_used free in
       let stay = used_stay env mix M M' G (NodeMap i) (bit_and (M (NodeMap i)) (bit_not w64 (bit_of b)))
-      whole write (λ m w e. cc) in (
+      whole write (λ m w e. cc) in
+      let same = reowned_chains G n (Held d) was refl in (
         record {
           whole = reowned i b (bit_and (M (NodeMap i)) (bit_not w64 (bit_of b))) (Held d) M M' G whole at
               tt write was refl (
@@ -237,8 +238,8 @@ module _ (env : Env) (mix : ℕ → ℕ → ℕ → ℕ) where
               )
               (λ k l ne. bit_at-cleared_other (M (NodeMap i)) b k at.within l ne);
           others = λ c ne. record {
-            tables = tables_stay env mix M G (with_owner G n (Held d)) whole
-                (same_tables env mix G G.bucket (put G.node n (Held d)) G.bound G.raised);
+            tables = tables_stay env mix M G (with_owner G n (Held d)) whole same.tables
+                (chains_passes env mix M G (with_owner G n (Held d)) whole same);
             locks = λ j h. refl;
             lists = λ j m h i. refl;
             chains = chains_stay env mix c M M' G (NodeMap i)
@@ -251,6 +252,12 @@ module _ (env : Env) (mix : ℕ → ℕ → ℕ → ℕ) where
             raised = refl;
             taken = put-all (λ k o. is_taken_by c o ≡ is_taken_by c (G.node k)) G.node n (Held d)
                 (sym (ap (is_taken_by c) free)) (λ k kn. refl);
+            unbound = λ port τ j is. is.unbound;
+            holdings = holdings_stay env mix c M M' G (with_owner G n (Held d)) same.tables
+                (λ s w l is. write.others (Slot s w) (l, is) (λ e. cc));
+            work = work_stays env mix c M M' G (with_owner G n (Held d)) same.tables
+                (entries_stay env mix M M' G (with_owner G n (Held d)) whole stay same.used (λ j is. is));
+            no_work = λ works. works;
             no_node =
                 λ m. put-all (λ k o. o ≡ Held c → G.node k ≡ Held c) G.node n (Held d)
                 (λ e. absurd (ne (cc))) (λ k kn h. h) m;
@@ -271,6 +278,7 @@ module _ (env : Env) (mix : ℕ → ℕ → ℕ → ℕ) where
       let was : is_used (G.node n) ≡ false = ap is_used has.mine in
       let stay =
       used_stay env mix M M' G (NodeMap i) (bit_or (M (NodeMap i)) (bit_of b)) whole write (λ m w e. cc) in
+      let same = reowned_chains G n Free was refl in
       let made = reowned i b (bit_or (M (NodeMap i)) (bit_of b)) Free M M' G whole
       (record { within = omega arith; below = omega (arith, has.among) }) tt write
       (ap (λ m. is_used (G.node m)) parts ∙ was) refl
@@ -279,8 +287,8 @@ module _ (env : Env) (mix : ℕ → ℕ → ℕ → ℕ) where
       record {
         whole = rw parts at made;
         others = λ c ne. record {
-          tables = tables_stay env mix M G (with_owner G n Free) whole
-              (same_tables env mix G G.bucket (put G.node n Free) G.bound G.raised);
+          tables = tables_stay env mix M G (with_owner G n Free) whole same.tables
+              (chains_passes env mix M G (with_owner G n Free) whole same);
           locks = λ j h. refl;
           lists = λ j m h i. refl;
           chains = chains_stay env mix c M M' G (NodeMap i) (bit_or (M (NodeMap i)) (bit_of b)) whole
@@ -293,6 +301,12 @@ module _ (env : Env) (mix : ℕ → ℕ → ℕ → ℕ) where
           raised = refl;
           taken = put-all (λ k o. is_taken_by c o ≡ is_taken_by c (G.node k)) G.node n Free
               (sym (ap (is_taken_by c) has.mine)) (λ k kn. refl);
+          unbound = λ port τ j is. is.unbound;
+          holdings = holdings_stay env mix c M M' G (with_owner G n Free) same.tables
+              (λ s w l is. write.others (Slot s w) (l, is) (λ e. cc));
+          work = work_stays env mix c M M' G (with_owner G n Free) same.tables
+              (entries_stay env mix M M' G (with_owner G n Free) whole stay same.used (λ j is. is));
+          no_work = λ works. works;
           no_node =
               λ m. put-all (λ k o. o ≡ Held c → G.node k ≡ Held c) G.node n Free (λ e. absurd (cc))
               (λ k kn h. h) m;

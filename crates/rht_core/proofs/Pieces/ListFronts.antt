@@ -8,7 +8,8 @@ use Rattle.rht_words.specs.Members.{In}
 use Rattle.rht_words.proofs.Members.{in-middle, not_in_from}
 use Rattle.rht_words.proofs.Memory.{Memory, IsWrite}
 use Rattle.rht_core.proofs.Theory.Ghosts.{put, put-same, put-all, Held, First, Behind, Bucket, Ghost, is_taken_by, held_not_used, with_owner}
-use Rattle.rht_core.proofs.Theory.Wholes.{list_of, key_of, place_at, word_index, place_at-index, outs, Whole}
+use Rattle.rht_core.proofs.Theory.Wholes.{list_of, key_of, place_at, word_index, place_at-index, home, MovesNone, outs, Whole}
+use Rattle.rht_core.proofs.Theory.Passed.{Passed, stays_in}
 use Rattle.rht_core.proofs.Theory.Knowledge.{HasOnly, HoldsLock, IsInList, Replaces, StandsAt, bound_used}
 use Rattle.rht_core.proofs.Theory.Frames.{Made}
 use Rattle.rht_core.proofs.Theory.Readiness.{Change, changed}
@@ -40,14 +41,24 @@ module _ (env : Env) (mix : ℕ → ℕ → ℕ → ℕ) (c port place word firs
   back : place_at env mix j ≡ place
   back = place_at-index env mix place is.found.standing.lock.bucket
 
-  found_in : IsFoundIn env mix c port j first stands.front stands.rear before M M' G is.behind
-  found_in = record {
-    holder = is.found.standing.lock.holder;
-    split = stands.split;
-    last = stands.last;
-    key_is = is.found.key_is;
-    bound_to = is.bound_to;
-  }
+  -- the caller has no entry on its way, and has come to the bucket by this table
+  module _ (none : MovesNone env mix G c) (τ : ℕ) (passed : Passed env mix G port τ)
+      (at : home env mix G port τ ≡ Some j) where
+    found_in : IsFoundIn env mix c port j first stands.front stands.rear before M M' G is.behind
+    found_in =
+        let lock = is.found.standing.lock in
+        let there : In first (G.bucket j).nodes =
+        subst (In first) (sym stands.split) (in-middle first stands.front stands.rear) in
+        record {
+          holder = lock.holder;
+          split = stands.split;
+          last = stands.last;
+          key_is = is.found.key_is;
+          bound_to = is.bound_to;
+          moves_none = none;
+          not_out = stays_in env mix M G whole c port τ j first is.behind passed at lock.holder none is.bound_to
+              (whole.owned.member j first there);
+        }
 
   -- the caller's node is none of those to which the port is bound
   listed_differs : (m : ℕ) → In m (first ∷ is.behind) → m ≢ n
@@ -70,6 +81,7 @@ module _ (env : Env) (mix : ℕ → ℕ → ℕ → ℕ) (c port place word firs
           list = (list_is, to.list);
           distinct = (not_in_from n (first ∷ is.behind) (λ i. listed_differs n i refl), to.distinct);
           used = refl;
+          stays = λ i e. cc;
           built = tt;
           no_first = refl;
           no_others = λ d ne. refl;
@@ -79,18 +91,21 @@ module _ (env : Env) (mix : ℕ → ℕ → ℕ → ℕ) (c port place word firs
           single = λ one. absurd (let both : Single ≡ Listed = sym one ∙ listed in cc);
         }
 
-    pub front_made : IsWrite env.geometry M M' (relink_address j before)
+    pub front_made : MovesNone env mix G c → (τ : ℕ) → Passed env mix G port τ
+        → home env mix G port τ ≡ Some j
+        → IsWrite env.geometry M M' (relink_address j before)
         (relink_value (place_at env mix j) (link_of n) before)
         → Made env mix c M G M' fronted
-    front_made write =
-        replace env mix c port j first stands.front stands.rear before M M' G whole is.behind found_in n
+    front_made none τ passed at write =
+        replace env mix c port j first stands.front stands.rear before M M' G whole is.behind
+        (found_in none τ passed at) n
         (first ∷ is.behind) (Behind port) can write
 
   -- ---- what the caller has behind it
 
   -- its node is a port's from then on, and without a node before the bucket is unlocked
-  pub front_only : HasOnly env mix c G (Some n) (Some place) None false
-      → HasOnly env mix c fronted None (lock_left place before) None false
+  pub front_only : HasOnly env mix c G (Some n) (Some place) None false None [] false
+      → HasOnly env mix c fronted None (lock_left place before) None false None [] false
   front_only only = record {
     nodes = put-all (λ m o. o ≡ Held c → ◌≡◌ {A = Option ℕ} None (Some m)) (put G.node first (Behind port))
         n (First j) (λ e. absurd (cc))
@@ -104,6 +119,9 @@ module _ (env : Env) (mix : ℕ → ℕ → ℕ → ℕ) (c port place word firs
           | inr second ↦ absurd (cc)
         ]);
     raising = put-same G.raised c (G.raised c) ∙ only.raising;
+    slots = only.slots;
+    pages_in = only.pages_in;
+    works = only.works;
   }
     where
       IsLeft : Option ℕ → ℕ → Type 0
@@ -130,6 +148,8 @@ module _ (env : Env) (mix : ℕ → ℕ → ℕ → ℕ) (c port place word firs
         bucket = lock.bucket;
         holder = ap (λ b. b.holder) there ∙ ap (λ b. (after b).holder) e ∙ lock.holder;
         plain = ap (λ b. b.plain) there ∙ ap (λ b. (after b).plain) e ∙ lock.plain;
+        unarmed = ap (λ b. b.armed) there ∙ ap (λ b. (after b).armed) e ∙ lock.unarmed;
+        still = ap (λ b. b.out) there ∙ ap (λ b. (after b).out) e ∙ lock.still;
       }
 
   -- no node was taken out of a list

@@ -9,7 +9,7 @@ use Rattle.rht_words.proofs.LinksRead.{links_tell_apart}
 use Rattle.rht_words.proofs.Memory.{Memory}
 use Rattle.rht_words.proofs.Members.{in-middle, In-AllByRecursion, count_below-most, length-count_below}
 use Rattle.rht_core.proofs.Theory.Ghosts.{Ghost}
-use Rattle.rht_core.proofs.Theory.Wholes.{list_of, word_index, Whole}
+use Rattle.rht_core.proofs.Theory.Wholes.{list_of, word_index, seated_at, Whole}
 use Rattle.rht_core.proofs.Theory.Knowledge.{IsAmong, IsFound, list_link, first_of_list}
 
 -- the next one of these nodes
@@ -55,7 +55,7 @@ module _ (env : Env) (mix : ℕ → ℕ → ℕ → ℕ) (M : Memory) (G : Ghost
       → node < env.geometry.nodes
   list_among port first behind b node (inl e) =
       let to = whole.owned.bound_to port first behind b in
-      subst (λ n. n < env.geometry.nodes) (sym e) (whole.owned.first_at first to.bucket to.first).among
+      subst (λ n. n < env.geometry.nodes) (sym e) (seated_at env mix M G whole first to.bucket to.first).among
   list_among port first behind b node (inr i) =
       (whole.owned.behind_in node port ((whole.owned.bound_to port first behind b).each node i)).among
 

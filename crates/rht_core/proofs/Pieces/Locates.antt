@@ -15,10 +15,10 @@ use Rattle.rht_nest.specs.Locate.{LocateModel, locate_plan, locate_after, IsLoca
 use Rattle.rht_nest.specs.declared.locate.LocateAt.{LocateAt}
 use Rattle.rht_nest.specs.declared.locate.LocateAt.TheVariants as locates
 use Rattle.rht_nest.specs.declared.locate.Located.{Located}
-use Rattle.rht_core.proofs.Theory.Ghosts.{Ghost, has_table, index_at}
+use Rattle.rht_core.proofs.Theory.Ghosts.{Ghost, has_table, index_at, none-some}
 use Rattle.rht_core.proofs.Theory.Wholes.{TableRight, Whole, hash_in, place_at, word_index, future_in, index-place_at}
-use Rattle.rht_core.proofs.Theory.Passed.{NoKey, passed_first, hash-below, home-index, unbound_at_last, go_on}
-use Rattle.rht_core.proofs.Theory.Knowledge.{KnownNode, KnownTable, Passes, Shaped, AtHome, KnownBucket, IsPassing, Knowing}
+use Rattle.rht_core.proofs.Theory.Passed.{passed_first, hash-below, home-index, unbound_at_last, go_on}
+use Rattle.rht_core.proofs.Theory.Knowledge.{KnownNode, KnownTable, Passes, Shaped, AtHome, KnownBucket, knows_plain, IsPassing, IsMissed, Knowing}
 use Rattle.rht_core.proofs.Theory.Steps.{Holding, mem, Moved, loads}
 
 -- what is known on the way to the bucket of a port
@@ -29,7 +29,7 @@ known_locate port slot (locates.Seed shape) = Shaped port slot shape
 module _ (env : Env) (mix : ℕ → ℕ → ℕ → ℕ) (c : ℕ) (h : Holding) (node : Option KnownNode)
     (bucket : KnownBucket) where
   abbrev pub knowing : KnownTable → Memory → Ghost → Type 0
-  knowing table M G = Knowing env mix c h (record { node = node; table = table; bucket = bucket }) M G
+  knowing table M G = Knowing env mix c h (knows_plain node table bucket) M G
 
   -- once the bucket was looked for it is known; none is missing
   pub record IsLocated (port slot : ℕ) (located : Located) (M : Memory) (G : Ghost) : Type 0 where
@@ -96,6 +96,8 @@ module _ (env : Env) (mix : ℕ → ℕ → ℕ → ℕ) (c : ℕ) (h : Holding)
                   ∙ (table-right slot has).shape_is);
             };
             bucket = knows.means.bucket;
+            making = tt;
+            work = tt;
           };
         })
     locate_step_at port slot (locates.Seed shape) knows =
@@ -129,6 +131,8 @@ module _ (env : Env) (mix : ℕ → ℕ → ℕ → ℕ) (c : ℕ) (h : Holding)
                     ∙ ap Some (sym (index-place_at env mix index));
               };
               bucket = knows.means.bucket;
+              making = tt;
+              work = tt;
             };
           };
         })
@@ -151,21 +155,20 @@ module _ (env : Env) (mix : ℕ → ℕ → ℕ → ℕ) (c : ℕ) (h : Holding)
     FutureIs port None = G.bound port ≡ []
     FutureIs port (Some next) = IsPassing env mix G port next
 
-    pub future_is : (port slot place : ℕ) (shape : Option ℕ)
-        → Knowing env mix c h (record {
-          node = node;
-          table = AtHome port slot shape place;
-          bucket =
-              bucket;
-        }) M G
-        → NoKey M port (G.bucket (word_index env mix place)).nodes
+    slot-named : (next : ℕ) → next < 8 → slot_of (future_of next) ≡ Some next
+    slot-named next l = grind (arith, nat_tests)
+
+    pub future_is : (port slot place word : ℕ) (shape : Option ℕ)
+        → Knowing env mix c h (knows_plain node (AtHome port slot shape place) bucket) M G
+        → IsMissed env mix c M G place word port
         → FutureIs port (slot_of (M (Slot slot FutureWord)))
-    future_is port slot place shape knows none =
+    future_is port slot place word shape knows missed =
         let at = knows.means.table in
         let τ = index_at G slot in
-        let word : M (Slot slot FutureWord) ≡ future_in env mix G τ =
+        let future : M (Slot slot FutureWord) ≡ future_in env mix G τ =
         slot-word slot FutureWord at.passing.table ∙ (table-right slot at.passing.table).future_is in
-        rw word (elim (cases_lt (τ + 1) G.attached) [
+        let lock = missed.lock in
+        rw future (elim (cases_lt (τ + 1) G.attached) [
           | inl more ↦
               let right = whole.tables.each (τ + 1) more in
               let next = (G.table (τ + 1)).slot in
@@ -175,15 +178,31 @@ module _ (env : Env) (mix : ℕ → ℕ → ℕ → ℕ) (c : ℕ) (h : Holding)
               rw is (rw named (record {
                 table = right.has_slot;
                 passed = rw right.index (go_on env mix M G whole port τ (word_index env mix place)
-                    at.passing.passed at.here none more);
+                    at.passing.passed at.here missed.none lock.still lock.unarmed more);
               }))
           | inr last ↦
               let is : future_in env mix G τ ≡ 0 = ap (λ t. cond t (future_of (G.table (τ + 1)).slot) 0)
               (le-ltb (τ + 1) G.attached last) in
               let attached = at.passing.passed.attached in
               rw is (unbound_at_last env mix M G whole port τ (word_index env mix place)
-              at.passing.passed at.here none (omega (arith, attached, last)))
+              at.passing.passed at.here missed.none lock.still (omega (arith, attached, last)))
         ])
-      where
-        slot-named : (next : ℕ) → next < 8 → slot_of (future_of next) ≡ Some next
-        slot-named next l = grind (arith, nat_tests)
+
+    -- where it is read as none, the table is the last one
+    pub is_last : (port slot place : ℕ) (shape : Option ℕ)
+        → Knowing env mix c h (knows_plain node (AtHome port slot shape place) bucket) M G
+        → slot_of (M (Slot slot FutureWord)) ≡ None → index_at G slot + 1 ≡ G.attached
+    is_last port slot place shape knows none =
+        let at = knows.means.table in
+        let τ = index_at G slot in
+        let future : M (Slot slot FutureWord) ≡ future_in env mix G τ =
+        slot-word slot FutureWord at.passing.table ∙ (table-right slot at.passing.table).future_is in
+        elim (cases_lt (τ + 1) G.attached) [
+          | inl more ↦
+              let next = (G.table (τ + 1)).slot in
+              let is : future_in env mix G τ ≡ future_of next = ap (λ t. cond t (future_of next) 0)
+              (lt-ltb (τ + 1) G.attached more) in
+              absurd (none-some none (ap slot_of (future ∙ is)
+              ∙ slot-named next (whole.tables.each (τ + 1) more).slot_in))
+          | inr last ↦ let attached = at.passing.passed.attached in omega (arith, attached, last)
+        ]

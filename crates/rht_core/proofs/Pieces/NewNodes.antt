@@ -1,5 +1,5 @@
 -- The operations that take a node and give it back, and those that write a word of a node which the caller has.
-use Rattle.std.proofs.Common.{◌≡◌, ◌≢◌, ℕ, ◌+◌, ◌*◌, ◌/◌, ◌%◌, ◌<◌, ◌==◌, List, length, Option, Some, None, cond, refl, sym, ◌∙◌, ap, subst, inl, inr, bit_and, bit_or, nat_lt, arith}
+use Rattle.std.proofs.Common.{◌≡◌, ◌≢◌, ℕ, ◌+◌, ◌*◌, ◌/◌, ◌%◌, ◌<◌, ◌==◌, List, length, Option, Some, None, cond, refl, sym, ◌∙◌, ap, subst, inl, inr, bit_and, bit_or, nat_lt, arith, false}
 use Rattle.std.specs.Prelude.{IfSome}
 use Rattle.std.proofs.lemmas.Bool.{cases_eq, eqb-true, eqb-false}
 use Rattle.std.proofs.lemmas.Nat.Bits.{bit_at-lt}
@@ -21,12 +21,12 @@ use Rattle.rht_arena.specs.NewNode.{NewNodeModel, new_node_plan, new_node_after,
 use Rattle.rht_arena.specs.declared.new_node.NewNodeAt.{NewNodeAt}
 use Rattle.rht_arena.specs.declared.new_node.NewNodeAt.TheVariants as news
 use Rattle.rht_arena.proofs.TakenWereFree.{claims}
-use Rattle.rht_core.proofs.Theory.Ghosts.{put, put-same, put-all, Owner, Free, Held, Ghost, IsUsed, is_taken_by, held_not_used, with_owner}
+use Rattle.rht_core.proofs.Theory.Ghosts.{put-same, put-all, Owner, Free, Held, Ghost, IsUsed, is_used, is_taken_by, held_not_used, with_owner}
 use Rattle.rht_core.proofs.Theory.Wholes.{Whole}
-use Rattle.rht_core.proofs.Theory.Knowledge.{members_used, IsPlain, BucketMeans-own, KnownNode, KnownTable, KnownBucket, NodeMeans, TableMeans, Knowing, TableMeans-stay, BucketMeans-stay}
-use Rattle.rht_core.proofs.Theory.Frames.{chains_stay, same_tables, tables_stay}
+use Rattle.rht_core.proofs.Theory.Knowledge.{members_used, IsPlain, BucketMeans-own, KnownNode, KnownTable, KnownBucket, knows_plain, TablesStay, NodeMeans, TableMeans, Knowing, TableMeans-stay, BucketMeans-stay}
+use Rattle.rht_core.proofs.Theory.Frames.{chains_stay, same_chains, chains_passes, tables_stay}
 use Rattle.rht_core.proofs.Theory.Steps.{Quiet, TakesNode, GivesNode, by_test, Holding, mem, Moved, moved, loads}
-use Rattle.rht_core.proofs.Moves.TakenNodes.{fill, take_node, give_node, retouch}
+use Rattle.rht_core.proofs.Moves.TakenNodes.{reowned_chains, fill, take_node, give_node, retouch}
 
 -- a node of which no word is known
 abbrev pub bare : ℕ → KnownNode
@@ -100,20 +100,31 @@ module _ (env : Env) (mix : ℕ → ℕ → ℕ → ℕ) (c : ℕ) (h : Holding)
 
   abbrev pub knowing : Option ℕ → Option KnownNode → Memory → Ghost → Type 0
   knowing node known M G = Knowing env mix c (holding node)
-      (record { node = known; table = table; bucket = bucket }) M G
+      (knows_plain known table bucket) M G
 
   module _ (words : List ℕ) (G : Ghost) (all : length words ≡ words_in env.geometry)
       (whole : Whole env mix (mem env mix words) G) where
     abbrev M : Memory
     M = mem env mix words
 
-    -- what is known of tables and buckets stays where a node has another owner
-    tables-reowned : (node : ℕ → Owner) → TableMeans env mix G table
-        → TableMeans env mix (record G { node = node }) table
-    tables-reowned node means =
-        TableMeans-stay env mix c M M G (record G { node = node })
-        (tables_stay env mix M G (record G { node = node }) whole
-        (same_tables env mix G G.bucket node G.bound G.raised)) table means
+    -- what was passed is so still where a node that is no port's has another owner
+    stays-reowned : (n : ℕ) (owner : Owner) → is_used (G.node n) ≡ false → is_used owner ≡ false
+        → TablesStay env mix G (with_owner G n owner)
+    stays-reowned n owner was now =
+        let same = reowned_chains env mix G n owner was now in
+        tables_stay env mix M G (with_owner G n owner) whole same.tables
+        (chains_passes env mix M G (with_owner G n owner) whole same)
+
+    tables-reowned : (n : ℕ) (owner : Owner) → is_used (G.node n) ≡ false → is_used owner ≡ false
+        → TableMeans env mix G table → TableMeans env mix (with_owner G n owner) table
+    tables-reowned n owner was now means =
+        TableMeans-stay env mix c M M G (with_owner G n owner) (stays-reowned n owner was now) table means
+
+    -- and where none has
+    stays-same : TablesStay env mix G G
+    stays-same =
+        let same = same_chains env mix G G.raised in
+        tables_stay env mix M G G whole same.tables (chains_passes env mix M G G whole same)
 
     -- ---- a word of a node
 
@@ -197,7 +208,9 @@ module _ (env : Env) (mix : ℕ → ℕ → ℕ → ℕ) (c : ℕ) (h : Holding)
                 (λ n used e. not_mine n used (cc)))
                 (λ n l used. write.others (Node n KeyWord) l (λ e. not_mine n used (cc)))
                 (λ n l used. write.others (Node n OwnerWord) l (λ e. not_mine n used (cc))) (λ n. refl)
-                bucket plain knows.means.bucket;
+                stays-same (λ port τ j is. is.unbound) bucket plain knows.means.bucket;
+            making = tt;
+            work = tt;
           };
         })
 
@@ -229,6 +242,9 @@ module _ (env : Env) (mix : ℕ → ℕ → ℕ → ℕ) (c : ℕ) (h : Holding)
                 (λ m ne held. let q = knows.only.nodes m held in absurd (cc));
             locks = knows.only.locks;
             raising = knows.only.raising;
+            slots = knows.only.slots;
+            pages_in = knows.only.pages_in;
+            works = knows.only.works;
           };
           means = record {
             node = record {
@@ -238,7 +254,7 @@ module _ (env : Env) (mix : ℕ → ℕ → ℕ → ℕ) (c : ℕ) (h : Holding)
               owner = tt;
               list = tt;
             };
-            table = tables-reowned (put G.node n (Held c)) knows.means.table;
+            table = tables-reowned n (Held c) (ap is_used taken.1) refl knows.means.table;
             bucket = BucketMeans-own env mix c M M' G (with_owner G n (Held c))
                 (members_used env mix M G whole) (λ j holds. refl) (λ j m h i. refl)
                 (chains_stay env mix c M M' G (NodeMap index) (bit_and word (bit_not w64 (bit_of bit)))
@@ -246,8 +262,11 @@ module _ (env : Env) (mix : ℕ → ℕ → ℕ → ℕ) (c : ℕ) (h : Holding)
                 (λ m l used. write.others (Node m KeyWord) l (λ e. cc))
                 (λ m l used. write.others (Node m OwnerWord) l (λ e. cc))
                 (put-all (λ m o. is_taken_by c o ≡ is_taken_by c (G.node m)) G.node n (Held c)
-                (sym (ap (is_taken_by c) taken.1)) (λ m ne. refl)) bucket
+                (sym (ap (is_taken_by c) taken.1)) (λ m ne. refl))
+                (stays-reowned n (Held c) (ap is_used taken.1) refl) (λ port τ j is. is.unbound) bucket
                 (λ x has. let none = knows.only.nodes x has.mine in absurd (cc)) knows.means.bucket;
+            making = tt;
+            work = tt;
           };
         })
 
@@ -283,8 +302,11 @@ module _ (env : Env) (mix : ℕ → ℕ → ℕ → ℕ) (c : ℕ) (h : Holding)
                 (chains_stay env mix c M M' G (NodeMap index) (bit_and word (bit_not w64 (bit_of bit)))
                 whole write (λ m used e. cc))
                 (λ m l used. write.others (Node m KeyWord) l (λ e. cc))
-                (λ m l used. write.others (Node m OwnerWord) l (λ e. cc)) (λ m. refl) bucket
+                (λ m l used. write.others (Node m OwnerWord) l (λ e. cc)) (λ m. refl)
+                stays-same (λ port τ j is. is.unbound) bucket
                 (λ x has. let none = knows.only.nodes x has.mine in absurd (cc)) knows.means.bucket;
+            making = tt;
+            work = tt;
           };
         })
 
@@ -346,10 +368,13 @@ module _ (env : Env) (mix : ℕ → ℕ → ℕ → ℕ) (c : ℕ) (h : Holding)
                 (λ m ne held. let q = knows.only.nodes m held in absurd (ne (cc)));
             locks = knows.only.locks;
             raising = knows.only.raising;
+            slots = knows.only.slots;
+            pages_in = knows.only.pages_in;
+            works = knows.only.works;
           };
           means = record {
             node = tt;
-            table = tables-reowned (put G.node n Free) knows.means.table;
+            table = tables-reowned n Free (ap is_used has.mine) refl knows.means.table;
             bucket = BucketMeans-stay env mix c M M' G (with_owner G n Free)
                 (members_used env mix M G whole) (λ j holds. refl) (λ j m h i. refl)
                 (chains_stay env mix c M M' G (NodeMap (n / 64))
@@ -357,8 +382,11 @@ module _ (env : Env) (mix : ℕ → ℕ → ℕ → ℕ) (c : ℕ) (h : Holding)
                 (λ m l used. write.others (Node m KeyWord) l (λ e. cc))
                 (λ m l used. write.others (Node m OwnerWord) l (λ e. cc))
                 (put-all (λ m o. is_taken_by c o ≡ is_taken_by c (G.node m)) G.node n Free
-                (sym (ap (is_taken_by c) knows.means.node.has.mine)) (λ m ne. refl)) bucket plain
+                (sym (ap (is_taken_by c) knows.means.node.has.mine)) (λ m ne. refl))
+                (stays-reowned n Free (ap is_used has.mine) refl) (λ port τ j is. is.unbound) bucket plain
                 knows.means.bucket;
+            making = tt;
+            work = tt;
           };
         })
 

@@ -1,5 +1,5 @@
 -- The count of ports is raised for a node that the caller has not linked yet.
-use Rattle.std.proofs.Common.{◌≡◌, ℕ, ◌+◌, ◌%◌, ◌^◌, ◌<◌, List, length, Bool, true, false, refl}
+use Rattle.std.proofs.Common.{◌≡◌, ℕ, ◌+◌, ◌%◌, ◌^◌, ◌<◌, List, length, Option, Bool, true, false, refl}
 use Rattle.rht_words.specs.declared.env.Env.{Env}
 use Rattle.rht_words.specs.declared.op.Op.TheVariants.{Add}
 use Rattle.rht_words.specs.Operations.{applied}
@@ -7,17 +7,18 @@ use Rattle.rht_words.specs.Places.{PortCount, Node, ChainLink, KeyWord, OwnerWor
 use Rattle.rht_words.proofs.Memory.{Memory, IsWrite, is_write}
 use Rattle.rht_core.proofs.Theory.Ghosts.{put-same, Ghost, with_raised}
 use Rattle.rht_core.proofs.Theory.Wholes.{Whole}
-use Rattle.rht_core.proofs.Theory.Knowledge.{members_used, Known, Knowing, NodeMeans-stay, TableMeans-stay, BucketMeans-own}
-use Rattle.rht_core.proofs.Theory.Frames.{chains_stay, same_tables, tables_stay}
+use Rattle.rht_core.proofs.Theory.Knowledge.{members_used, KnownNode, KnownTable, KnownBucket, knows_plain, Knowing, NodeMeans-stay, TableMeans-stay, BucketMeans-own}
+use Rattle.rht_core.proofs.Theory.Frames.{chains_stay, same_chains, chains_passes, tables_stay}
 use Rattle.rht_core.proofs.Theory.Steps.{Raises, Holding, mem, Moved, moved}
 use Rattle.rht_core.proofs.Moves.Quiet.{count_up}
 
-module _ (env : Env) (mix : ℕ → ℕ → ℕ → ℕ) (c : ℕ) (h : Holding) (known : Known) where
+module _ (env : Env) (mix : ℕ → ℕ → ℕ → ℕ) (c : ℕ) (h : Holding)
+    (node : Option KnownNode) (table : KnownTable) (bucket : KnownBucket) where
   abbrev pub holding : Bool → Holding
   holding raised = record h { raised = raised }
 
   abbrev pub knowing : Bool → Memory → Ghost → Type 0
-  knowing raised M G = Knowing env mix c (holding raised) known M G
+  knowing raised M G = Knowing env mix c (holding raised) (knows_plain node table bucket) M G
 
   pub raise_step : (words : List ℕ) (G : Ghost) → length words ≡ words_in env.geometry
       → Whole env mix (mem env mix words) G
@@ -31,6 +32,8 @@ module _ (env : Env) (mix : ℕ → ℕ → ℕ → ℕ) (c : ℕ) (h : Holding)
       let G' = with_raised G c true in
       let write : IsWrite env.geometry M M' PortCount ((M PortCount + 1) % 2 ^ 64) =
       is_write env.geometry words PortCount op all tt refl in
+      let same = same_chains env mix G G'.raised in
+      let stay = tables_stay env mix M G G' whole same.tables (chains_passes env mix M G G' whole same) in
       moved env mix c words G op (holding false) (holding true) (knowing true) Raises whole tt tt
       (count_up env mix c M M' G whole low knows.only.raising write)
       (record { adds = refl; low = refl; holds = refl })
@@ -38,25 +41,29 @@ module _ (env : Env) (mix : ℕ → ℕ → ℕ → ℕ) (c : ℕ) (h : Holding)
         only = record {
           nodes = knows.only.nodes;
           locks = knows.only.locks;
-          raising = put-same G.raised c
-              true;
+          raising = put-same G.raised c true;
+          slots = knows.only.slots;
+          pages_in = knows.only.pages_in;
+          works = knows.only.works;
         };
         means = record {
           node = NodeMeans-stay env mix c M M' G G' (λ n has. has.mine)
-              (λ n has w. write.others (Node n w) has.among (λ e. cc)) known.node knows.means.node;
+              (λ n has w. write.others (Node n w) has.among (λ e. cc)) node knows.means.node;
           table = TableMeans-stay env mix c M M' G G'
-              (tables_stay env mix M G G' whole (same_tables env mix G G.bucket G.node G.bound
-              G'.raised)) known.table knows.means.table;
+              stay table knows.means.table;
           bucket = BucketMeans-own env mix c M M' G G' (members_used env mix M G whole) (λ j holds. refl)
               (λ j n h i. refl)
               (chains_stay env mix c M M' G PortCount ((M PortCount + 1) % 2 ^ 64) whole write
               (λ n used e. cc))
               (λ n l used. write.others (Node n KeyWord) l (λ e. cc))
-              (λ n l used. write.others (Node n OwnerWord) l (λ e. cc)) (λ n. refl) known.bucket
+              (λ n l used. write.others (Node n OwnerWord) l (λ e. cc)) (λ n. refl) stay
+              (λ port τ j is. is.unbound) bucket
               (λ n has. (
                 record { mine = has.mine; among = has.among },
                 write.others (Node n ChainLink)
                     has.among (λ e. cc),
               )) knows.means.bucket;
+          making = tt;
+          work = tt;
         };
       })

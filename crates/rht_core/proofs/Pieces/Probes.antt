@@ -30,12 +30,12 @@ use Rattle.rht_chain.specs.Probe.{ProbeModel, probe_plan, probe_after, lock_of_p
 use Rattle.rht_chain.specs.declared.probe.ProbeAt.{ProbeAt}
 use Rattle.rht_chain.specs.declared.probe.ProbeAt.TheVariants as probes
 use Rattle.rht_chain.specs.declared.probe.Probed.{Probed}
-use Rattle.rht_core.proofs.Theory.Ghosts.{put-same, put-all, Ghost}
-use Rattle.rht_core.proofs.Theory.Wholes.{chain_of, key_of, place_at, word_index, place_at-index, index-within, Whole}
-use Rattle.rht_core.proofs.Theory.Passed.{NoKey}
-use Rattle.rht_core.proofs.Theory.Knowledge.{KnownNode, AtHome, KnownBucket, Unlocked, Locks, Stands, Differs, Missed, Found, StandsAt, HoldsLock, BucketMeans, Knowing}
+use Rattle.rht_core.proofs.Theory.Ghosts.{put-same, put-all, Ghost, held_by, index_at}
+use Rattle.rht_core.proofs.Theory.Wholes.{chain_of, key_of, place_at, word_index, place_at-index, index-within, stop, Whole}
+use Rattle.rht_core.proofs.Theory.Passed.{NoKey, home-bucket}
+use Rattle.rht_core.proofs.Theory.Knowledge.{KnownNode, AtHome, KnownBucket, Unlocked, Locks, Stands, Differs, Missed, Found, knows_plain, StandsAt, HoldsLock, BucketMeans, Knowing}
 use Rattle.rht_core.proofs.Theory.Steps.{TakesLock, by_test, Holding, mem, Moved, moved, moved-map, loads}
-use Rattle.rht_core.proofs.Moves.Quiet.{take_lock}
+use Rattle.rht_core.proofs.Moves.Quiet.{take_lock, unworked_free, free-still}
 use Rattle.rht_core.proofs.Moves.Relinking.{last_of-more}
 use Rattle.rht_core.proofs.Pieces.Locks.{with-holder}
 
@@ -83,11 +83,7 @@ module _ (env : Env) (mix : ℕ → ℕ → ℕ → ℕ) (c : ℕ) (h : Holding)
 
   abbrev pub knowing : Option ℕ → ℕ → KnownBucket → Memory → Ghost → Type 0
   knowing lock place bucket M G =
-      Knowing env mix c (holding lock) (record {
-        node = node;
-        table = AtHome port slot shape place;
-        bucket = bucket;
-      }) M G
+      Knowing env mix c (holding lock) (knows_plain node (AtHome port slot shape place) bucket) M G
 
   -- what is known where more is said of the bucket
   known_more : (lock : Option ℕ) (place : ℕ) (bucket more : KnownBucket) (M : Memory) (G : Ghost)
@@ -100,6 +96,8 @@ module _ (env : Env) (mix : ℕ → ℕ → ℕ → ℕ) (c : ℕ) (h : Holding)
           node = knows.means.node;
           table = knows.means.table;
           bucket = means;
+          making = tt;
+          work = tt;
         };
       }
 
@@ -135,7 +133,11 @@ module _ (env : Env) (mix : ℕ → ℕ → ℕ → ℕ) (c : ℕ) (h : Holding)
         → IsSegment (chain_of M) (head_of place word) (G.bucket j).nodes (marker_of place)
     chain_here lock =
         let at : place_at env mix j ≡ place = place_at-index env mix place lock.bucket in
-        let segment = (whole.buckets j (index-within env mix place lock.bucket)).chained.segment in
+        let b = G.bucket j in
+        let segment : IsSegment (chain_of M) (head_of (place_at env mix j) b.plain) b.nodes (marker_of (place_at env mix j))
+        = subst (λ out. IsSegment (chain_of M) (head_of (place_at env mix j) b.plain) b.nodes
+        (stop env mix (place_at env mix j) out)) lock.still
+        (whole.buckets j (index-within env mix place lock.bucket)).chained.segment in
         subst (λ w. IsSegment (chain_of M) (head_of place w) (G.bucket j).nodes (marker_of place)) lock.plain
         (subst (λ p. IsSegment (chain_of M) (head_of p (G.bucket j).plain) (G.bucket j).nodes
         (marker_of p)) at segment)
@@ -349,9 +351,10 @@ module _ (env : Env) (mix : ℕ → ℕ → ℕ → ℕ) (c : ℕ) (h : Holding)
         let write : IsWrite env.geometry M M' (PageWord j) (found + 1)
         = subst (λ v. IsWrite env.geometry M M' (PageWord j) v) (exchanged here)
         (is_write env.geometry words (PageWord j) op all (index-within env mix place at.bucket) (sym is)) in
-        let taken = take_lock env mix c j found M M' G whole (index-within env mix place at.bucket) here
+        let taken = take_lock env mix c j found M M' G whole (index-within env mix place at.bucket)
+        (home-bucket env mix M G whole port (index_at G slot) j at.passing.passed.attached at.here) here
         even write in
-        let b = record (G.bucket j) { holder = Some c } in
+        let b = held_by (G.bucket j) (Some c) in
         moved env mix c words G op (holding None) (holding (Some place))
         (LockKnows (record { place = place; at = locks.Exchange found }, Done found)) (TakesLock j)
         whole tt tt taken.0
@@ -363,7 +366,8 @@ module _ (env : Env) (mix : ℕ → ℕ → ℕ → ℕ) (c : ℕ) (h : Holding)
           holds = ap (λ p. holding (Some p)) (sym is);
         })
         (with-holder env mix c h node (AtHome port slot shape place) words G all whole None place
-        Unlocked (Some c) op (found + 1) knows write (Some place) (Locks place found)
+        Unlocked (Some c) op (found + 1) knows write (unworked_free env mix G j taken.2) (Some place)
+        (Locks place found)
         (put-all (λ i bucket. bucket.holder ≡ Some c → (Some place ≡ Some (place_at env mix i))
         ⊎ (h.second ≡ Some (place_at env mix i))) G.bucket j b
         (λ holds. inl (ap Some (sym is)))
@@ -373,6 +377,8 @@ module _ (env : Env) (mix : ℕ → ℕ → ℕ → ℕ) (c : ℕ) (h : Holding)
           holder = ap (λ x. x.holder) (put-same G.bucket j b);
           plain = ap
               (λ x. x.plain) (put-same G.bucket j b) ∙ taken.1;
+          unarmed = ap (λ x. x.armed) (put-same G.bucket j b);
+          still = ap (λ x. x.out) (put-same G.bucket j b) ∙ free-still env mix M G j whole taken.2;
         }))
       where
         exchanged_word : word_after found (Exchange place found (found + 1)) ≡ found + 1

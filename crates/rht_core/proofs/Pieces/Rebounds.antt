@@ -1,6 +1,6 @@
 -- Behind a store that changes what a port is bound to: what the caller has, which nodes it has taken out of
 -- lists, and which owners the nodes have.
-use Rattle.std.proofs.Common.{◌≡◌, ◌≢◌, ◌⊎◌, ℕ, suc, ◌+◌, ◌<◌, ◌≤◌, List, ◌∷◌, ◌++◌, Option, Some, None, Bool, true, false, refl, sym, ap, ◌∙◌, subst, inl, inr, arith}
+use Rattle.std.proofs.Common.{◌≡◌, ◌≢◌, ◌⊎◌, ℕ, suc, ◌+◌, ◌<◌, ◌≤◌, List, [], ◌∷◌, ◌++◌, Option, Some, None, Bool, true, false, refl, sym, ap, ◌∙◌, subst, inl, inr, arith}
 use Rattle.std.proofs.lemmas.Bool.{cases_eq, eq-eqb}
 use Rattle.rht_words.specs.declared.env.Env.{Env}
 use Rattle.rht_words.specs.declared.geometry.Geometry.{Geometry}
@@ -66,8 +66,8 @@ module _ (env : Env) (mix : ℕ → ℕ → ℕ → ℕ) (c : ℕ) (G : Ghost) w
       → change.one_owner ≢ Held c → change.other_owner ≢ Held c
       → ((n : ℕ) → has ≡ Some n → (n ≡ change.one) ⊎ (n ≡ change.other))
       → (change.bucket.holder ≡ Some c → lock ≡ Some place)
-      → HasOnly env mix c G has (Some place) None raised
-      → HasOnly env mix c (changed G c change) None lock None change.raised
+      → HasOnly env mix c G has (Some place) None raised None [] false
+      → HasOnly env mix c (changed G c change) None lock None change.raised None [] false
   only_left change place has lock raised is one other given holder only = record {
     nodes = put-all (λ n o. o ≡ Held c → is_at None n) (put G.node change.one change.one_owner) change.other
         change.other_owner (λ e. absurd (other e))
@@ -86,6 +86,9 @@ module _ (env : Env) (mix : ℕ → ℕ → ℕ → ℕ) (c : ℕ) (G : Ghost) w
           | inr second ↦ absurd (cc)
         ]);
     raising = put-same G.raised c change.raised;
+    slots = only.slots;
+    pages_in = only.pages_in;
+    works = only.works;
   }
     where
       is_at : Option ℕ → ℕ → Type 0
@@ -96,8 +99,8 @@ module _ (env : Env) (mix : ℕ → ℕ → ℕ → ℕ) (c : ℕ) (G : Ghost) w
       → place_at env mix change.place ≡ place
       → change.one_owner ≢ Held c → change.other_owner ≢ Held c
       → (change.bucket.holder ≡ Some c → lock ≡ Some place)
-      → HasOnly env mix c G None (Some place) None raised
-      → HasOnly env mix c (changed G c change) None lock None change.raised
+      → HasOnly env mix c G None (Some place) None raised None [] false
+      → HasOnly env mix c (changed G c change) None lock None change.raised None [] false
   only_rebound change place lock raised is one other holder only =
       only_left change place None lock raised is one other (λ n none. absurd (cc)) holder only
 

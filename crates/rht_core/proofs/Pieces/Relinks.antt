@@ -134,4 +134,6 @@ module _ (env : Env) (mix : ℕ → ℕ → ℕ → ℕ) (place word link : ℕ)
           bucket = lock.bucket;
           holder = ap (λ b. b.holder) kept ∙ lock.holder;
           plain = ap (λ b. b.plain) kept ∙ lock.plain;
+          unarmed = ap (λ b. b.armed) kept ∙ lock.unarmed;
+          still = ap (λ b. b.out) kept ∙ lock.still;
         }

@@ -25,7 +25,7 @@ use Rattle.rht_release.specs.declared.seek.SeekAt.TheVariants as at
 use Rattle.rht_core.specs.Counts.{takes_out}
 use Rattle.rht_core.proofs.Theory.Ghosts.{Ghost}
 use Rattle.rht_core.proofs.Theory.Wholes.{Whole}
-use Rattle.rht_core.proofs.Theory.Knowledge.{KnownNode, KnownTable, Nowhere, Passes, AtHome, KnownBucket, Unlocked, Locks, Missed, Found, InList, KnownList, Known, Knowing}
+use Rattle.rht_core.proofs.Theory.Knowledge.{KnownNode, KnownTable, Nowhere, Passes, AtHome, KnownBucket, Unlocked, Locks, Missed, Found, InList, KnownList, Known, knows_plain, Knowing}
 use Rattle.rht_core.proofs.Theory.Answering.{IsLegalOn, IsRight, keeps, learns}
 use Rattle.rht_core.proofs.Theory.Steps.{Holding, mem, owners, owners_in, Moved, moved-map, with_knowledge, Step, answered, reads, still_has}
 use Rattle.rht_core.proofs.Pieces.Locates.{known_locate, first_passed, locate_step, LocateKnows, FutureIs, future_is}
@@ -60,7 +60,7 @@ module _ (port : ℕ) (own : Option KnownNode) where
   -- what is known of the way to a bucket, and of the bucket that is locked; of the call's node the same
   -- throughout
   abbrev pub knows_of : KnownTable → KnownBucket → Known
-  knows_of table bucket = record { node = own; table = table; bucket = bucket }
+  knows_of table bucket = knows_plain own table bucket
 
   -- what is known on the way
   abbrev pub known_of_seek : SeekAt → Known
@@ -177,6 +177,8 @@ module _ (env : Env) (mix : ℕ → ℕ → ℕ → ℕ) (c : ℕ) (call : Call)
                 here = table.here;
               };
               bucket = k.means.bucket;
+              making = tt;
+              work = tt;
             };
           };
           fits = tt;
@@ -225,6 +227,8 @@ module _ (env : Env) (mix : ℕ → ℕ → ℕ → ℕ) (c : ℕ) (call : Call)
               node = known.knowing.means.node;
               table = tt;
               bucket = known.knowing.means.bucket.lock;
+              making = tt;
+              work = tt;
             };
           };
           fits = tt;
@@ -241,6 +245,8 @@ module _ (env : Env) (mix : ℕ → ℕ → ℕ → ℕ) (c : ℕ) (call : Call)
               node = known.knowing.means.node;
               table = passing;
               bucket = known.knowing.means.bucket.lock;
+              making = tt;
+              work = tt;
             };
           };
           fits = tt;
@@ -259,6 +265,8 @@ module _ (env : Env) (mix : ℕ → ℕ → ℕ → ℕ) (c : ℕ) (call : Call)
               node = known.knowing.means.node;
               table = first_passed env mix c (at_lock None) own Unlocked words G whole port;
               bucket = tt;
+              making = tt;
+              work = tt;
             };
           };
           fits = tt;
@@ -273,20 +281,20 @@ module _ (env : Env) (mix : ℕ → ℕ → ℕ → ℕ) (c : ℕ) (call : Call)
     seek_step_at (at.Future table bucket) is known =
         future_next table bucket (slot_of (M (Slot table FutureWord)))
         (future_is env mix c (at_lock (Some bucket.place)) own (Missed bucket.place bucket.word port) words G
-        whole port table bucket.place None
-        known.knowing known.knowing.means.bucket.none) known
+        whole port table bucket.place bucket.word None
+        known.knowing known.knowing.means.bucket) known
     seek_step_at (at.Leaving table unlock (Some next)) is known =
         let op = seek_plan_at env.geometry (at.Leaving table unlock (Some next)) in
         moves_on op (Some unlock.place) None _ (locating env.geometry next, Go)
         (λ M' G' w k. record { knowing = k; fits = tt })
-        (unlock_step env mix c (at_lock None) own (Passes port next) words G all whole unlock.place
+        (unlock_step env mix c (at_lock None) own (Passes port next) words G all whole refl unlock.place
         unlock.word known.knowing)
     seek_step_at (at.Leaving table unlock None) is known =
         let op = seek_plan_at env.geometry (at.Leaving table unlock None) in
         let told = holds_seeking hn absent None (Some absent) in
         answered env mix c call words G op (record told { lock = Some unlock.place }) told (Some absent)
         (SeekNext (at.Leaving table unlock None, Done None)) (inl (keeps (Some absent))) (still_has refl)
-        (unlock_step env mix c told own Nowhere words G all whole unlock.place unlock.word known.knowing)
+        (unlock_step env mix c told own Nowhere words G all whole refl unlock.place unlock.word known.knowing)
 
     -- each operation leads from what is known to what is known next
     abbrev pub SeekStep : SeekModel → Type 0

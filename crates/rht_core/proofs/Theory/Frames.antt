@@ -1,15 +1,17 @@
 -- What a step leaves of the whole, and of what others know, where it writes elsewhere.
-use Rattle.std.proofs.Common.{◌≡◌, ◌≢◌, ℕ, ◌+◌, ◌*◌, ◌/◌, ◌<◌, List, Bool, true, refl, sym, ◌∙◌, ap, subst, arith}
+use Rattle.std.proofs.Common.{◌≡◌, ◌≢◌, ◌⊎◌, ◌↔◌, ℕ, ◌+◌, ◌*◌, ◌/◌, ◌%◌, ◌<◌, ◌≤◌, List, [], ◌∷◌, Option, Some, Bool, true, refl, sym, ◌∙◌, ap, subst, inl, inr, arith}
+use Rattle.std.specs.Int.{bit_at}
 use Rattle.rht_words.specs.declared.env.Env.{Env}
-use Rattle.rht_words.specs.Places.{Address, CurrentTable, PortCount, Slot, SlotWord, ShapeWord, SeedWord, FutureWord, NodeMap, Node, NodeWord, ChainLink, KeyWord, OwnerWord, ListLink, PageWord}
+use Rattle.rht_words.specs.Places.{Address, CurrentTable, WorkLock, PortCount, Slot, SlotWord, ShapeWord, SeedWord, FutureWord, StateWord, IsSlotWord, NodeMap, PageMap, Node, NodeWord, ChainLink, KeyWord, OwnerWord, ListLink, PageWord}
+use Rattle.rht_words.specs.Shapes.{unpacked, size_of}
 use Rattle.rht_words.proofs.Memory.{Memory, IsWrite}
 use Rattle.rht_words.specs.Members.{In}
 use Rattle.rht_words.proofs.ChainLemmas.{IsSegment-members}
-use Rattle.rht_words.specs.Links.{head_of, marker_of}
-use Rattle.rht_core.proofs.Theory.Ghosts.{Table, Bucket, Owner, First, Behind, Ghost, is_used, is_taken_by, IsUsed, PageOwner, SlotOwner, has_table, index_at, table_at}
-use Rattle.rht_core.proofs.Theory.Wholes.{chain_of, list_of, key_of, place_at, home, TableRight, TablesRight, LockedRight, BucketRight, ChainedRight, IsHomeOf, Owned, ArenaRight, Whole, firsts, raisers}
-use Rattle.rht_core.proofs.Theory.Passed.{Passed}
-use Rattle.rht_core.proofs.Theory.Knowledge.{HasNode, TablesStay, WordStays, ChainsStay, bound_used, Rely}
+use Rattle.rht_words.specs.Links.{head_of}
+use Rattle.rht_core.proofs.Theory.Ghosts.{Table, Bucket, Owner, First, Leaving, Behind, Ghost, lock_bit, state_word, is_used, is_taken_by, IsUsed, PageOwner, PageFree, PageHeld, PageOf, SlotOwner, seat_of, seat_in, seat, seat-used, has_table, index_at, table_at}
+use Rattle.rht_core.proofs.Theory.Wholes.{chain_of, list_of, key_of, place_at, home, stop, pages_of, IsNoBucket, TableRight, TablesRight, SlotsRight, PagesRight, LockedRight, BucketRight, ChainedRight, ArmedRight, OutRight, MovingRight, IsHomeOf, IsLeavingAt, Owned, ArenaRight, Whole, seated_at, out-seated, firsts, raisers}
+use Rattle.rht_core.proofs.Theory.Passed.{TablesGrow, PassesStay, Passed-stays}
+use Rattle.rht_core.proofs.Theory.Knowledge.{HasNode, TablesStay, HoldingsStay, WorkStays, IsEmptied, WordStays, ChainsStay, bound_used, Rely}
 
 module _ (env : Env) (mix : ℕ → ℕ → ℕ → ℕ) where
   -- what everybody but this caller can count on
@@ -26,7 +28,7 @@ module _ (env : Env) (mix : ℕ → ℕ → ℕ → ℕ) where
     pub keys : WordStays env mix KeyWord M G M'
     pub owners : WordStays env mix OwnerWord M G M'
     pub lists : WordStays env mix ListLink M G M'
-    pub chains : (n j : ℕ) → G.node n ≡ First j → chain_of M' n ≡ chain_of M n
+    pub chains : (n j : ℕ) → seat_of (G.node n) ≡ Some j → chain_of M' n ≡ chain_of M n
 
   pub used_stay : (M M' : Memory) (G : Ghost) (a : Address) (v : ℕ) → Whole env mix M G
       → IsWrite env.geometry M M' a v
@@ -35,21 +37,26 @@ module _ (env : Env) (mix : ℕ → ℕ → ℕ → ℕ) where
     keys = λ n l used. write.others (Node n KeyWord) l (not_node n KeyWord);
     owners = λ n l used. write.others (Node n OwnerWord) l (not_node n OwnerWord);
     lists = λ n l used. write.others (Node n ListLink) l (not_node n ListLink);
-    chains = λ n j first. write.others (Node n ChainLink) (whole.owned.first_at n j first).among
+    chains = λ n j seat. write.others (Node n ChainLink) (seated_at env mix M G whole n j seat).among
         (not_node n ChainLink);
   }
 
-  -- so each word of a node in a chain does
+  -- so each word of a node that has a seat does
+  pub seat_stays : (M M' : Memory) (G : Ghost) → Whole env mix M G → UsedStay M G M'
+      → (n j : ℕ) (w : NodeWord)
+      → seat_of (G.node n) ≡ Some j → M' (Node n w) ≡ M (Node n w)
+  seat_stays M M' G whole words n j ChainLink seat = words.chains n j seat
+  seat_stays M M' G whole words n j KeyWord seat = words.keys n (seated_at env mix M G whole n j seat).among
+      (seat-used (G.node n) j seat)
+  seat_stays M M' G whole words n j OwnerWord seat = words.owners n
+      (seated_at env mix M G whole n j seat).among (seat-used (G.node n) j seat)
+  seat_stays M M' G whole words n j ListLink seat = words.lists n
+      (seated_at env mix M G whole n j seat).among (seat-used (G.node n) j seat)
+
   pub first_stays : (M M' : Memory) (G : Ghost) → Whole env mix M G → UsedStay M G M'
       → (n j : ℕ) (w : NodeWord)
       → G.node n ≡ First j → M' (Node n w) ≡ M (Node n w)
-  first_stays M M' G whole words n j ChainLink first = words.chains n j first
-  first_stays M M' G whole words n j KeyWord first = words.keys n (whole.owned.first_at n j first).among
-      (ap is_used first)
-  first_stays M M' G whole words n j OwnerWord first = words.owners n
-      (whole.owned.first_at n j first).among (ap is_used first)
-  first_stays M M' G whole words n j ListLink first = words.lists n
-      (whole.owned.first_at n j first).among (ap is_used first)
+  first_stays M M' G whole words n j w first = seat_stays M M' G whole words n j w (ap seat_of first)
 
   -- the links of the nodes to which the ports of a caller's buckets are bound, where the store is to no link of a node
   pub chains_stay : (c : ℕ) (M M' : Memory) (G : Ghost) (a : Address) (v : ℕ) → Whole env mix M G
@@ -61,54 +68,144 @@ module _ (env : Env) (mix : ℕ → ℕ → ℕ → ℕ) where
 
   -- ---- tables
 
-  -- the same tables are attached, and have the same slots and pages
+  -- the same tables are attached, and have the same slots and pages, and the same caller does the work
   pub record SameTables (G G' : Ghost) : Type 0 where
     pub table : G'.table ≡ G.table
     pub attached : G'.attached ≡ G.attached
     pub current : G'.current ≡ G.current
     pub slot : G'.slot ≡ G.slot
     pub page : G'.page ≡ G.page
+    pub worker : G'.worker ≡ G.worker
 
-  -- where one table is attached nobody has passed one, so what was passed is so still
-  passed-one : (G G' : Ghost) (port τ : ℕ) → G.attached ≡ 1 → SameTables G G' → Passed env mix G port τ
-      → Passed env mix G' port τ
-  passed-one G G' port τ one same passed =
-      let first : τ ≡ 0 = omega (arith, passed.attached, one) in
-      record {
-        attached = rw same.attached passed.attached;
-        quiet = λ σ j l below is. absurd (omega (arith, below, first));
-        gone = λ σ j n behind l below is b. absurd (omega (arith, below, first));
-        later = λ j s. omega (arith, first);
-      }
-
-  pub tables_stay : (M : Memory) (G G' : Ghost) → Whole env mix M G → SameTables G G'
-      → TablesStay env mix G G'
-  tables_stay M G G' whole same = record {
+  pub same_grow : (G G' : Ghost) → SameTables G G' → TablesGrow env mix G G'
+  same_grow G G' same = record {
     tables = λ τ l. ap (λ t. t τ) same.table;
     attached = omega (arith, same.attached);
+    current = omega (arith, same.current);
     slots = λ s has. ap (λ slot. has_table (slot s)) same.slot ∙ has;
     indices = λ s has. ap (λ slot. index_of slot s) same.slot;
-    passed = λ port τ passed. passed-one G G' port τ whole.tables.one same passed;
+    retired = λ s τ is. ap (λ slot. slot s) same.slot ∙ is;
+    pages = λ p τ is. ap (λ page. page p) same.page ∙ is;
   }
     where
       index_of : (ℕ → SlotOwner) → ℕ → ℕ
       index_of slot s = index_at (record G { slot = slot }) s
+
+  pub tables_stay : (M : Memory) (G G' : Ghost) → Whole env mix M G → SameTables G G' → PassesStay env mix G G'
+      → TablesStay env mix G G'
+  tables_stay M G G' whole same passes = record {
+    grow = same_grow G G' same;
+    passed = Passed-stays env mix M G G' whole (same_grow G G' same) passes;
+  }
 
   -- who has nodes doesn't matter for tables, nor what buckets and ports have, nor who has raised the count
   pub same_tables : (G : Ghost) (bucket : ℕ → Bucket) (node : ℕ → Owner) (bound : ℕ → List ℕ) (raised : ℕ
       → Bool)
       → SameTables G (record G { bucket = bucket; node = node; bound = bound; raised = raised })
   same_tables G bucket node bound raised =
-      record { table = refl; attached = refl; current = refl; slot = refl; page = refl }
+      record { table = refl; attached = refl; current = refl; slot = refl; page = refl; worker = refl }
+
+  -- where nobody gets armed, nothing gets on its way, and each port is bound where it was, who has passed a table has still
+  pub record SamePasses (G G' : Ghost) : Type 0 where
+    pub armed : (j c : ℕ) → (G'.bucket j).armed ≡ Some c → (G.bucket j).armed ≡ Some c
+    pub out : (j : ℕ) → (G'.bucket j).out ≡ (G.bucket j).out
+    pub bound : (port : ℕ) → G'.bound port ≡ G.bound port
+    pub used : (n : ℕ) → IsUsed (G.node n) → G'.node n ≡ G.node n
+
+  pub passes_same : (M : Memory) (G G' : Ghost) → Whole env mix M G → SamePasses G G' → PassesStay env mix G G'
+  passes_same M G G' whole same = record {
+    armed = λ j c is. inl (same.armed j c is);
+    heads = λ port n j behind b out. inl (record {
+      behind = behind;
+      bound_to = sym (same.bound port) ∙ b;
+      out = sym (same.out j) ∙ out;
+    });
+    seats = λ port j is. inl (record {
+      bucket = j;
+      seat_is = sym (seat_same port (G.bound port) refl) ∙ is;
+      earlier = omega arith;
+    });
+  }
+    where
+      seat_same : (port : ℕ) (bound : List ℕ) → G.bound port ≡ bound → seat G' port ≡ seat G port
+      seat_same port [] b = ap (seat_in G'.node) (same.bound port ∙ b) ∙ sym (ap (seat_in G.node) b)
+      seat_same port (n ∷ behind) b =
+          let used = bound_used env mix M G whole port (n ∷ behind) b n (inl refl) in
+          ap (seat_in G'.node) (same.bound port ∙ b) ∙ ap seat_of (same.used n used.1)
+          ∙ sym (ap (seat_in G.node) b)
+
+  pub same_passes : (G : Ghost) (raised : ℕ → Bool) → SamePasses G (record G { raised = raised })
+  same_passes G raised =
+      record { armed = λ j c is. is; out = λ j. refl; bound = λ port. refl; used = λ n used. refl }
+
+  -- ---- what a caller has of tables, and the work
+
+  -- the store is to no word of a table's, of a slot's, of the map of pages, and not to the work lock
+  pub record IsNoTableWord (a : Address) : Type 0 where
+    pub current : CurrentTable ≢ a
+    pub work : WorkLock ≢ a
+    pub slots : (s : ℕ) (w : SlotWord) → Slot s w ≢ a
+    pub pages : (i : ℕ) → PageMap i ≢ a
+
+  -- all words of slots stay
+  abbrev pub SlotsStay : Memory → Memory → Type 0
+  SlotsStay M M' = (s : ℕ) (w : SlotWord) → s < 8 → IsSlotWord w → M' (Slot s w) ≡ M (Slot s w)
+
+  pub slots_stay : (M M' : Memory) (a : Address) (v : ℕ) → IsWrite env.geometry M M' a v → IsNoTableWord a
+      → SlotsStay M M'
+  slots_stay M M' a v write apart s w l is = write.others (Slot s w) (l, is) (apart.slots s w)
+
+  pub holdings_stay : (c : ℕ) (M M' : Memory) (G G' : Ghost) → SameTables G G' → SlotsStay M M'
+      → HoldingsStay env mix c M G M' G'
+  holdings_stay c M M' G G' same words = record {
+    slots = λ s is. ap (λ slot. slot s) same.slot ∙ is;
+    slot_words = λ s w has is. words s w has.within is;
+    no_slot = λ s is. ap (λ slot. slot s) (sym same.slot) ∙ is;
+    pages = λ p is. ap (λ page. page p) same.page ∙ is;
+    no_page = λ p is. ap (λ page. page p) (sym same.page) ∙ is;
+  }
+
+  -- what a move leaves of the work of others: what they have emptied, and an entry that is on its way
+  pub record EntriesStay (M : Memory) (G : Ghost) (M' : Memory) (G' : Ghost) : Type 0 where
+    pub emptied : (j : ℕ) → IsEmptied env mix (G.bucket j) → IsEmptied env mix (G'.bucket j)
+    pub entries : (j entry : ℕ) → (G.bucket j).out ≡ Some entry → G'.node entry ≡ G.node entry
+    pub chains : (n j : ℕ) → G.node n ≡ Leaving j → chain_of M' n ≡ chain_of M n
+
+  pub work_stays : (c : ℕ) (M M' : Memory) (G G' : Ghost) → SameTables G G' → EntriesStay M G M' G'
+      → G.worker ≡ Some c → WorkStays env mix c M G M' G'
+  work_stays c M M' G G' same stay works = record {
+    worker = same.worker ∙ works;
+    current = same.current;
+    emptied = λ more j table is. stay.emptied j is;
+    entries = stay.entries;
+    chains = stay.chains;
+  }
+
+  -- where the same nodes are used, and their words stay, so does an entry on its way
+  pub entries_stay : (M M' : Memory) (G G' : Ghost) → Whole env mix M G → UsedStay M G M'
+      → ((n : ℕ) → IsUsed (G.node n) → G'.node n ≡ G.node n)
+      → ((j : ℕ) → IsEmptied env mix (G.bucket j) → IsEmptied env mix (G'.bucket j)) → EntriesStay M G M' G'
+  entries_stay M M' G G' whole words used emptied = record {
+    emptied = emptied;
+    entries = λ j entry out.
+        let seat = out-seated env mix M G j entry (whole.moving.out j entry out) in
+        used entry (seat-used (G.node entry) seat.0 seat.1);
+    chains = λ n j leaving. words.chains n j (ap seat_of leaving);
+  }
 
   -- where buckets and nodes have whom they had, a caller knows what it knew
   pub Rely-same : (c : ℕ) (M M' : Memory) (G G' : Ghost) → Whole env mix M G → SameTables G G'
       → G'.bucket ≡ G.bucket → G'.node ≡ G.node → G'.bound ≡ G.bound → G'.raised c ≡ G.raised c
-      → UsedStay M G M' → ChainsStay env mix c M G M'
+      → UsedStay M G M' → ChainsStay env mix c M G M' → SlotsStay M M'
       → ((n : ℕ) (w : NodeWord) → HasNode env mix c G n → M' (Node n w) ≡ M (Node n w))
       → Rely env mix c M G M' G'
-  Rely-same c M M' G G' whole same buckets nodes bound raised words chains own = record {
-    tables = tables_stay M G G' whole same;
+  Rely-same c M M' G G' whole same buckets nodes bound raised words chains slots own = record {
+    tables = tables_stay M G G' whole same (passes_same M G G' whole (record {
+      armed = λ j d is. ap (λ b. (b j).armed) (sym buckets) ∙ is;
+      out = λ j. ap (λ b. (b j).out) buckets;
+      bound = λ port. ap (λ b. b port) bound;
+      used = λ n used. ap (λ o. o n) nodes;
+    }));
     locks = λ j h. ap (λ b. b j) buckets;
     lists = λ j n h i. ap (λ b. b (key_of M n)) bound;
     chains = chains;
@@ -118,8 +215,21 @@ module _ (env : Env) (mix : ℕ → ℕ → ℕ → ℕ) where
     words = λ n has w. own n w has;
     raised = raised;
     taken = λ n. ap (λ o. is_taken_by c (o n)) nodes;
+    unbound = λ port τ j is. ap (λ b. b port) bound ∙ is.unbound;
+    holdings = holdings_stay c M M' G G' same slots;
+    work = work_stays c M M' G G' same (entries_stay M M' G G' whole words (λ n used. ap (λ o. o n) nodes)
+        (λ j is. subst (λ b. IsEmptied env mix (b j)) (sym buckets) is));
+    no_work = λ is. sym same.worker ∙ is;
     no_node = λ n h. ap (λ o. o n) (sym nodes) ∙ h;
     no_lock = λ j h. ap (λ b. (b j).holder) (sym buckets) ∙ h;
+  }
+
+  pub unwritten_words : (M : Memory) (G : Ghost) → UsedStay M G M
+  unwritten_words M G = record {
+    keys = λ n l used. refl;
+    owners = λ n l used. refl;
+    lists = λ n l used. refl;
+    chains = λ n j seat. refl;
   }
 
   -- nothing was written, and nobody's rights changed
@@ -127,26 +237,21 @@ module _ (env : Env) (mix : ℕ → ℕ → ℕ → ℕ) where
   still d M G whole = record {
     whole = whole;
     others = λ c ne. Rely-same c M M G G whole (same_tables G G.bucket G.node G.bound G.raised) refl refl
-        refl refl unwritten (λ j n m h i b. refl) (λ n w has. refl);
+        refl refl (unwritten_words M G) (λ j n m h i b. refl) (λ s w l is. refl) (λ n w has. refl);
   }
-    where
-      unwritten : UsedStay M G M
-      unwritten = record {
-        keys = λ n l used. refl;
-        owners = λ n l used. refl;
-        lists = λ n l used. refl;
-        chains = λ n j first. refl;
-      }
 
   -- ---- the parts of the whole
 
   -- the address is neither that of the current table nor a word of a slot that has a table
-  pub record IsNoTableWord (G : Ghost) (a : Address) : Type 0 where
+  pub record IsApart (G : Ghost) (a : Address) : Type 0 where
     pub current : CurrentTable ≢ a
     pub slots : (s : ℕ) (w : SlotWord) → has_table (G.slot s) ≡ true → Slot s w ≢ a
 
+  pub is_apart : (G : Ghost) (a : Address) → IsNoTableWord a → IsApart G a
+  is_apart G a apart = record { current = apart.current; slots = λ s w has. apart.slots s w }
+
   TableRight-write : (M M' : Memory) (G : Ghost) (a : Address) (v τ : ℕ) → IsWrite env.geometry M M' a v
-      → IsNoTableWord G a → TableRight env mix M G τ → TableRight env mix M' G τ
+      → IsApart G a → TableRight env mix M G τ → TableRight env mix M' G τ
   TableRight-write M M' G a v τ write apart right =
       let s = (G.table τ).slot in
       record {
@@ -168,11 +273,10 @@ module _ (env : Env) (mix : ℕ → ℕ → ℕ → ℕ) where
   with_tables G table attached current slot page =
       record G { table = table; attached = attached; current = current; slot = slot; page = page }
 
-  TablesRight-same : (M : Memory) (G G' : Ghost) → SameTables G G' → TablesRight env mix M G
+  pub TablesRight-same : (M : Memory) (G G' : Ghost) → SameTables G G' → TablesRight env mix M G
       → TablesRight env mix M G'
   TablesRight-same M G G' same right =
       let there : TablesRight env mix M (with_tables G' G.table G.attached G.current G.slot G.page) = record {
-        one = right.one;
         current_in = right.current_in;
         current_is = right.current_is;
         each = λ τ l. let r = right.each τ l in record {
@@ -205,36 +309,73 @@ module _ (env : Env) (mix : ℕ → ℕ → ℕ → ℕ) where
       (sym same.page) there))))
 
   pub TablesRight-write : (M M' : Memory) (G G' : Ghost) (a : Address) (v : ℕ) → IsWrite env.geometry M M' a v
-      → IsNoTableWord G a → SameTables G G' → TablesRight env mix M G → TablesRight env mix M' G'
+      → IsApart G a → SameTables G G' → TablesRight env mix M G → TablesRight env mix M' G'
   TablesRight-write M M' G G' a v write apart same right = TablesRight-same M' G G' same (record {
-    one = right.one;
     current_in = right.current_in;
     current_is = write.others CurrentTable tt apart.current ∙ right.current_is;
     each = λ τ l. TableRight-write M M' G a v τ write apart (right.each τ l);
     slots = right.slots;
   })
 
+  -- slots and the work lock
+  pub SlotsRight-write : (M M' : Memory) (G G' : Ghost) (a : Address) (v : ℕ) → IsWrite env.geometry M M' a v
+      → WorkLock ≢ a → ((s : ℕ) → Slot s StateWord ≢ a) → SameTables G G' → SlotsRight env mix M G
+      → SlotsRight env mix M' G'
+  SlotsRight-write M M' G G' a v write lock states same right = record {
+    states = λ s l. write.others (Slot s StateWord) (l, tt) (states s) ∙ right.states s l
+        ∙ sym (ap (λ slot. state_word (slot s)) same.slot);
+    worker_is = write.others WorkLock tt lock ∙ right.worker_is ∙ sym (ap lock_bit same.worker);
+  }
+
+  -- by the tables alone
+  pub no_bucket : (G G' : Ghost) → G'.table ≡ G.table → (owner : PageOwner) (j : ℕ)
+      → IsNoBucket env mix G' owner j → IsNoBucket env mix G owner j
+  no_bucket G G' same PageFree j is = tt
+  no_bucket G G' same (PageHeld c) j is = tt
+  no_bucket G G' same (PageOf τ) j is =
+      let shape : (G'.table τ).shape ≡ (G.table τ).shape = ap (λ t. (t τ).shape) same in
+      subst (λ w. 64 * (unpacked w).page + size_of (unpacked w) ≤ j) shape is
+
+  -- pages, where the bucket of no blank word changes
+  pub PagesRight-write : (M M' : Memory) (G G' : Ghost) (a : Address) (v : ℕ) → IsWrite env.geometry M M' a v
+      → ((i : ℕ) → PageMap i ≢ a) → SameTables G G'
+      → ((j : ℕ) → IsNoBucket env mix G (G.page (j / 64)) j → G'.bucket j ≡ G.bucket j)
+      → PagesRight env mix M G → PagesRight env mix M' G'
+  PagesRight-write M M' G G' a v write apart same blanks right = record {
+    bits = λ p l. subst (λ page. (bit_at (M' (PageMap (p / 64))) (p % 64) ≡ 1) ↔ (page p ≡ PageFree))
+        (sym same.page) (rw (write.others (PageMap (p / 64)) (omega arith) (apart (p / 64))) (right.bits p l));
+    page_of = λ p τ is.
+        let of = right.page_of p τ (ap (λ page. page p) (sym same.page) ∙ is) in
+        record {
+          attached = omega (arith, of.attached, same.attached);
+          from = subst (λ (t : ℕ → Table). (unpacked (t τ).shape).page ≤ p) (sym same.table) of.from;
+          below = subst (λ (t : ℕ → Table). p < (unpacked (t τ).shape).page + pages_of env mix (t τ).shape)
+              (sym same.table) of.below;
+        };
+    blank = λ j is.
+        let was : IsNoBucket env mix G (G.page (j / 64)) j =
+        subst (λ (t : ℕ → Table). IsNoBucket env mix (record G { table = t }) (G.page (j / 64)) j) same.table
+        (subst (λ page. IsNoBucket env mix (record G { table = G'.table }) (page (j / 64)) j) same.page
+        (no_bucket (record G { table = G'.table }) G' refl (G'.page (j / 64)) j is)) in
+        blanks j was ∙ right.blank j was;
+  }
+
   LockedRight-frame : (M M' : Memory) (j : ℕ) (b : Bucket) → M' (PageWord j) ≡ M (PageWord j)
       → LockedRight env mix M j b
       → LockedRight env mix M' j b
-  LockedRight-frame M M' j b word right = record {
-    word_is = word ∙ right.word_is;
-    even = right.even;
-    none_out = right.none_out;
-    none_armed = right.none_armed;
-  }
+  LockedRight-frame M M' j b word right = record { word_is = word ∙ right.word_is; even = right.even }
 
-  -- a bucket with the same nodes behind the same word has the same chain
+  -- a bucket with the same nodes behind the same word, and the same entry on its way, has the same chain
   ChainedRight-frame : (M M' : Memory) (j : ℕ) (b b' : Bucket) → b'.nodes ≡ b.nodes → b'.plain ≡ b.plain
-      → ((n : ℕ) → In n b.nodes → chain_of M' n ≡ chain_of M n)
+      → b'.out ≡ b.out → ((n : ℕ) → In n b.nodes → chain_of M' n ≡ chain_of M n)
       → ChainedRight env mix M j b → ChainedRight env mix M' j b'
-  ChainedRight-frame M M' j b b' nodes plain links right =
+  ChainedRight-frame M M' j b b' nodes plain out links right =
       let first = head_of (place_at env mix j) b.plain in
-      let marker = marker_of (place_at env mix j) in
+      let ends = stop env mix (place_at env mix j) b.out in
       record {
         segment =
-            rw nodes (rw plain (IsSegment-members (chain_of M) (chain_of M') first b.nodes marker links
-            right.segment));
+            rw nodes (rw plain (rw out (IsSegment-members (chain_of M) (chain_of M') first b.nodes ends links
+            right.segment)));
         distinct = rw nodes right.distinct;
       }
 
@@ -243,7 +384,7 @@ module _ (env : Env) (mix : ℕ → ℕ → ℕ → ℕ) where
       → BucketRight env mix M j b → BucketRight env mix M' j b
   BucketRight-frame M M' j b word links right = record {
     locked = LockedRight-frame M M' j b word right.locked;
-    chained = ChainedRight-frame M M' j b b refl refl links right.chained;
+    chained = ChainedRight-frame M M' j b b refl refl refl links right.chained;
   }
 
   -- with the same tables a port has the same homes
@@ -258,15 +399,133 @@ module _ (env : Env) (mix : ℕ → ℕ → ℕ → ℕ) where
         attached = omega (arith, table, same.attached, home_of.attached);
       }
 
+  -- a bucket's table is what it was
+  pub table_at-same : (G G' : Ghost) (j : ℕ) → SameTables G G' → table_at G' j ≡ table_at G j
+  table_at-same G G' j same = ap (λ p. table_at (record G { page = p }) j) same.page
+
+  -- What is on its way stays, where other nodes and buckets change: who is armed was so, and has the bucket still, or is so rightly; the
+  -- buckets stay of a caller that has an entry on its way; and so do those entries, and what their ports are bound to.
+  pub record MovingStays (M : Memory) (G G' : Ghost) : Type 0 where
+    pub armed : (j c : ℕ) → (G'.bucket j).armed ≡ Some c
+        → (((G.bucket j).armed ≡ Some c) × ((G'.bucket j).holder ≡ (G.bucket j).holder))
+        ⊎ ArmedRight env mix G' j c
+    pub out : (j entry : ℕ) → (G'.bucket j).out ≡ Some entry → (G.bucket j).out ≡ Some entry
+    pub kept : (i c k entry : ℕ) → (G.bucket i).holder ≡ Some c → (G.bucket k).out ≡ Some entry
+        → (G.bucket k).holder ≡ Some c → G'.bucket i ≡ G.bucket i
+    pub entries : (j entry : ℕ) → (G.bucket j).out ≡ Some entry → G'.node entry ≡ G.node entry
+    pub leaves : (n j : ℕ) → G'.node n ≡ Leaving j → G.node n ≡ Leaving j
+    pub heads : (n j : ℕ) → G.node n ≡ Leaving j → G'.bound (key_of M n) ≡ G.bound (key_of M n)
+
+  -- and the words of those entries
+  pub record EntryWords (M : Memory) (G : Ghost) (M' : Memory) : Type 0 where
+    pub keys : (j entry : ℕ) → (G.bucket j).out ≡ Some entry → key_of M' entry ≡ key_of M entry
+    pub chains : (n j : ℕ) → G.node n ≡ Leaving j → chain_of M' n ≡ chain_of M n
+
+  pub entry_words : (M M' : Memory) (G : Ghost) → Whole env mix M G → UsedStay M G M' → EntryWords M G M'
+  entry_words M M' G whole words = record {
+    keys = λ j entry is.
+        let seat = out-seated env mix M G j entry (whole.moving.out j entry is) in
+        seat_stays M M' G whole words entry seat.0 KeyWord seat.1;
+    chains = λ n j leaving. words.chains n j (ap seat_of leaving);
+  }
+
+  module _ (M M' : Memory) (G G' : Ghost) (whole : Whole env mix M G) (same : SameTables G G')
+      (stay : MovingStays M G G') (words : EntryWords M G M') where
+    home-same : (port τ : ℕ) → home env mix G' port τ ≡ home env mix G port τ
+    home-same port τ = ap (λ t. home env mix (record G { table = t }) port τ) same.table
+
+    table-same : (j : ℕ) → table_at G' j ≡ table_at G j
+    table-same j = table_at-same G G' j same
+
+    bucket-kept : (i j entry : ℕ) → (out : OutRight env mix M G j entry) → (G.bucket j).out ≡ Some entry
+        → (c : ℕ) → (G.bucket i).holder ≡ Some c → G.worker ≡ Some c → G'.bucket i ≡ G.bucket i
+    bucket-kept i j entry out is c holds works =
+        let one : ◌≡◌ {A = Option ℕ} (Some out.worker) (Some c) = sym out.works ∙ works in
+        stay.kept i c j entry holds is (out.holder ∙ one)
+
+    OutRight-frame : (j entry : ℕ) → (G'.bucket j).out ≡ Some entry → OutRight env mix M' G' j entry
+    OutRight-frame j entry after =
+        let is = stay.out j entry after in
+        let out = whole.moving.out j entry is in
+        let kept = bucket-kept j j entry out is out.worker out.holder out.works in
+        let key = words.keys j entry is in
+        let node = stay.entries j entry is in
+        record {
+          worker = out.worker;
+          holder = ap (λ b. b.holder) kept ∙ out.holder;
+          works = same.worker ∙ out.works;
+          table = table-same j ∙ out.table ∙ sym same.current;
+          among = out.among;
+          here = ap (λ k. home env mix G' k G'.current) key ∙ ap (home env mix G' (key_of M entry)) same.current
+              ∙ home-same (key_of M entry) G.current ∙ out.here;
+          owner = elim out.owner [
+            | inl leaving ↦ inl (node ∙ leaving)
+            | inr further ↦ inr (record {
+              bucket = further.bucket;
+              first = node ∙ further.first;
+              later = omega (arith, further.later, same.current, table-same further.bucket);
+            })
+          ];
+        }
+
+    pub MovingRight-frame : MovingRight env mix M' G'
+    MovingRight-frame = record {
+      armed = λ j c is. elim (stay.armed j c is) [
+        | inl was ↦
+            let right = whole.moving.armed j c was.0 in
+            record {
+              holder = was.1 ∙ right.holder;
+              current = omega (arith, right.current, same.current, table-same j);
+              attached = omega (arith, right.attached, same.attached, table-same j);
+            }
+        | inr now ↦ now
+      ];
+      out = OutRight-frame;
+    }
+
+    pub Leaving-frame : (n j : ℕ) → G'.node n ≡ Leaving j → IsLeavingAt env mix M' G' n j
+    Leaving-frame n j after =
+        let leaving = stay.leaves n j after in
+        let at = whole.owned.leaving_at n j leaving in
+        let out = whole.moving.out j n at.out in
+        let next = at.next in
+        let i = next.bucket in
+        let kept = bucket-kept j j n out at.out out.worker out.holder out.works in
+        let next_kept = bucket-kept i j n out at.out next.worker next.holder next.works in
+        let key = words.keys j n at.out in
+        record {
+          out = ap (λ b. b.out) kept ∙ at.out;
+          behind = at.behind;
+          bound_to = ap G'.bound key ∙ stay.heads n j leaving ∙ at.bound_to;
+          next = record {
+            bucket = i;
+            later = omega (arith, next.later, same.current, table-same i);
+            attached = omega (arith, next.attached, same.attached, table-same i);
+            worker = next.worker;
+            holder = ap (λ b. b.holder) next_kept ∙ next.holder;
+            works = same.worker ∙ next.works;
+            here = ap (λ k. home env mix G' k (table_at G' i)) key
+                ∙ ap (home env mix G' (key_of M n)) (table-same i)
+                ∙ home-same (key_of M n) (table_at G i) ∙ next.here;
+            chain = words.chains n j leaving ∙ next.chain
+                ∙ ap (λ b. head_of (place_at env mix i) b.plain) (sym next_kept);
+          };
+        }
+
   -- the same tables are attached, the same nodes are in the same chains, and the same ports are bound to them
   pub record SameChains (G G' : Ghost) : Type 0 where
     pub tables : SameTables G G'
     pub nodes : (j : ℕ) → (G'.bucket j).nodes ≡ (G.bucket j).nodes
     pub plain : (j : ℕ) → (G'.bucket j).plain ≡ (G.bucket j).plain
-    pub firsts_before : (n j : ℕ) → G'.node n ≡ First j → G.node n ≡ First j
-    pub firsts_after : (n j : ℕ) → G.node n ≡ First j → G'.node n ≡ First j
-    pub behind_before : (n port : ℕ) → G'.node n ≡ Behind port → G.node n ≡ Behind port
-    pub behind_after : (n port : ℕ) → G.node n ≡ Behind port → G'.node n ≡ Behind port
+    pub out : (j : ℕ) → (G'.bucket j).out ≡ (G.bucket j).out
+    -- who is armed was so, and has the bucket still; and a caller that has an entry on its way has its buckets still
+    pub armed : (j c : ℕ) → (G'.bucket j).armed ≡ Some c
+        → ((G.bucket j).armed ≡ Some c) × ((G'.bucket j).holder ≡ (G.bucket j).holder)
+    pub kept : (i c k entry : ℕ) → (G.bucket i).holder ≡ Some c → (G.bucket k).out ≡ Some entry
+        → (G.bucket k).holder ≡ Some c → G'.bucket i ≡ G.bucket i
+    -- a node that is used has its owner still, and none gets used
+    pub used : (n : ℕ) → IsUsed (G.node n) → G'.node n ≡ G.node n
+    pub used_before : (n : ℕ) → IsUsed (G'.node n) → G'.node n ≡ G.node n
     pub bound : (port : ℕ) → G'.bound port ≡ G.bound port
 
   -- so it is where at most who has raised the count changes
@@ -275,21 +534,57 @@ module _ (env : Env) (mix : ℕ → ℕ → ℕ → ℕ) where
     tables = same_tables G G.bucket G.node G.bound raised;
     nodes = λ j. refl;
     plain = λ j. refl;
-    firsts_before = λ n j first. first;
-    firsts_after = λ n j first. first;
-    behind_before = λ n port is. is;
-    behind_after = λ n port is. is;
+    out = λ j. refl;
+    armed = λ j c is. (is, refl);
+    kept = λ i c k entry holds is out. refl;
+    used = λ n used. refl;
+    used_before = λ n used. refl;
     bound = λ port. refl;
   }
 
-  Owned-frame : (M M' : Memory) (G G' : Ghost) → Whole env mix M G → SameChains G G' → UsedStay M G M'
+  -- then who has passed a table has still, and what is on its way stays
+  pub chains_passes : (M : Memory) (G G' : Ghost) → Whole env mix M G → SameChains G G'
+      → PassesStay env mix G G'
+  chains_passes M G G' whole same = passes_same M G G' whole (record {
+    armed = λ j c is. (same.armed j c is).0;
+    out = same.out;
+    bound = same.bound;
+    used = same.used;
+  })
+
+  chains_moving : (M : Memory) (G G' : Ghost) → Whole env mix M G → SameChains G G' → MovingStays M G G'
+  chains_moving M G G' whole same = record {
+    armed = λ j c is. inl (same.armed j c is);
+    out = λ j entry is. sym (same.out j) ∙ is;
+    kept = same.kept;
+    entries = λ j entry is.
+        let seat = out-seated env mix M G j entry (whole.moving.out j entry is) in
+        same.used entry (seat-used (G.node entry) seat.0 seat.1);
+    leaves = λ n j is. sym (same.used_before n (ap is_used is)) ∙ is;
+    heads = λ n j is. same.bound (key_of M n);
+  }
+
+  -- the same nodes are used, and they are in the same buckets, or on their way out of the same ones
+  pub record SameMembers (M : Memory) (G G' : Ghost) : Type 0 where
+    pub tables : SameTables G G'
+    pub moving : MovingStays M G G'
+    pub nodes : (j : ℕ) → (G'.bucket j).nodes ≡ (G.bucket j).nodes
+    pub used : (n : ℕ) → IsUsed (G.node n) → G'.node n ≡ G.node n
+    pub used_before : (n : ℕ) → IsUsed (G'.node n) → G'.node n ≡ G.node n
+    pub bound : (port : ℕ) → G'.bound port ≡ G.bound port
+
+  pub Owned-frame : (M M' : Memory) (G G' : Ghost) → Whole env mix M G → SameMembers M G G' → UsedStay M G M'
       → Owned env mix M' G'
   Owned-frame M M' G G' whole same words =
       let owned = whole.owned in
+      let stays : (n : ℕ) (o : Owner) → G.node n ≡ o → IsUsed o → G'.node n ≡ o =
+      λ n o is used. same.used n (ap is_used is ∙ used) ∙ is in
+      let was : (n : ℕ) (o : Owner) → G'.node n ≡ o → IsUsed o → G.node n ≡ o =
+      λ n o is used. sym (same.used_before n (ap is_used is ∙ used)) ∙ is in
       record {
-        member = λ j n i. same.firsts_after n j (owned.member j n (rw (sym (same.nodes j)) i));
+        member = λ j n i. stays n (First j) (owned.member j n (rw (sym (same.nodes j)) i)) refl;
         first_at = λ n j f.
-            let before = same.firsts_before n j f in
+            let before = was n (First j) f refl in
             let at = owned.first_at n j before in
             let key = first_stays M M' G whole words n j KeyWord before in
             record {
@@ -299,8 +594,10 @@ module _ (env : Env) (mix : ℕ → ℕ → ℕ → ℕ) where
               behind = at.behind;
               bound_to = ap G'.bound key ∙ same.bound (key_of M n) ∙ at.bound_to;
             };
+        leaving_at = Leaving-frame M M' G G' whole same.tables same.moving
+            (entry_words M M' G whole words);
         behind_in = λ n port f.
-            let before = same.behind_before n port f in
+            let before = was n (Behind port) f refl in
             let is = owned.behind_in n port before in
             record {
               among = is.among;
@@ -312,38 +609,51 @@ module _ (env : Env) (mix : ℕ → ℕ → ℕ → ℕ) where
             };
         bound_to = λ port n behind b.
             let to = owned.bound_to port n behind (sym (same.bound port) ∙ b) in
-            let link = first_stays M M' G whole words n to.bucket ListLink to.first in
+            let link = seat_stays M M' G whole words n to.bucket ListLink to.first in
             record {
               bucket = to.bucket;
-              first = same.firsts_after n to.bucket to.first;
-              key_is = first_stays M M' G whole words n to.bucket KeyWord to.first ∙ to.key_is;
+              first = ap seat_of (same.used n (seat-used (G.node n) to.bucket to.first)) ∙ to.first;
+              key_is = seat_stays M M' G whole words n to.bucket KeyWord to.first ∙ to.key_is;
               list = rw link (IsSegment-members (list_of M) (list_of M') (list_of M n) behind 0
                   (λ m i. words.lists m (owned.behind_in m port (to.each m i)).among
                   (ap is_used (to.each m i))) to.list);
               distinct = to.distinct;
-              each = λ m i. same.behind_after m port (to.each m i);
+              each = λ m i. stays m (Behind port) (to.each m i) refl;
             };
         single = λ one port n behind b. owned.single one port n behind (sym (same.bound port) ∙ b);
       }
 
   -- ---- the whole
 
-  -- What is left to show of a store to no word of a table, where chains and their nodes' words stay: that locks, the map
-  -- of nodes and the count are right.
+  -- What is left to show of a store to no word of a table, where chains and their nodes' words stay: that no blank bucket changes, and
+  -- that locks, the map of nodes and the count are right.
   pub Whole-frame : (M M' : Memory) (G G' : Ghost) (a : Address) (v : ℕ) → Whole env mix M G
-      → IsWrite env.geometry M M' a v → IsNoTableWord G a
+      → IsWrite env.geometry M M' a v → IsNoTableWord a
       → SameChains G G' → UsedStay M G M'
+      → ((j : ℕ) → IsNoBucket env mix G (G.page (j / 64)) j → G'.bucket j ≡ G.bucket j)
       → ((j : ℕ) → j < 64 * env.geometry.pages → LockedRight env mix M' j (G'.bucket j))
       → ArenaRight env mix M' G' → M' PortCount ≡ firsts env mix G' + raisers env mix G' → Whole env mix M' G'
-  Whole-frame M M' G G' a v whole write apart same words locked arena counted = record {
-    tables = TablesRight-write M M' G G' a v write apart same.tables whole.tables;
+  Whole-frame M M' G G' a v whole write apart same words blanks locked arena counted = record {
+    one = same.tables.attached ∙ whole.one;
+    tables = TablesRight-write M M' G G' a v write (is_apart G a apart) same.tables whole.tables;
+    slots = SlotsRight-write M M' G G' a v write apart.work (λ s. apart.slots s StateWord) same.tables whole.slots;
+    pages = PagesRight-write M M' G G' a v write apart.pages same.tables blanks whole.pages;
     buckets = λ j l. record {
       locked = locked j l;
-      chained = ChainedRight-frame M M' j (G.bucket j) (G'.bucket j) (same.nodes j) (same.plain j)
+      chained = ChainedRight-frame M M' j (G.bucket j) (G'.bucket j) (same.nodes j) (same.plain j) (same.out j)
           (λ n i. first_stays M M' G whole words n j ChainLink (whole.owned.member j n i))
           (whole.buckets j l).chained;
     };
-    owned = Owned-frame M M' G G' whole same words;
+    moving = MovingRight-frame M M' G G' whole same.tables (chains_moving M G G' whole same)
+        (entry_words M M' G whole words);
+    owned = Owned-frame M M' G G' whole (record {
+      tables = same.tables;
+      moving = chains_moving M G G' whole same;
+      nodes = same.nodes;
+      used = same.used;
+      used_before = same.used_before;
+      bound = same.bound;
+    }) words;
     arena = arena;
     counted = counted;
   }

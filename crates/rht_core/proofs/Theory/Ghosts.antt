@@ -1,7 +1,7 @@
 -- What the words of a run don't say, or say only to who follows every link: who holds each lock, node,
 -- page and slot, which table each slot has, which nodes each bucket has, and which nodes each port is bound to.
 -- It stands in no definition of a run. The invariant says that there is such a ghost after each event.
-use Rattle.std.proofs.Common.{◌≡◌, ◌≢◌, ℕ, ◌/◌, List, [], ◌∷◌, refl, sym, ap, ◌∙◌, inl, inr, Bool, true, false, cond, Option, Some, None, ◌==◌}
+use Rattle.std.proofs.Common.{◌≡◌, ◌≢◌, ◌⊎◌, ℕ, ◌/◌, List, [], ◌∷◌, refl, sym, ap, ◌∙◌, inl, inr, Bool, true, false, cond, Option, Some, None, ◌==◌}
 use Rattle.std.proofs.lemmas.Bool.{cases_eq, eqb-true, eq-eqb}
 
 -- ---- functions changed at one place
@@ -51,6 +51,10 @@ pub record Bucket : Type 0 where
   pub out : Option ℕ
   pub armed : Option ℕ
 
+-- a bucket of which nothing is known but that its word is 0, as that of each word of the pages that no table has
+abbrev pub blank_bucket : Bucket
+blank_bucket = record { nodes = []; plain = 0; holder = None; out = None; armed = None }
+
 -- Who has a node: nobody; a caller that took it; the chain of a bucket, whole or on the way out; the list behind a port's first
 -- node; or the call that took it out
 pub data Owner : Type 0 where
@@ -89,6 +93,13 @@ pub record Ghost : Type 0 where
   pub slot : ℕ → SlotOwner
   pub worker : Option ℕ
   pub raised : ℕ → Bool
+
+-- the state word of a slot
+abbrev pub state_word : SlotOwner → ℕ
+state_word SlotFree = 0
+state_word (SlotHeld c) = 1
+state_word (Live τ) = 1
+state_word (Retired τ) = 2
 
 -- 1 where a lock is held
 abbrev pub lock_bit : Option ℕ → ℕ
@@ -171,6 +182,44 @@ table_of_slot (Retired τ) = τ
 abbrev pub index_at : Ghost → ℕ → ℕ
 index_at G slot = table_of_slot (G.slot slot)
 
+-- who has a seat stays there, or is on its way out
+abbrev pub IsSeated : Owner → ℕ → Type 0
+IsSeated o j = (o ≡ First j) ⊎ (o ≡ Leaving j)
+
+pub seated : (o : Owner) (j : ℕ) → seat_of o ≡ Some j → IsSeated o j
+seated Free j is = absurd (cc)
+seated (Held c) j is = absurd (cc)
+seated (First i) j is = inl (let same : i ≡ j = cc in ap First same)
+seated (Leaving i) j is = inr (let same : i ≡ j = cc in ap Leaving same)
+seated (Behind k) j is = absurd (cc)
+seated (Taken c) j is = absurd (cc)
+
+-- such a node is used, and is in a chain
+pub seat-used : (o : Owner) (j : ℕ) → seat_of o ≡ Some j → IsUsed o
+seat-used Free j is = absurd (cc)
+seat-used (Held c) j is = absurd (cc)
+seat-used (First i) j is = refl
+seat-used (Leaving i) j is = refl
+seat-used (Behind k) j is = absurd (cc)
+seat-used (Taken c) j is = absurd (cc)
+
+pub seat-first : (o : Owner) (j : ℕ) → seat_of o ≡ Some j → is_first o ≡ true
+seat-first Free j is = absurd (cc)
+seat-first (Held c) j is = absurd (cc)
+seat-first (First i) j is = refl
+seat-first (Leaving i) j is = refl
+seat-first (Behind k) j is = absurd (cc)
+seat-first (Taken c) j is = absurd (cc)
+
+-- nobody has taken it out
+pub seat-not_out : (o : Owner) (j c : ℕ) → seat_of o ≡ Some j → is_taken_by c o ≡ false
+seat-not_out Free j c is = absurd (cc)
+seat-not_out (Held d) j c is = absurd (cc)
+seat-not_out (First i) j c is = refl
+seat-not_out (Leaving i) j c is = refl
+seat-not_out (Behind k) j c is = absurd (cc)
+seat-not_out (Taken d) j c is = absurd (cc)
+
 -- a node that is no port's is in no chain
 pub unused-not_first : (o : Owner) → is_used o ≡ false → is_first o ≡ false
 unused-not_first Free is = refl
@@ -218,9 +267,19 @@ some-same x y e = cc
 
 -- ---- ghosts after a move
 
--- a bucket with another holder
+-- a bucket with another holder, in which nobody is armed
+abbrev pub held_by : Bucket → Option ℕ → Bucket
+held_by b holder = record b { holder = holder; armed = None }
+
 abbrev pub with_holder : Ghost → ℕ → Option ℕ → Ghost
-with_holder G j holder = record G { bucket = put G.bucket j (record (G.bucket j) { holder = holder }) }
+with_holder G j holder = record G { bucket = put G.bucket j (held_by (G.bucket j) holder) }
+
+-- a bucket in which a caller is armed
+abbrev pub armed_by : Bucket → ℕ → Bucket
+armed_by b c = record b { armed = Some c }
+
+abbrev pub with_armed : Ghost → ℕ → ℕ → Ghost
+with_armed G j c = record G { bucket = put G.bucket j (armed_by (G.bucket j) c) }
 
 -- a node with another owner
 abbrev pub with_owner : Ghost → ℕ → Owner → Ghost

@@ -1,20 +1,21 @@
 -- What a caller knows in each state, and why nobody else's step takes it away.
 -- What it knows speaks of words and ghosts on which the caller holds the right, or which nobody changes. It is of three kinds: of the
 -- node that it has taken, of the table in which it looks for a port, and of the bucket that it has locked.
-use Rattle.std.proofs.Common.{◌≡◌, ◌≢◌, ◌⊎◌, ℕ, ◌<◌, ◌≤◌, List, [], ◌∷◌, ◌++◌, map, Option, Some, None, Bool, true, refl, sym, ◌∙◌, ap, subst, inl, inr}
+use Rattle.std.proofs.Common.{◌≡◌, ◌≢◌, ◌⊎◌, ℕ, ◌+◌, ◌<◌, ◌≤◌, List, [], ◌∷◌, ◌++◌, map, Option, Some, None, Bool, true, false, refl, sym, ◌∙◌, ap, subst, inl, inr, arith}
 use Rattle.std.specs.Prelude.{IfSome}
 use Rattle.rht_words.specs.declared.env.Env.{Env}
-use Rattle.rht_words.specs.Places.{Node, NodeWord, ChainLink, KeyWord, OwnerWord, ListLink, IsBucketPlace}
+use Rattle.rht_words.specs.Places.{Slot, SlotWord, ShapeWord, SeedWord, FutureWord, SerialWord, IsSlotWord, Node, NodeWord, ChainLink, KeyWord, OwnerWord, ListLink, IsBucketPlace}
+use Rattle.rht_words.specs.Shapes.{unpacked, size_of}
 use Rattle.rht_words.specs.Ports.{owner_of}
-use Rattle.rht_words.specs.Links.{link_of}
+use Rattle.rht_words.specs.Links.{link_of, head_of}
 use Rattle.rht_words.specs.Held as held
 use Rattle.rht_words.proofs.Memory.{Memory}
 use Rattle.rht_words.specs.Members.{In}
 use Rattle.rht_words.proofs.Members.{In-append_left, In-append_cases, in-middle}
 use Rattle.rht_policy.specs.Mix.{bucket_of}
-use Rattle.rht_core.proofs.Theory.Ghosts.{Bucket, Held, Ghost, is_used, is_taken_by, IsUsed, has_table, index_at}
-use Rattle.rht_core.proofs.Theory.Wholes.{chain_of, key_of, place_at, word_index, home, Whole}
-use Rattle.rht_core.proofs.Theory.Passed.{NoKey, NoKey-same, Passed}
+use Rattle.rht_core.proofs.Theory.Ghosts.{Bucket, Held, Leaving, First, PageHeld, SlotHeld, Ghost, is_used, is_taken_by, IsUsed, seat-used, table_at, has_table, index_at}
+use Rattle.rht_core.proofs.Theory.Wholes.{chain_of, key_of, place_at, word_index, home, pages_of, MovesNone, moves_none, seated_at, out-seated, Whole}
+use Rattle.rht_core.proofs.Theory.Passed.{NoKey, NoKey-same, Passed, place-table, TablesGrow, table_at-grows, home-stays}
 
 -- ---- what may be known
 
@@ -26,10 +27,13 @@ pub record KnownNode : Type 0 where
   pub owner : Option ℕ
   pub list : Option ℕ
 
--- of the way to a port's bucket: nothing, or that none of the tables before the one in this slot binds the port; the table's
--- shape; and at which place the port's bucket is, whether the shape is known or not
+-- Of the way to a port's bucket: nothing, or that none of the tables before the one in this slot binds the port; the table's
+-- shape; and at which place the port's bucket is, whether the shape is known or not. Of a table, for whatever port: which slot it has,
+-- and its shape.
 pub data KnownTable : Type 0 where
   Nowhere : KnownTable
+  InSlot : ℕ → KnownTable
+  WithShape : ℕ → ℕ → KnownTable
   Passes : ℕ → ℕ → KnownTable
   Shaped : ℕ → ℕ → ℕ → KnownTable
   AtHome : ℕ → ℕ → Option ℕ → ℕ → KnownTable
@@ -53,12 +57,15 @@ pub data KnownList : Type 0 where
   Collected : ℕ → List ℕ → KnownList
   CollectedTo : ℕ → List ℕ → KnownList
 
--- Of a bucket that it has locked, whose word was this before: nothing more; at which node of it a walk for a key stands, before or
+-- Of a bucket that it has locked, whose word was this before: nothing more, not even whether a bind is armed there; that none is; that the
+-- caller is armed there for this port; at which node of it a walk for a key stands, before or
 -- behind the load of the node's key; that none of its nodes has the key; its first node that has it; a node that has it; or one of
 -- the nodes to which the key's port is bound, with the owner of the first of them; or what is known of the list of that port. A node that the caller has taken out, with or
 -- without a bucket locked. Beside the node at which a walk stands is the one before it.
 pub data KnownBucket : Type 0 where
   Unlocked : KnownBucket
+  Unlocks : ℕ → ℕ → KnownBucket
+  Armed : ℕ → ℕ → ℕ → KnownBucket
   Locks : ℕ → ℕ → KnownBucket
   Stands : ℕ → ℕ → ℕ → ℕ → Option ℕ → KnownBucket
   Differs : ℕ → ℕ → ℕ → ℕ → Option ℕ → KnownBucket
@@ -70,11 +77,55 @@ pub data KnownBucket : Type 0 where
   TakenOut : ℕ → KnownBucket
   LocksTakenOut : ℕ → ℕ → ℕ → KnownBucket
 
+-- a slot that the caller has, and those of its words that are known
+pub record KnownSlot : Type 0 where
+  pub slot : ℕ
+  pub shape : Option ℕ
+  pub seed : Option ℕ
+  pub future : Option ℕ
+  pub serial : Option ℕ
+
+-- Of a table that the caller makes: nothing; the slot that it has taken and its pages; or the slot, with the shape and the seed of a
+-- table that can be attached.
+pub data KnownMaking : Type 0 where
+  MakesNothing : KnownMaking
+  HasTaken : KnownSlot → List ℕ → KnownMaking
+  HasMade : ℕ → ℕ → ℕ → KnownMaking
+
+-- an entry of a bucket that the work has locked: the place of the bucket's word, what that was before, the entry, and the one before it
+pub record KnownEntry : Type 0 where
+  pub place : ℕ
+  pub word : ℕ
+  pub entry : ℕ
+  pub before : Option ℕ
+
+-- Of the work that the caller does: none; that it does the work; the slot of the current table; and how many of that table's buckets are
+-- emptied. Of an entry of the next one: that it is in it; that it is the last one there; that the place is locked, whose word was
+-- this, to which the entry goes; that it is out of its bucket, and its link leads to the first node of that place; and that it is in a
+-- table behind the current one.
+pub data KnownWork : Type 0 where
+  NoWork : KnownWork
+  Works : KnownWork
+  Rooted : ℕ → KnownWork
+  Empties : ℕ → ℕ → KnownWork
+  AtEntry : ℕ → ℕ → KnownEntry → KnownWork
+  AtTail : ℕ → ℕ → KnownEntry → KnownWork
+  Brings : ℕ → ℕ → KnownEntry → ℕ → ℕ → KnownWork
+  TakesOut : ℕ → ℕ → KnownEntry → ℕ → ℕ → KnownWork
+  HasBrought : ℕ → ℕ → KnownEntry → KnownWork
+
 -- what a caller knows in a state
 pub record Known : Type 0 where
   pub node : Option KnownNode
   pub table : KnownTable
   pub bucket : KnownBucket
+  pub making : KnownMaking
+  pub work : KnownWork
+
+-- what a caller knows that makes no table and does no work
+abbrev pub knows_plain : Option KnownNode → KnownTable → KnownBucket → Known
+knows_plain node table bucket =
+    record { node = node; table = table; bucket = bucket; making = MakesNothing; work = NoWork }
 
 -- the last of these nodes
 abbrev pub last_of : List ℕ → Option ℕ
@@ -191,16 +242,48 @@ module _ (env : Env) (mix : ℕ → ℕ → ℕ → ℕ) where
     pub bucket : IsBucketPlace env.geometry place
     pub here : home env mix G port (index_at G slot) ≡ Some (word_index env mix place)
 
+  -- a table has this slot, and this shape
+  pub record HasShape (G : Ghost) (slot shape : ℕ) : Type 0 where
+    pub table : has_table (G.slot slot) ≡ true
+    pub attached : index_at G slot < G.attached
+    pub shape_is : (G.table (index_at G slot)).shape ≡ shape
+
   abbrev pub TableMeans : Ghost → KnownTable → Type 0
   TableMeans G Nowhere = Unit {0}
+  TableMeans G (InSlot slot) = has_table (G.slot slot) ≡ true
+  TableMeans G (WithShape slot shape) = HasShape G slot shape
   TableMeans G (Passes port slot) = IsPassing G port slot
   TableMeans G (Shaped port slot shape) = IsShaped G port slot shape
   TableMeans G (AtHome port slot shape place) = IsAtHome G port slot shape place
+
+  -- the caller has locked the bucket, in which it may be armed, and out of which an entry may be on its way; or neither is so
+  pub record HasLock (c : ℕ) (G : Ghost) (place word : ℕ) : Type 0 where
+    pub bucket : IsBucketPlace env.geometry place
+    pub holder : (bucket_at G place).holder ≡ Some c
+    pub plain : (bucket_at G place).plain ≡ word
 
   pub record HoldsLock (c : ℕ) (G : Ghost) (place word : ℕ) : Type 0 where
     pub bucket : IsBucketPlace env.geometry place
     pub holder : (bucket_at G place).holder ≡ Some c
     pub plain : (bucket_at G place).plain ≡ word
+    pub unarmed : (bucket_at G place).armed ≡ None
+    pub still : (bucket_at G place).out ≡ None
+
+  pub has_lock : (c : ℕ) (G : Ghost) (place word : ℕ) → HoldsLock c G place word → HasLock c G place word
+  has_lock c G place word lock = record { bucket = lock.bucket; holder = lock.holder; plain = lock.plain }
+
+  -- The caller has found in the port's bucket in this table that the port isn't bound there, nor in an earlier table, and that no table is
+  -- behind it.
+  pub record ArmedFor (G : Ghost) (c port τ j : ℕ) : Type 0 where
+    pub passed : Passed env mix G port τ
+    pub here : home env mix G port τ ≡ Some j
+    pub armed : (G.bucket j).armed ≡ Some c
+    pub unbound : G.bound port ≡ []
+
+  pub record IsArmed (c : ℕ) (G : Ghost) (place word port : ℕ) : Type 0 where
+    pub lock : HasLock c G place word
+    pub table : ℕ
+    pub armed : ArmedFor G c port table (word_index env mix place)
 
   pub record IsStanding (c : ℕ) (M : Memory) (G : Ghost) (place word key node : ℕ) (before : Option ℕ) :
       Type 0 where
@@ -280,6 +363,8 @@ module _ (env : Env) (mix : ℕ → ℕ → ℕ → ℕ) where
 
   abbrev pub BucketMeans : ℕ → Memory → Ghost → KnownBucket → Type 0
   BucketMeans c M G Unlocked = Unit {0}
+  BucketMeans c M G (Unlocks place word) = HasLock c G place word
+  BucketMeans c M G (Armed place word port) = IsArmed c G place word port
   BucketMeans c M G (Locks place word) = HoldsLock c G place word
   BucketMeans c M G (Stands place word key node before) = IsStanding c M G place word key node before
   BucketMeans c M G (Differs place word key node before) = IsDiffering c M G place word key node before
@@ -309,6 +394,8 @@ module _ (env : Env) (mix : ℕ → ℕ → ℕ → ℕ) where
 
   abbrev pub IsPlain : KnownBucket → Type 0
   IsPlain Unlocked = Unit {0}
+  IsPlain (Unlocks place word) = Unit {0}
+  IsPlain (Armed place word port) = Unit {0}
   IsPlain (Locks place word) = Unit {0}
   IsPlain (Stands place word key node before) = Unit {0}
   IsPlain (Differs place word key node before) = Unit {0}
@@ -320,32 +407,176 @@ module _ (env : Env) (mix : ℕ → ℕ → ℕ → ℕ) where
   IsPlain (TakenOut node) = Unit {0}
   IsPlain (LocksTakenOut place word node) = Unit {0}
 
+  -- ---- tables that callers make
+
+  pub record HasSlot (c : ℕ) (G : Ghost) (slot : ℕ) : Type 0 where
+    pub within : slot < 8
+    pub mine : G.slot slot ≡ SlotHeld c
+
+  pub record SlotMeans (c : ℕ) (M : Memory) (G : Ghost) (known : KnownSlot) : Type 0 where
+    pub has : HasSlot c G known.slot
+    pub shape : IfSome known.shape (λ value. M (Slot known.slot ShapeWord) ≡ value)
+    pub seed : IfSome known.seed (λ value. M (Slot known.slot SeedWord) ≡ value)
+    pub future : IfSome known.future (λ value. M (Slot known.slot FutureWord) ≡ value)
+    pub serial : IfSome known.serial (λ value. M (Slot known.slot SerialWord) ≡ value)
+
+  pub record IsTaken (c : ℕ) (M : Memory) (G : Ghost) (known : KnownSlot) (pages : List ℕ) : Type 0 where
+    pub slot : SlotMeans c M G known
+    pub mine : (p : ℕ) → In p pages → G.page p ≡ PageHeld c
+
+  -- the slot's words are those of a flat table that nothing follows, and the caller has all the pages of its run
+  pub record IsMade (c : ℕ) (M : Memory) (G : Ghost) (slot shape seed : ℕ) : Type 0 where
+    pub has : HasSlot c G slot
+    pub shape_is : M (Slot slot ShapeWord) ≡ shape
+    pub seed_is : M (Slot slot SeedWord) ≡ seed
+    pub future_is : M (Slot slot FutureWord) ≡ 0
+    pub flat : (unpacked shape).nest ≡ 0
+    pub fits : (unpacked shape).page + pages_of env mix shape ≤ env.geometry.pages
+    pub run : (p : ℕ) → (unpacked shape).page ≤ p → p < (unpacked shape).page + pages_of env mix shape
+        → G.page p ≡ PageHeld c
+
+  abbrev pub MakingMeans : ℕ → Memory → Ghost → KnownMaking → Type 0
+  MakingMeans c M G MakesNothing = Unit {0}
+  MakingMeans c M G (HasTaken slot pages) = IsTaken c M G slot pages
+  MakingMeans c M G (HasMade slot shape seed) = IsMade c M G slot shape seed
+
+  -- ---- the work
+
+  abbrev pub IsRoot : Ghost → ℕ → Type 0
+  IsRoot G root = (G.table G.current).slot ≡ root
+
+  -- a bucket of which every entry has been moved
+  pub record IsEmptied (b : Bucket) : Type 0 where
+    pub nodes : b.nodes ≡ []
+    pub out : b.out ≡ None
+    pub armed : b.armed ≡ None
+
+  -- a table is behind the current one, in the slot `root`, whose buckets with smaller numbers are emptied
+  pub record IsEmptying (G : Ghost) (root count : ℕ) : Type 0 where
+    pub root_is : IsRoot G root
+    pub within : count ≤ size_of (unpacked (G.table G.current).shape)
+    pub more : G.current + 1 < G.attached
+    pub each : (b j : ℕ) → b < count → (G.table G.current).place b ≡ Some j → IsEmptied (G.bucket j)
+
+  -- an entry of the bucket of the current table that is to be emptied next
+  pub record IsEntry (c : ℕ) (G : Ghost) (root count : ℕ) (at : KnownEntry) : Type 0 where
+    pub empties : IsEmptying G root count
+    pub lock : HasLock c G at.place at.word
+    pub here : (G.table G.current).place count ≡ Some (word_index env mix at.place)
+    pub out : (bucket_at G at.place).out ≡ None
+    pub among : IsAmong (bucket_at G at.place).nodes at.entry at.before
+
+  -- and the last one there
+  pub record IsTail (c : ℕ) (G : Ghost) (root count : ℕ) (at : KnownEntry) : Type 0 where
+    pub entry : IsEntry c G root count at
+    pub last : entry.among.rear ≡ []
+
+  -- the place is locked to which an entry goes, in a table behind the current one
+  pub record IsTarget (c : ℕ) (M : Memory) (G : Ghost) (entry place word : ℕ) : Type 0 where
+    pub lock : HasLock c G place word
+    pub table : ℕ
+    pub later : G.current < table
+    pub attached : table < G.attached
+    pub here : home env mix G (key_of M entry) table ≡ Some (word_index env mix place)
+
+  pub record IsBringing (c : ℕ) (M : Memory) (G : Ghost) (root count : ℕ) (at : KnownEntry)
+      (place word : ℕ) : Type 0 where
+    pub tail : IsTail c G root count at
+    pub target : IsTarget c M G at.entry place word
+
+  -- the entry of a bucket that the work has locked is on its way out of it, and was behind this one
+  pub record IsOutOf (c : ℕ) (G : Ghost) (root count : ℕ) (at : KnownEntry) : Type 0 where
+    pub empties : IsEmptying G root count
+    pub lock : HasLock c G at.place at.word
+    pub here : (G.table G.current).place count ≡ Some (word_index env mix at.place)
+    pub out : (bucket_at G at.place).out ≡ Some at.entry
+    pub last : at.before ≡ last_of (bucket_at G at.place).nodes
+
+  pub record IsTakenOut (c : ℕ) (M : Memory) (G : Ghost) (root count : ℕ) (at : KnownEntry)
+      (place word : ℕ) : Type 0 where
+    pub out : IsOutOf c G root count at
+    pub leaving : G.node at.entry ≡ Leaving (word_index env mix at.place)
+    pub target : IsTarget c M G at.entry place word
+    pub chain : chain_of M at.entry ≡ head_of place word
+
+  pub record IsBrought (c : ℕ) (G : Ghost) (root count : ℕ) (at : KnownEntry) : Type 0 where
+    pub out : IsOutOf c G root count at
+    pub bucket : ℕ
+    pub first : G.node at.entry ≡ First bucket
+    pub later : G.current < table_at G bucket
+
+  -- what is known while the caller does the work
+  pub record IsWorking (c : ℕ) (G : Ghost) (More : Type 0) : Type 0 where
+    pub works : G.worker ≡ Some c
+    pub more : More
+
+  abbrev pub WorkMeans : ℕ → Memory → Ghost → KnownWork → Type 0
+  WorkMeans c M G NoWork = Unit {0}
+  WorkMeans c M G Works = IsWorking c G (Unit {0})
+  WorkMeans c M G (Rooted root) = IsWorking c G (IsRoot G root)
+  WorkMeans c M G (Empties root count) = IsWorking c G (IsEmptying G root count)
+  WorkMeans c M G (AtEntry root count at) = IsWorking c G (IsEntry c G root count at)
+  WorkMeans c M G (AtTail root count at) = IsWorking c G (IsTail c G root count at)
+  WorkMeans c M G (Brings root count at place word) = IsWorking c G (IsBringing c M G root count at place word)
+  WorkMeans c M G (TakesOut root count at place word) = IsWorking c G (IsTakenOut c M G root count at place word)
+  WorkMeans c M G (HasBrought root count at) = IsWorking c G (IsBrought c G root count at)
+
   pub record Means (c : ℕ) (M : Memory) (G : Ghost) (known : Known) : Type 0 where
     pub node : IfSome known.node (NodeMeans c M G)
     pub table : TableMeans G known.table
     pub bucket : BucketMeans c M G known.bucket
+    pub making : MakingMeans c M G known.making
+    pub work : WorkMeans c M G known.work
 
   -- ---- what it has, and nothing more
 
-  -- the caller has no other node than this, has locked no other bucket than these, and has raised the count where this says so
-  pub record HasOnly (c : ℕ) (G : Ghost) (node lock second : Option ℕ) (raised : Bool) : Type 0 where
+  -- The caller has no other node than this, has locked no other bucket than these, and has raised the count where this says so. It has no
+  -- other slot and pages than these, and does the work only where this says so.
+  pub record HasOnly (c : ℕ) (G : Ghost) (node lock second : Option ℕ) (raised : Bool) (slot : Option ℕ)
+      (pages : List ℕ) (worker : Bool) : Type 0 where
     pub nodes : (n : ℕ) → G.node n ≡ Held c → node ≡ Some n
     pub locks : (j : ℕ) → (G.bucket j).holder ≡ Some c
         → (lock ≡ Some (place_at env mix j)) ⊎ (second ≡ Some (place_at env mix j))
     pub raising : G.raised c ≡ raised
+    pub slots : (s : ℕ) → G.slot s ≡ SlotHeld c → slot ≡ Some s
+    pub pages_in : (p : ℕ) → G.page p ≡ PageHeld c → In p pages
+    pub works : G.worker ≡ Some c → worker ≡ true
 
   abbrev pub Only : {A : Type 0} → ℕ → Ghost → held.Held A → Type 0
-  Only c G h = HasOnly c G h.node h.lock h.second h.raised
+  Only c G h = HasOnly c G h.node h.lock h.second h.raised h.slot h.pages h.worker
+
+  -- so one that doesn't do the work has no entry on its way
+  pub idle_moves_none : (M : Memory) (G : Ghost) → Whole env mix M G → (c : ℕ) {has lock second : Option ℕ}
+      {raised : Bool} {slot : Option ℕ} {pages : List ℕ}
+      → HasOnly c G has lock second raised slot pages false → MovesNone env mix G c
+  idle_moves_none M G whole c only =
+      moves_none env mix M G whole c (λ works. let both = only.works works in cc)
 
   -- ---- what a caller can count on at a step of anybody else
 
   -- the tables that there are stay what they are, others may come, and what was passed stays passed
   pub record TablesStay (G G' : Ghost) : Type 0 where
-    pub tables : (τ : ℕ) → τ < G.attached → G'.table τ ≡ G.table τ
-    pub attached : G.attached ≤ G'.attached
-    pub slots : (s : ℕ) → has_table (G.slot s) ≡ true → has_table (G'.slot s) ≡ true
-    pub indices : (s : ℕ) → has_table (G.slot s) ≡ true → index_at G' s ≡ index_at G s
+    pub grow : TablesGrow env mix G G'
     pub passed : (port τ : ℕ) → Passed env mix G port τ → Passed env mix G' port τ
+
+  -- the slots and the pages that it has, with the words of the slots; and nobody gives it any
+  pub record HoldingsStay (c : ℕ) (M : Memory) (G : Ghost) (M' : Memory) (G' : Ghost) : Type 0 where
+    pub slots : (s : ℕ) → G.slot s ≡ SlotHeld c → G'.slot s ≡ SlotHeld c
+    pub slot_words : (s : ℕ) (word : SlotWord) → HasSlot c G s → IsSlotWord word
+        → M' (Slot s word) ≡ M (Slot s word)
+    pub no_slot : (s : ℕ) → G'.slot s ≡ SlotHeld c → G.slot s ≡ SlotHeld c
+    pub pages : (p : ℕ) → G.page p ≡ PageHeld c → G'.page p ≡ PageHeld c
+    pub no_page : (p : ℕ) → G'.page p ≡ PageHeld c → G.page p ≡ PageHeld c
+
+  -- what a caller that does the work can count on: nobody else makes another table the current one, puts anything into a bucket that it
+  -- has emptied, or touches an entry that is on its way
+  pub record WorkStays (c : ℕ) (M : Memory) (G : Ghost) (M' : Memory) (G' : Ghost) : Type 0 where
+    pub worker : G'.worker ≡ Some c
+    pub current : G'.current ≡ G.current
+    pub emptied : G.current + 1 < G.attached → (j : ℕ) → table_at G j ≡ G.current → IsEmptied (G.bucket j)
+        → IsEmptied (G'.bucket j)
+    pub entries : (j entry : ℕ) → (G.bucket j).out ≡ Some entry → G'.node entry ≡ G.node entry
+    pub chains : (n j : ℕ) → G.node n ≡ Leaving j → chain_of M' n ≡ chain_of M n
 
   -- nodes to which a port is bound are or were ports'
   pub bound_used : (M : Memory) (G : Ghost) → Whole env mix M G → (port : ℕ) (bound : List ℕ)
@@ -354,7 +585,11 @@ module _ (env : Env) (mix : ℕ → ℕ → ℕ → ℕ) where
   bound_used M G whole port [] b n i = absurd i
   bound_used M G whole port (first ∷ behind) b n (inl e) =
       let to = whole.owned.bound_to port first behind b in
-      rw e ((whole.owned.first_at first to.bucket to.first).among, ap is_used to.first)
+      rw e (
+        (seated_at env mix M G whole first to.bucket to.first).among,
+        seat-used (G.node first) to.bucket
+            to.first,
+      )
   bound_used M G whole port (first ∷ behind) b n (inr i) =
       let is = (whole.owned.bound_to port first behind b).each n i in
       ((whole.owned.behind_in n port is).among, ap is_used is)
@@ -389,7 +624,13 @@ module _ (env : Env) (mix : ℕ → ℕ → ℕ → ℕ) where
     pub raised : G'.raised c ≡ G.raised c
     -- which nodes it has taken out of lists
     pub taken : (node : ℕ) → is_taken_by c (G'.node node) ≡ is_taken_by c (G.node node)
-    -- nobody gives it a node or a lock
+    -- the port for which it is armed is bound nowhere
+    pub unbound : (port τ j : ℕ) → ArmedFor G c port τ j → G'.bound port ≡ []
+    -- its slots and pages, and the work
+    pub holdings : HoldingsStay c M G M' G'
+    pub work : G.worker ≡ Some c → WorkStays c M G M' G'
+    -- nobody gives it a node, a lock or the work
+    pub no_work : G'.worker ≡ Some c → G.worker ≡ Some c
     pub no_node : (node : ℕ) → G'.node node ≡ Held c → G.node node ≡ Held c
     pub no_lock : (j : ℕ) → (G'.bucket j).holder ≡ Some c → (G.bucket j).holder ≡ Some c
 
@@ -435,10 +676,13 @@ module _ (env : Env) (mix : ℕ → ℕ → ℕ → ℕ) where
 
     -- of tables: where these stay
     module _ (stay : TablesStay G G') where
+      less : {a b d : ℕ} → a < b → b ≤ d → a < d
+      less l m = omega (arith, l, m)
+
       IsPassing-stay : (port slot : ℕ) → IsPassing G port slot → IsPassing G' port slot
       IsPassing-stay port slot means = record {
-        table = stay.slots slot means.table;
-        passed = rw (stay.indices slot means.table) (stay.passed port (index_at G slot) means.passed);
+        table = stay.grow.slots slot means.table;
+        passed = rw (stay.grow.indices slot means.table) (stay.passed port (index_at G slot) means.passed);
       }
 
       shape-stays : (slot : ℕ) (shape : Option ℕ) → has_table (G.slot slot) ≡ true
@@ -447,12 +691,12 @@ module _ (env : Env) (mix : ℕ → ℕ → ℕ → ℕ) where
           → IfSome shape (λ s. (G'.table (index_at G' slot)).shape ≡ s)
       shape-stays slot None has attached is = tt
       shape-stays slot (Some s) has attached is =
-          ap (λ τ. (G'.table τ).shape) (stay.indices slot has)
-          ∙ ap (λ t. t.shape) (stay.tables (index_at G slot) attached) ∙ is
+          ap (λ τ. (G'.table τ).shape) (stay.grow.indices slot has)
+          ∙ ap (λ t. t.shape) (stay.grow.tables (index_at G slot) attached) ∙ is
 
       IsShaped-stay : (port slot shape : ℕ) → IsShaped G port slot shape → IsShaped G' port slot shape
       IsShaped-stay port slot shape means =
-          let same = stay.tables (index_at G slot) means.passing.passed.attached in
+          let same = stay.grow.tables (index_at G slot) means.passing.passed.attached in
           record {
             passing = IsPassing-stay port slot means.passing;
             shape_is = shape-stays slot (Some shape) means.passing.table means.passing.passed.attached
@@ -461,17 +705,23 @@ module _ (env : Env) (mix : ℕ → ℕ → ℕ → ℕ) where
 
       pub TableMeans-stay : (known : KnownTable) → TableMeans G known → TableMeans G' known
       TableMeans-stay Nowhere means = tt
+      TableMeans-stay (InSlot slot) means = stay.grow.slots slot means
+      TableMeans-stay (WithShape slot shape) means = record {
+        table = stay.grow.slots slot means.table;
+        attached = rw (stay.grow.indices slot means.table) (less means.attached stay.grow.attached);
+        shape_is = shape-stays slot (Some shape) means.table means.attached means.shape_is;
+      }
       TableMeans-stay (Passes port slot) means = IsPassing-stay port slot means
       TableMeans-stay (Shaped port slot shape) means = IsShaped-stay port slot shape means
       TableMeans-stay (AtHome port slot shape place) means =
           let passing = means.passing in
-          let same = stay.tables (index_at G slot) passing.passed.attached in
+          let same = stay.grow.tables (index_at G slot) passing.passed.attached in
           record {
             passing = IsPassing-stay port slot passing;
             shape_is = shape-stays slot shape passing.table passing.passed.attached means.shape_is;
             bucket = means.bucket;
             here =
-                ap (home env mix G' port) (stay.indices slot passing.table)
+                ap (home env mix G' port) (stay.grow.indices slot passing.table)
                 ∙ ap (λ t. t.place (bucket_of mix port t.shape t.seed)) same ∙ means.here;
           }
 
@@ -481,7 +731,8 @@ module _ (env : Env) (mix : ℕ → ℕ → ℕ → ℕ) where
         (lists : (j node : ℕ) → (G.bucket j).holder ≡ Some c → In node (G.bucket j).nodes
         → G'.bound (key_of M node) ≡ G.bound (key_of M node))
         (chains : ChainsStay c M G M') (keys : WordStays KeyWord M G M') (owners : WordStays OwnerWord M G M')
-        (taken : (node : ℕ) → is_taken_by c (G'.node node) ≡ is_taken_by c (G.node node)) where
+        (taken : (node : ℕ) → is_taken_by c (G'.node node) ≡ is_taken_by c (G.node node))
+        (stay : TablesStay G G') (unbound : (port τ j : ℕ) → ArmedFor G c port τ j → G'.bound port ≡ []) where
       key-stays_in : (j node : ℕ) → In node (G.bucket j).nodes → key_of M' node ≡ key_of M node
       key-stays_in j node i = let is = members.member j node i in keys node is.0 is.1
 
@@ -493,6 +744,32 @@ module _ (env : Env) (mix : ℕ → ℕ → ℕ → ℕ) where
             holder = ap (λ b. b.holder) same
                 ∙ holds.holder;
             plain = ap (λ b. b.plain) same ∙ holds.plain;
+            unarmed = ap (λ b. b.armed) same ∙ holds.unarmed;
+            still = ap (λ b. b.out) same ∙ holds.still;
+          }
+
+      HasLock-stay : (place word : ℕ) → HasLock c G place word → HasLock c G' place word
+      HasLock-stay place word holds =
+          let same = locks (word_index env mix place) holds.holder in
+          record {
+            bucket = holds.bucket;
+            holder = ap (λ b. b.holder) same ∙ holds.holder;
+            plain = ap (λ b. b.plain) same ∙ holds.plain;
+          }
+
+      IsArmed-stay : (place word port : ℕ) → IsArmed c G place word port → IsArmed c G' place word port
+      IsArmed-stay place word port is =
+          let j = word_index env mix place in
+          let armed = is.armed in
+          record {
+            lock = HasLock-stay place word is.lock;
+            table = is.table;
+            armed = record {
+              passed = stay.passed port is.table armed.passed;
+              here = home-stays env mix G G' stay.grow port is.table armed.passed.attached ∙ armed.here;
+              armed = ap (λ b. b.armed) (locks j is.lock.holder) ∙ armed.armed;
+              unbound = unbound port is.table j armed;
+            };
           }
 
       nodes-stay : (place word : ℕ) → HoldsLock c G place word
@@ -747,6 +1024,8 @@ module _ (env : Env) (mix : ℕ → ℕ → ℕ → ℕ) where
       pub BucketMeans-stay : (known : KnownBucket) → IsPlain known → BucketMeans c M G known
           → BucketMeans c M' G' known
       BucketMeans-stay Unlocked plain means = tt
+      BucketMeans-stay (Unlocks place word) plain means = HasLock-stay place word means
+      BucketMeans-stay (Armed place word port) plain means = IsArmed-stay place word port means
       BucketMeans-stay (Locks place word) plain means = HoldsLock-stay place word means
       BucketMeans-stay (Stands place word key node before) plain means = IsStanding-stay place word key
           node before means
@@ -787,6 +1066,8 @@ module _ (env : Env) (mix : ℕ → ℕ → ℕ → ℕ) where
           → ((node : ℕ) → HasNode c G node → HasNode c G' node × (chain_of M' node ≡ chain_of M node))
           → BucketMeans c M G known → BucketMeans c M' G' known
       BucketMeans-own Unlocked own means = tt
+      BucketMeans-own (Unlocks place word) own means = BucketMeans-stay (Unlocks place word) tt means
+      BucketMeans-own (Armed place word port) own means = BucketMeans-stay (Armed place word port) tt means
       BucketMeans-own (Locks place word) own means = BucketMeans-stay (Locks place word) tt means
       BucketMeans-own (Stands place word key node before) own means = BucketMeans-stay
           (Stands place word key node before) tt means
@@ -822,27 +1103,219 @@ module _ (env : Env) (mix : ℕ → ℕ → ℕ → ℕ) where
       BucketMeans-own (LocksTakenOut place word node) own means = BucketMeans-stay
           (LocksTakenOut place word node) tt means
 
+  -- of a table that the caller makes: where its slots and pages stay
+  module _ (c : ℕ) (M M' : Memory) (G G' : Ghost) (stay : HoldingsStay c M G M' G') where
+    HasSlot-stay : (slot : ℕ) → HasSlot c G slot → HasSlot c G' slot
+    HasSlot-stay slot has = record { within = has.within; mine = stay.slots slot has.mine }
+
+    slot-word-stays : (slot : ℕ) (word : SlotWord) (known : Option ℕ) → HasSlot c G slot → IsSlotWord word
+        → IfSome known (λ value. M (Slot slot word) ≡ value) → IfSome known (λ value. M' (Slot slot word) ≡ value)
+    slot-word-stays slot word None has within is = tt
+    slot-word-stays slot word (Some value) has within is = stay.slot_words slot word has within ∙ is
+
+    pub MakingMeans-stay : (known : KnownMaking) → MakingMeans c M G known → MakingMeans c M' G' known
+    MakingMeans-stay MakesNothing means = tt
+    MakingMeans-stay (HasTaken known pages) means =
+        let slot = known.slot in
+        let has = means.slot.has in
+        record {
+          slot = record {
+            has = HasSlot-stay slot has;
+            shape = slot-word-stays slot ShapeWord known.shape has tt means.slot.shape;
+            seed = slot-word-stays slot SeedWord known.seed has tt means.slot.seed;
+            future = slot-word-stays slot FutureWord known.future has tt means.slot.future;
+            serial = slot-word-stays slot SerialWord known.serial has tt means.slot.serial;
+          };
+          mine = λ p i. stay.pages p (means.mine p i);
+        }
+    MakingMeans-stay (HasMade slot shape seed) means = record {
+      has = HasSlot-stay slot means.has;
+      shape_is = stay.slot_words slot ShapeWord means.has tt ∙ means.shape_is;
+      seed_is = stay.slot_words slot SeedWord means.has tt ∙ means.seed_is;
+      future_is = stay.slot_words slot FutureWord means.has tt ∙ means.future_is;
+      flat = means.flat;
+      fits = means.fits;
+      run = λ p from below. stay.pages p (means.run p from below);
+    }
+
+  -- of the work: where the current table stays, the caller's buckets, and the entry on its way
+  module _ (c : ℕ) (M M' : Memory) (G G' : Ghost) (whole : Whole env mix M G) (rely : Rely c M G M' G')
+      (works : G.worker ≡ Some c) where
+    stays : WorkStays c M G M' G'
+    stays = rely.work works
+
+    same_table : G'.table G'.current ≡ G.table G.current
+    same_table = ap G'.table stays.current ∙ rely.tables.grow.tables G.current whole.tables.current_in
+
+    lock-stays : (place word : ℕ) → HasLock c G place word → HasLock c G' place word
+    lock-stays place word holds =
+        let same = rely.locks (word_index env mix place) holds.holder in
+        record {
+          bucket = holds.bucket;
+          holder = ap (λ b. b.holder) same ∙ holds.holder;
+          plain = ap (λ b. b.plain) same ∙ holds.plain;
+        }
+
+    IsRoot-stay : (root : ℕ) → IsRoot G root → IsRoot G' root
+    IsRoot-stay root is = ap (λ t. t.slot) same_table ∙ is
+
+    IsEmptying-stay : (root count : ℕ) → IsEmptying G root count → IsEmptying G' root count
+    IsEmptying-stay root count is = record {
+      root_is = IsRoot-stay root is.root_is;
+      within = subst (λ t. count ≤ size_of (unpacked t.shape)) (sym same_table) is.within;
+      more = omega (arith, is.more, stays.current, rely.tables.grow.attached);
+      each = λ b j l at.
+          let was : (G.table G.current).place b ≡ Some j = ap (λ t. t.place b) (sym same_table) ∙ at in
+          let there = place-table env mix M G whole G.current b j whole.tables.current_in
+          (omega (arith, l, is.within)) was in
+          stays.emptied is.more j there (is.each b j l was);
+    }
+
+    bucket-stays : (place word : ℕ) → HasLock c G place word → bucket_at G' place ≡ bucket_at G place
+    bucket-stays place word lock = rely.locks (word_index env mix place) lock.holder
+
+    IsEntry-stay : (root count : ℕ) (at : KnownEntry) → IsEntry c G root count at → IsEntry c G' root count at
+    IsEntry-stay root count at is =
+        let same = bucket-stays at.place at.word is.lock in
+        record {
+          empties = IsEmptying-stay root count is.empties;
+          lock = lock-stays at.place at.word is.lock;
+          here = ap (λ t. t.place count) same_table ∙ is.here;
+          out = ap (λ b. b.out) same ∙ is.out;
+          among = record {
+            front = is.among.front;
+            rear = is.among.rear;
+            split = ap (λ b. b.nodes) same ∙ is.among.split;
+            last = is.among.last;
+          };
+        }
+
+    IsTail-stay : (root count : ℕ) (at : KnownEntry) → IsTail c G root count at → IsTail c G' root count at
+    unfolding IsEntry-stay
+    IsTail-stay root count at is = record { entry = IsEntry-stay root count at is.entry; last = is.last }
+
+    IsTarget-stay : (entry place word : ℕ) → key_of M' entry ≡ key_of M entry → IsTarget c M G entry place word
+        → IsTarget c M' G' entry place word
+    IsTarget-stay entry place word key is = record {
+      lock = lock-stays place word is.lock;
+      table = is.table;
+      later = omega (arith, is.later, stays.current);
+      attached = omega (arith, is.attached, rely.tables.grow.attached);
+      here = ap (λ k. home env mix G' k is.table) key
+          ∙ home-stays env mix G G' rely.tables.grow (key_of M entry) is.table is.attached ∙ is.here;
+    }
+
+    IsBringing-stay : (root count : ℕ) (at : KnownEntry) (place word : ℕ)
+        → IsBringing c M G root count at place word → IsBringing c M' G' root count at place word
+    IsBringing-stay root count at place word is =
+        let among = is.tail.entry.among in
+        let j = word_index env mix at.place in
+        let there : In at.entry (G.bucket j).nodes = rw among.split (in-middle at.entry among.front among.rear) in
+        let used = (members_used M G whole).member j at.entry there in
+        record {
+          tail = IsTail-stay root count at is.tail;
+          target = IsTarget-stay at.entry place word (rely.keys at.entry used.0 used.1) is.target;
+        }
+
+    IsOutOf-stay : (root count : ℕ) (at : KnownEntry) → IsOutOf c G root count at → IsOutOf c G' root count at
+    IsOutOf-stay root count at is =
+        let same = bucket-stays at.place at.word is.lock in
+        record {
+          empties = IsEmptying-stay root count is.empties;
+          lock = lock-stays at.place at.word is.lock;
+          here = ap (λ t. t.place count) same_table ∙ is.here;
+          out = ap (λ b. b.out) same ∙ is.out;
+          last = is.last ∙ sym (ap (λ b. last_of b.nodes) same);
+        }
+
+    out-key : (root count : ℕ) (at : KnownEntry) → IsOutOf c G root count at
+        → key_of M' at.entry ≡ key_of M at.entry
+    out-key root count at is =
+        let out = whole.moving.out (word_index env mix at.place) at.entry is.out in
+        let seat = out-seated env mix M G (word_index env mix at.place) at.entry out in
+        rely.keys at.entry out.among (seat-used (G.node at.entry) seat.0 seat.1)
+
+    IsTakenOut-stay : (root count : ℕ) (at : KnownEntry) (place word : ℕ)
+        → IsTakenOut c M G root count at place word → IsTakenOut c M' G' root count at place word
+    IsTakenOut-stay root count at place word is =
+        let j = word_index env mix at.place in
+        record {
+          out = IsOutOf-stay root count at is.out;
+          leaving = stays.entries j at.entry is.out.out ∙ is.leaving;
+          target = IsTarget-stay at.entry place word (out-key root count at is.out) is.target;
+          chain = stays.chains at.entry j is.leaving ∙ is.chain;
+        }
+
+    IsBrought-stay : (root count : ℕ) (at : KnownEntry) → IsBrought c G root count at
+        → IsBrought c G' root count at
+    IsBrought-stay root count at is = record {
+      out = IsOutOf-stay root count at is.out;
+      bucket = is.bucket;
+      first = stays.entries (word_index env mix at.place) at.entry is.out.out ∙ is.first;
+      later = omega (arith, is.later, stays.current, table_at-grows env mix G G' rely.tables.grow is.bucket);
+    }
+
+  -- whatever it is
+  module _ (c : ℕ) (M M' : Memory) (G G' : Ghost) (whole : Whole env mix M G) (rely : Rely c M G M' G') where
+    pub WorkMeans-stay : (known : KnownWork) → WorkMeans c M G known → WorkMeans c M' G' known
+    WorkMeans-stay NoWork means = tt
+    WorkMeans-stay Works means = record { works = (rely.work means.works).worker; more = tt }
+    WorkMeans-stay (Rooted root) means = record {
+      works = (rely.work means.works).worker;
+      more = IsRoot-stay c M M' G G' whole rely means.works root means.more;
+    }
+    WorkMeans-stay (Empties root count) means = record {
+      works = (rely.work means.works).worker;
+      more = IsEmptying-stay c M M' G G' whole rely means.works root count means.more;
+    }
+    WorkMeans-stay (AtEntry root count at) means = record {
+      works = (rely.work means.works).worker;
+      more = IsEntry-stay c M M' G G' whole rely means.works root count at means.more;
+    }
+    WorkMeans-stay (AtTail root count at) means = record {
+      works = (rely.work means.works).worker;
+      more = IsTail-stay c M M' G G' whole rely means.works root count at means.more;
+    }
+    WorkMeans-stay (Brings root count at place word) means = record {
+      works = (rely.work means.works).worker;
+      more = IsBringing-stay c M M' G G' whole rely means.works root count at place word means.more;
+    }
+    WorkMeans-stay (TakesOut root count at place word) means = record {
+      works = (rely.work means.works).worker;
+      more = IsTakenOut-stay c M M' G G' whole rely means.works root count at place word means.more;
+    }
+    WorkMeans-stay (HasBrought root count at) means = record {
+      works = (rely.work means.works).worker;
+      more = IsBrought-stay c M M' G G' whole rely means.works root count at means.more;
+    }
+
   -- what is known outlives a step of anybody else, and so does that there is nothing more
-  module _ (c : ℕ) (M M' : Memory) (G G' : Ghost) (members : MembersUsed G) (rely : Rely c M G M' G') where
+  module _ (c : ℕ) (M M' : Memory) (G G' : Ghost) (whole : Whole env mix M G) (rely : Rely c M G M' G') where
     pub Means-rely : (known : Known) → Means c M G known → Means c M' G' known
     Means-rely known means = record {
       node = NodeMeans-stay c M M' G G' rely.nodes rely.words known.node means.node;
       table = TableMeans-stay c M M' G G' rely.tables known.table means.table;
-      bucket = BucketMeans-own c M M' G G' members rely.locks rely.lists rely.chains rely.keys
-          rely.owners rely.taken known.bucket
+      bucket = BucketMeans-own c M M' G G' (members_used M G whole) rely.locks rely.lists rely.chains rely.keys
+          rely.owners rely.taken rely.tables rely.unbound known.bucket
           (λ node has. (
             record { mine = rely.nodes node has; among = has.among },
             rely.words node has
                 ChainLink,
           )) means.bucket;
+      making = MakingMeans-stay c M M' G G' rely.holdings known.making means.making;
+      work = WorkMeans-stay c M M' G G' whole rely known.work means.work;
     }
 
-    pub Only-rely : (has lock second : Option ℕ) (raised : Bool) → HasOnly c G has lock second raised
-        → HasOnly c G' has lock second raised
-    Only-rely has lock second raised only = record {
+    pub Only-rely : (has lock second : Option ℕ) (raised : Bool) (slot : Option ℕ) (pages : List ℕ)
+        (worker : Bool) → HasOnly c G has lock second raised slot pages worker
+        → HasOnly c G' has lock second raised slot pages worker
+    Only-rely has lock second raised slot pages worker only = record {
       nodes = λ n held. only.nodes n (rely.no_node n held);
       locks = λ j holds. only.locks j (rely.no_lock j holds);
       raising = rely.raised ∙ only.raising;
+      slots = λ s held. only.slots s (rely.holdings.no_slot s held);
+      pages_in = λ p held. only.pages_in p (rely.holdings.no_page p held);
+      works = λ works. only.works (rely.no_work works);
     }
 
   -- ---- a caller that has this and no more, and knows that
@@ -853,9 +1326,9 @@ module _ (env : Env) (mix : ℕ → ℕ → ℕ → ℕ) where
     pub means : Means c M G known
 
   pub Knowing-rely : {A : Type 0} → (c : ℕ) (M M' : Memory) (G G' : Ghost) (h : held.Held A)
-      (known : Known) → MembersUsed G
+      (known : Known) → Whole env mix M G
       → Rely c M G M' G' → Knowing c h known M G → Knowing c h known M' G'
-  Knowing-rely c M M' G G' h known members rely knows = record {
-    only = Only-rely c M M' G G' members rely h.node h.lock h.second h.raised knows.only;
-    means = Means-rely c M M' G G' members rely known knows.means;
+  Knowing-rely c M M' G G' h known whole rely knows = record {
+    only = Only-rely c M M' G G' whole rely h.node h.lock h.second h.raised h.slot h.pages h.worker knows.only;
+    means = Means-rely c M M' G G' whole rely known knows.means;
   }

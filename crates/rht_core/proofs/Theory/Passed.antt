@@ -3,16 +3,17 @@
 --
 -- It holds at the current table. Under the lock of the port's bucket in a table, where no node of the bucket has the port's key,
 -- it holds of the next table where there is one; and where there is none, the port is bound nowhere.
-use Rattle.std.proofs.Common.{◌≡◌, ◌≢◌, ℕ, ◌+◌, ◌*◌, ◌%◌, ◌^◌, ◌<◌, ◌≤◌, List, [], ◌∷◌, Some, None, refl, sym, ◌∙◌, ap, inl, inr, subst, arith}
-use Rattle.std.proofs.lemmas.Bool.{cases_eq}
+use Rattle.std.proofs.Common.{◌≡◌, ◌≢◌, ◌⊎◌, ℕ, ◌+◌, ◌*◌, ◌/◌, ◌%◌, ◌^◌, ◌<◌, ◌≤◌, List, [], ◌∷◌, Option, Some, None, true, refl, sym, ◌∙◌, ap, inl, inr, subst, arith}
+use Rattle.std.proofs.lemmas.Bool.{cases_eq, cases_lt}
 use Rattle.std.proofs.Math.Nat.{mod-lt}
 use Rattle.rht_words.specs.declared.env.Env.{Env}
 use Rattle.rht_words.specs.Shapes.{unpacked, size_of}
 use Rattle.rht_words.proofs.Memory.{Memory}
 use Rattle.rht_words.proofs.ShapeSizes.{IsSizeUpTo-size_of}
 use Rattle.rht_words.specs.Members.{In}
-use Rattle.rht_core.proofs.Theory.Ghosts.{Ghost, First, seat_of, seat_in, seat, table_of_page, table_at, none-some, some-same}
-use Rattle.rht_core.proofs.Theory.Wholes.{key_of, home, hash_in, Whole}
+use Rattle.rht_policy.specs.Mix.{bucket_of}
+use Rattle.rht_core.proofs.Theory.Ghosts.{Ghost, First, PageOwner, PageFree, PageHeld, PageOf, Retired, seat_in, seat, seated, table_of_page, table_at, has_table, index_at, none-some, some-same}
+use Rattle.rht_core.proofs.Theory.Wholes.{key_of, home, hash_in, IsNoBucket, MovesNone, seated_at, Whole}
 
 -- none of these nodes has the key
 abbrev pub NoKey : Memory → ℕ → List ℕ → Type 0
@@ -57,12 +58,16 @@ module _ (env : Env) (mix : ℕ → ℕ → ℕ → ℕ) where
         → home env mix G port τ ≡ Some (64 * (unpacked (G.table τ).shape).page + hash_in env mix G port τ)
     home-index port τ l = (whole.tables.each τ l).placed.places (hash_in env mix G port τ) (hash-below port τ)
 
+    pub place-table : (τ b j : ℕ) → τ < G.attached → b < size_of (unpacked (G.table τ).shape)
+        → (G.table τ).place b ≡ Some j → table_at G j ≡ τ
+    place-table τ b j l below is =
+        let placed = (whole.tables.each τ l).placed in
+        let index = 64 * (unpacked (G.table τ).shape).page + b in
+        let same : index ≡ j = some-same index j (sym (placed.places b below) ∙ is) in
+        ap (table_at G) (sym same) ∙ ap table_of_page (placed.pages b below)
+
     pub home-table : (port τ j : ℕ) → τ < G.attached → home env mix G port τ ≡ Some j → table_at G j ≡ τ
-    home-table port τ j l is =
-        let index = 64 * (unpacked (G.table τ).shape).page + hash_in env mix G port τ in
-        let same : index ≡ j = some-same index j (sym (home-index port τ l) ∙ is) in
-        ap (table_at G) (sym same) ∙ ap table_of_page
-        ((whole.tables.each τ l).placed.pages (hash_in env mix G port τ) (hash-below port τ))
+    home-table port τ j l is = place-table τ (hash_in env mix G port τ) j l (hash-below port τ) is
 
     pub home-within : (port τ j : ℕ) → τ < G.attached → home env mix G port τ ≡ Some j
         → j < 64 * env.geometry.pages
@@ -72,10 +77,25 @@ module _ (env : Env) (mix : ℕ → ℕ → ℕ → ℕ) where
         let placed = (whole.tables.each τ l).placed in
         omega (arith, same, hash-below port τ, placed.fits)
 
-    -- the first node of a port is in the bucket that is the port's seat, and has its key
+    -- the word of a port's bucket is a bucket's
+    pub home-bucket : (port τ j : ℕ) → τ < G.attached → home env mix G port τ ≡ Some j
+        → IsNoBucket env mix G (G.page (j / 64)) j → ⊥
+    home-bucket port τ j l is bucketless =
+        let index = 64 * (unpacked (G.table τ).shape).page + hash_in env mix G port τ in
+        let same : index ≡ j = some-same index j (sym (home-index port τ l) ∙ is) in
+        let page : G.page (j / 64) ≡ PageOf τ = ap (λ k. G.page (k / 64)) (sym same)
+        ∙ (whole.tables.each τ l).placed.pages (hash_in env mix G port τ) (hash-below port τ) in
+        let far = subst (λ o. IsNoBucket env mix G o j) page bucketless in
+        omega (arith, same, far, hash-below port τ)
+
+    -- nor is that of a bucket that somebody has locked
+    pub held-bucket : (j c : ℕ) → (G.bucket j).holder ≡ Some c → IsNoBucket env mix G (G.page (j / 64)) j → ⊥
+    held-bucket j c holds bucketless = none-some (ap (λ b. b.holder) (whole.pages.blank j bucketless)) holds
+
+    -- The first node of a port is in the bucket that is the port's seat, or on its way out of it, and has its key.
     pub record SeatIs (port j : ℕ) : Type 0 where
       pub node : ℕ
-      pub there : In node (G.bucket j).nodes
+      pub there : In node (G.bucket j).nodes ⊎ ((G.bucket j).out ≡ Some node)
       pub key_is : key_of M node ≡ port
       pub here : home env mix G port (table_at G j) ≡ Some j
       pub current : G.current ≤ table_at G j
@@ -88,11 +108,13 @@ module _ (env : Env) (mix : ℕ → ℕ → ℕ → ℕ) where
         go [] b s = absurd (cc)
         go (n ∷ behind) b s =
             let to = whole.owned.bound_to port n behind b in
-            let same : to.bucket ≡ j = some-same to.bucket j (sym (ap seat_of to.first) ∙ s) in
-            let at = whole.owned.first_at n j (to.first ∙ ap First same) in
+            let at = seated_at env mix M G whole n j s in
             record {
               node = n;
-              there = at.there;
+              there = elim (seated (G.node n) j s) [
+                | inl first ↦ inl (whole.owned.first_at n j first).there
+                | inr leaving ↦ inr (whole.owned.leaving_at n j leaving).out
+              ];
               key_is = to.key_is;
               here = rw (sym to.key_is) at.at_home.here;
               current = at.at_home.current;
@@ -108,15 +130,20 @@ module _ (env : Env) (mix : ℕ → ℕ → ℕ → ℕ) where
       later = λ j s. (seat_is port j s).current;
     }
 
+    -- A caller has locked the port's bucket in a table to which it has come, none of whose nodes has the port's key. No entry is on its
+    -- way out of the bucket.
     module _ (port τ j : ℕ) (passed : Passed G port τ) (at : home env mix G port τ ≡ Some j)
-        (none : NoKey M port (G.bucket j).nodes) where
+        (none : NoKey M port (G.bucket j).nodes) (still : (G.bucket j).out ≡ None) where
       -- the port isn't bound in this table
       not_here : (i : ℕ) → seat G port ≡ Some i → table_at G i ≢ τ
       not_here i s same =
           let is = seat_is port i s in
           let here : i ≡ j = some-same i j (sym is.here ∙ ap (home env mix G port) same ∙ at) in
-          NoKey-in M port is.node (G.bucket j).nodes none
-          (subst (λ k. In is.node (G.bucket k).nodes) here is.there) is.key_is
+          elim is.there [
+            | inl there ↦ NoKey-in M port is.node (G.bucket j).nodes none
+                (subst (λ k. In is.node (G.bucket k).nodes) here there) is.key_is
+            | inr out ↦ none-some still (ap (λ k. (G.bucket k).out) (sym here) ∙ out)
+          ]
 
       -- where no table is behind this one, the port is bound nowhere
       pub unbound_at_last : τ + 1 ≡ G.attached → G.bound port ≡ []
@@ -126,23 +153,22 @@ module _ (env : Env) (mix : ℕ → ℕ → ℕ → ℕ) where
           go [] b = b
           go (n ∷ behind) b =
               let to = whole.owned.bound_to port n behind b in
-              let seated : seat G port ≡ Some to.bucket = ap (seat_in G.node) b ∙ ap seat_of to.first in
-              let is = seat_is port to.bucket seated in
-              let behind_it = passed.later to.bucket seated in
-              absurd (not_here to.bucket seated (omega (arith, behind_it, is.attached, last)))
+              let seated_in : seat G port ≡ Some to.bucket = ap (seat_in G.node) b ∙ to.first in
+              let is = seat_is port to.bucket seated_in in
+              let behind_it = passed.later to.bucket seated_in in
+              absurd (not_here to.bucket seated_in (omega (arith, behind_it, is.attached, last)))
 
-      -- and where one is, the caller goes on to it
-      pub go_on : τ + 1 < G.attached → Passed G port (τ + 1)
-      go_on more =
-          let right = (whole.buckets j (home-within port τ j passed.attached at)).locked in
+      -- and where one is, the caller goes on to it, if it isn't armed
+      pub go_on : (G.bucket j).armed ≡ None → τ + 1 < G.attached → Passed G port (τ + 1)
+      go_on unarmed more =
           record {
             attached = more;
             quiet = λ σ i l h is. elim (cases_eq σ τ) [
-              | inl e ↦ ap (λ k. (G.bucket k).armed) (same_place σ i e is) ∙ right.none_armed
+              | inl e ↦ ap (λ k. (G.bucket k).armed) (same_place σ i e is) ∙ unarmed
               | inr ne ↦ passed.quiet σ i l (omega arith) is
             ];
             gone = λ σ i n behind l h is b out. elim (cases_eq σ τ) [
-              | inl e ↦ none-some (ap (λ k. (G.bucket k).out) (same_place σ i e is) ∙ right.none_out) out
+              | inl e ↦ none-some (ap (λ k. (G.bucket k).out) (same_place σ i e is) ∙ still) out
               | inr ne ↦ passed.gone σ i n behind l (omega arith) is b out
             ];
             later = λ i s. let at_least = passed.later i s in let other = not_here i s in omega
@@ -151,3 +177,119 @@ module _ (env : Env) (mix : ℕ → ℕ → ℕ → ℕ) where
         where
           same_place : (σ i : ℕ) → σ ≡ τ → home env mix G port σ ≡ Some i → i ≡ j
           same_place σ i e is = some-same i j (sym is ∙ ap (home env mix G port) e ∙ at)
+
+    -- The first node of a port isn't on its way out of any bucket, where a caller that has locked the port's bucket in a table to which it
+    -- has come found it there.
+    pub stays_in : (d port τ j n : ℕ) (behind : List ℕ) → Passed G port τ → home env mix G port τ ≡ Some j
+        → (G.bucket j).holder ≡ Some d → MovesNone env mix G d → G.bound port ≡ n ∷ behind
+        → G.node n ≡ First j → (i : ℕ) → (G.bucket i).out ≢ Some n
+    stays_in d port τ j n behind passed at holds none b first i is =
+        let out = whole.moving.out i n is in
+        let to = whole.owned.bound_to port n behind b in
+        let there = (whole.owned.first_at n j first).at_home in
+        let table : table_at G j ≡ τ = home-table port τ j passed.attached at in
+        let here : home env mix G port G.current ≡ Some i = rw (sym to.key_is) out.here in
+        elim (cases_eq G.current τ) [
+          | inl e ↦
+              let same : i ≡ j = some-same i j (sym here ∙ ap (home env mix G port) e ∙ at) in
+              none i n is (ap (λ k. (G.bucket k).holder) same ∙ holds)
+          | inr ne ↦ passed.gone G.current i n behind (omega arith)
+              (omega (arith, there.current, table, ne)) here b is
+        ]
+
+  -- ---- what was passed is so still
+
+  -- Tables come behind those that there are, and the current one is left behind; all else that is said of them stays, but that a table in
+  -- use may be retired.
+  pub record TablesGrow (G G' : Ghost) : Type 0 where
+    pub tables : (τ : ℕ) → τ < G.attached → G'.table τ ≡ G.table τ
+    pub attached : G.attached ≤ G'.attached
+    pub current : G.current ≤ G'.current
+    pub slots : (s : ℕ) → has_table (G.slot s) ≡ true → has_table (G'.slot s) ≡ true
+    pub indices : (s : ℕ) → has_table (G.slot s) ≡ true → index_at G' s ≡ index_at G s
+    pub retired : (s τ : ℕ) → G.slot s ≡ Retired τ → G'.slot s ≡ Retired τ
+    pub pages : (p τ : ℕ) → G.page p ≡ PageOf τ → G'.page p ≡ PageOf τ
+
+  -- a bucket's table stays
+  pub table_at-grows : (G G' : Ghost) → TablesGrow G G' → (j : ℕ) → table_at G j ≤ table_at G' j
+  table_at-grows G G' grow j = go (G.page (j / 64)) refl
+    where
+      go : (owner : PageOwner) → G.page (j / 64) ≡ owner → table_of_page owner ≤ table_at G' j
+      go PageFree is = omega arith
+      go (PageHeld c) is = omega arith
+      go (PageOf τ) is = let same : table_at G' j ≡ τ = ap table_of_page (grow.pages (j / 64) τ is) in omega
+          (arith, same)
+
+  -- a bind of the port is armed in this bucket
+  pub record IsArmedFor (G : Ghost) (port j : ℕ) : Type 0 where
+    pub caller : ℕ
+    pub armed : (G.bucket j).armed ≡ Some caller
+    pub here : home env mix G port (table_at G j) ≡ Some j
+    pub current : G.current ≤ table_at G j
+
+  -- the port's first node was in this bucket, or in one of an earlier table
+  pub record WasSeated (G : Ghost) (port j : ℕ) : Type 0 where
+    pub bucket : ℕ
+    pub seat_is : seat G port ≡ Some bucket
+    pub earlier : table_at G bucket ≤ table_at G j
+
+  -- the node was on its way out of this bucket, as its port's first one
+  pub record WasOut (G : Ghost) (port n j : ℕ) : Type 0 where
+    pub behind : List ℕ
+    pub bound_to : G.bound port ≡ n ∷ behind
+    pub out : (G.bucket j).out ≡ Some n
+
+  -- What a step may do to who is armed, to what is on its way, and to where ports are bound, so that whoever has passed a table has still:
+  -- a bind gets armed in the last table alone, an entry goes out of the bucket that was its seat, and a port is bound in a bucket in
+  -- which a bind was armed for it, or no earlier than it was bound before.
+  pub record PassesStay (G G' : Ghost) : Type 0 where
+    pub armed : (j c : ℕ) → (G'.bucket j).armed ≡ Some c
+        → ((G.bucket j).armed ≡ Some c) ⊎ (table_at G j + 1 ≡ G.attached)
+    pub heads : (port n j : ℕ) (behind : List ℕ) → G'.bound port ≡ n ∷ behind → (G'.bucket j).out ≡ Some n
+        → WasOut G port n j ⊎ (seat G port ≡ Some j)
+    pub seats : (port j : ℕ) → seat G' port ≡ Some j → WasSeated G port j ⊎ IsArmedFor G port j
+
+  -- a port has the homes that it had
+  pub home-stays : (G G' : Ghost) → TablesGrow G G' → (port τ : ℕ) → τ < G.attached
+      → home env mix G' port τ ≡ home env mix G port τ
+  home-stays G G' grow port τ l = ap (λ t. t.place (bucket_of mix port t.shape t.seed)) (grow.tables τ l)
+
+  module _ (M : Memory) (G G' : Ghost) (whole : Whole env mix M G) (grow : TablesGrow G G')
+      (stay : PassesStay G G') where
+    pub Passed-stays : (port τ : ℕ) → Passed G port τ → Passed G' port τ
+    Passed-stays port τ passed =
+        let was : (σ j : ℕ) → σ < τ → home env mix G' port σ ≡ Some j → home env mix G port σ ≡ Some j =
+        λ σ j l is. sym (home-stays G G' grow port σ (omega (arith, passed.attached))) ∙ is in
+        record {
+          attached = omega (arith, passed.attached, grow.attached);
+          quiet = λ σ j l h is. unarmed σ j (G'.bucket j).armed refl (omega (arith, grow.current)) h (was σ j h is);
+          gone = λ σ j n behind l h is b out. elim (stay.heads port n j behind b out) [
+            | inl before ↦ passed.gone σ j n before.behind (omega (arith, grow.current)) h (was σ j h is)
+                before.bound_to before.out
+            | inr seat_was ↦
+                let at_least = passed.later j seat_was in
+                let table = home-table M G whole port σ j (omega (arith, passed.attached)) (was σ j h is) in
+                absurd (omega (arith, at_least, table))
+          ];
+          later = λ j s.
+              let more = table_at-grows G G' grow j in
+              elim (stay.seats port j s) [
+                | inl before ↦
+                    let at_least = passed.later before.bucket before.seat_is in
+                    omega (arith, at_least, before.earlier, more)
+                | inr arms ↦ elim (cases_lt (table_at G j) τ) [
+                  | inl less ↦ absurd (none-some (passed.quiet (table_at G j) j arms.current less arms.here) arms.armed)
+                  | inr least ↦ omega (arith, least, more)
+                ]
+              ];
+        }
+      where
+        unarmed : (σ j : ℕ) (armed : Option ℕ) → (G'.bucket j).armed ≡ armed → G.current ≤ σ → σ < τ
+            → home env mix G port σ ≡ Some j → (G'.bucket j).armed ≡ None
+        unarmed σ j None is l h at = is
+        unarmed σ j (Some c) is l h at = elim (stay.armed j c is) [
+          | inl before ↦ absurd (none-some (passed.quiet σ j l h at) before)
+          | inr last ↦
+              let table = home-table M G whole port σ j (omega (arith, passed.attached)) at in
+              absurd (omega (arith, last, table, passed.attached))
+        ]

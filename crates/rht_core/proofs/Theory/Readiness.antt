@@ -1,16 +1,16 @@
 -- What a store that changes what a port is bound to makes of the ghost, and what must be known where one binds a port first.
-use Rattle.std.proofs.Common.{◌≡◌, ℕ, ◌<◌, List, [], ◌∷◌, Some, None, Bool, true, false}
+use Rattle.std.proofs.Common.{◌≡◌, ℕ, ◌+◌, ◌<◌, ◌≤◌, List, [], ◌∷◌, Some, None, Bool, true, false}
 use Rattle.rht_words.specs.declared.env.Env.{Env}
 use Rattle.rht_words.specs.Links.{link_of, head_of}
 use Rattle.rht_words.specs.Places.{Node, ListLink}
 use Rattle.rht_words.proofs.Memory.{Memory}
-use Rattle.rht_core.proofs.Theory.Ghosts.{put, Bucket, Owner, First, Ghost}
-use Rattle.rht_core.proofs.Theory.Wholes.{chain_of, key_of, place_at, IsHomeOf}
-use Rattle.rht_core.proofs.Theory.Knowledge.{HasNode}
+use Rattle.rht_core.proofs.Theory.Ghosts.{put, Bucket, Owner, First, Ghost, table_at}
+use Rattle.rht_core.proofs.Theory.Wholes.{chain_of, key_of, place_at, MovesNone}
+use Rattle.rht_core.proofs.Theory.Knowledge.{HasNode, ArmedFor}
 
--- the bucket with a new first node, unlocked
+-- the bucket with a new first node, unlocked, in which nobody is armed any more
 abbrev pub linked_bucket : Bucket → ℕ → Bucket
-linked_bucket b n = record b { nodes = n ∷ b.nodes; plain = link_of n; holder = None }
+linked_bucket b n = record b { nodes = n ∷ b.nodes; plain = link_of n; holder = None; armed = None }
 
 -- the node in its bucket's chain, and the port bound to it
 abbrev pub linked : Ghost → ℕ → ℕ → ℕ → ℕ → Ghost
@@ -43,14 +43,22 @@ changed G d change = record G {
 }
 
 module _ (env : Env) (mix : ℕ → ℕ → ℕ → ℕ) where
-  -- what is known when a node is linked into a bucket: the caller has the node and the lock, and the port is bound nowhere
+  -- What is known when a node is linked into a bucket: the caller has the node and the lock, is armed there for the port, and has no entry on
+  -- its way.
   pub record IsReady (d n port j : ℕ) (M : Memory) (G : Ghost) : Type 0 where
     pub low : d < env.geometry.callers
-    pub home_of : IsHomeOf env mix G port j
-    pub unbound : G.bound port ≡ []
+    pub table : ℕ
+    pub armed : ArmedFor env mix G d port table j
+    pub moves_none : MovesNone env mix G d
     pub has : HasNode env mix d G n
     pub key : key_of M n ≡ port
     pub list : M (Node n ListLink) ≡ 0
     pub holder : (G.bucket j).holder ≡ Some d
     pub chain : chain_of M n ≡ head_of (place_at env mix j) (G.bucket j).plain
     pub raised : G.raised d ≡ true
+
+  -- What is known when a bind is armed in a bucket: the caller has locked it, and its table is the last one.
+  pub record IsArming (d j : ℕ) (G : Ghost) : Type 0 where
+    pub holder : (G.bucket j).holder ≡ Some d
+    pub current : G.current ≤ table_at G j
+    pub last : table_at G j + 1 ≡ G.attached

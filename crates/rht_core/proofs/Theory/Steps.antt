@@ -18,16 +18,16 @@ use Rattle.rht_model.specs.declared.history.Call.{Call}
 use Rattle.rht_model.specs.Multimap.{Multimap, Agree}
 use Rattle.rht_model.specs.Answers.{Answer}
 use Rattle.rht_arena.specs.Laws.{map_place, map_bit, IsTaking}
-use Rattle.rht_core.proofs.Theory.Ghosts.{put, put-all, Owner, Free, Held, Ghost, is_taken_by, with_holder, with_owner, with_raised}
+use Rattle.rht_core.proofs.Theory.Ghosts.{put, put-all, Owner, Free, Held, Ghost, is_taken_by, with_holder, with_armed, with_owner, with_raised}
 use Rattle.rht_core.proofs.Theory.Wholes.{place_at, outs, Whole}
 use Rattle.rht_core.proofs.Theory.Knowledge.{bound_used}
 use Rattle.rht_core.proofs.Theory.Frames.{Made, still}
 use Rattle.rht_core.proofs.Theory.Answering.{outs_of, SaysStill-agree, Says, IsRight, Tells, told-says, told-outs, told-right}
-use Rattle.rht_core.proofs.Theory.Readiness.{linked, IsReady, Change, changed}
+use Rattle.rht_core.proofs.Theory.Readiness.{linked, IsReady, IsArming, Change, changed}
 
 -- What an operation does beside what it finds: nothing that others see, a node taken or given back, a lock taken or dropped,
--- the count raised or lowered, a node linked for a port into a bucket, what a port is bound to changed, or a node behind a port's
--- first one given its link in the chain
+-- the count raised or lowered, a node linked for a port into a bucket, what a port is bound to changed, a node behind a port's
+-- first one given its link in the chain, or found that no table is behind that of a locked bucket
 pub data Move : Type 0 where
   Quiet : Move
   TakesNode : ℕ → Move
@@ -39,6 +39,7 @@ pub data Move : Type 0 where
   Lowers : Move
   Rebinds : Change → Move
   LinksBehind : ℕ → Move
+  Arms : ℕ → Move
 
 -- a test's two cases, with what the test says
 pub by_test : (C : Bool → Type 0) (b : Bool) → ((b ≡ true) → C true) → ((b ≡ false) → C false) → C b
@@ -153,6 +154,7 @@ module _ (env : Env) (mix : ℕ → ℕ → ℕ → ℕ) where
   ghost_after c Lowers G = with_raised G c false
   ghost_after c (Rebinds change) G = changed G c change
   ghost_after c (LinksBehind n) G = G
+  ghost_after c (Arms j) G = with_armed G j c
 
   -- the words as a memory
   abbrev pub mem : List ℕ → Memory
@@ -165,7 +167,7 @@ module _ (env : Env) (mix : ℕ → ℕ → ℕ → ℕ) where
   abbrev pub owners : Memory → Ghost → Multimap
   owners M G port = owners_in M (G.bound port)
 
-  -- what a move needs: to link a node, all that makes it ready
+  -- what a move needs: to link a node, all that makes it ready, and to be armed, the lock of a bucket in the last table
   abbrev pub ReadyFor : ℕ → Memory → Ghost → Move → Type 0
   ReadyFor c M G Quiet = Unit {0}
   ReadyFor c M G (TakesNode n) = G.node n ≡ Free
@@ -177,6 +179,7 @@ module _ (env : Env) (mix : ℕ → ℕ → ℕ → ℕ) where
   ReadyFor c M G Lowers = Unit {0}
   ReadyFor c M G (Rebinds change) = Unit {0}
   ReadyFor c M G (LinksBehind n) = Unit {0}
+  ReadyFor c M G (Arms j) = IsArming env mix c j G
 
   -- which operation the move is, and how what the call holds changes by it
   abbrev pub Does : Move → Op → ℕ → Holding → Holding → Type 0
@@ -191,6 +194,7 @@ module _ (env : Env) (mix : ℕ → ℕ → ℕ → ℕ) where
   Does (Rebinds change) op old h h' = DoesRebind env.geometry change.raised
       (place_at env mix change.place) op h h'
   Does (LinksBehind n) op old h h' = DoesLinkBehind env.geometry n op h h'
+  Does (Arms j) op old h h' = DoesQuiet env.geometry op old h h'
 
   -- An operation of a caller in a call, which holds this before it and that after it, with what it knows afterwards.
   pub record Step (c : ℕ) (call : Call) (words : List ℕ) (G : Ghost) (op : Op) (h h' : Holding)
@@ -285,6 +289,7 @@ module _ (env : Env) (mix : ℕ → ℕ → ℕ → ℕ) where
   LinksNone Lowers = Unit {0}
   LinksNone (Rebinds change) = ⊥
   LinksNone (LinksBehind n) = Unit {0}
+  LinksNone (Arms j) = Unit {0}
 
   same_bound : (c : ℕ) (move : Move) (G : Ghost) (port : ℕ) → LinksNone move
       → (ghost_after c move G).bound port ≡ G.bound port
@@ -298,6 +303,7 @@ module _ (env : Env) (mix : ℕ → ℕ → ℕ → ℕ) where
   same_bound c Lowers G port none = refl
   same_bound c (Rebinds change) G port none = absurd none
   same_bound c (LinksBehind n) G port none = refl
+  same_bound c (Arms j) G port none = refl
 
   -- nor does it take one out of a list
   same_outs : (c : ℕ) (move : Move) (M : Memory) (G : Ghost) → LinksNone move → ReadyFor c M G move
@@ -312,6 +318,7 @@ module _ (env : Env) (mix : ℕ → ℕ → ℕ → ℕ) where
   same_outs c Lowers M G none ready = refl
   same_outs c (Rebinds change) M G none ready = absurd none
   same_outs c (LinksBehind n) M G none ready = refl
+  same_outs c (Arms j) M G none ready = refl
 
   pub moved : (c : ℕ) (words : List ℕ) (G : Ghost) (op : Op) (h h' : Holding) (Knows : Memory → Ghost
       → Type 0) (move : Move)
@@ -429,6 +436,8 @@ module _ (env : Env) (mix : ℕ → ℕ → ℕ → ℕ) where
   }
   does-answered (LinksBehind n) op old h h' answer does =
       record { on = does.on; holds = ap (λ x. with_answer x answer) does.holds }
+  does-answered (Arms j) op old h h' answer does =
+      record { holds = ap (λ x. with_answer x answer) does.holds; leaves = does.leaves }
 
   -- an operation that leaves bindings is a step, with what it says of the answer on the bindings as they are
   pub answered : (c : ℕ) (call : Call) (words : List ℕ) (G : Ghost) (op : Op) (h h' : Holding)

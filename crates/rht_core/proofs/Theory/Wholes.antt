@@ -1,18 +1,18 @@
--- What is true of the words and the ghost after each event of each run. Tables stand in the order in which they were attached;
--- so far one is. The first of the nodes to which a port is bound stands in a chain, and the others in its list behind it.
-use Rattle.std.proofs.Common.{◌≡◌, ◌↔◌, ℕ, ◌+◌, ◌-◌, ◌*◌, ◌/◌, ◌%◌, ◌<◌, ◌≤◌, nat_lt, cond, true, List, [], ◌∷◌, Option, Some, None, arith}
+-- What is true of the words and the ghost after each event of each run. Tables stand in the order in which they were attached.
+-- The first of the nodes to which a port is bound stands in a chain, and the others in its list behind it.
+use Rattle.std.proofs.Common.{◌≡◌, ◌↔◌, ℕ, ◌+◌, ◌-◌, ◌*◌, ◌⊎◌, ◌/◌, ◌%◌, ◌<◌, ◌≤◌, max, nat_lt, cond, true, List, [], ◌∷◌, Option, Some, None, arith, refl, sym, ap, ◌∙◌, ◌≢◌, inl, inr}
 use Rattle.std.specs.Int.{bit_at}
 use Rattle.rht_words.specs.declared.env.Env.{Env}
 use Rattle.rht_words.specs.declared.config.Kind.TheVariants.{Single}
-use Rattle.rht_words.specs.Links.{head_of, marker_of, future_of}
+use Rattle.rht_words.specs.Links.{link_of, head_of, marker_of, future_of}
 use Rattle.rht_words.specs.Shapes.{unpacked, size_of}
-use Rattle.rht_words.specs.Places.{CurrentTable, PortCount, Slot, ShapeWord, SeedWord, FutureWord, NodeMap, Node, ChainLink, KeyWord, ListLink, PageWord, IsBucketPlace, place_of, pages_at}
+use Rattle.rht_words.specs.Places.{CurrentTable, WorkLock, PortCount, Slot, ShapeWord, SeedWord, FutureWord, StateWord, NodeMap, PageMap, Node, ChainLink, KeyWord, ListLink, PageWord, IsBucketPlace, place_of, pages_at}
 use Rattle.rht_words.specs.Chains.{IsSegment}
 use Rattle.rht_words.proofs.Memory.{Memory}
 use Rattle.rht_words.specs.Members.{In, IsDistinct}
 use Rattle.rht_words.proofs.Members.{count_below}
 use Rattle.rht_policy.specs.Mix.{bucket_of}
-use Rattle.rht_core.proofs.Theory.Ghosts.{Bucket, Owner, Free, Held, First, Leaving, Behind, Taken, Ghost, Live, lock_bit, is_first, is_taken_by, table_at, has_table, index_at, PageOf}
+use Rattle.rht_core.proofs.Theory.Ghosts.{Bucket, blank_bucket, Owner, Free, Held, First, Leaving, Behind, Taken, Ghost, Live, lock_bit, state_word, is_first, is_taken_by, seat_of, seated, table_at, has_table, index_at, PageOwner, PageFree, PageHeld, PageOf}
 
 -- the links behind nodes
 abbrev pub chain_of : Memory → ℕ → ℕ
@@ -83,22 +83,54 @@ module _ (env : Env) (mix : ℕ → ℕ → ℕ → ℕ) where
     pub slot : (G.table (index_at G s)).slot ≡ s
 
   pub record TablesRight (M : Memory) (G : Ghost) : Type 0 where
-    pub one : G.attached ≡ 1
     pub current_in : G.current < G.attached
     pub current_is : M CurrentTable ≡ (G.table G.current).slot
     pub each : (τ : ℕ) → τ < G.attached → TableRight M G τ
     pub slots : (s : ℕ) → has_table (G.slot s) ≡ true → SlotIsOf G s
 
-  -- a bucket's word is odd exactly while somebody holds its lock; no entry is on its way out, and no bind is armed
+  -- the state word of each slot says who has it, and the work lock is set exactly while a caller has it
+  pub record SlotsRight (M : Memory) (G : Ghost) : Type 0 where
+    pub states : (s : ℕ) → s < 8 → M (Slot s StateWord) ≡ state_word (G.slot s)
+    pub worker_is : M WorkLock ≡ lock_bit G.worker
+
+  -- how many pages a table takes, the first of which its shape names
+  abbrev pub pages_of : ℕ → ℕ
+  pages_of shape = max 1 (size_of (unpacked shape) / 64)
+
+  -- the page is one of those of a table that was attached
+  pub record IsPageOf (G : Ghost) (p τ : ℕ) : Type 0 where
+    pub attached : τ < G.attached
+    pub from : (unpacked (G.table τ).shape).page ≤ p
+    pub below : p < (unpacked (G.table τ).shape).page + pages_of (G.table τ).shape
+
+  -- the word with this index among those of all pages is the word of no table's bucket
+  abbrev pub IsNoBucket : Ghost → PageOwner → ℕ → Type 0
+  IsNoBucket G PageFree j = Unit {0}
+  IsNoBucket G (PageHeld c) j = Unit {0}
+  IsNoBucket G (PageOf τ) j = 64 * (unpacked (G.table τ).shape).page + size_of
+      (unpacked (G.table τ).shape) ≤ j
+
+  -- A page's bit is set exactly where nobody has the page. A table has the pages of its run alone, and each word of a page that is no
+  -- bucket's is blank.
+  pub record PagesRight (M : Memory) (G : Ghost) : Type 0 where
+    pub bits : (p : ℕ) → p < env.geometry.pages
+        → (bit_at (M (PageMap (p / 64))) (p % 64) ≡ 1) ↔ (G.page p ≡ PageFree)
+    pub page_of : (p τ : ℕ) → G.page p ≡ PageOf τ → IsPageOf G p τ
+    pub blank : (j : ℕ) → IsNoBucket G (G.page (j / 64)) j → G.bucket j ≡ blank_bucket
+
+  -- a bucket's word is odd exactly while somebody holds its lock
   pub record LockedRight (M : Memory) (j : ℕ) (b : Bucket) : Type 0 where
     pub word_is : M (PageWord j) ≡ b.plain + lock_bit b.holder
     pub even : b.plain % 2 ≡ 0
-    pub none_out : b.out ≡ None
-    pub none_armed : b.armed ≡ None
 
-  -- its chain has its nodes, each once, and ends in its own marker
+  -- where the chain of the bucket whose word has this place ends: in its own marker, or in the link to the entry that is on its way out
+  abbrev pub stop : ℕ → Option ℕ → ℕ
+  stop place None = marker_of place
+  stop place (Some entry) = link_of entry
+
+  -- its chain has its nodes, each once, and ends where it is to
   pub record ChainedRight (M : Memory) (j : ℕ) (b : Bucket) : Type 0 where
-    pub segment : IsSegment (chain_of M) (head_of (place_at j) b.plain) b.nodes (marker_of (place_at j))
+    pub segment : IsSegment (chain_of M) (head_of (place_at j) b.plain) b.nodes (stop (place_at j) b.out)
     pub distinct : IsDistinct b.nodes
 
   pub record BucketRight (M : Memory) (j : ℕ) (b : Bucket) : Type 0 where
@@ -110,6 +142,53 @@ module _ (env : Env) (mix : ℕ → ℕ → ℕ → ℕ) where
     pub here : home G port (table_at G j) ≡ Some j
     pub current : G.current ≤ table_at G j
     pub attached : table_at G j < G.attached
+
+  -- a caller that has found in a bucket that no table is behind has locked the bucket, which is one of a table in force
+  pub record ArmedRight (G : Ghost) (j c : ℕ) : Type 0 where
+    pub holder : (G.bucket j).holder ≡ Some c
+    pub current : G.current ≤ table_at G j
+    pub attached : table_at G j < G.attached
+
+  -- an entry is in a table behind the current one
+  pub record IsFurther (G : Ghost) (entry : ℕ) : Type 0 where
+    pub bucket : ℕ
+    pub first : G.node entry ≡ First bucket
+    pub later : G.current < table_at G bucket
+
+  -- An entry on its way out of a bucket of the current table: the caller that does the work has locked the bucket, to which the
+  -- entry's port belongs. The entry is still in that bucket alone, or is in a table behind it as well.
+  pub record OutRight (M : Memory) (G : Ghost) (j entry : ℕ) : Type 0 where
+    pub worker : ℕ
+    pub holder : (G.bucket j).holder ≡ Some worker
+    pub works : G.worker ≡ Some worker
+    pub table : table_at G j ≡ G.current
+    pub among : entry < env.geometry.nodes
+    pub here : home G (key_of M entry) G.current ≡ Some j
+    pub owner : (G.node entry ≡ Leaving j) ⊎ IsFurther G entry
+
+  -- what is on its way: who is armed, and which entries leave their buckets
+  pub record MovingRight (M : Memory) (G : Ghost) : Type 0 where
+    pub armed : (j c : ℕ) → (G.bucket j).armed ≡ Some c → ArmedRight G j c
+    pub out : (j entry : ℕ) → (G.bucket j).out ≡ Some entry → OutRight M G j entry
+
+  -- the bucket in a table behind the current one into which an entry goes: the caller that does the work has locked it, and the entry's
+  -- link leads to its first node
+  pub record IsNextFor (M : Memory) (G : Ghost) (entry : ℕ) : Type 0 where
+    pub bucket : ℕ
+    pub later : G.current < table_at G bucket
+    pub attached : table_at G bucket < G.attached
+    pub worker : ℕ
+    pub holder : (G.bucket bucket).holder ≡ Some worker
+    pub works : G.worker ≡ Some worker
+    pub here : home G (key_of M entry) (table_at G bucket) ≡ Some bucket
+    pub chain : chain_of M entry ≡ head_of (place_at bucket) (G.bucket bucket).plain
+
+  -- an entry that is out of its bucket and not yet in another one is still the first to which its port is bound
+  pub record IsLeavingAt (M : Memory) (G : Ghost) (n j : ℕ) : Type 0 where
+    pub out : (G.bucket j).out ≡ Some n
+    pub behind : List ℕ
+    pub bound_to : G.bound (key_of M n) ≡ n ∷ behind
+    pub next : IsNextFor M G n
 
   -- a node of the chain of a bucket is there, is one of the nodes, belongs there, and is the first to which its port is bound
   pub record IsFirstAt (M : Memory) (G : Ghost) (n j : ℕ) : Type 0 where
@@ -128,11 +207,11 @@ module _ (env : Env) (mix : ℕ → ℕ → ℕ → ℕ) where
     pub bound_to : G.bound port ≡ first ∷ behind
     pub there : In n behind
 
-  -- The first node that a port is bound to is in a chain and has the port's key. The others are behind it, each once, along the
+  -- The first node that a port is bound to has a seat and has the port's key. The others are behind it, each once, along the
   -- links of the port's list, which ends in 0.
   pub record IsBoundTo (M : Memory) (G : Ghost) (port n : ℕ) (behind : List ℕ) : Type 0 where
     pub bucket : ℕ
-    pub first : G.node n ≡ First bucket
+    pub first : seat_of (G.node n) ≡ Some bucket
     pub key_is : key_of M n ≡ port
     pub list : IsSegment (list_of M) (list_of M n) behind 0
     pub distinct : IsDistinct (n ∷ behind)
@@ -142,17 +221,18 @@ module _ (env : Env) (mix : ℕ → ℕ → ℕ → ℕ) where
   pub record Owned (M : Memory) (G : Ghost) : Type 0 where
     pub member : (j n : ℕ) → In n (G.bucket j).nodes → G.node n ≡ First j
     pub first_at : (n j : ℕ) → G.node n ≡ First j → IsFirstAt M G n j
+    pub leaving_at : (n j : ℕ) → G.node n ≡ Leaving j → IsLeavingAt M G n j
     pub behind_in : (n port : ℕ) → G.node n ≡ Behind port → IsBehindIn M G n port
     pub bound_to : (port n : ℕ) (behind : List ℕ) → G.bound port ≡ n ∷ behind → IsBoundTo M G port n behind
     pub single : env.config.kind ≡ Single → (port n : ℕ) (behind : List ℕ) → G.bound port ≡ n ∷ behind
         → behind ≡ []
 
-  -- so far no node is on its way out of a chain, and one that was taken out of a list was so by one of the callers
+  -- a node that was taken out of a list was so by one of the callers
   abbrev pub IsBuilt : Owner → Type 0
   IsBuilt Free = Unit {0}
   IsBuilt (Held c) = Unit {0}
   IsBuilt (First j) = Unit {0}
-  IsBuilt (Leaving j) = ⊥
+  IsBuilt (Leaving j) = Unit {0}
   IsBuilt (Behind k) = Unit {0}
   IsBuilt (Taken c) = c < env.geometry.callers
 
@@ -174,9 +254,81 @@ module _ (env : Env) (mix : ℕ → ℕ → ℕ → ℕ) where
   abbrev pub raisers : Ghost → ℕ
   raisers G = count_below G.raised env.geometry.callers
 
+  -- so far one table is attached
   pub record Whole (M : Memory) (G : Ghost) : Type 0 where
+    pub one : G.attached ≡ 1
     pub tables : TablesRight M G
+    pub slots : SlotsRight M G
+    pub pages : PagesRight M G
     pub buckets : (j : ℕ) → j < 64 * env.geometry.pages → BucketRight M j (G.bucket j)
+    pub moving : MovingRight M G
     pub owned : Owned M G
     pub arena : ArenaRight M G
     pub counted : M PortCount ≡ firsts G + raisers G
+
+  -- a node that has a seat, whether it stays or is on its way out
+  pub record IsSeatedAt (M : Memory) (G : Ghost) (n j : ℕ) : Type 0 where
+    pub among : n < env.geometry.nodes
+    pub at_home : IsHomeOf G (key_of M n) j
+    pub behind : List ℕ
+    pub bound_to : G.bound (key_of M n) ≡ n ∷ behind
+
+  pub seated_at : (M : Memory) (G : Ghost) → Whole M G → (n j : ℕ) → seat_of (G.node n) ≡ Some j
+      → IsSeatedAt M G n j
+  seated_at M G whole n j is = elim (seated (G.node n) j is) [
+    | inl first ↦
+        let at = whole.owned.first_at n j first in
+        record { among = at.among; at_home = at.at_home; behind = at.behind; bound_to = at.bound_to }
+    | inr leaving ↦
+        let at = whole.owned.leaving_at n j leaving in
+        let out = whole.moving.out j n at.out in
+        record {
+          among = out.among;
+          at_home = record {
+            here = ap (home G (key_of M n)) out.table ∙ out.here;
+            current = omega (arith, out.table);
+            attached = omega (arith, out.table, whole.tables.current_in);
+          };
+          behind = at.behind;
+          bound_to = at.bound_to;
+        }
+  ]
+
+  -- ---- who has no entry on its way
+
+  -- no entry is on its way out of a bucket that this caller has locked
+  abbrev pub MovesNone : Ghost → ℕ → Type 0
+  MovesNone G d = (j entry : ℕ) → (G.bucket j).out ≡ Some entry → (G.bucket j).holder ≢ Some d
+
+  -- so it is of a caller that doesn't do the work
+  pub moves_none : (M : Memory) (G : Ghost) → Whole M G → (d : ℕ) → G.worker ≢ Some d → MovesNone G d
+  moves_none M G whole d idle j entry is holds =
+      let out = whole.moving.out j entry is in
+      let same : ◌≡◌ {A = Option ℕ} (Some out.worker) (Some d) = sym out.holder ∙ holds in
+      idle (out.works ∙ same)
+
+  -- nor of one of its buckets
+  pub none_out : (G : Ghost) (d j : ℕ) → MovesNone G d → (G.bucket j).holder ≡ Some d → (G.bucket j).out ≡ None
+  none_out G d j none holds = go (G.bucket j).out refl
+    where
+      go : (out : Option ℕ) → (G.bucket j).out ≡ out → out ≡ None
+      go None is = refl
+      go (Some entry) is = absurd (none j entry is holds)
+
+  -- an entry that is out of its bucket goes into none of the buckets that such a caller has locked
+  pub next_apart : (M : Memory) (G : Ghost) → Whole M G → (d n j : ℕ) → MovesNone G d → (at : IsLeavingAt M G n j)
+      → (G.bucket at.next.bucket).holder ≢ Some d
+  next_apart M G whole d n j none at holds =
+      let out = whole.moving.out j n at.out in
+      let next = at.next in
+      let one : ◌≡◌ {A = Option ℕ} (Some next.worker) (Some d) = sym next.holder ∙ holds in
+      let two : ◌≡◌ {A = Option ℕ} (Some next.worker) (Some out.worker) = sym next.works ∙ out.works in
+      none j n at.out (out.holder ∙ sym two ∙ one)
+
+  -- an entry that is on its way is a node with a seat
+  pub out-seated : (M : Memory) (G : Ghost) (j entry : ℕ) → OutRight M G j entry
+      → (i : ℕ) × (seat_of (G.node entry) ≡ Some i)
+  out-seated M G j entry out = elim out.owner [
+    | inl leaving ↦ (j, ap seat_of leaving)
+    | inr further ↦ (further.bucket, ap seat_of further.first)
+  ]

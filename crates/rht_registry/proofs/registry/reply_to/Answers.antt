@@ -3,8 +3,7 @@ use Rattle.std.specs.Prelude.{Option, Some, None, is_some}
 use Rattle.rht_core.specs.declared.event.Event.TheVariants.{Begin, Step}
 use Rattle.rht_core.specs.Locals.{machine_of}
 use Rattle.rht_core.specs.Runs.{IsBuiltFor, IsAdmittedEvent}
-use Rattle.rht_core.proofs.Events.ReachedStates.{event-env}
-use Rattle.rht_registry.proofs.ServedCalls.{Goes, run-begins, run-steps}
+use Rattle.rht_registry.proofs.ServedCalls.{Goes, env-stays, run-begins, run-steps}
 use Rattle.rht_registry.proofs.registry.reply_to.Goals as goal
 
 -- where there is something it is some thing
@@ -18,7 +17,7 @@ loop-init g c =
     let machine = some-thing (machine_of {M = g.row.M.Denot} c.args.state.now.env 0 c.args.call) c.requires.built in
     let admitted : IsBuiltFor kind c.args.call → IsAdmittedEvent kind (Begin 0 c.args.call) = search rules in
     record {
-      env = ap (λ p. p.0.env) c.step.ensures ∙ event-env g.row.M.Denot g.M.Mix.mix_of c.args.state.now (Begin 0 c.args.call);
+      env = env-stays g.row.M.Denot g.M.Mix.mix_of c.args.state.now c.step.new.self (Begin 0 c.args.call) c.step.result c.step.ensures;
       progress = λ done run.
           run-begins g.row.M.Denot g.M.Mix.mix_of c.args.state.now c.step.new.self c.args.call machine.0 c.step.result done run
           (admitted c.requires.kind) machine.1 c.step.ensures;
@@ -35,7 +34,9 @@ pub loop-preserved : goal.loop-preserved
 loop-preserved g c =
     let after = c.step-in-loop.new.self in
     record {
-      env = ap (λ p. p.0.env) c.step-in-loop.ensures ∙ event-env g.row.M.Denot g.M.Mix.mix_of c.loop.state (Step 0) ∙ c.loop.invariant.env;
+      env =
+          env-stays g.row.M.Denot g.M.Mix.mix_of c.loop.state after (Step 0) c.step-in-loop.result c.step-in-loop.ensures
+          ∙ c.loop.invariant.env;
       progress = λ done run.
           subst (Goes g.row.M.Denot g.M.Mix.mix_of after c.args.call done) c.in_default.is
           (run-steps g.row.M.Denot g.M.Mix.mix_of c.loop.state after c.args.call c.step-in-loop.result done
