@@ -33,7 +33,7 @@ planned_work env (at.Attaching root last slot shape) within =
     let slot_in = within.made_in.slot_in in
     planned-at env.geometry _ (Slot last FutureWord) (within.last_in, tt) tt refl (omega (arith, slot_in))
 planned_work env (at.Unmaking root unmake) within = planned_unmake env.geometry unmake within.unmake_in
-planned_work env (at.RootFuture root again) within = planned_load env.geometry (Slot root FutureWord) (within, tt) tt
+planned_work env (at.RootFuture root due) within = planned_load env.geometry (Slot root FutureWord) (within, tt) tt
 planned_work env (at.RootShape root future again) within =
     planned_load env.geometry (Slot root ShapeWord) (within.root_in, tt) tt
 planned_work env (at.Locking rehash number lock) within = planned_lock env.geometry lock within.lock_in

@@ -35,6 +35,7 @@ use Rattle.rht_move.specs.declared.rehash.Emptying.{Emptying}
 use Rattle.rht_move.specs.declared.rehash.Target.{Target}
 use Rattle.rht_move.specs.declared.work.choice.Choice.{Choice}
 use Rattle.rht_move.specs.declared.work.choice.Choice.TheVariants.{Attach, Later, Nothing}
+use Rattle.rht_move.specs.declared.work.Due.{Due}
 use Rattle.rht_move.specs.declared.work.Wanted.{Wanted}
 use Rattle.rht_move.specs.declared.work.WorkAt.{WorkAt}
 use Rattle.rht_move.specs.declared.work.WorkAt.TheVariants as at
@@ -123,10 +124,10 @@ module _ (mix : ℕ → ℕ → ℕ → ℕ) (env : Env) where
   unmade-in root unmake Go root_in unmake_in = record { root_in = root_in; unmake_in = unmake_in }
   unmade-in root unmake (Done done) root_in unmake_in = root_in
 
-  idle-in : (root : ℕ) (again : Bool) (future : Option ℕ) → root < 8 → IsSlotOrNone future
-      → IsWorkAtIn env (future_or_idle root again future)
-  idle-in root again None root_in future_in = tt
-  idle-in root again (Some future) root_in future_in = record { root_in = root_in; future_in = future_in }
+  idle-in : (root : ℕ) (due : Due) (future : Option ℕ) → root < 8 → IsSlotOrNone future
+      → IsWorkAtIn env (future_or_idle root due future)
+  idle-in root due None root_in future_in = tt
+  idle-in root due (Some future) root_in future_in = record { root_in = root_in; future_in = future_in }
 
   -- ---- the move of the current table
 
@@ -282,8 +283,8 @@ module _ (mix : ℕ → ℕ → ℕ → ℕ) (env : Env) where
   work_stays (at.Unmaking root unmake) word within told =
       unmade-in root (unmake_after unmake word).0 (unmake_after unmake word).1 within.root_in
       (unmake_stays g unmake word within.unmake_in)
-  work_stays (at.RootFuture root again) word within told =
-      idle-in root again (slot_of word) within (slot_of-in word)
+  work_stays (at.RootFuture root due) word within told =
+      idle-in root due (slot_of word) within (slot_of-in word)
   work_stays (at.RootShape root future again) word within told =
       let rehash : Rehash = record { root = root; future = future; shape = word; again = again } in
       bucket-in rehash 0 (first-in rehash (record { tables_in = within; shape_in = told }))

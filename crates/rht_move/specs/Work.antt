@@ -34,6 +34,8 @@ use Rattle.rht_move.specs.Choice.{choice_of, is_nested}
 use Rattle.rht_move.specs.declared.work.choice.Choice.{Choice}
 use Rattle.rht_move.specs.declared.work.choice.Choice.TheVariants.{Attach, Later, Nothing}
 use Rattle.rht_move.specs.declared.work.Wanted.{Wanted}
+use Rattle.rht_move.specs.declared.work.Due.{Due}
+use Rattle.rht_move.specs.declared.work.Due.TheVariants as dues
 use Rattle.rht_move.specs.declared.work.Outcome.{Outcome}
 use Rattle.rht_move.specs.declared.work.Outcome.TheVariants.{Idle, NoTable, Moved}
 use Rattle.rht_move.specs.declared.work.WorkAt.{WorkAt}
@@ -65,7 +67,7 @@ plan_at env (at.Making wanted make) = make_plan make
 plan_at env (at.Attaching root last slot shape) =
     Exchange (place_of env.geometry (Slot last FutureWord)) 0 (future_of slot)
 plan_at env (at.Unmaking root unmake) = unmake_plan unmake
-plan_at env (at.RootFuture root again) = Load (place_of env.geometry (Slot root FutureWord))
+plan_at env (at.RootFuture root due) = Load (place_of env.geometry (Slot root FutureWord))
 plan_at env (at.RootShape root future again) = Load (place_of env.geometry (Slot root ShapeWord))
 plan_at env (at.Locking rehash number lock) = lock_plan lock
 plan_at env (at.EntryTable emptying seek) = last_table_plan seek
@@ -106,8 +108,8 @@ last_seen root seek (Done last) = at.Count root last
 abbrev pub begun : Env → ℕ → Last → Choice → WorkAt
 begun env root last (Attach size) =
     at.Making (record { root = root; last = last; size = size }) (make_new env.geometry size env.config.seed false)
-begun env root last Later = at.RootFuture root true
-begun env root last Nothing = at.RootFuture root false
+begun env root last Later = at.RootFuture root dues.Later
+begun env root last Nothing = at.RootFuture root dues.Nothing
 
 abbrev pub counted : Env → ℕ → Last → ℕ → WorkAt
 counted env root last count = begun env root last (choice_of env count last.shape (root == last.table))
@@ -116,7 +118,7 @@ counted env root last count = begun env root last (choice_of env count last.shap
 abbrev pub not_made : Wanted → WorkAt
 not_made wanted =
     if (wanted.root == wanted.last.table) || is_nested wanted.last.shape then at.LettingGo (NoTable wanted.size)
-    else at.RootFuture wanted.root true
+    else at.RootFuture wanted.root dues.Later
 
 -- once it is made it is attached
 abbrev pub made : Wanted → MakeModel → Next (Option (ℕ × ℕ)) → WorkAt
@@ -127,17 +129,23 @@ made wanted make (Done (Some (slot, shape))) = at.Attaching wanted.root wanted.l
 -- where another one was attached behind the last table before, the new one is given back
 abbrev pub attached : Geometry → ℕ → ℕ → ℕ → ℕ → WorkAt
 attached g root slot shape future =
-    if future == 0 then at.RootFuture root false else at.Unmaking root (unmake_new g slot shape)
+    if future == 0 then at.RootFuture root dues.Attached else at.Unmaking root (unmake_new g slot shape)
 
--- and there is more to do
+-- and the table that was due isn't attached in this call
 abbrev pub unmade : ℕ → UnmakeModel → Next (Unit {0}) → WorkAt
 unmade root unmake Go = at.Unmaking root unmake
-unmade root unmake (Done done) = at.RootFuture root true
+unmade root unmake (Done done) = at.RootFuture root dues.Later
+
+-- a table is due that isn't attached in this call, so that a further one has something to do
+abbrev pub is_later : Due → Bool
+is_later dues.Nothing = false
+is_later dues.Attached = false
+is_later dues.Later = true
 
 -- a current table with a future is emptied; where it has none, nothing is to be done
-abbrev pub future_or_idle : ℕ → Bool → Option ℕ → WorkAt
-future_or_idle root again None = at.LettingGo Idle
-future_or_idle root again (Some future) = at.RootShape root future again
+abbrev pub future_or_idle : ℕ → Due → Option ℕ → WorkAt
+future_or_idle root due None = at.LettingGo Idle
+future_or_idle root due (Some future) = at.RootShape root future (is_later due)
 
 -- ---- the move of the current table
 
@@ -246,7 +254,7 @@ after_at mix env (at.Making wanted make) word = (made wanted (make_after make wo
 after_at mix env (at.Attaching root last slot shape) word = (attached env.geometry root slot shape word, Go)
 after_at mix env (at.Unmaking root unmake) word =
     (unmade root (unmake_after unmake word).0 (unmake_after unmake word).1, Go)
-after_at mix env (at.RootFuture root again) word = (future_or_idle root again (slot_of word), Go)
+after_at mix env (at.RootFuture root due) word = (future_or_idle root due (slot_of word), Go)
 after_at mix env (at.RootShape root future again) word =
     (bucket_or_publish env.geometry (record { root = root; future = future; shape = word; again = again }) 0, Go)
 after_at mix env (at.Locking rehash number lock) word =
@@ -404,7 +412,7 @@ IsWorkAtIn env (at.Count root last) = IsCountingIn root last
 IsWorkAtIn env (at.Making wanted make) = IsMakingIn env wanted make
 IsWorkAtIn env (at.Attaching root last slot shape) = IsAttachingIn env.geometry root last slot shape
 IsWorkAtIn env (at.Unmaking root unmake) = IsUnmakingIn env.geometry root unmake
-IsWorkAtIn env (at.RootFuture root again) = root < 8
+IsWorkAtIn env (at.RootFuture root due) = root < 8
 IsWorkAtIn env (at.RootShape root future again) = IsFutureIn root future
 IsWorkAtIn env (at.Locking rehash number lock) = IsLockingIn env.geometry rehash number lock
 IsWorkAtIn env (at.EntryTable emptying seek) = IsEntryTableIn env.geometry emptying seek

@@ -14,7 +14,7 @@ pub mod work;
 pub use last_entry::{Entry, LastEntry};
 pub use last_table::{Last, LastTable, LastTableAt};
 pub use rehash::{Emptying, Rehash, Second, Target};
-pub use work::{Outcome, Wanted, Work, WorkAt};
+pub use work::{Due, Outcome, Wanted, Work, WorkAt};
 
 #[cfg(test)]
 mod tests;

@@ -39,6 +39,17 @@ pub struct Wanted {
     pub size: u32,
 }
 
+/// What is known of a table that is due behind the last one.
+#[derive(Clone, Copy, Debug, PartialEq, Eq)]
+pub enum Due {
+    /// No table was due.
+    Nothing,
+    /// A table was due, and is attached.
+    Attached,
+    /// A table is due, and isn't attached in this call.
+    Later,
+}
+
 /// How a call ends that has had the work lock.
 #[derive(Clone, Copy, Debug, PartialEq, Eq)]
 pub enum Outcome {
@@ -92,7 +103,7 @@ pub enum WorkAt {
     /// stays.
     RootFuture {
         root: u32,
-        again: bool,
+        due: Due,
     },
     /// Loads the shape of the current table.
     RootShape {
@@ -309,7 +320,7 @@ fn after<M: Mix>(env: Env, at: &WorkAt, old: u64) -> (WorkAt, Next<Reply>)
             ..
         } => attached(geometry, root, slot, shape, old),
         WorkAt::Unmaking { root, unmake } => unmade(root, unmake, old),
-        WorkAt::RootFuture { root, again } => future_or_idle(root, again, slot_of(old)),
+        WorkAt::RootFuture { root, due } => future_or_idle(root, due, slot_of(old)),
         WorkAt::RootShape {
             root,
             future,
@@ -387,7 +398,7 @@ fn after<M: Mix>(env: Env, at: &WorkAt, old: u64) -> (WorkAt, Next<Reply>)
 
 /// After the exchange of the work lock, which was this before: 0 where nobody had it.
 #[inline(always)]
-fn lock_seen(lock: u64) -> (WorkAt, Next<Reply>)
+pub fn lock_seen(lock: u64) -> (WorkAt, Next<Reply>)
     ensures { result ≡ lock_seen lock }
 {
     if lock == 0 {
@@ -400,7 +411,7 @@ fn lock_seen(lock: u64) -> (WorkAt, Next<Reply>)
 /// The store that ends the chain of the bucket at this place before its last entry: in the node
 /// before, or in the bucket's word, which stays locked.
 #[inline(always)]
-fn cut_plan(geometry: Geometry, place: usize, before: Option<u32>) -> Op
+pub fn cut_plan(geometry: Geometry, place: usize, before: Option<u32>) -> Op
     requires place { place < words_in geometry }
     requires before { IsNodeOrNone geometry before }
     ensures plan { result ≡ cut_plan geometry place before }

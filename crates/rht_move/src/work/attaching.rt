@@ -6,11 +6,11 @@ ghost use Rattle.rht_nest.specs.Make.{make_after};
 ghost use Rattle.rht_nest.specs.Unmake.{unmake_after};
 ghost use Rattle.rht_move.specs.LastTable.{last_table_after};
 ghost use Rattle.rht_move.specs.Choice.{choice_of};
-ghost use Rattle.rht_move.specs.Work.{seeking, last_seen, counted, begun, made, not_made, attached, unmade, future_or_idle};
+ghost use Rattle.rht_move.specs.Work.{seeking, last_seen, counted, begun, made, not_made, attached, unmade, future_or_idle, is_later};
 
 use crate::last_table::{Last, LastTable};
 use crate::work::choice::{Choice, choice_of, is_nested};
-use crate::work::{Outcome, Wanted, WorkAt};
+use crate::work::{Due, Outcome, Wanted, WorkAt};
 use rht_nest::{Make, Unmake};
 use rht_words::{Env, Geometry, Next};
 
@@ -57,8 +57,14 @@ pub fn begun(env: Env, root: u32, last: Last, choice: Choice) -> WorkAt
             wanted: Wanted { root, last, size },
             make: Make::new(env.geometry, size, env.config.seed, false),
         },
-        Choice::Later => WorkAt::RootFuture { root, again: true },
-        Choice::Nothing => WorkAt::RootFuture { root, again: false },
+        Choice::Later => WorkAt::RootFuture {
+            root,
+            due: Due::Later,
+        },
+        Choice::Nothing => WorkAt::RootFuture {
+            root,
+            due: Due::Nothing,
+        },
     }
 }
 
@@ -92,7 +98,10 @@ pub fn not_made(wanted: Wanted) -> WorkAt
             outcome: Outcome::NoTable { size },
         }
     } else {
-        WorkAt::RootFuture { root, again: true }
+        WorkAt::RootFuture {
+            root,
+            due: Due::Later,
+        }
     }
 }
 
@@ -104,7 +113,10 @@ pub fn attached(geometry: Geometry, root: u32, slot: u32, shape: u64, future: u6
     ensures { result ≡ attached geometry root slot shape future }
 {
     if future == 0 {
-        WorkAt::RootFuture { root, again: false }
+        WorkAt::RootFuture {
+            root,
+            due: Due::Attached,
+        }
     } else {
         WorkAt::Unmaking {
             root,
@@ -121,23 +133,38 @@ pub fn unmade(root: u32, unmake: Unmake, old: u64) -> WorkAt
     let (unmake, next) = unmake.after(old);
     match next {
         Next::Go => WorkAt::Unmaking { root, unmake },
-        Next::Done(()) => WorkAt::RootFuture { root, again: true },
+        Next::Done(()) => WorkAt::RootFuture {
+            root,
+            due: Due::Later,
+        },
     }
 }
 
 /// A current table with a future is emptied. Where it has none, nothing is to be done.
 #[inline(always)]
-pub fn future_or_idle(root: u32, again: bool, future: Option<u32>) -> WorkAt
-    ensures { result ≡ future_or_idle root again future }
+pub fn future_or_idle(root: u32, due: Due, future: Option<u32>) -> WorkAt
+    ensures { result ≡ future_or_idle root due future }
 {
     match future {
         Some(future) => WorkAt::RootShape {
             root,
             future,
-            again,
+            again: is_later(due),
         },
         None => WorkAt::LettingGo {
             outcome: Outcome::Idle,
         },
+    }
+}
+
+/// Whether a table is due that isn't attached in this call, so that a further call has something to
+/// do.
+#[inline(always)]
+pub fn is_later(due: Due) -> bool
+    ensures { result ≡ is_later due }
+{
+    match due {
+        Due::Nothing | Due::Attached => false,
+        Due::Later => true,
     }
 }
