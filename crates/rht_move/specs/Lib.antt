@@ -8,3 +8,5 @@ pub mod Choice
 pub mod Work
 -- what a worker holds
 pub mod WorkHeld
+-- what the other crates rely on
+pub mod Laws

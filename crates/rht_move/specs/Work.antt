@@ -292,7 +292,7 @@ pub record IsSeekingIn (g : Geometry) (root : ℕ) (seek : LastTableModel) : Typ
   pub root_in : root < 8
   pub seek_in : IsLastTableIn g seek
 
--- both
+-- the current table and the last one
 pub record IsCountingIn (root : ℕ) (last : Last) : Type 0 where
   pub root_in : root < 8
   pub last_in : IsLastIn last

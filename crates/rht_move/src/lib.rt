@@ -3,11 +3,12 @@
 //! Stands on `rht_words`, `rht_policy`, `rht_model`, and the pieces of `rht_arena`, `rht_nest` and
 //! `rht_chain`. `rht_core` runs this machine among the others.
 //! Read `specs/Work.antt` first: it is the machine as a table. `specs/Choice.antt` says when a
-//! table is due.
+//! table is due, and `specs/Laws.antt` what the other crates rely on.
 #![tactic(auto)]
 
 mod last_entry;
 mod last_table;
+pub mod laws;
 mod rehash;
 pub mod work;
 
