@@ -1,6 +1,6 @@
 -- What a run leaves that serves a script is printed as a text of the form `run`. The laws of every run say what that means: the history of
 -- the replies, and that the table is still the first one. No case is taken but that of the hash, which names the run's mix.
-use Rattle.std.proofs.Common.{◌≡◌, ℕ, List, length, map, refl, sym, ◌∙◌, ap, subst}
+use Rattle.std.proofs.Common.{◌≡◌, ℕ, List, length, refl, sym, ◌∙◌, ap, subst}
 use Rattle.std.specs.List.{AllByRecursion}
 use Rattle.rht_words.specs.declared.config.Config.{Config}
 use Rattle.rht_words.specs.declared.config.Hash.{Hash}
