@@ -30,3 +30,5 @@ pub mod RunPages
 pub mod Runs
 -- a table is made and given back
 pub mod Makes
+-- the stores of the work: entries are moved, and tables left behind and retired
+pub mod WorkStores
