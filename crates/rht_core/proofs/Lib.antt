@@ -16,5 +16,5 @@ pub mod Meaning
 pub mod Counting
 -- histories whose entries carry numbers
 pub mod Histories
--- the replies of each call, and their causes
+-- the replies of each call, their causes, and the lists of listings
 pub mod Reasons

@@ -30,5 +30,7 @@ pub mod RunPages
 pub mod Runs
 -- a table is made and given back
 pub mod Makes
+-- a table that was made is attached, or is to be given back
+pub mod Attaches
 -- the stores of the work: entries are moved, and tables left behind and retired
 pub mod WorkStores

@@ -2,3 +2,5 @@
 pub mod TablesWalked
 -- in every run each call that has ended has a reply with its cause
 pub mod CausesInRuns
+-- in every run a listing lists each owner that its operations loaded
+pub mod ListingsKept

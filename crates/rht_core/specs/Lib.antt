@@ -24,6 +24,8 @@ pub mod Alone
 pub mod Counts
 -- how many calls took a node
 pub mod NodesUsed
+-- the owners that a listing lists, and those that it loaded
+pub mod ListedOwners
 -- histories whose entries carry the numbers of events
 pub mod Numbered
 -- when a history fits a run

@@ -4,6 +4,7 @@ ghost use Rattle.rht_core.specs.Alone.{Alone};
 ghost use Rattle.rht_core.specs.Causes.{Causes};
 ghost use Rattle.rht_core.specs.Counts.{Counted, AtRest};
 ghost use Rattle.rht_core.specs.FirstTable.{FirstTable};
+ghost use Rattle.rht_core.specs.ListedOwners.{ListedOwners};
 ghost use Rattle.rht_core.specs.NodesUsed.{Nodes};
 ghost use Rattle.rht_core.specs.RunHistories.{HasFittingHistory};
 ghost use Rattle.rht_core.specs.ToldHistories.{HasToldHistory};
@@ -102,6 +103,13 @@ pub fn taken_alone<M: Mix>()
 /// bound, or in which table a bind's node was linked.
 pub fn causes<M: Mix>()
     ensures { Causes M M.mix_of }
+{}
+
+/// In every run a listing that has ended lists each owner that its own operations loaded, and no other,
+/// in the order of these loads. So none is dropped because its room, which may have one item a node, is
+/// full. It doesn't say whose owners they are, which `fits` does, nor that a listing ends.
+pub fn listed<M: Mix>()
+    ensures { ListedOwners M M.mix_of }
 {}
 
 /// A call whose events stand together in a run, while no other caller is in the middle of a call,

@@ -58,7 +58,7 @@ module _ (port : ℕ) where
   fits_all room (at.Unlocking table unlock) = Unit {0}
 
 -- the room with this owner behind the others
-abbrev room_with : Kept ℕ → ℕ → Kept ℕ
+abbrev pub room_with : Kept ℕ → ℕ → Kept ℕ
 room_with room owner = record { items = room.items ++ owner ∷ []; limit = room.limit }
 
 module _ (env : Env) (mix : ℕ → ℕ → ℕ → ℕ) (c : ℕ) (port : ℕ) where
@@ -124,11 +124,11 @@ module _ (env : Env) (mix : ℕ → ℕ → ℕ → ℕ) (c : ℕ) (port : ℕ) 
     -- ---- the owners
 
     -- the owner of a node
-    abbrev owner_at : ℕ → ℕ
+    abbrev pub owner_at : ℕ → ℕ
     owner_at node = owner_of (M (Node node OwnerWord))
 
     -- the owner that was loaded is kept: of the nodes of the list one is left, so there is room
-    kept : (found : FoundPort) (node : ℕ) → AllKnows room (at.Owner found node) M G
+    pub kept : (found : FoundPort) (node : ℕ) → AllKnows room (at.Owner found node) M G
         → with_kept room (owner_at node) ≡ room_with room (owner_at node)
     kept found node known =
         let listed = known.knowing.means.bucket in

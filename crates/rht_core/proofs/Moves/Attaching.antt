@@ -2,17 +2,16 @@
 -- caller has made. The slot and its pages are the table's, whose buckets are empty, and it is the last one.
 --
 -- The future that is written was 0, so that table was the last: each other table's leads to the one behind it.
-use Rattle.std.proofs.Common.{◌≡◌, ◌≢◌, ◌↔◌, ℕ, ◌+◌, ◌-◌, ◌*◌, ◌/◌, ◌%◌, ◌^◌, ◌<◌, ◌≤◌, max, min, cond, nat_lt, Some, Bool, true, false, refl, sym, ◌∙◌, ap, subst, inl, inr, arith}
-use Rattle.std.specs.Prelude.{◌&&◌, nat_le}
+use Rattle.std.proofs.Common.{◌≡◌, ◌≢◌, ◌↔◌, ℕ, ◌+◌, ◌*◌, ◌/◌, ◌%◌, ◌<◌, ◌≤◌, cond, nat_lt, Some, true, false, refl, sym, ◌∙◌, ap, subst, inl, inr, arith}
+use Rattle.std.specs.Prelude.{nat_le}
 use Rattle.std.specs.Int.{bit_at}
-use Rattle.std.proofs.lemmas.Bool.{cases_eq, cases_lt, lt-ltb, le-ltb, ltb-true, leb-true, and_parts, and_from, both_ways}
+use Rattle.std.proofs.lemmas.Bool.{cases_eq, cases_lt, lt-ltb, le-ltb, ltb-true, leb-true, and_parts}
 use Rattle.std.proofs.lemmas.Bool.Decides.{nat_tests}
 use Rattle.rht_words.specs.declared.env.Env.{Env}
 use Rattle.rht_words.specs.Links.{future_of}
 use Rattle.rht_words.specs.Shapes.{unpacked, size_of}
 use Rattle.rht_words.specs.Places.{CurrentTable, WorkLock, Slot, SlotWord, ShapeWord, SeedWord, FutureWord, StateWord, PageMap, IsSlotWord}
 use Rattle.rht_words.proofs.Memory.{Memory, IsWrite}
-use Rattle.rht_arena.specs.Runs.{is_in_run}
 use Rattle.rht_nest.specs.Tables.{table_pages}
 use Rattle.rht_nest.proofs.MakesMade.{size_of-fits}
 use Rattle.rht_core.proofs.Theory.Ghosts.{Table, blank_bucket, put, put-same, put-other, put-all, put_in, put_in-there, put_in-all, PageOwner, PageFree, PageHeld, PageOf, SlotOwner, SlotHeld, Live, Ghost, state_word, table_of_slot, has_table, index_at, flat_table, is_page_for, with_table}
@@ -80,7 +79,7 @@ module _ (env : Env) (mix : ℕ → ℕ → ℕ → ℕ) where
     no_table s has e =
         let z : true ≡ false = sym has ∙ ap (λ i. has_table (G.slot i)) e ∙ ap has_table ready.made.has.mine in cc
 
-    attached_kept : TablesKept env mix G tables (G.attached + 1) slots page
+    pub attached_kept : TablesKept env mix G tables (G.attached + 1) slots page
     attached_kept = record {
       tables = λ σ k. put-other G.table G.attached new σ (omega arith);
       more = omega arith;

@@ -1,17 +1,16 @@
 -- The moves of pages: an operation on a word of the map of pages that clears bits of free pages takes these, and one that sets bits of
 -- pages which the caller has gives them back. Others see nothing of them but that a page is or isn't free. The words of such
 -- pages are nobody's, before and after.
-use Rattle.std.proofs.Common.{◌≡◌, ◌≢◌, ◌↔◌, ℕ, ◌+◌, ◌*◌, ◌/◌, ◌%◌, ◌<◌, Bool, true, false, refl, sym, ◌∙◌, ap, subst, inl, inr, arith}
-use Rattle.std.specs.Prelude.{◌==◌, ◌&&◌}
+use Rattle.std.proofs.Common.{◌≡◌, ◌≢◌, ◌↔◌, ℕ, ◌/◌, ◌%◌, ◌<◌, true, false, refl, sym, ◌∙◌, ap, subst, inl, inr, arith}
+use Rattle.std.specs.Prelude.{◌==◌}
 use Rattle.std.specs.Int.{bit_at}
 use Rattle.std.proofs.lemmas.Bool.{cases_eq, eqb-true, eq-eqb, and_parts, and_from, both_ways}
 use Rattle.rht_words.specs.declared.env.Env.{Env}
-use Rattle.rht_words.specs.Places.{WorkLock, Slot, StateWord, PageMap, map_words}
+use Rattle.rht_words.specs.Places.{WorkLock, Slot, StateWord, PageMap}
 use Rattle.rht_words.proofs.Memory.{Memory, IsWrite}
-use Rattle.rht_core.proofs.Theory.Ghosts.{Bucket, blank_bucket, put_in, put_in-there, put_in-other, put_in-all, PageOwner, PageFree, PageHeld, PageOf, Ghost, has_bit, with_pages}
+use Rattle.rht_core.proofs.Theory.Ghosts.{blank_bucket, put_in, put_in-all, PageOwner, PageFree, PageHeld, PageOf, Ghost, has_bit, with_pages}
 use Rattle.rht_core.proofs.Theory.Wholes.{IsNoBucket, IsPageOf, SlotsRight, PagesRight, Whole}
 use Rattle.rht_core.proofs.Theory.Readiness.{ArePagesOf}
-use Rattle.rht_core.proofs.Theory.Reliance.{Rely}
 use Rattle.rht_core.proofs.Theory.Frames.{Others, Made}
 use Rattle.rht_core.proofs.Theory.WholeFrames.{no_bucket}
 use Rattle.rht_core.proofs.Theory.TableFrames.{TablesKept, IsNoBucketWord, no_table-no_bucket, Whole-retabled, Rely-retabled, TablesRight-kept}

@@ -1,16 +1,14 @@
 -- The moves of slots: a free slot is taken, one that the caller has is given back, and a word of it that says something of its table is
 -- written. Others see nothing of them but that a slot is or isn't free. The next serial is nobody's.
-use Rattle.std.proofs.Common.{◌≡◌, ◌≢◌, ℕ, ◌+◌, ◌%◌, ◌^◌, ◌<◌, true, false, refl, sym, ◌∙◌, ap, subst, inl, inr, arith}
-use Rattle.std.proofs.lemmas.Bool.{cases_eq}
+use Rattle.std.proofs.Common.{◌≡◌, ◌≢◌, ℕ, ◌<◌, true, false, refl, sym, ◌∙◌, ap, subst, arith}
 use Rattle.rht_words.specs.declared.env.Env.{Env}
-use Rattle.rht_words.specs.Places.{WorkLock, NextSerial, Slot, SlotWord, StateWord, IsSlotWord}
+use Rattle.rht_words.specs.Places.{WorkLock, NextSerial, Slot, SlotWord, StateWord}
 use Rattle.rht_words.proofs.Memory.{Memory, IsWrite}
-use Rattle.rht_core.proofs.Theory.Ghosts.{put, put-same, put-other, put-all, SlotOwner, SlotFree, SlotHeld, Live, Retired, Ghost, state_word, has_table, with_slot}
+use Rattle.rht_core.proofs.Theory.Ghosts.{put, put-other, put-all, SlotOwner, SlotFree, SlotHeld, Live, Retired, Ghost, state_word, has_table, with_slot}
 use Rattle.rht_core.proofs.Theory.Wholes.{SlotsRight, Whole}
 use Rattle.rht_core.proofs.Theory.Knowledge.{HasSlot}
-use Rattle.rht_core.proofs.Theory.Reliance.{HoldingsStay, Rely}
 use Rattle.rht_core.proofs.Theory.Frames.{Others, Made, same_tables}
-use Rattle.rht_core.proofs.Theory.WholeFrames.{IsApart, SlotsRight-write}
+use Rattle.rht_core.proofs.Theory.WholeFrames.{SlotsRight-write}
 use Rattle.rht_core.proofs.Theory.TableFrames.{TablesKept, IsNoBucketWord, Whole-retabled, Rely-retabled, TablesRight-kept, PagesRight-kept}
 use Rattle.rht_core.proofs.Theory.Steps.{IsTableWord}
 use Rattle.rht_core.proofs.Moves.Quiet.{aside}

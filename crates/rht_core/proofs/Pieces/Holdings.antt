@@ -1,26 +1,25 @@
 -- The operations on the slot and the pages of a caller that makes a table: they are taken and given back, and the slot's words are
 -- written. What the caller knows beside stays.
-use Rattle.std.proofs.Common.{◌≡◌, ◌≢◌, ◌⊎◌, ◌↔◌, ℕ, ◌+◌, ◌*◌, ◌/◌, ◌%◌, ◌<◌, ◌==◌, List, [], length, slice_index, Option, Some, None, Bool, true, false, cond, refl, sym, ◌∙◌, ap, subst, inl, inr, arith}
+use Rattle.std.proofs.Common.{◌≡◌, ◌≢◌, ◌⊎◌, ◌↔◌, ℕ, ◌<◌, ◌==◌, List, [], length, slice_index, Option, Some, None, true, false, cond, refl, sym, ◌∙◌, ap, subst, inl, inr, arith}
 use Rattle.std.specs.Prelude.{IfSome}
 use Rattle.std.specs.Int.{bit_at}
 use Rattle.std.proofs.lemmas.Bool.{ne_eqb, both_ways}
 use Rattle.rht_words.specs.declared.env.Env.{Env}
 use Rattle.rht_words.specs.declared.op.Op.{Op}
 use Rattle.rht_words.specs.declared.op.Op.TheVariants.{Store, Exchange, Add}
-use Rattle.rht_words.specs.Links.{future_of}
 use Rattle.rht_words.specs.Members.{In}
-use Rattle.rht_words.specs.Operations.{op_place, old_of, word_after, applied}
+use Rattle.rht_words.specs.Operations.{old_of, word_after, applied}
 use Rattle.rht_words.specs.Places.{NextSerial, Slot, SlotWord, ShapeWord, SeedWord, FutureWord, SerialWord, StateWord, LoadedSection, IsSlotWord, PageMap, map_words, place_of, words_in}
 use Rattle.rht_words.proofs.Memory.{Memory, IsWrite, is_write}
-use Rattle.rht_core.proofs.Theory.Ghosts.{put, put-same, put-all, put_in, put_in-there, put_in-all, PageOwner, PageFree, PageHeld, SlotFree, SlotHeld, Ghost, has_table, has_bit, with_slot, with_pages}
+use Rattle.rht_core.proofs.Theory.Ghosts.{put, put-same, put-all, put_in, put_in-all, PageOwner, PageFree, PageHeld, SlotFree, SlotHeld, Ghost, has_table, has_bit}
 use Rattle.rht_core.proofs.Theory.Wholes.{Whole}
 use Rattle.rht_core.proofs.Theory.Readiness.{ArePagesOf}
 use Rattle.rht_core.proofs.Theory.Knowns.{Known, KnownSlot, KnownMaking, MakesNothing, HasTaken}
-use Rattle.rht_core.proofs.Theory.Knowledge.{MakingMeans, HasSlot, SlotMeans, Knowing}
+use Rattle.rht_core.proofs.Theory.Knowledge.{SlotMeans, Knowing}
 use Rattle.rht_core.proofs.Theory.TableFrames.{TablesKept, Knowing-retabled}
 use Rattle.rht_core.proofs.Theory.Steps.{Quiet, TakesSlot, GivesSlot, TakesPages, GivesPages, Holding, IsTableWord, ClearsBits, SetsBits, mem, Moved, moved, loads}
 use Rattle.rht_core.proofs.Moves.Slots.{slot_word-apart, slots_kept, take_slot, give_slot, fill_slot, take_serial}
-use Rattle.rht_core.proofs.Moves.Pages.{map_word-apart, pages_kept, set_free, take_pages, give_pages}
+use Rattle.rht_core.proofs.Moves.Pages.{map_word-apart, pages_kept, take_pages, give_pages}
 
 -- a slot of which no word is known
 abbrev pub bare_slot : ℕ → KnownSlot

@@ -1,18 +1,17 @@
 -- The operations of the making of a table and of its giving back, for a caller that holds such a machine: what it knows in each state of
 -- the slot and the pages that it has, and that each operation leads from this to what it knows next.
-use Rattle.std.proofs.Common.{◌≡◌, ◌≢◌, ◌⊎◌, ℕ, zero, suc, ◌+◌, ◌-◌, ◌*◌, ◌/◌, ◌%◌, ◌^◌, ◌<◌, ◌≤◌, ◌==◌, min, max, List, [], ◌∷◌, length, Option, Some, None, Bool, true, false, cond, nat_lt, refl, sym, ◌∙◌, ap, subst, inl, inr, arith}
+use Rattle.std.proofs.Common.{◌≡◌, ℕ, ◌+◌, ◌-◌, ◌*◌, ◌/◌, ◌^◌, ◌<◌, ◌≤◌, ◌==◌, min, max, List, [], length, Option, Some, None, nat_lt, sym, ◌∙◌, ap, subst, arith}
 use Rattle.std.specs.Prelude.{nat_le}
-use Rattle.std.specs.List.{filter, range_with_len}
-use Rattle.std.proofs.lemmas.Bool.{cases_eq, cases_lt, cond_both, eqb-true, eqb-false}
+use Rattle.std.specs.List.{range_with_len}
+use Rattle.std.proofs.lemmas.Bool.{cond_both, eqb-true, eqb-false}
 use Rattle.rht_words.specs.declared.env.Env.{Env}
 use Rattle.rht_words.specs.declared.op.Op.{Op}
 use Rattle.rht_words.specs.declared.machine.Next.{Next}
 use Rattle.rht_words.specs.declared.machine.Next.TheVariants.{Go, Done}
 use Rattle.rht_words.specs.declared.machine.Start.TheVariants as starts
-use Rattle.rht_words.specs.Members.{In}
-use Rattle.rht_words.specs.Operations.{old_of, applied}
+use Rattle.rht_words.specs.Operations.{old_of}
 use Rattle.rht_words.specs.Places.{ShapeWord, SeedWord, FutureWord, SerialWord, words_in}
-use Rattle.rht_words.specs.Shapes.{packed, unpacked, size_of}
+use Rattle.rht_words.specs.Shapes.{unpacked, size_of}
 use Rattle.rht_words.proofs.Memory.{Memory}
 use Rattle.rht_words.proofs.Members.{In-range_with_len}
 use Rattle.rht_arena.specs.Runs.{IsRunIn}
@@ -20,20 +19,20 @@ use Rattle.rht_arena.specs.TakeRun.{TakeRunModel, take_run_new, take_run_plan, t
 use Rattle.rht_arena.specs.GiveRun.{GiveRunModel, give_run_plan, give_run_after, pages_of_give_run}
 use Rattle.rht_arena.proofs.RunsStay.{take_run_stays}
 use Rattle.rht_nest.specs.Tables.{flat_shape, table_pages, table_seed, run_first, run_pages, pages_of_table}
-use Rattle.rht_nest.specs.Make.{MakeModel, make_plan, make_plan_at, make_after, make_after_at, made_pages, made_shape, run_taken, run_started, slot_seen, slot_of_make, pages_of_make, IsMakeAtIn, IsMakeIn}
+use Rattle.rht_nest.specs.Make.{MakeModel, make_plan, make_plan_at, make_after_at, made_pages, made_shape, run_taken, run_started, slot_of_make, pages_of_make, IsMakeAtIn, IsMakeIn}
 use Rattle.rht_nest.specs.declared.make.MakeAt.{MakeAt}
 use Rattle.rht_nest.specs.declared.make.MakeAt.TheVariants as at
-use Rattle.rht_nest.specs.Unmake.{UnmakeModel, unmake_plan, unmake_plan_at, unmake_after, unmake_after_at, run_given, pages_of_unmake, IsUnmakeAtIn, IsUnmakeIn}
+use Rattle.rht_nest.specs.Unmake.{UnmakeModel, unmake_plan, unmake_plan_at, unmake_after_at, run_given, pages_of_unmake, IsUnmakeAtIn, IsUnmakeIn}
 use Rattle.rht_nest.specs.declared.unmake.UnmakeAt.{UnmakeAt}
 use Rattle.rht_nest.specs.declared.unmake.UnmakeAt.TheVariants as gives
 use Rattle.rht_core.proofs.Theory.Ghosts.{Ghost}
 use Rattle.rht_core.proofs.Theory.Wholes.{Whole}
 use Rattle.rht_core.proofs.Theory.Knowns.{Known, KnownSlot, KnownMaking, MakesNothing, HasTaken, HasMade}
-use Rattle.rht_core.proofs.Theory.Knowledge.{MakingMeans, Knowing}
+use Rattle.rht_core.proofs.Theory.Knowledge.{MakingMeans}
 use Rattle.rht_core.proofs.Theory.Steps.{Holding, mem, Moved, moved-map}
-use Rattle.rht_core.proofs.Pieces.RunPages.{filter-none, false_from, pages_behind, is_between, between-is}
+use Rattle.rht_core.proofs.Pieces.RunPages.{filter-none, false_from, is_between, between-is}
 use Rattle.rht_core.proofs.Pieces.Holdings.{bare_slot, with_slot_word, holding, knowing, take_slot_step, lose_slot_step, give_slot_step, fill_slot_step, serial_step}
-use Rattle.rht_core.proofs.Pieces.Runs.{RunMoved, run_step, GiveMoved, given_behind, give_run_step}
+use Rattle.rht_core.proofs.Pieces.Runs.{RunMoved, run_step, GiveMoved, give_run_step}
 
 -- ---- what is known
 

@@ -1,19 +1,20 @@
 -- The pages that the taking and the giving back of a run have, as lists, and what one operation makes of them.
-use Rattle.std.proofs.Common.{◌≡◌, ◌≢◌, ◌⊎◌, ◌↔◌, ℕ, zero, suc, ◌+◌, ◌-◌, ◌*◌, ◌/◌, ◌%◌, ◌<◌, ◌≤◌, List, [], ◌∷◌, Option, Some, None, Bool, true, false, cond, min, bit_and, nat_lt, refl, sym, ◌∙◌, ap, subst, inl, inr, arith}
-use Rattle.std.specs.Prelude.{◌==◌, ◌&&◌, ◌||◌, nat_le}
+use Rattle.std.proofs.Common.{◌≡◌, ◌⊎◌, ◌↔◌, ℕ, zero, suc, ◌+◌, ◌-◌, ◌*◌, ◌/◌, ◌%◌, ◌<◌, ◌≤◌, List, [], ◌∷◌, Option, Some, None, Bool, true, false, cond, bit_and, nat_lt, refl, sym, ◌∙◌, ap, subst, inl, inr, arith}
+use Rattle.std.specs.Prelude.{◌==◌, ◌&&◌, nat_le}
 use Rattle.std.specs.Int.{bit_at}
 use Rattle.std.specs.List.{filter, range_with_len}
-use Rattle.std.proofs.lemmas.Bool.{cases_lt, cond_both, eqb-true, eq-eqb, ltb-true, ltb-false, lt-ltb, leb-true, leb-false, and_parts, and_from, or_cases, or_left, or_right, both_ways}
+use Rattle.std.proofs.lemmas.Bool.{cases_lt, cond_both, eqb-true, ltb-true, ltb-false, leb-true, leb-false, le-leb, and_parts, and_from, or_cases, or_left, or_right, both_ways}
 use Rattle.std.proofs.lemmas.Bool.Decides.{nat_tests}
 use Rattle.std.proofs.lemmas.Nat.Bits.{bit_at_and, bit_at-lt, bit_at-zero}
 use Rattle.rht_words.specs.declared.machine.Next.{Next}
 use Rattle.rht_words.specs.declared.machine.Next.TheVariants.{Go, Done}
 use Rattle.rht_words.specs.Members.{In}
 use Rattle.rht_words.proofs.Members.{In-range_with_len, range_with_len-In}
-use Rattle.rht_arena.specs.Runs.{run_bits, IsRunIn}
-use Rattle.rht_arena.specs.TakeRun.{TakeRunModel, next_run, given_below, given_from, claimed, cleared, has_run, has_page, pages_of_take_run, IsRunAt, IsGivenAt}
-use Rattle.rht_arena.specs.declared.take_run.TakeRunAt.{TakeRunAt}
-use Rattle.rht_arena.specs.declared.take_run.TakeRunAt.TheVariants.{MapWord, Claim, GiveBack}
+use Rattle.rht_arena.specs.Runs.{run_bits}
+use Rattle.rht_arena.specs.GiveRun.{give_run_new, has_yet, pages_of_give_run}
+use Rattle.rht_words.specs.declared.geometry.Geometry.{Geometry}
+use Rattle.rht_arena.specs.TakeRun.{TakeRunModel, next_run, given_below, given_from, claimed, cleared, has_run, has_page, pages_of_take_run, IsRunAt}
+use Rattle.rht_arena.specs.declared.take_run.TakeRunAt.TheVariants.{GiveBack}
 use Rattle.rht_arena.proofs.RunBits.{bit_at-run, bit_at-run_from, bit_at-run_until}
 use Rattle.rht_core.proofs.Theory.Ghosts.{has_bit}
 use Rattle.rht_core.proofs.Moves.Pages.{has_bit-is, is_has_bit}
@@ -349,3 +350,55 @@ module _ (m : TakeRunModel) where
                   | inr here ↦ absurd (both_ways (has_bit index bits p) both.1 here)
                 ],
           )
+
+-- ---- the giving back of a run
+
+-- none of the numbers of a range passes a test that none passes from its first on
+filter-none_from : (t : ℕ → Bool) (a n : ℕ) → ((x : ℕ) → a ≤ x → t x ≡ false) → filter t (range_with_len a n) ≡ []
+filter-none_from t a zero none = refl
+filter-none_from t a (suc n) none =
+    ap (λ b. cond b (a ∷ filter t (range_with_len (a + 1) n)) (filter t (range_with_len (a + 1) n)))
+    (none a (omega arith)) ∙ filter-none_from t (a + 1) n (λ x l. none x (omega (arith, l)))
+
+-- the numbers from the first on and below the second are a range, among those below a bound
+filter_range : (t : ℕ → Bool) (a n first k : ℕ) → a ≤ first → first + k ≤ a + n
+    → ((x : ℕ) → first ≤ x → x < first + k → t x ≡ true)
+    → ((x : ℕ) → a ≤ x → (x < first) ⊎ (first + k ≤ x) → t x ≡ false)
+    → filter t (range_with_len a n) ≡ range_with_len first k
+filter_range t a n first zero low high there other = filter-none_from t a n
+    (λ x l. other x l (elim (cases_lt x first) [ inl less ↦ inl less | inr more ↦ inr (omega (arith, more)) ]))
+filter_range t a zero first (suc k) low high there other = absurd (omega (arith, low, high))
+filter_range t a (suc n) first (suc k) low high there other = elim (cases_lt a first) [
+  | inl less ↦
+      ap (λ b. cond b (a ∷ filter t (range_with_len (a + 1) n)) (filter t (range_with_len (a + 1) n)))
+      (other a (omega arith) (inl less))
+      ∙ filter_range t (a + 1) n first (suc k) (omega (arith, less)) (omega (arith, high)) there
+      (λ x l o. other x (omega (arith, l)) o)
+  | inr more ↦
+      let same : a ≡ first = omega (arith, low, more) in
+      ap (λ b. cond b (a ∷ filter t (range_with_len (a + 1) n)) (filter t (range_with_len (a + 1) n)))
+      (there a (omega (arith, same)) (omega (arith, same)))
+      ∙ ap (λ f. f ∷ filter t (range_with_len (a + 1) n)) same
+      ∙ ap (λ xs. first ∷ xs) (filter_range t (a + 1) n (first + 1) k (omega (arith, same)) (omega (arith, high, same))
+      (λ x l u. there x (omega (arith, l)) (omega (arith, u)))
+      (λ x l o. other x (omega (arith, l)) (elim o [
+        | inl less ↦ absurd (omega (arith, l, less, same))
+        | inr past ↦ inr (omega (arith, past))
+      ])))
+]
+
+-- so to give back a run is to have its pages
+pub given-range : (g : Geometry) (first pages : ℕ) → first + pages ≤ g.pages
+    → pages_of_give_run (give_run_new g first pages) ≡ range_with_len first pages
+given-range g first pages within =
+    let give = give_run_new g first pages in
+    filter_range (has_yet give) 0 g.pages first pages (omega arith) (omega (arith, within))
+    (λ x from until. and_from (nat_le (64 * (first / 64)) x) (nat_le first x && nat_lt x (first + pages))
+    (le-leb (64 * (first / 64)) x (omega (arith, from))) (is-between first (first + pages) x from until))
+    (λ x l out. false_from (has_yet give x) (λ is.
+    let both = and_parts (nat_le (64 * (first / 64)) x) (nat_le first x && nat_lt x (first + pages)) is in
+    let range = between-is first (first + pages) x both.1 in
+    elim out [
+      | inl less ↦ omega (arith, less, range.0)
+      | inr past ↦ omega (arith, past, range.1)
+    ]))

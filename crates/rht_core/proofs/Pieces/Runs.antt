@@ -1,33 +1,32 @@
 -- The taking and the giving back of a run of pages, for a caller that holds such a machine and has a slot: the pages that it has are
 -- those whose bits the machine has cleared and not set again.
-use Rattle.std.proofs.Common.{◌≡◌, ◌≢◌, ◌⊎◌, ◌↔◌, ℕ, zero, suc, ◌+◌, ◌-◌, ◌*◌, ◌/◌, ◌%◌, ◌^◌, ◌<◌, ◌≤◌, ◌==◌, min, max, List, [], length, slice_index, Option, Some, None, Bool, true, false, cond, bit_and, nat_lt, refl, sym, ◌∙◌, ap, subst, inl, inr, arith}
+use Rattle.std.proofs.Common.{◌≡◌, ◌≢◌, ◌↔◌, ℕ, ◌+◌, ◌*◌, ◌/◌, ◌%◌, ◌^◌, ◌<◌, ◌≤◌, List, [], length, Option, Some, true, false, bit_and, nat_lt, refl, sym, subst, inl, inr, arith}
 use Rattle.std.specs.Prelude.{◌&&◌, nat_le}
 use Rattle.std.specs.Int.{bit_at, bit_not, w64}
-use Rattle.std.specs.List.{filter, range_with_len}
+use Rattle.std.specs.List.{range_with_len}
 use Rattle.std.proofs.lemmas.Bool.{cases_lt, cond_both, ltb-true, ltb-false, lt-ltb, leb-true, le-leb, and_parts, and_from, both_ways}
 use Rattle.std.proofs.lemmas.Nat.Bits.{bit_at_and, bit_at_or, bit_at_not, bit_at-lt}
 use Rattle.rht_words.specs.declared.env.Env.{Env}
 use Rattle.rht_words.specs.declared.op.Op.{Op}
-use Rattle.rht_words.specs.declared.op.Op.TheVariants.{Load, Store, And, Or}
+use Rattle.rht_words.specs.declared.op.Op.TheVariants.{Load}
 use Rattle.rht_words.specs.declared.machine.Next.{Next}
 use Rattle.rht_words.specs.declared.machine.Next.TheVariants.{Go, Done}
 use Rattle.rht_words.specs.Members.{In}
-use Rattle.rht_words.specs.Operations.{op_place, old_of, word_after, applied}
-use Rattle.rht_words.specs.Places.{SlotWord, ShapeWord, SeedWord, FutureWord, SerialWord, PageMap, map_words, place_of, words_in}
+use Rattle.rht_words.specs.Operations.{old_of}
+use Rattle.rht_words.specs.Places.{PageMap, place_of, words_in}
 use Rattle.rht_words.proofs.Memory.{Memory}
 use Rattle.rht_arena.specs.Runs.{run_bits, IsRunIn, IsRunWord}
-use Rattle.rht_arena.specs.TakeRun.{TakeRunModel, take_run_plan, take_run_plan_at, take_run_after, take_run_after_at, looked, cleared, given_below, has_run, pages_of_take_run, IsRunAt, IsTakeRunAtIn, IsTakeRunIn}
+use Rattle.rht_arena.specs.TakeRun.{TakeRunModel, take_run_plan, take_run_after, looked, cleared, has_run, pages_of_take_run, IsRunAt, IsTakeRunAtIn, IsTakeRunIn}
 use Rattle.rht_arena.specs.declared.take_run.TakeRunAt.{TakeRunAt}
 use Rattle.rht_arena.specs.declared.take_run.TakeRunAt.TheVariants as takes
 use Rattle.rht_arena.specs.GiveRun.{GiveRunModel, give_run_plan, give_run_after, has_yet, pages_of_give_run, IsGiveRunIn}
 use Rattle.rht_arena.proofs.RunBits.{run_bits-fits, bit_at-run, bit_at-run_from, bit_at-run_until}
 use Rattle.rht_core.proofs.Theory.Ghosts.{Ghost, has_bit}
 use Rattle.rht_core.proofs.Theory.Wholes.{Whole}
-use Rattle.rht_core.proofs.Theory.Knowns.{Known, KnownSlot, KnownMaking, HasTaken}
-use Rattle.rht_core.proofs.Theory.Knowledge.{Knowing}
-use Rattle.rht_core.proofs.Theory.Steps.{Holding, ClearsBits, SetsBits, mem, Moved, loads}
+use Rattle.rht_core.proofs.Theory.Knowns.{Known, KnownSlot, HasTaken}
+use Rattle.rht_core.proofs.Theory.Steps.{Holding, mem, Moved, loads}
 use Rattle.rht_core.proofs.Moves.Pages.{has_bit-is, is_has_bit}
-use Rattle.rht_core.proofs.Pieces.RunPages.{false_from, filter-In, In-filter, below-In, In-below, pages_behind, before, given_below-pages, cleared-more, given-had, given-less, found_within, given_within}
+use Rattle.rht_core.proofs.Pieces.RunPages.{false_from, filter-In, In-filter, below-In, In-below, pages_behind, given_below-pages, cleared-more, given-had, given-less, found_within, given_within}
 use Rattle.rht_core.proofs.Pieces.Holdings.{holding, knowing, take_pages_step, give_pages_step}
 
 -- ---- what an operation does to bits

@@ -1,24 +1,23 @@
 -- What a step leaves that changes tables, slots and pages alone, and writes a word that says something of them.
 -- Buckets, nodes, what is bound, and who does the work are what they were.
-use Rattle.std.proofs.Common.{◌≡◌, ◌≢◌, ℕ, ◌+◌, ◌*◌, ◌/◌, ◌<◌, ◌≤◌, List, Option, Some, None, Bool, true, false, refl, sym, ◌∙◌, ap, subst, inl, inr, arith}
+use Rattle.std.proofs.Common.{◌≡◌, ◌≢◌, ℕ, ◌+◌, ◌*◌, ◌/◌, ◌<◌, ◌≤◌, List, Option, Some, true, refl, sym, ◌∙◌, ap, subst, inl, inr, arith}
 use Rattle.rht_words.specs.declared.env.Env.{Env}
 use Rattle.rht_words.specs.Held as held
-use Rattle.rht_words.specs.Links.{head_of}
 use Rattle.rht_words.specs.Shapes.{unpacked, size_of}
 use Rattle.rht_words.specs.Places.{Address, CurrentTable, PortCount, Slot, SlotWord, IsSlotWord, ShapeWord, SeedWord, FutureWord, NodeMap, PageMap, Node, NodeWord, ChainLink, KeyWord, OwnerWord, ListLink, PageWord}
 use Rattle.rht_words.specs.Members.{In}
 use Rattle.rht_words.proofs.Memory.{Memory, IsWrite}
 use Rattle.rht_words.proofs.ChainLemmas.{IsSegment-members}
-use Rattle.rht_core.proofs.Theory.Ghosts.{Table, Bucket, PageOwner, PageFree, PageHeld, PageOf, SlotOwner, SlotHeld, Ghost, is_used, seat-used, none-some, table_of_page, table_of_slot, table_at, has_table, index_at}
-use Rattle.rht_core.proofs.Theory.Wholes.{chain_of, key_of, list_of, place_at, home, future_in, IsNoBucket, PlacedRight, TableRight, TablesRight, SlotsRight, PagesRight, MovingRight, OutRight, IsHomeOf, IsFirstAt, IsBehindIn, IsBoundTo, IsLeavingAt, Owned, Whole, seated_at}
+use Rattle.rht_core.proofs.Theory.Ghosts.{Table, Bucket, PageOwner, PageFree, PageHeld, PageOf, SlotOwner, SlotHeld, Ghost, table_of_page, table_of_slot, table_at, has_table, index_at}
+use Rattle.rht_core.proofs.Theory.Wholes.{key_of, list_of, home, future_in, IsNoBucket, PlacedRight, TableRight, TablesRight, SlotsRight, PagesRight, MovingRight, OutRight, IsHomeOf, IsFirstAt, IsLeavingAt, Owned, Whole, seated_at}
 use Rattle.rht_core.proofs.Theory.Passed.{held-bucket, home-stays, TablesGrow, PassesStay, Passed-stays}
 use Rattle.rht_core.proofs.Theory.Knowns.{Known, KnownMaking}
 use Rattle.rht_core.proofs.Theory.Knowledge.{MakingMeans, Knowing}
 use Rattle.rht_core.proofs.Theory.Reliance.{TablesStay, HoldingsStay, WorkStays, members_used, Rely}
 use Rattle.rht_core.proofs.Theory.KnowledgeStays.{NodeMeans-stay, TableMeans-stay, BucketMeans-own}
 use Rattle.rht_core.proofs.Theory.KnowledgeKept.{WorkMeans-stay}
-use Rattle.rht_core.proofs.Theory.Frames.{passes_same, used_stay, chains_stay}
-use Rattle.rht_core.proofs.Theory.WholeFrames.{IsApart, no_bucket, BucketRight-frame, locks_stay, arena_stays}
+use Rattle.rht_core.proofs.Theory.Frames.{passes_same, chains_stay}
+use Rattle.rht_core.proofs.Theory.WholeFrames.{IsApart, no_bucket, BucketRight-frame, arena_stays}
 
 -- the address is no word of a node or a bucket, nor of the map of nodes, nor the count
 pub record IsNoBucketWord (a : Address) : Type 0 where

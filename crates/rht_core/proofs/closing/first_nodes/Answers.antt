@@ -144,16 +144,16 @@ rises (x ∷ xs) up =
 
 pub returns : goal.returns
 returns c =
+    let kept : c.dedup_by_key.new.self.items ≡ dedup same c.sort_by_key.new.self.items =
+    dedup_same _ same _ (λ x y b f x' y' k. search rules) c.sort_by_key.new.self.items c.dedup_by_key.new.self.items c.dedup_by_key.ensures.filtered in
+    let stable : IsStableByKey (λ x. x.0) nat_cmp c.in_ok-met.met.items c.sort_by_key.new.self.items =
+    c.sort_by_key.ensures.stable (λ node. node.0) (answers_always _ _ _ (λ f a r h k. search rules)) in
+    let up : IsNonDecreasingBy (λ x. x.0) c.sort_by_key.new.self.items =
+    IsNonDecreasingBy-from_sort_by_key (λ node. node.0) c.sort_by_key.new.self.items c.in_ok-sort_by_key.ensures.sorted (λ a r f k. search rules) in
     let g = c.args.geometry in
     let words = c.args.words.now in
     let met = c.in_ok-met.met.items in
     let sorted = c.sort_by_key.new.self.items in
-    let stable : IsStableByKey (λ x. x.0) nat_cmp met sorted =
-    c.sort_by_key.ensures.stable (λ node. node.0) (answers_always _ _ _ (λ f a r h k. search rules)) in
-    let up : IsNonDecreasingBy (λ x. x.0) sorted =
-    IsNonDecreasingBy-from_sort_by_key (λ node. node.0) _ c.in_ok-sort_by_key.ensures.sorted (λ a r f k. search rules) in
-    let kept : c.dedup_by_key.new.self.items ≡ dedup same sorted =
-    dedup_same _ same _ (λ x y b f x' y' k. search rules) _ _ c.dedup_by_key.ensures.filtered in
     let among = All-from_recursion (λ node. node.1 < g.nodes) met
     (subst (AllByRecursion (λ node. node.1 < g.nodes)) (sym c.in_ok-met.ensures) (with_port-among g words (nodes_met g words) (met-among g words))) in
     rw kept (record {

@@ -1,0 +1,12 @@
+-- the search for the last table stays among the slots
+pub mod LastTables
+-- the walk to a chain's last node stays at nodes
+pub mod LastEntries
+-- a table that is due has one of the sizes of tables
+pub mod DueSizes
+-- what a worker holds of a table that it has made
+pub mod HeldTables
+-- whatever words it is told, a worker stays in its table
+pub mod WorkStays
+-- on which words a worker works
+pub mod WorkPlanned

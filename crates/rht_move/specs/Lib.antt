@@ -1,0 +1,12 @@
+-- finding the last table
+pub mod LastTable
+-- finding the last node of a chain
+pub mod LastEntry
+-- when a table is due, and of which size
+pub mod Choice
+-- the worker, state by state
+pub mod Work
+-- what a worker holds
+pub mod WorkHeld
+-- what the other crates rely on
+pub mod Laws

@@ -1,0 +1,357 @@
+//! The machine alone, told old values by hand. In a table of 8 nodes and 4 pages the node map is at
+//! 280, the page map at 281, node n from 282 + 4 * n on (its chain link, key, owner and list link),
+//! slot t from 24 + 32 * t on (shape, seed, future, serial and state), and the pages from 314 on. The
+//! current table is in slot 0, with 4 buckets in page 0 (so its shape is 2), from 314 to 317.
+
+use super::Work;
+use super::work::choice::{Choice, choice_of};
+use rht_model::Reply;
+use rht_policy::Low;
+use rht_words::{Config, Env, Hash, Next, Op};
+use std::process::Abort;
+
+/// All bits of a word.
+const ALL: u64 = 18_446_744_073_709_551_615;
+
+/// A table of 8 nodes and 4 pages.
+fn small(shrink: bool) -> Config {
+    Config {
+        nodes: 8,
+        pages: 4,
+        hint: 1,
+        hash: Hash::Low,
+        shrink,
+        ..Config::plain()
+    }
+}
+
+/// In this table a worker performs these operations, which find these words, and has this reply.
+fn assert_work(rt: &impl Abort, config: Config, steps: &[&[(Op, u64)]], reply: Reply) {
+    assert!(rt; config.is_settled(), "at {config:?}");
+    let mut work = Work::<Low>::new(Env::new(config), 0);
+    let mut next = Next::Go;
+    for part in steps {
+        for (op, old) in *part {
+            assert_eq!(rt; next, Next::Go, "before {op:?} to {reply:?}");
+            assert_eq!(rt; work.plan(), *op, "to {reply:?}");
+            next = work.take(*old);
+        }
+    }
+    assert_eq!(rt; next, Next::Done(reply));
+}
+
+/// The current table is the only one, and so many ports are bound.
+fn alone(count: u64) -> [(Op, u64); 5] {
+    [
+        (Op::exchange(1, 0, 1), 0),
+        (Op::load(0), 0),
+        (Op::load(26), 0),
+        (Op::load(24), 2),
+        (Op::load(2), count),
+    ]
+}
+
+/// Behind the current table is one in slot 1, which has this shape and is the last one.
+fn two(shape: u64, count: u64) -> [(Op, u64); 6] {
+    [
+        (Op::exchange(1, 0, 1), 0),
+        (Op::load(0), 0),
+        (Op::load(26), 2),
+        (Op::load(58), 0),
+        (Op::load(56), shape),
+        (Op::load(2), count),
+    ]
+}
+
+/// Slot 1 is taken, page 1 and the serial 1, and the words of a table of 8 buckets are stored.
+fn made() -> [(Op, u64); 10] {
+    [
+        (Op::exchange(28, 0, 1), 1),
+        (Op::exchange(60, 0, 1), 0),
+        (Op::load(281), 14),
+        (Op::load(281), 14),
+        (Op::and(281, ALL - 2), 14),
+        (Op::add(3, 1), 1),
+        (Op::store(56, 1_027), 0), // 3 + 1024 * 1
+        (Op::store(57, 2), 0), // the config's seed, 1, and the serial
+        (Op::store(58, 0), 0),
+        (Op::store(59, 1), 0),
+    ]
+}
+
+/// No slot is free.
+fn no_slot() -> [(Op, u64); 8] {
+    [
+        (Op::exchange(28, 0, 1), 1),
+        (Op::exchange(60, 0, 1), 1),
+        (Op::exchange(92, 0, 1), 2),
+        (Op::exchange(124, 0, 1), 2),
+        (Op::exchange(156, 0, 1), 2),
+        (Op::exchange(188, 0, 1), 2),
+        (Op::exchange(220, 0, 1), 2),
+        (Op::exchange(252, 0, 1), 2),
+    ]
+}
+
+/// The bucket of this place is locked, and is empty. The last table is in slot 1.
+fn emptied(place: usize) -> [(Op, u64); 8] {
+    [
+        (Op::load(place), 0),
+        (Op::exchange(place, 0, 1), 0),
+        (Op::load(26), 2),
+        (Op::load(58), 0),
+        (Op::load(56), 1_027),
+        (Op::load(57), 2),
+        (Op::load(place), 1),
+        (Op::store(place, 0), 1),
+    ]
+}
+
+/// The current table's future is the table in slot 1, to which its entries are moved.
+const BEGUN: [(Op, u64); 2] = [(Op::Load { place: 26 }, 2), (Op::Load { place: 24 }, 2)];
+
+/// The work lock is let go.
+const LET_GO: [(Op, u64); 1] = [(Op::Store { place: 1, value: 0 }, 1)];
+
+/// The table in slot 1 is the current one, with this word for its future, and slot 0 is retired.
+fn published(future: u64) -> [(Op, u64); 4] {
+    [
+        (Op::store(0, 1), 0),
+        (Op::load(58), future),
+        (Op::store(28, 2), 1),
+        (Op::store(1, 0), 1),
+    ]
+}
+
+#[test]
+fn workers_that_move_nothing(rt: HostRuntime) {
+    let growing = small(false);
+    let elsewhere = [(Op::exchange(1, 0, 1), 1)];
+    assert_work(&rt, growing, &[&elsewhere], Reply::Elsewhere);
+    // three of four buckets' ports are not too many, and none is too few for the least size
+    let none = [(Op::load(26), 0)];
+    assert_work(&rt, growing, &[&alone(3), &none, &LET_GO], Reply::Idle);
+    assert_work(&rt, small(true), &[&alone(0), &none, &LET_GO], Reply::Idle);
+    // no slot for a table of 8
+    let refused = Reply::NoTable { size: 8 };
+    assert_work(&rt, growing, &[&alone(4), &no_slot(), &LET_GO], refused);
+    // no run of pages: the slot is given back
+    let no_page = [
+        (Op::exchange(28, 0, 1), 1),
+        (Op::exchange(60, 0, 1), 0),
+        (Op::load(281), 0),
+        (Op::load(281), 0),
+        (Op::load(281), 0),
+        (Op::load(281), 0),
+        (Op::store(60, 0), 1),
+    ];
+    assert_work(&rt, growing, &[&alone(4), &no_page, &LET_GO], refused);
+    // behind the current table is a nested one of 128, for which no flat one can be had
+    let nested = two(3_111, 4); // 7 + 32 * 1 + 1024 * 3
+    let refused = Reply::NoTable { size: 128 };
+    assert_work(&rt, growing, &[&nested, &no_slot(), &LET_GO], refused);
+}
+
+/// The last entry of the bucket at 314 is node 0, with port 4, and node 1 is before it. It is moved
+/// to bucket 4 of the table in slot 1, which is at 382.
+const FIRST_ENTRY: [(Op, u64); 15] = [
+    (Op::Load { place: 314 }, 4),
+    (
+        Op::Exchange {
+            place: 314,
+            old: 4,
+            new: 5,
+        },
+        4,
+    ),
+    (Op::Load { place: 26 }, 2),
+    (Op::Load { place: 58 }, 0),
+    (Op::Load { place: 56 }, 1_027),
+    (Op::Load { place: 57 }, 2),
+    (Op::Load { place: 314 }, 5),
+    (Op::Load { place: 286 }, 2),
+    (Op::Load { place: 282 }, 629), // the marker of 314
+    (Op::Load { place: 283 }, 4),
+    (Op::Load { place: 382 }, 0),
+    (
+        Op::Exchange {
+            place: 382,
+            old: 0,
+            new: 1,
+        },
+        0,
+    ),
+    (
+        Op::Store {
+            place: 282,
+            value: 765,
+        },
+        629,
+    ), // the marker of 382
+    (
+        Op::Store {
+            place: 382,
+            value: 2,
+        },
+        1,
+    ),
+    (
+        Op::Store {
+            place: 286,
+            value: 629,
+        },
+        2,
+    ),
+];
+
+#[test]
+fn a_table_grows_and_is_emptied_into_two(rt: HostRuntime) {
+    let attached = [(Op::exchange(26, 0, 2), 0)];
+    // Then the only entry is node 1, with port 0. Meanwhile a table of 8 was attached in slot 2, in
+    // page 2, and its bucket 0, at 442, has node 5 in it. Its lock has to be waited for.
+    let second = [
+        (Op::load(26), 2),
+        (Op::load(58), 3),
+        (Op::load(90), 0),
+        (Op::load(88), 2_051), // 3 + 1024 * 2
+        (Op::load(89), 3),
+        (Op::load(314), 5),
+        (Op::load(286), 629),
+        (Op::load(287), 0),
+        (Op::load(442), 13),
+        (Op::load(442), 12),
+        (Op::exchange(442, 12, 13), 13),
+        (Op::load(442), 12),
+        (Op::exchange(442, 12, 13), 12),
+        (Op::store(286, 12), 629),
+        (Op::store(442, 4), 13),
+        (Op::store(314, 1), 5),
+        (Op::load(26), 2),
+        (Op::load(58), 3),
+        (Op::load(90), 0),
+        (Op::load(88), 2_051),
+        (Op::load(89), 3),
+        (Op::load(314), 1),
+        (Op::store(314, 0), 1),
+    ];
+    let steps: [&[(Op, u64)]; 10] = [
+        &alone(4),
+        &made(),
+        &attached,
+        &BEGUN,
+        &FIRST_ENTRY,
+        &second,
+        &emptied(315),
+        &emptied(316),
+        &emptied(317),
+        &published(3),
+    ];
+    assert_work(&rt, small(false), &steps, Reply::Moved { again: true });
+}
+
+#[test]
+fn a_table_is_moved_that_has_a_future(rt: HostRuntime) {
+    let empties = [emptied(314), emptied(315), emptied(316), emptied(317)];
+    let [first, second, third, fourth] = &empties;
+    // Four ports are not too many for 8, and with shrinking on they are not too few.
+    for shrink in [false, true] {
+        let steps: [&[(Op, u64)]; 7] = [
+            &two(1_027, 4),
+            &BEGUN,
+            first,
+            second,
+            third,
+            fourth,
+            &published(0),
+        ];
+        assert_work(&rt, small(shrink), &steps, Reply::Moved { again: false });
+    }
+    // A smaller table is due, but not now.
+    let steps: [&[(Op, u64)]; 7] = [
+        &two(1_027, 1),
+        &BEGUN,
+        first,
+        second,
+        third,
+        fourth,
+        &published(0),
+    ];
+    assert_work(&rt, small(true), &steps, Reply::Moved { again: true });
+    // A larger one is due behind the last, and can't be had.
+    let steps: [&[(Op, u64)]; 8] = [
+        &two(1_027, 7),
+        &no_slot(),
+        &BEGUN,
+        first,
+        second,
+        third,
+        fourth,
+        &published(0),
+    ];
+    assert_work(&rt, small(false), &steps, Reply::Moved { again: true });
+}
+
+#[test]
+fn a_move_stops(rt: HostRuntime) {
+    // Another table was attached, in slot 2, so the one in slot 1 is given back. The other one is
+    // nested, and the first bucket, which isn't empty, stays as it is.
+    let lost = [
+        (Op::exchange(26, 0, 2), 3),
+        (Op::or(281, 2), 12),
+        (Op::store(60, 0), 1),
+        (Op::load(26), 3),
+        (Op::load(24), 2),
+        (Op::load(314), 4),
+        (Op::exchange(314, 4, 5), 4),
+        (Op::load(26), 3),
+        (Op::load(90), 0),
+        (Op::load(88), 3_111),
+        (Op::store(314, 4), 5),
+    ];
+    let stopped = Reply::Moved { again: true };
+    assert_work(
+        &rt,
+        small(false),
+        &[&alone(4), &made(), &lost, &LET_GO],
+        stopped,
+    );
+    // Node 0 is moved. Then the last table is a nested one, and node 1 stays.
+    let nested = [
+        (Op::load(26), 2),
+        (Op::load(58), 3),
+        (Op::load(90), 0),
+        (Op::load(88), 3_111),
+        (Op::store(314, 4), 5),
+    ];
+    let steps: [&[(Op, u64)]; 5] = [&two(1_027, 4), &BEGUN, &FIRST_ENTRY, &nested, &LET_GO];
+    assert_work(&rt, small(false), &steps, stopped);
+}
+
+#[test]
+fn tables_that_are_due(rt: HostRuntime) {
+    let config = small(true);
+    assert!(rt; config.is_settled());
+    let env = Env::new(config);
+    // the count, the shape, whether the table is the only one, and what is due
+    let cases = [
+        (48, 6, true, Choice::Nothing), // 64 / 4 * 3 = 48
+        (49, 6, true, Choice::Attach { size: 128 }),
+        (49, 6, false, Choice::Attach { size: 128 }),
+        (19, 6, true, Choice::Nothing), // 64 * 3 / 10 = 19
+        (18, 6, true, Choice::Attach { size: 32 }), // 18 * 3 / 2 = 27
+        (18, 6, false, Choice::Later),
+        (0, 6, true, Choice::Attach { size: 4 }),
+        // 128 buckets, nested: 7 + 32 * 1
+        (60, 39, true, Choice::Attach { size: 128 }),
+        (97, 39, false, Choice::Attach { size: 256 }),
+        (1, 39, false, Choice::Attach { size: 128 }),
+        (1, 39, true, Choice::Attach { size: 4 }),
+        // more ports than there can be are as many as there can be
+        (ALL, 16, true, Choice::Attach { size: 131_072 }),
+        (ALL, 17, true, Choice::Nothing),
+    ];
+    for (count, shape, alone, want) in cases {
+        let choice = choice_of(env, count, shape, alone);
+        assert_eq!(rt; choice, want, "at {count}, {shape}, {alone}");
+    }
+}
