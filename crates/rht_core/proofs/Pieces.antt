@@ -32,3 +32,5 @@ pub mod Runs
 pub mod Makes
 -- a table that was made is attached, or is to be given back
 pub mod Attaches
+-- the stores of the work: entries are moved, and tables left behind and retired
+pub mod WorkStores

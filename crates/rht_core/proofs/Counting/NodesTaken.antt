@@ -15,7 +15,7 @@ use Rattle.rht_words.specs.declared.machine.Next.{Next}
 use Rattle.rht_words.specs.declared.machine.Next.TheVariants.{Go, Done}
 use Rattle.rht_words.specs.Maps.{bit_of}
 use Rattle.rht_words.specs.Operations.{op_place, word_after}
-use Rattle.rht_words.specs.Places.{Slot, SlotWord, ShapeWord, SeedWord, FutureWord, SerialWord, StateWord, LoadedSection, PageMap, nodes_at, slot_offset, place_of}
+use Rattle.rht_words.specs.Places.{Slot, SlotWord, ShapeWord, SeedWord, FutureWord, SerialWord, StateWord, LoadedSection, PageMap, Node, ChainLink, nodes_at, slot_offset, place_of}
 use Rattle.rht_words.proofs.BitChanges.{bit_at-set, bit_at-set_other}
 use Rattle.rht_words.proofs.EachElement.{AllByRecursion-push}
 use Rattle.rht_words.proofs.PlacesApart.{parts_in_order}
@@ -33,7 +33,7 @@ use Rattle.rht_core.specs.Traces.{Did, Traced, traced_of}
 use Rattle.rht_core.specs.Laws.{IsNoTake, IsTakeOf, TakesNone, TakesOne, IsTakenBy, IsTakenIn, TakenAlone}
 use Rattle.rht_core.proofs.Theory.Wholes.{place_at}
 use Rattle.rht_core.proofs.Theory.Answering.{TellsNode, TellsNode-same, known_so, unknown_before}
-use Rattle.rht_core.proofs.Theory.Steps.{Holding, Move, Quiet, TakesNode, GivesNode, TakesLock, DropsLock, Raises, Links, Lowers, Rebinds, LinksBehind, Arms, TakesSlot, GivesSlot, TakesPages, GivesPages, Attaches, Does, IsTableWord, IsAside, DoesQuiet}
+use Rattle.rht_core.proofs.Theory.Steps.{Holding, Move, Quiet, TakesNode, GivesNode, TakesLock, DropsLock, Raises, Links, Lowers, Rebinds, LinksBehind, Arms, TakesSlot, GivesSlot, TakesPages, GivesPages, Attaches, TakesWork, GivesWork, BeginsMoving, TakesSecond, Leaves, Arrives, CutsOff, Publishes, Retires, Does, IsTableWord, IsAside, DoesQuiet}
 use Rattle.rht_core.proofs.Events.JobsOfCallers.{same_call, first_unknown, first_without}
 use Rattle.rht_core.proofs.Tracing.TracedJobs.{Performs, LeadsOn, IsKeeping, jobs_keep}
 
@@ -99,6 +99,10 @@ on_bucket : (env : Env) (mix : ℕ → ℕ → ℕ → ℕ) (did : Did) (j : ℕ
 on_bucket env mix did j on =
     let parts = parts_in_order env.geometry in
     off_map env.geometry did (inr (omega (arith, on, parts.pages)))
+
+-- and so does one on the link of a node
+on_node : (g : Geometry) (did : Did) (node : ℕ) → op_place did.op ≡ place_of g (Node node ChainLink) → IsNoTake g did
+on_node g did node on = let parts = parts_in_order g in off_map g did (inr (omega (arith, on)))
 
 -- setting a bit clears none
 set_keeps : (old bit other : ℕ) → bit_at old other ≡ 1 → bit_at (word_after old (Or 0 (bit_of bit))) other ≡ 1
@@ -183,14 +187,10 @@ took env mix Lowers did h h' does = inl record {
 }
 took env mix (Rebinds change) did h h' does =
     inl record { none = off_map env.geometry did (inr does.behind_maps); left = does.left_node }
-took env mix (LinksBehind n) did h h' does =
-    let parts = parts_in_order env.geometry in
-    let on = does.on in
-    inl record {
-      none = off_map env.geometry did (inr (omega (arith, on)));
-      left = inl
-          (ap (λ (h : Holding). h.node) does.holds);
-    }
+took env mix (LinksBehind n) did h h' does = inl record {
+  none = on_node env.geometry did n does.on;
+  left = inl (ap (λ (h : Holding). h.node) does.holds);
+}
 took env mix (TakesSlot s) did h h' does = inl record {
   none = on_slot env.geometry did s StateWord does.within (omega arith) (ap op_place does.taking);
   left = inl (ap (λ (h : Holding). h.node) does.holds);
@@ -209,6 +209,48 @@ took env mix (GivesPages index bits) did h h' does = inl record {
 }
 took env mix (Attaches slot shape seed serial) did h h' does = inl record {
   none = on_slot env.geometry did does.last FutureWord does.within (omega arith) (ap op_place does.attaching);
+  left = inl (ap (λ (h : Holding). h.node) does.holds);
+}
+took env mix TakesWork did h h' does = inl record {
+  none = off_map env.geometry did (inl (let on : op_place did.op ≡ 1 = ap op_place does.taking in omega
+      (arith, on)));
+  left = inl (ap (λ (h : Holding). h.node) does.holds);
+}
+took env mix GivesWork did h h' does = inl record {
+  none = off_map env.geometry did (inl (let on : op_place did.op ≡ 1 = ap op_place does.giving in omega
+      (arith, on)));
+  left = inl (ap (λ (h : Holding). h.node) does.holds);
+}
+took env mix BeginsMoving did h h' does = inl record {
+  none = keeps_bits env.geometry did (λ bit l set. ap (λ word. bit_at word bit) does.leaves ∙ set);
+  left = inl (ap (λ (h : Holding). h.node) does.holds);
+}
+took env mix (TakesSecond i) did h h' does = inl record {
+  none = on_bucket env mix did i does.on;
+  left = inl (ap (λ (h : Holding). h.node) does.holds);
+}
+took env mix (Leaves j i entry nodes) did h h' does = inl record {
+  none = on_node env.geometry did entry does.on;
+  left = inl (ap (λ (h : Holding). h.node) does.holds);
+}
+took env mix (Arrives j i entry) did h h' does = inl record {
+  none = on_bucket env mix did i does.on;
+  left = inl (ap (λ (h : Holding). h.node) does.holds);
+}
+took env mix (CutsOff j entry None) did h h' does = inl record {
+  none = on_bucket env mix did j does.on;
+  left = inl (ap (λ (h : Holding). h.node) does.holds);
+}
+took env mix (CutsOff j entry (Some before)) did h h' does = inl record {
+  none = on_node env.geometry did before does.on;
+  left = inl (ap (λ (h : Holding). h.node) does.holds);
+}
+took env mix Publishes did h h' does = inl record {
+  none = off_map env.geometry did (inl (let on = does.on in omega (arith, on)));
+  left = inl (ap (λ (h : Holding). h.node) does.holds);
+}
+took env mix (Retires s) did h h' does = inl record {
+  none = on_slot env.geometry did s StateWord does.within (omega arith) (ap op_place does.retiring);
   left = inl (ap (λ (h : Holding). h.node) does.holds);
 }
 

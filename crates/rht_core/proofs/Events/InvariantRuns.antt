@@ -169,6 +169,7 @@ module _ (env : Env) (mix : ℕ → ℕ → ℕ → ℕ) where
       behind_in = λ n port f. absurd (cc);
       bound_to = λ port n behind b. absurd (cc);
       single = λ one port n behind b. absurd (cc);
+      small = λ port n behind b. absurd (cc);
     };
     arena = record {
       built = λ n. tt;

@@ -76,7 +76,11 @@ module _ (env : Env) (mix : ℕ → ℕ → ℕ → ℕ) where
         let here : finds m.port m.at ≡ job = cc in subst (JobIn env mix c) here within.at_in
     job-in c (Binding m) job room is within roomy =
         let here : binds m.port m.owner m.once m.at ≡ job = cc in
-        subst (JobIn env mix c) here (record { owner_in = within.owner_in; at_in = within.at_in })
+        subst (JobIn env mix c) here (record {
+          port_in = within.port_in;
+          owner_in = within.owner_in;
+          at_in = within.at_in;
+        })
     job-in c (Listing m) job room is within roomy =
         let here : lists m.port m.room m.at ≡ job = cc in
         subst (JobIn env mix c) here (record { at_in = within.at_in; roomy = roomy })

@@ -187,7 +187,7 @@ module _ (env : Env) (mix : ℕ → ℕ → ℕ → ℕ) (c : ℕ) (port owner :
   BindNext (at, Go) M G = BindKnows at M G
   BindNext (at, Done reply) M G = Knowing env mix c (held.ended_with (plain reply)) known_nothing M G
 
-  module _ (small : owner < 2 ^ 32) (low : c < env.geometry.callers)
+  module _ (small_port : port < 2 ^ 32) (small : owner < 2 ^ 32) (low : c < env.geometry.callers)
       (words : List ℕ) (G : Ghost) (all : length words ≡ words_in env.geometry)
       (whole : Whole env mix (mem env mix words) G) where
     abbrev M : Memory
@@ -491,6 +491,7 @@ module _ (env : Env) (mix : ℕ → ℕ → ℕ → ℕ) (c : ℕ) (port owner :
         let node = k.means.node in
         record {
           low = low;
+          small = small_port;
           table = is.table;
           armed = is.armed;
           moves_none = idle_moves_none env mix M G whole c k.only;

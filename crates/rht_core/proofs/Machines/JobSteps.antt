@@ -59,8 +59,9 @@ known_of counts = known_nothing
 abbrev pub holds_no : Holding
 holds_no = held.holds_nothing
 
--- all that a bind names is the table's, and its owner has 32 bits
-pub record IsBindingIn (env : Env) (owner : ℕ) (state : BindAt) : Type 0 where
+-- all that a bind names is the table's, and its port and its owner have 32 bits
+pub record IsBindingIn (env : Env) (port owner : ℕ) (state : BindAt) : Type 0 where
+  pub port_in : port < 2 ^ 32
   pub owner_in : owner < 2 ^ 32
   pub at_in : IsBindAtIn env state
 
@@ -87,7 +88,7 @@ module _ (env : Env) (mix : ℕ → ℕ → ℕ → ℕ) (c : ℕ) where
   -- all that the job names is the table's
   abbrev pub JobIn : Job → Type 0
   JobIn (finds port state) = IsFindAtIn env state
-  JobIn (binds port owner once state) = IsBindingIn env owner state
+  JobIn (binds port owner once state) = IsBindingIn env port owner state
   JobIn (lists port room state) = IsListingIn env room state
   JobIn (releases port owner state) = IsReleaseAtIn env state
   JobIn (rebinds port owner new state) = IsRebindingIn env new state
@@ -195,7 +196,7 @@ module _ (env : Env) (mix : ℕ → ℕ → ℕ → ℕ) (c : ℕ) where
         (find_step env mix c port words G all whole state within (record { knowing = knows.knowing; fits = knows.fits }))
     job_step (binds port owner once state) within knows =
         binds_so port owner once state (bind_at.after_at mix env port state (old_of words (bind_at.plan_at env state)))
-        (bind_step env mix c port owner once within.owner_in low words G all whole state within.at_in (record { knowing = knows.knowing; fits = knows.fits }))
+        (bind_step env mix c port owner once within.port_in within.owner_in low words G all whole state within.at_in (record { knowing = knows.knowing; fits = knows.fits }))
     job_step (lists port room state) within knows =
         let old = old_of words (all_at.plan_at env state) in
         lists_so port room state (all_at.room_after state room old) (all_at.after_at mix env port state old)

@@ -1,12 +1,13 @@
--- In every run the current table is the one that was opened. So far no operation of a caller makes another one the current table; it
--- leaves what others can count on, and with it the tables that were attached; and a caller that enrols, or begins a call, changes none
--- of these words.
+-- In every run the current table is the one that was opened. Only a call that moves entries makes another one the current table, and so
+-- far no call does. An operation of a caller leaves what others can count on, and with it the tables that were attached; and a caller
+-- that enrols, or begins a call, changes none of these words.
 use Rattle.std.proofs.Common.{◌≡◌, ◌≢◌, ℕ, suc, ◌<◌, List, [], refl, sym, ◌∙◌, ap, arith}
-use Rattle.std.specs.Prelude.{Option, Some, None}
+use Rattle.std.specs.Prelude.{Option, Some, None, Bool, true, false}
 use Rattle.rht_words.specs.declared.op.Op.{Op}
 use Rattle.rht_words.specs.declared.env.Env.{Env}
 use Rattle.rht_words.specs.Links.{table_of}
 use Rattle.rht_words.specs.Opening.{opening_word, opening_words}
+use Rattle.rht_words.specs.Operations.{old_of}
 use Rattle.rht_words.specs.Places.{CurrentTable, EnrolledCallers, Slot, ShapeWord}
 use Rattle.rht_words.specs.Shapes.{size_of, unpacked}
 use Rattle.rht_words.proofs.Memory.{Memory, is_write}
@@ -15,10 +16,12 @@ use Rattle.rht_core.specs.declared.event.Event.{Event}
 use Rattle.rht_core.specs.declared.event.Event.TheVariants.{Enroll, Begin, Step}
 use Rattle.rht_core.specs.Runs.{Core, World, planned_in, enrolling, core_step, run_of, opening, IsAdmitted}
 use Rattle.rht_core.specs.FirstTable.{FirstTable}
+use Rattle.rht_core.specs.Jobs.{held_of}
 use Rattle.rht_core.proofs.Theory.Ghosts.{Table, Ghost}
 use Rattle.rht_core.proofs.Theory.Reliance.{TablesStay}
-use Rattle.rht_core.proofs.Theory.Steps.{Move, Quiet, TakesNode, GivesNode, TakesLock, DropsLock, Raises, Links, Lowers, Rebinds, LinksBehind, Arms, TakesSlot, GivesSlot, TakesPages, GivesPages, Attaches, ghost_after, mem}
+use Rattle.rht_core.proofs.Theory.Steps.{Move, Quiet, TakesNode, GivesNode, TakesLock, DropsLock, Raises, Links, Lowers, Rebinds, LinksBehind, Arms, TakesSlot, GivesSlot, TakesPages, GivesPages, Attaches, TakesWork, GivesWork, BeginsMoving, TakesSecond, Leaves, Arrives, CutsOff, Publishes, Retires, Does, Holding, ghost_after, mem}
 use Rattle.rht_core.proofs.Theory.Wholes.{Whole}
+use Rattle.rht_core.proofs.Machines.StillJobs.{moves_none_yet}
 use Rattle.rht_core.proofs.Events.Invariants.{Inv, kept, step_of}
 use Rattle.rht_core.proofs.Events.InvariantRuns.{HasInv, has_inv}
 use Rattle.rht_core.proofs.Events.RangesInRuns.{AllIn, event-all}
@@ -34,24 +37,35 @@ module _ (env : Env) (mix : ℕ → ℕ → ℕ → ℕ) where
   slot_first : (M : Memory) (G : Ghost) → Whole env mix M G → IsFirst M → (G.table G.current).slot ≡ 0
   slot_first M G whole first = sym whole.tables.current_is ∙ first.current
 
-  -- no move makes another table the current one
-  current_same : (c : ℕ) (move : Move) (G : Ghost) → (ghost_after env mix c move G).current ≡ G.current
-  current_same c Quiet G = refl
-  current_same c (TakesNode n) G = refl
-  current_same c (GivesNode n) G = refl
-  current_same c (TakesLock j) G = refl
-  current_same c (DropsLock j) G = refl
-  current_same c Raises G = refl
-  current_same c (Links n port j) G = refl
-  current_same c Lowers G = refl
-  current_same c (Rebinds change) G = refl
-  current_same c (LinksBehind n) G = refl
-  current_same c (Arms j) G = refl
-  current_same c (TakesSlot s) G = refl
-  current_same c (GivesSlot s) G = refl
-  current_same c (TakesPages i mask) G = refl
-  current_same c (GivesPages i mask) G = refl
-  current_same c (Attaches slot shape seed serial) G = refl
+  -- no move makes another table the current one, but that of a call that moves entries
+  current_same : (c : ℕ) (move : Move) (G : Ghost) (op : Op) (old : ℕ) (h h' : Holding) → h.moving ≡ false
+      → Does env mix move op old h h' → (ghost_after env mix c move G).current ≡ G.current
+  current_same c Quiet G op old h h' still does = refl
+  current_same c (TakesNode n) G op old h h' still does = refl
+  current_same c (GivesNode n) G op old h h' still does = refl
+  current_same c (TakesLock j) G op old h h' still does = refl
+  current_same c (DropsLock j) G op old h h' still does = refl
+  current_same c Raises G op old h h' still does = refl
+  current_same c (Links n port j) G op old h h' still does = refl
+  current_same c Lowers G op old h h' still does = refl
+  current_same c (Rebinds change) G op old h h' still does = refl
+  current_same c (LinksBehind n) G op old h h' still does = refl
+  current_same c (Arms j) G op old h h' still does = refl
+  current_same c (TakesSlot s) G op old h h' still does = refl
+  current_same c (GivesSlot s) G op old h h' still does = refl
+  current_same c (TakesPages i mask) G op old h h' still does = refl
+  current_same c (GivesPages i mask) G op old h h' still does = refl
+  current_same c (Attaches slot shape seed serial) G op old h h' still does = refl
+  current_same c TakesWork G op old h h' still does = refl
+  current_same c GivesWork G op old h h' still does = refl
+  current_same c BeginsMoving G op old h h' still does = refl
+  current_same c (TakesSecond i) G op old h h' still does = refl
+  current_same c (Leaves j i entry nodes) G op old h h' still does = refl
+  current_same c (Arrives j i entry) G op old h h' still does = refl
+  current_same c (CutsOff j entry before) G op old h h' still does = refl
+  current_same c Publishes G op old h h' still does =
+      let e : ◌≡◌ {A = Bool} false true = sym still ∙ does.moves in absurd (cc)
+  current_same c (Retires s) G op old h h' still does = refl
 
   -- it stays so where the tables that were attached do, and the current one
   first-stays : (M M' : Memory) (G G' : Ghost) → Whole env mix M G → Whole env mix M' G' → TablesStay env mix G G'
@@ -79,7 +93,8 @@ module _ (env : Env) (mix : ℕ → ℕ → ℕ → ℕ) where
         let of = step_of env mix L core G c op sound inv is in
         let other : suc c ≢ c = λ e. absurd (omega arith) in
         rw is (first-stays (mem env mix core.words) _ G _ inv.whole of.step.made.whole (of.step.made.others (suc c) other).tables
-        (current_same c of.step.move G) first)
+        (current_same c of.step.move G op (old_of core.words op) (held_of of.job) _ (moves_none_yet of.job) of.step.does)
+        first)
 
     -- each event leaves it so
     first-event : (core : Core L) (event : Event) → HasInv env mix L core → IsFirst (mem env mix core.words)

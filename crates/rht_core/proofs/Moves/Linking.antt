@@ -1,5 +1,5 @@
 -- The store that makes a node the first of its bucket's chain, and unlocks the bucket. From it on the port is bound.
-use Rattle.std.proofs.Common.{◌≡◌, ◌≢◌, ◌⊎◌, ◌↔◌, ℕ, ◌+◌, ◌*◌, ◌/◌, ◌%◌, ◌<◌, List, [], ◌∷◌, Option, Some, None, false, refl, sym, ◌∙◌, ap, subst, inl, inr, arith}
+use Rattle.std.proofs.Common.{◌≡◌, ◌≢◌, ◌⊎◌, ◌↔◌, ℕ, ◌^◌, ◌+◌, ◌*◌, ◌/◌, ◌%◌, ◌<◌, List, [], ◌∷◌, Option, Some, None, false, refl, sym, ◌∙◌, ap, subst, inl, inr, arith}
 use Rattle.std.specs.Int.{bit_at}
 use Rattle.std.proofs.lemmas.Bool.{cases_eq, cases_lt}
 use Rattle.std.proofs.lemmas.Bool.Decides.{nat_tests}
@@ -248,6 +248,8 @@ module _ (env : Env) (mix : ℕ → ℕ → ℕ → ℕ) where
           }) p;
       single = λ one p m behind. put-all (λ q nodes. nodes ≡ m ∷ behind → behind ≡ []) G.bound port (n ∷ [])
           (λ e. let none : [] ≡ behind = (cc) in sym none) (λ q ne e. whole.owned.single one q m behind e) p;
+      small = λ p m behind. put-all (λ q nodes. nodes ≡ m ∷ behind → q < 2 ^ 32) G.bound port (n ∷ [])
+          (λ e. ready.small) (λ q ne e. whole.owned.small q m behind e) p;
     }
       where
         new_first : IsFirstAt env mix M' G' n here

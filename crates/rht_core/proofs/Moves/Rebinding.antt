@@ -1,6 +1,6 @@
 -- The store by which a caller that has locked a port's bucket changes what the port is bound to. What it does to other buckets,
 -- ports and callers is shown here once; what it does to the port and to its bucket is asked of each such store.
-use Rattle.std.proofs.Common.{◌≡◌, ◌≢◌, ◌⊎◌, ◌↔◌, ℕ, ◌+◌, ◌*◌, ◌/◌, ◌%◌, ◌<◌, ◌≤◌, List, [], ◌∷◌, Option, Some, false, refl, sym, ◌∙◌, ap, subst, inl, inr, arith}
+use Rattle.std.proofs.Common.{◌≡◌, ◌≢◌, ◌⊎◌, ◌↔◌, ℕ, ◌^◌, ◌+◌, ◌*◌, ◌/◌, ◌%◌, ◌<◌, ◌≤◌, List, [], ◌∷◌, Option, Some, false, refl, sym, ◌∙◌, ap, subst, inl, inr, arith}
 use Rattle.std.specs.Int.{bit_at}
 use Rattle.std.proofs.lemmas.Bool.{cases_eq}
 use Rattle.rht_words.specs.declared.env.Env.{Env}
@@ -356,6 +356,10 @@ module _ (env : Env) (mix : ℕ → ℕ → ℕ → ℕ) (d : ℕ) (change : Cha
       single = λ one p n behind b. elim (cases_eq p port) [
         | inl e ↦ is.single one n behind (sym (put-same G.bound port change.nodes) ∙ ap G'.bound (sym e) ∙ b)
         | inr ne ↦ whole.owned.single one p n behind (sym (put-other G.bound port change.nodes p ne) ∙ b)
+      ];
+      small = λ p n behind b. elim (cases_eq p port) [
+        | inl e ↦ subst (λ q. q < 2 ^ 32) (sym e) (whole.owned.small port is.head is.tail is.bound_to)
+        | inr ne ↦ whole.owned.small p n behind (sym (put-other G.bound port change.nodes p ne) ∙ b)
       ];
     }
 

@@ -256,6 +256,7 @@ module _ (env : Env) (mix : ℕ → ℕ → ℕ → ℕ) (d here entry : ℕ) (b
                 each = λ m i. behind_kept m port (to.each m i);
               };
           single = owned.single;
+          small = owned.small;
         }
 
     -- ---- the map of nodes and the count

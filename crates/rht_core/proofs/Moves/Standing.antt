@@ -217,6 +217,7 @@ module _ (env : Env) (mix : ℕ → ℕ → ℕ → ℕ) where
                   each = to.each;
                 };
             single = owned.single;
+            small = owned.small;
           }
 
       restated_whole : Whole env mix M' after

@@ -14,7 +14,7 @@ use Rattle.rht_core.proofs.Theory.Passed.{place-table, home-table, home-bucket}
 use Rattle.rht_core.proofs.Theory.Knowns.{last_of, KnownAim, NoAim, KnownRehash, KnownPlace, KnownEntry, KnownWork, NoWork, Works, Empties, LeavesBehind, InBucket, Brings, TakesOut, HasBrought}
 use Rattle.rht_core.proofs.Theory.Knowledge.{IsEmptied, IsEmptying, IsLeftBehind, IsFacing, IsNext, IsInBucket, IsBare, IsEntry, IsAim, IsAiming, IsTarget, IsBringing, IsTakenOut, IsBrought, WorkMeans}
 use Rattle.rht_core.proofs.Theory.Frames.{Made}
-use Rattle.rht_core.proofs.Theory.Departures.{with_worker, published, retired, left_by, left, arrived, cut_plain, cut_by, cut_off, IsNextPlace, CanLeave, CanArrive, CanCut}
+use Rattle.rht_core.proofs.Theory.Departures.{with_worker, published, retired, left_by, left, arrived, cut_plain, cut_by, cut_off, IsNextPlace, CanLeave, CanArrive, CanCut, CanPublish, CanRetire}
 use Rattle.rht_core.proofs.Theory.Readiness.{linked_bucket}
 use Rattle.rht_core.proofs.Moves.Quiet.{take_lock, drop_lock, free-still}
 use Rattle.rht_core.proofs.Moves.Relinking.{relink_address}
@@ -64,7 +64,7 @@ module _ (env : Env) (mix : ℕ → ℕ → ℕ → ℕ) (c : ℕ) where
           here = ap (home env mix G (key_of M entry)) table ∙ is.aim.here;
         }
 
-    can_leave : G.worker ≡ Some c → (root : KnownRehash) (at : KnownPlace) (entry : KnownEntry) (place word : ℕ)
+    pub can_leave : G.worker ≡ Some c → (root : KnownRehash) (at : KnownPlace) (entry : KnownEntry) (place word : ℕ)
         → (is : IsBringing env mix c M G root at entry place word)
         → CanLeave env mix c (index at.place) (index place) entry.node is.tail.stands.among.front M G
     can_leave works root at entry place word is =
@@ -79,7 +79,7 @@ module _ (env : Env) (mix : ℕ → ℕ → ℕ → ℕ) (c : ℕ) where
           next = next_place entry.node place word is.target;
         }
 
-    can_arrive : G.worker ≡ Some c → (root : KnownRehash) (at : KnownPlace) (entry : KnownEntry) (place word : ℕ)
+    pub can_arrive : G.worker ≡ Some c → (root : KnownRehash) (at : KnownPlace) (entry : KnownEntry) (place word : ℕ)
         → IsTakenOut env mix c M G root at entry place word → LocksOnly G (Some at.place) (Some place)
         → CanArrive env mix c (index at.place) (index place) entry.node M G
     can_arrive works root at entry place word is only =
@@ -96,10 +96,20 @@ module _ (env : Env) (mix : ℕ → ℕ → ℕ → ℕ) (c : ℕ) where
           ];
         }
 
-    can_cut : G.worker ≡ Some c → (root : KnownRehash) (at : KnownPlace) (entry : KnownEntry)
+    pub can_cut : G.worker ≡ Some c → (root : KnownRehash) (at : KnownPlace) (entry : KnownEntry)
         → IsBrought env mix c G root at entry → CanCut env mix c (index at.place) entry.node entry.before G
     can_cut works root at entry is =
         record { works = works; out = is.out.out; further = is.further; last = is.out.last }
+
+    pub can_publish : G.worker ≡ Some c → (root : KnownRehash) (count : ℕ) → IsEmptying env mix G root count
+        → count ≡ size_of (unpacked root.shape) → CanPublish env mix c G
+    can_publish works root count is all =
+        let size : count ≡ size_of (unpacked (G.table G.current).shape) =
+        all ∙ ap (λ s. size_of (unpacked s)) (sym is.shape_is) in
+        record { works = works; root = root; emptied = subst (IsEmptying env mix G root) size is }
+
+    pub can_retire : G.worker ≡ Some c → (slot : ℕ) → IsLeftBehind env mix G slot → CanRetire env mix c slot G
+    can_retire works slot is = record { works = works; table = is.table; left_behind = is.earlier }
 
     -- what it has emptied stays so where no emptied bucket of the current table changes
     emptying_stays : (root : KnownRehash) (count : ℕ) (bucket : ℕ → Bucket) (node : ℕ → Owner) → IsEmptying env mix G root count
@@ -462,11 +472,8 @@ module _ (env : Env) (mix : ℕ → ℕ → ℕ → ℕ) (c : ℕ) where
         let right = whole.tables.each G.current whole.tables.current_in in
         let root_is = is.followed.root_is in
         let index : index_at G root.root ≡ G.current = ap (index_at G) (sym root_is) ∙ right.index in
-        let size : count ≡ size_of (unpacked (G.table G.current).shape) =
-        all ∙ ap (λ s. size_of (unpacked s)) (sym is.shape_is) in
         record {
-          made = publish env mix c M G whole
-              (record { works = works; root = root; emptied = subst (IsEmptying env mix G root) size is }) M'
+          made = publish env mix c M G whole (can_publish works root count is all) M'
               (subst (IsWrite env.geometry M M' CurrentTable) (sym is.followed.future_is) write);
           means = record {
             works = works;
@@ -481,8 +488,7 @@ module _ (env : Env) (mix : ℕ → ℕ → ℕ → ℕ) (c : ℕ) where
     pub retire_work : G.worker ≡ Some c → (slot : ℕ) (M' : Memory) → IsLeftBehind env mix G slot
         → IsWrite env.geometry M M' (Slot slot StateWord) 2 → Worked M G M' (retired G slot) Works
     retire_work works slot M' is write = record {
-      made = retire env mix c slot M G whole
-          (record { works = works; table = is.table; left_behind = is.earlier }) M' write;
+      made = retire env mix c slot M G whole (can_retire works slot is) M' write;
       means = record { works = works; more = tt };
     }
 

@@ -409,13 +409,20 @@ module _ (env : Env) (mix : ℕ → ℕ → ℕ → ℕ) (c : ℕ) (M : Memory) 
         ≡ Some place
     pub knows : Knows (Aims root at entry place)
 
-  -- by its key, which is a port's
+  -- by its key, which is that of a port that is bound, and so has 32 bits
   pub key_seen : (root : KnownRehash) (at : KnownPlace) (entry : KnownEntry) (slot shape seed : ℕ)
       → Knows (AtTail root at entry (Beyond slot (Some shape) (Some seed)))
-      → M (Node entry.node KeyWord) < 2 ^ 32 → HasAim root at entry shape seed
-  key_seen root at entry slot shape seed knows small =
+      → HasAim root at entry shape seed
+  key_seen root at entry slot shape seed knows =
       let tail = knows.more in
       let bucket = tail.stands.bucket in
+      let among = tail.stands.among in
+      let there : In entry.node (G.bucket (index at.place)).nodes = subst (In entry.node) (sym among.split)
+      (in-middle entry.node among.front among.rear) in
+      let first = whole.owned.first_at entry.node (index at.place)
+      (whole.owned.member (index at.place) entry.node there) in
+      let small : key_of M entry.node < 2 ^ 32 = whole.owned.small (key_of M entry.node) entry.node first.behind
+      first.bound_to in
       let aim = bucket.aim_is in
       let τ = index_at G slot in
       let attached = (whole.tables.slots slot aim.table).attached in

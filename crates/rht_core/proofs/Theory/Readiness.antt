@@ -1,5 +1,5 @@
 -- What a store that changes what a port is bound to makes of the ghost, and what must be known where one binds a port first.
-use Rattle.std.proofs.Common.{◌≡◌, ℕ, ◌+◌, ◌<◌, ◌≤◌, List, [], ◌∷◌, Some, None, Bool, true, false}
+use Rattle.std.proofs.Common.{◌≡◌, ℕ, ◌^◌, ◌+◌, ◌<◌, ◌≤◌, List, [], ◌∷◌, Some, None, Bool, true, false}
 use Rattle.rht_words.specs.declared.env.Env.{Env}
 use Rattle.rht_words.specs.Links.{link_of, head_of}
 use Rattle.rht_words.specs.Places.{Slot, SeedWord, Node, ListLink}
@@ -43,10 +43,11 @@ changed G d change = record G {
 }
 
 module _ (env : Env) (mix : ℕ → ℕ → ℕ → ℕ) where
-  -- What is known when a node is linked into a bucket: the caller has the node and the lock, is armed there for the port, and has no entry on
-  -- its way.
+  -- What is known when a node is linked into a bucket: the caller has the node and the lock, is armed there for the port, which has 32 bits,
+  -- and has no entry on its way.
   pub record IsReady (d n port j : ℕ) (M : Memory) (G : Ghost) : Type 0 where
     pub low : d < env.geometry.callers
+    pub small : port < 2 ^ 32
     pub table : ℕ
     pub armed : ArmedFor env mix G d port table j
     pub moves_none : MovesNone env mix G d

@@ -1,5 +1,5 @@
 -- What one operation of a caller makes of the words, the ghost, what its call holds, and what it knows.
-use Rattle.std.proofs.Common.{◌≡◌, ◌≢◌, ◌⊎◌, ◌↔◌, ℕ, suc, ◌+◌, ◌%◌, ◌<◌, ◌≤◌, List, [], ◌∷◌, map, Option, Some, None, Bool, true, false, refl, sym, ◌∙◌, ap, inl, inr, arith}
+use Rattle.std.proofs.Common.{◌≡◌, ◌≢◌, ◌⊎◌, ◌↔◌, ℕ, suc, ◌+◌, ◌%◌, ◌<◌, ◌≤◌, List, [], ◌∷◌, map, Option, Some, None, Bool, true, false, refl, sym, ◌∙◌, ap, subst, inl, inr, arith}
 use Rattle.std.specs.Int.{bit_at}
 use Rattle.std.proofs.lemmas.List.{set-get_or}
 use Rattle.rht_words.specs.declared.env.Env.{Env}
@@ -11,25 +11,29 @@ use Rattle.rht_words.specs.Links.{future_of}
 use Rattle.rht_words.specs.Maps.{bit_of}
 use Rattle.rht_words.specs.Ports.{owner_of}
 use Rattle.rht_words.specs.Operations.{op_place, old_of, word_after, applied}
-use Rattle.rht_words.specs.Places.{PortCount, NextSerial, Slot, SlotWord, ShapeWord, SeedWord, FutureWord, SerialWord, StateWord, LoadedSection, PageMap, Node, NodeWord, ChainLink, OwnerWord, nodes_at, place_of, word_at}
+use Rattle.rht_words.specs.Places.{CurrentTable, WorkLock, PortCount, NextSerial, Slot, SlotWord, ShapeWord, SeedWord, FutureWord, SerialWord, StateWord, LoadedSection, PageMap, Node, NodeWord, ChainLink, OwnerWord, nodes_at, place_of, word_at}
 use Rattle.rht_words.specs.Members.{In}
-use Rattle.rht_words.proofs.Members.{count_below-same}
+use Rattle.rht_words.proofs.Members.{count_below-same, in-middle}
 use Rattle.rht_words.proofs.Memory.{Memory}
 use Rattle.rht_model.specs.declared.history.Call.{Call}
 use Rattle.rht_model.specs.Multimap.{Multimap, Agree}
 use Rattle.rht_model.specs.Answers.{Answer}
 use Rattle.rht_arena.specs.Laws.{map_place, map_bit, IsTaking}
-use Rattle.rht_core.proofs.Theory.Ghosts.{put, put-all, Owner, Free, Held, PageFree, PageHeld, SlotFree, SlotHeld, Ghost, is_taken_by, with_holder, with_armed, with_owner, with_raised, with_slot, has_bit, with_pages, flat_table, with_table}
+use Rattle.rht_core.proofs.Theory.Ghosts.{put, put-all, Owner, Free, Held, First, Leaving, PageFree, PageHeld, SlotFree, SlotHeld, Ghost, is_taken_by, with_holder, with_armed, with_owner, with_raised, with_slot, has_bit, with_pages, flat_table, with_table}
 use Rattle.rht_core.proofs.Theory.Wholes.{place_at, outs, Whole}
 use Rattle.rht_core.proofs.Theory.Reliance.{bound_used}
 use Rattle.rht_core.proofs.Theory.Frames.{Made, still}
 use Rattle.rht_core.proofs.Theory.Answering.{outs_of, SaysStill-agree, Says, IsRight, Tells, told-says, told-outs, told-right}
 use Rattle.rht_core.proofs.Theory.Readiness.{linked, IsReady, IsArming, ArePagesOf, IsAttaching, Change, changed}
+use Rattle.rht_core.proofs.Theory.Departures.{with_worker, published, retired, left, arrived, cut_off, CanLeave, CanArrive, CanCut, CanPublish, CanRetire}
 
 -- What an operation does beside what it finds: nothing that others see, a node taken or given back, a lock taken or dropped,
 -- the count raised or lowered, a node linked for a port into a bucket, what a port is bound to changed, a node behind a port's
 -- first one given its link in the chain, or found that no table is behind that of a locked bucket; a slot taken or given back, the pages
--- of these bits of a word of the map taken or given back, or the table in a slot attached that has this shape, seed and serial
+-- of these bits of a word of the map taken or given back, or the table in a slot attached that has this shape, seed and serial. And
+-- what the work does: its lock taken or given back, that it begins to move entries, and the lock of a second bucket taken; an entry
+-- taken out of its bucket, brought into another one, and cut off from the first; the next table made the current one, and the table in
+-- a slot retired
 pub data Move : Type 0 where
   Quiet : Move
   TakesNode : ℕ → Move
@@ -47,6 +51,15 @@ pub data Move : Type 0 where
   TakesPages : ℕ → ℕ → Move
   GivesPages : ℕ → ℕ → Move
   Attaches : ℕ → ℕ → ℕ → ℕ → Move
+  TakesWork : Move
+  GivesWork : Move
+  BeginsMoving : Move
+  TakesSecond : ℕ → Move
+  Leaves : ℕ → ℕ → ℕ → List ℕ → Move
+  Arrives : ℕ → ℕ → ℕ → Move
+  CutsOff : ℕ → ℕ → Option ℕ → Move
+  Publishes : Move
+  Retires : ℕ → Move
 
 -- a test's two cases, with what the test says
 pub by_test : (C : Bool → Type 0) (b : Bool) → ((b ≡ true) → C true) → ((b ≡ false) → C false) → C b
@@ -222,6 +235,69 @@ module _ (g : Geometry) where
     pub has : h.slot ≡ Some slot
     pub holds : h' ≡ record h { slot = None; pages = []; answer = h'.answer }
 
+  pub record DoesTakeWork (op : Op) (old : ℕ) (h h' : Holding) : Type 0 where
+    pub taking : op ≡ Exchange (place_of g WorkLock) 0 1
+    pub free : old ≡ 0
+    pub idle : h.worker ≡ false
+    pub holds : h' ≡ record h { worker = true; answer = h'.answer }
+
+  pub record DoesGiveWork (op : Op) (h h' : Holding) : Type 0 where
+    pub giving : op ≡ Store (place_of g WorkLock) 0
+    pub has : h.worker ≡ true
+    pub holds : h' ≡ record h { worker = false; moving = false; answer = h'.answer }
+
+  -- an operation that leaves its word, from which on entries are moved
+  pub record DoesBeginMoving (op : Op) (old : ℕ) (h h' : Holding) : Type 0 where
+    pub leaves : word_after old op ≡ old
+    pub has : h.worker ≡ true
+    pub still : h.moving ≡ false
+    pub holds : h' ≡ record h { moving = true; answer = h'.answer }
+
+  -- the lock of another bucket, beside that of a first one
+  pub record DoesTakeSecond (place : ℕ) (op : Op) (old : ℕ) (h h' : Holding) : Type 0 where
+    pub on : op_place op ≡ place
+    pub even : old % 2 ≡ 0
+    pub locks : word_after old op ≡ old + 1
+    pub moves : h.moving ≡ true
+    pub first : ℕ
+    pub has : h.lock ≡ Some first
+    pub none : h.second ≡ None
+    pub holds : h' ≡ record h { second = Some place; answer = h'.answer }
+
+  pub record DoesLeave (entry : ℕ) (op : Op) (h h' : Holding) : Type 0 where
+    pub on : op_place op ≡ place_of g (Node entry ChainLink)
+    pub moves : h.moving ≡ true
+    pub holds : HoldsSame h h'
+
+  -- the store into the bucket that was locked second drops its lock
+  pub record DoesArrive (place : ℕ) (op : Op) (h h' : Holding) : Type 0 where
+    pub on : op_place op ≡ place
+    pub moves : h.moving ≡ true
+    pub has : h.second ≡ Some place
+    pub holds : h' ≡ record h { second = None; answer = h'.answer }
+
+  -- a bucket is cut off in the link of the node before its last entry, or in its word
+  abbrev pub cut_place : ℕ → Option ℕ → ℕ
+  cut_place place None = place
+  cut_place place (Some before) = place_of g (Node before ChainLink)
+
+  pub record DoesCutOff (place : ℕ) (before : Option ℕ) (op : Op) (h h' : Holding) : Type 0 where
+    pub on : op_place op ≡ cut_place place before
+    pub moves : h.moving ≡ true
+    pub lock : h.lock ≡ Some place
+    pub holds : HoldsSame h h'
+
+  pub record DoesPublish (op : Op) (h h' : Holding) : Type 0 where
+    pub on : op_place op ≡ place_of g CurrentTable
+    pub moves : h.moving ≡ true
+    pub holds : HoldsSame h h'
+
+  pub record DoesRetire (slot : ℕ) (op : Op) (h h' : Holding) : Type 0 where
+    pub within : slot < 8
+    pub retiring : op ≡ Store (place_of g (Slot slot StateWord)) 2
+    pub moves : h.moving ≡ true
+    pub holds : HoldsSame h h'
+
 module _ (env : Env) (mix : ℕ → ℕ → ℕ → ℕ) where
   -- the ghost after a move of a caller
   abbrev pub ghost_after : ℕ → Move → Ghost → Ghost
@@ -241,6 +317,15 @@ module _ (env : Env) (mix : ℕ → ℕ → ℕ → ℕ) where
   ghost_after c (TakesPages index bits) G = with_pages G index bits (PageHeld c)
   ghost_after c (GivesPages index bits) G = with_pages G index bits PageFree
   ghost_after c (Attaches slot shape seed serial) G = with_table G (flat_table slot shape seed serial)
+  ghost_after c TakesWork G = with_worker G (Some c)
+  ghost_after c GivesWork G = with_worker G None
+  ghost_after c BeginsMoving G = G
+  ghost_after c (TakesSecond i) G = with_holder G i (Some c)
+  ghost_after c (Leaves j i entry nodes) G = left G j nodes entry
+  ghost_after c (Arrives j i entry) G = arrived G i entry
+  ghost_after c (CutsOff j entry before) G = cut_off G j before
+  ghost_after c Publishes G = published G
+  ghost_after c (Retires s) G = retired G s
 
   -- the words as a memory
   abbrev pub mem : List ℕ → Memory
@@ -254,7 +339,8 @@ module _ (env : Env) (mix : ℕ → ℕ → ℕ → ℕ) where
   owners M G port = owners_in M (G.bound port)
 
   -- What a move needs: to link a node, all that makes it ready, and to be armed, the lock of a bucket in the last table. To take a slot or
-  -- pages, that they are free, to give them back, that the caller has them, and to attach a table, that the caller has made it.
+  -- pages, that they are free, to give them back, that the caller has them, and to attach a table, that the caller has made it. To take the
+  -- work, that nobody has it, and to do it, that the caller has it, with what the moves of entries and tables need.
   abbrev pub ReadyFor : ℕ → Memory → Ghost → Move → Type 0
   ReadyFor c M G Quiet = Unit {0}
   ReadyFor c M G (TakesNode n) = G.node n ≡ Free
@@ -272,6 +358,15 @@ module _ (env : Env) (mix : ℕ → ℕ → ℕ → ℕ) where
   ReadyFor c M G (TakesPages index bits) = ArePagesOf env mix G index bits PageFree
   ReadyFor c M G (GivesPages index bits) = ArePagesOf env mix G index bits (PageHeld c)
   ReadyFor c M G (Attaches slot shape seed serial) = IsAttaching env mix c slot shape seed M G
+  ReadyFor c M G TakesWork = G.worker ≡ None
+  ReadyFor c M G GivesWork = G.worker ≡ Some c
+  ReadyFor c M G BeginsMoving = G.worker ≡ Some c
+  ReadyFor c M G (TakesSecond i) = G.worker ≡ Some c
+  ReadyFor c M G (Leaves j i entry nodes) = CanLeave env mix c j i entry nodes M G
+  ReadyFor c M G (Arrives j i entry) = CanArrive env mix c j i entry M G
+  ReadyFor c M G (CutsOff j entry before) = CanCut env mix c j entry before G
+  ReadyFor c M G Publishes = CanPublish env mix c G
+  ReadyFor c M G (Retires s) = CanRetire env mix c s G
 
   -- which operation the move is, and how what the call holds changes by it
   abbrev pub Does : Move → Op → ℕ → Holding → Holding → Type 0
@@ -292,6 +387,15 @@ module _ (env : Env) (mix : ℕ → ℕ → ℕ → ℕ) where
   Does (TakesPages index bits) op old h h' = DoesTakePages env.geometry index bits op old h h'
   Does (GivesPages index bits) op old h h' = DoesGivePages env.geometry index bits op old h h'
   Does (Attaches slot shape seed serial) op old h h' = DoesAttach env.geometry slot op old h h'
+  Does TakesWork op old h h' = DoesTakeWork env.geometry op old h h'
+  Does GivesWork op old h h' = DoesGiveWork env.geometry op h h'
+  Does BeginsMoving op old h h' = DoesBeginMoving env.geometry op old h h'
+  Does (TakesSecond i) op old h h' = DoesTakeSecond env.geometry (place_at env mix i) op old h h'
+  Does (Leaves j i entry nodes) op old h h' = DoesLeave env.geometry entry op h h'
+  Does (Arrives j i entry) op old h h' = DoesArrive env.geometry (place_at env mix i) op h h'
+  Does (CutsOff j entry before) op old h h' = DoesCutOff env.geometry (place_at env mix j) before op h h'
+  Does Publishes op old h h' = DoesPublish env.geometry op h h'
+  Does (Retires s) op old h h' = DoesRetire env.geometry s op h h'
 
   -- An operation of a caller in a call, which holds this before it and that after it, with what it knows afterwards.
   pub record Step (c : ℕ) (call : Call) (words : List ℕ) (G : Ghost) (op : Op) (h h' : Holding)
@@ -392,6 +496,15 @@ module _ (env : Env) (mix : ℕ → ℕ → ℕ → ℕ) where
   LinksNone (TakesPages index bits) = Unit {0}
   LinksNone (GivesPages index bits) = Unit {0}
   LinksNone (Attaches slot shape seed serial) = Unit {0}
+  LinksNone TakesWork = Unit {0}
+  LinksNone GivesWork = Unit {0}
+  LinksNone BeginsMoving = Unit {0}
+  LinksNone (TakesSecond i) = Unit {0}
+  LinksNone (Leaves j i entry nodes) = Unit {0}
+  LinksNone (Arrives j i entry) = Unit {0}
+  LinksNone (CutsOff j entry before) = Unit {0}
+  LinksNone Publishes = Unit {0}
+  LinksNone (Retires s) = Unit {0}
 
   same_bound : (c : ℕ) (move : Move) (G : Ghost) (port : ℕ) → LinksNone move
       → (ghost_after c move G).bound port ≡ G.bound port
@@ -411,26 +524,47 @@ module _ (env : Env) (mix : ℕ → ℕ → ℕ → ℕ) where
   same_bound c (TakesPages index bits) G port none = refl
   same_bound c (GivesPages index bits) G port none = refl
   same_bound c (Attaches slot shape seed serial) G port none = refl
+  same_bound c TakesWork G port none = refl
+  same_bound c GivesWork G port none = refl
+  same_bound c BeginsMoving G port none = refl
+  same_bound c (TakesSecond i) G port none = refl
+  same_bound c (Leaves j i entry nodes) G port none = refl
+  same_bound c (Arrives j i entry) G port none = refl
+  same_bound c (CutsOff j entry before) G port none = refl
+  same_bound c Publishes G port none = refl
+  same_bound c (Retires s) G port none = refl
 
   -- nor does it take one out of a list
-  same_outs : (c : ℕ) (move : Move) (M : Memory) (G : Ghost) → LinksNone move → ReadyFor c M G move
+  same_outs : (c : ℕ) (move : Move) (M : Memory) (G : Ghost) → Whole env mix M G → LinksNone move → ReadyFor c M G move
       → outs env mix (ghost_after c move G) c ≡ outs env mix G c
-  same_outs c Quiet M G none ready = refl
-  same_outs c (TakesNode n) M G none ready = reowned-outs c n (Held c) G (ap (is_taken_by c) ready) refl
-  same_outs c (GivesNode n) M G none ready = reowned-outs c n Free G (ap (is_taken_by c) ready) refl
-  same_outs c (TakesLock j) M G none ready = refl
-  same_outs c (DropsLock j) M G none ready = refl
-  same_outs c Raises M G none ready = refl
-  same_outs c (Links n k j) M G none ready = absurd none
-  same_outs c Lowers M G none ready = refl
-  same_outs c (Rebinds change) M G none ready = absurd none
-  same_outs c (LinksBehind n) M G none ready = refl
-  same_outs c (Arms j) M G none ready = refl
-  same_outs c (TakesSlot s) M G none ready = refl
-  same_outs c (GivesSlot s) M G none ready = refl
-  same_outs c (TakesPages index bits) M G none ready = refl
-  same_outs c (GivesPages index bits) M G none ready = refl
-  same_outs c (Attaches slot shape seed serial) M G none ready = refl
+  same_outs c Quiet M G whole none ready = refl
+  same_outs c (TakesNode n) M G whole none ready = reowned-outs c n (Held c) G (ap (is_taken_by c) ready) refl
+  same_outs c (GivesNode n) M G whole none ready = reowned-outs c n Free G (ap (is_taken_by c) ready) refl
+  same_outs c (TakesLock j) M G whole none ready = refl
+  same_outs c (DropsLock j) M G whole none ready = refl
+  same_outs c Raises M G whole none ready = refl
+  same_outs c (Links n k j) M G whole none ready = absurd none
+  same_outs c Lowers M G whole none ready = refl
+  same_outs c (Rebinds change) M G whole none ready = absurd none
+  same_outs c (LinksBehind n) M G whole none ready = refl
+  same_outs c (Arms j) M G whole none ready = refl
+  same_outs c (TakesSlot s) M G whole none ready = refl
+  same_outs c (GivesSlot s) M G whole none ready = refl
+  same_outs c (TakesPages index bits) M G whole none ready = refl
+  same_outs c (GivesPages index bits) M G whole none ready = refl
+  same_outs c (Attaches slot shape seed serial) M G whole none ready = refl
+  same_outs c TakesWork M G whole none ready = refl
+  same_outs c GivesWork M G whole none ready = refl
+  same_outs c BeginsMoving M G whole none ready = refl
+  same_outs c (TakesSecond i) M G whole none ready = refl
+  same_outs c (Leaves j i entry nodes) M G whole none can =
+      let there : In entry (G.bucket j).nodes = subst (In entry) (sym can.split) (in-middle entry nodes []) in
+      reowned-outs c entry (Leaving j) G (ap (is_taken_by c) (whole.owned.member j entry there)) refl
+  same_outs c (Arrives j i entry) M G whole none can =
+      reowned-outs c entry (First i) G (ap (is_taken_by c) can.leaving) refl
+  same_outs c (CutsOff j entry before) M G whole none ready = refl
+  same_outs c Publishes M G whole none ready = refl
+  same_outs c (Retires s) M G whole none ready = refl
 
   pub moved : (c : ℕ) (words : List ℕ) (G : Ghost) (op : Op) (h h' : Holding) (Knows : Memory → Ghost
       → Type 0) (move : Move)
@@ -445,7 +579,7 @@ module _ (env : Env) (mix : ℕ → ℕ → ℕ → ℕ) where
     does = does;
     agree = λ port. owners-stay c (mem words) (mem (applied words op)) G (ghost_after c move G) whole
         made port (same_bound c move G port none);
-    outs = same_outs c move (mem words) G none ready;
+    outs = same_outs c move (mem words) G whole none ready;
     knows = knows;
   }
 
@@ -581,6 +715,61 @@ module _ (env : Env) (mix : ℕ → ℕ → ℕ → ℕ) where
     attaching = does.attaching;
     found = does.found;
     has = does.has;
+    holds = ap (λ x. with_answer x answer) does.holds;
+  }
+  does-answered TakesWork op old h h' answer does = record {
+    taking = does.taking;
+    free = does.free;
+    idle = does.idle;
+    holds = ap (λ x. with_answer x answer) does.holds;
+  }
+  does-answered GivesWork op old h h' answer does = record {
+    giving = does.giving;
+    has = does.has;
+    holds = ap (λ x. with_answer x answer) does.holds;
+  }
+  does-answered BeginsMoving op old h h' answer does = record {
+    leaves = does.leaves;
+    has = does.has;
+    still = does.still;
+    holds = ap (λ x. with_answer x answer) does.holds;
+  }
+  does-answered (TakesSecond i) op old h h' answer does = record {
+    on = does.on;
+    even = does.even;
+    locks = does.locks;
+    moves = does.moves;
+    first = does.first;
+    has = does.has;
+    none = does.none;
+    holds = ap (λ x. with_answer x answer) does.holds;
+  }
+  does-answered (Leaves j i entry nodes) op old h h' answer does = record {
+    on = does.on;
+    moves = does.moves;
+    holds = ap (λ x. with_answer x answer) does.holds;
+  }
+  does-answered (Arrives j i entry) op old h h' answer does = record {
+    on = does.on;
+    moves = does.moves;
+    has = does.has;
+    holds = ap (λ x. with_answer x answer) does.holds;
+  }
+  does-answered (CutsOff j entry before) op old h h' answer does = record {
+    on = does.on;
+    moves = does.moves;
+    lock = does.lock;
+    holds = ap (λ x. with_answer x answer) does.holds;
+  }
+  does-answered Publishes op old h h' answer does = record {
+    on = does.on;
+    moves = does.moves;
+    holds = ap (λ x. with_answer x answer) does.holds;
+  }
+  does-answered (Retires s) op old h h' answer does = record {
+    within = does.within;
+    retiring = does.retiring;
+    moves = does.moves;
     holds = ap (λ x. with_answer x answer) does.holds;
   }
 

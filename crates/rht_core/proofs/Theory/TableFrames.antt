@@ -215,6 +215,7 @@ module _ (env : Env) (mix : ℕ → ℕ → ℕ → ℕ) where
                 each = to.each;
               };
           single = owned.single;
+          small = owned.small;
         }
 
     -- ---- the whole, and what others know

@@ -395,6 +395,7 @@ module _ (env : Env) (mix : ℕ → ℕ → ℕ → ℕ) where
               each = λ m i. stays m (Behind port) (to.each m i) refl;
             };
         single = λ one port n behind b. owned.single one port n behind (sym (same.bound port) ∙ b);
+        small = λ port n behind b. owned.small port n behind (sym (same.bound port) ∙ b);
       }
 
   -- ---- the whole

@@ -1,6 +1,6 @@
 -- What is true of the words and the ghost after each event of each run. Tables stand in the order in which they were attached.
 -- The first of the nodes to which a port is bound stands in a chain, and the others in its list behind it.
-use Rattle.std.proofs.Common.{◌≡◌, ◌↔◌, ℕ, ◌+◌, ◌-◌, ◌*◌, ◌⊎◌, ◌/◌, ◌%◌, ◌<◌, ◌≤◌, max, nat_lt, cond, true, List, [], ◌∷◌, Option, Some, None, arith, refl, sym, ap, ◌∙◌, ◌≢◌, inl, inr}
+use Rattle.std.proofs.Common.{◌≡◌, ◌↔◌, ℕ, ◌^◌, ◌+◌, ◌-◌, ◌*◌, ◌⊎◌, ◌/◌, ◌%◌, ◌<◌, ◌≤◌, max, nat_lt, cond, true, List, [], ◌∷◌, Option, Some, None, arith, refl, sym, ap, ◌∙◌, ◌≢◌, inl, inr}
 use Rattle.std.specs.Int.{bit_at}
 use Rattle.rht_words.specs.declared.env.Env.{Env}
 use Rattle.rht_words.specs.declared.config.Kind.TheVariants.{Single}
@@ -217,7 +217,7 @@ module _ (env : Env) (mix : ℕ → ℕ → ℕ → ℕ) where
     pub distinct : IsDistinct (n ∷ behind)
     pub each : (m : ℕ) → In m behind → G.node m ≡ Behind port
 
-  -- who owns each node is what chains and lists say; in a table of one owner a port is bound to one node at most
+  -- who owns each node is what chains and lists say; in a table of one owner a port is bound to one node at most; and a bound port has 32 bits
   pub record Owned (M : Memory) (G : Ghost) : Type 0 where
     pub member : (j n : ℕ) → In n (G.bucket j).nodes → G.node n ≡ First j
     pub first_at : (n j : ℕ) → G.node n ≡ First j → IsFirstAt M G n j
@@ -226,6 +226,7 @@ module _ (env : Env) (mix : ℕ → ℕ → ℕ → ℕ) where
     pub bound_to : (port n : ℕ) (behind : List ℕ) → G.bound port ≡ n ∷ behind → IsBoundTo M G port n behind
     pub single : env.config.kind ≡ Single → (port n : ℕ) (behind : List ℕ) → G.bound port ≡ n ∷ behind
         → behind ≡ []
+    pub small : (port n : ℕ) (behind : List ℕ) → G.bound port ≡ n ∷ behind → port < 2 ^ 32
 
   -- a node that was taken out of a list was so by one of the callers
   abbrev pub IsBuilt : Owner → Type 0
