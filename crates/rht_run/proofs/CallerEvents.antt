@@ -57,6 +57,43 @@ module _ (M : Type 0) (mix : ℕ → ℕ → ℕ → ℕ) (env : Env) where
     shows = λ h i. subst (λ (e : Env). Shows e (run_of mix e r.events) h) (sym same) (r.shows id v at h i).shows;
   }
 
+  -- ---- a caller of a run
+
+  module _ (events : List Event) (held : Held M) (shows : Shows env (run_of mix env events) held) where
+    abbrev world : World M
+    world = run_of mix env events
+
+    pub has_local : held.number < length world.core.locals
+    has_local = has_place M mix env world.core held.number (runs-in M mix env events) shows.enrolled
+
+    pub number_fits : held.number < 4294967296
+    number_fits = omega (arith, shows.below, env.agrees.callers_same, env.settled.geometry.callers_within.1)
+
+    pub begin_admitted : (call : Call) → MayBegin env held.number call held.local
+        → IsAdmittedEvent env.config.kind (Begin held.number call)
+    begin_admitted call can = (number_fits, can.admitted, can.built)
+
+    -- one more event gives it a call that it may begin
+    pub begin_shown : (call : Call) → MayBegin env held.number call held.local
+        → view_of (world_step mix world (Begin held.number call)) held.number ≡ view_in (held_then env (Some call) held)
+    begin_shown call can =
+        let c : ℕ = held.number in
+        let idle : is_idle (local_of world.core c) ≡ true =
+        ap (λ (x : View M). is_idle x.local) shows.shown ∙ can.idle in
+        let same_env : world.core.env ≡ env = (runs-in M mix env events).same_env in
+        let begins : beginning_in world.core c call ≡ Some can.machine =
+        ap (λ b. cond b (machine_of world.core.env c call) None)
+        (both_true (lt-ltb c world.core.enrolled shows.enrolled) idle)
+        ∙ ap (λ (e : Env). machine_of e c call) same_env ∙ can.machine_is in
+        begin_self M mix world c call can.machine begins has_local
+        ∙ ap (view_begun call can.machine) shows.shown
+        ∙ ap (λ (m : Option (Doing M)). view_with call m) (sym can.machine_is)
+      where
+        -- what the caller sees that begins with this
+        view_with : Call → Option (Doing M) → View M
+        view_with call machine =
+            record { local = begun_with held.local machine; book = book_begun call held.book }
+
   -- ---- an event of the one caller that a view has
 
   module _ (s : S) (r : Holds mix env s) (id : ℕ) (v v' : SeatView M) (h h' : Held M) (e : Event) (ws : List ℕ) where
@@ -144,13 +181,6 @@ module _ (M : Type 0) (mix : ℕ → ℕ → ℕ → ℕ) (env : Env) where
     abbrev mine : IsHeldIn env Wo v h
     mine = r.shows id v at h (in_one h v.held one)
 
-    place : c < length Wo.core.locals
-    place = has_place M mix env Wo.core c (runs-in M mix env r.events) mine.shows.enrolled
-
-    number_fits : c < 4294967296
-    number_fits =
-        omega (arith, mine.shows.below, env.agrees.callers_same, env.settled.geometry.callers_within.1)
-
     -- ---- a call begins
 
     pub begin_holds : (call : Call) → MayBegin v.env c call h.local
@@ -158,27 +188,13 @@ module _ (M : Type 0) (mix : ℕ → ℕ → ℕ → ℕ) (env : Env) where
     begin_holds call can =
         let here : MayBegin env c call h.local =
         subst (λ (e : Env). MayBegin e c call h.local) mine.same_env can in
-        let idle : is_idle (local_of Wo.core c) ≡ true =
-        ap (λ (x : View M). is_idle x.local) mine.shows.shown ∙ here.idle in
-        let same_env : Wo.core.env ≡ env = (runs-in M mix env r.events).same_env in
-        let begins : beginning_in Wo.core c call ≡ Some here.machine =
-        ap (λ b. cond b (machine_of Wo.core.env c call) None)
-        (both_true (lt-ltb c Wo.core.enrolled mine.shows.enrolled) idle)
-        ∙ ap (λ (e : Env). machine_of e c call) same_env ∙ here.machine_is in
         let then : Held M = held_then v.env (Some call) h in
         event_holds s r id v (begun (Some call) v) h then (Begin c call) s.words at one
         (ap (map (held_then v.env (Some call))) one) refl refl refl
-        (number_fits, here.admitted, here.built) tt r.words
-        (begin_self M mix Wo c call here.machine begins place
-        ∙ ap (view_begun call here.machine) mine.shows.shown
-        ∙ ap (λ (m : Option (Doing M)). view_with call m)
-        (sym here.machine_is ∙ ap (λ (e : Env). machine_of e c call) (sym mine.same_env)))
+        (begin_admitted r.events h mine.shows call here) tt r.words
+        (begin_shown r.events h mine.shows call here
+        ∙ ap (λ (e : Env). view_in (held_then e (Some call) h)) (sym mine.same_env))
         (begin_other M mix Wo c call)
-      where
-        -- what the caller sees that begins with this
-        view_with : Call → Option (Doing M) → View M
-        view_with call machine =
-            record { local = begun_with h.local machine; book = book_begun call h.book }
 
     -- ---- an operation
 
@@ -200,10 +216,10 @@ module _ (M : Type 0) (mix : ℕ → ℕ → ℕ → ℕ) (env : Env) where
         ap (λ (x : ℕ). set Wo.core.words (op_place op) (word_after x op)) same
         ∙ sym (step_words M mix Wo c op steps) in
         event_holds s r id v (stepped mix old v) h (held_stepped mix old h) (Step c) (laid_after op s.words) at one
-        (ap (map (held_stepped mix old)) one) refl refl refl number_fits tt
+        (ap (map (held_stepped mix old)) one) refl refl refl (number_fits r.events h mine.shows) tt
         (subst (IsLaidOut (laid_after op s.words)) words_are
         (laid-set s.words Wo.core.words (op_place op) (word_after old op) r.words below))
-        (step_self M mix Wo c op steps place ∙ ap (view_stepped mix (old_of Wo.core.words op)) shown
+        (step_self M mix Wo c op steps (has_local r.events h mine.shows) ∙ ap (view_stepped mix (old_of Wo.core.words op)) shown
         ∙ ap (λ (x : ℕ). view_stepped mix x (view_in h)) (sym same))
         (step_other M mix Wo c)
 

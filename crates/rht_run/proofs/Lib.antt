@@ -6,3 +6,7 @@ pub mod ViewLists
 pub mod CallerEvents
 -- opening a table, drawing and handing out numbers, and joining seats keep the rule
 pub mod SeatMoves
+-- what one operation of a pass asks of its table, and leaves
+pub mod Performed
+-- from one operation to a call, and what a finished call was answered
+pub mod CallSteps

@@ -100,6 +100,11 @@ module _ {M : Type 0} where
   CanGo env c None local = is_idle local ≡ false
   CanGo env c (Some call) local = MayBegin env c call local
 
+  -- where a call begins, its caller's room of owners may have one item a node
+  abbrev pub HasRoom : Env → Option Call → Local M → Type 0
+  HasRoom env None local = Unit {0}
+  HasRoom env (Some call) local = local.owners.limit ≡ env.geometry.nodes
+
   -- the caller where this call begins, if one does
   abbrev pub local_then : Env → ℕ → Option Call → Local M → Local M
   local_then env c None local = local

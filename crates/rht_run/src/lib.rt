@@ -7,10 +7,12 @@
 //! calls promise.
 #![tactic(auto)]
 
+mod calls;
 mod layout;
 mod pass;
 pub mod plays;
 mod seats;
+mod steps;
 mod table;
 
 pub use pass::Pass;
