@@ -33,49 +33,49 @@ last_answered (other ∷ finished) done all = last_answered finished done all.1
 module _ {M : Type 0} where
   module _ (mix : ℕ → ℕ → ℕ → ℕ) (t : Table M) (before p after : Pass M) (begins : Option Call) (call : Call) (steps : ℕ)
     where
-    pub turned : (reply : Option Reply) → IsSamePass before p → CanGo t.env p.number begins p.local
-        → book_then begins (book_of p)
-        ≡ record { call = Some call; steps = steps; finished = (book_of before).finished }
-        → IsPassOf mix t after → IsSamePass p after → HasGone mix t begins p reply after
-        → Turned mix t call (steps + 1) before reply after
-    turned None same can book pass still gone =
-        let local : Local M = local_then t.env p.number begins p.local in
-        let next = local_after mix local gone.old in
-        let none : next.1 ≡ None = sym gone.replied in
-        let local_is : after.local ≡ next.0 = ap (λ (v : View M). v.local) gone.seen in
-        let book_is : book_of after ≡ book_after (ending_of next.0 None) (book_then begins (book_of p)) =
-        ap (λ (v : View M). v.book) gone.seen
-        ∙ ap (λ r. book_after (ending_of next.0 r) (book_then begins (book_of p))) none in
-        record {
-          pass = pass;
-          same = record { table = still.table ∙ same.table; number = still.number ∙ same.number };
-          busy = ap is_idle local_is
-              ∙ goes_on M mix local gone.old (busy_then t.env p.number begins p.local can) none;
-          book = book_is ∙ ap (book_after None) book;
-        }
-    turned (Some reply) same can book pass still gone =
-        let local : Local M = local_then t.env p.number begins p.local in
-        let next = local_after mix local gone.old in
-        let some : next.1 ≡ Some reply = sym gone.replied in
-        let local_is : after.local ≡ next.0 = ap (λ (v : View M). v.local) gone.seen in
-        let book_is : book_of after ≡ book_after (ending_of next.0 (Some reply)) (book_then begins (book_of p)) =
-        ap (λ (v : View M). v.book) gone.seen
-        ∙ ap (λ r. book_after (ending_of next.0 r) (book_then begins (book_of p))) some in
-        record {
-          pass = pass;
-          same = record { table = still.table ∙ same.table; number = still.number ∙ same.number };
-          idle = ap is_idle local_is
-              ∙ ends M mix local gone.old reply (busy_then t.env p.number begins p.local can) some;
-          finished =
-              ap (λ (b : Book). b.finished)
-              (book_is ∙ ap (book_after (ending_of next.0 (Some reply))) book)
-              ∙ ap (λ (l : Local M). (book_of before).finished ++ call_ended reply l ∷ []) (sym local_is);
-        }
-      where
-        -- the call, ended with this reply and the lists in its caller's rooms
-        call_ended : Reply → Local M → Finished
-        call_ended reply l =
-            record { call = call; reply = reply; owners = l.owners.items; pairs = l.pairs.items }
+      pub turned : (reply : Option Reply) → IsSamePass before p → CanGo t.env p.number begins p.local
+          → book_then begins (book_of p)
+          ≡ record { call = Some call; steps = steps; finished = (book_of before).finished }
+          → IsPassOf mix t after → IsSamePass p after → HasGone mix t begins p reply after
+          → Turned mix t call (steps + 1) before reply after
+      turned None same can book pass still gone =
+          let local : Local M = local_then t.env p.number begins p.local in
+          let next = local_after mix local gone.old in
+          let none : next.1 ≡ None = sym gone.replied in
+          let local_is : after.local ≡ next.0 = ap (λ (v : View M). v.local) gone.seen in
+          let book_is : book_of after ≡ book_after (ending_of next.0 None) (book_then begins (book_of p)) =
+          ap (λ (v : View M). v.book) gone.seen
+          ∙ ap (λ r. book_after (ending_of next.0 r) (book_then begins (book_of p))) none in
+          record {
+            pass = pass;
+            same = record { table = still.table ∙ same.table; number = still.number ∙ same.number };
+            busy = ap is_idle local_is
+                ∙ goes_on M mix local gone.old (busy_then t.env p.number begins p.local can) none;
+            book = book_is ∙ ap (book_after None) book;
+          }
+      turned (Some reply) same can book pass still gone =
+          let local : Local M = local_then t.env p.number begins p.local in
+          let next = local_after mix local gone.old in
+          let some : next.1 ≡ Some reply = sym gone.replied in
+          let local_is : after.local ≡ next.0 = ap (λ (v : View M). v.local) gone.seen in
+          let book_is : book_of after ≡ book_after (ending_of next.0 (Some reply)) (book_then begins (book_of p)) =
+          ap (λ (v : View M). v.book) gone.seen
+          ∙ ap (λ r. book_after (ending_of next.0 r) (book_then begins (book_of p))) some in
+          record {
+            pass = pass;
+            same = record { table = still.table ∙ same.table; number = still.number ∙ same.number };
+            idle = ap is_idle local_is
+                ∙ ends M mix local gone.old reply (busy_then t.env p.number begins p.local can) some;
+            finished =
+                ap (λ (b : Book). b.finished)
+                (book_is ∙ ap (book_after (ending_of next.0 (Some reply))) book)
+                ∙ ap (λ (l : Local M). (book_of before).finished ++ call_ended reply l ∷ []) (sym local_is);
+          }
+        where
+          -- the call, ended with this reply and the lists in its caller's rooms
+          call_ended : Reply → Local M → Finished
+          call_ended reply l =
+              record { call = call; reply = reply; owners = l.owners.items; pairs = l.pairs.items }
 
   -- ---- what a finished call was answered
 

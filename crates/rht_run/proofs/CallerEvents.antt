@@ -172,56 +172,56 @@ module _ (M : Type 0) (mix : ℕ → ℕ → ℕ → ℕ) (env : Env) where
   module _ (s : S) (r : Holds mix env s) (id : ℕ) (v : SeatView M) (h : Held M) (at : get_elem? s.views id ≡ some v)
       (one : v.held ≡ h ∷ [])
     where
-    abbrev Wo : World M
-    Wo = run_of mix env r.events
+      abbrev Wo : World M
+      Wo = run_of mix env r.events
 
-    abbrev c : ℕ
-    c = h.number
+      abbrev c : ℕ
+      c = h.number
 
-    abbrev mine : IsHeldIn env Wo v h
-    mine = r.shows id v at h (in_one h v.held one)
+      abbrev mine : IsHeldIn env Wo v h
+      mine = r.shows id v at h (in_one h v.held one)
 
-    -- ---- a call begins
+      -- ---- a call begins
 
-    pub begin_holds : (call : Call) → MayBegin v.env c call h.local
-        → Holds mix env record { words = s.words; homes = s.homes; views = set s.views id (begun (Some call) v) }
-    begin_holds call can =
-        let here : MayBegin env c call h.local =
-        subst (λ (e : Env). MayBegin e c call h.local) mine.same_env can in
-        let then : Held M = held_then v.env (Some call) h in
-        event_holds s r id v (begun (Some call) v) h then (Begin c call) s.words at one
-        (ap (map (held_then v.env (Some call))) one) refl refl refl
-        (begin_admitted r.events h mine.shows call here) tt r.words
-        (begin_shown r.events h mine.shows call here
-        ∙ ap (λ (e : Env). view_in (held_then e (Some call) h)) (sym mine.same_env))
-        (begin_other M mix Wo c call)
+      pub begin_holds : (call : Call) → MayBegin v.env c call h.local
+          → Holds mix env record { words = s.words; homes = s.homes; views = set s.views id (begun (Some call) v) }
+      begin_holds call can =
+          let here : MayBegin env c call h.local =
+          subst (λ (e : Env). MayBegin e c call h.local) mine.same_env can in
+          let then : Held M = held_then v.env (Some call) h in
+          event_holds s r id v (begun (Some call) v) h then (Begin c call) s.words at one
+          (ap (map (held_then v.env (Some call))) one) refl refl refl
+          (begin_admitted r.events h mine.shows call here) tt r.words
+          (begin_shown r.events h mine.shows call here
+          ∙ ap (λ (e : Env). view_in (held_then e (Some call) h)) (sym mine.same_env))
+          (begin_other M mix Wo c call)
 
-    -- ---- an operation
+      -- ---- an operation
 
-    pub step_holds : (op : Op) → plan_of h.local ≡ Some op
-        → Holds mix env record { words = laid_after op s.words; homes = s.homes; views = set s.views id (stepped mix (laid_at op s.words) v) }
-    step_holds op plan =
-        let old : ℕ = laid_at op s.words in
-        let shown = mine.shows.shown in
-        let plans : plan_of (local_of Wo.core c) ≡ Some op = ap (λ (x : View M). plan_of x.local) shown ∙ plan in
-        let steps : planned_in Wo.core c ≡ Some op =
-        ap (λ b. cond b (plan_of (local_of Wo.core c)) None) (lt-ltb c Wo.core.enrolled mine.shows.enrolled)
-        ∙ plans in
-        let within = (in_range M mix env r.events r.admitted).plans c op plans in
-        let all = (runs-in M mix env r.events).all_words in
-        let below : op_place op < length Wo.core.words = omega (arith, within.within, all) in
-        let same : old ≡ old_of Wo.core.words op = r.words.at (op_place op) below in
-        let words_are : set Wo.core.words (op_place op) (word_after old op)
-        ≡ (world_step mix Wo (Step c)).core.words =
-        ap (λ (x : ℕ). set Wo.core.words (op_place op) (word_after x op)) same
-        ∙ sym (step_words M mix Wo c op steps) in
-        event_holds s r id v (stepped mix old v) h (held_stepped mix old h) (Step c) (laid_after op s.words) at one
-        (ap (map (held_stepped mix old)) one) refl refl refl (number_fits r.events h mine.shows) tt
-        (subst (IsLaidOut (laid_after op s.words)) words_are
-        (laid-set s.words Wo.core.words (op_place op) (word_after old op) r.words below))
-        (step_self M mix Wo c op steps (has_local r.events h mine.shows) ∙ ap (view_stepped mix (old_of Wo.core.words op)) shown
-        ∙ ap (λ (x : ℕ). view_stepped mix x (view_in h)) (sym same))
-        (step_other M mix Wo c)
+      pub step_holds : (op : Op) → plan_of h.local ≡ Some op
+          → Holds mix env record { words = laid_after op s.words; homes = s.homes; views = set s.views id (stepped mix (laid_at op s.words) v) }
+      step_holds op plan =
+          let old : ℕ = laid_at op s.words in
+          let shown = mine.shows.shown in
+          let plans : plan_of (local_of Wo.core c) ≡ Some op = ap (λ (x : View M). plan_of x.local) shown ∙ plan in
+          let steps : planned_in Wo.core c ≡ Some op =
+          ap (λ b. cond b (plan_of (local_of Wo.core c)) None) (lt-ltb c Wo.core.enrolled mine.shows.enrolled)
+          ∙ plans in
+          let within = (in_range M mix env r.events r.admitted).plans c op plans in
+          let all = (runs-in M mix env r.events).all_words in
+          let below : op_place op < length Wo.core.words = omega (arith, within.within, all) in
+          let same : old ≡ old_of Wo.core.words op = r.words.at (op_place op) below in
+          let words_are : set Wo.core.words (op_place op) (word_after old op)
+          ≡ (world_step mix Wo (Step c)).core.words =
+          ap (λ (x : ℕ). set Wo.core.words (op_place op) (word_after x op)) same
+          ∙ sym (step_words M mix Wo c op steps) in
+          event_holds s r id v (stepped mix old v) h (held_stepped mix old h) (Step c) (laid_after op s.words) at one
+          (ap (map (held_stepped mix old)) one) refl refl refl (number_fits r.events h mine.shows) tt
+          (subst (IsLaidOut (laid_after op s.words)) words_are
+          (laid-set s.words Wo.core.words (op_place op) (word_after old op) r.words below))
+          (step_self M mix Wo c op steps (has_local r.events h mine.shows) ∙ ap (view_stepped mix (old_of Wo.core.words op)) shown
+          ∙ ap (λ (x : ℕ). view_stepped mix x (view_in h)) (sym same))
+          (step_other M mix Wo c)
 
   -- an operation, with the call that begins before it, if one does
   pub turn_holds : (s : S) (r : Holds mix env s) (id : ℕ) (v : SeatView M) (h : Held M) (begins : Option Call) (op : Op)
@@ -253,8 +253,7 @@ module _ (M : Type 0) (mix : ℕ → ℕ → ℕ → ℕ) (env : Env) where
       let w : SeatView M = stepped mix (laid_at op s.words) (begun begins me.0) in
       let turned = turn_holds s r id me.0 h begins op at one can plan in
       let after_it : Holds mix env (table_stepped s (physical_place op) (f (laid_at op s.words)) id me.1 w keeps) =
-      subst (λ (x : ℕ). Holds mix env record { words = set s.words (physical_place op) x; homes = s.homes; views = set s.views id w }) (sym (acts _ fits)) turned in
-      (
+      subst (λ (x : ℕ). Holds mix env record { words = set s.words (physical_place op) x; homes = s.homes; views = set s.views id w }) (sym (acts _ fits)) turned in (
         w,
         keeps,
         tt,

@@ -10,3 +10,7 @@ pub mod SeatMoves
 pub mod Performed
 -- from one operation to a call, and what a finished call was answered
 pub mod CallSteps
+-- how a table is opened
+pub mod OpenedTables
+-- how a table is closed
+pub mod ClosedTables

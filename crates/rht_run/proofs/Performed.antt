@@ -41,27 +41,27 @@ use Rattle.rht_run.proofs.CallerEvents.{admitted_more, begin_admitted, begin_sho
 module _ (M : Type 0) (mix : ℕ → ℕ → ℕ → ℕ) (begins : Option Call) (t : Table M) (seat : Seat (Unit {0}) (SeatView M))
     (op : Op)
   where
-  -- the place is one of the table's
-  pub place_small : CanPerform begins t seat op → op_place op < 1099511627776
-  place_small p = omega (arith, p.range.within, words_in-few t.env.geometry)
+    -- the place is one of the table's
+    pub place_small : CanPerform begins t seat op → op_place op < 1099511627776
+    place_small p = omega (arith, p.range.within, words_in-few t.env.geometry)
 
-  -- the seat may make a step at this physical place that makes of a word what this function does
-  abbrev pub MayStep : ℕ → (ℕ → ℕ) → Type 0
-  MayStep place f = (seat.table_id ≡ t.words.shared.table_id) × (place < t.words.shared.table_id.words)
-      × Allows (Holds mix t.words.shared.key) t.words.shared.table_id.slots seat.id seat.me place f (λ old after. (after.1 ≡ seat.me.1)
-      × Went mix begins seat.me.0 old after.0)
+    -- the seat may make a step at this physical place that makes of a word what this function does
+    abbrev pub MayStep : ℕ → (ℕ → ℕ) → Type 0
+    MayStep place f = (seat.table_id ≡ t.words.shared.table_id) × (place < t.words.shared.table_id.words)
+        × Allows (Holds mix t.words.shared.key) t.words.shared.table_id.slots seat.id seat.me place f (λ old after. (after.1 ≡ seat.me.1)
+        × Went mix begins seat.me.0 old after.0)
 
-  pub performs : (x : Op) (place : ℕ) (f : ℕ → ℕ) → CanPerform begins t seat op → op ≡ x → place ≡ physical (op_place op)
-      → ((n : ℕ) → n < 18446744073709551616 → f n ≡ word_after n x) → MayStep place f
-  performs x place f p is lies acts =
-      let within : physical (op_place op) < t.words.shared.table_id.words =
-      omega (arith, p.fit.count, physical_below (op_place op) (words_in t.env.geometry) p.range.within) in
-      subst (λ (at : ℕ). MayStep at f) (sym lies) (
-        p.table,
-        within,
-        goes M mix t.words.shared.key begins t.words.shared.table_id.slots seat.id seat.me p.held op f p.one
-            (p.same_env ∙ sym p.fit.key) p.can p.plan (λ n fits. acts n fits ∙ ap (λ (o : Op). word_after n o) (sym is)),
-      )
+    pub performs : (x : Op) (place : ℕ) (f : ℕ → ℕ) → CanPerform begins t seat op → op ≡ x → place ≡ physical (op_place op)
+        → ((n : ℕ) → n < 18446744073709551616 → f n ≡ word_after n x) → MayStep place f
+    performs x place f p is lies acts =
+        let within : physical (op_place op) < t.words.shared.table_id.words =
+        omega (arith, p.fit.count, physical_below (op_place op) (words_in t.env.geometry) p.range.within) in
+        subst (λ (at : ℕ). MayStep at f) (sym lies) (
+          p.table,
+          within,
+          goes M mix t.words.shared.key begins t.words.shared.table_id.slots seat.id seat.me p.held op f p.one
+              (p.same_env ∙ sym p.fit.key) p.can p.plan (λ n fits. acts n fits ∙ ap (λ (o : Op). word_after n o) (sym is)),
+        )
 
 -- ---- the operation of a pass
 
@@ -169,8 +169,7 @@ module _ {M : Type 0} where
       ap (λ (e : Env). local_then e p.number begins p.local) is.same_env in
       let local_is : after.local ≡ h'.local =
       ap (λ x. x.0) next ∙ sym (ap (λ (l : Local M). (local_after mix l old).0) locals) in
-      let seen_is : seen_by after ≡ view_in h' = λ i. record { local = local_is i; book = book_is i } in
-      (
+      let seen_is : seen_by after ≡ view_in h' = λ i. record { local = local_is i; book = book_is i } in (
         record {
           fit = is.fit;
           table = same.table ∙ is.table;

@@ -157,17 +157,19 @@ module _ (M : Type 0) (mix : ℕ → ℕ → ℕ → ℕ) (env : Env) where
             (λ t. let p = r.drawn k u t.1 m e in absurd (t.0 (p.same_seat ∙ sym told.same_seat)))
             (at_set s.views id k w u au);
       } in
-      let so_many : d ≡ n = omega (arith, told.count, counted, there) in
-      (
+      let so_many : d ≡ n = omega (arith, told.count, counted, there) in (
         w,
         keeps,
         tt,
         after_it,
-        (refl, record {
-          same = refl;
-          said = is ∙ ap Some so_many;
-          in_run = in_run M mix env _ after_it id w (set_there s.views id me.0 w at) same;
-        }),
+        (
+          refl,
+          record {
+            same = refl;
+            said = is ∙ ap Some so_many;
+            in_run = in_run M mix env _ after_it id w (set_there s.views id me.0 w at) same;
+          },
+        ),
       )
     where
       -- what a caller sees that has made no call

@@ -1,5 +1,5 @@
 -- What clauses say of a table and its passes.
-use Rattle.std.specs.Prelude.{◌≡◌, ℕ, ◌+◌, ◌⊎◌, true, false, Option, Some, None, MatchOption, List, [], ◌∷◌, ◌++◌}
+use Rattle.std.specs.Prelude.{◌≡◌, ℕ, ◌+◌, ◌⊎◌, true, false, Option, Some, None, MatchOption, List, [], ◌∷◌, ◌++◌, length}
 use Rattle.atomic_table.specs.declared.shared.Seat.{Seat}
 use Rattle.rht_words.specs.declared.op.Op.{Op}
 use Rattle.rht_words.specs.declared.env.Env.{Env}
@@ -17,7 +17,7 @@ use Rattle.rht_run.specs.declared.seats.Held.{Held}
 use Rattle.rht_run.specs.declared.seats.SeatView.{SeatView}
 use Rattle.rht_run.specs.declared.table.Table.{Table}
 use Rattle.rht_run.specs.declared.pass.Pass.{Pass}
-use Rattle.rht_run.specs.Layout.{gaps}
+use Rattle.rht_run.specs.Layout.{gaps, IsLaidOut}
 use Rattle.rht_run.specs.Rule.{In, Shows, IsInRun, CanGo, Went, held_at, held_then, local_then, view_then, opening_view}
 
 -- the table's words are those of its config, and the rule speaks of that config
@@ -149,3 +149,10 @@ module _ {M : Type 0} where
     pub words_are : (run_of {M = M} mix env events).core.words ≡ words
     pub shows : (pass : Pass M) → Among pass passes
         → Shows env (run_of mix env events) (held_at pass.number (seen_by pass))
+
+  -- such words lie here
+  pub record IsLaidEnd (mix : ℕ → ℕ → ℕ → ℕ) (env : Env) (passes : List (Pass M)) (laid : List ℕ) : Type 0 where
+    pub words : List ℕ
+    pub lie : IsLaidOut laid words
+    pub count : length words ≡ words_in env.geometry
+    pub end : IsEnd mix env passes words

@@ -68,13 +68,7 @@ impl<M: Mix> Table<M> {
     }
     /// Binds a port to an owner, and is tried once alone: it may answer `Again`. The kernel's
     /// counterparts are `rhashtable_lookup_insert_key` and `rhltable_insert_key`.
-    pub fn bind_once<R: Wait>(
-        &self,
-        rt: &R,
-        pass: &mut Pass<M>,
-        port: Port,
-        owner: u32,
-    ) -> Reply
+    pub fn bind_once<R: Wait>(&self, rt: &R, pass: &mut Pass<M>, port: Port, owner: u32) -> Reply
         requires pass { IsPassOf M.mix_of self.now pass.old }
         requires idle { is_idle pass.old.local ≡ true }
         ensures called { HasCalled M.mix_of self.now (Bind port owner true) result pass.old pass.new }

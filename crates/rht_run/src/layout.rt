@@ -2,6 +2,7 @@
 
 ghost use Rattle.std.specs.Prelude.{◌≡◌, ◌+◌, ◌^◌, ◌<◌, length, IfOk};
 ghost use Rattle.rht_words.specs.Opening.{opening_words};
+ghost use Rattle.rht_words.specs.Places.{words_in};
 ghost use Rattle.rht_run.specs.Layout.{gaps, physical, IsLaidOut};
 
 use rht_words::{Env, opening_word};
@@ -22,7 +23,8 @@ pub(crate) fn physical(place: usize) -> usize
 
 /// All words at opening, where they lie. The one refusal is want of memory.
 pub(crate) fn opening_laid(alloc: Global, env: Env) -> Result<Vec<u64>, AllocError>
-    ensures { IfOk result (λ laid. IsLaidOut laid.items (opening_words env)) }
+    ensures laid { IfOk result (λ laid. IsLaidOut laid.items (opening_words env)) }
+    ensures count { IfOk result (λ laid. length laid.items ≡ words_in env.geometry + gaps) }
 {
     let count = env.geometry.words();
     let mut laid = Vec::from_elem(alloc, 0u64, count + GAPS)?;

@@ -8,13 +8,16 @@
 #![tactic(auto)]
 
 mod calls;
+mod closing;
 mod layout;
+mod opening;
 mod pass;
 pub mod plays;
 mod seats;
 mod steps;
 mod table;
 
+pub use closing::NotClosed;
 pub use pass::Pass;
 pub use seats::{Held, SeatView};
 pub use table::Table;
