@@ -21,3 +21,6 @@ pub use closing::NotClosed;
 pub use pass::Pass;
 pub use seats::{Held, SeatView};
 pub use table::Table;
+
+#[cfg(test)]
+mod tests;
