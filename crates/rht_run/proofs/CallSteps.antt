@@ -1,6 +1,6 @@
 -- From one operation to a call: an operation ends the call exactly where it has a reply, and a finished call has a reply of its
 -- kind with the lists that come with it.
-use Rattle.std.proofs.Common.{◌≡◌, ℕ, ◌+◌, ◌^◌, ◌<◌, true, cond, List, [], ◌∷◌, ◌++◌, refl, sym, ap, ◌∙◌, subst}
+use Rattle.std.proofs.Common.{◌≡◌, ℕ, ◌+◌, ◌^◌, ◌<◌, true, cond, List, [], ◌∷◌, ◌++◌, sym, ap, ◌∙◌, subst}
 use Rattle.std.specs.Prelude.{Option, Some, None}
 use Rattle.std.specs.List.{AllByRecursion, last_or}
 use Rattle.rht_words.specs.declared.env.Env.{Env}
@@ -21,7 +21,7 @@ use Rattle.rht_core.proofs.Tracing.RepliesInRuns.{replies}
 use Rattle.rht_run.specs.declared.table.Table.{Table}
 use Rattle.rht_run.specs.declared.pass.Pass.{Pass}
 use Rattle.rht_run.specs.Rule.{MayBegin, CanGo, book_then, local_then}
-use Rattle.rht_run.specs.Passes.{IsPassOf, IsSamePass, HasGone, IsCalling, HasCalled, Turned, book_of}
+use Rattle.rht_run.specs.Passes.{IsPassOf, IsSamePass, HasGone, HasCalled, Turned, book_of}
 use Rattle.rht_run.proofs.Performed.{busy_then, of_run}
 
 -- the last of some calls, each of which was answered

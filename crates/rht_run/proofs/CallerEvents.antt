@@ -2,7 +2,7 @@
 -- 1. The run with the event more is one, and it changes which callers are enrolled in no event but an Enroll.
 -- 2. What the event makes of its caller is what the seat makes of its view, from the word that it found.
 -- 3. No other caller sees anything of it, and no other seat has this caller.
-use Rattle.std.proofs.Common.{◌≡◌, ◌≢◌, ℕ, ◌+◌, ◌^◌, ◌<◌, ⊎_elim, true, false, cond, nat_lt, List, [], ◌∷◌, ◌++◌, length, map, get_or, set, refl, sym, ap, ◌∙◌, subst, arith}
+use Rattle.std.proofs.Common.{◌≡◌, ◌≢◌, ℕ, ◌<◌, ⊎_elim, true, cond, List, [], ◌∷◌, ◌++◌, length, map, get_or, set, refl, sym, ap, ◌∙◌, subst, arith}
 use Rattle.std.specs.Prelude.{Option, Some, None}
 use Rattle.std.specs.Cmp.Derive.{both_true}
 use Rattle.std.proofs.lemmas.Bool.{lt-ltb}
@@ -12,7 +12,7 @@ use Rattle.atomic_table.specs.Table.{State, Me, keeps, Allows, stepped as table_
 use Rattle.atomic_table.proofs.Lists.{at_set}
 use Rattle.rht_words.specs.declared.op.Op.{Op}
 use Rattle.rht_words.specs.declared.env.Env.{Env}
-use Rattle.rht_words.specs.Operations.{op_place, old_of, word_after, applied}
+use Rattle.rht_words.specs.Operations.{op_place, old_of, word_after}
 use Rattle.rht_words.proofs.EachElement.{AllByRecursion-append}
 use Rattle.rht_model.specs.declared.history.Call.{Call}
 use Rattle.rht_core.specs.declared.event.Event.{Event}
@@ -27,7 +27,7 @@ use Rattle.rht_core.proofs.Events.RangesInRuns.{in_range, enrolled}
 use Rattle.rht_run.specs.declared.seats.Held.{Held}
 use Rattle.rht_run.specs.declared.seats.SeatView.{SeatView}
 use Rattle.rht_run.specs.Layout.{physical_place, IsLaidOut}
-use Rattle.rht_run.specs.Rule.{In, view_in, Shows, IsHeldIn, Holds, MayBegin, CanGo, IsInRun, held_then, held_stepped, begun, stepped, Went}
+use Rattle.rht_run.specs.Rule.{view_in, Shows, IsHeldIn, Holds, MayBegin, CanGo, IsInRun, held_then, held_stepped, begun, stepped, Went}
 use Rattle.rht_run.proofs.LaidWords.{laid-set}
 use Rattle.rht_run.proofs.ViewLists.{set_twice, set_there, only, in_one}
 

@@ -14,7 +14,7 @@ use Rattle.rht_run.specs.declared.table.Table.{Table}
 use Rattle.rht_run.specs.declared.pass.Pass.{Pass}
 use Rattle.rht_run.specs.Layout.{physical, IsLaidOut}
 use Rattle.rht_run.specs.Rule.{In, Holds, held_at, joined, spent_view}
-use Rattle.rht_run.specs.Passes.{IsFit, IsPassOf, Among, HasTaken, IsEnd, IsLaidEnd, seen_by}
+use Rattle.rht_run.specs.Passes.{IsFit, IsPassOf, Among, HasTaken, IsLaidEnd, seen_by}
 use Rattle.rht_run.proofs.ViewLists.{in_last}
 use Rattle.rht_run.proofs.SeatMoves.{joins}
 

@@ -1,7 +1,6 @@
 -- Words that lie apart are still words, one by one: no two places lie together, so what is set at one physical place is set at
 -- that place of the words, and nowhere else.
-use Rattle.std.proofs.Common.{◌≡◌, ◌≢◌, ℕ, zero, suc, ◌+◌, ◌*◌, ◌<◌, ◌≤◌, cond, List, length, map, get_or, set, replicate, refl, sym, ap, ◌∙◌, subst, arith, length-set, get_or-set_same, get_or-set_other}
-use Rattle.std.specs.List.{range_with_len}
+use Rattle.std.proofs.Common.{◌≡◌, ◌≢◌, ℕ, ◌+◌, ◌*◌, ◌<◌, ◌≤◌, cond, List, length, get_or, set, replicate, sym, ap, ◌∙◌, subst, arith, length-set, get_or-set_same, get_or-set_other}
 use Rattle.std.proofs.lemmas.Bool.{lt-ltb, le-ltb}
 use Rattle.std.proofs.lemmas.List.{length-replicate}
 use Rattle.std.proofs.lemmas.List.FromFn.{get_or-map-range_with_len}
@@ -11,7 +10,7 @@ use Rattle.rht_words.specs.declared.env.Env.{Env}
 use Rattle.rht_words.specs.Opening.{opening_word, opening_words}
 use Rattle.rht_words.specs.Places.{address_at, words_in}
 use Rattle.rht_words.proofs.OpeningLaws.{stand_in_place}
-use Rattle.rht_run.specs.Layout.{gaps, physical, IsLaidOut}
+use Rattle.rht_run.specs.Layout.{physical, IsLaidOut}
 
 low : (p : ℕ) → p < 24 → physical p ≡ 8 * p
 unfolding physical

@@ -1,6 +1,6 @@
 -- How a table is opened. The first seat draws the numbers from 0 on and hands out the greatest one each time, so it is always
 -- known which numbers it has: those below the next one.
-use Rattle.std.proofs.Common.{◌≡◌, ◌≢◌, ℕ, zero, suc, ◌+◌, ◌%◌, ◌^◌, ◌<◌, inl, inr, ⊎_elim, List, [], ◌∷◌, refl, sym, ap, ◌∙◌, subst, arith, add-one}
+use Rattle.std.proofs.Common.{◌≡◌, ◌≢◌, ℕ, zero, suc, ◌+◌, ◌%◌, ◌^◌, ◌<◌, inl, inr, ⊎_elim, [], ◌∷◌, refl, sym, ap, ◌∙◌, subst, arith, add-one}
 use Rattle.std.specs.Prelude.{Some}
 use Rattle.atomic_table.specs.declared.shared.Seat.{Seat}
 use Rattle.atomic_table.specs.Table.{Allows, Splits}
@@ -12,7 +12,7 @@ use Rattle.rht_run.specs.declared.seats.SeatView.{SeatView}
 use Rattle.rht_run.specs.declared.table.Table.{Table}
 use Rattle.rht_run.specs.declared.pass.Pass.{Pass}
 use Rattle.rht_run.specs.Layout.{physical}
-use Rattle.rht_run.specs.Rule.{In, Shows, Holds, IsInRun, first_view, idle_held, held_at, drew, Drew, drawn_held, opening_view, others, newest, split_left, split_right}
+use Rattle.rht_run.specs.Rule.{In, Shows, Holds, IsInRun, first_view, idle_held, drew, Drew, drawn_held, opening_view, others, newest, split_left, split_right}
 use Rattle.rht_run.specs.Passes.{IsFit, IsOpening, IsNew, book_of, book_in}
 use Rattle.rht_run.proofs.LaidWords.{physical_enrolled}
 use Rattle.rht_run.proofs.SeatMoves.{draws, splits}

@@ -1,7 +1,7 @@
 -- What one operation of a pass asks of its table, and what it leaves.
 -- The operation that a pass plans is one that its seat may make, since the pass is as one run has its number; and behind it the
 -- pass is so again.
-use Rattle.std.proofs.Common.{◌≡◌, ℕ, ◌+◌, ◌^◌, ◌<◌, ◌≤◌, false, List, [], ◌∷◌, ◌++◌, map, refl, sym, ap, ◌∙◌, subst, arith}
+use Rattle.std.proofs.Common.{◌≡◌, ℕ, ◌<◌, false, List, [], ◌∷◌, ◌++◌, map, sym, ap, ◌∙◌, subst, arith}
 use Rattle.std.specs.Prelude.{Option, Some, None}
 use Rattle.atomic_table.specs.Table.{Allows}
 use Rattle.atomic_table.specs.declared.shared.Seat.{Seat}
@@ -18,8 +18,8 @@ use Rattle.rht_core.specs.declared.event.Event.TheVariants.{Begin}
 use Rattle.rht_core.specs.declared.book.Book.{Book}
 use Rattle.rht_core.specs.declared.local.Local.{Local}
 use Rattle.rht_core.specs.declared.local.Doing.{Doing}
-use Rattle.rht_core.specs.Locals.{does_nothing, is_idle, begun_with, plan_of, local_after, owners_room}
-use Rattle.rht_core.specs.Runs.{World, View, view_of, local_of, run_of, world_step, IsAdmitted}
+use Rattle.rht_core.specs.Locals.{is_idle, begun_with, plan_of, local_after}
+use Rattle.rht_core.specs.Runs.{World, View, local_of, run_of, IsAdmitted}
 use Rattle.rht_core.specs.Laws.{view_stepped, IsLocalIn}
 use Rattle.rht_core.proofs.Events.Worlds.{run_of-push}
 use Rattle.rht_core.proofs.Events.BusyCallers.{busy_plans, begun_busy}
@@ -30,7 +30,7 @@ use Rattle.rht_run.specs.declared.seats.SeatView.{SeatView}
 use Rattle.rht_run.specs.declared.table.Table.{Table}
 use Rattle.rht_run.specs.declared.pass.Pass.{Pass}
 use Rattle.rht_run.specs.Layout.{physical}
-use Rattle.rht_run.specs.Rule.{Shows, Holds, MayBegin, CanGo, HasRoom, IsInRun, Went, view_in, held_at, book_then, local_then, view_then, held_then, held_stepped, begun, stepped}
+use Rattle.rht_run.specs.Rule.{Shows, Holds, CanGo, HasRoom, Went, view_in, held_at, local_then, view_then, held_then, held_stepped}
 use Rattle.rht_run.specs.Passes.{CanPerform, IsSameSeat, IsPassOf, IsSamePass, HasGone, book_in, book_of, seen_by}
 use Rattle.rht_run.proofs.LaidWords.{physical_below}
 use Rattle.rht_run.proofs.ViewLists.{in_one}

@@ -1,7 +1,7 @@
 -- Opening a table, drawing a number, handing one out and joining two seats keep the rule.
 -- A number that is drawn is the count of enrolled callers, and no view has it yet, since each view's numbers are below that
 -- count. Splitting and joining are no events: they change which seat owns a number.
-use Rattle.std.proofs.Common.{◌≡◌, ◌≢◌, ℕ, ◌+◌, ◌%◌, ◌^◌, ◌<◌, ◌≤◌, ◌⊎◌, inl, inr, ⊎_elim, cond, nat_eq, nat_lt, max, List, [], ◌∷◌, ◌++◌, length, get_or, set, refl, sym, ap, ◌∙◌, subst, arith, length-set, get_or-set_same}
+use Rattle.std.proofs.Common.{◌≡◌, ◌≢◌, ℕ, ◌+◌, ◌%◌, ◌^◌, ◌<◌, ◌⊎◌, inl, inr, ⊎_elim, cond, nat_eq, max, List, [], ◌∷◌, ◌++◌, length, get_or, set, refl, sym, ap, ◌∙◌, subst, arith, length-set, get_or-set_same}
 use Rattle.std.specs.Prelude.{Option, Some, None}
 use Rattle.std.proofs.lemmas.Bool.{lt-ltb, eq-eqb, ne_eqb}
 use mathlib.Core.Option.{some}
@@ -21,10 +21,10 @@ use Rattle.rht_core.proofs.Events.CallersNotEnrolled.{all-fresh}
 use Rattle.rht_run.specs.declared.seats.Held.{Held}
 use Rattle.rht_run.specs.declared.seats.SeatView.{SeatView}
 use Rattle.rht_run.specs.Layout.{physical, IsLaidOut}
-use Rattle.rht_run.specs.Rule.{In, Shows, IsHeldIn, IsDrawer, Holds, first_view, idle_held, drew, Drew, others, newest, split_left, split_right, either_drawn, joined, spent_view}
+use Rattle.rht_run.specs.Rule.{In, Shows, Holds, first_view, idle_held, drew, Drew, others, newest, split_left, split_right, either_drawn, joined, spent_view}
 use Rattle.rht_run.proofs.LaidWords.{laid-set, physical_enrolled}
 use Rattle.rht_run.proofs.ViewLists.{at_one, at_push, set_there, only, in_append}
-use Rattle.rht_run.proofs.CallerEvents.{S, admitted_more, in_run}
+use Rattle.rht_run.proofs.CallerEvents.{admitted_more, in_run}
 
 -- a choice by whether two numbers are the same
 same_as : (n m a b : ℕ) → n ≡ m → cond (nat_eq n m) a b ≡ a

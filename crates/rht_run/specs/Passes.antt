@@ -1,5 +1,5 @@
 -- What clauses say of a table and its passes.
-use Rattle.std.specs.Prelude.{◌≡◌, ℕ, ◌+◌, ◌⊎◌, true, false, Option, Some, None, MatchOption, List, [], ◌∷◌, ◌++◌, length}
+use Rattle.std.specs.Prelude.{◌≡◌, ℕ, ◌+◌, ◌⊎◌, true, false, Option, Some, MatchOption, List, [], ◌∷◌, ◌++◌, length}
 use Rattle.atomic_table.specs.declared.shared.Seat.{Seat}
 use Rattle.rht_words.specs.declared.op.Op.{Op}
 use Rattle.rht_words.specs.declared.env.Env.{Env}
@@ -9,7 +9,6 @@ use Rattle.rht_model.specs.declared.history.Call.{Call}
 use Rattle.rht_model.specs.declared.history.Reply.{Reply}
 use Rattle.rht_core.specs.declared.event.Event.{Event}
 use Rattle.rht_core.specs.declared.book.Book.{Book}
-use Rattle.rht_core.specs.declared.local.Local.{Local}
 use Rattle.rht_core.specs.Locals.{fresh, is_idle, plan_of, local_after}
 use Rattle.rht_core.specs.Runs.{View, new_book, run_of, IsAdmitted}
 use Rattle.rht_core.specs.Laws.{view_stepped}
@@ -18,7 +17,7 @@ use Rattle.rht_run.specs.declared.seats.SeatView.{SeatView}
 use Rattle.rht_run.specs.declared.table.Table.{Table}
 use Rattle.rht_run.specs.declared.pass.Pass.{Pass}
 use Rattle.rht_run.specs.Layout.{gaps, IsLaidOut}
-use Rattle.rht_run.specs.Rule.{In, Shows, IsInRun, CanGo, Went, held_at, held_then, local_then, view_then, opening_view}
+use Rattle.rht_run.specs.Rule.{In, Shows, IsInRun, CanGo, held_at, held_then, local_then, view_then, opening_view}
 
 -- the table's words are those of its config, and the rule speaks of that config
 pub record IsFit {M : Type 0} (t : Table M) : Type 0 where

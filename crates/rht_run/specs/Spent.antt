@@ -1,9 +1,8 @@
 -- The table that a spent view names. Nothing is held there.
-use Rattle.std.specs.Prelude.{ℕ}
 use Rattle.std.proofs.Common.{lit≤, refl}
 use Rattle.rht_words.specs.declared.env.Env.{Env}
 use Rattle.rht_words.specs.Settled.{IsSettled, plain_config}
-use Rattle.rht_words.specs.Sizes.{IsGreatestSize, rounded_up, powers}
+use Rattle.rht_words.specs.Sizes.{rounded_up, powers}
 
 -- its config is settled
 pub plain_settled : IsSettled plain_config

@@ -1,8 +1,6 @@
 use Rattle.std.proofs.Common.{◌<◌, ℕ, ◌+◌, List, set, sym, subst, arith}
 use Rattle.rht_words.specs.Places.{words_in}
-use Rattle.rht_run.specs.Layout.{physical, IsLaidOut}
-use Rattle.rht_words.specs.Opening.{opening_words}
-use Rattle.rht_run.proofs.LaidWords.{IsLaidUpTo, physical_below, nothing_laid, one_more_laid, all_laid}
+use Rattle.rht_run.proofs.LaidWords.{IsLaidUpTo, physical_below, one_more_laid, all_laid}
 use Rattle.rht_run.proofs.layout.opening_laid.Goals as goal
 
 pub index_mut-requires : goal.index_mut-requires

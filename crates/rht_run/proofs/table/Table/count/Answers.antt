@@ -1,6 +1,4 @@
-use Rattle.std.proofs.Common.{refl, ◌∙◌, sym}
-use Rattle.rht_model.specs.declared.history.Call.TheVariants.{Count}
-use Rattle.rht_run.proofs.CallSteps.{answered}
+use Rattle.std.proofs.Common.{refl}
 use Rattle.rht_run.proofs.table.Table.count.Goals as goal
 
 pub start-requires-clause-may : goal.start-requires-clause-may

@@ -1,4 +1,4 @@
-use Rattle.std.proofs.Common.{ℕ, ◌<◌, ◌∙◌, inr, length, sym, subst, arith}
+use Rattle.std.proofs.Common.{◌<◌, ◌∙◌, inr, length, sym, subst, arith}
 use Rattle.rht_run.specs.declared.pass.Pass.{Pass}
 use Rattle.rht_run.specs.Rule.{held_at}
 use Rattle.rht_run.specs.Passes.{Among, HasTaken, seen_by}

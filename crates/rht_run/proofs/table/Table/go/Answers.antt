@@ -1,10 +1,9 @@
-use Rattle.std.proofs.Common.{◌≡◌, ◌∙◌, ap, subst, sym}
-use Rattle.std.specs.Prelude.{Option, Some}
+use Rattle.std.proofs.Common.{◌∙◌, ap, subst, sym}
+use Rattle.std.specs.Prelude.{Option}
 use Rattle.rht_model.specs.declared.history.Call.{Call}
 use Rattle.rht_core.specs.Locals.{plan_of}
-use Rattle.rht_run.specs.Rule.{local_then}
 use Rattle.rht_run.specs.Passes.{CanPerform}
-use Rattle.rht_run.proofs.Performed.{room_for, plans_some, ready, still}
+use Rattle.rht_run.proofs.Performed.{room_for, ready}
 use Rattle.rht_run.proofs.table.Table.go.Goals as goal
 
 pub begin_if-requires : goal.begin_if-requires
