@@ -8,6 +8,8 @@ pub mod RangesInRuns
 pub mod CallersNotEnrolled
 -- how a call begins, and that who is in no call plans no operation
 pub mod CallBeginnings
+-- who is in a call plans an operation, and leaves the call with its reply
+pub mod BusyCallers
 -- what is so of a machine that goes on is so of what its caller does next
 pub mod NextDoings
 -- the room of owners lies with its caller or in a listing, and has a place for each node

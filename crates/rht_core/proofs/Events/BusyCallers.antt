@@ -1,0 +1,79 @@
+-- A caller in a call: it plans an operation, one that begins with a call is in it, and it leaves the call exactly where its
+-- operation has given the call a reply.
+use Rattle.std.proofs.Common.{◌≡◌, ℕ, true, false, refl, sym, ap, ◌∙◌, subst}
+use Rattle.std.specs.Prelude.{Option, Some, None, MatchOption}
+use Rattle.rht_words.specs.declared.op.Op.{Op}
+use Rattle.rht_words.specs.declared.env.Env.{Env}
+use Rattle.rht_words.specs.declared.machine.Next.{Next}
+use Rattle.rht_words.specs.declared.machine.Next.TheVariants.{Go, Done}
+use Rattle.rht_model.specs.declared.history.Call.{Call}
+use Rattle.rht_model.specs.declared.history.Reply.{Reply}
+use Rattle.rht_find.specs.Find.{find_after}
+use Rattle.rht_bind.specs.Bind.{bind_after}
+use Rattle.rht_release.specs.All.{all_after}
+use Rattle.rht_release.specs.Release.{release_after}
+use Rattle.rht_release.specs.Rebind.{rebind_after}
+use Rattle.rht_core.specs.PortCounts.{count_after}
+use Rattle.rht_core.specs.declared.local.Local.{Local}
+use Rattle.rht_core.specs.declared.local.Doing.{Doing}
+use Rattle.rht_core.specs.declared.local.Doing.TheVariants.{Idle, Finding, Binding, Releasing, Rebinding, Listing, Counting}
+use Rattle.rht_core.specs.Locals.{does_nothing, is_idle, machine_of, doing_plan, plan_of, doing_next, doing_after, local_after, without_node}
+use Rattle.rht_core.proofs.Events.CallBeginnings.{begins_so}
+
+module _ (M : Type 0) where
+  -- who is in a call plans an operation
+  doing_plans : (doing : Doing M) → does_nothing doing ≡ false → doing_plan doing ≡ None → ⊥
+  doing_plans Idle busy none = absurd (cc)
+  doing_plans (Finding m) busy none = absurd (cc)
+  doing_plans (Binding m) busy none = absurd (cc)
+  doing_plans (Listing m) busy none = absurd (cc)
+  doing_plans (Releasing m) busy none = absurd (cc)
+  doing_plans (Rebinding m) busy none = absurd (cc)
+  doing_plans (Counting m) busy none = absurd (cc)
+
+  pub busy_plans : (local : Local M) → is_idle local ≡ false → plan_of local ≡ None → ⊥
+  busy_plans local busy none = doing_plans local.doing busy none
+
+  -- who begins is in a call
+  pub begun_busy : (env : Env) (c : ℕ) (call : Call) (machine : Doing M) → machine_of env c call ≡ Some machine
+      → does_nothing machine ≡ false
+  begun_busy env c =
+      begins_so M env c (λ call machine. does_nothing machine ≡ false) (λ port. refl) (λ port owner once. refl)
+      (λ port. refl) (λ port owner. refl) (λ port owner new single. refl) refl
+
+  -- it goes on without a reply, or has one and is idle
+  abbrev pub Ends : Doing M × Option Reply → Type 0
+  Ends next = MatchOption next.1 (does_nothing next.0 ≡ false) (λ reply. does_nothing next.0 ≡ true)
+
+  next_ends : {A : Type 0} (doing : A → Doing M) → ((m : A) → does_nothing (doing m) ≡ false)
+      → (next : A × Next Reply) → Ends (doing_next doing next)
+  next_ends doing busy (m, Go) = busy m
+  next_ends doing busy (m, Done reply) = refl
+
+  doing_ends : (mix : ℕ → ℕ → ℕ → ℕ) (doing : Doing M) (old : ℕ) → does_nothing doing ≡ false
+      → Ends (doing_after mix doing old)
+  doing_ends mix Idle old busy = absurd (cc)
+  doing_ends mix (Finding m) old busy = next_ends Finding (λ n. refl) (find_after mix m old)
+  doing_ends mix (Binding m) old busy = next_ends Binding (λ n. refl) (bind_after mix m old)
+  doing_ends mix (Listing m) old busy = next_ends Listing (λ n. refl) (all_after mix m old)
+  doing_ends mix (Releasing m) old busy =
+      let next = release_after mix m old in next_ends Releasing (λ n. refl) (next.0, without_node next.1)
+  doing_ends mix (Rebinding m) old busy =
+      let next = rebind_after mix m old in next_ends Rebinding (λ n. refl) (next.0, without_node next.1)
+  doing_ends mix (Counting m) old busy = next_ends Counting (λ n. refl) (count_after m old)
+
+  -- an operation that gives no reply leaves its caller in the call
+  pub goes_on : (mix : ℕ → ℕ → ℕ → ℕ) (local : Local M) (old : ℕ) → is_idle local ≡ false
+      → (local_after mix local old).1 ≡ None → is_idle (local_after mix local old).0 ≡ false
+  goes_on mix local old busy none =
+      let next = doing_after mix local.doing old in
+      subst (λ r. MatchOption r (does_nothing next.0 ≡ false) (λ reply. does_nothing next.0 ≡ true)) none
+      (doing_ends mix local.doing old busy)
+
+  -- and one that gives a reply ends it
+  pub ends : (mix : ℕ → ℕ → ℕ → ℕ) (local : Local M) (old : ℕ) (reply : Reply) → is_idle local ≡ false
+      → (local_after mix local old).1 ≡ Some reply → is_idle (local_after mix local old).0 ≡ true
+  ends mix local old reply busy some =
+      let next = doing_after mix local.doing old in
+      subst (λ r. MatchOption r (does_nothing next.0 ≡ false) (λ answer. does_nothing next.0 ≡ true)) some
+      (doing_ends mix local.doing old busy)

@@ -1,0 +1,16 @@
+-- words that lie apart are still words, one by one
+pub mod LaidWords
+-- members of lists, and lists changed at one place
+pub mod ViewLists
+-- an event of the caller that a seat has keeps the rule
+pub mod CallerEvents
+-- opening a table, drawing and handing out numbers, and joining seats keep the rule
+pub mod SeatMoves
+-- what one operation of a pass asks of its table, and leaves
+pub mod Performed
+-- from one operation to a call, and what a finished call was answered
+pub mod CallSteps
+-- how a table is opened
+pub mod OpenedTables
+-- how a table is closed
+pub mod ClosedTables

@@ -1,0 +1,18 @@
+use Rattle.std.proofs.Common.{refl, arith}
+use Rattle.rht_model.specs.declared.history.Call.TheVariants.{All}
+use Rattle.rht_run.proofs.CallSteps.{answered}
+use Rattle.rht_run.proofs.table.Table.all.Goals as goal
+
+pub call-requires-clause-may : goal.call-requires-clause-may
+call-requires-clause-may g c =
+    record { idle = c.requires.idle; admitted = omega (arith, c.ranges.port); built = tt; machine = _; machine_is = refl }
+
+pub returns-clause-reply : goal.returns-clause-reply
+returns-clause-reply g c =
+    (answered g.M.Mix.mix_of c.args.self.now (All c.args.port) c.call.result c.args.pass.now c.call.new.pass
+    c.call.ensures).reply
+
+pub returns-clause-owners : goal.returns-clause-owners
+returns-clause-owners g c =
+    (answered g.M.Mix.mix_of c.args.self.now (All c.args.port) c.call.result c.args.pass.now c.call.new.pass
+    c.call.ensures).owners

@@ -1,0 +1,13 @@
+use Rattle.std.proofs.Common.{refl, arith, false}
+use Rattle.rht_model.specs.declared.history.Call.TheVariants.{Bind}
+use Rattle.rht_run.proofs.CallSteps.{answered}
+use Rattle.rht_run.proofs.table.Table.bind.Goals as goal
+
+pub call-requires-clause-may : goal.call-requires-clause-may
+call-requires-clause-may g c =
+    record { idle = c.requires.idle; admitted = (omega (arith, c.ranges.port), omega (arith, c.ranges.owner)); built = tt; machine = _; machine_is = refl }
+
+pub returns-clause-reply : goal.returns-clause-reply
+returns-clause-reply g c =
+    (answered g.M.Mix.mix_of c.args.self.now (Bind c.args.port c.args.owner false) c.call.result c.args.pass.now c.call.new.pass
+    c.call.ensures).reply

@@ -1,0 +1,13 @@
+use Rattle.std.proofs.Common.{refl, arith}
+use Rattle.rht_model.specs.declared.history.Call.TheVariants.{Release}
+use Rattle.rht_run.proofs.CallSteps.{answered}
+use Rattle.rht_run.proofs.table.Table.release.Goals as goal
+
+pub call-requires-clause-may : goal.call-requires-clause-may
+call-requires-clause-may g c =
+    record { idle = c.requires.idle; admitted = (omega (arith, c.ranges.port), omega (arith, c.ranges.owner)); built = tt; machine = _; machine_is = refl }
+
+pub returns-clause-reply : goal.returns-clause-reply
+returns-clause-reply g c =
+    (answered g.M.Mix.mix_of c.args.self.now (Release c.args.port c.args.owner) c.call.result c.args.pass.now c.call.new.pass
+    c.call.ensures).reply

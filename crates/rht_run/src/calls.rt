@@ -1,0 +1,147 @@
+//! The calls. Each makes one operation after another until one of them has its reply.
+
+ghost use Rattle.std.specs.Prelude.{◌≡◌, ℕ, ◌+◌, true, false, None, Some};
+ghost use Rattle.rht_words.specs.declared.config.Kind.TheVariants.{Single};
+ghost use Rattle.rht_model.specs.declared.history.Call.{Call as CallOf};
+ghost use Rattle.rht_model.specs.declared.history.Call.TheVariants.{Find, Bind, Release, Rebind, All, Count};
+ghost use Rattle.rht_core.specs.Locals.{is_idle};
+ghost use Rattle.rht_core.specs.Replies.{IsFindReply, IsBindReply, IsReleaseReply, IsRebindReply, IsAllReply, IsCountReply, AreOwnersWith};
+ghost use Rattle.rht_run.specs.declared.pass.Pass.{Pass as PassOf};
+ghost use Rattle.rht_run.specs.Rule.{MayBegin};
+ghost use Rattle.rht_run.specs.Passes.{IsPassOf, IsCalling, HasCalled, Turned, HasGone};
+
+use crate::pass::Pass;
+use crate::table::Table;
+use rht_model::{Call, Reply};
+use rht_policy::Mix;
+use rht_words::Port;
+use std::marker::Brand;
+use std::sync::Wait;
+
+impl<M: Mix> Table<M> {
+    /// The first operation of a call.
+    fn start(&self, pass: &mut Pass<M>, call: Call) -> Option<Reply>
+        requires pass { IsPassOf M.mix_of self.now pass.old }
+        requires may { MayBegin self.now.env pass.old.number call pass.old.local }
+        ensures turned { Turned M.mix_of self.now call 1 pass.old result pass.new }
+        ensures gone { HasGone M.mix_of self.now (Some call) pass.old result pass.new }
+    {
+        self.go::<Brand>(pass, Some(call))
+    }
+
+    /// The next operation of the call in progress.
+    fn step(&self, pass: &mut Pass<M>) -> Option<Reply>
+        requires pass { IsPassOf M.mix_of self.now pass.old }
+        requires busy { is_idle pass.old.local ≡ false }
+        ensures { (call : CallOf) (steps : ℕ) (before : PassOf M) → IsCalling M.mix_of self.now call steps before pass.old
+            → Turned M.mix_of self.now call (steps + 1) before result pass.new }
+    {
+        self.go::<Brand>(pass, None)
+    }
+
+    /// A call that may wait for other callers.
+    fn call<R: Wait>(&self, rt: &R, pass: &mut Pass<M>, call: Call) -> Reply
+        requires pass { IsPassOf M.mix_of self.now pass.old }
+        requires may { MayBegin self.now.env pass.old.number call pass.old.local }
+        ensures { HasCalled M.mix_of self.now call result pass.old pass.new }
+    {
+        if let Some(reply) = self.start(pass, call) {
+            return reply;
+        }
+        for _ in rt.forever() {
+            if let Some(reply) = self.step(pass) {
+                return reply;
+            }
+        }
+        unreachable!()
+    }
+
+    /// Looks a port up: `Found` with its first owner, or `Missing`. It takes a bucket's lock, for
+    /// which it may wait. The kernel's counterpart is `rhashtable_lookup`.
+    pub fn find<R: Wait>(&self, rt: &R, pass: &mut Pass<M>, port: Port) -> Reply
+        requires pass { IsPassOf M.mix_of self.now pass.old }
+        requires idle { is_idle pass.old.local ≡ true }
+        ensures called { HasCalled M.mix_of self.now (Find port) result pass.old pass.new }
+        ensures reply { IsFindReply result }
+    {
+        self.call(rt, pass, Call::Find { port })
+    }
+    /// Binds a port to an owner, and is tried once alone: it may answer `Again`. The kernel's
+    /// counterparts are `rhashtable_lookup_insert_key` and `rhltable_insert_key`.
+    pub fn bind_once<R: Wait>(&self, rt: &R, pass: &mut Pass<M>, port: Port, owner: u32) -> Reply
+        requires pass { IsPassOf M.mix_of self.now pass.old }
+        requires idle { is_idle pass.old.local ≡ true }
+        ensures called { HasCalled M.mix_of self.now (Bind port owner true) result pass.old pass.new }
+        ensures reply { IsBindReply true result }
+    {
+        let once = true;
+        self.call(rt, pass, Call::Bind { port, owner, once })
+    }
+
+    /// Binds a port to an owner, and tries again where `bind_once` answers `Again`.
+    pub fn bind<R: Wait>(&self, rt: &R, pass: &mut Pass<M>, port: Port, owner: u32) -> Reply
+        requires pass { IsPassOf M.mix_of self.now pass.old }
+        requires idle { is_idle pass.old.local ≡ true }
+        ensures called { HasCalled M.mix_of self.now (Bind port owner false) result pass.old pass.new }
+        ensures reply { IsBindReply false result }
+    {
+        let once = false;
+        self.call(rt, pass, Call::Bind { port, owner, once })
+    }
+
+    /// Takes one binding of a port to this owner out: `Released`, or `Absent` where there is none.
+    /// The kernel's counterpart is `rhashtable_remove_fast`.
+    pub fn release<R: Wait>(&self, rt: &R, pass: &mut Pass<M>, port: Port, owner: u32) -> Reply
+        requires pass { IsPassOf M.mix_of self.now pass.old }
+        requires idle { is_idle pass.old.local ≡ true }
+        ensures called { HasCalled M.mix_of self.now (Release port owner) result pass.old pass.new }
+        ensures reply { IsReleaseReply result }
+    {
+        self.call(rt, pass, Call::Release { port, owner })
+    }
+
+    /// Puts a new owner in the only one's place, in a table of one owner each: `Rebound`, `Absent`
+    /// where the port isn't bound to this owner, or `NoNode`. The kernel's counterpart is
+    /// `rhashtable_replace_fast`.
+    pub fn rebind<R: Wait>(
+        &self,
+        rt: &R,
+        pass: &mut Pass<M>,
+        port: Port,
+        owner: u32,
+        new: u32,
+    ) -> Reply
+        requires pass { IsPassOf M.mix_of self.now pass.old }
+        requires idle { is_idle pass.old.local ≡ true }
+        requires single { self.now.env.config.kind ≡ Single }
+        ensures called { HasCalled M.mix_of self.now (Rebind port owner new) result pass.old pass.new }
+        ensures reply { IsRebindReply result }
+    {
+        self.call(rt, pass, Call::Rebind { port, owner, new })
+    }
+
+    /// Lists the owners of a port: `Listed`, and they stand in `Pass::owners`. The kernel's
+    /// counterpart is `rhltable_lookup`.
+    pub fn all<R: Wait>(&self, rt: &R, pass: &mut Pass<M>, port: Port) -> Reply
+        requires pass { IsPassOf M.mix_of self.now pass.old }
+        requires idle { is_idle pass.old.local ≡ true }
+        ensures called { HasCalled M.mix_of self.now (All port) result pass.old pass.new }
+        ensures reply { IsAllReply result }
+        ensures owners { AreOwnersWith result pass.new.local.owners.items }
+    {
+        self.call(rt, pass, Call::All { port })
+    }
+
+    /// Counts the bound ports: `Counted`. It waits for nobody.
+    pub fn count(&self, pass: &mut Pass<M>) -> Reply
+        requires pass { IsPassOf M.mix_of self.now pass.old }
+        requires idle { is_idle pass.old.local ≡ true }
+        ensures called { HasCalled M.mix_of self.now Count result pass.old pass.new }
+        ensures reply { IsCountReply result }
+    {
+        let Some(reply) = self.start(pass, Call::Count) else {
+            unreachable!()
+        };
+        reply
+    }
+}

@@ -1,0 +1,26 @@
+//! The running table: all shared state lies in the words of one table, and callers step through it
+//! in threads of their own.
+//!
+//! Stands on `rht_core`, whose machines it runs, and on the kit's `atomic_table`, whose rule ties
+//! the words to one run. Nothing else is shared. `rht_registry` will run scripts on it.
+//! Read `specs/Rule.antt` first, which is the rule, and then `specs/Passes.antt`, which is what the
+//! calls promise.
+#![tactic(auto)]
+
+mod calls;
+mod closing;
+mod layout;
+mod opening;
+mod pass;
+pub mod plays;
+mod seats;
+mod steps;
+mod table;
+
+pub use closing::NotClosed;
+pub use pass::Pass;
+pub use seats::{Held, SeatView};
+pub use table::Table;
+
+#[cfg(test)]
+mod tests;

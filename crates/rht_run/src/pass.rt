@@ -1,0 +1,33 @@
+//! Passes, by which callers step through a table.
+
+ghost use Rattle.std.specs.Prelude.{◌≡◌, true, None};
+ghost use Rattle.std.specs.List.{last_or};
+ghost use Rattle.rht_core.specs.Locals.{is_idle};
+ghost use Rattle.rht_core.specs.Replies.{owners_with};
+ghost use Rattle.rht_run.specs.declared.table.Table.{Table as TableOf};
+ghost use Rattle.rht_run.specs.Passes.{IsPassOf, book_of};
+
+use crate::seats::SeatView;
+use atomic_table::Seat;
+use rht_core::Local;
+use rht_policy::Mix;
+
+/// One caller's token: whoever has it makes the caller's calls. It can't be copied.
+#[derive(Drop)]
+pub struct Pass<M: Mix> {
+    pub(crate) seat: Seat<(), SeatView<M>>,
+    pub(crate) number: u32,
+    pub(crate) local: Local<M>,
+}
+
+impl<M: Mix> Pass<M> {
+    /// The owners that came with the pass's last finished call, where that answered `Listed`, in the
+    /// order of the port's list; otherwise none.
+    pub fn owners(&self) -> &[u32]
+        ensures owners { result.now ≡ self.now.local.owners.items }
+        ensures last { (t : TableOf M) → IsPassOf M.mix_of t self.now → is_idle self.now.local ≡ true
+            → result.now ≡ owners_with (last_or None (book_of self.now).finished) }
+    {
+        self.local.owners()
+    }
+}

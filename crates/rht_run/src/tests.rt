@@ -1,0 +1,160 @@
+//! Each call once, and two threads. The replies are worked out by hand from what the calls say.
+
+ghost use Rattle.std.specs.Prelude.{◌≡◌, true, IfSome};
+ghost use Rattle.rht_words.specs.declared.config.Kind.TheVariants.{Single};
+ghost use Rattle.rht_core.specs.Locals.{is_idle};
+ghost use Rattle.rht_run.specs.Passes.{IsPassOf, AreNew, IsNew};
+
+use super::{Pass, Table};
+use rht_model::Reply;
+use rht_policy::{Low, Mix};
+use rht_words::{Config, Hash, Kind, Port};
+use std::alloc::{AllocError, Global};
+use std::sync::Wait;
+use std::test::Fail;
+use std::thread::{Threads, join};
+
+const SMALL: Config = Config {
+    kind: Kind::Single,
+    nodes: 8,
+    pages: 4,
+    callers: 1,
+    hint: 0,
+    min: 4,
+    max: 0,
+    seed: 1,
+    rewalks: 1,
+    hash: Hash::Low,
+    shrink: false,
+};
+
+/// The only pass of a new table.
+fn only<M: Mix>(table: &Table<M>, mut passes: Vec<Pass<M>>) -> Option<Pass<M>>
+    requires { AreNew M.mix_of table.now 0 passes.items }
+    ensures { IfSome result (λ pass. IsNew M.mix_of table.now 0 pass) }
+{
+    if passes.len() != 1 {
+        return None;
+    }
+    passes.pop()
+}
+
+/// Makes each call, and `all` last.
+fn each_call<M: Mix, R: Wait>(rt: &R, table: &Table<M>, pass: &mut Pass<M>) -> [Reply; 8]
+    requires pass { IsPassOf M.mix_of table.now pass.old }
+    requires idle { is_idle pass.old.local ≡ true }
+    requires single { table.now.env.config.kind ≡ Single }
+    ensures pass { IsPassOf M.mix_of table.now pass.new }
+{
+    let bound = table.bind(rt, pass, 5, 9);
+    let exists = table.bind_once(rt, pass, 5, 3);
+    let found = table.find(rt, pass, 5);
+    let rebound = table.rebind(rt, pass, 5, 9, 4);
+    let other = table.bind(rt, pass, 6, 2);
+    let released = table.release(rt, pass, 6, 2);
+    let counted = table.count(pass);
+    let listed = table.all(rt, pass, 5);
+    [
+        bound, exists, found, rebound, other, released, counted, listed,
+    ]
+}
+
+/// How many words a table has at its end.
+fn words_at_end<M: Mix>(
+    alloc: Global,
+    table: Table<M>,
+    pass: Pass<M>,
+) -> Result<Option<usize>, AllocError>
+    requires { IsPassOf M.mix_of table pass }
+{
+    let mut passes = Vec::new(alloc);
+    passes.push(pass)?;
+    match Table::last_words(alloc, table, passes) {
+        Ok(words) => Ok(Some(words.as_slice().len())),
+        Err(_) => Ok(None),
+    }
+}
+
+#[test]
+fn makes_each_call(rt: HostRuntime) -> Result<(), Fail> {
+    assert!(rt; SMALL.is_settled());
+    let (table, passes) = Table::<Low>::open(rt.alloc(), SMALL)?;
+    let mut pass = only(&table, passes).ok_or("a pass")?;
+    let want = [
+        Reply::Bound { kick: false },
+        Reply::Exists { owner: 9 },
+        Reply::Found { owner: 9 },
+        Reply::Rebound,
+        Reply::Bound { kick: false },
+        Reply::Released { kick: false },
+        Reply::Counted { count: 1 },
+        Reply::Listed { len: 1 },
+    ];
+    assert_eq!(rt; each_call(&rt, &table, &mut pass), want);
+    assert_eq!(rt; pass.owners(), [4].as_slice());
+    // 280 words, one word of each map, 8 nodes of 4 words, and 4 pages of 64.
+    assert_eq!(rt; words_at_end(rt.alloc(), table, pass)?, Some(570));
+    Ok(())
+}
+
+/// Binds a port, looks it up, takes the binding out and binds it again.
+fn work<M: Mix, R: Wait>(rt: &R, table: &Table<M>, mut pass: Pass<M>, port: Port) -> Pass<M>
+    requires pass { IsPassOf M.mix_of table.now pass }
+    requires idle { is_idle pass.local ≡ true }
+    ensures pass { IsPassOf M.mix_of table.now result }
+    ensures idle { is_idle result.local ≡ true }
+{
+    table.bind(rt, &mut pass, port, 1);
+    table.find(rt, &mut pass, port);
+    table.release(rt, &mut pass, port, 1);
+    table.bind(rt, &mut pass, port, 2);
+    pass
+}
+
+/// Two threads do so at the same time.
+fn both<M: Mix + Send + Sync, R: Threads + Wait + Sync>(
+    rt: &R,
+    table: &Table<M>,
+    first: Pass<M>,
+    second: Pass<M>,
+) -> (Pass<M>, Pass<M>)
+    requires first { IsPassOf M.mix_of table.now first × (is_idle first.local ≡ true) }
+    requires second { IsPassOf M.mix_of table.now second × (is_idle second.local ≡ true) }
+    ensures first { IsPassOf M.mix_of table.now result.0 × (is_idle result.0.local ≡ true) }
+    ensures second { IsPassOf M.mix_of table.now result.1 × (is_idle result.1.local ≡ true) }
+{
+    join(
+        rt,
+        move || work(rt, table, first, 5),
+        move || work(rt, table, second, 6),
+    )
+}
+
+/// The two passes of a new table.
+fn pair<M: Mix>(table: &Table<M>, mut passes: Vec<Pass<M>>) -> Option<(Pass<M>, Pass<M>)>
+    requires { AreNew M.mix_of table.now 0 passes.items }
+    ensures { IfSome result (λ r. IsNew M.mix_of table.now 0 r.0 × IsNew M.mix_of table.now 1 r.1) }
+{
+    if passes.len() != 2 {
+        return None;
+    }
+    let second = passes.pop()?;
+    let first = passes.pop()?;
+    Some((first, second))
+}
+
+#[test]
+fn two_threads_bind_two_ports(rt: HostRuntime) -> Result<(), Fail> {
+    let config = Config {
+        callers: 2,
+        ..SMALL
+    };
+    assert!(rt; config.is_settled());
+    let (table, passes) = Table::<Low>::open(rt.alloc(), config)?;
+    let (first, second) = pair(&table, passes).ok_or("two passes")?;
+    let (mut first, mut second) = both(&rt, &table, first, second);
+    assert_eq!(rt; table.count(&mut first), Reply::Counted { count: 2 });
+    assert_eq!(rt; table.find(&rt, &mut first, 6), Reply::Found { owner: 2 });
+    assert_eq!(rt; table.find(&rt, &mut second, 5), Reply::Found { owner: 2 });
+    Ok(())
+}
