@@ -2,7 +2,7 @@
 -- Only a table of at most 65,536 buckets is ever too full, since there are at most as many ports; so twice its size is at most
 -- the greatest size. A shrunk size is one of the sizes whatever the last table has.
 use Rattle.std.proofs.Common.{◌≡◌, ℕ, suc, ◌*◌, ◌/◌, ◌^◌, ◌<◌, ◌≤◌, inl, inr, arith}
-use Rattle.std.specs.Prelude.{Bool, true, ◌&&◌, nat_lt, min, max}
+use Rattle.std.specs.Prelude.{true, ◌&&◌, nat_lt, min, max}
 use Rattle.std.proofs.Math.Nat.{pow-suc}
 use Rattle.std.proofs.lemmas.Bool.{cases_lt, cond_both, and_parts, ltb-true}
 use Rattle.rht_words.specs.Shapes.{size_of, unpacked}
