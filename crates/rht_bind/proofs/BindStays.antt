@@ -1,7 +1,7 @@
 -- Whatever words it is told, a bind stays in its table: a case a state.
 -- Slots, links, shapes and the node map are read totally, so what they name is there or is none.
-use Rattle.std.proofs.Common.{ℕ, ◌<◌, refl, arith}
-use Rattle.std.specs.Prelude.{Bool, Option, Some, None, min}
+use Rattle.std.proofs.Common.{◌≡◌, ℕ, ◌<◌, ◌≤◌, refl, arith}
+use Rattle.std.specs.Prelude.{Bool, true, false, Option, Some, None, min, nat_le, nat_eq, ◌-◌, ◌*◌, ◌==◌}
 use Rattle.std.proofs.lemmas.Bool.{cond_both}
 use Rattle.rht_words.specs.declared.env.Env.{Env}
 use Rattle.rht_words.specs.declared.config.Kind.{Kind}
@@ -9,14 +9,18 @@ use Rattle.rht_words.specs.declared.config.Kind.TheVariants as kinds
 use Rattle.rht_words.specs.declared.geometry.Geometry.{Geometry}
 use Rattle.rht_words.specs.declared.machine.Next.{Next}
 use Rattle.rht_words.specs.declared.machine.Next.TheVariants.{Go, Done}
-use Rattle.rht_words.specs.Links.{slot_of, link_of}
+use Rattle.rht_words.specs.Links.{table_of, slot_of, link_of}
 use Rattle.rht_words.specs.Planned.{IsWord}
+use Rattle.rht_words.specs.Shapes.{size_of, unpacked}
 use Rattle.rht_words.proofs.LinksRead.{slot_of-in, IsSlotOrNone}
 use Rattle.rht_words.proofs.PlannedWords.{link_of-fits}
-use Rattle.rht_policy.specs.Thresholds.{is_above_max}
+use Rattle.rht_policy.specs.Thresholds.{is_above_75, is_above_100, is_above_max}
 use Rattle.rht_nest.specs.Locate.{LocateModel, locate_after, IsBucketOrNone}
 use Rattle.rht_nest.specs.declared.locate.Located.{Located}
 use Rattle.rht_nest.proofs.Locates.{LocateStays, locate_stays}
+use Rattle.rht_nest.specs.Make.{MakeModel, make_after, IsMadeIn, IsMakeEndIn}
+use Rattle.rht_nest.specs.Unmake.{UnmakeModel, unmake_after, IsUnmakeIn}
+use Rattle.rht_nest.proofs.MakesStay.{MakeIsIn, make_stays, unmake_begins, unmake_stays}
 use Rattle.rht_arena.specs.NewNode.{NewNodeModel, new_node_after}
 use Rattle.rht_arena.proofs.NewNodesStay.{NewNodeIsIn, new_node_stays}
 use Rattle.rht_chain.specs.LockedWalk.{IsNodeOrNone}
@@ -29,12 +33,19 @@ use Rattle.rht_chain.specs.declared.locked.Then.TheVariants.{Table, Answer}
 use Rattle.rht_chain.proofs.PiecesStay.{ProbeIsIn, probe_stays, relink_begins, relink_stays}
 use Rattle.rht_model.specs.declared.history.Reply.{Reply}
 use Rattle.rht_bind.specs.Bind.{after_at, filled, bucket_or_no_table, located, bound_already, found_or_future, probed, replacing, replaced, unlocking, future_or_count, checked_count, kicks, publishing, published, unlocked, IsClaimedIn, IsListIn, IsReplacingIn, IsBindAtIn}
+use Rattle.rht_bind.specs.Growing.{unlocking_full, making, size_grown, want_or_busy, made, ended_attempt, behind_attempt, refused_or_found, has_attached, checked_attach, unmade, IsGrowingIn, IsWantingIn, IsMakingIn, IsAttachingIn, IsUnmakingIn}
+use Rattle.rht_bind.specs.declared.bind.Attempt.{Attempt}
+use Rattle.rht_bind.specs.declared.bind.growth.Full.{Full}
+use Rattle.rht_bind.specs.declared.bind.growth.Full.TheVariants as full
+use Rattle.rht_bind.specs.declared.bind.growth.Growing.{Growing}
+use Rattle.rht_bind.specs.declared.bind.growth.Refusal.{Refusal}
+use Rattle.rht_bind.specs.declared.bind.growth.Refusal.TheVariants as refusals
 use Rattle.rht_bind.specs.declared.bind.Claimed.{Claimed}
 use Rattle.rht_bind.specs.declared.bind.FoundList.{FoundList}
 use Rattle.rht_bind.specs.declared.bind.BindAt.{BindAt}
 use Rattle.rht_bind.specs.declared.bind.BindAt.TheVariants as at
 
-module _ (mix : ℕ → ℕ → ℕ → ℕ) (env : Env) (port : ℕ) where
+module _ (mix : ℕ → ℕ → ℕ → ℕ) (env : Env) (port : ℕ) (once : Bool) where
   abbrev g : Geometry
   g = env.geometry
 
@@ -44,22 +55,23 @@ module _ (mix : ℕ → ℕ → ℕ → ℕ) (env : Env) (port : ℕ) where
   filled-in new (Done None) stays = stays.new_in
   filled-in new (Done (Some node)) stays = stays.node_in
 
-  bucket-in : (node table shape : ℕ) (place : Option ℕ) → node < g.nodes → table < 8 → IsWord shape
-      → IsBucketOrNone g place → IsBindAtIn env (bucket_or_no_table env port node table shape place)
-  bucket-in node table shape None node_in table_in shape_in place_in =
+  bucket-in : (attempt : Attempt) (table shape : ℕ) (place : Option ℕ) → attempt.node < g.nodes → table < 8
+      → IsWord shape → IsBucketOrNone g place
+      → IsBindAtIn env (bucket_or_no_table env port attempt table shape place)
+  bucket-in attempt table shape None node_in table_in shape_in place_in =
       record { geometry_same = refl; node_in = node_in }
-  bucket-in node table shape (Some place) node_in table_in shape_in place_in = record {
+  bucket-in attempt table shape (Some place) node_in table_in shape_in place_in = record {
     node_in = node_in;
     table_in = table_in;
     shape_in = shape_in;
     probe_in = record { geometry_same = refl; at_in = record { place_in = place_in; even = tt; word_in = tt } };
   }
 
-  located-in : (node : ℕ) (locate : LocateModel) (next : Next Located) → node < g.nodes
-      → LocateStays g (locate, next) → IsBindAtIn env (located env port node locate next)
-  located-in node locate Go node_in stays = record { node_in = node_in; locate_in = stays.locate_in }
-  located-in node locate (Done there) node_in stays =
-      bucket-in node locate.table there.shape there.place node_in stays.locate_in.table_in stays.end_in.shape_in
+  located-in : (attempt : Attempt) (locate : LocateModel) (next : Next Located) → attempt.node < g.nodes
+      → LocateStays g (locate, next) → IsBindAtIn env (located env port attempt locate next)
+  located-in attempt locate Go node_in stays = record { node_in = node_in; locate_in = stays.locate_in }
+  located-in attempt locate (Done there) node_in stays =
+      bucket-in attempt locate.table there.shape there.place node_in stays.locate_in.table_in stays.end_in.shape_in
       stays.end_in.place_in
 
   bound-in : (kind : Kind) (claimed : Claimed) (first : ℕ) (before : Option ℕ) → IsClaimedIn g claimed
@@ -77,14 +89,14 @@ module _ (mix : ℕ → ℕ → ℕ → ℕ) (env : Env) (port : ℕ) where
   seen-in kind claimed (Some first) before length claimed_in found_in before_in =
       bound-in kind claimed first before claimed_in found_in before_in
 
-  probed-in : (kind : Kind) (node table shape : ℕ) (probe : ProbeModel) (next : Next Probed)
-      → node < g.nodes → table < 8
-      → IsWord shape → ProbeIsIn g (probe, next) → IsBindAtIn env (probed kind node table shape probe next)
-  probed-in kind node table shape probe Go node_in table_in shape_in stays =
+  probed-in : (kind : Kind) (attempt : Attempt) (table shape : ℕ) (probe : ProbeModel) (next : Next Probed)
+      → attempt.node < g.nodes → table < 8
+      → IsWord shape → ProbeIsIn g (probe, next) → IsBindAtIn env (probed kind attempt table shape probe next)
+  probed-in kind attempt table shape probe Go node_in table_in shape_in stays =
       record { node_in = node_in; table_in = table_in; shape_in = shape_in; probe_in = stays.probe_in }
-  probed-in kind node table shape probe (Done end) node_in table_in shape_in stays =
+  probed-in kind attempt table shape probe (Done end) node_in table_in shape_in stays =
       let bucket_in = stays.end_in.bucket_in in
-      seen-in kind (record { node = node; table = table; shape = shape; bucket = end.bucket })
+      seen-in kind (record { attempt = attempt; table = table; shape = shape; bucket = end.bucket })
       end.seen.found end.seen.before end.seen.length
       record { node_in = node_in; table_in = table_in; shape_in = shape_in; bucket_in = bucket_in }
       stays.end_in.seen_in.found_in stays.end_in.seen_in.before_in
@@ -96,9 +108,9 @@ module _ (mix : ℕ → ℕ → ℕ → ℕ) (env : Env) (port : ℕ) where
       record {
         list_in = within;
         relink_in =
-            relink_begins g bucket.place bucket.word list.before (link_of list.claimed.node)
+            relink_begins g bucket.place bucket.word list.before (link_of list.claimed.attempt.node)
             bucket_in.place_in
-            bucket_in.word_in within.before_in (link_of-fits g list.claimed.node within.claimed_in.node_in);
+            bucket_in.word_in within.before_in (link_of-fits g list.claimed.attempt.node within.claimed_in.node_in);
       }
 
   replaced-in : (list : FoundList) (relink : RelinkModel) (next : Next (Unit {0}))
@@ -116,15 +128,24 @@ module _ (mix : ℕ → ℕ → ℕ → ℕ) (env : Env) (port : ℕ) where
     then_in = then_in;
   }
 
-  future-in : (claimed : Claimed) (future : Option ℕ) → IsClaimedIn g claimed → IsSlotOrNone future
-      → IsBindAtIn env (future_or_count claimed future)
-  future-in claimed None within future_in = within
-  future-in claimed (Some table) within future_in = unlocking-in claimed (Table table) within future_in
+  full-in : (claimed : Claimed) (why : Full) → IsClaimedIn g claimed → IsBindAtIn env (unlocking_full claimed why)
+  full-in claimed why within = record {
+    growing_in = record { node_in = within.node_in; table_in = within.table_in; shape_in = within.shape_in };
+    unlock_in = record { place_in = within.bucket_in.place_in; word_in = within.bucket_in.word_in };
+  }
+
+  future-in : (claimed : Claimed) (length : ℕ) (future : Option ℕ) → IsClaimedIn g claimed → IsSlotOrNone future
+      → IsBindAtIn env (future_or_count claimed length future)
+  future-in claimed length None within future_in =
+      cond_both (nat_le 16 length) _ _ (IsBindAtIn env) (λ t. full-in claimed full.Chain within) (λ f. within)
+  future-in claimed length (Some table) within future_in = unlocking-in claimed (Table table) within future_in
 
   count-in : (claimed : Claimed) (count : ℕ) → IsClaimedIn g claimed → IsBindAtIn env (checked_count env claimed count)
   count-in claimed count within =
       cond_both (is_above_max (min count 65536) env.config.max) _ _ (IsBindAtIn env) (λ t. unlocking-in claimed _ within tt)
-      (λ f. within)
+      (λ f.
+      cond_both (is_above_100 (min count 65536) (size_of (unpacked claimed.shape)) env.config.max) _ _ (IsBindAtIn env)
+      (λ t. full-in claimed full.Table within) (λ f. within))
 
   publishing-in : (claimed : Claimed) (kick : Bool) → IsClaimedIn g claimed
       → IsBindAtIn env (publishing env claimed kick)
@@ -132,8 +153,8 @@ module _ (mix : ℕ → ℕ → ℕ → ℕ) (env : Env) (port : ℕ) where
     node_in = within.node_in;
     table_in = within.table_in;
     relink_in =
-        relink_begins g claimed.bucket.place claimed.bucket.word None (link_of claimed.node) within.bucket_in.place_in
-        within.bucket_in.word_in tt (link_of-fits g claimed.node within.node_in);
+        relink_begins g claimed.bucket.place claimed.bucket.word None (link_of claimed.attempt.node)
+        within.bucket_in.place_in within.bucket_in.word_in tt (link_of-fits g claimed.attempt.node within.node_in);
   }
 
   published-in : (node table : ℕ) (kick : Bool) (relink : RelinkModel) (next : Next (Unit {0})) → node < g.nodes
@@ -143,27 +164,85 @@ module _ (mix : ℕ → ℕ → ℕ → ℕ) (env : Env) (port : ℕ) where
   published-in node table kick relink (Done done) node_in table_in relink_in =
       record { node_in = node_in; table_in = table_in; relink_in = relink_in }
 
-  unlocked-in : (node : ℕ) (next : Then Reply) → node < g.nodes → IsThenIn next
-      → IsBindAtIn env (unlocked env node next)
-  unlocked-in node (Table table) node_in then_in = record {
+  unlocked-in : (attempt : Attempt) (next : Then Reply) → attempt.node < g.nodes → IsThenIn next
+      → IsBindAtIn env (unlocked env attempt next)
+  unlocked-in attempt (Table table) node_in then_in = record {
     node_in = node_in;
     locate_in = record { geometry_same = refl; table_in = then_in; at_in = tt };
   }
-  unlocked-in node (Answer reply) node_in then_in = record { geometry_same = refl; node_in = node_in }
+  unlocked-in attempt (Answer reply) node_in then_in = record { geometry_same = refl; node_in = node_in }
+
+  -- ---- a further table
+
+  making-in : (growing : Growing) (size : ℕ) → IsGrowingIn g growing → IsBindAtIn env (making env growing size)
+  making-in growing size within = record {
+    growing_in = within;
+    make_in = record { geometry_same = refl; least = omega arith; greatest = omega arith; at_in = omega arith };
+  }
+
+  want-in : (growing : Growing) (root count : ℕ) → IsWantingIn g growing root
+      → IsBindAtIn env (want_or_busy env growing root count)
+  want-in growing root count within =
+      cond_both (is_above_75 (min count 65536) (size_grown growing) env.config.max) _ _ (IsBindAtIn env)
+      (λ t. making-in growing (2 * size_grown growing) within.growing_in)
+      (λ f.
+      cond_both (nat_eq root growing.table) _ _ (IsBindAtIn env)
+      (λ t. making-in growing (size_grown growing) within.growing_in)
+      (λ f. record { growing_in = within.growing_in; refusal_in = within.root_in }))
+
+  -- the shape of a table that was made is a word
+  made_word : (exponent slot shape : ℕ) → exponent ≤ 17 → IsMadeIn g exponent slot shape → IsWord shape
+  made_word exponent slot shape few is =
+      let pages_few = g.within.pages_within in
+      rw is.shape_is (omega (arith, few, is.run_in.some, is.run_in.within, pages_few))
+
+  made-in : (growing : Growing) (size exponent : ℕ) (make : MakeModel) (next : Next (Option (ℕ × ℕ))) → exponent ≤ 17
+      → IsGrowingIn g growing → MakeIsIn g exponent (make, next) → IsBindAtIn env (made growing size make next)
+  made-in growing size exponent make Go few within stays =
+      record { growing_in = within; make_in = stays.make_in }
+  made-in growing size exponent make (Done None) few within stays = record { growing_in = within; refusal_in = tt }
+  made-in growing size exponent make (Done (Some table)) few within stays = record {
+    growing_in = within;
+    slot_in = stays.made_in.slot_in;
+    shape_in = made_word exponent table.0 table.1 few stays.made_in;
+  }
+
+  behind-in : (attempt : Attempt) (answer : Option Reply) → attempt.node < g.nodes
+      → IsBindAtIn env (behind_attempt env attempt answer)
+  behind-in attempt None node_in = node_in
+  behind-in attempt (Some reply) node_in = record { geometry_same = refl; node_in = node_in }
+
+  refused-in : (growing : Growing) (refusal : Refusal) (future : Option ℕ) → IsGrowingIn g growing
+      → IsBindAtIn env (refused_or_found env once growing refusal future)
+  refused-in growing refusal None within = record { geometry_same = refl; node_in = within.node_in }
+  refused-in growing refusal (Some table) within =
+      behind-in growing.attempt (ended_attempt once table) within.node_in
+
+  attach-in : (growing : Growing) (slot shape found : ℕ) → IsAttachingIn g growing slot shape
+      → IsBindAtIn env (checked_attach env once growing slot shape found)
+  attach-in growing slot shape found within =
+      cond_both (found == 0) _ _ (IsBindAtIn env)
+      (λ t. behind-in (has_attached growing.attempt) (ended_attempt once slot) within.growing_in.node_in)
+      (λ f. record { node_in = within.growing_in.node_in; unmake_in = unmake_begins g slot shape within.slot_in })
+
+  unmade-in : (attempt : Attempt) (answer : Option Reply) (unmake : UnmakeModel) (next : Next (Unit {0}))
+      → attempt.node < g.nodes → IsUnmakeIn g unmake → IsBindAtIn env (unmade env attempt answer unmake next)
+  unmade-in attempt answer unmake Go node_in unmake_in = record { node_in = node_in; unmake_in = unmake_in }
+  unmade-in attempt answer unmake (Done done) node_in unmake_in = behind-in attempt answer node_in
 
   pub bind_stays : (state : BindAt) (word : ℕ) → IsBindAtIn env state → IsWord word
-      → IsBindAtIn env (after_at mix env port state word).0
+      → IsBindAtIn env (after_at mix env port once state word).0
   bind_stays (at.Filling new) word within told =
       filled-in (new_node_after new word).0 (new_node_after new word).1 (new_node_stays g new word within)
-  bind_stays (at.CurrentTable node) word within told = record {
+  bind_stays (at.CurrentTable attempt) word within told = record {
     node_in = within;
     locate_in = record { geometry_same = refl; table_in = omega arith; at_in = tt };
   }
-  bind_stays (at.Locating node locate) word within told =
-      located-in node (locate_after mix port locate word).0 (locate_after mix port locate word).1 within.node_in
+  bind_stays (at.Locating attempt locate) word within told =
+      located-in attempt (locate_after mix port locate word).0 (locate_after mix port locate word).1 within.node_in
       (locate_stays mix port g locate word within.locate_in told)
-  bind_stays (at.Probing node table shape probe) word within told =
-      probed-in env.config.kind node table shape (probe_after probe word).0 (probe_after probe word).1
+  bind_stays (at.Probing attempt table shape probe) word within told =
+      probed-in env.config.kind attempt table shape (probe_after probe word).0 (probe_after probe word).1
       within.node_in
       within.table_in within.shape_in (probe_stays g probe word within.probe_in told)
   bind_stays (at.FoundOwner claimed found) word within told = unlocking-in claimed _ within.claimed_in tt
@@ -174,13 +253,25 @@ module _ (mix : ℕ → ℕ → ℕ → ℕ) (env : Env) (port : ℕ) where
       replaced-in list (relink_after relink).0 (relink_after relink).1
       record { list_in = within.list_in; relink_in = relink_stays g relink within.relink_in }
   bind_stays (at.Future claimed length) word within told =
-      future-in claimed (slot_of word) within (slot_of-in word)
+      future-in claimed length (slot_of word) within (slot_of-in word)
   bind_stays (at.Count claimed) word within told = count-in claimed word within
   bind_stays (at.Link claimed) word within told = within
-  bind_stays (at.Raise claimed) word within told = publishing-in claimed (kicks env claimed.shape word) within
+  bind_stays (at.Raise claimed) word within told = publishing-in claimed (kicks env claimed word) within
   bind_stays (at.Publish node table relink kick) word within told =
       published-in node table kick (relink_after relink).0 (relink_after relink).1 within.node_in within.table_in
       (relink_stays g relink within.relink_in)
-  bind_stays (at.Unlocking node table unlock next) word within told =
-      unlocked-in node next within.node_in within.then_in
+  bind_stays (at.Unlocking attempt table unlock next) word within told =
+      unlocked-in attempt next within.node_in within.then_in
+  bind_stays (at.UnlockingFull growing unlock) word within told = within.growing_in
+  bind_stays (at.Root growing) word within told = record { growing_in = within; root_in = omega arith }
+  bind_stays (at.GrowthCount growing root) word within told = want-in growing root word within
+  bind_stays (at.Making growing size make) word within told =
+      made-in growing size make.exponent (make_after make word).0 (make_after make word).1 within.make_in.greatest
+      within.growing_in (make_stays g make word within.make_in told)
+  bind_stays (at.FutureAgain growing refusal) word within told =
+      refused-in growing refusal (slot_of word) within.growing_in
+  bind_stays (at.Attaching growing slot shape) word within told = attach-in growing slot shape word within
+  bind_stays (at.Unmaking attempt unmake answer) word within told =
+      unmade-in attempt answer (unmake_after unmake word).0 (unmake_after unmake word).1 within.node_in
+      (unmake_stays g unmake word within.unmake_in)
   bind_stays (at.Giving give reply) word within told = within

@@ -1,10 +1,14 @@
 -- What a bind holds in each of its states: its node until it is linked, put in front of a list or given
--- back, the lock of a bucket, the count once it is raised, and its answer once it is known.
-use Rattle.std.specs.Prelude.{ℕ, Bool, true, false, Option, None, Some, option_map, if◌then◌else◌}
+-- back, the lock of a bucket, the count once it is raised, the slot and the pages of a table that it makes
+-- until it is attached or given back, and its answer once it is known.
+use Rattle.std.specs.Prelude.{ℕ, Bool, true, Option, None, Some, List, option_map, if◌then◌else◌}
 use Rattle.rht_words.specs.Held.{Held, holds_nothing, ended_with}
 use Rattle.rht_words.specs.declared.machine.Next.{Next}
 use Rattle.rht_words.specs.declared.machine.Next.TheVariants.{Go, Done}
 use Rattle.rht_arena.specs.NewNode.{node_of_new}
+use Rattle.rht_nest.specs.Tables.{pages_of_shape}
+use Rattle.rht_nest.specs.Make.{slot_of_make, pages_of_make}
+use Rattle.rht_nest.specs.Unmake.{pages_of_unmake}
 use Rattle.rht_chain.specs.Locked.{answer_behind}
 use Rattle.rht_chain.specs.Probe.{lock_of_probe}
 use Rattle.rht_model.specs.Answers.{Answer, plain}
@@ -21,21 +25,25 @@ abbrev pub holds_node : Option ℕ → Option ℕ → Held Answer
 holds_node node lock = record holds_nothing { node = node; lock = lock }
 
 abbrev pub holds_claimed : Claimed → Held Answer
-holds_claimed claimed = holds_node (Some claimed.node) (Some claimed.bucket.place)
+holds_claimed claimed = holds_node (Some claimed.attempt.node) (Some claimed.bucket.place)
 
 -- while it puts its node in front of a list: the node before the store of the link, the answer behind it
 abbrev pub holds_replacing : Claimed → Bool → Held Answer
 holds_replacing claimed stored =
-    let bound = Some (plain (Bound false)) in
+    let bound = Some (plain (Bound claimed.attempt.attached)) in
     if stored then record holds_nothing { lock = Some claimed.bucket.place; answer = bound }
     else holds_claimed claimed
+
+-- its node, and the slot and the pages of a table
+abbrev pub holds_table : ℕ → Option ℕ → List ℕ → Held Answer
+holds_table node slot pages = record holds_nothing { node = Some node; slot = slot; pages = pages }
 
 -- what it holds in a state
 abbrev pub held_of_bind : BindAt → Held Answer
 held_of_bind (at.Filling new) = holds_node (node_of_new new.at) None
-held_of_bind (at.CurrentTable node) = holds_node (Some node) None
-held_of_bind (at.Locating node locate) = holds_node (Some node) None
-held_of_bind (at.Probing node table shape probe) = holds_node (Some node) (lock_of_probe probe.at)
+held_of_bind (at.CurrentTable attempt) = holds_node (Some attempt.node) None
+held_of_bind (at.Locating attempt locate) = holds_node (Some attempt.node) None
+held_of_bind (at.Probing attempt table shape probe) = holds_node (Some attempt.node) (lock_of_probe probe.at)
 held_of_bind (at.FoundOwner claimed found) = holds_claimed claimed
 held_of_bind (at.ListLink list) = holds_claimed list.claimed
 held_of_bind (at.ChainLink list) = holds_claimed list.claimed
@@ -47,8 +55,17 @@ held_of_bind (at.Link claimed) = holds_claimed claimed
 held_of_bind (at.Raise claimed) = holds_claimed claimed
 held_of_bind (at.Publish node table relink kick) =
     record holds_nothing { node = Some node; lock = Some relink.place; raised = true }
-held_of_bind (at.Unlocking node table unlock next) =
-    record holds_nothing { node = Some node; lock = Some unlock.place; answer = option_map plain (answer_behind next) }
+held_of_bind (at.Unlocking attempt table unlock next) =
+    record (holds_node (Some attempt.node) (Some unlock.place)) { answer = option_map plain (answer_behind next) }
+held_of_bind (at.UnlockingFull growing unlock) = holds_node (Some growing.attempt.node) (Some unlock.place)
+held_of_bind (at.Root growing) = holds_node (Some growing.attempt.node) None
+held_of_bind (at.GrowthCount growing root) = holds_node (Some growing.attempt.node) None
+held_of_bind (at.Making growing size make) =
+    holds_table growing.attempt.node (slot_of_make make.at) (pages_of_make make.exponent make.at)
+held_of_bind (at.FutureAgain growing refusal) = holds_node (Some growing.attempt.node) None
+held_of_bind (at.Attaching growing slot shape) = holds_table growing.attempt.node (Some slot) (pages_of_shape shape)
+held_of_bind (at.Unmaking attempt unmake answer) =
+    record (holds_table attempt.node (Some unmake.slot) (pages_of_unmake unmake.at)) { answer = option_map plain answer }
 held_of_bind (at.Giving give reply) = record holds_nothing { node = Some give.node; answer = Some (plain reply) }
 
 -- and after an operation; once it has ended it holds nothing, and its answer is known

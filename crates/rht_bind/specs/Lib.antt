@@ -1,4 +1,6 @@
 -- the insertion, state by state
 pub mod Bind
+-- what it does where the last table is full
+pub mod Growing
 -- what a bind holds
 pub mod BindHeld

@@ -3,31 +3,49 @@
 ghost use Rattle.std.specs.Prelude.{◌≡◌, ◌<◌};
 ghost use Rattle.rht_words.specs.Operations.{op_place};
 ghost use Rattle.rht_words.specs.Places.{words_in};
-ghost use Rattle.rht_words.specs.Planned.{IsWord};
 ghost use Rattle.rht_nest.specs.Locate.{locate_after, IsBucketOrNone, IsLocateIn};
 ghost use Rattle.rht_arena.specs.NewNode.{new_node_after};
 ghost use Rattle.rht_chain.specs.Locked.{IsThenIn};
-ghost use Rattle.rht_chain.specs.LockedWalk.{IsNodeOrNone};
 ghost use Rattle.rht_chain.specs.Probe.{probe_after};
-ghost use Rattle.rht_chain.specs.Relink.{relink_after};
-ghost use Rattle.rht_bind.specs.Bind.{bind_new, bind_plan, bind_after, after_at, filled, locating, giving, bucket_or_no_table, located, bound_already, found_or_future, probed, replacing, replaced, unlocking, future_or_count, checked_count, kicks, publishing, published, unlocked, IsBindAtIn, IsClaimedIn};
+ghost use Rattle.rht_bind.specs.Bind.{bind_new, bind_plan, bind_after, after_at, filled, locating, bucket_or_no_table, located, probed, unlocking, unlocked, IsBindAtIn};
 
+mod growth;
+mod insertion;
+
+pub use growth::{
+    Full, Growing, Refusal, behind_attempt, checked_attach, ended_attempt, giving, making,
+    refused_or_found, unlocking_full, want_or_busy,
+};
+use growth::{made, unmade};
+pub use insertion::{
+    bound_already, checked_count, found_or_future, future_or_count, kicks, publishing, replacing,
+};
+use insertion::{published, replaced};
 use rht_arena::{GiveNode, NewNode};
-use rht_chain::{Locked, Probe, Relink, Seen, Then, Unlock};
+use rht_chain::{Locked, Probe, Relink, Then, Unlock};
 use rht_model::Reply;
-use rht_nest::Locate;
-use rht_policy::{Mix, above_75, above_max};
+use rht_nest::{Locate, Make, Unmake};
+use rht_policy::Mix;
 use rht_words::{
-    Env, Kind, Next, Op, Port, Shape, head_of, link_of, owner_of, places, slot_of, table_of,
-    word_of,
+    Env, Kind, Next, Op, Port, Shape, future_of, head_of, link_of, owner_of, places, slot_of,
+    table_of, word_of,
 };
 use std::marker::{Model, PhantomData};
+
+/// What a bind keeps while it looks for a place for its node, from one attempt to the next.
+#[derive(Clone, Copy, Debug, PartialEq, Eq)]
+pub struct Attempt {
+    /// The node that it has taken.
+    pub node: u32,
+    /// Whether it has attached a table.
+    pub attached: bool,
+}
 
 /// What a bind that has locked a bucket holds.
 #[derive(Clone, Copy, Debug, PartialEq, Eq)]
 pub struct Claimed {
-    /// The node that it has taken.
-    pub node: u32,
+    /// Its node, and whether it has attached a table.
+    pub attempt: Attempt,
     /// The slot of the table.
     pub table: u32,
     /// The table's shape.
@@ -56,16 +74,16 @@ pub enum BindAt {
     },
     /// Loads which table is the current one.
     CurrentTable {
-        node: u32,
+        attempt: Attempt,
     },
     /// Finds the port's bucket in a table. Where it is missing the bind is refused.
     Locating {
-        node: u32,
+        attempt: Attempt,
         locate: Locate,
     },
     /// Locks the bucket and walks its chain.
     Probing {
-        node: u32,
+        attempt: Attempt,
         table: u32,
         shape: u64,
         probe: Probe,
@@ -123,10 +141,51 @@ pub enum BindAt {
     },
     /// Unlocks the bucket without a change.
     Unlocking {
-        node: u32,
+        attempt: Attempt,
         table: u32,
         unlock: Unlock,
         then: Then<Reply>,
+    },
+    /// Unlocks a bucket of the last table without a change, since the node doesn't go into it. The
+    /// states behind this one hold no lock, so other callers may attach a table, move entries and
+    /// make another table the current one meanwhile.
+    UnlockingFull {
+        growing: Growing,
+        unlock: Unlock,
+    },
+    /// Loads which table is the current one by now.
+    Root {
+        growing: Growing,
+    },
+    /// Loads how many ports are bound by now, which tells the size of the table that is wanted.
+    GrowthCount {
+        growing: Growing,
+        root: u32,
+    },
+    /// Makes a table of this size. Nobody else knows it yet.
+    Making {
+        growing: Growing,
+        size: u32,
+        make: Make,
+    },
+    /// Loads the future of the last table again. Where there is none yet, the bind is refused.
+    FutureAgain {
+        growing: Growing,
+        refusal: Refusal,
+    },
+    /// Exchanges the link to the table that was made for 0 in the future of the last table. The table
+    /// is attached at this moment, unless another caller has attached one before.
+    Attaching {
+        growing: Growing,
+        slot: u32,
+        shape: u64,
+    },
+    /// Gives the table back that wasn't attached. Then the bind has this answer, or begins anew where
+    /// there is none.
+    Unmaking {
+        attempt: Attempt,
+        unmake: Unmake,
+        answer: Option<Reply>,
     },
     /// Gives the node back.
     Giving {
@@ -135,9 +194,12 @@ pub enum BindAt {
     },
 }
 
-/// A bind of one port to one owner. The answers are `Bound`, `Exists`, `NoNode` and `TooBig`, and
-/// `NoTable` where the port's bucket is missing, which it is in no run yet. The kernel's
-/// counterparts are `rhashtable_lookup_insert_key` and, in a table of lists, `rhltable_insert_key`.
+/// A bind of one port to one owner. Where the last table is full it attaches a further one, and then
+/// begins anew with the same node. The answers are `Bound`, `Exists`, `NoNode` and `TooBig`; `Busy` and
+/// `NoTable` where no table is attached; and, of a bind that tries but once, `Again`. `NoTable` comes
+/// also where the port's bucket is missing, which it is in no run yet. The kernel's counterparts are
+/// `rhashtable_lookup_insert_key` and, in a table of lists, `rhltable_insert_key`, with
+/// `rhashtable_insert_slow` behind them.
 #[derive(Drop)]
 pub struct Bind<M: Mix> {
     env: Env,
@@ -160,7 +222,7 @@ impl<M: Mix> Model for Bind<M> {
 }
 
 impl<M: Mix> Bind<M> {
-    /// Before the first operation. No answer of one try alone differs yet, so `once` tells nothing.
+    /// Before the first operation. With `once` the bind answers `Again` where it would begin anew.
     #[inline(always)]
     pub fn new(env: Env, caller: u32, port: Port, owner: u32, once: bool) -> Bind<M>
         ensures { result ≡ bind_new env caller port owner once }
@@ -201,22 +263,37 @@ impl<M: Mix> Bind<M> {
             BindAt::Probing { probe, .. } => probe.plan(),
             BindAt::FoundOwner { found, .. } => Op::load(geometry.owner(found)),
             BindAt::ListLink { list } => {
-                Op::store(geometry.list_link(list.claimed.node), link_of(list.first))
+                Op::store(
+                    geometry.list_link(list.claimed.attempt.node),
+                    link_of(list.first),
+                )
             }
             BindAt::ChainLink { list } => Op::load(geometry.chain_link(list.first)),
             BindAt::LinkBehind { list, link } => {
-                Op::store(geometry.chain_link(list.claimed.node), link)
+                Op::store(geometry.chain_link(list.claimed.attempt.node), link)
             }
             BindAt::Replacing { relink, .. } => relink.plan(),
             BindAt::Future { claimed, .. } => Op::load(places::future(claimed.table)),
             BindAt::Count { .. } => Op::load(places::port_count()),
             BindAt::Link { claimed } => {
                 let Locked { place, word } = claimed.bucket;
-                Op::store(geometry.chain_link(claimed.node), head_of(place, word))
+                Op::store(
+                    geometry.chain_link(claimed.attempt.node),
+                    head_of(place, word),
+                )
             }
             BindAt::Raise { .. } => Op::add(places::port_count(), 1),
             BindAt::Publish { relink, .. } => relink.plan(),
             BindAt::Unlocking { unlock, .. } => unlock.plan(),
+            BindAt::UnlockingFull { unlock, .. } => unlock.plan(),
+            BindAt::Root { .. } => Op::load(places::current_table()),
+            BindAt::GrowthCount { .. } => Op::load(places::port_count()),
+            BindAt::Making { make, .. } => make.plan(),
+            BindAt::FutureAgain { growing, .. } => Op::load(places::future(growing.table)),
+            BindAt::Attaching { growing, slot, .. } => {
+                Op::exchange(places::future(growing.table), 0, future_of(slot))
+            }
+            BindAt::Unmaking { unmake, .. } => unmake.plan(),
             BindAt::Giving { give, .. } => give.plan(),
         }
     }
@@ -227,7 +304,7 @@ impl<M: Mix> Bind<M> {
     pub fn take(&mut self, old: u64) -> Next<Reply>
         ensures { (self.new, result) ≡ bind_after M.mix_of self.old old }
     {
-        let (state, next) = after::<M>(self.env, self.port, &self.at, old);
+        let (state, next) = after::<M>(self.env, self.port, self.once, &self.at, old);
         self.at = state;
         next
     }
@@ -235,20 +312,20 @@ impl<M: Mix> Bind<M> {
 
 /// Where the bind stands after a state that found this value, and what it says.
 #[inline(always)]
-fn after<M: Mix>(env: Env, port: Port, at: &BindAt, old: u64) -> (BindAt, Next<Reply>)
+fn after<M: Mix>(env: Env, port: Port, once: bool, at: &BindAt, old: u64) -> (BindAt, Next<Reply>)
     requires { IsBindAtIn env at.now }
-    ensures { result ≡ after_at M.mix_of env port at.now old }
+    ensures { result ≡ after_at M.mix_of env port once at.now old }
 {
     let next = match *at {
         BindAt::Filling { new } => return filled(new, old),
-        BindAt::CurrentTable { node } => locating(env, node, table_of(old)),
-        BindAt::Locating { node, locate } => located::<M>(env, port, node, locate, old),
+        BindAt::CurrentTable { attempt } => locating(env, attempt, table_of(old)),
+        BindAt::Locating { attempt, locate } => located::<M>(env, port, attempt, locate, old),
         BindAt::Probing {
-            node,
+            attempt,
             table,
             shape,
             probe,
-        } => probed(env.config.kind, node, table, shape, probe, old),
+        } => probed(env.config.kind, attempt, table, shape, probe, old),
         BindAt::FoundOwner { claimed, .. } => {
             let owner = owner_of(old);
             unlocking(claimed, Then::Answer(Reply::Exists { owner }))
@@ -257,17 +334,41 @@ fn after<M: Mix>(env: Env, port: Port, at: &BindAt, old: u64) -> (BindAt, Next<R
         BindAt::ChainLink { list } => BindAt::LinkBehind { list, link: old },
         BindAt::LinkBehind { list, .. } => replacing(env, list),
         BindAt::Replacing { list, relink } => return replaced(list, relink),
-        BindAt::Future { claimed, .. } => future_or_count(claimed, slot_of(old)),
+        BindAt::Future { claimed, length } => future_or_count(claimed, length, slot_of(old)),
         BindAt::Count { claimed } => checked_count(env, claimed, old),
         BindAt::Link { claimed } => BindAt::Raise { claimed },
-        BindAt::Raise { claimed } => publishing(env, claimed, kicks(env, claimed.shape, old)),
+        BindAt::Raise { claimed } => publishing(env, claimed, kicks(env, claimed, old)),
         BindAt::Publish {
             node,
             table,
             relink,
             kick,
         } => return published(node, table, kick, relink),
-        BindAt::Unlocking { node, then, .. } => unlocked(env, node, then),
+        BindAt::Unlocking { attempt, then, .. } => unlocked(env, attempt, then),
+        BindAt::UnlockingFull { growing, .. } => BindAt::Root { growing },
+        BindAt::Root { growing } => BindAt::GrowthCount {
+            growing,
+            root: table_of(old),
+        },
+        BindAt::GrowthCount { growing, root } => want_or_busy(env, growing, root, old),
+        BindAt::Making {
+            growing,
+            size,
+            make,
+        } => made(growing, size, make, old),
+        BindAt::FutureAgain { growing, refusal } => {
+            refused_or_found(env, once, growing, refusal, slot_of(old))
+        }
+        BindAt::Attaching {
+            growing,
+            slot,
+            shape,
+        } => checked_attach(env, once, growing, slot, shape, old),
+        BindAt::Unmaking {
+            attempt,
+            unmake,
+            answer,
+        } => unmade(env, attempt, unmake, answer, old),
         BindAt::Giving { reply, .. } => return (*at, Next::Done(reply)),
     };
     (next, Next::Go)
@@ -281,33 +382,39 @@ fn filled(new: NewNode, old: u64) -> (BindAt, Next<Reply>)
     let (new, next) = new.after(old);
     match next {
         Next::Go => (BindAt::Filling { new }, Next::Go),
-        Next::Done(Some(node)) => (BindAt::CurrentTable { node }, Next::Go),
+        Next::Done(Some(node)) => {
+            let attempt = Attempt {
+                node,
+                attached: false,
+            };
+            (BindAt::CurrentTable { attempt }, Next::Go)
+        }
         Next::Done(None) => (BindAt::Filling { new }, Next::Done(Reply::NoNode)),
     }
 }
 
 /// The port's bucket in the table of this slot is looked for.
 #[inline(always)]
-pub fn locating(env: Env, node: u32, table: u32) -> BindAt
+pub fn locating(env: Env, attempt: Attempt, table: u32) -> BindAt
     requires { table < 8 }
-    ensures { result ≡ locating env node table }
+    ensures { result ≡ locating env attempt table }
 {
     let locate = Locate::new(env.geometry, table);
-    BindAt::Locating { node, locate }
+    BindAt::Locating { attempt, locate }
 }
 
 /// After an operation that looks for the bucket: once it is known it is locked.
 #[inline(always)]
-fn located<M: Mix>(env: Env, port: Port, node: u32, locate: Locate, old: u64) -> BindAt
-    requires node { node < env.geometry.nodes }
+fn located<M: Mix>(env: Env, port: Port, attempt: Attempt, locate: Locate, old: u64) -> BindAt
+    requires node { attempt.node < env.geometry.nodes }
     requires locate { IsLocateIn env.geometry locate }
-    ensures { result ≡ located env port node (locate_after M.mix_of port locate old).0 (locate_after M.mix_of port locate old).1 }
+    ensures { result ≡ located env port attempt (locate_after M.mix_of port locate old).0 (locate_after M.mix_of port locate old).1 }
 {
     let (locate, next) = locate.after::<M>(port, old);
     match next {
-        Next::Go => BindAt::Locating { node, locate },
+        Next::Go => BindAt::Locating { attempt, locate },
         Next::Done(there) => {
-            bucket_or_no_table(env, port, node, locate.table(), there.shape, there.place)
+            bucket_or_no_table(env, port, attempt, locate.table(), there.shape, there.place)
         }
     }
 }
@@ -317,45 +424,45 @@ fn located<M: Mix>(env: Env, port: Port, node: u32, locate: Locate, old: u64) ->
 pub fn bucket_or_no_table(
     env: Env,
     port: Port,
-    node: u32,
+    attempt: Attempt,
     table: u32,
     shape: u64,
     place: Option<usize>,
 ) -> BindAt
-    requires node { node < env.geometry.nodes }
+    requires node { attempt.node < env.geometry.nodes }
     requires place { IsBucketOrNone env.geometry place }
-    ensures { result ≡ bucket_or_no_table env port node table shape place }
+    ensures { result ≡ bucket_or_no_table env port attempt table shape place }
 {
     match place {
         Some(place) => BindAt::Probing {
-            node,
+            attempt,
             table,
             shape,
             probe: Probe::new(env.geometry, place, word_of(port)),
         },
         None => {
             let size = Shape::from(shape).size();
-            giving(env, node, Reply::NoTable { size })
+            giving(env, attempt.node, Reply::NoTable { size })
         }
     }
 }
 
 /// After an operation in the bucket: where it has ended, what was seen is looked at.
 #[inline(always)]
-fn probed(kind: Kind, node: u32, table: u32, shape: u64, probe: Probe, old: u64) -> BindAt
-    ensures { result ≡ probed kind node table shape (probe_after probe old).0 (probe_after probe old).1 }
+fn probed(kind: Kind, attempt: Attempt, table: u32, shape: u64, probe: Probe, old: u64) -> BindAt
+    ensures { result ≡ probed kind attempt table shape (probe_after probe old).0 (probe_after probe old).1 }
 {
     let (probe, next) = probe.after(old);
     match next {
         Next::Go => BindAt::Probing {
-            node,
+            attempt,
             table,
             shape,
             probe,
         },
         Next::Done(end) => {
             let claimed = Claimed {
-                node,
+                attempt,
                 table,
                 shape,
                 bucket: end.bucket,
@@ -365,143 +472,13 @@ fn probed(kind: Kind, node: u32, table: u32, shape: u64, probe: Probe, old: u64)
     }
 }
 
-/// Where the port was found it is bound already, and else the table's future is loaded.
-#[inline(always)]
-pub fn found_or_future(kind: Kind, claimed: Claimed, seen: Seen) -> BindAt
-    ensures { result ≡ found_or_future kind claimed seen.found seen.before seen.length }
-{
-    let Seen { before, length, .. } = seen;
-    match seen.found {
-        Some(first) => bound_already(kind, claimed, first, before),
-        None => BindAt::Future { claimed, length },
-    }
-}
-
-/// Of a port that is bound already the owner is loaded, where it can have but one; in a table of
-/// lists the node goes in front of its list.
-#[inline(always)]
-pub fn bound_already(kind: Kind, claimed: Claimed, first: u32, before: Option<u32>) -> BindAt
-    ensures { result ≡ bound_already kind claimed first before }
-{
-    match kind {
-        Kind::Single => BindAt::FoundOwner {
-            claimed,
-            found: first,
-        },
-        Kind::Listed => BindAt::ListLink {
-            list: FoundList {
-                claimed,
-                first,
-                before,
-            },
-        },
-    }
-}
-
-/// The putting of the node in the place of the list's first one.
-#[inline(always)]
-pub fn replacing(env: Env, list: FoundList) -> BindAt
-    requires { IsNodeOrNone env.geometry list.before }
-    ensures { result ≡ replacing env list }
-{
-    let Locked { place, word } = list.claimed.bucket;
-    let link = link_of(list.claimed.node);
-    BindAt::Replacing {
-        list,
-        relink: Relink::new(env.geometry, place, word, list.before, link),
-    }
-}
-
-/// After a store of the replacement. With the last one the bind has its answer; it has raised no
-/// count, so no table is due to grow by it.
-#[inline(always)]
-fn replaced(list: FoundList, relink: Relink) -> (BindAt, Next<Reply>)
-    ensures { result ≡ replaced list (relink_after relink).0 (relink_after relink).1 }
-{
-    let (relink, next) = relink.after();
-    let at = BindAt::Replacing { list, relink };
-    match next {
-        Next::Go => (at, Next::Go),
-        Next::Done(()) => (at, Next::Done(Reply::Bound { kick: false })),
-    }
-}
-
-/// A future table is looked through next. Where there is none, the ports are counted.
-#[inline(always)]
-pub fn future_or_count(claimed: Claimed, future: Option<u32>) -> BindAt
-    ensures { result ≡ future_or_count claimed future }
-{
-    match future {
-        Some(table) => unlocking(claimed, Then::Table(table)),
-        None => BindAt::Count { claimed },
-    }
-}
-
-/// After the count of ports was loaded: a table that is full refuses the bind. The count is cut to
-/// the most ports that there can be, which no run passes; the refusal names it as it was loaded.
-#[inline(always)]
-pub fn checked_count(env: Env, claimed: Claimed, count: u64) -> BindAt
-    ensures { result ≡ checked_count env claimed count }
-{
-    if above_max(count.min(65_536), env.config.max) {
-        unlocking(claimed, Then::Answer(Reply::TooBig { count }))
-    } else {
-        BindAt::Link { claimed }
-    }
-}
-
-/// Whether a table of this shape is due to grow once the count, which was this, has been raised.
-/// The count is cut so that with one more it is at most the most ports that there can be.
-#[inline(always)]
-pub fn kicks(env: Env, shape: u64, count: u64) -> bool
-    ensures { result ≡ kicks env shape count }
-{
-    above_75(
-        count.min(65_535) + 1,
-        Shape::from(shape).size(),
-        env.config.max,
-    )
-}
-
-/// The linking of the node, which becomes the bucket's first.
-#[inline(always)]
-pub fn publishing(env: Env, claimed: Claimed, kick: bool) -> BindAt
-    ensures { result ≡ publishing env claimed kick }
-{
-    let Locked { place, word } = claimed.bucket;
-    BindAt::Publish {
-        node: claimed.node,
-        table: claimed.table,
-        relink: Relink::new(env.geometry, place, word, None, link_of(claimed.node)),
-        kick,
-    }
-}
-
-/// After a store of the linking. With the last one the bind has its answer.
-#[inline(always)]
-fn published(node: u32, table: u32, kick: bool, relink: Relink) -> (BindAt, Next<Reply>)
-    ensures { result ≡ published node table kick (relink_after relink).0 (relink_after relink).1 }
-{
-    let (relink, next) = relink.after();
-    let at = BindAt::Publish {
-        node,
-        table,
-        relink,
-        kick,
-    };
-    match next {
-        Next::Go => (at, Next::Go),
-        Next::Done(()) => (at, Next::Done(Reply::Bound { kick })),
-    }
-}
-
 /// The unlocking of the bucket, and what comes after it.
 #[inline(always)]
 pub fn unlocking(claimed: Claimed, then: Then<Reply>) -> BindAt
     ensures { result ≡ unlocking claimed then }
 {
     BindAt::Unlocking {
-        node: claimed.node,
+        attempt: claimed.attempt,
         table: claimed.table,
         unlock: Unlock::new(claimed.bucket.place, claimed.bucket.word),
         then,
@@ -511,23 +488,13 @@ pub fn unlocking(claimed: Claimed, then: Then<Reply>) -> BindAt
 /// After the bucket was unlocked without a change: the bind goes on in the future table, or gives
 /// its node back.
 #[inline(always)]
-pub fn unlocked(env: Env, node: u32, then: Then<Reply>) -> BindAt
-    requires node { node < env.geometry.nodes }
+pub fn unlocked(env: Env, attempt: Attempt, then: Then<Reply>) -> BindAt
+    requires node { attempt.node < env.geometry.nodes }
     requires table { IsThenIn then }
-    ensures { result ≡ unlocked env node then }
+    ensures { result ≡ unlocked env attempt then }
 {
     match then {
-        Then::Table(table) => locating(env, node, table),
-        Then::Answer(reply) => giving(env, node, reply),
+        Then::Table(table) => locating(env, attempt, table),
+        Then::Answer(reply) => giving(env, attempt.node, reply),
     }
-}
-
-/// The giving back of the node, behind which the bind has this answer.
-#[inline(always)]
-pub fn giving(env: Env, node: u32, reply: Reply) -> BindAt
-    requires { node < env.geometry.nodes }
-    ensures { result ≡ giving env node reply }
-{
-    let give = GiveNode::new(env.geometry, node);
-    BindAt::Giving { give, reply }
 }

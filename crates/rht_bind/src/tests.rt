@@ -1,5 +1,6 @@
 //! The machine alone, told old values by hand. In a table of 8 nodes and 4 pages the node map is
-//! at 280, node n from 282 + 4 * n on, slot t from 24 + 32 * t on, and the pages from 314 on.
+//! at 280, the page map at 281, node n from 282 + 4 * n on, slot t from 24 + 32 * t on, and the pages
+//! from 314 on; with 32 nodes the pages are from 410 on.
 
 use super::Bind;
 use rht_model::Reply;
@@ -196,4 +197,191 @@ fn binds_in_front_of_a_list(rt: HostRuntime) {
         (Op::store(319, 6), 7),
     ];
     assert_bind(&rt, listed, &node_0_filled(), &between, bound);
+}
+
+/// A table of 32 nodes and 4 pages.
+fn roomy() -> Config {
+    Config {
+        nodes: 32,
+        ..small(Kind::Single, 0)
+    }
+}
+
+/// The operations of a walk through the nodes 1 to 16 in bucket 5 of a table of 64 buckets from page 0
+/// on, none of which has the port. They are its chain.
+fn walk_of_16() -> [(Op, u64); 36] {
+    let mut steps = [(Op::load(24), 6); 36];
+    steps[1] = (Op::load(25), 1);
+    steps[2] = (Op::load(415), 4);
+    steps[3] = (Op::exchange(415, 4, 5), 4);
+    for i in 0..16_usize {
+        let link = if i < 15 { 2 * i as u64 + 6 } else { 831 }; // the marker of 415
+        steps[2 * i + 4] = (Op::load(287 + 4 * i), 69);
+        steps[2 * i + 5] = (Op::load(286 + 4 * i), link);
+    }
+    steps
+}
+
+/// In the roomy table a bind of port 5 to owner 9 into a chain of 16 nodes performs the operations
+/// behind the walk, which find these words. The last one has this reply.
+fn assert_grows(
+    rt: &impl Abort,
+    once: bool,
+    steps: &[(Op, u64)],
+    behind: &[(Op, u64)],
+    reply: Reply,
+) {
+    let config = roomy();
+    assert!(rt; config.is_settled(), "at {config:?}");
+    let bind = Bind::<Low>::new(Env::new(config), 0, 5, 9, once);
+    let (filling, walk) = (node_0_filled(), walk_of_16());
+    assert_performs!(rt; bind, &filling, &walk, steps, behind => reply);
+}
+
+/// From the future of the chain's table, which has none, to the making of a table of 64 buckets in
+/// slot 1, from page 1 on.
+fn table_made() -> [(Op, u64); 14] {
+    [
+        (Op::load(26), 0),
+        (Op::store(415, 4), 5),
+        (Op::load(0), 0),
+        (Op::load(2), 16),
+        (Op::exchange(28, 0, 1), 1),
+        (Op::exchange(60, 0, 1), 0),
+        (Op::load(281), 14), // page 0 is taken
+        (Op::load(281), 14),
+        (Op::and(281, !2), 14),
+        (Op::add(3, 1), 1),
+        (Op::store(56, 1_030), 0), // 6 + 1024 * 1: 64 buckets from page 1 on
+        (Op::store(57, 2), 0), // the config's seed and the serial
+        (Op::store(58, 0), 0),
+        (Op::store(59, 1), 0),
+    ]
+}
+
+/// The node goes into bucket 5 of the table in slot 1, which is the current one by now.
+fn bound_in_slot_1() -> [(Op, u64); 10] {
+    [
+        (Op::load(0), 1),
+        (Op::load(56), 1_030),
+        (Op::load(57), 2),
+        (Op::load(479), 0), // 410 + 64 + 5
+        (Op::exchange(479, 0, 1), 0),
+        (Op::load(58), 0),
+        (Op::load(2), 16),
+        (Op::store(282, 959), 0), // the marker of 479
+        (Op::add(2, 1), 16),
+        (Op::store(479, 2), 1),
+    ]
+}
+
+#[test]
+fn the_seventeenth_bind_in_a_chain_attaches_a_table(rt: HostRuntime) {
+    let made = table_made();
+    let once = [(Op::exchange(26, 0, 2), 0), (Op::or(280, 1), 0)];
+    assert_grows(&rt, true, &made, &once, Reply::Again { table: 1 });
+    // Who has attached a table has a kick, with few ports too.
+    let [a, b, c, d, e, f, g, h, i, j] = bound_in_slot_1();
+    let anew = [(Op::exchange(26, 0, 2), 0), a, b, c, d, e, f, g, h, i, j];
+    assert_grows(&rt, false, &made, &anew, Reply::Bound { kick: true });
+}
+
+#[test]
+fn a_table_that_is_not_attached_is_given_back(rt: HostRuntime) {
+    let made = table_made();
+    // Another caller has attached the table in slot 2 meanwhile.
+    let lost = [
+        (Op::exchange(26, 0, 2), 3),
+        (Op::or(281, 2), 12),
+        (Op::store(60, 0), 1),
+        (Op::or(280, 1), 0),
+    ];
+    assert_grows(&rt, true, &made, &lost, Reply::Again { table: 2 });
+    let [a, b, c, d, e, f, g, h, i, j] = bound_in_slot_1();
+    let [attach, pages, slot, _] = lost;
+    let anew = [attach, pages, slot, a, b, c, d, e, f, g, h, i, j];
+    assert_grows(&rt, false, &made, &anew, Reply::Bound { kick: false });
+}
+
+#[test]
+fn binds_that_attach_no_table(rt: HostRuntime) {
+    // The current table is by now in slot 2, and 48 of 64 is not above three quarters.
+    let moved = [
+        (Op::load(26), 0),
+        (Op::store(415, 4), 5),
+        (Op::load(0), 2),
+        (Op::load(2), 48),
+    ];
+    let none = [(Op::load(26), 0), (Op::or(280, 1), 0)];
+    for once in [false, true] {
+        let busy = Reply::Busy { root: 2, last: 0 };
+        assert_grows(&rt, once, &moved, &none, busy);
+    }
+    let found = [(Op::load(26), 4), (Op::or(280, 1), 0)];
+    assert_grows(&rt, true, &moved, &found, Reply::Again { table: 3 });
+    // No slot is free, and above three quarters a table of 128 buckets is wanted.
+    let slots = [
+        (Op::load(26), 0),
+        (Op::store(415, 4), 5),
+        (Op::load(0), 2),
+        (Op::load(2), 49),
+        (Op::exchange(28, 0, 1), 1),
+        (Op::exchange(60, 0, 1), 1),
+        (Op::exchange(92, 0, 1), 1),
+        (Op::exchange(124, 0, 1), 1),
+        (Op::exchange(156, 0, 1), 2),
+        (Op::exchange(188, 0, 1), 1),
+        (Op::exchange(220, 0, 1), 1),
+        (Op::exchange(252, 0, 1), 1),
+    ];
+    for once in [false, true] {
+        let no_table = Reply::NoTable { size: 128 };
+        assert_grows(&rt, once, &slots, &none, no_table);
+    }
+}
+
+#[test]
+fn a_table_of_twice_the_size_above_the_size(rt: HostRuntime) {
+    // Port 5 has bucket 1 of 4, and there are 5 ports. Another is released between the two looks.
+    let above = [
+        (Op::load(24), 2),
+        (Op::load(25), 1),
+        (Op::load(315), 0),
+        (Op::exchange(315, 0, 1), 0),
+        (Op::load(26), 0),
+        (Op::load(2), 5),
+        (Op::store(315, 0), 1),
+        (Op::load(0), 0),
+        (Op::load(2), 4),
+        (Op::exchange(28, 0, 1), 1),
+        (Op::exchange(60, 0, 1), 0),
+        (Op::load(281), 14),
+        (Op::load(281), 14),
+        (Op::and(281, !2), 14),
+        (Op::add(3, 1), 9),
+        (Op::store(56, 1_027), 0), // 3 + 1024 * 1: 8 buckets from page 1 on
+        (Op::store(57, 10), 0),
+        (Op::store(58, 0), 0),
+        (Op::store(59, 9), 0),
+        (Op::exchange(26, 0, 2), 0),
+        // Anew, and on to the table of 8 buckets.
+        (Op::load(0), 0),
+        (Op::load(24), 2),
+        (Op::load(25), 1),
+        (Op::load(315), 0),
+        (Op::exchange(315, 0, 1), 0),
+        (Op::load(26), 2),
+        (Op::store(315, 0), 1),
+        (Op::load(56), 1_027),
+        (Op::load(57), 10),
+        (Op::load(383), 0), // 314 + 64 + 5
+        (Op::exchange(383, 0, 1), 0),
+        (Op::load(58), 0),
+        (Op::load(2), 4),
+        (Op::store(282, 767), 0), // the marker of 383
+        (Op::add(2, 1), 4),
+        (Op::store(383, 2), 1),
+    ];
+    let reply = Reply::Bound { kick: true };
+    assert_bind(&rt, small(Kind::Single, 0), &node_0_filled(), &above, reply);
 }

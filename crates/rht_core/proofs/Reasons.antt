@@ -1,5 +1,13 @@
 -- the last table that a call walked is the one whose shape it loaded last
 pub mod TablesWalked
+-- the nodes whose keys were loaded
+pub mod KeysRead
+-- whether a bind has attached a table
+pub mod AttachedTables
+-- what the making of a table has seen so far
+pub mod MakesSeen
+-- what a bind that finds the last table full has seen for a refusal
+pub mod RefusedBinds
 -- in every run each call that has ended has a reply with its cause
 pub mod CausesInRuns
 -- in every run a listing lists each owner that its operations loaded

@@ -1,13 +1,13 @@
 -- Why calls were answered as they were: a table of causes, by call and by reply, over the call's own operations.
 -- Each row says what the operations of a call that ended with this reply have to show. A row with nothing to show says so; a
 -- row that no call meets yet, and each reply that isn't one of the call's, can have no cause.
-use Rattle.std.specs.Prelude.{◌≡◌, ◌≢◌, ◌↔◌, ℕ, ◌+◌, ◌<◌, ◌≤◌, ◌==◌, ◌&&◌, not, Bool, true, List, ◌∷◌, ◌++◌, map, take, count_by}
-use Rattle.std.specs.List.{AllByRecursion, Any, range_with_len}
+use Rattle.std.specs.Prelude.{◌≡◌, ◌↔◌, ℕ, ◌+◌, ◌<◌, ◌≤◌, ◌⊎◌, Bool, true, List, map}
+use Rattle.std.specs.List.{AllByRecursion, Any}
 use Rattle.rht_words.specs.declared.op.Op.TheVariants.{Load, Add}
 use Rattle.rht_words.specs.declared.env.Env.{Env}
 use Rattle.rht_words.specs.declared.config.Kind.TheVariants.{Single}
 use Rattle.rht_words.specs.declared.geometry.Geometry.{Geometry}
-use Rattle.rht_words.specs.Places.{PortCount, Slot, ShapeWord, place_of}
+use Rattle.rht_words.specs.Places.{PortCount, place_of}
 use Rattle.rht_words.specs.Shapes.{unpacked, size_of}
 use Rattle.rht_policy.specs.Thresholds.{is_above_75}
 use Rattle.rht_policy.specs.Sizes.{most_ports}
@@ -17,15 +17,10 @@ use Rattle.rht_model.specs.declared.history.Reply.{Reply}
 use Rattle.rht_model.specs.declared.history.Reply.TheVariants.{Bound, Exists, Found, Missing, Listed, Released, Absent, Rebound, TooBig, Again, Busy, NoTable, NoNode, Pending, Elsewhere, Walked, Moved, Idle, Clear, Counted}
 use Rattle.rht_arena.specs.Laws.{SeesTaken}
 use Rattle.rht_core.specs.declared.event.Event.{Event}
-use Rattle.rht_core.specs.Locals.{is_idle}
-use Rattle.rht_core.specs.Runs.{Core, local_of, run_of, IsAdmitted}
+use Rattle.rht_core.specs.Runs.{IsAdmitted}
 use Rattle.rht_core.specs.Traces.{Did, Past, performed_of, traced_of}
-use Rattle.rht_core.specs.StandsFor.{stands_for, AreBound}
-
--- how many callers but this one are in the middle of a call
-abbrev pub others_in_call : {M : Type 0} → Core M → ℕ → ℕ
-others_in_call core c =
-    count_by (λ other. not (other == c) && not (is_idle (local_of core other))) (range_with_len 0 core.env.geometry.callers)
+use Rattle.rht_core.specs.Seen.{LastWalked, CountedAt, SawCount}
+use Rattle.rht_core.specs.ResizeCauses.{AttachesSome, HasFollowed, SawBusy, SawNoTable}
 
 -- why a look-up ended with this reply: it has nothing to show for its answers
 abbrev pub FindCause : Reply → Type 0
@@ -124,21 +119,6 @@ RebindCause env past Idle = ⊥
 RebindCause env past (Clear returned) = ⊥
 RebindCause env past (Counted count) = ⊥
 
--- the operation doesn't load the shape of a table
-abbrev pub IsNoShapeLoad : Geometry → Did → Type 0
-IsNoShapeLoad g did = (table : ℕ) → table < 8 → did.op ≢ Load (place_of g (Slot table ShapeWord))
-
--- the last table of which these operations loaded the shape is that of this slot, and this shape was found
-pub record LastWalked (g : Geometry) (table shape : ℕ) (steps : List Did) : Type 0 where
-  pub before : List Did
-  pub at : Did
-  pub behind : List Did
-  pub split : steps ≡ before ++ at ∷ behind
-  pub table_in : table < 8
-  pub loaded : at.op ≡ Load (place_of g (Slot table ShapeWord))
-  pub found : at.old ≡ shape
-  pub last : AllByRecursion (IsNoShapeLoad g) behind
-
 -- the operation raised the count of ports
 abbrev pub IsRaise : Geometry → Did → Type 0
 IsRaise g did = did.op ≡ Add (place_of g PortCount) 1
@@ -148,40 +128,27 @@ pub record IsDueBy (env : Env) (shape : ℕ) (did : Did) : Type 0 where
   pub raised : IsRaise env.geometry did
   pub due : is_above_75 (did.old + 1) (size_of (unpacked shape)) env.config.max ≡ true
 
--- A bind says that there is something to do for `work` exactly where, behind the last table that it walked,
--- it raised the count and that table is due to grow by this. In a table of one owner each it did raise the
--- count; in one of lists a port that is bound already raises none.
+-- A bind says that there is something to do for `work` exactly where it attached a table, or, behind the last table that
+-- it walked, raised the count and that table is due to grow by this. In a table of one owner each it did raise the count; in
+-- one of lists a port that is bound already raises none.
 pub record KicksRightly (env : Env) (kick : Bool) (steps : List Did) : Type 0 where
   pub table : ℕ
   pub shape : ℕ
   pub walked : LastWalked env.geometry table shape steps
-  pub kicks : (kick ≡ true) ↔ Any (IsDueBy env shape) walked.behind
+  pub kicks : (kick ≡ true) ↔ (Any (AttachesSome env.geometry) steps ⊎ Any (IsDueBy env shape) walked.behind)
   pub raised : env.config.kind ≡ Single → Any (IsRaise env.geometry) walked.behind
 
 module _ (M : Type 0) (mix : ℕ → ℕ → ℕ → ℕ) where
-  -- at the event of this operation, the ports bound were at most so many, and with the other callers in mid-call at least
-  pub record CountedAt (env : Env) (events : List Event) (c count : ℕ) (did : Did) : Type 0 where
-    pub bound : ℕ
-    pub are_bound : AreBound (stands_for env.geometry (run_of {M = M} mix env (take did.index events)).core.words) bound
-    pub few : bound ≤ count
-    pub enough : count ≤ bound + others_in_call (run_of {M = M} mix env (take did.index events)).core c
-
   -- the operation loaded this count of ports, which is as many as the table may hold or more, and so many there were
   pub record SawFull (env : Env) (events : List Event) (c count : ℕ) (did : Did) : Type 0 where
     pub loaded : did.op ≡ Load (place_of env.geometry PortCount)
     pub found : did.old ≡ count
     pub full : most_ports env.config.max ≤ count
-    pub counted : CountedAt env events c count did
-
-  -- the operation loaded this count of ports, and so many there were
-  pub record SawCount (env : Env) (events : List Event) (c count : ℕ) (did : Did) : Type 0 where
-    pub loaded : did.op ≡ Load (place_of env.geometry PortCount)
-    pub found : did.old ≡ count
-    pub counted : CountedAt env events c count did
+    pub counted : CountedAt M mix env events c count did
 
   -- why a reading of the count ended with this reply
   abbrev pub CountCause : Env → List Event → ℕ → Past → Reply → Type 0
-  CountCause env events c past (Counted count) = Any (SawCount env events c count) past.steps
+  CountCause env events c past (Counted count) = Any (SawCount M mix env events c count) past.steps
   CountCause env events c past (Found owner) = ⊥
   CountCause env events c past Missing = ⊥
   CountCause env events c past (Bound kick) = ⊥
@@ -202,15 +169,15 @@ module _ (M : Type 0) (mix : ℕ → ℕ → ℕ → ℕ) where
   CountCause env events c past Idle = ⊥
   CountCause env events c past (Clear returned) = ⊥
 
-  -- why a bind ended with this reply; the refusals of a table that grows have no cause yet
+  -- why a bind ended with this reply
   abbrev pub BindCause : Env → List Event → ℕ → Past → Reply → Type 0
   BindCause env events c past (Bound kick) = KicksRightly env kick past.steps
   BindCause env events c past (Exists owner) = Unit {0}
   BindCause env events c past NoNode = SawNoNode env past
   BindCause env events c past (TooBig count) = Any (SawFull env events c count) past.steps
-  BindCause env events c past (Again table) = ⊥
-  BindCause env events c past (Busy root last) = ⊥
-  BindCause env events c past (NoTable size) = ⊥
+  BindCause env events c past (Again table) = HasFollowed env.geometry table past.steps
+  BindCause env events c past (Busy root last) = SawBusy M mix env events c root last past.steps
+  BindCause env events c past (NoTable size) = SawNoTable M mix env events c size past.steps
   BindCause env events c past (Found owner) = ⊥
   BindCause env events c past Missing = ⊥
   BindCause env events c past (Listed len) = ⊥

@@ -1,4 +1,4 @@
--- That a run stays in its first table: so far no other one is attached, and none takes its place.
+-- That the first table stays the current one: so far no other takes its place, though others may come behind it.
 use Rattle.std.specs.Prelude.{◌≡◌, ℕ, List}
 use Rattle.rht_words.specs.declared.env.Env.{Env}
 use Rattle.rht_words.specs.Sizes.{first_size}

@@ -103,7 +103,7 @@ abbrev pub job_after : (ℕ → ℕ → ℕ → ℕ) → Env → Job → ℕ →
 job_after mix env (finds port state) old =
     job_next (finds port) plain_ending (find.after_at mix env port state old)
 job_after mix env (binds port owner once state) old =
-    job_next (binds port owner once) plain_ending (bind.after_at mix env port state old)
+    job_next (binds port owner once) plain_ending (bind.after_at mix env port once state old)
 job_after mix env (lists port room state) old =
     let after = all.room_after state room old in
     job_next (lists port after) (listing_ending after) (all.after_at mix env port state old)

@@ -16,8 +16,12 @@ pub mod Closing
 pub mod Replies
 -- what holds of every run
 pub mod Laws
+-- what a call's operations show of tables and of the count
+pub mod Seen
 -- why a call was refused
 pub mod Causes
+-- and why a bind that wanted a further table was
+pub mod ResizeCauses
 -- one call alone
 pub mod Alone
 -- what the count of ports counts, and a table that nobody uses

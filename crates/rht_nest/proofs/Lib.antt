@@ -12,3 +12,5 @@ pub mod MakesInTurn
 pub mod MakesMade
 -- a table that is given back gives its pages and its slot back
 pub mod UnmakesGive
+-- the pages of a table, and those that its giving back has to give
+pub mod TablePages

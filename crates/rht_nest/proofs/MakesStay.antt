@@ -14,11 +14,11 @@ use Rattle.rht_arena.specs.TakeRun.{TakeRunModel, take_run_new, take_run_after, 
 use Rattle.rht_arena.specs.GiveRun.{GiveRunModel, give_run_after, IsGiveRunIn}
 use Rattle.rht_arena.proofs.RunsStay.{TakeRunIsIn, take_run_stays, give_run_stays}
 use Rattle.rht_arena.proofs.RunsSeen.{begins-in}
-use Rattle.rht_nest.specs.Tables.{flat_shape, table_pages}
+use Rattle.rht_nest.specs.Tables.{flat_shape, table_pages, run_first, run_pages}
 use Rattle.rht_nest.specs.Make.{MakeModel, make_after, make_after_at, made_pages, made_shape, run_taken, run_started, slot_seen, IsSlotAndRun, IsNumbered, IsTakingIn, IsMakeAtIn, IsMakeIn, IsMadeIn, IsMakeEndIn}
 use Rattle.rht_nest.specs.declared.make.MakeAt.{MakeAt}
 use Rattle.rht_nest.specs.declared.make.MakeAt.TheVariants as at
-use Rattle.rht_nest.specs.Unmake.{UnmakeModel, unmake_after, unmake_after_at, run_given, IsUnmakeAtIn, IsUnmakeIn}
+use Rattle.rht_nest.specs.Unmake.{UnmakeModel, unmake_new, unmake_after, unmake_after_at, run_given, IsUnmakeAtIn, IsUnmakeIn}
 use Rattle.rht_nest.specs.declared.unmake.UnmakeAt.{UnmakeAt}
 use Rattle.rht_nest.specs.declared.unmake.UnmakeAt.TheVariants as gives
 
@@ -146,3 +146,23 @@ module _ (g : Geometry) where
     slot_in = within.slot_in;
     at_in = unmake_stays_at m.at word within.at_in;
   }
+
+  -- the run that is read from a shape is one
+  run_of-in : (shape : ℕ) → IsRunIn g (run_first g shape) (run_pages g shape)
+  run_of-in shape =
+      let some = g.within.pages_within in
+      record { some = omega (arith, some); within = omega (arith, some) }
+
+  -- whatever the shape, the giving back of a table begins in range
+  pub unmake_begins : (slot shape : ℕ) → slot < 8 → IsUnmakeIn g (unmake_new g slot shape)
+  unmake_begins slot shape slot_in =
+      let run = run_of-in shape in
+      record {
+        geometry_same = refl;
+        slot_in = slot_in;
+        at_in = record {
+          geometry_same = refl;
+          run = run;
+          word = record { from = omega arith; until = omega (arith, run.some) };
+        };
+      }

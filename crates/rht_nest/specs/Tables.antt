@@ -17,6 +17,10 @@ flat_shape exponent page = record { exponent = exponent; nest = 0; page = page }
 abbrev pub table_pages : Shape → ℕ
 table_pages shape = max 1 (size_of shape / 64)
 
+-- the pages of a flat table whose shape is packed into this word
+abbrev pub pages_of_shape : ℕ → List ℕ
+pages_of_shape shape = range_with_len (unpacked shape).page (table_pages (unpacked shape))
+
 -- the run of a table whose shape is packed into this word, cut to the pages that there are
 abbrev pub run_first : Geometry → ℕ → ℕ
 run_first g shape = min (unpacked shape).page (g.pages - 1)

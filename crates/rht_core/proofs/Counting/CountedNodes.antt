@@ -7,7 +7,7 @@ use Rattle.std.specs.List.{AllByRecursion, slice_get}
 use Rattle.std.proofs.lemmas.Option.{slice_get_within, get_or_from_slice_get}
 use Rattle.std.proofs.lemmas.List.Elements.{All-from_recursion}
 use Rattle.rht_words.specs.declared.op.Op.{Op}
-use Rattle.rht_words.specs.declared.op.Op.TheVariants.{Add}
+use Rattle.rht_words.specs.declared.op.Op.TheVariants.{Load, Add}
 use Rattle.rht_words.specs.Operations.{old_of, applied}
 use Rattle.rht_words.proofs.EachElement.{AllByRecursion-push}
 use Rattle.rht_words.specs.declared.env.Env.{Env}
@@ -45,9 +45,9 @@ module _ (env : Env) (mix : ℕ → ℕ → ℕ → ℕ) (c : ℕ) (M : Memory) 
       → JobKnows env mix c (binds port owner once state) M G
       → (held_of_bind state).raised ≡ true → OwnNode env G c
   bind-own port owner once (at.Filling new) knows is = absurd (cc)
-  bind-own port owner once (at.CurrentTable node) knows is = absurd (cc)
-  bind-own port owner once (at.Locating node locate) knows is = absurd (cc)
-  bind-own port owner once (at.Probing node table shape probe) knows is = absurd (cc)
+  bind-own port owner once (at.CurrentTable attempt) knows is = absurd (cc)
+  bind-own port owner once (at.Locating attempt locate) knows is = absurd (cc)
+  bind-own port owner once (at.Probing attempt table shape probe) knows is = absurd (cc)
   bind-own port owner once (at.FoundOwner claimed found) knows is = absurd (cc)
   bind-own port owner once (at.ListLink list) knows is = absurd (cc)
   bind-own port owner once (at.ChainLink list) knows is = absurd (cc)
@@ -65,7 +65,14 @@ module _ (env : Env) (mix : ℕ → ℕ → ℕ → ℕ) (c : ℕ) (M : Memory) 
         among = has.among;
         mine = inl has.mine;
       }
-  bind-own port owner once (at.Unlocking node table unlock next) knows is = absurd (cc)
+  bind-own port owner once (at.Unlocking attempt table unlock next) knows is = absurd (cc)
+  bind-own port owner once (at.UnlockingFull growing unlock) knows is = absurd (cc)
+  bind-own port owner once (at.Root growing) knows is = absurd (cc)
+  bind-own port owner once (at.GrowthCount growing root) knows is = absurd (cc)
+  bind-own port owner once (at.Making growing size make) knows is = absurd (cc)
+  bind-own port owner once (at.FutureAgain growing refusal) knows is = absurd (cc)
+  bind-own port owner once (at.Attaching growing slot shape) knows is = absurd (cc)
+  bind-own port owner once (at.Unmaking attempt unmake answer) knows is = absurd (cc)
   bind-own port owner once (at.Giving give reply) knows is = absurd (cc)
 
   -- a release that is to lower the count has taken the node out
@@ -132,6 +139,19 @@ module _ (env : Env) (mix : ℕ → ℕ → ℕ → ℕ) (M : Type 0) where
       → plan ≡ Some op
       → (core_step mix core (Step c)).0.words ≡ applied core.words op
   stepped_words core c op plan is some = rw (is ∙ some) refl
+
+  -- whoever loads the count finds it at most the nodes
+  pub load_few : (events : List Event) (c : ℕ) (did : Did) → IsAdmitted env.config.kind events
+      → did.op ≡ Load (place_of env.geometry PortCount) → IsRecorded M mix env events c did
+      → did.old ≤ env.geometry.nodes
+  load_few events c did admitted loads is =
+      let before = take did.index events in
+      let core : Core M = (run_of mix env before).core in
+      let has = has_inv env mix M before (taken (IsAdmittedEvent env.config.kind) did.index events admitted) in
+      let found : did.old ≡ word_at env.geometry core.words PortCount =
+      sym is.found ∙ ap (old_of core.words) loads in
+      let few = count_few core has.ghost has.inv in
+      omega (arith, found, few)
 
   -- Whoever raises the count found it below the nodes, since it is at most the nodes behind that too.
   pub raise_few : (events : List Event) (c : ℕ) (did : Did) → IsAdmitted env.config.kind events

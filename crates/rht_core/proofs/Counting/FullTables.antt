@@ -42,7 +42,7 @@ use Rattle.rht_release.specs.declared.rebind.RebindAt.{RebindAt}
 use Rattle.rht_release.specs.declared.rebind.RebindAt.TheVariants as rebind_at
 use Rattle.rht_core.specs.Traces.{Did}
 use Rattle.rht_core.specs.Laws.{IsRecorded}
-use Rattle.rht_core.specs.Causes.{others_in_call, CountedAt}
+use Rattle.rht_core.specs.Seen.{others_in_call, CountedAt}
 use Rattle.rht_core.specs.Counts.{raised_by}
 use Rattle.rht_core.proofs.Events.JobsOfCallers.{is_no_job, nothing-job}
 use Rattle.rht_core.proofs.Theory.Ghosts.{Ghost}
@@ -103,9 +103,9 @@ relink_stores relink (relinks.Word word) place is = cc
 bind_loads-unraised : (e : Env) (place : ℕ) (state : BindAt) → plan_at e state ≡ Load place
     → (held_of_bind state).raised ≡ false
 bind_loads-unraised e place (at.Filling new) is = refl
-bind_loads-unraised e place (at.CurrentTable node) is = refl
-bind_loads-unraised e place (at.Locating node locate) is = refl
-bind_loads-unraised e place (at.Probing node table shape probe) is = refl
+bind_loads-unraised e place (at.CurrentTable attempt) is = refl
+bind_loads-unraised e place (at.Locating attempt locate) is = refl
+bind_loads-unraised e place (at.Probing attempt table shape probe) is = refl
 bind_loads-unraised e place (at.FoundOwner claimed found) is = refl
 bind_loads-unraised e place (at.ListLink list) is = refl
 bind_loads-unraised e place (at.ChainLink list) is = refl
@@ -118,7 +118,14 @@ bind_loads-unraised e place (at.Link claimed) is = refl
 bind_loads-unraised e place (at.Raise claimed) is = refl
 bind_loads-unraised e place (at.Publish node table relink kick) is = absurd
     (relink_stores relink relink.at place is)
-bind_loads-unraised e place (at.Unlocking node table unlock next) is = refl
+bind_loads-unraised e place (at.Unlocking attempt table unlock next) is = refl
+bind_loads-unraised e place (at.UnlockingFull growing unlock) is = refl
+bind_loads-unraised e place (at.Root growing) is = refl
+bind_loads-unraised e place (at.GrowthCount growing root) is = refl
+bind_loads-unraised e place (at.Making growing size make) is = refl
+bind_loads-unraised e place (at.FutureAgain growing refusal) is = refl
+bind_loads-unraised e place (at.Attaching growing slot shape) is = refl
+bind_loads-unraised e place (at.Unmaking attempt unmake answer) is = refl
 bind_loads-unraised e place (at.Giving give reply) is = refl
 
 -- a listing raises none

@@ -71,7 +71,7 @@ same_call mix env (finds port state) old =
     job_next-call (finds port) plain_ending (Find port) (λ s. refl) (find.after_at mix env port state old)
 same_call mix env (binds port owner once state) old =
     job_next-call (binds port owner once) plain_ending (Bind port owner once) (λ s. refl)
-    (bind.after_at mix env port state old)
+    (bind.after_at mix env port once state old)
 same_call mix env (lists port room state) old =
     let after = all.room_after state room old in
     job_next-call (lists port after) (listing_ending after) (All port) (λ s. refl)
@@ -163,7 +163,7 @@ module _ (M : Type 0) where
   left-job mix env (Binding m) job old of is =
       let here : binds m.port m.owner m.once m.at ≡ job = cc in
       next-left Binding (λ state. record m { at = state }) (binds m.port m.owner m.once) (λ state. refl)
-      (bind.after_at mix m.env m.port m.at old)
+      (bind.after_at mix m.env m.port m.once m.at old)
       ∙ ap (λ (e : Env). (told (job_after mix e (binds m.port m.owner m.once m.at) old)).0) of
       ∙ ap (λ (j : Job). (told (job_after mix env j old)).0) here
   left-job mix env (Listing m) job old of is =
@@ -319,7 +319,7 @@ module _ {M : Type 0} where
     doing_after-job mix env (Binding m) job old of is =
         let here : binds m.port m.owner m.once m.at ≡ job = cc in
         next-told Binding (λ state. record m { at = state }) (binds m.port m.owner m.once) (λ state. refl)
-        (bind.after_at mix m.env m.port m.at old)
+        (bind.after_at mix m.env m.port m.once m.at old)
         ∙ ap (λ (e : Env). told (job_after mix e (binds m.port m.owner m.once m.at) old)) of
         ∙ ap (λ (j : Job). told (job_after mix env j old)) here
     doing_after-job mix env (Listing m) job old of is =

@@ -158,7 +158,7 @@ module _ (M : Type 0) where
       }
   doing_after-in mix env c (Binding m) old within told =
       let here = subst (λ (e : Env). IsBindAtIn e m.at) (sym within.same_env) within.at_in in
-      let next = bind_stays mix m.env m.port m.at old here told in
+      let next = bind_stays mix m.env m.port m.once m.at old here told in
       next_so (IsDoingIn env c) Binding tt (bind_after mix m old).0 (bind_after mix m old).1 record {
         same_env = within.same_env;
         same_caller = within.same_caller;

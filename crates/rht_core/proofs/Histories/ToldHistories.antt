@@ -28,7 +28,8 @@ use Rattle.rht_core.specs.Locals.{is_idle}
 use Rattle.rht_core.specs.Runs.{Core, World, View, run_of, local_of, IsAdmitted}
 use Rattle.rht_core.specs.Traces.{Past, Traced, traced_of, behind_call}
 use Rattle.rht_core.specs.Laws.{IsPastCall}
-use Rattle.rht_core.specs.Causes.{others_in_call, CauseOf, HasCause, SawFull}
+use Rattle.rht_core.specs.Seen.{others_in_call}
+use Rattle.rht_core.specs.Causes.{CauseOf, HasCause, SawFull}
 use Rattle.rht_core.specs.Closing.{IsClosedOf}
 use Rattle.rht_core.specs.NodesUsed.{needs_node, is_no_node, took_node, may_take_node, takers_of, takers, IsForWant}
 use Rattle.rht_core.specs.Numbered.{Numbered, history_of, entries_of}

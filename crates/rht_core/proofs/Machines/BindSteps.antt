@@ -1,6 +1,7 @@
 -- What a bind knows in each state, and that each of its operations leads from what it knows to what it knows next.
-use Rattle.std.proofs.Common.{◌≡◌, ◌≢◌, ◌⊎◌, ℕ, ◌+◌, ◌^◌, ◌<◌, ◌≤◌, List, [], ◌∷◌, length, min, Option, Some, None, Bool, true, false, cond, refl, sym, ◌∙◌, ap, subst, inl, inr, arith}
-use Rattle.std.proofs.lemmas.Bool.{cases_eq, eq-eqb, ne_eqb}
+use Rattle.std.proofs.Common.{◌≡◌, ◌≢◌, ◌⊎◌, ℕ, ◌+◌, ◌^◌, ◌<◌, ◌≤◌, List, [], ◌∷◌, length, min, nat_le, nat_eq, ◌*◌, ◌-◌, ◌==◌, Option, Some, None, Bool, true, false, cond, refl, sym, ◌∙◌, ap, subst, inl, inr, arith}
+use Rattle.std.specs.Prelude.{option_map}
+use Rattle.std.proofs.lemmas.Bool.{cases_eq, eq-eqb, ne_eqb, eqb-true, eqb-false, both_ways}
 use Rattle.std.proofs.lemmas.Bool.Decides.{nat_tests}
 use Rattle.std.proofs.Math.Nat.{mod-eq_of_lt}
 use Rattle.rht_words.specs.declared.env.Env.{Env}
@@ -11,17 +12,25 @@ use Rattle.rht_words.specs.declared.config.Kind.TheVariants.{Single, Listed}
 use Rattle.rht_words.specs.declared.machine.Next.{Next}
 use Rattle.rht_words.specs.declared.machine.Next.TheVariants.{Go, Done}
 use Rattle.rht_words.specs.Held as held
-use Rattle.rht_words.specs.Links.{table_of, slot_of, link_of, head_of, plain_of}
+use Rattle.rht_words.specs.declared.geometry.Geometry.{Geometry}
+use Rattle.rht_words.specs.Links.{table_of, slot_of, future_of, link_of, head_of, plain_of}
 use Rattle.rht_words.specs.Ports.{owner_of}
+use Rattle.rht_words.specs.Shapes.{size_of, unpacked}
 use Rattle.rht_words.specs.Operations.{op_place, old_of, word_after, applied}
-use Rattle.rht_words.specs.Places.{CurrentTable, PortCount, Slot, FutureWord, Node, ChainLink, OwnerWord, ListLink, PageWord, nodes_at, place_of, words_in}
+use Rattle.rht_words.specs.Places.{CurrentTable, PortCount, Slot, SeedWord, FutureWord, SerialWord, Node, ChainLink, OwnerWord, ListLink, PageWord, nodes_at, place_of, words_in}
 use Rattle.rht_words.proofs.Memory.{Memory, IsWrite, is_write}
 use Rattle.rht_words.specs.Members.{In}
 use Rattle.rht_words.proofs.Members.{in-middle}
 use Rattle.rht_words.proofs.PlacesApart.{parts_in_order}
-use Rattle.rht_policy.specs.Thresholds.{is_above_max}
+use Rattle.rht_policy.specs.Thresholds.{is_above_75, is_above_100, is_above_max}
 use Rattle.rht_arena.specs.GiveNode.{give_node_plan}
 use Rattle.rht_arena.specs.NewNode.{NewNodeModel, new_node_plan, new_node_after, node_of_new}
+use Rattle.rht_nest.specs.Tables.{pages_of_shape}
+use Rattle.rht_nest.specs.Make.{MakeModel, make_plan, make_after_at, slot_of_make, pages_of_make}
+use Rattle.rht_nest.specs.declared.make.MakeAt.{MakeAt}
+use Rattle.rht_nest.specs.Unmake.{UnmakeModel, unmake_new, unmake_plan, unmake_after_at, pages_of_unmake}
+use Rattle.rht_nest.specs.declared.unmake.UnmakeAt.{UnmakeAt}
+use Rattle.rht_nest.proofs.TablePages.{page_of_table, pages_of_table-shape, pages_of_unmake-table}
 use Rattle.rht_nest.specs.Locate.{LocateModel, locate_new, locate_plan, locate_after}
 use Rattle.rht_nest.specs.declared.locate.Located.{Located}
 use Rattle.rht_chain.specs.Probe.{ProbeModel, probe_new, probe_plan, probe_after, lock_of_probe}
@@ -34,32 +43,45 @@ use Rattle.rht_chain.specs.declared.locked.Then.TheVariants.{Table, Answer}
 use Rattle.rht_model.specs.declared.history.Call.{Call}
 use Rattle.rht_model.specs.declared.history.Call.TheVariants as calls
 use Rattle.rht_model.specs.declared.history.Reply.{Reply}
-use Rattle.rht_model.specs.declared.history.Reply.TheVariants.{Bound, Exists, TooBig, NoNode}
+use Rattle.rht_model.specs.declared.history.Reply.TheVariants.{Bound, Exists, TooBig, Again, Busy, NoTable, NoNode}
 use Rattle.rht_model.specs.Multimap.{Multimap, Agree}
 use Rattle.rht_model.specs.Answers.{plain, bind_reply, owners_bound}
 use Rattle.rht_model.specs.Answers as answers
-use Rattle.rht_bind.specs.Bind.{plan_at, after_at, filled, located, bound_already, found_or_future, probed, replacing, unlocking, future_or_count, checked_count, publishing, kicks, giving, IsBindAtIn}
+use Rattle.rht_bind.specs.Bind.{plan_at, after_at, first_attempt, filled, located, bound_already, found_or_future, probed, replacing, unlocking, future_or_count, checked_count, publishing, kicks, IsBindAtIn}
+use Rattle.rht_bind.specs.Growing.{giving, unlocking_full, want_or_busy, making, size_grown, made, ended_attempt, behind_attempt, refused_or_found, has_attached, unmade}
 use Rattle.rht_bind.specs.BindHeld.{held_of_bind, holds_node, holds_claimed, holds_replacing}
+use Rattle.rht_bind.specs.declared.bind.Attempt.{Attempt}
 use Rattle.rht_bind.specs.declared.bind.Claimed.{Claimed}
+use Rattle.rht_bind.specs.declared.bind.growth.Full.{Full}
+use Rattle.rht_bind.specs.declared.bind.growth.Full.TheVariants as full
+use Rattle.rht_bind.specs.declared.bind.growth.Growing.{Growing}
+use Rattle.rht_bind.specs.declared.bind.growth.Refusal.{Refusal}
+use Rattle.rht_bind.specs.declared.bind.growth.Refusal.TheVariants as refusals
 use Rattle.rht_bind.specs.declared.bind.FoundList.{FoundList}
 use Rattle.rht_bind.specs.declared.bind.BindAt.{BindAt}
 use Rattle.rht_bind.specs.declared.bind.BindAt.TheVariants as at
-use Rattle.rht_core.proofs.Theory.Ghosts.{put, put-same, put-other, put-all, Held, First, Ghost, is_taken_by, index_at, table_at, with_armed, armed_by}
+use Rattle.rht_core.proofs.Theory.Ghosts.{put_in, put_in-all, PageOf, PageHeld, SlotHeld, Live, is_page_for, flat_table, put, put-same, put-other, put-all, Held, First, Ghost, is_taken_by, index_at, table_at, with_armed, armed_by}
 use Rattle.rht_core.proofs.Theory.Wholes.{chain_of, key_of, place_at, word_index, place_at-index, index-within, Whole}
 use Rattle.rht_core.proofs.Theory.Passed.{home-table, Passed-stays}
-use Rattle.rht_core.proofs.Theory.Knowns.{KnownNode, KnownTable, Nowhere, Passes, AtHome, KnownBucket, Unlocked, Locks, Missed, Found, Member, InList, KnownList, FirstLink, Replaces, Known, Unlocks, Armed, knows_plain}
-use Rattle.rht_core.proofs.Theory.Knowledge.{HasOnly, HoldsLock, IsMember, Knowing, has_lock, idle_moves_none}
+use Rattle.rht_core.proofs.Theory.Knowns.{KnownNode, KnownTable, KnownBucket, KnownList, Known, knows_plain, Nowhere, InSlot, Passes, AtHome, Unlocked, Locks, Missed, Found, Member, InList, FirstLink, Replaces, MakesNothing, HasTaken, HasMade, Unlocks, Armed}
+use Rattle.rht_core.proofs.Theory.Knowledge.{HasOnly, HasLock, HoldsLock, IsMember, Knowing, has_lock, idle_moves_none}
 use Rattle.rht_core.proofs.Theory.KnowledgeStays.{TableMeans-stay}
 use Rattle.rht_core.proofs.Theory.Frames.{Made, same_tables, same_grow, tables_stay}
+use Rattle.rht_core.specs.Counts.{takes_out}
 use Rattle.rht_core.specs.Replies.{IsBindReply, AreOwnersWith, ArePairsWith}
-use Rattle.rht_core.proofs.Theory.Answering.{KeepsAnswer, IsLegalOn, IsRight, keeps, learns}
-use Rattle.rht_core.proofs.Theory.Steps.{Links, Rebinds, Holding, HoldsSame, by_test, mem, owners, owners_in, owners-stay, owners_in-stay, ghost_after, Moved, moved-map, with_knowledge, still_has, reowned-outs, Step, answered, reads, Arms, unchanged, moved}
-use Rattle.rht_core.proofs.Theory.Readiness.{linked_bucket, IsReady, IsArming}
+use Rattle.rht_core.proofs.Theory.Answering.{KeepsAnswer, IsLegalOn, IsRight, Tells, keeps, learns}
+use Rattle.rht_core.proofs.Theory.Steps.{Attaches, Links, Rebinds, Holding, HoldsSame, by_test, mem, owners, owners_in, owners-stay, owners_in-stay, ghost_after, Moved, moved-map, with_knowledge, still_has, reowned-outs, Step, answered, reads, Arms, unchanged, moved}
+use Rattle.rht_core.proofs.Theory.Readiness.{IsAttaching, linked_bucket, IsReady, IsArming}
 use Rattle.rht_core.proofs.Moves.Quiet.{armed_passes, arm}
 use Rattle.rht_core.proofs.Moves.Linking.{link_head}
 use Rattle.rht_core.proofs.Moves.Relinking.{relink_address, relink_value}
 use Rattle.rht_core.proofs.Pieces.ListFronts.{lock_left, change, fronted, front_made, front_only, front_locks, front_outs}
 use Rattle.rht_core.proofs.Pieces.NewNodes as nodes
+use Rattle.rht_core.proofs.Theory.TableFrames.{Knowing-retabled}
+use Rattle.rht_core.proofs.Moves.Slots.{slot_word-apart}
+use Rattle.rht_core.proofs.Moves.Attaching.{is_page-for, attach, attached_kept}
+use Rattle.rht_core.proofs.Pieces.Holdings.{bare_slot, holding, knowing}
+use Rattle.rht_core.proofs.Pieces.Makes.{known_of_make, known_made, slot_made, made_with, make_step, known_given, slot_given, pages_given, unmake_step}
 use Rattle.rht_core.proofs.Pieces.Locates.{known_locate, first_passed, locate_step, LocateKnows, FutureIs, future_is, is_last}
 use Rattle.rht_core.proofs.Pieces.Locks.{unlock_step, unlock_any}
 use Rattle.rht_core.proofs.Pieces.Probes.{known_probe, known_found, place_of_probe, IsProbeFor, probed_by, ProbeKnows, probe_step}
@@ -94,7 +116,7 @@ module _ (port owner : ℕ) where
 
   -- the node with the link to the first one of the port's list, and what is known of that list
   abbrev in_front : FoundList → KnownNode
-  in_front list = nodes.with_word (own list.claimed.node) ListLink (link_of list.first)
+  in_front list = nodes.with_word (own list.claimed.attempt.node) ListLink (link_of list.first)
 
   abbrev first_found : FoundList → KnownBucket
   first_found list = Found list.claimed.bucket.place list.claimed.bucket.word port list.first list.before
@@ -104,30 +126,45 @@ module _ (port owner : ℕ) where
 
   -- while the node is put in front of the list: before the store of the link, and behind it
   abbrev known_replacing : FoundList → Bool → Known
-  known_replacing list false = knows_of (in_front list) (at_home list.claimed) (of_list list (Replaces list.claimed.node))
+  known_replacing list false = knows_of (in_front list) (at_home list.claimed) (of_list list (Replaces list.claimed.attempt.node))
   known_replacing list true =
       knows_plain None Nowhere (Locks list.claimed.bucket.place list.claimed.bucket.word)
+
+  -- while it wants a further table: the slot of the last one
+  abbrev wants_table : Growing → Known
+  wants_table growing = knows_of (own growing.attempt.node) (InSlot growing.table) Unlocked
 
   -- what a bind knows in a state
   abbrev pub known_of_bind : BindAt → Known
   known_of_bind (at.Filling new) = knows_plain (nodes.known_at port owner new.at) Nowhere Unlocked
-  known_of_bind (at.CurrentTable n) = knows_of (own n) Nowhere Unlocked
-  known_of_bind (at.Locating n locate) = knows_of (own n) (known_locate port locate.table locate.at) Unlocked
-  known_of_bind (at.Probing n table shape probe) = knows_of (own n) (AtHome port table (Some shape) (place_of_probe probe.at)) (known_probe port probe.at)
-  known_of_bind (at.FoundOwner claimed found) = knows_of (own claimed.node) (at_home claimed) (Member claimed.bucket.place claimed.bucket.word port found)
-  known_of_bind (at.ListLink list) = knows_of (own list.claimed.node) (at_home list.claimed)
+  known_of_bind (at.CurrentTable attempt) = knows_of (own attempt.node) Nowhere Unlocked
+  known_of_bind (at.Locating attempt locate) = knows_of (own attempt.node) (known_locate port locate.table locate.at) Unlocked
+  known_of_bind (at.Probing attempt table shape probe) = knows_of (own attempt.node) (AtHome port table (Some shape) (place_of_probe probe.at)) (known_probe port probe.at)
+  known_of_bind (at.FoundOwner claimed found) = knows_of (own claimed.attempt.node) (at_home claimed) (Member claimed.bucket.place claimed.bucket.word port found)
+  known_of_bind (at.ListLink list) = knows_of (own list.claimed.attempt.node) (at_home list.claimed)
       (first_found list)
   known_of_bind (at.ChainLink list) = knows_of (in_front list) (at_home list.claimed) (first_found list)
   known_of_bind (at.LinkBehind list link) = knows_of (in_front list) (at_home list.claimed)
       (of_list list (FirstLink link))
   known_of_bind (at.Replacing list relink) = known_replacing list (has_relinked list.before relink.at)
-  known_of_bind (at.Future claimed length) = knows_of (own claimed.node) (at_home claimed) (missed claimed)
-  known_of_bind (at.Count claimed) = knows_of (own claimed.node) (at_home claimed) (armed claimed)
-  known_of_bind (at.Link claimed) = knows_of (own claimed.node) (at_home claimed) (armed claimed)
-  known_of_bind (at.Raise claimed) = knows_of (chained claimed.node claimed.bucket.place claimed.bucket.word) (at_home claimed) (armed claimed)
+  known_of_bind (at.Future claimed length) = knows_of (own claimed.attempt.node) (at_home claimed) (missed claimed)
+  known_of_bind (at.Count claimed) = knows_of (own claimed.attempt.node) (at_home claimed) (armed claimed)
+  known_of_bind (at.Link claimed) = knows_of (own claimed.attempt.node) (at_home claimed) (armed claimed)
+  known_of_bind (at.Raise claimed) = knows_of (chained claimed.attempt.node claimed.bucket.place claimed.bucket.word) (at_home claimed) (armed claimed)
   known_of_bind (at.Publish n table relink kick) =
       knows_of (chained n relink.place relink.word) (AtHome port table None relink.place) (Armed relink.place relink.word port)
-  known_of_bind (at.Unlocking n table unlock next) = knows_of (own n) (known_behind port next) (Unlocks unlock.place unlock.word)
+  known_of_bind (at.Unlocking attempt table unlock next) = knows_of (own attempt.node) (known_behind port next) (Unlocks unlock.place unlock.word)
+  known_of_bind (at.UnlockingFull growing unlock) = knows_of (own growing.attempt.node) (InSlot growing.table) (Unlocks unlock.place unlock.word)
+  known_of_bind (at.Root growing) = wants_table growing
+  known_of_bind (at.GrowthCount growing root) = wants_table growing
+  known_of_bind (at.Making growing size make) =
+      record (wants_table growing) { making = known_of_make make.exponent make.seed make.at }
+  known_of_bind (at.FutureAgain growing refusal) = wants_table growing
+  known_of_bind (at.Attaching growing slot shape) = record (wants_table growing) { making = HasMade slot shape }
+  known_of_bind (at.Unmaking attempt unmake answer) =
+      record (knows_of (own attempt.node) Nowhere Unlocked) {
+        making = HasTaken (bare_slot unmake.slot) (pages_of_unmake unmake.at);
+      }
   known_of_bind (at.Giving give reply) = knows_of (own give.node) Nowhere Unlocked
 
 module _ (env : Env) (mix : ℕ → ℕ → ℕ → ℕ) (c : ℕ) (port owner : ℕ) (once : Bool) where
@@ -138,7 +175,7 @@ module _ (env : Env) (mix : ℕ → ℕ → ℕ → ℕ) (c : ℕ) (port owner :
   abbrev pub front_relink : FoundList → RelinkAt → RelinkModel
   front_relink list state =
       let bucket = list.claimed.bucket in
-      let link = link_of list.claimed.node in
+      let link = link_of list.claimed.attempt.node in
       record (relink_new env.geometry bucket.place bucket.word list.before link) { at = state }
 
   -- a state of the change of the place before, in a bucket whose word was this, to this link
@@ -152,15 +189,15 @@ module _ (env : Env) (mix : ℕ → ℕ → ℕ → ℕ) (c : ℕ) (port owner :
   pub record IsRelinkFor (list : FoundList) (relink : RelinkModel) : Type 0 where
     pub listed : env.config.kind ≡ Listed
     pub relink_is : relink ≡ front_relink list relink.at
-    pub at_is : IsRelinkAtOf list.claimed.bucket.place list.claimed.bucket.word (link_of list.claimed.node)
+    pub at_is : IsRelinkAtOf list.claimed.bucket.place list.claimed.bucket.word (link_of list.claimed.attempt.node)
         list.before relink.at
 
   -- how its pieces are for the port, the owner and the kind of the table
   abbrev pub fits_bind : BindAt → Type 0
   fits_bind (at.Filling new) = (new.key ≡ port) × (new.owner ≡ owner)
-  fits_bind (at.CurrentTable n) = Unit {0}
-  fits_bind (at.Locating n locate) = Unit {0}
-  fits_bind (at.Probing n table shape probe) = (probe.key ≡ port) × IsProbeFor port probe.at
+  fits_bind (at.CurrentTable attempt) = Unit {0}
+  fits_bind (at.Locating attempt locate) = Unit {0}
+  fits_bind (at.Probing attempt table shape probe) = (probe.key ≡ port) × IsProbeFor port probe.at
   fits_bind (at.FoundOwner claimed found) = env.config.kind ≡ Single
   fits_bind (at.ListLink list) = env.config.kind ≡ Listed
   fits_bind (at.ChainLink list) = env.config.kind ≡ Listed
@@ -171,7 +208,14 @@ module _ (env : Env) (mix : ℕ → ℕ → ℕ → ℕ) (c : ℕ) (port owner :
   fits_bind (at.Link claimed) = Unit {0}
   fits_bind (at.Raise claimed) = Unit {0}
   fits_bind (at.Publish n table relink kick) = relink ≡ relink_new env.geometry relink.place relink.word None (link_of n)
-  fits_bind (at.Unlocking n table unlock next) = Unit {0}
+  fits_bind (at.Unlocking attempt table unlock next) = Unit {0}
+  fits_bind (at.UnlockingFull growing unlock) = Unit {0}
+  fits_bind (at.Root growing) = Unit {0}
+  fits_bind (at.GrowthCount growing root) = Unit {0}
+  fits_bind (at.Making growing size make) = Unit {0}
+  fits_bind (at.FutureAgain growing refusal) = Unit {0}
+  fits_bind (at.Attaching growing slot shape) = Unit {0}
+  fits_bind (at.Unmaking attempt unmake answer) = Unit {0}
   fits_bind (at.Giving give reply) = Unit {0}
 
   pub record BindKnows (at : BindAt) (M : Memory) (G : Ghost) : Type 0 where
@@ -202,7 +246,7 @@ module _ (env : Env) (mix : ℕ → ℕ → ℕ → ℕ) (c : ℕ) (port owner :
     BindMoved at r = Step env mix c call words G (plan_at env at) (held_of_bind at) (bind_holds r) (BindNext r)
 
     abbrev pub BindStep : BindAt → Type 0
-    BindStep at = BindMoved at (after_at mix env port at (old_of words (plan_at env at)))
+    BindStep at = BindMoved at (after_at mix env port once at (old_of words (plan_at env at)))
 
     -- a load of which the answer isn't known
     goes_on : (at next : BindAt) → word_after (old_of words (plan_at env at)) (plan_at env at) ≡ old_of words (plan_at env at)
@@ -246,30 +290,30 @@ module _ (env : Env) (mix : ℕ → ℕ → ℕ → ℕ) (c : ℕ) (port owner :
         (moved-map env mix c words G (new_node_plan new) (holds_node (node_of_new new.at) None) (holds_node None None) _ (BindNext (at.Filling next, Done NoNode))
         (λ M' G' w k. record { only = k.only; means = k.means }) step)
     node_made new (next, Done (Some n)) key own had step =
-        answered env mix c call words G (new_node_plan new) (holds_node (node_of_new new.at) None) (holds_node (Some n) None) None (BindNext (at.CurrentTable n, Go)) (inl refl)
+        answered env mix c call words G (new_node_plan new) (holds_node (node_of_new new.at) None) (holds_node (Some n) None) None (BindNext (at.CurrentTable (first_attempt n), Go)) (inl refl)
         (record { taken = λ node none some. refl; gone = λ node some none. absurd (cc) })
-        (moved-map env mix c words G (new_node_plan new) (holds_node (node_of_new new.at) None) (holds_node (Some n) None) _ (BindNext (at.CurrentTable n, Go))
+        (moved-map env mix c words G (new_node_plan new) (holds_node (node_of_new new.at) None) (holds_node (Some n) None) _ (BindNext (at.CurrentTable (first_attempt n), Go))
         (λ M' G' w k. record { knowing = k; fits = tt }) step)
 
     -- the way to the bucket
-    found_place : (n : ℕ) (locate : LocateModel) (r : LocateModel × Next Located)
-        → Moved env mix c words G (locate_plan locate) (holds_node (Some n) None) (holds_node (Some n) None) (LocateKnows env mix c (holds_node (Some n) None) (Some (own port owner n)) Unlocked port r)
-        → BindMoved (at.Locating n locate) (located env port n r.0 r.1, Go)
-    found_place n locate (next, Go) step =
-        answered env mix c call words G (locate_plan locate) (holds_node (Some n) None) (holds_node (Some n) None) None (BindNext (at.Locating n next, Go)) (inl refl) (still_has refl)
-        (moved-map env mix c words G (locate_plan locate) (holds_node (Some n) None) (holds_node (Some n) None) _ (BindNext (at.Locating n next, Go))
+    found_place : (attempt : Attempt) (locate : LocateModel) (r : LocateModel × Next Located)
+        → Moved env mix c words G (locate_plan locate) (holds_node (Some attempt.node) None) (holds_node (Some attempt.node) None) (LocateKnows env mix c (holds_node (Some attempt.node) None) (Some (own port owner attempt.node)) Unlocked port r)
+        → BindMoved (at.Locating attempt locate) (located env port attempt r.0 r.1, Go)
+    found_place attempt locate (next, Go) step =
+        answered env mix c call words G (locate_plan locate) (holds_node (Some attempt.node) None) (holds_node (Some attempt.node) None) None (BindNext (at.Locating attempt next, Go)) (inl refl) (still_has refl)
+        (moved-map env mix c words G (locate_plan locate) (holds_node (Some attempt.node) None) (holds_node (Some attempt.node) None) _ (BindNext (at.Locating attempt next, Go))
         (λ M' G' w k. record { knowing = k; fits = tt }) step)
-    found_place n locate (next, Done there) step =
+    found_place attempt locate (next, Done there) step =
         let is = step.knows in
-        let probing = at.Probing n next.table there.shape (probe_new env.geometry is.place port) in
-        rw is.there (answered env mix c call words G (locate_plan locate) (holds_node (Some n) None) (holds_node (Some n) None) None (BindNext (probing, Go)) (inl refl) (still_has refl)
-        (with_knowledge env mix c words G (locate_plan locate) (holds_node (Some n) None) (holds_node (Some n) None) _ (BindNext (probing, Go)) step
+        let probing = at.Probing attempt next.table there.shape (probe_new env.geometry is.place port) in
+        rw is.there (answered env mix c call words G (locate_plan locate) (holds_node (Some attempt.node) None) (holds_node (Some attempt.node) None) None (BindNext (probing, Go)) (inl refl) (still_has refl)
+        (with_knowledge env mix c words G (locate_plan locate) (holds_node (Some attempt.node) None) (holds_node (Some attempt.node) None) _ (BindNext (probing, Go)) step
         (record { knowing = record { only = is.knows.only; means = is.knows.means }; fits = (refl, tt) })))
 
     -- the end of a walk
     bound_knows : (kind : Kind) → env.config.kind ≡ kind → (claimed : Claimed) (first : ℕ)
         (before : Option ℕ) (M' : Memory) (G' : Ghost)
-        → Knowing env mix c (holds_claimed claimed) (knows_of port owner (own port owner claimed.node)
+        → Knowing env mix c (holds_claimed claimed) (knows_of port owner (own port owner claimed.attempt.node)
         (at_home port owner claimed) (Found claimed.bucket.place claimed.bucket.word port first before)) M' G'
         → BindKnows (bound_already kind claimed first before) M' G'
     bound_knows Single single claimed first before M' G' k =
@@ -295,7 +339,7 @@ module _ (env : Env) (mix : ℕ → ℕ → ℕ → ℕ) (c : ℕ) (port owner :
     bound_knows Listed listed claimed first before M' G' k = record { knowing = k; fits = listed }
 
     seen_knows : (claimed : Claimed) (found before : Option ℕ) (count : ℕ) (M' : Memory) (G' : Ghost)
-        → Knowing env mix c (holds_claimed claimed) (knows_of port owner (own port owner claimed.node)
+        → Knowing env mix c (holds_claimed claimed) (knows_of port owner (own port owner claimed.attempt.node)
         (at_home port owner claimed) (known_found claimed.bucket.place claimed.bucket.word port before
         found)) M' G'
         → BindKnows (found_or_future env.config.kind claimed found before count) M' G'
@@ -313,20 +357,20 @@ module _ (env : Env) (mix : ℕ → ℕ → ℕ → ℕ) (c : ℕ) (port owner :
     seen_holds claimed None before count = refl
     seen_holds claimed (Some first) before count = bound_holds env.config.kind claimed first before
 
-    walked : (n table shape : ℕ) (probe : ProbeModel) (r : ProbeModel × Next Probed) → r.0.key ≡ port
-        → Moved env mix c words G (probe_plan probe) (holds_node (Some n) (lock_of_probe probe.at)) (holds_node (Some n) (probed_by (r.0.at, r.1)))
-        (ProbeKnows env mix c (holds_node (Some n) None) (Some (own port owner n)) port table (Some shape) words G all whole (r.0.at, r.1))
-        → BindMoved (at.Probing n table shape probe) (probed env.config.kind n table shape r.0 r.1, Go)
-    walked n table shape probe (next, Go) key step =
-        answered env mix c call words G (probe_plan probe) (holds_node (Some n) (lock_of_probe probe.at)) (holds_node (Some n) (lock_of_probe next.at)) None (BindNext (at.Probing n table shape next, Go)) (inl refl) (still_has refl)
-        (moved-map env mix c words G (probe_plan probe) (holds_node (Some n) (lock_of_probe probe.at)) (holds_node (Some n) (lock_of_probe next.at)) _ (BindNext (at.Probing n table shape next, Go))
+    walked : (attempt : Attempt) (table shape : ℕ) (probe : ProbeModel) (r : ProbeModel × Next Probed) → r.0.key ≡ port
+        → Moved env mix c words G (probe_plan probe) (holds_node (Some attempt.node) (lock_of_probe probe.at)) (holds_node (Some attempt.node) (probed_by (r.0.at, r.1)))
+        (ProbeKnows env mix c (holds_node (Some attempt.node) None) (Some (own port owner attempt.node)) port table (Some shape) words G all whole (r.0.at, r.1))
+        → BindMoved (at.Probing attempt table shape probe) (probed env.config.kind attempt table shape r.0 r.1, Go)
+    walked attempt table shape probe (next, Go) key step =
+        answered env mix c call words G (probe_plan probe) (holds_node (Some attempt.node) (lock_of_probe probe.at)) (holds_node (Some attempt.node) (lock_of_probe next.at)) None (BindNext (at.Probing attempt table shape next, Go)) (inl refl) (still_has refl)
+        (moved-map env mix c words G (probe_plan probe) (holds_node (Some attempt.node) (lock_of_probe probe.at)) (holds_node (Some attempt.node) (lock_of_probe next.at)) _ (BindNext (at.Probing attempt table shape next, Go))
         (λ M' G' w k. record { knowing = k.0; fits = (key, k.1) }) step)
-    walked n table shape probe (next, Done end) key step =
-        let claimed : Claimed = record { node = n; table = table; shape = shape; bucket = end.bucket } in
+    walked attempt table shape probe (next, Done end) key step =
+        let claimed : Claimed = record { attempt = attempt; table = table; shape = shape; bucket = end.bucket } in
         let there = found_or_future env.config.kind claimed end.seen.found end.seen.before end.seen.length in
         rw (seen_holds claimed end.seen.found end.seen.before end.seen.length)
-        (answered env mix c call words G (probe_plan probe) (holds_node (Some n) (lock_of_probe probe.at)) (holds_claimed claimed) None (BindNext (there, Go)) (inl refl) (still_has refl)
-        (moved-map env mix c words G (probe_plan probe) (holds_node (Some n) (lock_of_probe probe.at)) (holds_claimed claimed) _ (BindNext (there, Go))
+        (answered env mix c call words G (probe_plan probe) (holds_node (Some attempt.node) (lock_of_probe probe.at)) (holds_claimed claimed) None (BindNext (there, Go)) (inl refl) (still_has refl)
+        (moved-map env mix c words G (probe_plan probe) (holds_node (Some attempt.node) (lock_of_probe probe.at)) (holds_claimed claimed) _ (BindNext (there, Go))
         (λ M' G' w k. seen_knows claimed end.seen.found end.seen.before end.seen.length M' G' k) step))
 
     -- where no table is behind that in which the port was looked for in vain, the bind is armed in its bucket
@@ -403,12 +447,41 @@ module _ (env : Env) (mix : ℕ → ℕ → ℕ → ℕ) (c : ℕ) (port owner :
           fits = tt;
         })))
 
-    -- the future of a table in which the port was looked for in vain
+    -- the bucket is unlocked since the node doesn't go into it
+    full_knows : (claimed : Claimed) (why : Full) → HasLock env mix c G claimed.bucket.place claimed.bucket.word
+        → Knowing env mix c (holds_claimed claimed) (knows_of port owner (own port owner claimed.attempt.node)
+        (at_home port owner claimed) (Unlocks claimed.bucket.place claimed.bucket.word)) M G
+        → BindKnows (unlocking_full claimed why) M G
+    full_knows claimed why lock k = record {
+      knowing = record {
+        only = k.only;
+        means = record {
+          node = k.means.node;
+          table = k.means.table.passing.table;
+          bucket = lock;
+          making = tt;
+          work = tt;
+        };
+      };
+      fits = tt;
+    }
+
+    -- the future of a table in which the port was looked for in vain: where there is none, a chain that is full takes no node
     future_next : (claimed : Claimed) (count : ℕ) (future : Option ℕ)
-        → FutureIs env mix c (holds_claimed claimed) (Some (own port owner claimed.node)) (missed port owner claimed) words G whole port future
+        → FutureIs env mix c (holds_claimed claimed) (Some (own port owner claimed.attempt.node)) (missed port owner claimed) words G whole port future
         → (future ≡ None → index_at G claimed.table + 1 ≡ G.attached)
-        → BindKnows (at.Future claimed count) M G → BindMoved (at.Future claimed count) (future_or_count claimed future, Go)
-    future_next claimed count None unbound last known = arms claimed count unbound (last refl) known
+        → BindKnows (at.Future claimed count) M G → BindMoved (at.Future claimed count) (future_or_count claimed count future, Go)
+    future_next claimed count None unbound last known =
+        by_test (λ t. BindMoved (at.Future claimed count) (cond t (unlocking_full claimed full.Chain) (at.Count claimed), Go))
+        (nat_le 16 count)
+        (λ t. goes_on (at.Future claimed count) (unlocking_full claimed full.Chain) refl refl refl
+        (let k = known.knowing in
+        let lock = has_lock env mix c G claimed.bucket.place claimed.bucket.word k.means.bucket.lock in
+        full_knows claimed full.Chain lock (record {
+          only = k.only;
+          means = record { node = k.means.node; table = k.means.table; bucket = lock; making = tt; work = tt };
+        })))
+        (λ t. arms claimed count unbound (last refl) known)
     future_next claimed count (Some next) passing last known =
         goes_on (at.Future claimed count) (unlocking claimed (Table next)) refl refl refl (record {
           knowing = record {
@@ -432,15 +505,30 @@ module _ (env : Env) (mix : ℕ → ℕ → ℕ → ℕ) (c : ℕ) (port owner :
       fits = tt;
     }
 
-    -- a count that is too great refuses the bind
+    -- a count that is too great refuses the bind, and with one above the size the node doesn't go into the table
     count_next : (claimed : Claimed) → BindKnows (at.Count claimed) M G
         → BindMoved (at.Count claimed) (checked_count env claimed (M PortCount), Go)
     count_next claimed known =
         let count = M PortCount in
-        by_test (λ t. BindMoved (at.Count claimed) (cond t (unlocking claimed (Answer (TooBig count))) (at.Link claimed), Go)) (is_above_max (min count 65536) env.config.max)
-        (λ t. reads env mix c call words G (plan_at env (at.Count claimed)) (holds_claimed claimed) (held_of_bind (unlocking claimed (Answer (TooBig count)))) (BindNext (unlocking claimed (Answer (TooBig count)), Go)) whole refl refl
-        (learns env.config.kind c call (Some claimed.node) now (plain (TooBig count)) (with_node claimed.node (TooBig count) tt refl refl (λ e. cc)) refl (refusal (TooBig count) tt refl)) (unlocking_knows claimed (TooBig count) known.knowing))
-        (λ t. goes_on (at.Count claimed) (at.Link claimed) refl refl refl (record { knowing = known.knowing; fits = tt }))
+        let refused = unlocking claimed (Answer (TooBig count)) in
+        let above = is_above_100 (min count 65536) (size_of (unpacked claimed.shape)) env.config.max in
+        by_test
+        (λ t. BindMoved (at.Count claimed)
+        (cond t refused (cond above (unlocking_full claimed full.Table) (at.Link claimed)), Go))
+        (is_above_max (min count 65536) env.config.max)
+        (λ t. reads env mix c call words G (plan_at env (at.Count claimed)) (holds_claimed claimed) (held_of_bind refused) (BindNext (refused, Go)) whole refl refl
+        (learns env.config.kind c call (Some claimed.attempt.node) now (plain (TooBig count)) (with_node claimed.attempt.node (TooBig count) tt refl refl (λ e. cc)) refl (refusal (TooBig count) tt refl)) (unlocking_knows claimed (TooBig count) known.knowing))
+        (λ f.
+        by_test
+        (λ t. BindMoved (at.Count claimed) (cond t (unlocking_full claimed full.Table) (at.Link claimed), Go)) above
+        (λ t. goes_on (at.Count claimed) (unlocking_full claimed full.Table) refl refl refl
+        (let k = known.knowing in
+        full_knows claimed full.Table k.means.bucket.lock (record {
+          only = k.only;
+          means =
+              record { node = k.means.node; table = k.means.table; bucket = k.means.bucket.lock; making = tt; work = tt };
+        })))
+        (λ t. goes_on (at.Count claimed) (at.Link claimed) refl refl refl (record { knowing = known.knowing; fits = tt })))
 
     -- in a table of one owner each the port is bound to the owner of a node of its bucket that has its key,
     -- and to no other
@@ -472,8 +560,8 @@ module _ (env : Env) (mix : ℕ → ℕ → ℕ → ℕ) (c : ℕ) (port owner :
         let is = known.knowing.means.bucket in
         let answer = unlocking claimed (Answer (Exists first)) in
         reads env mix c call words G (plan_at env (at.FoundOwner claimed found)) (holds_claimed claimed) (held_of_bind answer) (BindNext (answer, Go)) whole refl refl
-        (learns env.config.kind c call (Some claimed.node) now (plain (Exists first))
-        (with_node claimed.node (Exists first) tt refl refl (λ e. cc)) refl
+        (learns env.config.kind c call (Some claimed.attempt.node) now (plain (Exists first))
+        (with_node claimed.attempt.node (Exists first) tt refl refl (λ e. cc)) refl
         (exists known.fits first (bound_here known.fits claimed.bucket.place claimed.bucket.word found is)))
         (record {
           knowing = record { only = known.knowing.only; means = record { node = known.knowing.means.node; table = tt; bucket = has_lock env mix c G claimed.bucket.place claimed.bucket.word is.lock; making = tt; work = tt } };
@@ -647,7 +735,7 @@ module _ (env : Env) (mix : ℕ → ℕ → ℕ → ℕ) (c : ℕ) (port owner :
     front_linked list link known =
         let claimed = list.claimed in
         let place = claimed.bucket.place in
-        let first = begins place claimed.bucket.word (link_of claimed.node) list.before in
+        let first = begins place claimed.bucket.word (link_of claimed.attempt.node) list.before in
         let there = replacing env list in
         let op = plan_at env (at.LinkBehind list link) in
         let Next : Memory → Ghost → Type 0 = BindNext (there, Go) in
@@ -687,8 +775,8 @@ module _ (env : Env) (mix : ℕ → ℕ → ℕ → ℕ) (c : ℕ) (port owner :
         link known.knowing)))
 
     -- what a bind holds behind the store
-    abbrev holds_front : Option ℕ → Holding
-    holds_front lock = record held.holds_nothing { lock = lock; answer = Some (plain (Bound false)) }
+    abbrev holds_front : Bool → Option ℕ → Holding
+    holds_front attached lock = record held.holds_nothing { lock = lock; answer = Some (plain (Bound attached)) }
 
     module _ (list : FoundList) (op : Op)
         (k : Knowing env mix c (holds_claimed list.claimed) (known_replacing port owner list false) M G) where
@@ -700,7 +788,7 @@ module _ (env : Env) (mix : ℕ → ℕ → ℕ → ℕ) (c : ℕ) (port owner :
 
       abbrev front : Ghost
       front =
-          fronted env mix c port bucket.place bucket.word list.first list.claimed.node list.before
+          fronted env mix c port bucket.place bucket.word list.first list.claimed.attempt.node list.before
           M stored G whole k.means.bucket
 
       -- the store is that of the link to the node, in the place before the first one
@@ -708,7 +796,7 @@ module _ (env : Env) (mix : ℕ → ℕ → ℕ → ℕ) (c : ℕ) (port owner :
       IsFrontWrite before =
           let j = word_index env mix bucket.place in
           IsWrite env.geometry M stored (relink_address j before)
-          (relink_value (place_at env mix j) (link_of list.claimed.node) before)
+          (relink_value (place_at env mix j) (link_of list.claimed.attempt.node) before)
 
       -- what the caller has behind it: no node, and the lock where a node is before
       record LeftInFront : Type 0 where
@@ -718,7 +806,7 @@ module _ (env : Env) (mix : ℕ → ℕ → ℕ → ℕ) (c : ℕ) (port owner :
       front_left : LeftInFront
       front_left =
           let is = k.means.bucket in
-          let n = list.claimed.node in
+          let n = list.claimed.attempt.node in
           record {
             only =
                 front_only env mix c port bucket.place bucket.word list.first n list.before
@@ -743,11 +831,11 @@ module _ (env : Env) (mix : ℕ → ℕ → ℕ → ℕ) (c : ℕ) (port owner :
 
       -- it is no owner's word
       front_owner : (before : Option ℕ) → IsFrontWrite before
-          → stored (Node list.claimed.node OwnerWord) ≡ M (Node list.claimed.node OwnerWord)
+          → stored (Node list.claimed.attempt.node OwnerWord) ≡ M (Node list.claimed.attempt.node OwnerWord)
       front_owner None write =
-          write.others (Node list.claimed.node OwnerWord) k.means.node.has.among (λ e. cc)
+          write.others (Node list.claimed.attempt.node OwnerWord) k.means.node.has.among (λ e. cc)
       front_owner (Some node) write =
-          write.others (Node list.claimed.node OwnerWord) k.means.node.has.among (λ e. cc)
+          write.others (Node list.claimed.attempt.node OwnerWord) k.means.node.has.among (λ e. cc)
 
       longer : (o : ℕ) (owners : List ℕ) → o ∷ owners ≡ owners → ⊥
       longer o owners e = let same = ap length e in absurd (omega (arith, same))
@@ -756,9 +844,9 @@ module _ (env : Env) (mix : ℕ → ℕ → ℕ → ℕ) (c : ℕ) (port owner :
           → nodes_at env.geometry ≤ op_place op → IsFrontWrite list.before
           → (LeftInFront → After stored front)
           → Step env mix c call words G op (holds_claimed list.claimed)
-          (holds_front (lock_left bucket.place list.before)) After
+          (holds_front list.claimed.attempt.attached (lock_left bucket.place list.before)) After
       front_stored After listed behind_maps write knows =
-          let n = list.claimed.node in
+          let n = list.claimed.attempt.node in
           let is = k.means.bucket in
           let rest = list.first ∷ is.behind in
           let back = place_at-index env mix bucket.place is.found.standing.lock.bucket in
@@ -789,7 +877,7 @@ module _ (env : Env) (mix : ℕ → ℕ → ℕ → ℕ) (c : ℕ) (port owner :
             };
             says = inr (record {
               unknown = refl;
-              answer = plain (Bound false);
+              answer = plain (Bound list.claimed.attempt.attached);
               known = refl;
               answered = ap (λ kind. Some (plain (bind_reply kind (now port)))) listed;
               bindings = stored_bindings (n ∷ rest) stored front made refl
@@ -801,8 +889,8 @@ module _ (env : Env) (mix : ℕ → ℕ → ℕ → ℕ) (c : ℕ) (port owner :
             });
             right = λ answer unknown known.
                 subst (IsRight call (Some n))
-                (let same : Some (plain (Bound false)) ≡ Some answer = known in cc)
-                (with_node n (Bound false) tt refl refl (λ e. cc));
+                (let same : Some (plain (Bound list.claimed.attempt.attached)) ≡ Some answer = known in cc)
+                (with_node n (Bound list.claimed.attempt.attached) tt refl refl (λ e. cc));
             in_time = record {
               taken = λ node none some. absurd (cc);
               gone = λ node some none told. absurd (cc);
@@ -829,10 +917,10 @@ module _ (env : Env) (mix : ℕ → ℕ → ℕ → ℕ) (c : ℕ) (port owner :
         let there = known.knowing.means.bucket.found.standing.lock.bucket in
         let back : place_at env mix j ≡ claimed.bucket.place =
         place_at-index env mix claimed.bucket.place there in
-        let value : word ≡ plain_of (place_at env mix j) (link_of claimed.node) =
-        known.fits.at_is ∙ ap (λ p. plain_of p (link_of claimed.node)) (sym back) in
+        let value : word ≡ plain_of (place_at env mix j) (link_of claimed.attempt.node) =
+        known.fits.at_is ∙ ap (λ p. plain_of p (link_of claimed.attempt.node)) (sym back) in
         front_stored list op known.knowing (BindNext
-        (at.Replacing list (front_relink list (relinks.Word word)), Done (Bound false)))
+        (at.Replacing list (front_relink list (relinks.Word word)), Done (Bound claimed.attempt.attached)))
         known.fits.listed (let order = parts_in_order env.geometry in omega
         (arith, back, order.nodes, order.pages))
         (subst (IsWrite env.geometry M (mem env mix (applied words op)) (PageWord j)) value
@@ -841,11 +929,11 @@ module _ (env : Env) (mix : ℕ → ℕ → ℕ → ℕ) (c : ℕ) (port owner :
         (λ left. record { only = left.only; means = record { node = tt; table = tt; bucket = tt; making = tt; work = tt } })
     front_at claimed first (Some before) (relinks.ChainLink node) is known =
         let list : FoundList = record { claimed = claimed; first = first; before = Some before } in
-        let op = Store (place_of env.geometry (Node node ChainLink)) (link_of claimed.node) in
+        let op = Store (place_of env.geometry (Node node ChainLink)) (link_of claimed.attempt.node) in
         let next = at.Replacing list (front_relink list (relinks.Word claimed.bucket.word)) in
         front_stored list op known.knowing (BindNext (next, Go)) known.fits.listed (omega arith)
         (subst (λ m. IsWrite env.geometry M (mem env mix (applied words op)) (Node m ChainLink)
-        (link_of claimed.node)) known.fits.at_is
+        (link_of claimed.attempt.node)) known.fits.at_is
         (is_write env.geometry words (Node node ChainLink) op all is.relink_in.at_in refl))
         (λ left. record {
           knowing = record {
@@ -864,13 +952,13 @@ module _ (env : Env) (mix : ℕ → ℕ → ℕ → ℕ) (c : ℕ) (port owner :
     front_at claimed first (Some before) (relinks.Word word) is known =
         let list : FoundList = record { claimed = claimed; first = first; before = Some before } in
         let place = claimed.bucket.place in
-        let told = holds_front None in
+        let told = holds_front claimed.attempt.attached None in
         let Ended : Memory → Ghost → Type 0 =
-        BindNext (at.Replacing list (front_relink list (relinks.Word word)), Done (Bound false)) in
-        subst (λ v. Step env mix c call words G (Store place v) (holds_front (Some place)) told Ended)
+        BindNext (at.Replacing list (front_relink list (relinks.Word word)), Done (Bound claimed.attempt.attached)) in
+        subst (λ v. Step env mix c call words G (Store place v) (holds_front claimed.attempt.attached (Some place)) told Ended)
         (sym known.fits.at_is)
-        (answered env mix c call words G (Store place claimed.bucket.word) (holds_front (Some place)) told
-        (Some (plain (Bound false))) Ended (inl (keeps (Some (plain (Bound false))))) (still_has refl)
+        (answered env mix c call words G (Store place claimed.bucket.word) (holds_front claimed.attempt.attached (Some place)) told
+        (Some (plain (Bound claimed.attempt.attached))) Ended (inl (keeps (Some (plain (Bound claimed.attempt.attached))))) (still_has refl)
         (unlock_step env mix c told None Nowhere words G all whole refl place claimed.bucket.word known.knowing))
 
     front_step : (list : FoundList) (relink : RelinkModel) → IsBindAtIn env (at.Replacing list relink)
@@ -879,6 +967,289 @@ module _ (env : Env) (mix : ℕ → ℕ → ℕ → ℕ) (c : ℕ) (port owner :
         subst (λ r. let here = at.Replacing list r in IsBindAtIn env here → BindKnows here M G
         → BindStep here)
         (sym known.fits.relink_is) (front_at list.claimed list.first list.before relink.at) is known
+
+    -- ---- a further table
+
+    -- the count tells the size that is wanted, or the bind is refused
+    want_next : (growing : Growing) (root : ℕ) → BindKnows (at.GrowthCount growing root) M G
+        → BindMoved (at.GrowthCount growing root) (want_or_busy env growing root (M PortCount), Go)
+    want_next growing root known =
+        let from = at.GrowthCount growing root in
+        let size = size_grown growing in
+        let busy = at.FutureAgain growing (refusals.Busy root) in
+        let same = nat_eq root growing.table in
+        let makes : (wanted : ℕ) → BindMoved from (making env growing wanted, Go) =
+        λ wanted. goes_on from (making env growing wanted) refl refl refl
+        (record { knowing = record { only = known.knowing.only; means = known.knowing.means }; fits = tt }) in
+        by_test
+        (λ t. BindMoved from (cond t (making env growing (2 * size)) (cond same (making env growing size) busy), Go))
+        (is_above_75 (min (M PortCount) 65536) size env.config.max)
+        (λ t. makes (2 * size))
+        (λ f.
+        by_test (λ t. BindMoved from (cond t (making env growing size) busy, Go)) same
+        (λ t. makes size)
+        (λ t. goes_on from busy refl refl refl (record { knowing = known.knowing; fits = tt })))
+
+    -- what an attempt tells that has led to this table: a bind that tries but once has its answer, and another none
+    attempt_tells : (n table : ℕ)
+        → Tells env.config.kind c call (Some n) now None (option_map plain (ended_attempt once table))
+    attempt_tells n table =
+        by_test (λ t. Tells env.config.kind c call (Some n) now None (option_map plain (cond t (Some (Again table)) None)))
+        once
+        (λ is. learns env.config.kind c call (Some n) now (plain (Again table))
+        (with_node n (Again table) is refl refl (λ e. cc)) refl (refusal (Again table) tt refl))
+        (λ is. inl refl)
+
+    -- behind it the bind has its node, and knows nothing of a table
+    abbrev holds_behind : ℕ → Option Reply → Holding
+    holds_behind n answer = record (holds_node (Some n) None) { answer = option_map plain answer }
+
+    behind_holds : (attempt : Attempt) (answer : Option Reply)
+        → held_of_bind (behind_attempt env attempt answer) ≡ holds_behind attempt.node answer
+    behind_holds attempt None = refl
+    behind_holds attempt (Some reply) = refl
+
+    behind_knows : (attempt : Attempt) (answer : Option Reply) (M' : Memory) (G' : Ghost)
+        → Knowing env mix c (holds_behind attempt.node answer)
+        (knows_of port owner (own port owner attempt.node) Nowhere Unlocked) M' G'
+        → BindKnows (behind_attempt env attempt answer) M' G'
+    behind_knows attempt None M' G' k = record { knowing = k; fits = tt }
+    behind_knows attempt (Some reply) M' G' k = record { knowing = k; fits = tt }
+
+    -- the future of the last table was loaded again: a bind is refused where there is none
+    refused_by : (growing : Growing) (refusal : Refusal) (reply : Reply)
+        → IsRight call (Some growing.attempt.node) (plain reply) → takes_out reply ≡ false
+        → IsLegalOn env.config.kind c call now (plain reply)
+        → BindKnows (at.FutureAgain growing refusal) M G
+        → BindMoved (at.FutureAgain growing refusal) (giving env growing.attempt.node reply, Go)
+    refused_by growing refusal reply right none legal known =
+        let n = growing.attempt.node in
+        reads env mix c call words G (plan_at env (at.FutureAgain growing refusal)) (holds_node (Some n) None)
+        (holds_behind n (Some reply)) (BindNext (giving env n reply, Go)) whole refl refl
+        (learns env.config.kind c call (Some n) now (plain reply) right none legal)
+        (record {
+          knowing = record {
+            only = known.knowing.only;
+            means =
+                record { node = known.knowing.means.node; table = tt; bucket = tt; making = tt; work = tt };
+          };
+          fits = tt;
+        })
+
+    refused_next : (growing : Growing) (refusal : Refusal) (future : Option ℕ)
+        → BindKnows (at.FutureAgain growing refusal) M G
+        → BindMoved (at.FutureAgain growing refusal) (refused_or_found env once growing refusal future, Go)
+    refused_next growing (refusals.Busy root) None known =
+        let n = growing.attempt.node in
+        let reply = Busy root growing.table in
+        refused_by growing (refusals.Busy root) reply (with_node n reply tt refl refl (λ e. cc)) refl
+        (refusal reply tt refl) known
+    refused_next growing (refusals.NoTable size) None known =
+        let n = growing.attempt.node in
+        let reply = NoTable size in
+        refused_by growing (refusals.NoTable size) reply (with_node n reply tt refl refl (λ e. cc)) refl
+        (refusal reply tt refl) known
+    refused_next growing why (Some table) known =
+        let n = growing.attempt.node in
+        let answer = ended_attempt once table in
+        let next = behind_attempt env growing.attempt answer in
+        rw (behind_holds growing.attempt answer)
+        (reads env mix c call words G (plan_at env (at.FutureAgain growing why)) (holds_node (Some n) None)
+        (holds_behind n answer) (BindNext (next, Go)) whole refl refl (attempt_tells n table)
+        (behind_knows growing.attempt answer M G (record {
+          only = known.knowing.only;
+          means = record { node = known.knowing.means.node; table = tt; bucket = tt; making = tt; work = tt };
+        })))
+
+    -- the table is made
+    made_next : (growing : Growing) (size : ℕ) (make : MakeModel) (r : MakeAt × Next (Option (ℕ × ℕ)))
+        → let h = holds_node (Some growing.attempt.node) None in
+        let k = wants_table port owner growing in
+        Moved env mix c words G (make_plan make)
+        (holding env mix c h k (slot_of_make make.at) (pages_of_make make.exponent make.at))
+        (holding env mix c h k (slot_made r) (made_with env mix c h k words G all whole make.exponent r))
+        (knowing env mix c h k (slot_made r) (made_with env mix c h k words G all whole make.exponent r)
+        (known_made make.exponent make.seed r))
+        → BindMoved (at.Making growing size make) (made growing size (record make { at = r.0 }) r.1, Go)
+    made_next growing size make (state, Go) step =
+        let n = growing.attempt.node in
+        let next = at.Making growing size (record make { at = state }) in
+        answered env mix c call words G (make_plan make) (held_of_bind (at.Making growing size make))
+        (held_of_bind next) None (BindNext (next, Go)) (inl refl) (still_has refl)
+        (moved-map env mix c words G (make_plan make) (held_of_bind (at.Making growing size make)) (held_of_bind next) _
+        (BindNext (next, Go)) (λ M' G' w k. record { knowing = k; fits = tt }) step)
+    made_next growing size make (state, Done None) step =
+        let next = at.FutureAgain growing (refusals.NoTable size) in
+        answered env mix c call words G (make_plan make) (held_of_bind (at.Making growing size make))
+        (held_of_bind next) None (BindNext (next, Go)) (inl refl) (still_has refl)
+        (moved-map env mix c words G (make_plan make) (held_of_bind (at.Making growing size make)) (held_of_bind next) _
+        (BindNext (next, Go)) (λ M' G' w k. record { knowing = k; fits = tt }) step)
+    made_next growing size make (state, Done (Some table)) step =
+        let h = holds_node (Some growing.attempt.node) None in
+        let k = wants_table port owner growing in
+        let next = at.Attaching growing table.0 table.1 in
+        let same = pages_of_table-shape env.geometry table.1 step.knows.means.making.fits in
+        answered env mix c call words G (make_plan make) (held_of_bind (at.Making growing size make))
+        (held_of_bind next) None (BindNext (next, Go)) (inl refl) (still_has refl)
+        (moved-map env mix c words G (make_plan make) (held_of_bind (at.Making growing size make)) (held_of_bind next) _
+        (BindNext (next, Go)) (λ M' G' w k. record { knowing = k; fits = tt })
+        (subst (λ pages. Moved env mix c words G (make_plan make) (held_of_bind (at.Making growing size make))
+        (holding env mix c h k (Some table.0) pages)
+        (knowing env mix c h k (Some table.0) pages (HasMade table.0 table.1))) same step))
+
+    -- the table is given back, and then the attempt has ended
+    unmade_next : (attempt : Attempt) (unmake : UnmakeModel) (answer : Option Reply) (r : UnmakeAt × Next (Unit {0}))
+        → let h = holds_behind attempt.node answer in
+        let k = knows_of port owner (own port owner attempt.node) Nowhere Unlocked in
+        Moved env mix c words G (unmake_plan unmake)
+        (holding env mix c h k (Some unmake.slot) (pages_of_unmake unmake.at))
+        (holding env mix c h k (slot_given env mix c h k words G all whole unmake.slot r) (pages_given env mix c h k words G all whole r))
+        (knowing env mix c h k (slot_given env mix c h k words G all whole unmake.slot r) (pages_given env mix c h k words G all whole r)
+        (known_given env mix c h k words G all whole unmake.slot r))
+        → BindMoved (at.Unmaking attempt unmake answer) (unmade env attempt answer (record unmake { at = r.0 }) r.1, Go)
+    unmade_next attempt unmake answer (state, Go) step =
+        let told = option_map plain answer in
+        let next = at.Unmaking attempt (record unmake { at = state }) answer in
+        answered env mix c call words G (unmake_plan unmake) (held_of_bind (at.Unmaking attempt unmake answer))
+        (held_of_bind next) told (BindNext (next, Go)) (inl (keeps told)) (still_has refl)
+        (moved-map env mix c words G (unmake_plan unmake) (held_of_bind (at.Unmaking attempt unmake answer))
+        (held_of_bind next) _ (BindNext (next, Go)) (λ M' G' w k. record { knowing = k; fits = tt }) step)
+    unmade_next attempt unmake answer (state, Done done) step =
+        let told = option_map plain answer in
+        let next = behind_attempt env attempt answer in
+        rw (behind_holds attempt answer)
+        (answered env mix c call words G (unmake_plan unmake) (held_of_bind (at.Unmaking attempt unmake answer))
+        (holds_behind attempt.node answer) told (BindNext (next, Go)) (inl (keeps told)) (still_has refl)
+        (moved-map env mix c words G (unmake_plan unmake) (held_of_bind (at.Unmaking attempt unmake answer))
+        (holds_behind attempt.node answer) _ (BindNext (next, Go)) (λ M' G' w k. behind_knows attempt answer M' G' k)
+        step))
+
+    -- ---- the table is attached
+
+    module _ (growing : Growing) (slot shape : ℕ) (within : growing.table < 8)
+        (known : BindKnows (at.Attaching growing slot shape) M G) where
+      abbrev op : Op
+      op = plan_at env (at.Attaching growing slot shape)
+
+      abbrev n : ℕ
+      n = growing.attempt.node
+
+      abbrev found : ℕ
+      found = M (Slot growing.table FutureWord)
+
+      abbrev τ : ℕ
+      τ = index_at G growing.table
+
+      -- what the bind holds with the table, and what it knows
+      abbrev has_table_made : Holding
+      has_table_made = held_of_bind (at.Attaching growing slot shape)
+
+      abbrev seed : ℕ
+      seed = M (Slot slot SeedWord)
+
+      abbrev serial : ℕ
+      serial = M (Slot slot SerialWord)
+
+      -- a page that it has is one of the run
+      of_run : (p : ℕ) → In p (pages_of_shape shape) → is_page_for shape p ≡ true
+      of_run p has =
+          let is = page_of_table shape p has in
+          is_page-for shape p is.from is.below
+
+      -- where it found none behind it, the table in that slot is the last one
+      won : found ≡ 0
+          → BindMoved (at.Attaching growing slot shape)
+          (behind_attempt env (has_attached growing.attempt) (ended_attempt once slot), Go)
+      won none =
+          let is = whole.tables.slots growing.table known.knowing.means.table in
+          let made_is = known.knowing.means.making in
+          let M' = mem env mix (applied words op) in
+          let ready : IsAttaching env mix c slot shape seed M G = record { made = made_is; seed_is = refl } in
+          let value : word_after (old_of words op) op ≡ future_of slot =
+          ap (λ w. cond (w == 0) (future_of slot) w) none in
+          let here : IsWrite env.geometry M M' (Slot growing.table FutureWord) (future_of slot) =
+          subst (λ v. IsWrite env.geometry M M' (Slot growing.table FutureWord) v) value
+          (is_write env.geometry words (Slot growing.table FutureWord) op all (within, tt) refl) in
+          let none_there : M (Slot (G.table τ).slot FutureWord) ≡ 0 =
+          subst (λ s. M (Slot s FutureWord) ≡ 0) (sym is.slot) none in
+          let write : IsWrite env.geometry M M' (Slot (G.table τ).slot FutureWord) (future_of slot) =
+          subst (λ s. IsWrite env.geometry M M' (Slot s FutureWord) (future_of slot)) (sym is.slot) here in
+          let made = attach env mix c slot shape seed serial τ M M' G whole ready is.attached none_there write in
+          let kept = attached_kept env mix c slot shape seed serial τ M M' G whole ready is.attached none_there write in
+          let answer = ended_attempt once slot in
+          let attempt = has_attached growing.attempt in
+          let next = behind_attempt env attempt answer in
+          let k = known.knowing in
+          rw (behind_holds attempt answer)
+          (answered env mix c call words G op has_table_made (holds_node (Some n) None) (option_map plain answer)
+          (BindNext (next, Go)) (attempt_tells n slot) (still_has refl)
+          (moved env mix c words G op has_table_made (holds_node (Some n) None) (BindNext (next, Go))
+          (Attaches slot shape seed serial) whole ready tt made
+          (record {
+            last = growing.table;
+            within = within;
+            attaching = refl;
+            found = none;
+            has = refl;
+            holds = refl;
+          })
+          (let left =
+          Knowing-retabled env mix M M' G (put G.table G.attached (flat_table slot shape seed serial)) (G.attached + 1)
+          (put G.slot slot (Live G.attached)) (put_in (is_page_for shape) (PageOf G.attached) G.page) whole kept
+          (Slot (G.table τ).slot FutureWord) (future_of slot) write (slot_word-apart (G.table τ).slot FutureWord) c
+          has_table_made (known_of_bind port owner (at.Attaching growing slot shape)) None [] MakesNothing k
+          (put-all (λ s o. o ≡ SlotHeld c → ◌≡◌ {A = Option ℕ} None (Some s)) G.slot slot (Live G.attached)
+          (λ e. absurd (cc)) (λ s ne held. let same = k.only.slots s held in absurd (ne (cc))))
+          (λ p. put_in-all (λ q o. o ≡ PageHeld c → In q []) (is_page_for shape) (PageOf G.attached) G.page
+          (λ q there e. absurd (cc))
+          (λ q there held. absurd (both_ways (is_page_for shape q) there (of_run q (k.only.pages_in q held)))) p) tt in
+          behind_knows attempt answer M' _ (record {
+            only = left.only;
+            means = record { node = left.means.node; table = tt; bucket = tt; making = tt; work = tt };
+          }))))
+
+      lost : found ≢ 0
+          → BindMoved (at.Attaching growing slot shape) (
+            at.Unmaking growing.attempt (unmake_new env.geometry slot shape)
+                (ended_attempt once (table_of (found - 1))),
+            Go,
+          )
+      lost some =
+          let answer = ended_attempt once (table_of (found - 1)) in
+          let unmake = unmake_new env.geometry slot shape in
+          let next = at.Unmaking growing.attempt unmake answer in
+          let k = known.knowing in
+          let pages = pages_of_unmake-table env.geometry shape slot
+          ∙ pages_of_table-shape env.geometry shape k.means.making.fits in
+          reads env mix c call words G op has_table_made (held_of_bind next) (BindNext (next, Go)) whole
+          (ap (λ t. cond t (future_of slot) found) (ne_eqb found 0 some))
+          (ap (λ ps. record (holds_behind n answer) { slot = Some slot; pages = ps }) pages)
+          (attempt_tells n (table_of (found - 1)))
+          (record {
+            knowing = record {
+              only = record {
+                nodes = k.only.nodes;
+                locks = k.only.locks;
+                raising = k.only.raising;
+                slots = k.only.slots;
+                pages_in = λ p held. subst (In p) (sym pages) (k.only.pages_in p held);
+                works = k.only.works;
+              };
+              means = record {
+                node = k.means.node;
+                table = tt;
+                bucket = tt;
+                making = record {
+                  slot = record { has = k.means.making.has; shape = tt; seed = tt; future = tt; serial = tt };
+                  mine = λ p given.
+                      let is = page_of_table shape p (subst (In p) pages given) in
+                      k.means.making.run p is.from is.below;
+                };
+                work = tt;
+              };
+            };
+            fits = tt;
+          })
 
     -- ---- each operation leads from what the bind knows to what it knows next
     pub bind_step : (at : BindAt) → IsBindAtIn env at → BindKnows at M G → BindStep at
@@ -890,13 +1261,13 @@ module _ (env : Env) (mix : ℕ → ℕ → ℕ → ℕ) (c : ℕ) (port owner :
         let knows : Knows new.key new.owner = subst (λ key. Knows key new.owner) (sym known.fits.0) (subst (λ o. Knows port o) (sym known.fits.1) known.knowing) in
         let step : Made new.key new.owner = nodes.new_node_step env mix c held.holds_nothing Nowhere Unlocked words G all whole tt new is knows in
         node_made new r known.fits.0 known.fits.1 (nodes.made_none new.at (old_of words (new_node_plan new))) (subst (λ key. Made key owner) known.fits.0 (subst (λ o. Made new.key o) known.fits.1 step))
-    bind_step (at.CurrentTable n) is known =
-        goes_on (at.CurrentTable n) (at.Locating n (locate_new env.geometry (table_of (M CurrentTable)))) refl refl refl (record {
+    bind_step (at.CurrentTable attempt) is known =
+        goes_on (at.CurrentTable attempt) (at.Locating attempt (locate_new env.geometry (table_of (M CurrentTable)))) refl refl refl (record {
           knowing = record {
             only = known.knowing.only;
             means = record {
               node = known.knowing.means.node;
-              table = first_passed env mix c (holds_node (Some n) None) (Some (own port owner n)) Unlocked words G whole port;
+              table = first_passed env mix c (holds_node (Some attempt.node) None) (Some (own port owner attempt.node)) Unlocked words G whole port;
               bucket = tt;
               making = tt;
               work = tt;
@@ -904,12 +1275,12 @@ module _ (env : Env) (mix : ℕ → ℕ → ℕ → ℕ) (c : ℕ) (port owner :
           };
           fits = tt;
         })
-    bind_step (at.Locating n locate) is known =
-        found_place n locate (locate_after mix port locate (old_of words (locate_plan locate)))
-        (locate_step env mix c (holds_node (Some n) None) (Some (own port owner n)) Unlocked words G whole port locate is.locate_in known.knowing)
-    bind_step (at.Probing n table shape probe) is known =
-        walked n table shape probe (probe_after probe (old_of words (probe_plan probe))) known.fits.0
-        (probe_step env mix c (holds_node (Some n) None) (Some (own port owner n)) port table (Some shape) words G all whole probe is.probe_in known.fits.0 known.fits.1 known.knowing)
+    bind_step (at.Locating attempt locate) is known =
+        found_place attempt locate (locate_after mix port locate (old_of words (locate_plan locate)))
+        (locate_step env mix c (holds_node (Some attempt.node) None) (Some (own port owner attempt.node)) Unlocked words G whole port locate is.locate_in known.knowing)
+    bind_step (at.Probing attempt table shape probe) is known =
+        walked attempt table shape probe (probe_after probe (old_of words (probe_plan probe))) known.fits.0
+        (probe_step env mix c (holds_node (Some attempt.node) None) (Some (own port owner attempt.node)) port table (Some shape) words G all whole probe is.probe_in known.fits.0 known.fits.1 known.knowing)
     bind_step (at.FoundOwner claimed found) is known = found_next claimed found known
     bind_step (at.ListLink list) is known =
         let claimed = list.claimed in
@@ -920,26 +1291,26 @@ module _ (env : Env) (mix : ℕ → ℕ → ℕ → ℕ) (c : ℕ) (port owner :
         (λ M' G' w k. record { knowing = k; fits = known.fits })
         (nodes.fill_step env mix c (holds_node None (Some claimed.bucket.place))
         (at_home port owner claimed) (first_found port owner list) words G all whole tt
-        (own port owner claimed.node) ListLink (link_of list.first) known.knowing))
+        (own port owner claimed.attempt.node) ListLink (link_of list.first) known.knowing))
     bind_step (at.ChainLink list) is known = front_loaded list known
     bind_step (at.LinkBehind list link) is known = front_linked list link known
     bind_step (at.Replacing list relink) is known = front_step list relink is known
     bind_step (at.Future claimed count) is known =
         future_next claimed count (slot_of (M (Slot claimed.table FutureWord)))
-        (future_is env mix c (holds_claimed claimed) (Some (own port owner claimed.node)) (missed port owner claimed) words G whole port claimed.table claimed.bucket.place claimed.bucket.word (Some claimed.shape)
+        (future_is env mix c (holds_claimed claimed) (Some (own port owner claimed.attempt.node)) (missed port owner claimed) words G whole port claimed.table claimed.bucket.place claimed.bucket.word (Some claimed.shape)
         known.knowing known.knowing.means.bucket)
-        (is_last env mix c (holds_claimed claimed) (Some (own port owner claimed.node)) (missed port owner claimed) words G whole port claimed.table claimed.bucket.place (Some claimed.shape) known.knowing) known
+        (is_last env mix c (holds_claimed claimed) (Some (own port owner claimed.attempt.node)) (missed port owner claimed) words G whole port claimed.table claimed.bucket.place (Some claimed.shape) known.knowing) known
     bind_step (at.Count claimed) is known = count_next claimed known
     bind_step (at.Link claimed) is known =
         answered env mix c call words G (plan_at env (at.Link claimed)) (holds_claimed claimed) (holds_claimed claimed) None (BindNext (at.Raise claimed, Go)) (inl refl) (still_has refl)
         (moved-map env mix c words G (plan_at env (at.Link claimed)) (holds_claimed claimed) (holds_claimed claimed) _ (BindNext (at.Raise claimed, Go))
         (λ M' G' w k. record { knowing = k; fits = tt })
-        (nodes.fill_step env mix c (holds_node None (Some claimed.bucket.place)) (at_home port owner claimed) (armed port owner claimed) words G all whole tt (own port owner claimed.node) ChainLink (head_of claimed.bucket.place claimed.bucket.word) known.knowing))
+        (nodes.fill_step env mix c (holds_node None (Some claimed.bucket.place)) (at_home port owner claimed) (armed port owner claimed) words G all whole tt (own port owner claimed.attempt.node) ChainLink (head_of claimed.bucket.place claimed.bucket.word) known.knowing))
     bind_step (at.Raise claimed) is known =
-        let kick = kicks env claimed.shape (M PortCount) in
+        let kick = kicks env claimed (M PortCount) in
         let p = claimed.bucket.place in
-        answered env mix c call words G (plan_at env (at.Raise claimed)) (holds_claimed claimed) (holds_publishing claimed.node p) None (BindNext (publishing env claimed kick, Go)) (inl refl) (still_has refl)
-        (moved-map env mix c words G (plan_at env (at.Raise claimed)) (holds_claimed claimed) (holds_publishing claimed.node p) _ (BindNext (publishing env claimed kick, Go))
+        answered env mix c call words G (plan_at env (at.Raise claimed)) (holds_claimed claimed) (holds_publishing claimed.attempt.node p) None (BindNext (publishing env claimed kick, Go)) (inl refl) (still_has refl)
+        (moved-map env mix c words G (plan_at env (at.Raise claimed)) (holds_claimed claimed) (holds_publishing claimed.attempt.node p) _ (BindNext (publishing env claimed kick, Go))
         (λ M' G' w k. let table = k.means.table in record {
           knowing = record {
             only = k.only;
@@ -953,21 +1324,58 @@ module _ (env : Env) (mix : ℕ → ℕ → ℕ → ℕ) (c : ℕ) (port owner :
           };
           fits = refl;
         })
-        (raise_step env mix c (holds_claimed claimed) (Some (chained port owner claimed.node claimed.bucket.place claimed.bucket.word)) (at_home port owner claimed) (armed port owner claimed) words G all whole low known.knowing))
+        (raise_step env mix c (holds_claimed claimed) (Some (chained port owner claimed.attempt.node claimed.bucket.place claimed.bucket.word)) (at_home port owner claimed) (armed port owner claimed) words G all whole low known.knowing))
     bind_step (at.Publish n table relink kick) is known = publish_step n table relink kick known
-    bind_step (at.Unlocking n table unlock (Table next)) is known =
-        answered env mix c call words G (plan_at env (at.Unlocking n table unlock (Table next))) (held_of_bind (at.Unlocking n table unlock (Table next))) (holds_node (Some n) None) None
-        (BindNext (at.Locating n (locate_new env.geometry next), Go)) (inl refl) (still_has refl)
-        (moved-map env mix c words G (plan_at env (at.Unlocking n table unlock (Table next))) (holds_node (Some n) (Some unlock.place)) (holds_node (Some n) None) _ (BindNext (at.Locating n (locate_new env.geometry next), Go))
+    bind_step (at.Unlocking attempt table unlock (Table next)) is known =
+        answered env mix c call words G (plan_at env (at.Unlocking attempt table unlock (Table next))) (held_of_bind (at.Unlocking attempt table unlock (Table next))) (holds_node (Some attempt.node) None) None
+        (BindNext (at.Locating attempt (locate_new env.geometry next), Go)) (inl refl) (still_has refl)
+        (moved-map env mix c words G (plan_at env (at.Unlocking attempt table unlock (Table next))) (holds_node (Some attempt.node) (Some unlock.place)) (holds_node (Some attempt.node) None) _ (BindNext (at.Locating attempt (locate_new env.geometry next), Go))
         (λ M' G' w k. record { knowing = k; fits = tt })
-        (unlock_any env mix c (holds_node (Some n) None) (Some (own port owner n)) (Passes port next) words G all whole refl unlock.place unlock.word known.knowing))
-    bind_step (at.Unlocking n table unlock (Answer reply)) is known =
-        let told : Holding = record held.holds_nothing { node = Some n; answer = Some (plain reply) } in
-        answered env mix c call words G (plan_at env (at.Unlocking n table unlock (Answer reply))) (held_of_bind (at.Unlocking n table unlock (Answer reply))) told (Some (plain reply))
-        (BindNext (giving env n reply, Go)) (inl (keeps (Some (plain reply)))) (still_has refl)
-        (moved-map env mix c words G (plan_at env (at.Unlocking n table unlock (Answer reply))) (record told { lock = Some unlock.place }) told _ (BindNext (giving env n reply, Go))
+        (unlock_any env mix c (holds_node (Some attempt.node) None) (Some (own port owner attempt.node)) (Passes port next) words G all whole refl unlock.place unlock.word known.knowing))
+    bind_step (at.Unlocking attempt table unlock (Answer reply)) is known =
+        let told : Holding = record held.holds_nothing { node = Some attempt.node; answer = Some (plain reply) } in
+        answered env mix c call words G (plan_at env (at.Unlocking attempt table unlock (Answer reply))) (held_of_bind (at.Unlocking attempt table unlock (Answer reply))) told (Some (plain reply))
+        (BindNext (giving env attempt.node reply, Go)) (inl (keeps (Some (plain reply)))) (still_has refl)
+        (moved-map env mix c words G (plan_at env (at.Unlocking attempt table unlock (Answer reply))) (record told { lock = Some unlock.place }) told _ (BindNext (giving env attempt.node reply, Go))
         (λ M' G' w k. record { knowing = k; fits = tt })
-        (unlock_any env mix c told (Some (own port owner n)) Nowhere words G all whole refl unlock.place unlock.word known.knowing))
+        (unlock_any env mix c told (Some (own port owner attempt.node)) Nowhere words G all whole refl unlock.place unlock.word known.knowing))
+    bind_step (at.UnlockingFull growing unlock) is known =
+        let n = growing.attempt.node in
+        answered env mix c call words G (plan_at env (at.UnlockingFull growing unlock)) (held_of_bind (at.UnlockingFull growing unlock)) (holds_node (Some n) None) None
+        (BindNext (at.Root growing, Go)) (inl refl) (still_has refl)
+        (moved-map env mix c words G (plan_at env (at.UnlockingFull growing unlock)) (holds_node (Some n) (Some unlock.place)) (holds_node (Some n) None) _ (BindNext (at.Root growing, Go))
+        (λ M' G' w k. record { knowing = k; fits = tt })
+        (unlock_any env mix c (holds_node (Some n) None) (Some (own port owner n)) (InSlot growing.table) words G all whole refl unlock.place unlock.word known.knowing))
+    bind_step (at.Root growing) is known =
+        goes_on (at.Root growing) (at.GrowthCount growing (table_of (M CurrentTable))) refl refl refl
+        (record { knowing = known.knowing; fits = tt })
+    bind_step (at.GrowthCount growing root) is known = want_next growing root known
+    bind_step (at.Making growing size make) is known =
+        let old = old_of words (make_plan make) in
+        subst (λ (g : Geometry). let r = make_after_at g make.exponent make.at old in
+        BindMoved (at.Making growing size make) (made growing size (record make { at = r.0 }) r.1, Go))
+        (sym is.make_in.geometry_same)
+        (made_next growing size make (make_after_at env.geometry make.exponent make.at old)
+        (make_step env mix c (holds_node (Some growing.attempt.node) None) (wants_table port owner growing) words G all whole
+        make is.make_in known.knowing))
+    bind_step (at.FutureAgain growing refusal) is known =
+        refused_next growing refusal (slot_of (M (Slot growing.table FutureWord))) known
+    bind_step (at.Attaching growing slot shape) is known =
+        let found = M (Slot growing.table FutureWord) in
+        let within = is.growing_in.table_in in
+        by_test (λ t. BindMoved (at.Attaching growing slot shape) (
+          cond t (behind_attempt env (has_attached growing.attempt) (ended_attempt once slot))
+              (at.Unmaking growing.attempt (unmake_new env.geometry slot shape) (ended_attempt once (table_of (found - 1)))),
+          Go,
+        ))
+        (found == 0)
+        (λ t. won growing slot shape within known (eqb-true found 0 t))
+        (λ f. lost growing slot shape within known (eqb-false found 0 f))
+    bind_step (at.Unmaking attempt unmake answer) is known =
+        unmade_next attempt unmake answer (unmake_after_at unmake.at (old_of words (unmake_plan unmake)))
+        (unmake_step env mix c (holds_behind attempt.node answer)
+        (knows_of port owner (own port owner attempt.node) Nowhere Unlocked) words G all whole unmake is.unmake_in
+        known.knowing)
     bind_step (at.Giving give reply) is known =
         let told : Holding = record held.holds_nothing { answer = Some (plain reply) } in
         subst (λ g. Step env mix c call words G (give_node_plan (record { geometry = g; node = give.node })) (record told { node = Some give.node }) told (Knowing env mix c told known_nothing))

@@ -195,7 +195,7 @@ module _ (env : Env) (mix : ℕ → ℕ → ℕ → ℕ) (c : ℕ) where
         finds_so port state (find_at.after_at mix env port state (old_of words (find_at.plan_at env state)))
         (find_step env mix c port words G all whole state within (record { knowing = knows.knowing; fits = knows.fits }))
     job_step (binds port owner once state) within knows =
-        binds_so port owner once state (bind_at.after_at mix env port state (old_of words (bind_at.plan_at env state)))
+        binds_so port owner once state (bind_at.after_at mix env port once state (old_of words (bind_at.plan_at env state)))
         (bind_step env mix c port owner once within.port_in within.owner_in low words G all whole state within.at_in (record { knowing = knows.knowing; fits = knows.fits }))
     job_step (lists port room state) within knows =
         let old = old_of words (all_at.plan_at env state) in

@@ -56,6 +56,13 @@ still_bind (bind.Link claimed) = refl
 still_bind (bind.Raise claimed) = refl
 still_bind (bind.Publish node table relink kick) = refl
 still_bind (bind.Unlocking node table unlock next) = refl
+still_bind (bind.UnlockingFull growing unlock) = refl
+still_bind (bind.Root growing) = refl
+still_bind (bind.GrowthCount growing root) = refl
+still_bind (bind.Making growing size make) = refl
+still_bind (bind.FutureAgain growing refusal) = refl
+still_bind (bind.Attaching growing slot shape) = refl
+still_bind (bind.Unmaking attempt unmake answer) = refl
 still_bind (bind.Giving give reply) = refl
 
 still_all : (owners : List ℕ) (state : AllAt) → IsStill (held_of_all owners state)

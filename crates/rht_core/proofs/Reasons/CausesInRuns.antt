@@ -2,20 +2,22 @@
 --
 -- A bind keeps of itself what its operations so far saw: while it takes a node, that each node below
 -- the one at which it stands was taken; from the load of a table's shape on, that this is the last
--- table that it walked; behind the raise of the count, that too; and while its state holds a refusal,
--- what the refusal says. So when it answers all of that was seen. A rebind keeps the first of these
+-- table that it walked, while it wants a further table too; behind the raise of the count, that too; while
+-- its state holds a refusal, what the refusal says; and all the way, whether it has attached a table. So
+-- when it answers all of that was seen. A rebind keeps the first of these
 -- alone, a release and a look-up nothing; and a reading of the count loads what it answers by its one
 -- operation. How the run stood at the event of the operation that loaded or raised the count of ports
 -- follows from the law that each recorded operation stands in the run at its event; and since the count
 -- is at most the nodes there, the clamp under which a bind looks at it has changed nothing.
-use Rattle.std.proofs.Common.{◌≡◌, ◌⊎◌, ℕ, ◌≤◌, ◌+◌, Bool, true, false, cond, List, [], ◌∷◌, ◌++◌, map, min, refl, sym, ap, ◌∙◌, subst, inl, inr, arith}
-use Rattle.std.specs.Prelude.{Option, Some, None, IfSome, ◌==◌}
+use Rattle.std.proofs.Common.{◌≡◌, ◌⊎◌, ℕ, ◌≤◌, ◌+◌, Bool, true, false, cond, ◌↔◌, ◌≢◌, ◌<◌, ◌*◌, ◌-◌, nat_le, nat_eq, List, [], ◌∷◌, ◌++◌, map, min, refl, sym, ap, ◌∙◌, subst, inl, inr, arith}
+use Rattle.std.specs.Prelude.{Option, Some, None, IfSome, ◌==◌, ◌||◌, ◌&&◌}
 use Rattle.std.specs.List.{AllByRecursion, Any}
-use Rattle.std.proofs.lemmas.Bool.{leb-true}
+use Rattle.std.proofs.lemmas.Bool.{cases_lt, lt-ltb, le-ltb, leb-true, and_parts, eqb-true, eqb-false}
 use Rattle.std.proofs.lemmas.List.{map-append}
 use Rattle.std.proofs.lemmas.List.Elements.{All-from_recursion}
 use Rattle.std.proofs.lemmas.List.Quantifiers.{Any-push}
 use Rattle.rht_words.specs.Machines.{Performed}
+use Rattle.rht_words.specs.declared.op.Op.{Op}
 use Rattle.rht_words.specs.declared.op.Op.TheVariants.{Load, Add}
 use Rattle.rht_words.specs.declared.env.Env.{Env}
 use Rattle.rht_words.specs.declared.config.Kind.{Kind}
@@ -24,21 +26,32 @@ use Rattle.rht_words.specs.declared.geometry.Geometry.{Geometry}
 use Rattle.rht_words.specs.declared.machine.Next.{Next}
 use Rattle.rht_words.specs.declared.machine.Next.TheVariants.{Go, Done}
 use Rattle.rht_words.specs.Operations.{old_of}
-use Rattle.rht_words.specs.Places.{PortCount, ChainLink, place_of}
+use Rattle.rht_words.specs.Places.{PortCount, ChainLink, Slot, FutureWord, place_of}
+use Rattle.rht_words.proofs.PlacesApart.{parts_in_order}
 use Rattle.rht_words.proofs.EachElement.{Any-append_left, AllByRecursion-cut, AllByRecursion-push}
 use Rattle.rht_policy.specs.Sizes.{most_ports}
-use Rattle.rht_policy.specs.Thresholds.{is_above_75, is_above_max}
+use Rattle.rht_policy.specs.Thresholds.{is_above_75, is_above_100, is_above_max}
 use Rattle.rht_words.specs.Shapes.{unpacked, size_of}
-use Rattle.rht_words.specs.Links.{slot_of}
+use Rattle.rht_words.specs.Links.{slot_of, table_of, future_of}
 use Rattle.rht_model.specs.declared.history.Call.{Call}
 use Rattle.rht_model.specs.declared.history.Call.TheVariants.{Bind, Find, All, Release, Rebind, Walk, Work, Tidy, Count}
 use Rattle.rht_model.specs.declared.history.Reply.{Reply}
-use Rattle.rht_model.specs.declared.history.Reply.TheVariants.{Bound, Exists, Found, Missing, Released, Absent, Rebound, Listed as ListedOwners, TooBig, NoNode, Counted}
+use Rattle.rht_model.specs.declared.history.Reply.TheVariants.{Bound, Exists, Found, Missing, Released, Absent, Rebound, Listed as ListedOwners, TooBig, Again, Busy, NoTable, NoNode, Counted}
 use Rattle.rht_model.specs.Endings.{Ending, plain_ending}
 use Rattle.rht_arena.specs.TakeNode.{TakeNodeModel, take_node_after, IsTakeAtIn, IsTakeIn}
 use Rattle.rht_arena.specs.NewNode.{NewNodeModel, new_node_plan, new_node_plan_at, new_node_after_at, node_taken, IsNewNodeAtIn, IsNewNodeIn}
 use Rattle.rht_arena.specs.declared.new_node.NewNodeAt.{NewNodeAt}
 use Rattle.rht_arena.specs.declared.new_node.NewNodeAt.TheVariants as news
+use Rattle.rht_arena.specs.TakeRun.{take_run_plan_at}
+use Rattle.rht_arena.specs.declared.take_run.TakeRunAt.{TakeRunAt}
+use Rattle.rht_arena.specs.declared.take_run.TakeRunAt.TheVariants as runs
+use Rattle.rht_nest.specs.Make.{MakeModel, make_plan_at, make_after_at}
+use Rattle.rht_nest.specs.Tables.{exponent_made}
+use Rattle.rht_nest.specs.declared.make.MakeAt.{MakeAt}
+use Rattle.rht_nest.specs.declared.make.MakeAt.TheVariants as makes
+use Rattle.rht_nest.specs.Unmake.{UnmakeModel, unmake_new, unmake_plan_at, unmake_after}
+use Rattle.rht_nest.specs.declared.unmake.UnmakeAt.{UnmakeAt}
+use Rattle.rht_nest.specs.declared.unmake.UnmakeAt.TheVariants as unmakes
 use Rattle.rht_nest.specs.Locate.{LocateModel, locate_plan, locate_after}
 use Rattle.rht_nest.specs.declared.locate.Located.{Located}
 use Rattle.rht_chain.specs.Locked.{answer_behind}
@@ -53,7 +66,14 @@ use Rattle.rht_find.specs.declared.find.FindAt.{FindAt}
 use Rattle.rht_find.specs.declared.find.FindAt.TheVariants.{CurrentTable}
 use Rattle.rht_words.proofs.Memory.{Memory}
 use Rattle.rht_bind.specs.BindHeld.{holds_node}
-use Rattle.rht_bind.specs.Bind.{first_state, after_at, filled, located, bound_already, found_or_future, probed, replaced, unlocking, future_or_count, checked_count, kicks, published, unlocked}
+use Rattle.rht_bind.specs.Growing.{unlocking_full, making, size_grown, want_or_busy, made, ended_attempt, behind_attempt, refused_or_found, has_attached, checked_attach, unmade}
+use Rattle.rht_bind.specs.declared.bind.Attempt.{Attempt}
+use Rattle.rht_bind.specs.declared.bind.growth.Full.{Full}
+use Rattle.rht_bind.specs.declared.bind.growth.Full.TheVariants as full
+use Rattle.rht_bind.specs.declared.bind.growth.Growing.{Growing}
+use Rattle.rht_bind.specs.declared.bind.growth.Refusal.{Refusal}
+use Rattle.rht_bind.specs.declared.bind.growth.Refusal.TheVariants as refusals
+use Rattle.rht_bind.specs.Bind.{first_state, plan_at, after_at, filled, located, bound_already, found_or_future, probed, replaced, unlocking, future_or_count, checked_count, kicks, published, unlocked}
 use Rattle.rht_bind.specs.declared.bind.Claimed.{Claimed}
 use Rattle.rht_bind.specs.declared.bind.FoundList.{FoundList}
 use Rattle.rht_bind.specs.declared.bind.BindAt.{BindAt}
@@ -70,7 +90,9 @@ use Rattle.rht_core.specs.Replies.{IsFindReply, IsReleaseReply, IsRebindReply, I
 use Rattle.rht_core.specs.Traces.{Did, Past, performed_of, traced_of}
 use Rattle.rht_core.specs.Runs.{IsAdmitted}
 use Rattle.rht_core.specs.Laws.{IsRecorded, IsPastCall}
-use Rattle.rht_core.specs.Causes.{FindCause, AllCause, LastWalked, IsRaise, IsDueBy, KicksRightly, SawFull, SawCount, ReleaseCause, RebindCause, BindCause, CountCause, CauseOf, HasCause, Causes}
+use Rattle.rht_core.specs.Seen.{IsNoShapeLoad, LastWalked, SawCount}
+use Rattle.rht_core.specs.ResizeCauses.{Loaded, Attaches, AttachesSome, FindsFuture, HasFollowed, wanted_size, SawCrowded}
+use Rattle.rht_core.specs.Causes.{FindCause, AllCause, IsRaise, IsDueBy, KicksRightly, SawFull, ReleaseCause, RebindCause, BindCause, CountCause, CauseOf, HasCause, Causes}
 use Rattle.rht_release.specs.declared.found_port.FoundPort.{FoundPort}
 use Rattle.rht_release.specs.Release as release
 use Rattle.rht_release.specs.declared.release.ReleaseAt.{ReleaseAt}
@@ -81,7 +103,8 @@ use Rattle.rht_release.specs.declared.rebind.RebindAt.TheVariants as rebinds_at
 use Rattle.rht_words.specs.Ports.{owner_of}
 use Rattle.rht_words.specs.Machines.{GoesOrEnds}
 use Rattle.rht_core.proofs.Tracing.RepliesInRuns.{Holds, Answered, runs-right}
-use Rattle.rht_core.proofs.Theory.Ghosts.{Ghost}
+use Rattle.rht_core.proofs.Theory.Ghosts.{Ghost, has_table, index_at}
+use Rattle.rht_core.proofs.Theory.Wholes.{future_in, Whole}
 use Rattle.rht_core.proofs.Theory.Knowns.{Unlocked}
 use Rattle.rht_core.proofs.Pieces.NewNodes.{filled as filled_node}
 use Rattle.rht_core.proofs.Pieces.Locates.{LocateKnows, locate_step}
@@ -89,8 +112,10 @@ use Rattle.rht_core.proofs.Tracing.TracesAtEvents.{at_events}
 use Rattle.rht_core.proofs.Tracing.TracedJobs.{Performs, LeadsOn, IsEndedSo, jobs_keep}
 use Rattle.rht_core.proofs.Counting.FullTables.{counted_at}
 use Rattle.rht_core.proofs.Reasons.TablesWalked.{IsNoRaise, IsAside, no_load, aside, elsewhere, node_loads, probe_loads, relink_stores, LastWalked-push, Walked, Walked-push, WalkedAt, WalkedNext, same_table, locate-walked}
-use Rattle.rht_core.proofs.Counting.CountedNodes.{raise_few}
-use Rattle.rht_core.proofs.Theory.Steps.{by_test}
+use Rattle.rht_core.proofs.Reasons.AttachedTables.{IsNoFutureExchange, IsNoAttach, no_attach, AttachedSo, AttachedSo-push, SawAttached, attached-saw, relink-none, unmake-none}
+use Rattle.rht_core.proofs.Reasons.RefusedBinds.{no_slot, Behind, Behind-push, SawWhy, SawWhy-push, SawRoot, SawOther, SawRefusal, SawToMake, BusySeen, BusySeen-push, NoTableSeen, NoTableSeen-push, above-why, root-saw, begins-making, other-saw, making-saw, no_room-saw, busy-saw, no_table-saw}
+use Rattle.rht_core.proofs.Counting.CountedNodes.{raise_few, load_few}
+use Rattle.rht_core.proofs.Theory.Steps.{mem, by_test}
 
 -- ---- what a bind has seen
 
@@ -101,17 +126,24 @@ module _ (env : Env) where
     pub found : did.old ≡ count
     pub full : most_ports env.config.max ≤ count
 
-  -- where the operation raised the count, this is what a bind made of that for a table of this shape
-  abbrev pub SaysOfRaise : ℕ → Bool → Did → Type 0
-  SaysOfRaise shape kick did = IsRaise env.geometry did → kick ≡ kicks env shape did.old
+  -- with this count raised a table of this shape is due to grow
+  abbrev pub due_by : ℕ → ℕ → Bool
+  due_by shape count = is_above_75 (min count 65535 + 1) (size_of (unpacked shape)) env.config.max
+
+  -- where the operation raised the count, this is what a bind that has attached a table or none made of that for a table of
+  -- this shape
+  abbrev pub SaysOfRaise : Bool → ℕ → Bool → Did → Type 0
+  SaysOfRaise attached shape kick did = IsRaise env.geometry did → kick ≡ (attached || due_by shape did.old)
 
   -- behind the last table that it walked a bind raised the count, or it had nothing to raise
   pub record Raised (kick : Bool) (steps : List Did) : Type 0 where
+    pub attached : Bool
+    pub so : AttachedSo env.geometry attached steps
     pub table : ℕ
     pub shape : ℕ
     pub walked : LastWalked env.geometry table shape steps
-    pub each : AllByRecursion (SaysOfRaise shape kick) walked.behind
-    pub some : Any (IsRaise env.geometry) walked.behind ⊎ ((kick ≡ false) × (env.config.kind ≡ Listed))
+    pub each : AllByRecursion (SaysOfRaise attached shape kick) walked.behind
+    pub some : Any (IsRaise env.geometry) walked.behind ⊎ ((kick ≡ attached) × (env.config.kind ≡ Listed))
 
   -- what the operations of a bind saw for it to have this reply; nothing can be seen for a reply that it never has
   abbrev pub SawFor : Reply → List Did → Type 0
@@ -119,6 +151,9 @@ module _ (env : Env) where
   SawFor (TooBig count) steps = Any (LoadedFull count) steps
   SawFor (Bound kick) steps = Raised kick steps
   SawFor (Exists owner) steps = Unit {0}
+  SawFor (Again table) steps = HasFollowed env.geometry table steps
+  SawFor (Busy root last) steps = BusySeen env root last steps
+  SawFor (NoTable size) steps = NoTableSeen env size steps
   SawFor _ steps = ⊥
 
   -- the operation loaded this count of ports
@@ -159,9 +194,9 @@ module _ (env : Env) where
 
   abbrev SawAt : BindAt → List Did → Type 0
   SawAt (at.Filling new) steps = SawNew new.at steps
-  SawAt (at.CurrentTable node) steps = Unit {0}
-  SawAt (at.Locating node locate) steps = WalkedAt env.geometry locate.table locate.at steps
-  SawAt (at.Probing node table shape probe) steps = Walked env.geometry table shape steps
+  SawAt (at.CurrentTable attempt) steps = Unit {0}
+  SawAt (at.Locating attempt locate) steps = WalkedAt env.geometry locate.table locate.at steps
+  SawAt (at.Probing attempt table shape probe) steps = Walked env.geometry table shape steps
   SawAt (at.FoundOwner claimed found) steps = Unit {0}
   SawAt (at.ListLink list) steps = Walked env.geometry list.claimed.table list.claimed.shape steps
   SawAt (at.ChainLink list) steps = Walked env.geometry list.claimed.table list.claimed.shape steps
@@ -172,7 +207,17 @@ module _ (env : Env) where
   SawAt (at.Link claimed) steps = Walked env.geometry claimed.table claimed.shape steps
   SawAt (at.Raise claimed) steps = Walked env.geometry claimed.table claimed.shape steps
   SawAt (at.Publish node table relink kick) steps = Raised kick steps
-  SawAt (at.Unlocking node table unlock next) steps = SawForReply (answer_behind next) steps
+  SawAt (at.Unlocking attempt table unlock next) steps = SawForReply (answer_behind next) steps
+  SawAt (at.UnlockingFull growing unlock) steps =
+      Behind env growing.table growing.shape (SawWhy env growing.why growing.shape) steps
+  SawAt (at.Root growing) steps = Behind env growing.table growing.shape (SawWhy env growing.why growing.shape) steps
+  SawAt (at.GrowthCount growing root) steps = Behind env growing.table growing.shape (SawRoot env growing root) steps
+  SawAt (at.Making growing size make) steps =
+      Behind env growing.table growing.shape (SawToMake env growing size make.exponent (make.at, Go)) steps
+  SawAt (at.FutureAgain growing refusal) steps =
+      Behind env growing.table growing.shape (SawRefusal env growing refusal) steps
+  SawAt (at.Attaching growing slot shape) steps = LastWalked env.geometry growing.table growing.shape steps
+  SawAt (at.Unmaking attempt unmake answer) steps = SawForReply answer steps
   SawAt (at.Giving give reply) steps = SawFor reply steps
 
   -- of a rebind only what it has seen while it makes a new node
@@ -189,7 +234,7 @@ module _ (env : Env) where
   -- of a look-up and a listing nothing is kept, nor of a release, nor of a reading of the count before it ends
   abbrev JobSaw : Job → List Did → Type 0
   JobSaw (finds port state) steps = Unit {0}
-  JobSaw (binds port owner once state) steps = SawAt state steps
+  JobSaw (binds port owner once state) steps = SawAt state steps × SawAttached env state steps
   JobSaw (lists port room state) steps = Unit {0}
   JobSaw (releases port owner state) steps = Unit {0}
   JobSaw (rebinds port owner new state) steps = SawAtRebind state steps
@@ -199,15 +244,29 @@ module _ (env : Env) where
   abbrev SawNext : List Did → BindAt × Next Reply → Type 0
   SawNext steps next = GoesOrEnds (λ state. SawAt state steps) (λ reply. SawFor reply steps) next
 
-  Raised-push : (kick : Bool) (steps : List Did) (did : Did) → IsAside env.geometry did → Raised kick steps
+  -- the operation tells nothing of the last table that was walked, raises no count, and attaches no table
+  record IsStill (did : Did) : Type 0 where
+    aside : IsAside env.geometry did
+    no_attach : IsNoAttach env.geometry did
+
+  still : (did : Did) (op : Op) → did.op ≡ op → IsAside env.geometry did → IsNoFutureExchange env.geometry op → IsStill did
+  still did op is beside none = record { aside = beside; no_attach = no_attach env.geometry did op is none }
+
+  -- the operation attached the table of this slot behind that of another, or found it there
+  abbrev IsFollowing : ℕ → ℕ → Did → Type 0
+  IsFollowing last table did = Attaches env.geometry last table did ⊎ FindsFuture env.geometry last table did
+
+  Raised-push : (kick : Bool) (steps : List Did) (did : Did) → IsStill did → Raised kick steps
       → Raised kick (steps ++ did ∷ [])
   unfolding LastWalked-push
   Raised-push kick steps did none raised = record {
+    attached = raised.attached;
+    so = AttachedSo-push env.geometry raised.attached steps did none.no_attach raised.so;
     table = raised.table;
     shape = raised.shape;
-    walked = LastWalked-push env.geometry raised.table raised.shape steps did none.no_shape raised.walked;
-    each = AllByRecursion-push (SaysOfRaise raised.shape kick) raised.walked.behind did raised.each
-        (λ adds. absurd (none.no_raise adds));
+    walked = LastWalked-push env.geometry raised.table raised.shape steps did none.aside.no_shape raised.walked;
+    each = AllByRecursion-push (SaysOfRaise raised.attached raised.shape kick) raised.walked.behind did raised.each
+        (λ adds. absurd (none.aside.no_raise adds));
     some = elim raised.some [
       | inl any ↦ inl (Any-append_left (IsRaise env.geometry) raised.walked.behind (did ∷ []) any)
       | inr none_raised ↦ inr none_raised
@@ -215,16 +274,36 @@ module _ (env : Env) where
   }
 
   -- while no count was raised, there is nothing to say of that
-  unraised-says : (shape : ℕ) (kick : Bool) (steps : List Did) → AllByRecursion (IsNoRaise env.geometry) steps
-      → AllByRecursion (SaysOfRaise shape kick) steps
-  unraised-says shape kick [] none = tt
-  unraised-says shape kick (did ∷ steps) none = (
-    (λ adds. absurd (none.0 adds)),
-    unraised-says shape kick
-        steps none.1,
-  )
+  unraised-says : (attached : Bool) (shape : ℕ) (kick : Bool) (steps : List Did)
+      → AllByRecursion (IsNoRaise env.geometry) steps → AllByRecursion (SaysOfRaise attached shape kick) steps
+  unraised-says attached shape kick [] none = tt
+  unraised-says attached shape kick (did ∷ steps) none =
+      ((λ adds. absurd (none.0 adds)), unraised-says attached shape kick steps none.1)
 
-  SawFor-push : (reply : Reply) (steps : List Did) (did : Did) → IsAside env.geometry did → SawFor reply steps
+  -- the table that followed the last one is seen still
+  HasFollowed-push : (table : ℕ) (steps : List Did) (did : Did) → IsAside env.geometry did
+      → HasFollowed env.geometry table steps → HasFollowed env.geometry table (steps ++ did ∷ [])
+  unfolding LastWalked-push
+  HasFollowed-push table steps did none is = record {
+    table = is.table;
+    shape = is.shape;
+    walked = LastWalked-push env.geometry is.table is.shape steps did none.no_shape is.walked;
+    seen = Any-append_left (IsFollowing is.table table) is.walked.behind (did ∷ []) is.seen;
+  }
+
+  -- and it was seen by this operation
+  HasFollowed-new : (last shape table : ℕ) (steps : List Did) (did : Did) → IsNoShapeLoad env.geometry did
+      → LastWalked env.geometry last shape steps → IsFollowing last table did
+      → HasFollowed env.geometry table (steps ++ did ∷ [])
+  unfolding LastWalked-push
+  HasFollowed-new last shape table steps did none walked is = record {
+    table = last;
+    shape = shape;
+    walked = LastWalked-push env.geometry last shape steps did none walked;
+    seen = Any-push (IsFollowing last table) walked.behind did is;
+  }
+
+  SawFor-push : (reply : Reply) (steps : List Did) (did : Did) → IsStill did → SawFor reply steps
       → SawFor reply (steps ++ did ∷ [])
   SawFor-push NoNode steps did none saw =
       let before = map performed_of steps in
@@ -233,6 +312,9 @@ module _ (env : Env) where
   SawFor-push (TooBig count) steps did none saw = Any-append_left (LoadedFull count) steps (did ∷ []) saw
   SawFor-push (Bound kick) steps did none saw = Raised-push kick steps did none saw
   SawFor-push (Exists owner) steps did none saw = saw
+  SawFor-push (Again table) steps did none saw = HasFollowed-push table steps did none.aside saw
+  SawFor-push (Busy root last) steps did none saw = BusySeen-push env root last steps did none.aside.no_shape saw
+  SawFor-push (NoTable size) steps did none saw = NoTableSeen-push env size steps did none.aside.no_shape saw
   SawFor-push _ steps did none saw = absurd saw
 
   -- ---- an operation of a bind
@@ -318,7 +400,7 @@ module _ (env : Env) where
   rebind-saw mix port owner new (rebinds_at.Unlocking node table unlock) steps did does saw = tt
   rebind-saw mix port owner new (rebinds_at.Giving give) steps did does saw = tt
 
-  SawForReply-push : (reply : Option Reply) (steps : List Did) (did : Did) → IsAside env.geometry did
+  SawForReply-push : (reply : Option Reply) (steps : List Did) (did : Did) → IsStill did
       → SawForReply reply steps → SawForReply reply (steps ++ did ∷ [])
   SawForReply-push None steps did none saw = tt
   SawForReply-push (Some reply) steps did none saw = SawFor-push reply steps did none saw
@@ -337,50 +419,69 @@ module _ (env : Env) where
   seen-saw kind claimed (Some first) before length steps walked = bound-saw kind claimed first before steps
       walked
 
-  probed-saw : (kind : Kind) (node table shape : ℕ) (probe : ProbeModel) (next : Next Probed)
+  probed-saw : (kind : Kind) (attempt : Attempt) (table shape : ℕ) (probe : ProbeModel) (next : Next Probed)
       (steps : List Did)
-      → Walked env.geometry table shape steps → SawAt (probed kind node table shape probe next) steps
-  probed-saw kind node table shape probe Go steps walked = walked
-  probed-saw kind node table shape probe (Done end) steps walked =
-      let claimed : Claimed = record { node = node; table = table; shape = shape; bucket = end.bucket } in
+      → Walked env.geometry table shape steps → SawAt (probed kind attempt table shape probe next) steps
+  probed-saw kind attempt table shape probe Go steps walked = walked
+  probed-saw kind attempt table shape probe (Done end) steps walked =
+      let claimed : Claimed = record { attempt = attempt; table = table; shape = shape; bucket = end.bucket } in
       seen-saw kind claimed end.seen.found end.seen.before end.seen.length steps walked
 
-  future-saw : (claimed : Claimed) (future : Option ℕ) (steps : List Did)
-      → Walked env.geometry claimed.table claimed.shape steps → SawAt (future_or_count claimed future) steps
-  future-saw claimed None steps walked = walked
-  future-saw claimed (Some table) steps walked = tt
+  future-saw : (claimed : Claimed) (length : ℕ) (future : Option ℕ) (steps : List Did)
+      → Walked env.geometry claimed.table claimed.shape steps → SawAt (future_or_count claimed length future) steps
+  future-saw claimed length None steps walked =
+      by_test (λ t. SawAt (cond t (unlocking_full claimed full.Chain) (at.Count claimed)) steps) (nat_le 16 length)
+      (λ t. record { walked = walked.last; saw = tt }) (λ f. walked)
+  future-saw claimed length (Some table) steps walked = tt
 
   -- a count that refuses the bind was loaded by this operation
   count-saw : (claimed : Claimed) (steps : List Did) (did : Did) → did.op ≡ Load (place_of env.geometry PortCount)
-      → Walked env.geometry claimed.table claimed.shape (steps ++ did ∷ [])
+      → Walked env.geometry claimed.table claimed.shape steps
       → SawAt (checked_count env claimed did.old) (steps ++ did ∷ [])
+  unfolding LastWalked-push
   count-saw claimed steps did is walked =
+      let beside = elsewhere env.geometry did _ is (λ table below same. absurd (omega arith)) in
       let count = did.old in
-      by_test (λ t. SawAt (cond t (unlocking claimed (Answer (TooBig count))) (at.Link claimed)) (steps ++ did ∷ []))
+      let above = is_above_100 (min count 65536) (size_of (unpacked claimed.shape)) env.config.max in
+      let all = steps ++ did ∷ [] in
+      by_test
+      (λ t. SawAt (cond t (unlocking claimed (Answer (TooBig count)))
+      (cond above (unlocking_full claimed full.Table) (at.Link claimed))) all)
       (is_above_max (min count 65536) env.config.max)
       (λ t.
       let full : most_ports env.config.max ≤ min count 65536 =
       leb-true (most_ports env.config.max) (min count 65536) t in
       Any-push (LoadedFull count) steps did record { loaded = is; found = refl; full = omega arith })
-      (λ f. walked)
+      (λ f.
+      by_test (λ t. SawAt (cond t (unlocking_full claimed full.Table) (at.Link claimed)) all) above
+      (λ t. record {
+        walked = LastWalked-push env.geometry claimed.table claimed.shape steps did beside.no_shape walked.last;
+        saw = above-why env claimed.shape walked.last.behind did is t;
+      })
+      (λ f. Walked-push env.geometry claimed.table claimed.shape steps did beside walked))
 
   -- the count is raised behind the walk
   raise-saw : (claimed : Claimed) (steps : List Did) (did : Did) → did.op ≡ Add (place_of env.geometry PortCount) 1
       → Walked env.geometry claimed.table claimed.shape steps
-      → Raised (kicks env claimed.shape did.old) (steps ++ did ∷ [])
+      → AttachedSo env.geometry claimed.attempt.attached steps
+      → Raised (kicks env claimed did.old) (steps ++ did ∷ [])
   unfolding LastWalked-push
-  raise-saw claimed steps did is walked =
+  raise-saw claimed steps did is walked so =
       let behind = walked.last.behind in
-      let kick = kicks env claimed.shape did.old in
+      let kick = kicks env claimed did.old in
+      let attached = claimed.attempt.attached in
       record {
+        attached = attached;
+        so = AttachedSo-push env.geometry attached steps did
+            (no_attach env.geometry did _ is (λ table old new l e. cc)) so;
         table = claimed.table;
         shape = claimed.shape;
         walked =
             LastWalked-push env.geometry claimed.table claimed.shape steps did
             (no_load env.geometry did _ is (λ place load. cc)) walked.last;
         each =
-            AllByRecursion-push (SaysOfRaise claimed.shape kick) behind did
-            (unraised-says claimed.shape kick behind walked.unraised)
+            AllByRecursion-push (SaysOfRaise attached claimed.shape kick) behind did
+            (unraised-says attached claimed.shape kick behind walked.unraised)
             (λ adds. refl);
         some = inl (Any-push (IsRaise env.geometry) behind did is);
       }
@@ -389,13 +490,18 @@ module _ (env : Env) where
   replaced-saw : (list : FoundList) (relink : RelinkModel) (next : Next (Unit {0})) (steps : List Did)
       → env.config.kind ≡ Listed
       → Walked env.geometry list.claimed.table list.claimed.shape steps
+      → AttachedSo env.geometry list.claimed.attempt.attached steps
       → SawNext steps (replaced list relink next)
-  replaced-saw list relink Go steps listed walked = walked
-  replaced-saw list relink (Done done) steps listed walked = record {
+  replaced-saw list relink Go steps listed walked so = walked
+  replaced-saw list relink (Done done) steps listed walked so = record {
+    attached = list.claimed.attempt.attached;
+    so = so;
     table = list.claimed.table;
     shape = list.claimed.shape;
     walked = walked.last;
-    each = unraised-says list.claimed.shape false walked.last.behind walked.unraised;
+    each =
+        unraised-says list.claimed.attempt.attached list.claimed.shape list.claimed.attempt.attached walked.last.behind
+        walked.unraised;
     some = inr (refl, listed);
   }
 
@@ -404,87 +510,320 @@ module _ (env : Env) where
   published-saw node table kick relink Go steps raised = raised
   published-saw node table kick relink (Done done) steps raised = raised
 
-  unlocked-saw : (node : ℕ) (next : Then Reply) (steps : List Did) → SawForReply (answer_behind next) steps
-      → SawAt (unlocked env node next) steps
-  unlocked-saw node (Table table) steps saw = tt
-  unlocked-saw node (Answer reply) steps saw = saw
+  unlocked-saw : (attempt : Attempt) (next : Then Reply) (steps : List Did) → SawForReply (answer_behind next) steps
+      → SawAt (unlocked env attempt next) steps
+  unlocked-saw attempt (Table table) steps saw = tt
+  unlocked-saw attempt (Answer reply) steps saw = saw
+
+  -- the taking of a run of pages loads words of the map of pages
+  run_loads : (h : Geometry) (pages : ℕ) (state : TakeRunAt) (did : Did) → did.op ≡ take_run_plan_at h pages state
+      → IsNoShapeLoad env.geometry did
+  run_loads h pages (runs.MapWord first index) did is =
+      let order = parts_in_order h in
+      (elsewhere env.geometry did _ is (λ table below same. absurd (omega (arith, same, below, order.page_map)))).no_shape
+  run_loads h pages (runs.Claim first index) did is = no_load env.geometry did _ is (λ place load. cc)
+  run_loads h pages (runs.GiveBack first index bits) did is = no_load env.geometry did _ is (λ place load. cc)
+
+  -- nor does the making of a table load a shape
+  make_loads : (h : Geometry) (exponent seed : ℕ) (state : MakeAt) (did : Did)
+      → did.op ≡ make_plan_at h exponent seed state → IsNoShapeLoad env.geometry did
+  make_loads h exponent seed (makes.Slot slot) did is = no_load env.geometry did _ is (λ place load. cc)
+  make_loads h exponent seed (makes.Taking slot take) did is = run_loads take.geometry take.pages take.at did is
+  make_loads h exponent seed (makes.SlotBack slot) did is = no_load env.geometry did _ is (λ place load. cc)
+  make_loads h exponent seed (makes.NextSerial slot page) did is = no_load env.geometry did _ is (λ place load. cc)
+  make_loads h exponent seed (makes.Shape slot page serial) did is = no_load env.geometry did _ is (λ place load. cc)
+  make_loads h exponent seed (makes.Seed slot page serial) did is = no_load env.geometry did _ is (λ place load. cc)
+  make_loads h exponent seed (makes.Future slot page serial) did is = no_load env.geometry did _ is (λ place load. cc)
+  make_loads h exponent seed (makes.Serial slot page serial) did is = no_load env.geometry did _ is (λ place load. cc)
+
+  -- and its giving back loads nothing
+  unmake_aside : (h : Geometry) (slot : ℕ) (state : UnmakeAt) (did : Did) → did.op ≡ unmake_plan_at h slot state
+      → IsAside env.geometry did
+  unmake_aside h slot (unmakes.Giving give) did is =
+      aside env.geometry did _ is (λ place load. cc) (λ place value adds. cc)
+  unmake_aside h slot unmakes.SlotBack did is =
+      aside env.geometry did _ is (λ place load. cc) (λ place value adds. cc)
+
+  -- a future word that names a slot leads to it
+  slot_named : (word slot : ℕ) → slot_of word ≡ Some slot → (slot < 8) × (word ≡ future_of slot)
+  slot_named word slot is =
+      by_test (λ t. cond t (Some (word - 1)) None ≡ Some slot → (slot < 8) × (word ≡ future_of slot))
+      (nat_le 1 word && nat_le word 8)
+      (λ t same.
+      let parts = and_parts (nat_le 1 word) (nat_le word 8) t in
+      let low = leb-true 1 word parts.0 in
+      let high = leb-true word 8 parts.1 in
+      let here : word - 1 ≡ slot = cc in
+      (omega (arith, low, high, here), omega (arith, low, here)))
+      (λ f same. absurd (cc)) is
+
+  nonzero_named : (word : ℕ) → word ≤ 8 → word ≢ 0 → word ≡ future_of (table_of (word - 1))
+  nonzero_named word few some =
+      elim (cases_lt 0 word) [ inl low ↦ omega (arith, few, low) | inr none ↦ absurd (some (omega (arith, none))) ]
 
   module _ (mix : ℕ → ℕ → ℕ → ℕ) (port owner : ℕ) (once : Bool) where
     -- once a bucket was looked for it is there
-    found-saw : (c node : ℕ) (locate : LocateModel) (next : LocateModel × Next Located) (memory : Memory) (ghost : Ghost) (steps : List Did)
-        → LocateKnows env mix c (holds_node (Some node) None) (Some (filled_node node port owner)) Unlocked port next memory ghost
+    found-saw : (c : ℕ) (attempt : Attempt) (locate : LocateModel) (next : LocateModel × Next Located) (memory : Memory) (ghost : Ghost) (steps : List Did)
+        → LocateKnows env mix c (holds_node (Some attempt.node) None) (Some (filled_node attempt.node port owner)) Unlocked port next memory ghost
         → next.0.table ≡ locate.table → WalkedNext env.geometry locate.table next steps
-        → SawAt (located env port node next.0 next.1) steps
-    found-saw c node locate (after, Go) memory ghost steps knows same walked =
+        → SawAt (located env port attempt next.0 next.1) steps
+    found-saw c attempt locate (after, Go) memory ghost steps knows same walked =
         subst (λ table. WalkedAt env.geometry table after.at steps) (sym same) walked
-    found-saw c node locate (after, Done there) memory ghost steps knows same walked =
+    found-saw c attempt locate (after, Done there) memory ghost steps knows same walked =
         rw knows.there (subst (λ table. Walked env.geometry table there.shape steps) (sym same) walked)
 
-    locating-saw : (node : ℕ) (locate : LocateModel) (steps : List Did) (did : Did)
-        → Performs mix env (binds port owner once (at.Locating node locate)) did
-        → SawAt (at.Locating node locate) steps
+    locating-saw : (attempt : Attempt) (locate : LocateModel) (steps : List Did) (did : Did)
+        → Performs mix env (binds port owner once (at.Locating attempt locate)) did
+        → SawAt (at.Locating attempt locate) steps
         → let next = locate_after mix port locate did.old in
-        SawAt (located env port node next.0 next.1) (steps ++ did ∷ [])
-    locating-saw node locate steps did does saw =
+        SawAt (located env port attempt next.0 next.1) (steps ++ did ∷ [])
+    locating-saw attempt locate steps did does saw =
         let all = steps ++ did ∷ [] in
         let is : did.old ≡ old_of does.words (locate_plan locate) = does.found ∙ ap (old_of does.words) does.planned in
-        let step = locate_step env mix does.caller (holds_node (Some node) None) (Some (filled_node node port owner)) Unlocked does.words does.ghost does.whole
+        let step = locate_step env mix does.caller (holds_node (Some attempt.node) None) (Some (filled_node attempt.node port owner)) Unlocked does.words does.ghost does.whole
         port locate does.within.at_in.locate_in does.knows.knowing in
         let walked = locate-walked env.geometry mix port locate locate.at steps did does.within.at_in.locate_in.table_in does.planned saw in
-        subst (λ old. let next = locate_after mix port locate old in SawAt (located env port node next.0 next.1) all) (sym is)
-        (found-saw does.caller node locate (locate_after mix port locate (old_of does.words (locate_plan locate))) _ _ all step.knows
+        subst (λ old. let next = locate_after mix port locate old in SawAt (located env port attempt next.0 next.1) all) (sym is)
+        (found-saw does.caller attempt locate (locate_after mix port locate (old_of does.words (locate_plan locate))) _ _ all step.knows
         (same_table env.geometry mix port locate locate.at (old_of does.words (locate_plan locate)))
         (subst (λ old. WalkedNext env.geometry locate.table (locate_after mix port locate old) all) is walked))
 
+    -- an attempt has ended for a table that was seen behind the last one
+    ended-saw : (table : ℕ) (all : List Did) → HasFollowed env.geometry table all → SawForReply (ended_attempt once table) all
+    ended-saw table all followed =
+        by_test (λ t. SawForReply (cond t (Some (Again table)) None) all) once (λ t. followed) (λ f. tt)
+
+    behind-saw : (attempt : Attempt) (answer : Option Reply) (all : List Did) → SawForReply answer all
+        → SawAt (behind_attempt env attempt answer) all
+    behind-saw attempt None all saw = tt
+    behind-saw attempt (Some reply) all saw = saw
+
+    unmade-saw : (attempt : Attempt) (answer : Option Reply) (unmake : UnmakeModel) (next : Next (Unit {0})) (all : List Did)
+        → SawForReply answer all → SawAt (unmade env attempt answer unmake next) all
+    unmade-saw attempt answer unmake Go all saw = saw
+    unmade-saw attempt answer unmake (Done done) all saw = behind-saw attempt answer all saw
+
+    -- the load of the count leads to a table of the size that it wants, or to a refusal
+    want-saw : (growing : Growing) (root : ℕ) (steps : List Did) (did : Did)
+        → did.op ≡ Load (place_of env.geometry PortCount) → IsNoShapeLoad env.geometry did
+        → Behind env growing.table growing.shape (SawRoot env growing root) steps
+        → SawAt (want_or_busy env growing root did.old) (steps ++ did ∷ [])
+    want-saw growing root steps did is none saw =
+        let size = size_grown growing in
+        let busy = at.FutureAgain growing (refusals.Busy root) in
+        let same = nat_eq root growing.table in
+        let all = steps ++ did ∷ [] in
+        by_test (λ t. SawAt (cond t (making env growing (2 * size)) (cond same (making env growing size) busy)) all)
+        (is_above_75 (min did.old 65536) size env.config.max)
+        (λ above.
+        Behind-push env growing.table growing.shape (SawRoot env growing root)
+        (SawToMake env growing (2 * size) (exponent_made (2 * size)) (makes.Slot 0, Go)) steps did none
+        (λ behind so.
+        begins-making env growing root (2 * size) behind did is (sym (ap (λ b. cond b (2 * size) size) above)) so)
+        saw)
+        (λ below.
+        by_test (λ t. SawAt (cond t (making env growing size) busy) all) same
+        (λ t.
+        Behind-push env growing.table growing.shape (SawRoot env growing root)
+        (SawToMake env growing size (exponent_made size) (makes.Slot 0, Go)) steps did none
+        (λ behind so.
+        begins-making env growing root size behind did is (sym (ap (λ b. cond b (2 * size) size) below)) so)
+        saw)
+        (λ other.
+        Behind-push env growing.table growing.shape (SawRoot env growing root) (SawOther env growing root) steps did none
+        (λ behind so. other-saw env growing root behind did (eqb-false root growing.table other) so) saw))
+
+    made-saw : (growing : Growing) (size : ℕ) (make : MakeModel) (r : MakeAt × Next (Option (ℕ × ℕ))) (all : List Did)
+        → Behind env growing.table growing.shape (SawToMake env growing size make.exponent r) all
+        → SawAt (made growing size (record make { at = r.0 }) r.1) all
+    made-saw growing size make (state, Go) all saw = saw
+    made-saw growing size make (state, Done None) all saw = record {
+      walked = saw.walked;
+      saw = no_room-saw env growing size make.exponent state saw.walked.behind saw.saw;
+    }
+    made-saw growing size make (state, Done (Some table)) all saw = saw.walked
+
+    -- a future that was loaded again
+    again-saw : (growing : Growing) (refusal : Refusal) (future : Option ℕ) (steps : List Did) (did : Did)
+        → growing.table < 8 → did.op ≡ Load (place_of env.geometry (Slot growing.table FutureWord)) → did.old ≤ 8
+        → slot_of did.old ≡ future → Behind env growing.table growing.shape (SawRefusal env growing refusal) steps
+        → SawAt (refused_or_found env once growing refusal future) (steps ++ did ∷ [])
+    again-saw growing (refusals.Busy root) None steps did within is few reads saw =
+        busy-saw env growing root steps did
+        (elsewhere env.geometry did _ is (λ other below same. absurd (omega (arith, same)))).no_shape within is
+        (no_slot did.old few reads) saw
+    again-saw growing (refusals.NoTable size) None steps did within is few reads saw =
+        no_table-saw env growing size steps did
+        (elsewhere env.geometry did _ is (λ other below same. absurd (omega (arith, same)))).no_shape within is
+        (no_slot did.old few reads) saw
+    again-saw growing refusal (Some table) steps did within is few reads saw =
+        let named = slot_named did.old table reads in
+        behind-saw growing.attempt (ended_attempt once table) (steps ++ did ∷ [])
+        (ended-saw table (steps ++ did ∷ [])
+        (HasFollowed-new growing.table growing.shape table steps did
+        (elsewhere env.geometry did _ is (λ other below same. absurd (omega (arith, same)))).no_shape saw.walked
+        (inr (record { table_in = within; slot_in = named.0; tells = inl is; found = named.1 }))))
+
+    -- a table's future is none, or one of the slots
+    future_few : (words : List ℕ) (G : Ghost) (slot : ℕ) → Whole env mix (mem env mix words) G
+        → has_table (G.slot slot) ≡ true → mem env mix words (Slot slot FutureWord) ≤ 8
+    future_few words G slot whole table =
+        let τ = index_at G slot in
+        let is = whole.tables.slots slot table in
+        let word = (whole.tables.each τ is.attached).future_is in
+        let here : mem env mix words (Slot slot FutureWord) ≡ future_in env mix G τ =
+        ap (λ s. mem env mix words (Slot s FutureWord)) (sym is.slot) ∙ word in
+        elim (cases_lt (τ + 1) G.attached) [
+          | inl more ↦
+              let low = (whole.tables.each (τ + 1) more).slot_in in
+              let next = ap (λ t. cond t (future_of (G.table (τ + 1)).slot) 0) (lt-ltb (τ + 1) G.attached more) in
+              omega (arith, here, next, low)
+          | inr last ↦
+              let none = ap (λ t. cond t (future_of (G.table (τ + 1)).slot) 0) (le-ltb (τ + 1) G.attached last) in
+              omega (arith, here, none)
+        ]
+
+    -- and so it is found where the table is full
+    attaching_few : (growing : Growing) (slot shape : ℕ) (did : Did)
+        → Performs mix env (binds port owner once (at.Attaching growing slot shape)) did → did.old ≤ 8
+    attaching_few growing slot shape did does =
+        let found : did.old ≡ mem env mix does.words (Slot growing.table FutureWord) =
+        does.found ∙ ap (old_of does.words) does.planned in
+        let few = future_few does.words does.ghost growing.table does.whole does.knows.knowing.means.table in
+        omega (arith, found, few)
+
+    again_few : (growing : Growing) (refusal : Refusal) (did : Did)
+        → Performs mix env (binds port owner once (at.FutureAgain growing refusal)) did → did.old ≤ 8
+    again_few growing refusal did does =
+        let found : did.old ≡ mem env mix does.words (Slot growing.table FutureWord) =
+        does.found ∙ ap (old_of does.words) does.planned in
+        let few = future_few does.words does.ghost growing.table does.whole does.knows.knowing.means.table in
+        omega (arith, found, few)
+
+    -- the exchange that attaches
+    attach-saw : (growing : Growing) (slot shape : ℕ) (steps : List Did) (did : Did) → growing.table < 8 → slot < 8
+        → did.op ≡ plan_at env (at.Attaching growing slot shape) → did.old ≤ 8
+        → LastWalked env.geometry growing.table growing.shape steps
+        → SawAt (checked_attach env once growing slot shape did.old) (steps ++ did ∷ [])
+    attach-saw growing slot shape steps did within slot_in is few walked =
+        let all = steps ++ did ∷ [] in
+        let none = no_load env.geometry did _ is (λ place load. cc) in
+        let won = behind_attempt env (has_attached growing.attempt) (ended_attempt once slot) in
+        let other = table_of (did.old - 1) in
+        let lost = at.Unmaking growing.attempt (unmake_new env.geometry slot shape) (ended_attempt once other) in
+        by_test (λ t. SawAt (cond t won lost) all) (did.old == 0)
+        (λ t.
+        behind-saw (has_attached growing.attempt) (ended_attempt once slot) all
+        (ended-saw slot all
+        (HasFollowed-new growing.table growing.shape slot steps did none walked
+        (inl (record { table_in = within; slot_in = slot_in; exchanges = is; found = eqb-true did.old 0 t })))))
+        (λ f.
+        let some = eqb-false did.old 0 f in
+        let named : did.old ≡ future_of other = nonzero_named did.old few some in
+        ended-saw other all
+        (HasFollowed-new growing.table growing.shape other steps did none walked
+        (inr (record {
+          table_in = within;
+          slot_in = omega arith;
+          tells = inr (0, future_of slot, is);
+          found = named;
+        }))))
+
     bind-saw : (state : BindAt) (steps : List Did) (did : Did) → Performs mix env (binds port owner once state) did
-        → SawAt state steps → SawNext (steps ++ did ∷ []) (after_at mix env port state did.old)
-    bind-saw (at.Filling new) steps did does saw =
+        → SawAt state steps → SawAttached env state steps
+        → SawNext (steps ++ did ∷ []) (after_at mix env port once state did.old)
+    bind-saw (at.Filling new) steps did does saw so =
         bind_made-saw new (new_node_after_at new.at did.old) (steps ++ did ∷ [])
         (new-saw new new.at steps did refl does.within.at_in does.planned saw)
-    bind-saw (at.CurrentTable node) steps did does saw = tt
-    bind-saw (at.Locating node locate) steps did does saw = locating-saw node locate steps did does saw
-    bind-saw (at.Probing node table shape probe) steps did does saw =
-        probed-saw env.config.kind node table shape (probe_after probe did.old).0
+    bind-saw (at.CurrentTable attempt) steps did does saw so = tt
+    bind-saw (at.Locating attempt locate) steps did does saw so = locating-saw attempt locate steps did does saw
+    bind-saw (at.Probing attempt table shape probe) steps did does saw so =
+        probed-saw env.config.kind attempt table shape (probe_after probe did.old).0
         (probe_after probe did.old).1 (steps ++ did ∷ [])
         (Walked-push env.geometry table shape steps did
         (probe_loads env.geometry did probe.at does.within.at_in.probe_in.at_in does.planned) saw)
-    bind-saw (at.FoundOwner claimed found) steps did does saw = tt
-    bind-saw (at.ListLink list) steps did does saw =
+    bind-saw (at.FoundOwner claimed found) steps did does saw so = tt
+    bind-saw (at.ListLink list) steps did does saw so =
         Walked-push env.geometry list.claimed.table list.claimed.shape steps did
         (aside env.geometry did _ does.planned (λ place load. cc) (λ place value adds. cc)) saw
-    bind-saw (at.ChainLink list) steps did does saw =
+    bind-saw (at.ChainLink list) steps did does saw so =
         Walked-push env.geometry list.claimed.table list.claimed.shape steps did
         (node_loads env.geometry did env.geometry list.first ChainLink does.planned) saw
-    bind-saw (at.LinkBehind list link) steps did does saw =
+    bind-saw (at.LinkBehind list link) steps did does saw so =
         Walked-push env.geometry list.claimed.table list.claimed.shape steps did
         (aside env.geometry did _ does.planned (λ place load. cc) (λ place value adds. cc)) saw
-    bind-saw (at.Replacing list relink) steps did does saw =
+    bind-saw (at.Replacing list relink) steps did does saw so =
         replaced-saw list (relink_after relink).0 (relink_after relink).1 (steps ++ did ∷ [])
         does.knows.fits.listed
         (Walked-push env.geometry list.claimed.table list.claimed.shape steps did
         (relink_stores env.geometry did relink relink.at does.planned) saw)
-    bind-saw (at.Future claimed length) steps did does saw =
-        future-saw claimed (slot_of did.old) (steps ++ did ∷ [])
+        (AttachedSo-push env.geometry list.claimed.attempt.attached steps did
+        (no_attach env.geometry did _ does.planned (relink-none env.geometry relink relink.at)) so)
+    bind-saw (at.Future claimed length) steps did does saw so =
+        future-saw claimed length (slot_of did.old) (steps ++ did ∷ [])
         (Walked-push env.geometry claimed.table claimed.shape steps did
         (elsewhere env.geometry did _ does.planned (λ table below same. absurd (omega arith))) saw)
-    bind-saw (at.Count claimed) steps did does saw =
-        count-saw claimed steps did does.planned
-        (Walked-push env.geometry claimed.table claimed.shape steps did
-        (elsewhere env.geometry did _ does.planned (λ table below same. absurd (omega arith))) saw)
-    bind-saw (at.Link claimed) steps did does saw =
+    bind-saw (at.Count claimed) steps did does saw so =
+        count-saw claimed steps did does.planned saw
+    bind-saw (at.Link claimed) steps did does saw so =
         Walked-push env.geometry claimed.table claimed.shape steps did
         (aside env.geometry did _ does.planned (λ place load. cc) (λ place value adds. cc)) saw
-    bind-saw (at.Raise claimed) steps did does saw = raise-saw claimed steps did does.planned saw
-    bind-saw (at.Publish node table relink kick) steps did does saw =
+    bind-saw (at.Raise claimed) steps did does saw so = raise-saw claimed steps did does.planned saw so
+    bind-saw (at.Publish node table relink kick) steps did does saw so =
         published-saw node table kick (relink_after relink).0 (relink_after relink).1 (steps ++ did ∷ [])
-        (Raised-push kick steps did (relink_stores env.geometry did relink relink.at does.planned) saw)
-    bind-saw (at.Unlocking node table unlock next) steps did does saw =
-        unlocked-saw node next (steps ++ did ∷ [])
+        (Raised-push kick steps did
+        (still did _ does.planned (relink_stores env.geometry did relink relink.at does.planned)
+        (relink-none env.geometry relink relink.at)) saw)
+    bind-saw (at.Unlocking attempt table unlock next) steps did does saw so =
+        unlocked-saw attempt next (steps ++ did ∷ [])
         (SawForReply-push (answer_behind next) steps did
-        (aside env.geometry did _ does.planned (λ place load. cc) (λ place value adds. cc)) saw)
-    bind-saw (at.Giving give reply) steps did does saw =
-        SawFor-push reply steps did (aside env.geometry did _ does.planned (λ place load. cc)
-        (λ place value adds. cc)) saw
+        (still did _ does.planned
+        (aside env.geometry did _ does.planned (λ place load. cc) (λ place value adds. cc))
+        (λ table old new l e. cc)) saw)
+    bind-saw (at.UnlockingFull growing unlock) steps did does saw so =
+        Behind-push env growing.table growing.shape (SawWhy env growing.why growing.shape)
+        (SawWhy env growing.why growing.shape) steps did
+        (no_load env.geometry did _ does.planned (λ place load. cc))
+        (λ behind why. SawWhy-push env growing.why growing.shape behind did why) saw
+    bind-saw (at.Root growing) steps did does saw so =
+        Behind-push env growing.table growing.shape (SawWhy env growing.why growing.shape)
+        (SawRoot env growing (table_of did.old)) steps did
+        (elsewhere env.geometry did _ does.planned (λ table below same. absurd (omega (arith, same)))).no_shape
+        (λ behind why. root-saw env growing behind did does.planned why) saw
+    bind-saw (at.GrowthCount growing root) steps did does saw so =
+        want-saw growing root steps did does.planned
+        (elsewhere env.geometry did _ does.planned (λ table below same. absurd (omega (arith, same)))).no_shape saw
+    bind-saw (at.Making growing size make) steps did does saw so =
+        let after = make_after_at make.geometry make.exponent make.at did.old in
+        made-saw growing size make after (steps ++ did ∷ [])
+        (Behind-push env growing.table growing.shape (SawToMake env growing size make.exponent (make.at, Go))
+        (SawToMake env growing size make.exponent after) steps did
+        (make_loads make.geometry make.exponent make.seed make.at did does.planned)
+        (λ behind so_far. making-saw env growing size make behind did does.within.at_in.make_in does.planned so_far) saw)
+    bind-saw (at.FutureAgain growing refusal) steps did does saw so =
+        again-saw growing refusal (slot_of did.old) steps did does.within.at_in.growing_in.table_in does.planned
+        (again_few growing refusal did does) refl saw
+    bind-saw (at.Attaching growing slot shape) steps did does saw so =
+        attach-saw growing slot shape steps did does.within.at_in.growing_in.table_in does.within.at_in.slot_in
+        does.planned (attaching_few growing slot shape did does) saw
+    bind-saw (at.Unmaking attempt unmake answer) steps did does saw so =
+        unmade-saw attempt answer (unmake_after unmake did.old).0 (unmake_after unmake did.old).1 (steps ++ did ∷ [])
+        (SawForReply-push answer steps did
+        (still did _ does.planned (unmake_aside unmake.geometry unmake.slot unmake.at did does.planned)
+        (unmake-none env.geometry unmake.geometry unmake.slot unmake.at)) saw)
+    bind-saw (at.Giving give reply) steps did does saw so =
+        SawFor-push reply steps did
+        (still did _ does.planned
+        (aside env.geometry did _ does.planned (λ place load. cc) (λ place value adds. cc))
+        (λ table old new l e. cc)) saw
+
+    -- with whether it has attached a table
+    abbrev SawBoth : List Did → BindAt × Next Reply → Type 0
+    SawBoth all next = GoesOrEnds (λ state. SawAt state all × SawAttached env state all) (λ reply. SawFor reply all) next
+
+    both-saw : (next : BindAt × Next Reply) (all : List Did) → SawNext all next → SawAttached env next.0 all → SawBoth all next
+    both-saw (state, Go) all saw so = (saw, so)
+    both-saw (state, Done reply) all saw so = saw
 
   -- a look-up has nothing to show for its answers
   find-cause : (reply : Reply) → IsFindReply reply → FindCause reply
@@ -536,7 +875,10 @@ module _ (M : Type 0) (mix : ℕ → ℕ → ℕ → ℕ) (env : Env) where
       next-leads (finds port state) (finds port) plain_ending (steps ++ did ∷ []) next (nothing-saw next)
   job-leads (binds port owner once state) steps did performs saw =
       next-leads (binds port owner once state) (binds port owner once) plain_ending (steps ++ did ∷ [])
-      (after_at mix env port state did.old) (bind-saw env mix port owner once state steps did performs saw)
+      (after_at mix env port once state did.old)
+      (both-saw env mix port owner once (after_at mix env port once state did.old) (steps ++ did ∷ [])
+      (bind-saw env mix port owner once state steps did performs saw.0 saw.1)
+      (attached-saw env mix port once state steps did performs.within.at_in performs.planned saw.1))
   job-leads (lists port room state) steps did performs saw =
       let after = all.room_after state room did.old in
       let next = all.after_at mix env port state did.old in
@@ -565,7 +907,7 @@ module _ (M : Type 0) (mix : ℕ → ℕ → ℕ → ℕ) (env : Env) where
   first_job-saw (Find port) job is = subst (λ j. JobSaw env j []) (let here : finds port CurrentTable ≡ job = cc in here) tt
   first_job-saw (Bind port owner once) job is =
       let here : binds port owner once (first_state env port owner) ≡ job = cc in
-      subst (λ j. JobSaw env j []) here (λ node l. absurd (omega arith))
+      subst (λ j. JobSaw env j []) here (λ node l. absurd (omega arith), tt)
   first_job-saw (All port) job is =
       subst (λ j. JobSaw env j [])
       (let here : lists port (room_for_nodes env) (alls.Seeking (seek_new env.geometry)) ≡ job = cc in here) tt
@@ -630,13 +972,7 @@ module _ (M : Type 0) (mix : ℕ → ℕ → ℕ → ℕ) (env : Env) where
           table = raised.table;
           shape = shape;
           walked = walked;
-          kicks = (
-            (λ is. elim raised.some [
-              | inl any ↦ due shape kick walked.behind behind.1.1 raised.each is any
-              | inr none ↦ absurd (let both : true ≡ false = sym is ∙ none.0 in cc)
-            ]),
-            λ any. by_due shape kick walked.behind behind.1.1 raised.each any,
-          );
+          kicks = so_kicks raised.attached raised.so shape walked.behind behind.1.1 raised.each raised.some;
           raised = λ single. elim raised.some [
             | inl any ↦ any
             | inr none ↦ absurd (let both : Single ≡ Listed = sym single ∙ none.1 in cc)
@@ -644,22 +980,22 @@ module _ (M : Type 0) (mix : ℕ → ℕ → ℕ → ℕ) (env : Env) where
         }
       where
         unclamped : (shape : ℕ) (did : Did) → IsRecordedHere did → IsRaise env.geometry did
-            → kicks env shape did.old ≡ is_above_75 (did.old + 1) (size_of (unpacked shape)) env.config.max
+            → due_by env shape did.old ≡ is_above_75 (did.old + 1) (size_of (unpacked shape)) env.config.max
         unclamped shape did was adds =
             let few = raise_few env mix M events c did admitted adds was in
             let most = env.geometry.within.nodes_within.1 in
             let same : min did.old 65535 ≡ did.old = omega (arith, few, most) in
             ap (λ count. is_above_75 (count + 1) (size_of (unpacked shape)) env.config.max) same
 
-        due : (shape : ℕ) (kick : Bool) (steps : List Did) → AllByRecursion IsRecordedHere steps
-            → AllByRecursion (SaysOfRaise env shape kick) steps → kick ≡ true
+        due : (shape : ℕ) (steps : List Did) → AllByRecursion IsRecordedHere steps
+            → AllByRecursion (SaysOfRaise env false shape kick) steps → kick ≡ true
             → Any (IsRaise env.geometry) steps
             → Any (IsDueBy env shape) steps
-        due shape kick steps recorded each is (k, did, within, at_k, adds) =
+        due shape steps recorded each is (k, did, within, at_k, adds) =
             let was = subst IsRecordedHere at_k (All-from_recursion IsRecordedHere steps recorded k did
             within) in
-            let says = subst (SaysOfRaise env shape kick) at_k
-            (All-from_recursion (SaysOfRaise env shape kick) steps each k did within) in (
+            let says = subst (SaysOfRaise env false shape kick) at_k
+            (All-from_recursion (SaysOfRaise env false shape kick) steps each k did within) in (
               k,
               did,
               within,
@@ -671,14 +1007,80 @@ module _ (M : Type 0) (mix : ℕ → ℕ → ℕ → ℕ) (env : Env) where
               },
             )
 
-        by_due : (shape : ℕ) (kick : Bool) (steps : List Did) → AllByRecursion IsRecordedHere steps
-            → AllByRecursion (SaysOfRaise env shape kick) steps → Any (IsDueBy env shape) steps → kick ≡ true
-        by_due shape kick steps recorded each (k, did, within, at_k, by) =
+        by_due : (shape : ℕ) (steps : List Did) → AllByRecursion IsRecordedHere steps
+            → AllByRecursion (SaysOfRaise env false shape kick) steps → Any (IsDueBy env shape) steps → kick ≡ true
+        by_due shape steps recorded each (k, did, within, at_k, by) =
             let was = subst IsRecordedHere at_k (All-from_recursion IsRecordedHere steps recorded k did
             within) in
-            let says = subst (SaysOfRaise env shape kick) at_k
-            (All-from_recursion (SaysOfRaise env shape kick) steps each k did within) in
+            let says = subst (SaysOfRaise env false shape kick) at_k
+            (All-from_recursion (SaysOfRaise env false shape kick) steps each k did within) in
             says by.raised ∙ unclamped shape did was by.raised ∙ by.due
+
+        -- a bind that has attached a table says so, whatever it raises
+        by_raise : (shape : ℕ) (steps : List Did) → AllByRecursion (SaysOfRaise env true shape kick) steps
+            → Any (IsRaise env.geometry) steps → kick ≡ true
+        by_raise shape steps each (k, did, within, at_k, adds) =
+            subst (SaysOfRaise env true shape kick) at_k
+            (All-from_recursion (SaysOfRaise env true shape kick) steps each k did within) adds
+
+        none_attached : AllByRecursion (IsNoAttach env.geometry) steps → Any (AttachesSome env.geometry) steps → ⊥
+        none_attached none (k, did, within, at_k, attaches) =
+            subst (IsNoAttach env.geometry) at_k
+            (All-from_recursion (IsNoAttach env.geometry) steps none k did within) attaches
+
+        so_kicks : (attached : Bool) → AttachedSo env.geometry attached steps → (shape : ℕ) (behind : List Did)
+            → AllByRecursion IsRecordedHere behind → AllByRecursion (SaysOfRaise env attached shape kick) behind
+            → (Any (IsRaise env.geometry) behind ⊎ ((kick ≡ attached) × (env.config.kind ≡ Listed)))
+            → (kick ≡ true) ↔ (Any (AttachesSome env.geometry) steps ⊎ Any (IsDueBy env shape) behind)
+        so_kicks true so shape behind were each some = (
+          λ is. inl so,
+          λ either. elim some [
+            | inl any ↦ by_raise shape behind each any
+            | inr none ↦ none.0
+          ],
+        )
+        so_kicks false so shape behind were each some = (
+          (λ is. inr (elim some [
+            | inl any ↦ due shape behind were each is any
+            | inr none ↦ absurd (let both : true ≡ false = sym is ∙ none.0 in cc)
+          ])),
+          λ either. elim either [
+            | inl any ↦ absurd (none_attached so any)
+            | inr any ↦ by_due shape behind were each any
+          ],
+        )
+
+    -- a table is full by the count that was loaded, or its bucket has too many nodes
+    crowded : (why : Full) (table shape : ℕ) (behind : List Did) → AllByRecursion IsRecordedHere behind
+        → SawWhy env why shape behind → SawCrowded M mix env events c table shape behind
+    crowded full.Chain table shape behind recorded saw = inl ?
+    crowded full.Table table shape behind recorded (k, did, within, is, above) =
+        let was = subst IsRecordedHere is (All-from_recursion IsRecordedHere behind recorded k did within) in
+        inr (
+          k,
+          did,
+          within,
+          is,
+          record {
+            count = did.old;
+            saw = record {
+              loaded = above.loaded;
+              found = refl;
+              counted = counted_at M mix env events c did.old did admitted above.loaded refl was;
+            };
+            above = above.above;
+          },
+        )
+
+    -- no clamp has changed a count that was loaded
+    unclamped : (count : ℕ) (steps : List Did) → AllByRecursion IsRecordedHere steps
+        → Any (Loaded env.geometry PortCount count) steps → min count 65536 ≡ count
+    unclamped count steps recorded (k, did, within, is, loaded) =
+        let was = subst IsRecordedHere is (All-from_recursion IsRecordedHere steps recorded k did within) in
+        let few = load_few env mix M events c did admitted loaded.word.loads was in
+        let most = env.geometry.within.nodes_within.1 in
+        let found = loaded.found in
+        omega (arith, few, most, found)
 
     bind-cause : (past : Past) (reply : Reply) → SawFor env reply past.steps → AllByRecursion IsRecordedHere past.steps
         → BindCause M mix env events c past reply
@@ -686,6 +1088,41 @@ module _ (M : Type 0) (mix : ℕ → ℕ → ℕ → ℕ) (env : Env) where
     bind-cause past (Exists owner) saw recorded = saw
     bind-cause past NoNode saw recorded = saw
     bind-cause past (TooBig count) saw recorded = full-saw count past.steps recorded saw
+    bind-cause past (Again table) saw recorded = saw
+    bind-cause past (Busy root last) saw recorded =
+        let walked = saw.walked in
+        let parts = AllByRecursion-cut IsRecordedHere walked.before (walked.at ∷ walked.behind)
+        (subst (AllByRecursion IsRecordedHere) walked.split recorded) in
+        record {
+          shape = saw.shape;
+          walked = walked;
+          other = saw.other;
+          crowded = crowded saw.why last saw.shape walked.behind parts.1.1 saw.is_full;
+          current = saw.current;
+          none = saw.none;
+        }
+    bind-cause past (NoTable size) saw recorded =
+        let walked = saw.walked in
+        let parts = AllByRecursion-cut IsRecordedHere walked.before (walked.at ∷ walked.behind)
+        (subst (AllByRecursion IsRecordedHere) walked.split recorded) in
+        let behind = AllByRecursion-cut IsRecordedHere saw.before (saw.at ∷ saw.rest)
+        (subst (AllByRecursion IsRecordedHere) saw.split parts.1.1) in
+        record {
+          table = saw.table;
+          shape = saw.shape;
+          walked = walked;
+          crowded = crowded saw.why saw.table saw.shape walked.behind parts.1.1 saw.is_full;
+          before = saw.before;
+          at = saw.at;
+          rest = saw.rest;
+          split = saw.split;
+          count = saw.wanted.count;
+          counted = saw.wanted.counted;
+          wanted = saw.wanted.wanted
+              ∙ ap (wanted_size env saw.shape) (unclamped saw.wanted.count saw.before behind.0 saw.wanted.counted);
+          room = saw.room;
+          none = saw.none;
+        }
     bind-cause past _ saw recorded = absurd saw
 
     count-cause : (past : Past) (reply : Reply) → SawForCount env reply past.steps → AllByRecursion IsRecordedHere past.steps

@@ -251,7 +251,7 @@ module _ (mix : ℕ → ℕ → ℕ → ℕ) (env : Env) where
     leads (binds port owner once state) steps did performs loaded =
         other_leads (binds port owner once state) (binds port owner once) plain_ending (steps ++ did ∷ [])
         (λ p is. let same : Bind port owner once ≡ All p = is in cc) (λ s. tt)
-        (bind_at.after_at mix env port state did.old)
+        (bind_at.after_at mix env port once state did.old)
     leads (lists port room state) steps did performs loaded =
         listing_leads port room (room_after state room did.old) state (steps ++ did ∷ [])
         (after_at mix env port state did.old) (listing_keeps port room steps did loaded state performs)

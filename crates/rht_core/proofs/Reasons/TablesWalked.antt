@@ -29,7 +29,8 @@ use Rattle.rht_chain.specs.Relink.{RelinkModel, relink_plan_at}
 use Rattle.rht_chain.specs.declared.relink.RelinkAt.{RelinkAt}
 use Rattle.rht_chain.specs.declared.relink.RelinkAt.TheVariants as relinks
 use Rattle.rht_core.specs.Traces.{Did}
-use Rattle.rht_core.specs.Causes.{IsNoShapeLoad, LastWalked, IsRaise}
+use Rattle.rht_core.specs.Seen.{IsNoShapeLoad, LastWalked}
+use Rattle.rht_core.specs.Causes.{IsRaise}
 
 module _ (g : Geometry) where
   -- ---- what loads no shape, and raises no count

@@ -56,7 +56,7 @@ job_after-alone : (mix : ℕ → ℕ → ℕ → ℕ) (env : Env) (job : Job) (o
 job_after-alone mix env (finds port state) old =
     job_next-alone (finds port) plain_ending (λ end. refl) (find.after_at mix env port state old)
 job_after-alone mix env (binds port owner once state) old =
-    job_next-alone (binds port owner once) plain_ending (λ end. refl) (bind.after_at mix env port state old)
+    job_next-alone (binds port owner once) plain_ending (λ end. refl) (bind.after_at mix env port once state old)
 job_after-alone mix env (lists port room state) old =
     let after = all.room_after state room old in
     job_next-alone (lists port after) (listing_ending after) (λ end. refl) (all.after_at mix env port state old)

@@ -1,0 +1,167 @@
+-- Why a bind that found the last table full was refused or has to be made again: what its operations show of that.
+-- Every address that a row names is one of the table's words, since places alone don't tell it from a word that isn't there.
+use Rattle.std.specs.Prelude.{◌≡◌, ◌≢◌, ℕ, ◌*◌, ◌+◌, ◌<◌, ◌≤◌, ◌⊎◌, List, [], ◌∷◌, ◌++◌, length, map, take, if◌then◌else◌}
+use Rattle.std.specs.List.{AllByRecursion, Any}
+use Rattle.rht_words.specs.declared.op.Op.{Op}
+use Rattle.rht_words.specs.declared.op.Op.TheVariants.{Load, Exchange}
+use Rattle.rht_words.specs.declared.env.Env.{Env}
+use Rattle.rht_words.specs.declared.geometry.Geometry.{Geometry}
+use Rattle.rht_words.specs.Links.{table_of, future_of}
+use Rattle.rht_words.specs.Places.{Address, CurrentTable, PortCount, Slot, FutureWord, Node, KeyWord, IsAddress, place_of}
+use Rattle.rht_words.specs.Shapes.{unpacked, size_of}
+use Rattle.rht_policy.specs.Thresholds.{is_above_75}
+use Rattle.rht_arena.specs.Runs.{IsRunIn}
+use Rattle.rht_arena.specs.RunLaws.{SeesRunTaken}
+use Rattle.rht_nest.specs.Place.{bucket_place}
+use Rattle.rht_nest.specs.MakeLaws.{pages_for, AreSlotsSeenTaken}
+use Rattle.rht_core.specs.declared.event.Event.{Event}
+use Rattle.rht_core.specs.Runs.{run_of}
+use Rattle.rht_core.specs.StandsFor.{bucket_nodes, stands_for, AreBound}
+use Rattle.rht_core.specs.Traces.{Did, performed_of}
+use Rattle.rht_core.specs.Seen.{LastWalked, SawCount}
+
+-- the operation loaded this word of the table
+pub record LoadsWord (g : Geometry) (address : Address) (did : Did) : Type 0 where
+  pub there : IsAddress g address
+  pub loads : did.op ≡ Load (place_of g address)
+
+-- and found this value in it
+pub record Loaded (g : Geometry) (address : Address) (value : ℕ) (did : Did) : Type 0 where
+  pub word : LoadsWord g address did
+  pub found : did.old ≡ value
+
+-- an operation that tells what a word of the table was: a load of it, or an exchange
+abbrev pub TellsWord : Geometry → Address → Op → Type 0
+TellsWord g address op =
+    (op ≡ Load (place_of g address)) ⊎ ((old : ℕ) × (new : ℕ) × (op ≡ Exchange (place_of g address) old new))
+
+-- ---- futures
+
+-- the operation attached the table of this slot behind that of another
+pub record Attaches (g : Geometry) (table slot : ℕ) (did : Did) : Type 0 where
+  pub table_in : table < 8
+  pub slot_in : slot < 8
+  pub exchanges : did.op ≡ Exchange (place_of g (Slot table FutureWord)) 0 (future_of slot)
+  pub found : did.old ≡ 0
+
+-- the operation attached a table
+pub record AttachesSome (g : Geometry) (did : Did) : Type 0 where
+  pub table : ℕ
+  pub slot : ℕ
+  pub attaches : Attaches g table slot did
+
+-- the operation found that the table of this slot is the future of another
+pub record FindsFuture (g : Geometry) (table slot : ℕ) (did : Did) : Type 0 where
+  pub table_in : table < 8
+  pub slot_in : slot < 8
+  pub tells : TellsWord g (Slot table FutureWord) did.op
+  pub found : did.old ≡ future_of slot
+
+-- A bind has to be made again for the table of this slot: it attached that table behind the last one that it walked, or
+-- found it there.
+pub record HasFollowed (g : Geometry) (slot : ℕ) (steps : List Did) : Type 0 where
+  pub table : ℕ
+  pub shape : ℕ
+  pub walked : LastWalked g table shape steps
+  pub seen : Any (λ did. Attaches g table slot did ⊎ FindsFuture g table slot did) walked.behind
+
+-- ---- what wants a further table
+
+-- the operation loads the key of a node
+pub record LoadsKey (g : Geometry) (node : ℕ) (did : Did) : Type 0 where
+  pub node_in : node < g.nodes
+  pub loads : did.op ≡ Load (place_of g (Node node KeyWord))
+
+-- the operation loads the key of no node
+abbrev pub IsNoKeyLoad : Geometry → Did → Type 0
+IsNoKeyLoad g did = (node : ℕ) → LoadsKey g node did → ⊥
+
+-- the nodes whose keys these operations loaded, in order
+abbrev pub AreKeysRead : Geometry → List Did → List ℕ → Type 0
+AreKeysRead g [] nodes = nodes ≡ []
+AreKeysRead g (did ∷ steps) [] = IsNoKeyLoad g did × AreKeysRead g steps []
+AreKeysRead g (did ∷ steps) (node ∷ nodes) =
+    (LoadsKey g node did × AreKeysRead g steps nodes) ⊎ (IsNoKeyLoad g did × AreKeysRead g steps (node ∷ nodes))
+
+-- a table of this shape with so many ports is to have one of this size behind it: of twice its size where they are more
+-- than three quarters of its buckets, and of its own size where they aren't
+abbrev pub wanted_size : Env → ℕ → ℕ → ℕ
+wanted_size env shape count =
+    let size = size_of (unpacked shape) in
+    if is_above_75 count size env.config.max then 2 * size else size
+
+-- the operations saw for each run of so many pages, of those that begin at a multiple of that number, a page taken
+abbrev pub AreRunsSeenTaken : Geometry → ℕ → List Did → Type 0
+AreRunsSeenTaken g pages steps =
+    (multiple : ℕ) → IsRunIn g (multiple * pages) pages
+    → Any (SeesRunTaken g pages (multiple * pages)) (map performed_of steps)
+
+-- no slot was to be had for a table of this size, or no run of pages
+abbrev pub SawNoRoom : Geometry → ℕ → List Did → Type 0
+SawNoRoom g size steps = AreSlotsSeenTaken g (map performed_of steps) ⊎ AreRunsSeenTaken g (pages_for size) steps
+
+module _ (M : Type 0) (mix : ℕ → ℕ → ℕ → ℕ) (env : Env) (events : List Event) (c : ℕ) where
+  -- the words before the event with this number
+  abbrev words_before : ℕ → List ℕ
+  words_before index = (run_of {M = M} mix env (take index events)).core.words
+
+  -- Behind the load of the table's shape the call counted 16 nodes or more. The last key was loaded by this operation. At its
+  -- event that node had as many others before it in a bucket of the table as keys had been loaded before, and as many ports
+  -- were bound as were counted.
+  pub record SawLongChain (table shape : ℕ) (behind : List Did) : Type 0 where
+    pub before : List Did
+    pub last : Did
+    pub rest : List Did
+    pub split : behind ≡ before ++ last ∷ rest
+    pub node : ℕ
+    pub loads : LoadsKey env.geometry node last
+    pub none_behind : AllByRecursion (IsNoKeyLoad env.geometry) rest
+    pub counted : List ℕ
+    pub read : AreKeysRead env.geometry before counted
+    pub bucket : ℕ
+    pub bucket_in : bucket < size_of (unpacked shape)
+    pub front : List ℕ
+    pub rear : List ℕ
+    pub stands :
+        bucket_nodes env.geometry (words_before last.index) (bucket_place env.geometry shape bucket)
+        ≡ front ++ node ∷ rear
+    pub as_many : length front ≡ length counted
+    pub many : 16 ≤ length counted + 1
+    pub bound : AreBound (stands_for env.geometry (words_before last.index)) (length counted + 1)
+
+  -- a count above the size of a table of this shape was loaded
+  pub record SawManyPorts (shape : ℕ) (did : Did) : Type 0 where
+    pub count : ℕ
+    pub saw : SawCount M mix env events c count did
+    pub above : size_of (unpacked shape) < count
+
+  -- the table that was walked last is full: its bucket has 16 nodes or more, or it has fewer buckets than there are ports
+  abbrev pub SawCrowded : ℕ → ℕ → List Did → Type 0
+  SawCrowded table shape behind = SawLongChain table shape behind ⊎ Any (SawManyPorts shape) behind
+
+  -- A bind is refused while tables are moved: the last table that it walked is full and wasn't the current one, and it
+  -- loaded its future as none.
+  pub record SawBusy (root last : ℕ) (steps : List Did) : Type 0 where
+    pub shape : ℕ
+    pub walked : LastWalked env.geometry last shape steps
+    pub other : root ≢ last
+    pub crowded : SawCrowded last shape walked.behind
+    pub current : Any (λ did. LoadsWord env.geometry CurrentTable did × (table_of did.old ≡ root)) walked.behind
+    pub none : Any (Loaded env.geometry (Slot last FutureWord) 0) walked.behind
+
+  -- A bind is refused for want of a table of this size: the last table that it walked is full, by a count of ports that it
+  -- loaded a table of this size is to come behind it, there was no room for one, and then it loaded its future as none.
+  pub record SawNoTable (size : ℕ) (steps : List Did) : Type 0 where
+    pub table : ℕ
+    pub shape : ℕ
+    pub walked : LastWalked env.geometry table shape steps
+    pub crowded : SawCrowded table shape walked.behind
+    pub before : List Did
+    pub at : Did
+    pub rest : List Did
+    pub split : walked.behind ≡ before ++ at ∷ rest
+    pub count : ℕ
+    pub counted : Any (Loaded env.geometry PortCount count) before
+    pub wanted : size ≡ wanted_size env shape count
+    pub room : SawNoRoom env.geometry size before
+    pub none : Loaded env.geometry (Slot table FutureWord) 0 at
