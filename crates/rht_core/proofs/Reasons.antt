@@ -4,3 +4,5 @@ pub mod TablesWalked
 pub mod CausesInRuns
 -- in every run a listing lists each owner that its operations loaded
 pub mod ListingsKept
+-- by which loads a resizing chose what is due
+pub mod WorkChoices

@@ -21,6 +21,7 @@ use Rattle.rht_core.specs.Locals.{is_idle}
 use Rattle.rht_core.specs.Runs.{Core, local_of, run_of, IsAdmitted}
 use Rattle.rht_core.specs.Traces.{Did, Past, performed_of, traced_of}
 use Rattle.rht_core.specs.StandsFor.{stands_for, AreBound}
+use Rattle.rht_core.specs.WorkCauses.{FindsWorkLocked, SawNoTableDue}
 
 -- how many callers but this one are in the middle of a call
 abbrev pub others_in_call : {M : Type 0} → Core M → ℕ → ℕ
@@ -123,6 +124,30 @@ RebindCause env past (Moved again) = ⊥
 RebindCause env past Idle = ⊥
 RebindCause env past (Clear returned) = ⊥
 RebindCause env past (Counted count) = ⊥
+
+-- Why a resizing ended with this reply: another caller was at work, or a table was due that couldn't be had. Of `Moved` and `Idle` no
+-- cause is said here yet; `WorkCauses` has what `Idle` is to show.
+abbrev pub WorkCause : Env → Past → Reply → Type 0
+WorkCause env past Elsewhere = Any (FindsWorkLocked env.geometry) past.steps
+WorkCause env past (Moved again) = Unit {0}
+WorkCause env past Idle = Unit {0}
+WorkCause env past (NoTable size) = SawNoTableDue env size past.steps
+WorkCause env past (Found owner) = ⊥
+WorkCause env past Missing = ⊥
+WorkCause env past (Bound kick) = ⊥
+WorkCause env past (Exists owner) = ⊥
+WorkCause env past (Listed len) = ⊥
+WorkCause env past (Released kick) = ⊥
+WorkCause env past Absent = ⊥
+WorkCause env past Rebound = ⊥
+WorkCause env past (TooBig count) = ⊥
+WorkCause env past (Again table) = ⊥
+WorkCause env past (Busy root last) = ⊥
+WorkCause env past NoNode = ⊥
+WorkCause env past (Pending caller section) = ⊥
+WorkCause env past (Walked len next) = ⊥
+WorkCause env past (Clear returned) = ⊥
+WorkCause env past (Counted count) = ⊥
 
 -- the operation doesn't load the shape of a table
 abbrev pub IsNoShapeLoad : Geometry → Did → Type 0
@@ -233,7 +258,7 @@ module _ (M : Type 0) (mix : ℕ → ℕ → ℕ → ℕ) where
   CauseOf env events c past (Release port owner) reply = ReleaseCause reply
   CauseOf env events c past (Rebind port owner new) reply = RebindCause env past reply
   CauseOf env events c past (Walk from limit) reply = ⊥
-  CauseOf env events c past Work reply = ⊥
+  CauseOf env events c past Work reply = WorkCause env past reply
   CauseOf env events c past Tidy reply = ⊥
   CauseOf env events c past Count reply = CountCause env events c past reply
 
