@@ -1,11 +1,10 @@
 -- What a run leaves that serves a script is printed as a text of the form `run`. The laws of every run say what that means: the history of
--- the replies, and that the table is still the first one. No case is taken but that of the hash, which names the run's mix.
-use Rattle.std.proofs.Common.{◌≡◌, ℕ, List, length, refl, sym, ◌∙◌, ap, subst}
+-- the replies. No case is taken but that of the hash, which names the run's mix.
+use Rattle.std.proofs.Common.{◌≡◌, ℕ, List, length, refl, sym, ◌∙◌, ap}
 use Rattle.std.specs.List.{AllByRecursion}
 use Rattle.rht_words.specs.declared.config.Config.{Config}
 use Rattle.rht_words.specs.declared.config.Hash.{Hash}
 use Rattle.rht_words.specs.declared.config.Hash.TheVariants as hashes
-use Rattle.rht_words.specs.Sizes.{first_size}
 use Rattle.rht_policy.specs.declared.mix.Lookup3.{Lookup3}
 use Rattle.rht_policy.specs.declared.mix.Low.{Low}
 use Rattle.rht_policy.specs.Mix.{mix_of_hash}
@@ -13,11 +12,9 @@ use Rattle.rht_model.specs.declared.bindings.Closed.{Closed}
 use Rattle.rht_model.specs.declared.history.Call.{Call}
 use Rattle.rht_model.specs.declared.history.Entry.{Entry}
 use Rattle.rht_model.specs.Endings.{Ending}
-use Rattle.rht_core.specs.Runs.{IsAdmitted}
 use Rattle.rht_core.specs.Serving.{IsServedRun}
 use Rattle.rht_core.specs.ToldHistories.{entries_told, endings_by, IsTold}
 use Rattle.rht_core.proofs.Histories.ToldHistories.{told}
-use Rattle.rht_core.proofs.Meaning.FirstTables.{first_table}
 use Rattle.rht_script.specs.Grammar.{Said}
 use Rattle.rht_script.specs.Text.{run_text}
 use Rattle.rht_registry.proofs.SoundCommands.{IsCommandFor, calls_of-one}
@@ -38,15 +35,6 @@ module _ (config : Config) (commands : List (ℕ × Call)) (endings : List (List
   pub closed-keys : closed.keys ≡ length closed.bindings.pairs
   closed-keys =
       by_hash config commands endings closed (closed.keys ≡ length closed.bindings.pairs) (λ M mix run. run.closed_is.keys)
-      config.hash served
-
-  -- the size is the first one
-  closed-size : closed.size ≡ first_size config
-  closed-size =
-      by_hash config commands endings closed (closed.size ≡ first_size config)
-      (λ M mix run.
-      let admitted = subst (λ (c : Config). IsAdmitted c.kind run.events) (sym run.config_same) run.admitted in
-      run.closed_is.size ∙ (first_table M mix run.env run.events admitted).size ∙ ap first_size run.config_same)
       config.hash served
 
   -- there is a history that tells of the commands
@@ -73,5 +61,4 @@ IsTextOf-served said endings closed all served =
       in_order = λ one.
           has.1.in_order one
           ∙ ap (λ calls. entries_told 0 calls (endings_by 0 endings)) (sym (calls_of-one said.config said.commands one all));
-      size = closed-size said.config said.commands endings closed served;
     }

@@ -1,10 +1,10 @@
 -- The text that `run` prints for what a script says: that of a run of a table which serves the script's commands.
--- Beside the run stands what it means for who knows ports and owners alone: a history of the replies, and the size.
+-- Beside the run stands what it means for who knows ports and owners alone: a history of the replies. The size is that of the
+-- current table in the last words of the run (`IsClosedOf`); which one that is, callers that grow or shrink the table decide.
 use Rattle.std.specs.Prelude.{◌≡◌, ℕ, List, map}
 use Rattle.rht_words.specs.declared.config.Config.{Config}
 use Rattle.rht_words.specs.declared.config.Hash.{Hash}
 use Rattle.rht_words.specs.declared.config.Hash.TheVariants as hashes
-use Rattle.rht_words.specs.Sizes.{first_size}
 use Rattle.rht_policy.specs.declared.mix.Lookup3.{Lookup3}
 use Rattle.rht_policy.specs.declared.mix.Low.{Low}
 use Rattle.rht_policy.specs.Mix.{mix_of_hash}
@@ -39,5 +39,3 @@ pub record IsRunText (said : Said) (text : List ℕ) : Type 0 where
   -- where there is one worker the history has the commands in the order of the script
   pub in_order : said.config.callers ≡ 1
       → history ≡ entries_told 0 (map (λ command. command.1) said.commands) (endings_by 0 endings)
-  -- so far no table grows: the size is the starting one
-  pub size : closed.size ≡ first_size said.config

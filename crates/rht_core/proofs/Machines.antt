@@ -12,5 +12,5 @@ pub mod JobSteps
 pub mod ReleaseStores
 -- a release, operation by operation
 pub mod ReleaseSteps
--- and no job moves entries so far
-pub mod StillJobs
+-- the work, operation by operation
+pub mod WorkMachine

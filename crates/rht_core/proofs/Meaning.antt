@@ -4,5 +4,3 @@ pub mod BoundPorts
 pub mod FirstNodes
 -- what belongs to each node along links, or to each bucket, gathered
 pub mod GatheredNodes
--- in every run the current table is the one that was opened
-pub mod FirstTables

@@ -12,3 +12,5 @@ pub mod RefusedBinds
 pub mod CausesInRuns
 -- in every run a listing lists each owner that its operations loaded
 pub mod ListingsKept
+-- by which loads a resizing chose what is due
+pub mod WorkChoices

@@ -21,6 +21,7 @@ use Rattle.rht_core.specs.Runs.{IsAdmitted}
 use Rattle.rht_core.specs.Traces.{Did, Past, performed_of, traced_of}
 use Rattle.rht_core.specs.Seen.{LastWalked, CountedAt, SawCount}
 use Rattle.rht_core.specs.ResizeCauses.{AttachesSome, HasFollowed, SawBusy, SawNoTable}
+use Rattle.rht_core.specs.WorkCauses.{FindsWorkLocked, SawNoTableDue}
 
 -- why a look-up ended with this reply: it has nothing to show for its answers
 abbrev pub FindCause : Reply → Type 0
@@ -119,6 +120,30 @@ RebindCause env past Idle = ⊥
 RebindCause env past (Clear returned) = ⊥
 RebindCause env past (Counted count) = ⊥
 
+-- Why a resizing ended with this reply: another caller was at work, or a table was due that couldn't be had. Of `Moved` and `Idle` no
+-- cause is said here yet; `WorkCauses` has what `Idle` is to show.
+abbrev pub WorkCause : Env → Past → Reply → Type 0
+WorkCause env past Elsewhere = Any (FindsWorkLocked env.geometry) past.steps
+WorkCause env past (Moved again) = Unit {0}
+WorkCause env past Idle = Unit {0}
+WorkCause env past (NoTable size) = SawNoTableDue env size past.steps
+WorkCause env past (Found owner) = ⊥
+WorkCause env past Missing = ⊥
+WorkCause env past (Bound kick) = ⊥
+WorkCause env past (Exists owner) = ⊥
+WorkCause env past (Listed len) = ⊥
+WorkCause env past (Released kick) = ⊥
+WorkCause env past Absent = ⊥
+WorkCause env past Rebound = ⊥
+WorkCause env past (TooBig count) = ⊥
+WorkCause env past (Again table) = ⊥
+WorkCause env past (Busy root last) = ⊥
+WorkCause env past NoNode = ⊥
+WorkCause env past (Pending caller section) = ⊥
+WorkCause env past (Walked len next) = ⊥
+WorkCause env past (Clear returned) = ⊥
+WorkCause env past (Counted count) = ⊥
+
 -- the operation raised the count of ports
 abbrev pub IsRaise : Geometry → Did → Type 0
 IsRaise g did = did.op ≡ Add (place_of g PortCount) 1
@@ -200,7 +225,7 @@ module _ (M : Type 0) (mix : ℕ → ℕ → ℕ → ℕ) where
   CauseOf env events c past (Release port owner) reply = ReleaseCause reply
   CauseOf env events c past (Rebind port owner new) reply = RebindCause env past reply
   CauseOf env events c past (Walk from limit) reply = ⊥
-  CauseOf env events c past Work reply = ⊥
+  CauseOf env events c past Work reply = WorkCause env past reply
   CauseOf env events c past Tidy reply = ⊥
   CauseOf env events c past Count reply = CountCause env events c past reply
 

@@ -1,14 +1,15 @@
 -- What the count of ports counts, and what a table is like while nobody is in a call.
-use Rattle.std.specs.Prelude.{◌≡◌, ℕ, ◌+◌, ◌/◌, ◌%◌, ◌<◌, ◌≤◌, ◌⊎◌, Bool, true, false, Option, Some, None, List, length, slice_index, sum_by, count_by}
+use Rattle.std.specs.Prelude.{◌≡◌, ◌≢◌, ℕ, ◌+◌, ◌/◌, ◌%◌, ◌<◌, ◌≤◌, ◌⊎◌, Bool, true, false, Option, Some, None, List, length, slice_index, sum_by, count_by}
 use Rattle.std.specs.List.{AllByRecursion, range_with_len}
 use Rattle.std.specs.Int.{bit_at}
 use Rattle.rht_words.specs.declared.env.Env.{Env}
 use Rattle.rht_words.specs.declared.geometry.Geometry.{Geometry}
 use Rattle.rht_words.specs.declared.config.Kind.TheVariants.{Single}
 use Rattle.rht_words.specs.Members.{In, IsDistinct}
-use Rattle.rht_words.specs.Places.{PortCount, NodeMap, word_at}
+use Rattle.rht_words.specs.Places.{WorkLock, PortCount, Slot, ShapeWord, StateWord, NodeMap, PageMap, word_at}
 use Rattle.rht_words.specs.Shapes.{unpacked, size_of}
 use Rattle.rht_nest.specs.Place.{bucket_place}
+use Rattle.rht_nest.specs.Tables.{pages_of_table}
 use Rattle.rht_model.specs.declared.history.Reply.{Reply}
 use Rattle.rht_model.specs.declared.history.Reply.TheVariants.{Bound, Exists, Found, Missing, Listed, Released, Absent, Rebound, TooBig, Again, Busy, NoTable, NoNode, Pending, Elsewhere, Walked, Moved, Idle, Clear}
 use Rattle.rht_model.specs.declared.history.Reply.TheVariants as replies
@@ -75,6 +76,28 @@ module _ (g : Geometry) (words : List ℕ) where
     pub within : bucket < size_of (unpacked (shape_of g words table))
     pub there : bucket_place g (shape_of g words table) bucket ≡ Some place
 
+  -- the page's bit is set
+  abbrev pub IsPageFree : ℕ → Type 0
+  IsPageFree page = bit_at (word_at g words (PageMap (page / 64))) (page % 64) ≡ 1
+
+  -- the run of the table whose shape stands in a slot
+  abbrev pub run_in_slot : ℕ → List ℕ
+  run_in_slot slot = pages_of_table g (word_at g words (Slot slot ShapeWord))
+
+  -- the slot isn't free, and the page is one of its table's run
+  pub record IsPageInSlot (page : ℕ) : Type 0 where
+    pub slot : ℕ
+    pub slot_in : slot < 8
+    pub taken : word_at g words (Slot slot StateWord) ≢ 0
+    pub there : In page (run_in_slot slot)
+
+  -- nobody does the work; each page is free, or in the run of a slot that isn't; and of a slot that isn't free no page is
+  pub record AreNoneHeld : Type 0 where
+    pub no_work : word_at g words WorkLock ≡ 0
+    pub pages : (page : ℕ) → page < g.pages → IsPageFree page ⊎ IsPageInSlot page
+    pub slots : (slot page : ℕ) → slot < 8 → word_at g words (Slot slot StateWord) ≢ 0
+        → In page (run_in_slot slot) → ¬ IsPageFree page
+
 -- a call with this reply has taken a node out of a port's list
 abbrev pub takes_out : Reply → Bool
 takes_out (Released kick) = true
@@ -104,12 +127,13 @@ taken_out w =
     sum_by (λ c. count_by (λ done. takes_out done.reply) (w.books c).finished) (range_with_len 0 w.core.env.geometry.callers)
 
 -- No bucket in force is locked; as many nodes are out as were taken out, and no others; in a table of one owner each no port's
--- list has a second node; and the count of ports is the number of those bound
+-- list has a second node; the count of ports is the number of those bound; and no caller has the work lock, a slot or pages
 pub record IsAtRest (env : Env) (words : List ℕ) (out : ℕ) : Type 0 where
   pub unlocked : (place : ℕ) → IsBucketInForce env.geometry words place → slice_index words place % 2 ≡ 0
   pub nodes : AreOut env.geometry words out
   pub single : env.config.kind ≡ Single → (port : ℕ) → length (nodes_of env.geometry words port) ≤ 1
   pub counted : AreAllBound (stands_for env.geometry words) (word_at env.geometry words PortCount)
+  pub none_held : AreNoneHeld env.geometry words
 
 module _ (M : Type 0) (mix : ℕ → ℕ → ℕ → ℕ) where
   -- in every run the count of ports counts

@@ -26,10 +26,14 @@ use Rattle.rht_release.specs.AllHeld.{listing_of, held_of_all}
 use Rattle.rht_release.specs.declared.all.AllAt.{AllAt}
 use Rattle.rht_release.specs.declared.all.AllAt.TheVariants as alls
 use Rattle.rht_model.specs.declared.history.Reply.TheVariants.{Counted}
+use Rattle.rht_move.specs.Work as work
+use Rattle.rht_move.specs.WorkHeld.{held_of_work}
+use Rattle.rht_move.specs.declared.work.WorkAt.{WorkAt}
+use Rattle.rht_move.specs.declared.work.WorkAt.TheVariants as works_at
 use Rattle.rht_core.specs.Locals.{room_for_nodes}
 use Rattle.rht_core.specs.PortCounts.{count_plan_in}
 use Rattle.rht_core.specs.declared.local.Doing.{Doing}
-use Rattle.rht_core.specs.declared.local.Doing.TheVariants.{Idle, Finding, Binding, Releasing, Rebinding, Listing, Counting}
+use Rattle.rht_core.specs.declared.local.Doing.TheVariants.{Idle, Finding, Binding, Releasing, Rebinding, Listing, Working, Counting}
 use Rattle.rht_words.specs.declared.config.Kind.{Kind}
 use Rattle.rht_words.specs.declared.config.Kind.TheVariants.{Single, Listed}
 use Rattle.rht_release.specs.Seek.{seek_new}
@@ -41,14 +45,15 @@ use Rattle.rht_release.specs.Rebind as rebind
 use Rattle.rht_release.specs.RebindHeld.{held_of_rebind}
 use Rattle.rht_release.specs.declared.rebind.RebindAt.{RebindAt}
 
--- a look-up of a port, a bind of a port to an owner, a listing of a port's owners with its room, a release and a rebind, each
--- with the state in which it is; and a reading of how many ports are bound
+-- a look-up of a port, a bind of a port to an owner, a listing of a port's owners with its room, a release, a rebind and a
+-- resizing of the table, each with the state in which it is; and a reading of how many ports are bound
 pub data Job : Type 0 where
   finds : (port : ℕ) (state : FindAt) → Job
   binds : (port owner : ℕ) (once : Bool) (state : BindAt) → Job
   lists : (port : ℕ) (room : Kept ℕ) (state : AllAt) → Job
   releases : (port owner : ℕ) (state : ReleaseAt) → Job
   rebinds : (port owner new : ℕ) (state : RebindAt) → Job
+  works : (state : WorkAt) → Job
   counts : Job
 
 -- the call that it does
@@ -58,6 +63,7 @@ call_of (binds port owner once state) = Bind port owner once
 call_of (lists port room state) = All port
 call_of (releases port owner state) = Release port owner
 call_of (rebinds port owner new state) = Rebind port owner new
+call_of (works state) = Work
 call_of counts = Count
 
 -- the job with which a call begins; none for a call of which there is no machine yet
@@ -72,7 +78,7 @@ first_job env (All port) = Some (lists port (room_for_nodes env) (alls.Seeking (
 first_job env (Release port owner) = Some (releases port owner (Seeking (seek_new env.geometry)))
 first_job env (Rebind port owner new) = first_rebind env port owner new env.config.kind
 first_job env (Walk from limit) = None
-first_job env Work = None
+first_job env Work = Some (works works_at.WorkLock)
 first_job env Tidy = None
 first_job env Count = Some counts
 
@@ -83,6 +89,7 @@ job_plan env (binds port owner once state) = bind.plan_at env state
 job_plan env (lists port room state) = all.plan_at env state
 job_plan env (releases port owner state) = release.plan_at env state
 job_plan env (rebinds port owner new state) = rebind.plan_at env state
+job_plan env (works state) = work.plan_at env state
 job_plan env counts = count_plan_in env
 
 -- the job goes on in its machine's next state, or its call has ended so
@@ -111,6 +118,7 @@ job_after mix env (releases port owner state) old =
     job_next (releases port owner) node_ending (release.after_at mix env port owner state old)
 job_after mix env (rebinds port owner new state) old =
     job_next (rebinds port owner new) node_ending (rebind.after_at mix env port owner state old)
+job_after mix env (works state) old = job_next works plain_ending (work.after_at mix env state old)
 job_after mix env counts old = (counts, Done (plain_ending (Counted old)))
 
 -- the job of what a caller does
@@ -121,6 +129,7 @@ job_of (Binding m) = Some (binds m.port m.owner m.once m.at)
 job_of (Listing m) = Some (lists m.port m.room m.at)
 job_of (Releasing m) = Some (releases m.port m.owner m.at)
 job_of (Rebinding m) = Some (rebinds m.port m.owner m.new_owner m.at)
+job_of (Working m) = Some (works m.at)
 job_of (Counting m) = Some counts
 
 -- what is left of a job after an operation, and how its call has ended where it has
@@ -130,13 +139,15 @@ told (job, Done ending) = (None, Some ending)
 
 -- ---- what a call holds, by its job
 
--- what it holds in its state: its node, its lock, whether it has raised the count, and its answer once it is known
+-- what it holds in its state: its node, its locks, its slot and pages, the work lock, whether it has raised the count, and its
+-- answer once it is known
 abbrev pub held_of : Job → Held Answer
 held_of (finds port state) = held_of_find state
 held_of (binds port owner once state) = held_of_bind state
 held_of (lists port room state) = held_of_all room.items state
 held_of (releases port owner state) = held_of_release state
 held_of (rebinds port owner new state) = held_of_rebind state
+held_of (works state) = held_of_work state
 held_of counts = held.holds_nothing
 
 -- and after an operation; once the call has ended it holds nothing, and its answer is known

@@ -14,6 +14,7 @@ use Rattle.rht_bind.specs.Bind.{IsBindIn}
 use Rattle.rht_release.specs.All.{IsAllIn}
 use Rattle.rht_release.specs.Release.{IsReleaseIn}
 use Rattle.rht_release.specs.Rebind.{IsRebindIn}
+use Rattle.rht_move.specs.Work.{IsWorkIn}
 use Rattle.rht_model.specs.declared.history.Call.{Call}
 use Rattle.rht_model.specs.declared.history.Call.TheVariants.{Bind, Find, All, Release, Rebind, Walk, Work, Tidy, Count}
 use Rattle.rht_model.specs.declared.history.Reply.{Reply}
@@ -23,7 +24,7 @@ use Rattle.rht_core.specs.declared.event.Event.{Event}
 use Rattle.rht_core.specs.declared.event.Event.TheVariants.{Enroll, Begin, Step}
 use Rattle.rht_core.specs.declared.local.Local.{Local}
 use Rattle.rht_core.specs.declared.local.Doing.{Doing}
-use Rattle.rht_core.specs.declared.local.Doing.TheVariants.{Idle, Finding, Binding, Releasing, Rebinding, Listing, Counting}
+use Rattle.rht_core.specs.declared.local.Doing.TheVariants.{Idle, Finding, Binding, Releasing, Rebinding, Listing, Working, Counting}
 use Rattle.rht_core.specs.Locals.{fresh, owners_room, begin_with, plan_of, local_after, ending_of}
 use Rattle.rht_core.specs.Runs.{Core, World, View, core_step, world_step, run_of, local_of, planned_in, view_of, new_book, book_begun, book_after, IsSound, IsAdmitted, IsAdmittedEvent}
 use Rattle.rht_core.specs.Replies.{AnswersIn}
@@ -53,6 +54,7 @@ module _ {M : Type 0} where
   IsDoingIn env c (Listing m) = IsAllIn env c m
   IsDoingIn env c (Releasing m) = IsReleaseIn env c m
   IsDoingIn env c (Rebinding m) = IsRebindIn env c m
+  IsDoingIn env c (Working m) = IsWorkIn env c m
   IsDoingIn env c (Counting m) = m.env ≡ env
 
   -- and its rooms may have one item a node

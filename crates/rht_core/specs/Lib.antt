@@ -36,7 +36,7 @@ pub mod Numbered
 pub mod RunHistories
 -- when finished calls serve commands, and what of a run is printed
 pub mod Serving
--- that a run stays in its first table
-pub mod FirstTable
 -- what a run tells that serves commands
 pub mod ToldHistories
+-- why a resizing was answered as it was
+pub mod WorkCauses

@@ -5,7 +5,7 @@ use Rattle.rht_words.specs.declared.machine.Next.{Next}
 use Rattle.rht_words.specs.declared.machine.Next.TheVariants.{Go, Done}
 use Rattle.rht_words.specs.declared.env.Env.{Env}
 use Rattle.rht_model.specs.declared.history.Call.{Call}
-use Rattle.rht_model.specs.declared.history.Call.TheVariants.{Bind, Find, Release, Rebind, All, Count}
+use Rattle.rht_model.specs.declared.history.Call.TheVariants.{Bind, Find, Release, Rebind, All, Work, Count}
 use Rattle.rht_model.specs.declared.history.Reply.{Reply}
 use Rattle.rht_model.specs.Rooms.{Kept, emptied, no_room}
 use Rattle.rht_model.specs.Endings.{Ending}
@@ -16,11 +16,12 @@ use Rattle.rht_words.specs.declared.config.Kind.{Kind}
 use Rattle.rht_words.specs.declared.config.Kind.TheVariants.{Single, Listed}
 use Rattle.rht_release.specs.Release.{ReleaseModel, release_new, release_plan, release_after}
 use Rattle.rht_release.specs.Rebind.{RebindModel, rebind_new, rebind_plan, rebind_after}
+use Rattle.rht_move.specs.Work.{WorkModel, work_new, work_plan, work_after}
 use Rattle.rht_core.specs.declared.count.PortCount.{PortCount}
 use Rattle.rht_core.specs.PortCounts.{count_plan, count_after}
 use Rattle.rht_core.specs.declared.local.Local.{Local}
 use Rattle.rht_core.specs.declared.local.Doing.{Doing}
-use Rattle.rht_core.specs.declared.local.Doing.TheVariants.{Idle, Finding, Binding, Listing, Releasing, Rebinding, Counting}
+use Rattle.rht_core.specs.declared.local.Doing.TheVariants.{Idle, Finding, Binding, Listing, Releasing, Rebinding, Working, Counting}
 
 -- an empty room for one item a node
 abbrev pub room_for_nodes : {A : Type 0} → Env → Kept A
@@ -47,6 +48,7 @@ module _ {M : Type 0} where
   does_nothing (Listing m) = false
   does_nothing (Releasing m) = false
   does_nothing (Rebinding m) = false
+  does_nothing (Working m) = false
   does_nothing (Counting m) = false
 
   -- a rebind is built for tables of one owner each alone
@@ -61,6 +63,7 @@ module _ {M : Type 0} where
   machine_of env caller (All port) = Some (Listing (all_new env caller port (room_for_nodes env)))
   machine_of env caller (Release port owner) = Some (Releasing (release_new env caller port owner))
   machine_of env caller (Rebind port owner new) = rebinding_of env caller port owner new env.config.kind
+  machine_of env caller Work = Some (Working (work_new env caller))
   machine_of env caller Count = Some (Counting (record { env = env }))
   machine_of env caller _ = None
 
@@ -72,6 +75,7 @@ module _ {M : Type 0} where
   doing_plan (Listing m) = Some (all_plan m)
   doing_plan (Releasing m) = Some (release_plan m)
   doing_plan (Rebinding m) = Some (rebind_plan m)
+  doing_plan (Working m) = Some (work_plan m)
   doing_plan (Counting m) = Some (count_plan m)
 
   -- while its machine goes on a caller does what that is, and is idle once its call has a reply
@@ -89,6 +93,7 @@ module _ {M : Type 0} where
       let next = release_after mix m old in doing_next Releasing (next.0, without_node next.1)
   doing_after mix (Rebinding m) old =
       let next = rebind_after mix m old in doing_next Rebinding (next.0, without_node next.1)
+  doing_after mix (Working m) old = doing_next Working (work_after mix m old)
   doing_after mix (Counting m) old = doing_next Counting (count_after m old)
 
   -- it does this in the table of this environment
@@ -99,6 +104,7 @@ module _ {M : Type 0} where
   IsDoingOf env (Listing m) = m.env ≡ env
   IsDoingOf env (Releasing m) = m.env ≡ env
   IsDoingOf env (Rebinding m) = m.env ≡ env
+  IsDoingOf env (Working m) = m.env ≡ env
   IsDoingOf env (Counting m) = m.env ≡ env
 
   -- ---- the room of owners, which a listing has while it runs
@@ -111,6 +117,7 @@ module _ {M : Type 0} where
   owners_room (Listing m) room = m.room
   owners_room (Releasing m) room = room
   owners_room (Rebinding m) room = room
+  owners_room (Working m) room = room
   owners_room (Counting m) room = room
 
   -- the room of its caller once it has begun
@@ -121,6 +128,7 @@ module _ {M : Type 0} where
   owners_beside (Listing m) room = no_room
   owners_beside (Releasing m) room = emptied room
   owners_beside (Rebinding m) room = emptied room
+  owners_beside (Working m) room = emptied room
   owners_beside (Counting m) room = emptied room
 
   -- the room of its caller after its operation found this value
@@ -131,6 +139,7 @@ module _ {M : Type 0} where
   owners_after mix (Listing m) room old = room_given (all_after mix m old) room
   owners_after mix (Releasing m) room old = room
   owners_after mix (Rebinding m) room old = room
+  owners_after mix (Working m) room old = room
   owners_after mix (Counting m) room old = room
 
 -- ---- a caller with its rooms

@@ -15,9 +15,10 @@ use Rattle.rht_core.specs.declared.book.Book.{Book}
 use Rattle.rht_core.specs.declared.local.Local.{Local}
 use Rattle.rht_release.specs.Release.{ReleaseModel}
 use Rattle.rht_release.specs.Rebind.{RebindModel}
+use Rattle.rht_move.specs.Work.{WorkModel}
 use Rattle.rht_core.specs.declared.count.PortCount.{PortCount}
 use Rattle.rht_core.specs.declared.local.Doing.{Doing}
-use Rattle.rht_core.specs.declared.local.Doing.TheVariants.{Idle, Finding, Binding, Releasing, Rebinding, Listing, Counting}
+use Rattle.rht_core.specs.declared.local.Doing.TheVariants.{Idle, Finding, Binding, Releasing, Rebinding, Listing, Working, Counting}
 use Rattle.rht_core.specs.Locals.{is_idle}
 
 -- ---- the replies of each call
@@ -137,6 +138,11 @@ pub record IsBookOfRebind (env : Env) (c : ℕ) (m : RebindModel) (book : Book) 
   pub same_caller : m.caller ≡ c
   pub call : book.call ≡ Some (Rebind m.port m.owner m.new_owner)
 
+pub record IsBookOfWork (env : Env) (c : ℕ) (m : WorkModel) (book : Book) : Type 0 where
+  pub same_env : m.env ≡ env
+  pub same_caller : m.caller ≡ c
+  pub call : book.call ≡ Some Work
+
 pub record IsBookOfCount (env : Env) (m : PortCount) (book : Book) : Type 0 where
   pub same_env : m.env ≡ env
   pub call : book.call ≡ Some Count
@@ -150,6 +156,7 @@ module _ {M : Type 0} where
   IsBookOf env c (Listing m) book = IsBookOfAll env c m book
   IsBookOf env c (Releasing m) book = IsBookOfRelease env c m book
   IsBookOf env c (Rebinding m) book = IsBookOfRebind env c m book
+  IsBookOf env c (Working m) book = IsBookOfWork env c m book
   IsBookOf env c (Counting m) book = IsBookOfCount env m book
 
 -- ---- the rooms

@@ -3,7 +3,6 @@
 ghost use Rattle.rht_core.specs.Alone.{Alone};
 ghost use Rattle.rht_core.specs.Causes.{Causes};
 ghost use Rattle.rht_core.specs.Counts.{Counted, AtRest};
-ghost use Rattle.rht_core.specs.FirstTable.{FirstTable};
 ghost use Rattle.rht_core.specs.ListedOwners.{ListedOwners};
 ghost use Rattle.rht_core.specs.NodesUsed.{Nodes};
 ghost use Rattle.rht_core.specs.RunHistories.{HasFittingHistory};
@@ -144,10 +143,11 @@ pub fn counted<M: Mix>()
 /// In every run, while nobody is in a call, no bucket of a table in force is locked; each node is free,
 /// in the list of a port, or out, and never two of these; those that are out are as many as the calls
 /// that were answered `Released` or `Rebound`; in a table of one owner for each port no list has a
-/// second node; and the count is the number of ports that are bound. So no node is lost: a bind that is
-/// refused, or finds its port bound, has given its node back, and so has a rebind that is answered
-/// `Absent`. It doesn't say which nodes are out or which call took one, nor that such a moment comes,
-/// and nothing of words that are no bucket's.
+/// second node; the count is the number of ports that are bound; the work lock is free; and each page is
+/// free, or in the run of a table whose slot isn't. So no node is lost: a bind that is refused, or finds
+/// its port bound, has given its node back, and so has a rebind that is answered `Absent`; and no page is
+/// lost, nor taken for a table that isn't attached. It doesn't say which nodes are out or which call took
+/// one, which tables are retired, nor that such a moment comes.
 pub fn at_rest<M: Mix>()
     ensures { AtRest M M.mix_of }
 {}
@@ -158,13 +158,6 @@ pub fn at_rest<M: Mix>()
 /// that no node is free when the reply comes: some may have been given back.
 pub fn nodes<M: Mix>()
     ensures { Nodes M M.mix_of }
-{}
-
-/// In every run the current table is that of slot 0, in the shape that it was opened with, so its size
-/// is the starting size of the config: so far no table is attached, and none takes its place. It says
-/// nothing of what stands in other slots.
-pub fn first_table<M: Mix>()
-    ensures { FirstTable M M.mix_of }
 {}
 
 /// Where a run serves the commands of workers, each worker's caller in no call at the end, there is a

@@ -10,6 +10,7 @@ use crate::count::PortCount;
 use rht_bind::Bind;
 use rht_find::Find;
 use rht_model::{Call, Reply, Room};
+use rht_move::Work;
 use rht_policy::Mix;
 use rht_release::{All, Rebind, Release};
 use rht_words::{Env, Kind, Next, Op, Port};
@@ -30,6 +31,8 @@ pub enum Doing<M: Mix> {
     Releasing(Release<M>),
     /// It puts another owner in one's place.
     Rebinding(Rebind<M>),
+    /// It resizes the table, where that is due.
+    Working(Work<M>),
     /// It reads how many ports are bound.
     Counting(PortCount),
 }
@@ -46,6 +49,7 @@ impl<M: Mix> Doing<M> {
             | Doing::Listing(_)
             | Doing::Releasing(_)
             | Doing::Rebinding(_)
+            | Doing::Working(_)
             | Doing::Counting(_) => false,
         }
     }
@@ -62,6 +66,7 @@ impl<M: Mix> Doing<M> {
             Doing::Listing(all) => Some(all.plan()),
             Doing::Releasing(release) => Some(release.plan()),
             Doing::Rebinding(rebind) => Some(rebind.plan()),
+            Doing::Working(work) => Some(work.plan()),
             Doing::Counting(count) => Some(count.plan()),
         }
     }
@@ -80,6 +85,7 @@ impl<M: Mix> Doing<M> {
             Doing::Listing(all) => all.take(old),
             Doing::Releasing(release) => without_node(release.take(old)),
             Doing::Rebinding(rebind) => without_node(rebind.take(old)),
+            Doing::Working(work) => work.take(old),
             Doing::Counting(count) => count.take(old),
         };
         match next {
@@ -153,8 +159,7 @@ impl<M: Mix> Local<M> {
     }
 
     /// Begins a call, and empties both rooms; no memory is taken or given back. It does nothing for a
-    /// call of which there is no machine yet: `walk`, `work` and `tidy`, and `rebind` in a table of
-    /// lists.
+    /// call of which there is no machine yet: `walk` and `tidy`, and `rebind` in a table of lists.
     pub fn begin(&mut self, env: Env, caller: u32, call: Call)
         requires { self.old.owners.limit ≡ env.geometry.nodes }
         ensures { self.new ≡ begun_with self.old (machine_of env caller call) }
@@ -171,6 +176,7 @@ impl<M: Mix> Local<M> {
             Call::Rebind { port, owner, new } if env.config.kind == Kind::Single => {
                 Doing::Rebinding(Rebind::new(env, caller, port, owner, new))
             }
+            Call::Work => Doing::Working(Work::new(env, caller)),
             Call::Count => Doing::Counting(PortCount { env }),
             _ => return,
         };

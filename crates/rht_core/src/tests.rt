@@ -235,7 +235,7 @@ fn assert_reply<M: Mix>(
     reply: Reply,
 ) -> Result<(), Fail> {
     assert_event(rt, run, Event::Begin { caller: 0, call }, NOTHING);
-    for _ in 0..100 {
+    for _ in 0..400 {
         let stepped = run.state.step(Event::Step { caller: 0 });
         if let Some(found) = stepped.reply {
             assert_eq!(rt; found, reply, "at {call:?}");
@@ -432,12 +432,61 @@ fn releases_from_lists(rt: HostRuntime) -> Result<(), Fail> {
 }
 
 #[test]
+fn a_table_is_resized(rt: HostRuntime) -> Result<(), Fail> {
+    let config = Config {
+        min: 4,
+        hint: 3,
+        ..small()
+    };
+    let grows = Reply::Bound { kick: true };
+    assert_run::<Low>(
+        &rt,
+        rt.alloc(),
+        config,
+        &[
+            enrolls(0),
+            replies(Call::Work, Reply::Idle),
+            replies(bind(0, 1), BOUND),
+            replies(bind(1, 2), BOUND),
+            replies(bind(5, 3), BOUND),
+            replies(Call::Work, Reply::Idle),
+            // The fourth port is more than three quarters of 4 buckets.
+            replies(bind(8, 4), grows),
+            replies(Call::Work, Reply::Moved { again: false }),
+            replies(Call::Work, Reply::Idle),
+            replies(FIND_5, Reply::Found { owner: 3 }),
+            replies(release(8, 4), RELEASED),
+            replies(bind(69, 5), BOUND),
+            replies(Call::Count, Reply::Counted { count: 4 }),
+        ],
+    )
+}
+
+#[test]
+fn one_caller_works_at_a_time(rt: HostRuntime) -> Result<(), Fail> {
+    let taken = [(Op::exchange(1, 0, 1), 1)];
+    assert_run::<Low>(
+        &rt,
+        rt.alloc(),
+        for_two(),
+        &[
+            enrolls(0),
+            enrolls(1),
+            begins(0, Call::Work),
+            begins(1, Call::Work),
+            steps(0, &[(Op::exchange(1, 0, 1), 0), (Op::load(0), 0)]),
+            ends(1, &taken, Call::Work, Reply::Elsewhere),
+        ],
+    )
+}
+
+#[test]
 fn calls_without_a_machine_are_not_begun(rt: HostRuntime) -> Result<(), Fail> {
     let walk = Call::Walk {
         from: None,
         limit: 1,
     };
-    let cases = [walk, Call::Work, Call::Tidy];
+    let cases = [walk, Call::Tidy];
     for call in cases {
         let rows = [enrolls(0), begins(0, call), idles(0)];
         assert_run::<Low>(&rt, rt.alloc(), small(), &rows)?;

@@ -17,7 +17,7 @@ use Rattle.rht_chain.specs.Relink.{has_relinked}
 use Rattle.rht_bind.specs.BindHeld.{held_of_bind}
 use Rattle.rht_bind.specs.declared.bind.BindAt.{BindAt}
 use Rattle.rht_bind.specs.declared.bind.BindAt.TheVariants as at
-use Rattle.rht_core.specs.Jobs.{Job, finds, binds, releases, rebinds, lists, counts, job_of, held_of}
+use Rattle.rht_core.specs.Jobs.{Job, finds, binds, releases, rebinds, lists, works, counts, job_of, held_of}
 use Rattle.rht_release.specs.declared.found_port.FoundPort.{FoundPort}
 use Rattle.rht_release.specs.ReleaseHeld.{held_of_release, holds_relinking}
 use Rattle.rht_release.specs.declared.release.ReleaseAt.{ReleaseAt}
@@ -27,7 +27,7 @@ use Rattle.rht_core.specs.declared.event.Event.TheVariants.{Step}
 use Rattle.rht_core.specs.Runs.{Core, World, local_of, planned_in, core_step, run_of, IsAdmitted, IsAdmittedEvent}
 use Rattle.rht_core.specs.Traces.{Did}
 use Rattle.rht_core.specs.Laws.{IsRecorded}
-use Rattle.rht_core.proofs.Counting.FullTables.{find_raises, front_raises, relinking_raises, rebind_raises, all_raises, taken}
+use Rattle.rht_core.proofs.Counting.FullTables.{find_raises, front_raises, relinking_raises, rebind_raises, all_raises, work_raises, taken}
 use Rattle.rht_core.proofs.Events.Worlds.{run_of-push}
 use Rattle.rht_core.proofs.Theory.Ghosts.{Ghost, taken_is}
 use Rattle.rht_core.proofs.Theory.Knowns.{KnownList, LeadsTo}
@@ -109,6 +109,7 @@ module _ (env : Env) (mix : ℕ → ℕ → ℕ → ℕ) (c : ℕ) (M : Memory) 
   job-own (lists port room state) knows is = let none = all_raises room.items state in absurd (cc)
   job-own (releases port owner state) knows is = release-own port owner state knows is
   job-own (rebinds port owner new state) knows is = let none = rebind_raises state in absurd (cc)
+  job-own (works state) knows is = let none = work_raises state in absurd (cc)
   job-own counts knows is = absurd (cc)
 
   -- who has raised the count has a node of its own

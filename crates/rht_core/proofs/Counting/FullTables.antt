@@ -31,7 +31,7 @@ use Rattle.rht_release.specs.declared.all.AllAt.TheVariants as all_at
 use Rattle.rht_core.specs.declared.event.Event.{Event}
 use Rattle.rht_core.specs.Locals.{is_idle}
 use Rattle.rht_core.specs.Runs.{Core, local_of, planned_in, run_of, IsAdmitted, IsAdmittedEvent}
-use Rattle.rht_core.specs.Jobs.{Job, finds, binds, releases, rebinds, lists, counts, job_of, job_plan, held_of}
+use Rattle.rht_core.specs.Jobs.{Job, finds, binds, releases, rebinds, lists, works, counts, job_of, job_plan, held_of}
 use Rattle.rht_release.specs.declared.found_port.FoundPort.{FoundPort}
 use Rattle.rht_release.specs.Release.{plan_at as release_plan_at}
 use Rattle.rht_release.specs.ReleaseHeld.{held_of_release, holds_relinking}
@@ -50,6 +50,9 @@ use Rattle.rht_core.proofs.Theory.Wholes.{firsts, raisers}
 use Rattle.rht_core.proofs.Theory.Steps.{mem}
 use Rattle.rht_core.proofs.Events.Invariants.{Knows, step_of}
 use Rattle.rht_core.proofs.Events.InvariantRuns.{has_inv}
+use Rattle.rht_move.specs.WorkHeld.{held_of_work}
+use Rattle.rht_move.specs.declared.work.WorkAt.{WorkAt}
+use Rattle.rht_move.specs.declared.work.WorkAt.TheVariants as work_at
 use Rattle.rht_core.proofs.Counting.CountedPorts.{firsts-AreBound}
 
 -- what holds of each of a list holds of the first ones
@@ -172,6 +175,33 @@ rebind_raises (rebind_at.Replacing node found relink) =
 rebind_raises (rebind_at.Unlocking node table unlock) = refl
 rebind_raises (rebind_at.Giving give) = refl
 
+-- nor does a resizing
+pub work_raises : (state : WorkAt) → (held_of_work state).raised ≡ false
+work_raises work_at.WorkLock = refl
+work_raises work_at.CurrentTable = refl
+work_raises (work_at.LastTable root seek) = refl
+work_raises (work_at.Count root last) = refl
+work_raises (work_at.Making wanted make) = refl
+work_raises (work_at.Attaching root last slot shape) = refl
+work_raises (work_at.Unmaking root unmake) = refl
+work_raises (work_at.RootFuture root due) = refl
+work_raises (work_at.RootShape root future again) = refl
+work_raises (work_at.Locking rehash number lock) = refl
+work_raises (work_at.EntryTable emptying seek) = refl
+work_raises (work_at.Seed emptying last) = refl
+work_raises (work_at.BucketWord emptying target) = refl
+work_raises (work_at.Walking emptying target walk) = refl
+work_raises (work_at.Key emptying target entry) = refl
+work_raises (work_at.LockingSecond emptying entry table lock) = refl
+work_raises (work_at.EntryLink emptying entry second) = refl
+work_raises (work_at.Linking emptying entry second) = refl
+work_raises (work_at.CuttingOff emptying entry) = refl
+work_raises (work_at.Unlocking rehash number unlock stop) = refl
+work_raises (work_at.Publishing rehash) = refl
+work_raises (work_at.NewFuture rehash) = refl
+work_raises (work_at.Retiring root again) = refl
+work_raises (work_at.LettingGo outcome) = refl
+
 -- what loads has raised none
 load-unraised : (env : Env) (job : Job) (place : ℕ) → job_plan env job ≡ Load place
     → (held_of job).raised ≡ false
@@ -180,6 +210,7 @@ load-unraised env (binds port owner once state) place is = bind_loads-unraised e
 load-unraised env (lists port room state) place is = all_raises room.items state
 load-unraised env (releases port owner state) place is = release_loads-unraised env place state is
 load-unraised env (rebinds port owner new state) place is = rebind_raises state
+load-unraised env (works state) place is = work_raises state
 load-unraised env counts place is = refl
 
 module _ (M : Type 0) (mix : ℕ → ℕ → ℕ → ℕ) (env : Env) where

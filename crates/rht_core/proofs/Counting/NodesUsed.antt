@@ -37,7 +37,7 @@ use Rattle.rht_release.specs.ReleaseHeld.{held_of_release, holds_relinking}
 use Rattle.rht_release.specs.declared.release.ReleaseAt.{ReleaseAt}
 use Rattle.rht_release.specs.declared.release.ReleaseAt.TheVariants as releasing
 use Rattle.rht_core.specs.declared.book.Book.{Book}
-use Rattle.rht_core.specs.Jobs.{Job, finds, binds, lists, releases, rebinds, counts, call_of, held_of, job_of}
+use Rattle.rht_core.specs.Jobs.{Job, finds, binds, lists, releases, rebinds, works, counts, call_of, held_of, job_of}
 use Rattle.rht_core.specs.declared.event.Event.{Event}
 use Rattle.rht_core.specs.declared.event.Event.TheVariants.{Enroll, Begin, Step}
 use Rattle.rht_core.specs.Runs.{Core, World, local_of, run_of, planned_in, with_step, enrolling, core_step, world_step, IsAdmitted, IsAdmittedEvent}
@@ -48,6 +48,9 @@ use Rattle.rht_core.specs.NodesUsed.{needs_node, may_take_node, took_node, taker
 use Rattle.rht_core.proofs.Theory.Answering.{TellsNode}
 use Rattle.rht_core.proofs.Theory.Steps.{Holding, by_test}
 use Rattle.rht_core.proofs.Tracing.TracedJobs.{IsAtJob}
+use Rattle.rht_move.specs.WorkHeld.{held_of_work}
+use Rattle.rht_move.specs.declared.work.WorkAt.{WorkAt}
+use Rattle.rht_move.specs.declared.work.WorkAt.TheVariants as working
 use Rattle.rht_core.proofs.Counting.CoveredNodes.{Covers, covers_none, covers_one, covers_both, covers_all, TookBit, TookPast, TookCaller, TookAny, no_take, one_take, pasts_took, of_call, of_caller, any_took}
 use Rattle.rht_core.proofs.Counting.NodesTaken.{HasTaken, HasKept, JobTakes, Ended, calls_take, taken_alone}
 use Rattle.rht_core.proofs.Counting.FullTables.{taken}
@@ -95,12 +98,39 @@ release_has_none (releasing.Unlinking found relink) = relinking_has_none found t
 release_has_none (releasing.Lowering node shape) = refl
 release_has_none (releasing.Unlocking table unlock removed) = refl
 
+work_has_none : (state : WorkAt) → (held_of_work state).node ≡ None
+work_has_none working.WorkLock = refl
+work_has_none working.CurrentTable = refl
+work_has_none (working.LastTable root seek) = refl
+work_has_none (working.Count root last) = refl
+work_has_none (working.Making wanted make) = refl
+work_has_none (working.Attaching root last slot shape) = refl
+work_has_none (working.Unmaking root unmake) = refl
+work_has_none (working.RootFuture root due) = refl
+work_has_none (working.RootShape root future again) = refl
+work_has_none (working.Locking rehash number lock) = refl
+work_has_none (working.EntryTable emptying seek) = refl
+work_has_none (working.Seed emptying last) = refl
+work_has_none (working.BucketWord emptying target) = refl
+work_has_none (working.Walking emptying target walk) = refl
+work_has_none (working.Key emptying target entry) = refl
+work_has_none (working.LockingSecond emptying entry table lock) = refl
+work_has_none (working.EntryLink emptying entry second) = refl
+work_has_none (working.Linking emptying entry second) = refl
+work_has_none (working.CuttingOff emptying entry) = refl
+work_has_none (working.Unlocking rehash number unlock stop) = refl
+work_has_none (working.Publishing rehash) = refl
+work_has_none (working.NewFuture rehash) = refl
+work_has_none (working.Retiring root again) = refl
+work_has_none (working.LettingGo outcome) = refl
+
 job_has_none : (job : Job) → needs_node (call_of job) ≡ false → (held_of job).node ≡ None
 job_has_none (finds port state) needs = find_has_none state
 job_has_none (binds port owner once state) needs = absurd (cc)
 job_has_none (lists port room state) needs = all_has_none room.items state
 job_has_none (releases port owner state) needs = release_has_none state
 job_has_none (rebinds port owner new state) needs = absurd (cc)
+job_has_none (works state) needs = work_has_none state
 job_has_none counts needs = refl
 
 -- nor does its answer tell of one

@@ -4,7 +4,7 @@ use Rattle.std.proofs.Common.{◌≡◌, ℕ, Bool, true, refl, subst}
 use Rattle.std.specs.Prelude.{Option, Some, None}
 use Rattle.rht_words.specs.declared.env.Env.{Env}
 use Rattle.rht_model.specs.declared.history.Call.{Call}
-use Rattle.rht_model.specs.declared.history.Call.TheVariants.{Bind, Find, Release, Rebind, All, Count}
+use Rattle.rht_model.specs.declared.history.Call.TheVariants.{Bind, Find, Release, Rebind, All, Work, Count}
 use Rattle.rht_find.specs.Find.{find_new}
 use Rattle.rht_words.specs.declared.config.Kind.{Kind}
 use Rattle.rht_words.specs.declared.config.Kind.TheVariants.{Single, Listed}
@@ -12,14 +12,15 @@ use Rattle.rht_bind.specs.Bind.{bind_new}
 use Rattle.rht_release.specs.All.{all_new}
 use Rattle.rht_core.specs.declared.local.Local.{Local}
 use Rattle.rht_core.specs.declared.local.Doing.{Doing}
-use Rattle.rht_core.specs.declared.local.Doing.TheVariants.{Idle, Finding, Binding, Releasing, Rebinding, Listing, Counting}
+use Rattle.rht_core.specs.declared.local.Doing.TheVariants.{Idle, Finding, Binding, Releasing, Rebinding, Listing, Working, Counting}
 use Rattle.rht_core.specs.Locals.{room_for_nodes, does_nothing, is_idle, machine_of, rebinding_of, doing_plan, plan_of}
 use Rattle.rht_release.specs.Release.{release_new}
 use Rattle.rht_release.specs.Rebind.{rebind_new}
+use Rattle.rht_move.specs.Work.{work_new}
 
 module _ (M : Type 0) where
-  -- A call begins as a look-up, a bind, a listing, a release, a rebind or a reading of the count. What is so
-  -- of these is so of whatever begins.
+  -- A call begins as a look-up, a bind, a listing, a release, a rebind, a resizing or a reading of the count. What
+  -- is so of these is so of whatever begins.
   module _ (env : Env) (c : ℕ) (So : Call → Doing M → Type 0)
       (find : (port : ℕ) → So (Find port) (Finding (find_new env c port)))
       (bind : (port owner : ℕ) (once : Bool) → So (Bind port owner once) (Binding (bind_new env c port owner once)))
@@ -27,6 +28,7 @@ module _ (M : Type 0) where
       (release : (port owner : ℕ) → So (Release port owner) (Releasing (release_new env c port owner)))
       (rebind : (port owner new : ℕ) → env.config.kind ≡ Single
       → So (Rebind port owner new) (Rebinding (rebind_new env c port owner new)))
+      (work : So Work (Working (work_new env c)))
       (count : So Count (Counting (record { env = env })))
     where
       abbrev BeginsSo : Call → Option (Doing M) → Type 0
@@ -44,6 +46,7 @@ module _ (M : Type 0) where
       machine-so (All port) = list port
       machine-so (Release port owner) = release port owner
       machine-so (Rebind port owner new) = rebinding-so port owner new env.config.kind refl
+      machine-so Work = work
       machine-so Count = count
       machine-so _ = tt
 
@@ -59,6 +62,7 @@ module _ (M : Type 0) where
   nothing_plans (Listing m) idle = absurd (cc)
   nothing_plans (Releasing m) idle = absurd (cc)
   nothing_plans (Rebinding m) idle = absurd (cc)
+  nothing_plans (Working m) idle = absurd (cc)
   nothing_plans (Counting m) idle = absurd (cc)
 
   pub idle_plans : (local : Local M) → is_idle local ≡ true → plan_of local ≡ None

@@ -20,10 +20,10 @@ use Rattle.rht_core.specs.declared.event.Event.{Event}
 use Rattle.rht_core.specs.declared.event.Event.TheVariants.{Enroll, Begin}
 use Rattle.rht_core.specs.declared.event.Event.TheVariants as events
 use Rattle.rht_core.specs.declared.local.Doing.{Doing}
-use Rattle.rht_core.specs.declared.local.Doing.TheVariants.{Idle, Finding, Binding, Releasing, Rebinding, Listing, Counting}
+use Rattle.rht_core.specs.declared.local.Doing.TheVariants.{Idle, Finding, Binding, Releasing, Rebinding, Listing, Working, Counting}
 use Rattle.rht_core.specs.Locals.{fresh, owners_room, does_nothing, machine_of, begin_with, local_after}
 use Rattle.rht_core.specs.Runs.{Core, local_of, beginning_in, planned_in, enrolling, core_step}
-use Rattle.rht_core.specs.Jobs.{Job, finds, binds, releases, rebinds, lists, counts, call_of, job_plan, job_after, job_of, told, held_of, held_next}
+use Rattle.rht_core.specs.Jobs.{Job, finds, binds, releases, rebinds, lists, works, counts, call_of, job_plan, job_after, job_of, told, held_of, held_next}
 use Rattle.rht_core.specs.Laws.{IsDoingIn}
 use Rattle.rht_core.proofs.Events.CallBeginnings.{begins_so}
 use Rattle.rht_core.proofs.Events.Worlds.{beginning-some, planned-some}
@@ -89,6 +89,8 @@ module _ (env : Env) (mix : ℕ → ℕ → ℕ → ℕ) where
     job-in c (Rebinding m) job room is within roomy =
         let here : rebinds m.port m.owner m.new_owner m.at ≡ job = cc in
         subst (JobIn env mix c) here (record { new_in = within.new_owner_in; at_in = within.at_in })
+    job-in c (Working m) job room is within roomy =
+        let here : works m.at ≡ job = cc in subst (JobIn env mix c) here within.at_in
     job-in c (Counting m) job room is within roomy = let here : counts ≡ job = cc in subst (JobIn env mix c) here tt
 
     -- a caller that is given a call knows what the first state of its machine says
@@ -105,6 +107,7 @@ module _ (env : Env) (mix : ℕ → ℕ → ℕ → ℕ) where
           knowing = record { only = knows.only; means = knows.means };
           fits = (refl, refl);
         })
+        (record { built = tt; knowing = record { only = knows.only; means = knows.means }; fits = tt })
         (record { built = tt; knowing = record { only = knows.only; means = knows.means }; fits = tt })
         call machine is
 

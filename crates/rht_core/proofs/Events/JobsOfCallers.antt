@@ -8,7 +8,7 @@ use Rattle.rht_words.specs.declared.env.Env.{Env}
 use Rattle.rht_words.specs.declared.machine.Next.{Next}
 use Rattle.rht_words.specs.declared.machine.Next.TheVariants.{Go, Done}
 use Rattle.rht_model.specs.declared.history.Call.{Call}
-use Rattle.rht_model.specs.declared.history.Call.TheVariants.{Bind, Find, Release, Rebind, All, Count}
+use Rattle.rht_model.specs.declared.history.Call.TheVariants.{Bind, Find, Release, Rebind, All, Work, Count}
 use Rattle.rht_model.specs.declared.history.Reply.{Reply}
 use Rattle.rht_model.specs.Endings.{Ending, plain_ending}
 use Rattle.rht_find.specs.Find as find
@@ -29,9 +29,9 @@ use Rattle.rht_release.specs.declared.all.AllAt.TheVariants as alls
 use Rattle.rht_core.specs.PortCounts.{count_plan_in}
 use Rattle.rht_core.specs.declared.local.Local.{Local}
 use Rattle.rht_core.specs.declared.local.Doing.{Doing}
-use Rattle.rht_core.specs.declared.local.Doing.TheVariants.{Idle, Finding, Binding, Releasing, Rebinding, Listing, Counting}
+use Rattle.rht_core.specs.declared.local.Doing.TheVariants.{Idle, Finding, Binding, Releasing, Rebinding, Listing, Working, Counting}
 use Rattle.rht_core.specs.Locals.{fresh, room_for_nodes, does_nothing, machine_of, doing_plan, doing_after, owners_after, room_given, local_after, ending_of, doing_next, without_node, IsDoingOf, IsLocalOf}
-use Rattle.rht_core.specs.Jobs.{listing_ending, node_ending, Job, finds, binds, releases, rebinds, lists, counts, call_of, first_job, first_rebind, job_plan, job_after, job_next, job_of, told, held_of}
+use Rattle.rht_core.specs.Jobs.{listing_ending, node_ending, Job, finds, binds, releases, rebinds, lists, works, counts, call_of, first_job, first_rebind, job_plan, job_after, job_next, job_of, told, held_of}
 use Rattle.rht_words.specs.declared.config.Kind.{Kind}
 use Rattle.rht_words.specs.declared.config.Kind.TheVariants.{Single, Listed}
 use Rattle.rht_release.specs.Release as release
@@ -41,6 +41,10 @@ use Rattle.rht_release.specs.declared.release.ReleaseAt.TheVariants.{Seeking}
 use Rattle.rht_release.specs.Rebind as rebind
 use Rattle.rht_release.specs.Rebind.{RebindModel}
 use Rattle.rht_release.specs.declared.rebind.RebindAt.{RebindAt}
+use Rattle.rht_move.specs.Work as work
+use Rattle.rht_move.specs.Work.{WorkModel}
+use Rattle.rht_move.specs.declared.work.WorkAt.{WorkAt}
+use Rattle.rht_move.specs.declared.work.WorkAt.TheVariants as works_at
 use Rattle.rht_core.proofs.Events.CallBeginnings.{begins_so}
 
 -- there is no job
@@ -82,6 +86,8 @@ same_call mix env (releases port owner state) old =
 same_call mix env (rebinds port owner new state) old =
     job_next-call (rebinds port owner new) node_ending (Rebind port owner new) (λ s. refl)
     (rebind.after_at mix env port owner state old)
+same_call mix env (works state) old =
+    job_next-call works plain_ending Work (λ s. refl) (work.after_at mix env state old)
 same_call mix env counts old = refl
 
 -- a job leaves either no ending, and goes on, or an ending, and no job
@@ -106,6 +112,8 @@ first_unknown env (All port) job is =
 first_unknown env (Release port owner) job is =
     let here : releases port owner (Seeking (seek_new env.geometry)) ≡ job = cc in ap (λ j. (held_of j).answer) (sym here)
 first_unknown env (Rebind port owner new) job is = first_rebind-unknown env port owner new env.config.kind job is
+first_unknown env Work job is =
+    let here : works works_at.WorkLock ≡ job = cc in ap (λ j. (held_of j).answer) (sym here)
 first_unknown env Count job is = let here : counts ≡ job = cc in ap (λ j. (held_of j).answer) (sym here)
 first_unknown env _ job is = absurd (cc)
 
@@ -126,6 +134,8 @@ first_without env (All port) job is =
 first_without env (Release port owner) job is =
     let here : releases port owner (Seeking (seek_new env.geometry)) ≡ job = cc in ap (λ j. (held_of j).node) (sym here)
 first_without env (Rebind port owner new) job is = first_rebind-without env port owner new env.config.kind job is
+first_without env Work job is =
+    let here : works works_at.WorkLock ≡ job = cc in ap (λ j. (held_of j).node) (sym here)
 first_without env Count job is = let here : counts ≡ job = cc in ap (λ j. (held_of j).node) (sym here)
 first_without env _ job is = absurd (cc)
 
@@ -183,6 +193,11 @@ module _ (M : Type 0) where
       (rebind.after_at mix m.env m.port m.owner m.at old)
       ∙ ap (λ (e : Env). (told (job_after mix e (rebinds m.port m.owner m.new_owner m.at) old)).0) of
       ∙ ap (λ (j : Job). (told (job_after mix env j old)).0) here
+  left-job mix env (Working m) job old of is =
+      let here : works m.at ≡ job = cc in
+      next-left Working (λ state. record m { at = state }) works (λ state. refl) (work.after_at mix m.env m.at old)
+      ∙ ap (λ (e : Env). (told (job_after mix e (works m.at) old)).0) of
+      ∙ ap (λ (j : Job). (told (job_after mix env j old)).0) here
   left-job mix env (Counting m) job old of is =
       let here : counts ≡ job = cc in ap (λ (j : Job). (told (job_after mix env j old)).0) here
 
@@ -195,6 +210,7 @@ module _ {M : Type 0} where
   nothing-job (Listing m) = refl
   nothing-job (Releasing m) = refl
   nothing-job (Rebinding m) = refl
+  nothing-job (Working m) = refl
   nothing-job (Counting m) = refl
 
   -- ---- the beginning of a call
@@ -219,6 +235,7 @@ module _ {M : Type 0} where
         does = refl;
         asked = refl;
       })
+      (record { job = _; first = refl; does = refl; asked = refl })
       (record { job = _; first = refl; does = refl; asked = refl })
 
   -- ---- an operation
@@ -267,6 +284,9 @@ module _ {M : Type 0} where
         does = refl;
         plan = subst (λ (e : Env). op ≡ rebind.plan_at e m.at) of here;
       }
+  plan-job env (Working m) op of plan =
+      let here : op ≡ work.plan_at m.env m.at = cc in
+      record { job = works m.at; does = refl; plan = subst (λ (e : Env). op ≡ work.plan_at e m.at) of here }
   plan-job env (Counting m) op of plan =
       let here : op ≡ count_plan_in m.env = cc in
       record { job = counts; does = refl; plan = subst (λ (e : Env). op ≡ count_plan_in e) of here }
@@ -338,6 +358,11 @@ module _ {M : Type 0} where
         node-told Rebinding (λ state. record m { at = state }) (rebinds m.port m.owner m.new_owner) (λ state. refl)
         (rebind.after_at mix m.env m.port m.owner m.at old)
         ∙ ap (λ (e : Env). told (job_after mix e (rebinds m.port m.owner m.new_owner m.at) old)) of
+        ∙ ap (λ (j : Job). told (job_after mix env j old)) here
+    doing_after-job mix env (Working m) job old of is =
+        let here : works m.at ≡ job = cc in
+        next-told Working (λ state. record m { at = state }) works (λ state. refl) (work.after_at mix m.env m.at old)
+        ∙ ap (λ (e : Env). told (job_after mix e (works m.at) old)) of
         ∙ ap (λ (j : Job). told (job_after mix env j old)) here
     doing_after-job mix env (Counting m) job old of is =
         let here : counts ≡ job = cc in

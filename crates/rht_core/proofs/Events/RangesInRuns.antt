@@ -41,12 +41,15 @@ use Rattle.rht_release.proofs.ReleasePlanned.{planned_release}
 use Rattle.rht_release.specs.Rebind.{RebindModel, rebind_after, plan_at as rebind_plan_at, IsRebindAtIn, IsRebindIn}
 use Rattle.rht_release.proofs.RebindStays.{rebind_stays}
 use Rattle.rht_release.proofs.RebindPlanned.{planned_rebind}
+use Rattle.rht_move.specs.Work.{WorkModel, work_after, plan_at as work_plan_at, IsWorkAtIn, IsWorkIn}
+use Rattle.rht_move.proofs.WorkStays.{work_stays}
+use Rattle.rht_move.proofs.WorkPlanned.{planned_work}
 use Rattle.rht_core.specs.declared.event.Event.{Event}
 use Rattle.rht_core.specs.declared.event.Event.TheVariants.{Enroll, Begin, Step}
 use Rattle.rht_core.specs.PortCounts.{count_plan_in}
 use Rattle.rht_core.specs.declared.local.Local.{Local}
 use Rattle.rht_core.specs.declared.local.Doing.{Doing}
-use Rattle.rht_core.specs.declared.local.Doing.TheVariants.{Idle, Finding, Binding, Releasing, Rebinding, Listing, Counting}
+use Rattle.rht_core.specs.declared.local.Doing.TheVariants.{Idle, Finding, Binding, Releasing, Rebinding, Listing, Working, Counting}
 use Rattle.rht_core.specs.Locals.{fresh, machine_of, begin_with, doing_plan, plan_of, doing_after, local_after, doing_next, without_node}
 use Rattle.rht_core.specs.Runs.{Core, World, local_of, beginning_in, with_machine, planned_in, with_step, enrolling, world_step, run_of, opening, IsAdmitted, IsAdmittedCall, IsAdmittedEvent}
 use Rattle.rht_core.specs.Laws.{IsDoingIn, IsLocalIn, InRange, WordsFit, IsOfCaller, IsEnrolledKept, Enrolled}
@@ -140,6 +143,7 @@ module _ (M : Type 0) where
           at_in = record { geometry_same = refl; at_in = first_map_word env.geometry };
         };
       })
+      (λ admitted. record { same_env = refl; same_caller = refl; at_in = tt })
       (λ admitted. refl)
 
   -- a caller that is told a word stays in range
@@ -197,6 +201,14 @@ module _ (M : Type 0) where
         new_owner_in = within.new_owner_in;
         at_in = subst (λ (e : Env). IsRebindAtIn e (rebind_after mix m old).0.at) within.same_env next;
       }
+  doing_after-in mix env c (Working m) old within told =
+      let here = subst (λ (e : Env). IsWorkAtIn e m.at) (sym within.same_env) within.at_in in
+      let next = work_stays mix m.env m.at old here told in
+      next_so (IsDoingIn env c) Working tt (work_after mix m old).0 (work_after mix m old).1 record {
+        same_env = within.same_env;
+        same_caller = within.same_caller;
+        at_in = subst (λ (e : Env). IsWorkAtIn e (work_after mix m old).0.at) within.same_env next;
+      }
   doing_after-in mix env c (Counting m) old within told = tt
 
   plan_of-in : (env : Env) (c : ℕ) (doing : Doing M) → IsDoingIn env c doing → PlanIn env (doing_plan doing)
@@ -216,6 +228,9 @@ module _ (M : Type 0) where
   plan_of-in env c (Rebinding m) within =
       subst (λ (e : Env). IsPlannedIn env.geometry (rebind_plan_at e m.at)) (sym within.same_env)
       (planned_rebind env m.at within.at_in)
+  plan_of-in env c (Working m) within =
+      subst (λ (e : Env). IsPlannedIn env.geometry (work_plan_at e m.at)) (sym within.same_env)
+      (planned_work env m.at within.at_in)
   plan_of-in env c (Counting m) within =
       subst (λ (e : Env). IsPlannedIn env.geometry (count_plan_in e)) (sym within) (planned_count env)
 

@@ -15,12 +15,13 @@ use Rattle.rht_find.specs.Find.{FindModel, find_after}
 use Rattle.rht_bind.specs.Bind.{BindModel, bind_after}
 use Rattle.rht_release.specs.Release.{ReleaseModel, release_after}
 use Rattle.rht_release.specs.Rebind.{RebindModel, rebind_after}
+use Rattle.rht_move.specs.Work.{WorkModel, work_after}
 use Rattle.rht_release.specs.All.{AllModel, after_at, room_after, moved}
 use Rattle.rht_release.specs.declared.all.AllAt.{AllAt}
 use Rattle.rht_release.specs.declared.all.AllAt.TheVariants as alls
 use Rattle.rht_core.specs.declared.local.Local.{Local}
 use Rattle.rht_core.specs.declared.local.Doing.{Doing}
-use Rattle.rht_core.specs.declared.local.Doing.TheVariants.{Idle, Finding, Binding, Listing, Releasing, Rebinding, Counting}
+use Rattle.rht_core.specs.declared.local.Doing.TheVariants.{Idle, Finding, Binding, Listing, Releasing, Rebinding, Working, Counting}
 use Rattle.rht_core.specs.Locals.{does_nothing, is_idle, machine_of, doing_after, doing_next, without_node, owners_room, owners_beside, owners_after, room_given}
 use Rattle.rht_core.proofs.Events.NextDoings.{next_so}
 use Rattle.rht_core.proofs.Events.CallBeginnings.{begins_so}
@@ -52,6 +53,7 @@ module _ (M : Type 0) where
       go (Listing m) idle is = absurd (cc)
       go (Releasing m) idle is = absurd (cc)
       go (Rebinding m) idle is = absurd (cc)
+      go (Working m) idle is = absurd (cc)
       go (Counting m) idle is = absurd (cc)
 
   -- who has begun has it as well, or its listing
@@ -63,7 +65,7 @@ module _ (M : Type 0) where
       (λ call machine. (room : Kept ℕ) → room.limit ≡ env.geometry.nodes
       → (owners_room machine (owners_beside machine room)).limit ≡ env.geometry.nodes)
       (λ port room is. is) (λ port owner once room is. is) (λ port room is. refl) (λ port owner room is. is)
-      (λ port owner new single room is. is) (λ room is. is)
+      (λ port owner new single room is. is) (λ room is. is) (λ room is. is)
 
   -- whose own room is empty then
   pub owners_beside-none : (doing : Doing M) (room : Kept ℕ) → (owners_beside doing room).items ≡ []
@@ -73,6 +75,7 @@ module _ (M : Type 0) where
   owners_beside-none (Listing m) room = refl
   owners_beside-none (Releasing m) room = refl
   owners_beside-none (Rebinding m) room = refl
+  owners_beside-none (Working m) room = refl
   owners_beside-none (Counting m) room = refl
 
   -- ---- an operation
@@ -104,6 +107,9 @@ module _ (M : Type 0) where
   owners_after-limit mix (Rebinding m) room old =
       next_so (λ doing. (owners_room doing room).limit ≡ room.limit) Rebinding refl (rebind_after mix m old).0
       (without_node (rebind_after mix m old).1) refl
+  owners_after-limit mix (Working m) room old =
+      next_so (λ doing. (owners_room doing room).limit ≡ room.limit) Working refl (work_after mix m old).0
+      (work_after mix m old).1 refl
   owners_after-limit mix (Counting m) room old = refl
 
   listed_next-stays : (m : AllModel) (after room : Kept ℕ) (next : AllAt × Next (Unit {0}))
@@ -121,4 +127,5 @@ module _ (M : Type 0) where
       listed_next-stays m (room_after m.at m.room old) room (after_at mix m.env m.port m.at old) is
   owners_after-stay mix (Releasing m) room old is = refl
   owners_after-stay mix (Rebinding m) room old is = refl
+  owners_after-stay mix (Working m) room old is = refl
   owners_after-stay mix (Counting m) room old is = refl

@@ -22,11 +22,12 @@ use Rattle.rht_bind.specs.Bind.{BindModel, bind_after}
 use Rattle.rht_release.specs.All.{AllModel, all_after}
 use Rattle.rht_release.specs.Release.{ReleaseModel, release_after}
 use Rattle.rht_release.specs.Rebind.{RebindModel, rebind_after}
+use Rattle.rht_move.specs.Work.{WorkModel, work_after}
 use Rattle.rht_core.specs.declared.event.Event.{Event}
 use Rattle.rht_core.specs.declared.event.Event.TheVariants.{Enroll, Begin, Step}
 use Rattle.rht_core.specs.declared.local.Local.{Local}
 use Rattle.rht_core.specs.declared.local.Doing.{Doing}
-use Rattle.rht_core.specs.declared.local.Doing.TheVariants.{Idle, Finding, Binding, Releasing, Rebinding, Listing, Counting}
+use Rattle.rht_core.specs.declared.local.Doing.TheVariants.{Idle, Finding, Binding, Releasing, Rebinding, Listing, Working, Counting}
 use Rattle.rht_core.specs.Locals.{fresh, machine_of, begin_with, doing_after, local_after, doing_next, without_node, IsDoingOf, IsLocalOf}
 use Rattle.rht_core.specs.Runs.{Core, World, local_of, beginning_in, with_machine, planned_in, with_step, enrolling, enrolled_after, world_step, run_of, opening, opening_core, IsSound}
 use Rattle.rht_core.proofs.Events.CallBeginnings.{begins_so}
@@ -42,7 +43,7 @@ module _ (M : Type 0) where
       → IsDoingOf env machine
   begins-of env c =
       begins_so M env c (λ call machine. IsDoingOf env machine) (λ port. refl) (λ port owner once. refl)
-      (λ port. refl) (λ port owner. refl) (λ port owner new single. refl) refl
+      (λ port. refl) (λ port owner. refl) (λ port owner new single. refl) refl refl
 
   -- who is told a word stays in its table
   doing_after-of : (mix : ℕ → ℕ → ℕ → ℕ) (env : Env) (doing : Doing M) (old : ℕ) → IsDoingOf env doing
@@ -58,6 +59,8 @@ module _ (M : Type 0) where
       next_so (IsDoingOf env) Releasing tt (release_after mix m old).0 (without_node (release_after mix m old).1) of
   doing_after-of mix env (Rebinding m) old of =
       next_so (IsDoingOf env) Rebinding tt (rebind_after mix m old).0 (without_node (rebind_after mix m old).1) of
+  doing_after-of mix env (Working m) old of =
+      next_so (IsDoingOf env) Working tt (work_after mix m old).0 (work_after mix m old).1 of
   doing_after-of mix env (Counting m) old of = tt
 
 -- ---- runs

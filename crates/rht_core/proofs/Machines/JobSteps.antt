@@ -8,7 +8,7 @@ use Rattle.rht_words.specs.Held as held
 use Rattle.rht_words.specs.Operations.{old_of}
 use Rattle.rht_words.specs.Places.{words_in}
 use Rattle.rht_words.proofs.Memory.{Memory}
-use Rattle.rht_model.specs.declared.history.Call.TheVariants.{Release, Rebind, All, Count}
+use Rattle.rht_model.specs.declared.history.Call.TheVariants.{Release, Rebind, All, Work, Count}
 use Rattle.rht_model.specs.declared.history.Reply.{Reply}
 use Rattle.rht_model.specs.declared.history.Reply.TheVariants.{Counted}
 use Rattle.rht_model.specs.Answers.{plain}
@@ -25,7 +25,7 @@ use Rattle.rht_release.specs.All as all_at
 use Rattle.rht_release.specs.AllHeld.{held_of_all}
 use Rattle.rht_release.specs.declared.all.AllAt.{AllAt}
 use Rattle.rht_core.specs.PortCounts.{count_plan_in}
-use Rattle.rht_core.specs.Jobs.{listing_ending, node_ending, Job, finds, binds, releases, rebinds, lists, counts, call_of, job_plan, job_next, job_after, held_of, held_next}
+use Rattle.rht_core.specs.Jobs.{listing_ending, node_ending, Job, finds, binds, releases, rebinds, lists, works, counts, call_of, job_plan, job_next, job_after, held_of, held_next}
 use Rattle.rht_words.specs.declared.config.Kind.TheVariants.{Single}
 use Rattle.rht_release.specs.Release.{IsReleaseAtIn}
 use Rattle.rht_release.specs.Release as release_at
@@ -33,6 +33,9 @@ use Rattle.rht_release.specs.declared.release.ReleaseAt.{ReleaseAt}
 use Rattle.rht_release.specs.Rebind.{IsRebindAtIn}
 use Rattle.rht_release.specs.Rebind as rebind_at
 use Rattle.rht_release.specs.declared.rebind.RebindAt.{RebindAt}
+use Rattle.rht_move.specs.Work.{IsWorkAtIn}
+use Rattle.rht_move.specs.Work as work_at
+use Rattle.rht_move.specs.declared.work.WorkAt.{WorkAt}
 use Rattle.rht_core.proofs.Theory.Ghosts.{Ghost}
 use Rattle.rht_core.proofs.Theory.Wholes.{Whole}
 use Rattle.rht_core.proofs.Theory.Knowns.{Known}
@@ -45,6 +48,7 @@ use Rattle.rht_core.proofs.Machines.BindSteps.{known_of_bind, fits_bind, bind_ho
 use Rattle.rht_core.proofs.Machines.AllSteps.{known_of_all, fits_all, all_holds, AllNext, all_step}
 use Rattle.rht_core.proofs.Machines.ReleaseSteps.{known_of_release, fits_release, release_holds, ReleaseNext, nothing_known, release_step}
 use Rattle.rht_core.proofs.Machines.RebindSteps.{known_of_rebind, fits_rebind, rebind_holds, RebindNext, rebind_step}
+use Rattle.rht_core.proofs.Machines.WorkMachine.{known_of_work, work_holds, WorkNext, work_step}
 
 -- what a caller knows by its job
 abbrev pub known_of : Job → Known
@@ -53,6 +57,7 @@ known_of (binds port owner once state) = known_of_bind port owner state
 known_of (lists port room state) = known_of_all port room.items state
 known_of (releases port owner state) = known_of_release port owner state
 known_of (rebinds port owner new state) = known_of_rebind port owner new state
+known_of (works state) = known_of_work state
 known_of counts = known_nothing
 
 -- nothing is held
@@ -82,6 +87,7 @@ IsJobBuilt env (binds port owner once state) = Unit {0}
 IsJobBuilt env (lists port room state) = Unit {0}
 IsJobBuilt env (releases port owner state) = Unit {0}
 IsJobBuilt env (rebinds port owner new state) = env.config.kind ≡ Single
+IsJobBuilt env (works state) = Unit {0}
 IsJobBuilt env counts = Unit {0}
 
 module _ (env : Env) (mix : ℕ → ℕ → ℕ → ℕ) (c : ℕ) where
@@ -92,6 +98,7 @@ module _ (env : Env) (mix : ℕ → ℕ → ℕ → ℕ) (c : ℕ) where
   JobIn (lists port room state) = IsListingIn env room state
   JobIn (releases port owner state) = IsReleaseAtIn env state
   JobIn (rebinds port owner new state) = IsRebindingIn env new state
+  JobIn (works state) = IsWorkAtIn env state
   JobIn counts = Unit {0}
 
   abbrev pub fits_job : Job → Type 0
@@ -100,6 +107,7 @@ module _ (env : Env) (mix : ℕ → ℕ → ℕ → ℕ) (c : ℕ) where
   fits_job (lists port room state) = fits_all port room state
   fits_job (releases port owner state) = fits_release env mix c port owner state
   fits_job (rebinds port owner new state) = fits_rebind env mix c port owner new state
+  fits_job (works state) = Unit {0}
   fits_job counts = Unit {0}
 
   pub record JobKnows (job : Job) (M : Memory) (G : Ghost) : Type 0 where
@@ -189,6 +197,15 @@ module _ (env : Env) (mix : ℕ → ℕ → ℕ → ℕ) (c : ℕ) where
         after _ (JobNext (job_next (rebinds port owner new) node_ending (next, Done end)))
         (λ M G' w k. nothing_known env mix c after end.1 M G' k) step
 
+    works_so : (state : WorkAt) (r : WorkAt × Next Reply)
+        → Step env mix c Work words G (work_at.plan_at env state) (held_of (works state)) (work_holds r) (WorkNext env mix c r)
+        → Step env mix c Work words G (work_at.plan_at env state) (held_of (works state))
+        (held_next (job_next works plain_ending r)) (JobNext (job_next works plain_ending r))
+    works_so state (next, Go) step =
+        step-map env mix c Work words G (work_at.plan_at env state) (held_of (works state)) (held_of (works next)) _ (JobNext (works next, Go))
+        (λ M G' w k. record { built = tt; knowing = k; fits = tt }) step
+    works_so state (next, Done reply) step = step
+
     -- each operation of a job leads from what the caller knows to what it knows next
     pub job_step : (job : Job) → JobIn job → JobKnows job (mem env mix words) G → JobStep job
     job_step (finds port state) within knows =
@@ -210,6 +227,9 @@ module _ (env : Env) (mix : ℕ → ℕ → ℕ → ℕ) (c : ℕ) where
         (rebind_at.after_at mix env port owner state (old_of words (rebind_at.plan_at env state)))
         (rebind_step env mix c port owner new knows.built within.new_in low words G all whole state within.at_in
         (record { knowing = knows.knowing; fits = knows.fits }))
+    job_step (works state) within knows =
+        works_so state (work_at.after_at mix env state (old_of words (work_at.plan_at env state)))
+        (work_step env mix c words G all whole state within knows.knowing)
     job_step counts within knows =
         let old = old_of words (count_plan_in env) in
         reads env mix c Count words G (count_plan_in env) held.holds_nothing (held.ended_with (plain (Counted old)))

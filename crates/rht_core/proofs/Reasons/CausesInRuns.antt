@@ -36,7 +36,7 @@ use Rattle.rht_words.specs.Links.{slot_of, table_of, future_of}
 use Rattle.rht_model.specs.declared.history.Call.{Call}
 use Rattle.rht_model.specs.declared.history.Call.TheVariants.{Bind, Find, All, Release, Rebind, Walk, Work, Tidy, Count}
 use Rattle.rht_model.specs.declared.history.Reply.{Reply}
-use Rattle.rht_model.specs.declared.history.Reply.TheVariants.{Bound, Exists, Found, Missing, Released, Absent, Rebound, Listed as ListedOwners, TooBig, Again, Busy, NoTable, NoNode, Counted}
+use Rattle.rht_model.specs.declared.history.Reply.TheVariants.{Bound, Exists, Found, Missing, Released, Absent, Rebound, Listed as ListedOwners, TooBig, Again, Busy, NoTable, NoNode, Elsewhere, Moved, Idle, Counted}
 use Rattle.rht_model.specs.Endings.{Ending, plain_ending}
 use Rattle.rht_arena.specs.TakeNode.{TakeNodeModel, take_node_after, IsTakeAtIn, IsTakeIn}
 use Rattle.rht_arena.specs.NewNode.{NewNodeModel, new_node_plan, new_node_plan_at, new_node_after_at, node_taken, IsNewNodeAtIn, IsNewNodeIn}
@@ -85,14 +85,14 @@ use Rattle.rht_release.specs.declared.all.AllAt.{AllAt}
 use Rattle.rht_release.specs.declared.all.AllAt.TheVariants as alls
 use Rattle.rht_core.specs.declared.event.Event.{Event}
 use Rattle.rht_core.specs.Locals.{room_for_nodes}
-use Rattle.rht_core.specs.Jobs.{listing_ending, node_ending, call_of, Job, finds, binds, releases, rebinds, lists, counts, first_job, first_rebind, job_next, job_after}
-use Rattle.rht_core.specs.Replies.{IsFindReply, IsReleaseReply, IsRebindReply, IsAllReply, IsReplyTo}
+use Rattle.rht_core.specs.Jobs.{listing_ending, node_ending, call_of, Job, finds, binds, releases, rebinds, lists, works, counts, first_job, first_rebind, job_next, job_after}
+use Rattle.rht_core.specs.Replies.{IsFindReply, IsReleaseReply, IsRebindReply, IsAllReply, IsWorkReply, IsReplyTo}
 use Rattle.rht_core.specs.Traces.{Did, Past, performed_of, traced_of}
 use Rattle.rht_core.specs.Runs.{IsAdmitted}
 use Rattle.rht_core.specs.Laws.{IsRecorded, IsPastCall}
 use Rattle.rht_core.specs.Seen.{IsNoShapeLoad, LastWalked, SawCount}
 use Rattle.rht_core.specs.ResizeCauses.{Loaded, Attaches, AttachesSome, FindsFuture, HasFollowed, wanted_size, SawCrowded}
-use Rattle.rht_core.specs.Causes.{FindCause, AllCause, IsRaise, IsDueBy, KicksRightly, SawFull, ReleaseCause, RebindCause, BindCause, CountCause, CauseOf, HasCause, Causes}
+use Rattle.rht_core.specs.Causes.{FindCause, AllCause, IsRaise, IsDueBy, KicksRightly, SawFull, ReleaseCause, RebindCause, WorkCause, BindCause, CountCause, CauseOf, HasCause, Causes}
 use Rattle.rht_release.specs.declared.found_port.FoundPort.{FoundPort}
 use Rattle.rht_release.specs.Release as release
 use Rattle.rht_release.specs.declared.release.ReleaseAt.{ReleaseAt}
@@ -110,6 +110,9 @@ use Rattle.rht_core.proofs.Pieces.NewNodes.{filled as filled_node}
 use Rattle.rht_core.proofs.Pieces.Locates.{LocateKnows, locate_step}
 use Rattle.rht_core.proofs.Tracing.TracesAtEvents.{at_events}
 use Rattle.rht_core.proofs.Tracing.TracedJobs.{Performs, LeadsOn, IsEndedSo, jobs_keep}
+use Rattle.rht_move.specs.Work as work
+use Rattle.rht_move.specs.declared.work.WorkAt.TheVariants as works_at
+use Rattle.rht_core.proofs.Reasons.WorkChoices.{SawForWork, SawAtWork, work-saw}
 use Rattle.rht_core.proofs.Counting.FullTables.{counted_at}
 use Rattle.rht_core.proofs.Reasons.TablesWalked.{IsNoRaise, IsAside, no_load, aside, elsewhere, node_loads, probe_loads, relink_stores, LastWalked-push, Walked, Walked-push, WalkedAt, WalkedNext, same_table, locate-walked}
 use Rattle.rht_core.proofs.Reasons.AttachedTables.{IsNoFutureExchange, IsNoAttach, no_attach, AttachedSo, AttachedSo-push, SawAttached, attached-saw, relink-none, unmake-none}
@@ -178,7 +181,7 @@ module _ (env : Env) where
   SawOf (Release port owner) reply steps = Unit {0}
   SawOf (Rebind port owner new) reply steps = SawForRebind reply steps
   SawOf (Walk from limit) reply steps = ⊥
-  SawOf Work reply steps = ⊥
+  SawOf Work reply steps = SawForWork env reply steps
   SawOf Tidy reply steps = ⊥
   SawOf Count reply steps = SawForCount reply steps
 
@@ -238,6 +241,7 @@ module _ (env : Env) where
   JobSaw (lists port room state) steps = Unit {0}
   JobSaw (releases port owner state) steps = Unit {0}
   JobSaw (rebinds port owner new state) steps = SawAtRebind state steps
+  JobSaw (works state) steps = SawAtWork env state steps
   JobSaw counts steps = Unit {0}
 
   -- what it has seen once it goes on, and once it has answered
@@ -825,6 +829,13 @@ module _ (env : Env) where
     both-saw (state, Go) all saw so = (saw, so)
     both-saw (state, Done reply) all saw so = saw
 
+  work-cause : (past : Past) (reply : Reply) → SawForWork env reply past.steps → IsWorkReply reply → WorkCause env past reply
+  work-cause past (Moved again) saw is = tt
+  work-cause past Idle saw is = tt
+  work-cause past (NoTable size) saw is = saw
+  work-cause past Elsewhere saw is = saw
+  work-cause past _ saw is = absurd is
+
   -- a look-up has nothing to show for its answers
   find-cause : (reply : Reply) → IsFindReply reply → FindCause reply
   find-cause (Found owner) is = tt
@@ -892,6 +903,9 @@ module _ (M : Type 0) (mix : ℕ → ℕ → ℕ → ℕ) (env : Env) where
       next-leads (rebinds port owner new state) (rebinds port owner new) node_ending (steps ++ did ∷ [])
       (rebind.after_at mix env port owner state did.old)
       (rebind-saw env mix port owner new state steps did performs saw)
+  job-leads (works state) steps did performs saw =
+      next-leads (works state) works plain_ending (steps ++ did ∷ []) (work.after_at mix env state did.old)
+      (work-saw env mix state steps did performs.within performs.planned saw)
   job-leads counts steps did performs saw =
       Any-push (LoadedCount env did.old) steps did (record { loaded = performs.planned; found = refl })
 
@@ -914,6 +928,8 @@ module _ (M : Type 0) (mix : ℕ → ℕ → ℕ → ℕ) (env : Env) where
   first_job-saw (Release port owner) job is =
       subst (λ j. JobSaw env j []) (let here : releases port owner (Seeking (seek_new env.geometry)) ≡ job = cc in here) tt
   first_job-saw (Rebind port owner new) job is = first_rebind-saw port owner new env.config.kind job is
+  first_job-saw Work job is =
+      subst (λ j. JobSaw env j []) (let here : works works_at.WorkLock ≡ job = cc in here) refl
   first_job-saw Count job is = subst (λ j. JobSaw env j []) (let here : counts ≡ job = cc in here) tt
   first_job-saw _ job is = absurd (cc)
 
@@ -1137,6 +1153,7 @@ module _ (M : Type 0) (mix : ℕ → ℕ → ℕ → ℕ) (env : Env) where
     cause_of past (All port) reply saw right recorded = all-cause env reply right
     cause_of past (Release port owner) reply saw right recorded = release-cause env reply right
     cause_of past (Rebind port owner new) reply saw right recorded = rebind-cause env past reply saw right
+    cause_of past Work reply saw right recorded = work-cause env past reply saw right
     cause_of past Count reply saw right recorded = count-cause past reply saw recorded
     cause_of past _ reply saw right recorded = absurd saw
 

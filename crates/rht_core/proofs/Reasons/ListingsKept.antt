@@ -46,10 +46,12 @@ use Rattle.rht_find.specs.Find as find_at
 use Rattle.rht_bind.specs.Bind as bind_at
 use Rattle.rht_release.specs.Release as release_at
 use Rattle.rht_release.specs.Rebind as rebind_at
+use Rattle.rht_move.specs.Work as work
+use Rattle.rht_move.specs.declared.work.WorkAt.TheVariants as works_at
 use Rattle.rht_words.specs.declared.config.Kind.{Kind}
 use Rattle.rht_words.specs.declared.config.Kind.TheVariants.{Single, Listed}
 use Rattle.rht_core.specs.Locals.{room_for_nodes}
-use Rattle.rht_core.specs.Jobs.{Job, finds, binds, lists, releases, rebinds, counts, call_of, first_rebind, first_job, job_next, job_after, listing_ending, node_ending}
+use Rattle.rht_core.specs.Jobs.{Job, finds, binds, lists, releases, rebinds, works, counts, call_of, first_rebind, first_job, job_next, job_after, listing_ending, node_ending}
 use Rattle.rht_core.specs.Traces.{Did}
 use Rattle.rht_core.specs.ListedOwners.{is_owner_word, loads_owner, owner_loaded, owners_loaded, ListedOwners}
 use Rattle.rht_core.proofs.Theory.Steps.{mem}
@@ -151,6 +153,7 @@ module _ (mix : ℕ → ℕ → ℕ → ℕ) (env : Env) where
   Keeps (lists port room state) steps = room.items ≡ owners_loaded g steps
   Keeps (releases port owner state) steps = Unit {0}
   Keeps (rebinds port owner new state) steps = Unit {0}
+  Keeps (works state) steps = Unit {0}
   Keeps counts steps = Unit {0}
 
   -- and so has its answer
@@ -220,7 +223,7 @@ module _ (mix : ℕ → ℕ → ℕ → ℕ) (env : Env) where
       subst (λ j. Keeps j []) here tt
   begins (Rebind port owner new) job is = begins_rebind port owner new env.config.kind job is
   begins (Walk from limit) job is = absurd (cc)
-  begins Work job is = absurd (cc)
+  begins Work job is = let here : works works_at.WorkLock ≡ job = cc in subst (λ j. Keeps j []) here tt
   begins Tidy job is = absurd (cc)
   begins Count job is = let here : counts ≡ job = cc in subst (λ j. Keeps j []) here tt
 
@@ -263,6 +266,9 @@ module _ (mix : ℕ → ℕ → ℕ → ℕ) (env : Env) where
         other_leads (rebinds port owner new state) (rebinds port owner new) node_ending (steps ++ did ∷ [])
         (λ p is. let same : Rebind port owner new ≡ All p = is in cc) (λ s. tt)
         (rebind_at.after_at mix env port owner state did.old)
+    leads (works state) steps did performs loaded =
+        other_leads (works state) works plain_ending (steps ++ did ∷ [])
+        (λ p is. let same : Work ≡ All p = is in cc) (λ s. tt) (work.after_at mix env state did.old)
     leads counts steps did performs loaded = λ p is. let same : Count ≡ All p = is in absurd (cc)
 
 pub listed_owners : (M : Type 0) (mix : ℕ → ℕ → ℕ → ℕ) → ListedOwners M mix

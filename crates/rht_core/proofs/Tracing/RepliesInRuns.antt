@@ -22,11 +22,12 @@ use Rattle.rht_release.specs.declared.all.AllAt.{AllAt}
 use Rattle.rht_core.specs.declared.event.Event.{Event}
 use Rattle.rht_core.specs.declared.book.Book.{Book}
 use Rattle.rht_core.specs.declared.local.Doing.{Doing}
-use Rattle.rht_core.specs.declared.local.Doing.TheVariants.{Idle, Finding, Binding, Releasing, Rebinding, Listing, Counting}
-use Rattle.rht_core.specs.Jobs.{listing_ending, node_ending, Job, finds, binds, releases, rebinds, lists, counts, call_of, job_next, job_after, job_of, held_of, held_next}
+use Rattle.rht_core.specs.declared.local.Doing.TheVariants.{Idle, Finding, Binding, Releasing, Rebinding, Listing, Working, Counting}
+use Rattle.rht_core.specs.Jobs.{listing_ending, node_ending, Job, finds, binds, releases, rebinds, lists, works, counts, call_of, job_next, job_after, job_of, held_of, held_next}
 use Rattle.rht_release.specs.Release as release
 use Rattle.rht_release.specs.declared.release.ReleaseAt.{ReleaseAt}
 use Rattle.rht_release.specs.Rebind as rebind
+use Rattle.rht_move.specs.Work as work
 use Rattle.rht_release.specs.declared.rebind.RebindAt.{RebindAt}
 use Rattle.rht_core.specs.Runs.{World, IsAdmitted, view_of, local_of}
 use Rattle.rht_core.specs.Traces.{Did, Past, Traced, traced_of}
@@ -66,6 +67,8 @@ job_after-alone mix env (releases port owner state) old =
 job_after-alone mix env (rebinds port owner new state) old =
     job_next-alone (rebinds port owner new) node_ending (λ end. refl)
     (rebind.after_at mix env port owner state old)
+job_after-alone mix env (works state) old =
+    job_next-alone works plain_ending (λ end. refl) (work.after_at mix env state old)
 job_after-alone mix env counts old = refl
 
 module _ (M : Type 0) (mix : ℕ → ℕ → ℕ → ℕ) (env : Env) where
@@ -128,6 +131,8 @@ module _ (M : Type 0) (mix : ℕ → ℕ → ℕ → ℕ) (env : Env) where
   book-of c (Releasing m) book steps within at =
       record { same_env = within.same_env; same_caller = within.same_caller; call = at.call }
   book-of c (Rebinding m) book steps within at =
+      record { same_env = within.same_env; same_caller = within.same_caller; call = at.call }
+  book-of c (Working m) book steps within at =
       record { same_env = within.same_env; same_caller = within.same_caller; call = at.call }
   book-of c (Counting m) book steps within at = record { same_env = within; call = at.call }
 
