@@ -21,7 +21,7 @@ use Rattle.rht_core.specs.Runs.{IsAdmitted}
 use Rattle.rht_core.specs.Traces.{Did, Past, performed_of, traced_of}
 use Rattle.rht_core.specs.Seen.{LastWalked, CountedAt, SawCount}
 use Rattle.rht_core.specs.ResizeCauses.{AttachesSome, HasFollowed, SawBusy, SawNoTable}
-use Rattle.rht_core.specs.WorkCauses.{FindsWorkLocked, SawNoTableDue}
+use Rattle.rht_core.specs.WorkCauses.{FindsWorkLocked, SawNoTableDue, SawNothingDue, SawMoved}
 
 -- why a look-up ended with this reply: it has nothing to show for its answers
 abbrev pub FindCause : Reply → Type 0
@@ -120,12 +120,12 @@ RebindCause env past Idle = ⊥
 RebindCause env past (Clear returned) = ⊥
 RebindCause env past (Counted count) = ⊥
 
--- Why a resizing ended with this reply: another caller was at work, or a table was due that couldn't be had. Of `Moved` and `Idle` no
--- cause is said here yet; `WorkCauses` has what `Idle` is to show.
+-- why a resizing ended with this reply: another caller was at work, a table was due that couldn't be had, nothing was due, or another
+-- table became the current one
 abbrev pub WorkCause : Env → Past → Reply → Type 0
 WorkCause env past Elsewhere = Any (FindsWorkLocked env.geometry) past.steps
-WorkCause env past (Moved again) = Unit {0}
-WorkCause env past Idle = Unit {0}
+WorkCause env past (Moved again) = SawMoved env again past.steps
+WorkCause env past Idle = SawNothingDue env past.steps
 WorkCause env past (NoTable size) = SawNoTableDue env size past.steps
 WorkCause env past (Found owner) = ⊥
 WorkCause env past Missing = ⊥

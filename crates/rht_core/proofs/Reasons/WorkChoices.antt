@@ -48,7 +48,8 @@ use Rattle.rht_move.specs.LastTable.{LastTableModel, last_table_plan_at, last_ta
 use Rattle.rht_move.specs.LastEntry.{LastEntryModel, last_entry_after}
 use Rattle.rht_move.specs.Work.{plan_at, after_at, lock_seen, seeking, last_seen, begun, made, not_made, attached, unmade, future_or_idle, locking_or_publish, bucket_or_publish, locked, unlocking, entry_table_seen, with_word, entry_or_empty, walked, second_or_stop, second_locked, cut_off, unlocked_bucket, retiring, reply_of, IsWorkAtIn}
 use Rattle.rht_core.specs.Traces.{Did, performed_of}
-use Rattle.rht_core.specs.WorkCauses.{TakesWorkLock, FindsWorkLocked, Reads, AreFuturesRead, HasChosen, SawNoTableDue}
+use Rattle.rht_core.specs.ResizeCauses.{Loaded}
+use Rattle.rht_core.specs.WorkCauses.{TakesWorkLock, FindsWorkLocked, AreFuturesRead, HasChosen, SawNoTableDue}
 use Rattle.rht_core.proofs.Theory.Steps.{by_test}
 
 module _ (g : Geometry) where
@@ -56,23 +57,23 @@ module _ (g : Geometry) where
   abbrev pub AreFuturesTo : ℕ → ℕ → List Did → Type 0
   AreFuturesTo root slot [] = root ≡ slot
   AreFuturesTo root slot (did ∷ dids) =
-      (next : ℕ) × Reads g (Slot root FutureWord) did.old did × (slot_of did.old ≡ Some next) × AreFuturesTo next slot dids
+      (next : ℕ) × Loaded g (Slot root FutureWord) did.old did × (slot_of did.old ≡ Some next) × AreFuturesTo next slot dids
 
   -- and to the next one
   pub futures_more : (root slot next : ℕ) (futures : List Did) (did : Did) → AreFuturesTo root slot futures
-      → Reads g (Slot slot FutureWord) did.old did → slot_of did.old ≡ Some next
+      → Loaded g (Slot slot FutureWord) did.old did → slot_of did.old ≡ Some next
       → AreFuturesTo root next (futures ++ did ∷ [])
   futures_more root slot next [] did same reads is =
-      (next, subst (λ s. Reads g (Slot s FutureWord) did.old did) (sym same) reads, is, refl)
+      (next, subst (λ s. Loaded g (Slot s FutureWord) did.old did) (sym same) reads, is, refl)
   futures_more root slot next (f ∷ futures) did (after, read, leads, rest) reads is =
       (after, read, leads, futures_more after slot next futures did rest reads is)
 
   -- or the table to which they lead is the last one
   pub futures_end : (root slot : ℕ) (futures : List Did) (did : Did) → AreFuturesTo root slot futures
-      → Reads g (Slot slot FutureWord) did.old did → slot_of did.old ≡ None
+      → Loaded g (Slot slot FutureWord) did.old did → slot_of did.old ≡ None
       → AreFuturesRead g root slot (futures ++ did ∷ [])
   futures_end root slot [] did same reads none =
-      (subst (λ s. Reads g (Slot s FutureWord) did.old did) (sym same) reads, none, same)
+      (subst (λ s. Loaded g (Slot s FutureWord) did.old did) (sym same) reads, none, same)
   futures_end root slot (f ∷ []) did (after, read, leads, rest) reads none =
       (after, read, leads, futures_end after slot [] did rest reads none)
   futures_end root slot (f ∷ h ∷ futures) did (after, read, leads, rest) reads none =
@@ -140,7 +141,7 @@ module _ (env : Env) where
     pub current : Did
     pub split : steps ≡ lock ∷ current ∷ rest
     pub took : TakesWorkLock env.geometry lock
-    pub current_read : Reads env.geometry CurrentTable current.old current
+    pub current_read : Loaded env.geometry CurrentTable current.old current
     pub root_is : table_of current.old ≡ root
 
   Began-push : (root : ℕ) (rest steps : List Did) (did : Did) → Began root rest steps
@@ -179,7 +180,7 @@ module _ (env : Env) where
     pub shape : Did
     pub began : Began root (futures ++ shape ∷ []) steps
     pub read : AreFuturesRead env.geometry root last.table futures
-    pub shape_read : Reads env.geometry (Slot last.table ShapeWord) shape.old shape
+    pub shape_read : Loaded env.geometry (Slot last.table ShapeWord) shape.old shape
     pub same : shape.old ≡ last.shape
 
   -- it has chosen a table of this size behind that one
@@ -231,8 +232,8 @@ module _ (env : Env) where
   -- ---- an operation
 
   reads : (address : Address) (did : Did) → IsAddress env.geometry address
-      → did.op ≡ Load (place_of env.geometry address) → Reads env.geometry address did.old did
-  reads address did there is = record { there = there; loads = is; found = refl }
+      → did.op ≡ Load (place_of env.geometry address) → Loaded env.geometry address did.old did
+  reads address did there is = record { word = record { there = there; loads = is }; found = refl }
 
   lock-saw : (steps : List Did) (did : Did) → did.op ≡ plan_at env at.WorkLock → steps ≡ []
       → SawNextWork (steps ++ did ∷ []) (lock_seen did.old)
