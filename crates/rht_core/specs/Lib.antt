@@ -40,3 +40,4 @@ pub mod Serving
 pub mod ToldHistories
 -- why a resizing was answered as it was
 pub mod WorkCauses
+pub mod Worked

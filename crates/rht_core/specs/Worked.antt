@@ -1,0 +1,52 @@
+-- What a resizing leaves that is alone: while it is made no other caller is in the middle of a call.
+use Rattle.std.specs.Prelude.{◌≡◌, ◌≢◌, ℕ, ◌≤◌, Bool, true, false, List, [], ◌∷◌, take}
+use Rattle.std.specs.List.{Any, Contains}
+use Rattle.rht_words.specs.declared.env.Env.{Env}
+use Rattle.rht_words.specs.Links.{table_of}
+use Rattle.rht_words.specs.Places.{CurrentTable, WorkLock, word_at}
+use Rattle.rht_words.specs.Shapes.{unpacked, size_of}
+use Rattle.rht_policy.specs.Thresholds.{is_above_75}
+use Rattle.rht_model.specs.declared.history.Call.TheVariants.{Work}
+use Rattle.rht_model.specs.declared.history.Reply.TheVariants.{Moved, Idle}
+use Rattle.rht_move.specs.Choice.{is_nested, is_sparse}
+use Rattle.rht_core.specs.declared.event.Event.{Event}
+use Rattle.rht_core.specs.Locals.{is_idle}
+use Rattle.rht_core.specs.Runs.{local_of, run_of, IsAdmitted}
+use Rattle.rht_core.specs.Traces.{Past, traced_of, behind_call}
+use Rattle.rht_core.specs.StandsFor.{in_force, shape_of, stands_for, AreAllBound}
+use Rattle.rht_core.specs.WorkCauses.{StoresCurrent}
+
+-- Nothing is due: one table is in force, which is flat; it has neither too many ports nor, where shrinking is on, too few for its size;
+-- and nobody does the work.
+pub record IsSettled (env : Env) (words : List ℕ) : Type 0 where
+  pub ports : ℕ
+  pub bound : AreAllBound (stands_for env.geometry words) ports
+  pub table : ℕ
+  pub current : table_of (word_at env.geometry words CurrentTable) ≡ table
+  pub alone : in_force env.geometry words ≡ table ∷ []
+  pub flat : is_nested (shape_of env.geometry words table) ≡ false
+  pub not_full : is_above_75 ports (size_of (unpacked (shape_of env.geometry words table))) env.config.max ≡ false
+  pub not_sparse : is_sparse env ports (size_of (unpacked (shape_of env.geometry words table))) ≡ false
+  pub unlocked : word_at env.geometry words WorkLock ≡ 0
+
+module _ (M : Type 0) (mix : ℕ → ℕ → ℕ → ℕ) where
+  -- from the call's beginning up to its end no other caller is in a call
+  abbrev pub IsAloneDuring : Env → List Event → ℕ → Past → Type 0
+  IsAloneDuring env events c past =
+      (index other : ℕ) → past.begin ≤ index → index ≤ behind_call past → other ≢ c
+      → is_idle (local_of (run_of {M = M} mix env (take index events)).core other) ≡ true
+
+  -- A resizing that was alone and answered that nothing was due left nothing due; one that answered that it moved made another table
+  -- the current one.
+  pub record HasWorked (env : Env) (events : List Event) (past : Past) : Type 0 where
+    pub idle : past.done.reply ≡ Idle → IsSettled env (run_of {M = M} mix env (take (behind_call past) events)).core.words
+    pub moved : (again : Bool) → past.done.reply ≡ Moved again
+        → Any (λ did. (table : ℕ) × StoresCurrent env.geometry table did) past.steps
+
+  abbrev pub Worked : Type 0
+  Worked =
+      (env : Env) (events : List Event) (c : ℕ) (past : Past) → IsAdmitted env.config.kind events
+      → Contains ((traced_of {M = M} mix env events).traces c).past past
+      → past.done.call ≡ Work
+      → IsAloneDuring env events c past
+      → HasWorked env events past
