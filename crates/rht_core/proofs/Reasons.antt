@@ -10,7 +10,11 @@ pub mod MakesSeen
 pub mod RefusedBinds
 -- in every run each call that has ended has a reply with its cause
 pub mod CausesInRuns
+-- and says rightly whether there is something to do for `work`
+pub mod KicksInRuns
 -- in every run a listing lists each owner that its operations loaded
 pub mod ListingsKept
+-- by which operation a release says that there is something to do for `work`
+pub mod ReleaseKicks
 -- by which loads a resizing chose what is due
 pub mod WorkChoices

@@ -1,9 +1,9 @@
 -- Why calls were answered as they were: a table of causes, by call and by reply, over the call's own operations.
 -- Each row says what the operations of a call that ended with this reply have to show. A row with nothing to show says so; a
 -- row that no call meets yet, and each reply that isn't one of the call's, can have no cause.
-use Rattle.std.specs.Prelude.{◌≡◌, ◌↔◌, ℕ, ◌+◌, ◌<◌, ◌≤◌, ◌⊎◌, Bool, true, List, map}
+use Rattle.std.specs.Prelude.{◌≡◌, ◌↔◌, ℕ, ◌+◌, ◌-◌, ◌<◌, ◌≤◌, ◌⊎◌, Bool, true, List, map}
 use Rattle.std.specs.List.{AllByRecursion, Any}
-use Rattle.rht_words.specs.declared.op.Op.TheVariants.{Load, Add}
+use Rattle.rht_words.specs.declared.op.Op.TheVariants.{Load, Add, Sub}
 use Rattle.rht_words.specs.declared.env.Env.{Env}
 use Rattle.rht_words.specs.declared.config.Kind.TheVariants.{Single}
 use Rattle.rht_words.specs.declared.geometry.Geometry.{Geometry}
@@ -16,6 +16,7 @@ use Rattle.rht_model.specs.declared.history.Call.TheVariants.{Bind, Find, All, R
 use Rattle.rht_model.specs.declared.history.Reply.{Reply}
 use Rattle.rht_model.specs.declared.history.Reply.TheVariants.{Bound, Exists, Found, Missing, Listed, Released, Absent, Rebound, TooBig, Again, Busy, NoTable, NoNode, Pending, Elsewhere, Walked, Moved, Idle, Clear, Counted}
 use Rattle.rht_arena.specs.Laws.{SeesTaken}
+use Rattle.rht_move.specs.Choice.{is_sparse}
 use Rattle.rht_core.specs.declared.event.Event.{Event}
 use Rattle.rht_core.specs.Runs.{IsAdmitted}
 use Rattle.rht_core.specs.Traces.{Did, Past, performed_of, traced_of}
@@ -68,29 +69,6 @@ AllCause (Moved again) = ⊥
 AllCause Idle = ⊥
 AllCause (Clear returned) = ⊥
 AllCause (Counted count) = ⊥
-
--- why a release ended with this reply: it has nothing to show for its answers
-abbrev pub ReleaseCause : Reply → Type 0
-ReleaseCause (Released kick) = Unit {0}
-ReleaseCause Absent = Unit {0}
-ReleaseCause (Found owner) = ⊥
-ReleaseCause Missing = ⊥
-ReleaseCause (Bound kick) = ⊥
-ReleaseCause (Exists owner) = ⊥
-ReleaseCause (Listed len) = ⊥
-ReleaseCause Rebound = ⊥
-ReleaseCause (TooBig count) = ⊥
-ReleaseCause (Again table) = ⊥
-ReleaseCause (Busy root last) = ⊥
-ReleaseCause (NoTable size) = ⊥
-ReleaseCause NoNode = ⊥
-ReleaseCause (Pending caller section) = ⊥
-ReleaseCause Elsewhere = ⊥
-ReleaseCause (Walked len next) = ⊥
-ReleaseCause (Moved again) = ⊥
-ReleaseCause Idle = ⊥
-ReleaseCause (Clear returned) = ⊥
-ReleaseCause (Counted count) = ⊥
 
 -- the call found the bit of every node clear
 abbrev pub SawNoNode : Env → Past → Type 0
@@ -163,6 +141,46 @@ pub record KicksRightly (env : Env) (kick : Bool) (steps : List Did) : Type 0 wh
   pub kicks : (kick ≡ true) ↔ (Any (AttachesSome env.geometry) steps ⊎ Any (IsDueBy env shape) walked.behind)
   pub raised : env.config.kind ≡ Single → Any (IsRaise env.geometry) walked.behind
 
+-- the operation lowered the count of ports
+abbrev pub IsLowering : Geometry → Did → Type 0
+IsLowering g did = did.op ≡ Sub (place_of g PortCount) 1
+
+-- and by the lowered count a table of this shape is due to shrink
+pub record IsSparseBy (env : Env) (shape : ℕ) (did : Did) : Type 0 where
+  pub lowered : IsLowering env.geometry did
+  pub due : is_sparse env (did.old - 1) (size_of (unpacked shape)) ≡ true
+
+-- A release says that there is something to do for `work` exactly where, behind the last table that it walked, it lowered the count
+-- and that table is due to shrink by this.
+pub record KicksOnRelease (env : Env) (kick : Bool) (steps : List Did) : Type 0 where
+  pub table : ℕ
+  pub shape : ℕ
+  pub walked : LastWalked env.geometry table shape steps
+  pub kicks : (kick ≡ true) ↔ Any (IsSparseBy env shape) walked.behind
+
+-- why a release ended with this reply: its kick has a cause, and its other answer has nothing to show
+abbrev pub ReleaseCause : Env → Past → Reply → Type 0
+ReleaseCause env past (Released kick) = KicksOnRelease env kick past.steps
+ReleaseCause env past Absent = Unit {0}
+ReleaseCause env past (Found owner) = ⊥
+ReleaseCause env past Missing = ⊥
+ReleaseCause env past (Bound kick) = ⊥
+ReleaseCause env past (Exists owner) = ⊥
+ReleaseCause env past (Listed len) = ⊥
+ReleaseCause env past Rebound = ⊥
+ReleaseCause env past (TooBig count) = ⊥
+ReleaseCause env past (Again table) = ⊥
+ReleaseCause env past (Busy root last) = ⊥
+ReleaseCause env past (NoTable size) = ⊥
+ReleaseCause env past NoNode = ⊥
+ReleaseCause env past (Pending caller section) = ⊥
+ReleaseCause env past Elsewhere = ⊥
+ReleaseCause env past (Walked len next) = ⊥
+ReleaseCause env past (Moved again) = ⊥
+ReleaseCause env past Idle = ⊥
+ReleaseCause env past (Clear returned) = ⊥
+ReleaseCause env past (Counted count) = ⊥
+
 module _ (M : Type 0) (mix : ℕ → ℕ → ℕ → ℕ) where
   -- the operation loaded this count of ports, which is as many as the table may hold or more, and so many there were
   pub record SawFull (env : Env) (events : List Event) (c count : ℕ) (did : Did) : Type 0 where
@@ -222,7 +240,7 @@ module _ (M : Type 0) (mix : ℕ → ℕ → ℕ → ℕ) where
   CauseOf env events c past (Bind port owner once) reply = BindCause env events c past reply
   CauseOf env events c past (Find port) reply = FindCause reply
   CauseOf env events c past (All port) reply = AllCause reply
-  CauseOf env events c past (Release port owner) reply = ReleaseCause reply
+  CauseOf env events c past (Release port owner) reply = ReleaseCause env past reply
   CauseOf env events c past (Rebind port owner new) reply = RebindCause env past reply
   CauseOf env events c past (Walk from limit) reply = ⊥
   CauseOf env events c past Work reply = WorkCause env past reply

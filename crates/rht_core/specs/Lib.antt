@@ -20,6 +20,7 @@ pub mod Laws
 pub mod Seen
 -- why a call was refused
 pub mod Causes
+pub mod Kicks
 -- and why a bind that wanted a further table was
 pub mod ResizeCauses
 -- one call alone

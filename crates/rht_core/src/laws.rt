@@ -3,6 +3,7 @@
 ghost use Rattle.rht_core.specs.Alone.{Alone};
 ghost use Rattle.rht_core.specs.Causes.{Causes};
 ghost use Rattle.rht_core.specs.Counts.{Counted, AtRest};
+ghost use Rattle.rht_core.specs.Kicks.{Kicks};
 ghost use Rattle.rht_core.specs.ListedOwners.{ListedOwners};
 ghost use Rattle.rht_core.specs.NodesUsed.{Nodes};
 ghost use Rattle.rht_core.specs.RunHistories.{HasFittingHistory};
@@ -88,20 +89,42 @@ pub fn taken_alone<M: Mix>()
 {}
 
 /// In every run each call that has ended has the cause of its reply, by a table of calls and replies
-/// over the call's own operations. A bind or a rebind that was answered `NoNode` found the bit of each
-/// node clear, each at some event of its own. A reading that was answered `Counted` loaded that count,
-/// and there the ports bound were at most so many, and with the other callers in mid-call at least. The
-/// same is so of a bind that was answered `TooBig`, and the count is as many ports as the table may hold
-/// or more. One that was answered `Bound` has a `kick` exactly where it raised the count behind the last
-/// table that it walked, the raised count is above three quarters of that table's size, and the table
-/// may grow: no limit on the count comes in between. In a table of one owner each it did raise the
-/// count. `Exists` of a bind, `Found` and `Missing` of a look-up, `Listed` of a listing, `Released` and
-/// `Absent` of a release, `Rebound` and `Absent` of a rebind have nothing to show here, nor has the
-/// `kick` of a `Released`. No other reply of these calls comes, and a call of which there is no machine
-/// never ends. It doesn't say that all nodes were taken at one event, or that exactly so many ports were
-/// bound, or in which table a bind's node was linked.
+/// over the call's own operations.
+///
+/// A bind or a rebind that was answered `NoNode` found the bit of each node clear, each at some event of
+/// its own. A reading that was answered `Counted` loaded that count, and there the ports bound were at
+/// most so many, and with the other callers in mid-call at least. The same is so of a bind that was
+/// answered `TooBig`, and the count is as many ports as the table may hold or more. `Again` of a bind
+/// names the table that it attached behind the last one that it walked, or found as that one's future.
+/// `Busy` and `NoTable` have as their cause that the last table that it walked is full: it counted 16
+/// nodes or more in a bucket, with so many ports bound at the last one, or loaded a count above the
+/// table's size; `Busy`, that this table wasn't the current one; `NoTable`, that each slot was found
+/// taken, or each run of pages, for the size that is wanted; and then the table's future was loaded as
+/// none. The kick of a `Bound` or a `Released` is as `kicks` says.
+///
+/// A `Work` that was answered `Elsewhere` found the work lock taken. Any other one took it, looked for
+/// the last table from the current one on and chose by its shape and by the count what is due:
+/// for `NoTable` a table that wasn't to be had, while the last one is the current one or nested; for
+/// `Idle` nothing, and the current table had no future. `Moved` stored another current table, or stopped
+/// before a nested one; there is more to do exactly where it stopped, or the new current table was found
+/// to have a future, or a table that was due wasn't attached.
+///
+/// `Exists` of a bind, `Found` and `Missing` of a look-up, `Listed` of a listing, `Absent` of a release,
+/// `Rebound` and `Absent` of a rebind have nothing to show here. No other reply of these calls comes,
+/// and a call of which there is no machine never ends. It doesn't say that all nodes were taken at one
+/// event, or that exactly so many ports were bound, or in which table a bind's node was linked.
 pub fn causes<M: Mix>()
     ensures { Causes M M.mix_of }
+{}
+
+/// In every run a bind that has ended says that there is something to do for `work` exactly where it
+/// attached a table, or, behind the last table that it walked, raised the count of ports and by this has
+/// that table more ports than three quarters of its buckets, and may grow; in a table of one owner each it did
+/// raise the count. A release says so exactly where, behind the last table that it walked, it lowered the
+/// count, shrinking is on, and by this that table has fewer ports than three tenths of its buckets, and
+/// more buckets than the least size. It doesn't say that `work` is then made, or finds anything to do.
+pub fn kicks<M: Mix>()
+    ensures { Kicks M M.mix_of }
 {}
 
 /// In every run a listing that has ended lists each owner that its own operations loaded, and no other,

@@ -7,7 +7,7 @@ use Rattle.std.specs.List.{AllByRecursion, slice_get}
 use Rattle.std.proofs.lemmas.Option.{slice_get_within, get_or_from_slice_get}
 use Rattle.std.proofs.lemmas.List.Elements.{All-from_recursion}
 use Rattle.rht_words.specs.declared.op.Op.{Op}
-use Rattle.rht_words.specs.declared.op.Op.TheVariants.{Load, Add}
+use Rattle.rht_words.specs.declared.op.Op.TheVariants.{Load, Add, Sub}
 use Rattle.rht_words.specs.Operations.{old_of, applied}
 use Rattle.rht_words.proofs.EachElement.{AllByRecursion-push}
 use Rattle.rht_words.specs.declared.env.Env.{Env}
@@ -141,18 +141,30 @@ module _ (env : Env) (mix : ℕ → ℕ → ℕ → ℕ) (M : Type 0) where
       → (core_step mix core (Step c)).0.words ≡ applied core.words op
   stepped_words core c op plan is some = rw (is ∙ some) refl
 
-  -- whoever loads the count finds it at most the nodes
-  pub load_few : (events : List Event) (c : ℕ) (did : Did) → IsAdmitted env.config.kind events
-      → did.op ≡ Load (place_of env.geometry PortCount) → IsRecorded M mix env events c did
-      → did.old ≤ env.geometry.nodes
-  load_few events c did admitted loads is =
+  -- whoever makes an operation on the count finds it at most the nodes
+  found_few : (events : List Event) (c : ℕ) (did : Did) (op : Op) → IsAdmitted env.config.kind events → did.op ≡ op
+      → ((words : List ℕ) → old_of words op ≡ word_at env.geometry words PortCount)
+      → IsRecorded M mix env events c did → did.old ≤ env.geometry.nodes
+  found_few events c did op admitted same finds is =
       let before = take did.index events in
       let core : Core M = (run_of mix env before).core in
       let has = has_inv env mix M before (taken (IsAdmittedEvent env.config.kind) did.index events admitted) in
       let found : did.old ≡ word_at env.geometry core.words PortCount =
-      sym is.found ∙ ap (old_of core.words) loads in
+      sym is.found ∙ ap (old_of core.words) same ∙ finds core.words in
       let few = count_few core has.ghost has.inv in
       omega (arith, found, few)
+
+  pub load_few : (events : List Event) (c : ℕ) (did : Did) → IsAdmitted env.config.kind events
+      → did.op ≡ Load (place_of env.geometry PortCount) → IsRecorded M mix env events c did
+      → did.old ≤ env.geometry.nodes
+  load_few events c did admitted loads is =
+      found_few events c did (Load (place_of env.geometry PortCount)) admitted loads (λ words. refl) is
+
+  pub lower_few : (events : List Event) (c : ℕ) (did : Did) → IsAdmitted env.config.kind events
+      → did.op ≡ Sub (place_of env.geometry PortCount) 1 → IsRecorded M mix env events c did
+      → did.old ≤ env.geometry.nodes
+  lower_few events c did admitted lowers is =
+      found_few events c did (Sub (place_of env.geometry PortCount) 1) admitted lowers (λ words. refl) is
 
   -- Whoever raises the count found it below the nodes, since it is at most the nodes behind that too.
   pub raise_few : (events : List Event) (c : ℕ) (did : Did) → IsAdmitted env.config.kind events

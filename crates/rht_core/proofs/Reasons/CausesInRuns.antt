@@ -117,7 +117,8 @@ use Rattle.rht_core.proofs.Counting.FullTables.{counted_at}
 use Rattle.rht_core.proofs.Reasons.TablesWalked.{IsNoRaise, IsAside, no_load, aside, elsewhere, node_loads, probe_loads, relink_stores, LastWalked-push, Walked, Walked-push, WalkedAt, WalkedNext, same_table, locate-walked}
 use Rattle.rht_core.proofs.Reasons.AttachedTables.{IsNoFutureExchange, IsNoAttach, no_attach, AttachedSo, AttachedSo-push, SawAttached, attached-saw, relink-none, unmake-none}
 use Rattle.rht_core.proofs.Reasons.RefusedBinds.{no_slot, Behind, Behind-push, SawWhy, SawWhy-push, SawRoot, SawOther, SawRefusal, SawToMake, BusySeen, BusySeen-push, NoTableSeen, NoTableSeen-push, above-why, root-saw, begins-making, other-saw, making-saw, no_room-saw, busy-saw, no_table-saw}
-use Rattle.rht_core.proofs.Counting.CountedNodes.{raise_few, load_few}
+use Rattle.rht_core.proofs.Counting.CountedNodes.{raise_few, load_few, lower_few}
+use Rattle.rht_core.proofs.Reasons.ReleaseKicks.{SawRelease, SawForRelease, release-saw, kicks_right}
 use Rattle.rht_core.proofs.Theory.Steps.{mem, by_test}
 
 -- ---- what a bind has seen
@@ -173,12 +174,12 @@ module _ (env : Env) where
   SawForRebind NoNode steps = SawAllBelow env.geometry env.geometry.nodes (map performed_of steps)
   SawForRebind _ steps = Unit {0}
 
-  -- and for any call to have it; a look-up, a listing and a release have nothing to show, and of the others there is no machine yet
+  -- and for any call to have it; a look-up and a listing have nothing to show, and of the others there is no machine yet
   abbrev pub SawOf : Call → Reply → List Did → Type 0
   SawOf (Bind port owner once) reply steps = SawFor reply steps
   SawOf (Find port) reply steps = Unit {0}
   SawOf (All port) reply steps = Unit {0}
-  SawOf (Release port owner) reply steps = Unit {0}
+  SawOf (Release port owner) reply steps = SawForRelease env reply steps
   SawOf (Rebind port owner new) reply steps = SawForRebind reply steps
   SawOf (Walk from limit) reply steps = ⊥
   SawOf Work reply steps = SawForWork env reply steps
@@ -234,12 +235,12 @@ module _ (env : Env) where
   SawAtRebind (rebinds_at.Unlocking node table unlock) steps = Unit {0}
   SawAtRebind (rebinds_at.Giving give) steps = Unit {0}
 
-  -- of a look-up and a listing nothing is kept, nor of a release, nor of a reading of the count before it ends
+  -- of a look-up and a listing nothing is kept, nor of a reading of the count before it ends
   abbrev JobSaw : Job → List Did → Type 0
   JobSaw (finds port state) steps = Unit {0}
   JobSaw (binds port owner once state) steps = SawAt state steps × SawAttached env state steps
   JobSaw (lists port room state) steps = Unit {0}
-  JobSaw (releases port owner state) steps = Unit {0}
+  JobSaw (releases port owner state) steps = SawRelease env state steps
   JobSaw (rebinds port owner new state) steps = SawAtRebind state steps
   JobSaw (works state) steps = SawAtWork env state steps
   JobSaw counts steps = Unit {0}
@@ -847,12 +848,6 @@ module _ (env : Env) where
   all-cause (ListedOwners len) is = tt
   all-cause _ is = absurd is
 
-  -- nor has a release
-  release-cause : (reply : Reply) → IsReleaseReply reply → ReleaseCause reply
-  release-cause (Released kick) is = tt
-  release-cause Absent is = tt
-  release-cause _ is = absurd is
-
   rebind-cause : (past : Past) (reply : Reply) → SawForRebind reply past.steps → IsRebindReply reply
       → RebindCause env past reply
   rebind-cause past Rebound saw is = tt
@@ -898,7 +893,7 @@ module _ (M : Type 0) (mix : ℕ → ℕ → ℕ → ℕ) (env : Env) where
   job-leads (releases port owner state) steps did performs saw =
       let next = release.after_at mix env port owner state did.old in
       next-leads (releases port owner state) (releases port owner) node_ending (steps ++ did ∷ []) next
-      (nothing-saw next)
+      (release-saw env mix port owner state steps did performs.within.at_in performs.planned saw)
   job-leads (rebinds port owner new state) steps did performs saw =
       next-leads (rebinds port owner new state) (rebinds port owner new) node_ending (steps ++ did ∷ [])
       (rebind.after_at mix env port owner state did.old)
@@ -926,7 +921,7 @@ module _ (M : Type 0) (mix : ℕ → ℕ → ℕ → ℕ) (env : Env) where
       subst (λ j. JobSaw env j [])
       (let here : lists port (room_for_nodes env) (alls.Seeking (seek_new env.geometry)) ≡ job = cc in here) tt
   first_job-saw (Release port owner) job is =
-      subst (λ j. JobSaw env j []) (let here : releases port owner (Seeking (seek_new env.geometry)) ≡ job = cc in here) tt
+      subst (λ j. JobSaw env j []) (let here : releases port owner (Seeking (seek_new env.geometry)) ≡ job = cc in here) (tt, tt)
   first_job-saw (Rebind port owner new) job is = first_rebind-saw port owner new env.config.kind job is
   first_job-saw Work job is =
       subst (λ j. JobSaw env j []) (let here : works works_at.WorkLock ≡ job = cc in here) refl
@@ -1141,6 +1136,15 @@ module _ (M : Type 0) (mix : ℕ → ℕ → ℕ → ℕ) (env : Env) where
         }
     bind-cause past _ saw recorded = absurd saw
 
+    -- no more ports are bound than there are nodes, so that no clamp has changed a release's kick
+    release-cause : (past : Past) (reply : Reply) → SawForRelease env reply past.steps → IsReleaseReply reply
+        → AllByRecursion IsRecordedHere past.steps → ReleaseCause env past reply
+    release-cause past (Released kick) saw is recorded =
+        let parts = AllByRecursion-cut IsRecordedHere saw.before (saw.last ∷ []) (subst (AllByRecursion IsRecordedHere) saw.split recorded) in
+        kicks_right env kick past.steps saw (λ lowers. lower_few env mix M events c saw.last admitted lowers parts.1.0)
+    release-cause past Absent saw is recorded = tt
+    release-cause past _ saw is recorded = absurd is
+
     count-cause : (past : Past) (reply : Reply) → SawForCount env reply past.steps → AllByRecursion IsRecordedHere past.steps
         → CountCause M mix env events c past reply
     count-cause past (Counted count) saw recorded = counted-saw count past.steps recorded saw
@@ -1151,7 +1155,7 @@ module _ (M : Type 0) (mix : ℕ → ℕ → ℕ → ℕ) (env : Env) where
     cause_of past (Bind port owner once) reply saw right recorded = bind-cause past reply saw recorded
     cause_of past (Find port) reply saw right recorded = find-cause env reply right
     cause_of past (All port) reply saw right recorded = all-cause env reply right
-    cause_of past (Release port owner) reply saw right recorded = release-cause env reply right
+    cause_of past (Release port owner) reply saw right recorded = release-cause past reply saw right recorded
     cause_of past (Rebind port owner new) reply saw right recorded = rebind-cause env past reply saw right
     cause_of past Work reply saw right recorded = work-cause env past reply saw right
     cause_of past Count reply saw right recorded = count-cause past reply saw recorded

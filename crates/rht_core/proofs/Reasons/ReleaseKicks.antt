@@ -1,0 +1,413 @@
+-- A release says that there is something to do for `work` by the one operation that lowers the count, for the table that it walked
+-- last, in which it found the port.
+use Rattle.std.proofs.Common.{◌≡◌, ◌≢◌, ◌⊎◌, ℕ, ◌<◌, ◌≤◌, ◌==◌, Bool, true, false, List, [], ◌∷◌, ◌++◌, min, append_assoc, refl, sym, ap, ◌∙◌, subst, inl, inr, arith}
+use Rattle.std.specs.Prelude.{Option, Some, None, ◌-◌}
+use Rattle.std.specs.List.{AllByRecursion, Any}
+use Rattle.std.proofs.lemmas.List.Quantifiers.{All-from_recursion, Any-push}
+use Rattle.rht_words.specs.declared.op.Op.{Op}
+use Rattle.rht_words.specs.declared.op.Op.TheVariants.{Store, Sub}
+use Rattle.rht_words.specs.declared.env.Env.{Env}
+use Rattle.rht_words.specs.declared.geometry.Geometry.{Geometry}
+use Rattle.rht_words.specs.declared.machine.Next.{Next}
+use Rattle.rht_words.specs.declared.machine.Next.TheVariants.{Go, Done}
+use Rattle.rht_words.specs.Links.{node_of}
+use Rattle.rht_words.specs.Machines.{GoesOrEnds}
+use Rattle.rht_words.specs.Places.{PortCount, ChainLink, ListLink, OwnerWord, place_of}
+use Rattle.rht_words.specs.Ports.{owner_of}
+use Rattle.rht_words.specs.Shapes.{unpacked, size_of}
+use Rattle.rht_words.proofs.EachElement.{AllByRecursion-push, AllByRecursion-cut}
+use Rattle.rht_model.specs.declared.history.Reply.{Reply}
+use Rattle.rht_model.specs.declared.history.Reply.TheVariants.{Released, Absent}
+use Rattle.rht_nest.specs.Locate.{LocateModel, locate_plan_at, locate_after}
+use Rattle.rht_nest.specs.declared.locate.LocateAt.{LocateAt}
+use Rattle.rht_nest.specs.declared.locate.LocateAt.TheVariants as locates
+use Rattle.rht_nest.specs.declared.locate.Located.{Located}
+use Rattle.rht_chain.specs.LockedWalk.{walk_plan_at}
+use Rattle.rht_chain.specs.declared.locked_walk.LockedWalkAt.{LockedWalkAt}
+use Rattle.rht_chain.specs.declared.locked_walk.LockedWalkAt.TheVariants as walks
+use Rattle.rht_chain.specs.Lock.{lock_plan_at}
+use Rattle.rht_chain.specs.declared.lock.LockAt.{LockAt}
+use Rattle.rht_chain.specs.declared.lock.LockAt.TheVariants as locks
+use Rattle.rht_chain.specs.Probe.{ProbeModel, probe_plan_at, probe_after}
+use Rattle.rht_chain.specs.declared.probe.ProbeAt.{ProbeAt}
+use Rattle.rht_chain.specs.declared.probe.ProbeAt.TheVariants as probes
+use Rattle.rht_chain.specs.declared.probe.Probed.{Probed}
+use Rattle.rht_chain.specs.Relink.{RelinkModel, relink_plan_at, relink_after}
+use Rattle.rht_chain.specs.declared.relink.RelinkAt.{RelinkAt}
+use Rattle.rht_chain.specs.declared.relink.RelinkAt.TheVariants as relinks
+use Rattle.rht_chain.specs.declared.locked.Unlock.{Unlock}
+use Rattle.rht_release.specs.declared.found_port.FoundPort.{FoundPort}
+use Rattle.rht_release.specs.declared.seek.SeekAt.{SeekAt}
+use Rattle.rht_release.specs.declared.seek.SeekAt.TheVariants as seeks
+use Rattle.rht_release.specs.Seek.{SeekModel, seek_plan_at, seek_after, bucket_or_none, located, found_or_future, probed, left, IsSeekAtIn}
+use Rattle.rht_release.specs.declared.release.ReleaseAt.{ReleaseAt}
+use Rattle.rht_release.specs.declared.release.ReleaseAt.TheVariants as at
+use Rattle.rht_release.specs.Release.{plan_at, after_at, sought, owner_compared, list_followed, cut_or_chain, unlink_or_promote, promoted, unlinked, removed_reply, kicks, IsReleaseAtIn}
+use Rattle.rht_move.specs.Choice.{is_sparse}
+use Rattle.rht_core.specs.Traces.{Did}
+use Rattle.rht_core.specs.Seen.{IsNoShapeLoad, LastWalked}
+use Rattle.rht_core.specs.Causes.{IsLowering, IsSparseBy, KicksOnRelease}
+use Rattle.rht_core.proofs.Reasons.TablesWalked.{IsAside, aside, elsewhere, node_loads, probe_loads, relink_stores, Walked, Walked-push, WalkedAt, WalkedNext, same_table, locate-walked}
+
+-- ---- which operations lower a count
+
+-- the operation takes nothing off a word
+abbrev IsNoSub : Op → Type 0
+IsNoSub op = (place value : ℕ) → op ≢ Sub place value
+
+locate-none : (h : Geometry) (slot : ℕ) (state : LocateAt) → IsNoSub (locate_plan_at h slot state)
+locate-none h slot locates.Shape place value is = cc
+locate-none h slot (locates.Seed shape) place value is = cc
+
+lock-none : (place : ℕ) (state : LockAt) → IsNoSub (lock_plan_at place state)
+lock-none bucket locks.Word place value is = cc
+lock-none bucket (locks.Exchange word) place value is = cc
+
+walk-none : (h : Geometry) (state : LockedWalkAt) → IsNoSub (walk_plan_at h state)
+walk-none h (walks.Key node) place value is = cc
+walk-none h (walks.ChainLink node) place value is = cc
+
+probe-none : (state : ProbeAt) → IsNoSub (probe_plan_at state)
+probe-none (probes.Locking lock) = lock-none lock.place lock.at
+probe-none (probes.Walking bucket walk) = walk-none walk.geometry walk.at
+
+relink-none : (m : RelinkModel) (state : RelinkAt) → IsNoSub (relink_plan_at m state)
+relink-none m (relinks.ChainLink before) place value is = cc
+relink-none m (relinks.Word word) place value is = cc
+
+seek-none : (g : Geometry) (state : SeekAt) → IsNoSub (seek_plan_at g state)
+seek-none g seeks.CurrentTable place value is = cc
+seek-none g (seeks.Locating locate) place value is = locate-none locate.geometry locate.table locate.at place value is
+seek-none g (seeks.Probing table shape probe) place value is = probe-none probe.at place value is
+seek-none g (seeks.Future table bucket) place value is = cc
+seek-none g (seeks.Leaving table unlock future) place value is = cc
+
+module _ (env : Env) where
+  -- the operation doesn't lower the count of ports
+  abbrev pub IsNoLowering : Did → Type 0
+  IsNoLowering did = IsLowering env.geometry did → ⊥
+
+  no_sub : (did : Did) (op : Op) → did.op ≡ op → IsNoSub op → IsNoLowering did
+  no_sub did op is none lowers = none (place_of env.geometry PortCount) 1 (sym is ∙ lowers)
+
+  -- ---- what a release has seen
+
+  -- the last table that it walked
+  pub record WalkedSome (steps : List Did) : Type 0 where
+    pub table : ℕ
+    pub shape : ℕ
+    pub walked : Walked env.geometry table shape steps
+
+  abbrev SawSeek : SeekAt → List Did → Type 0
+  SawSeek seeks.CurrentTable steps = Unit {0}
+  SawSeek (seeks.Locating locate) steps = WalkedAt env.geometry locate.table locate.at steps
+  SawSeek (seeks.Probing table shape probe) steps = Walked env.geometry table shape steps
+  SawSeek (seeks.Future table bucket) steps = Unit {0}
+  SawSeek (seeks.Leaving table unlock future) steps = Unit {0}
+
+  abbrev InFound : FoundPort → List Did → Type 0
+  InFound found steps = Walked env.geometry found.table found.shape steps
+
+  -- where a node was taken out
+  abbrev SawRemoved : Option ℕ → List Did → Type 0
+  SawRemoved None steps = Unit {0}
+  SawRemoved (Some node) steps = WalkedSome steps
+
+  -- the last table walked has this shape
+  pub record WalkedShape (shape : ℕ) (steps : List Did) : Type 0 where
+    pub table : ℕ
+    pub walked : Walked env.geometry table shape steps
+
+  abbrev SawAtRelease : ReleaseAt → List Did → Type 0
+  SawAtRelease (at.Seeking seek) steps = SawSeek seek.at steps
+  SawAtRelease (at.Owner found node before) steps = InFound found steps
+  SawAtRelease (at.ListLink found node) steps = InFound found steps
+  SawAtRelease (at.LinkBehind found node before) steps = InFound found steps
+  SawAtRelease (at.CuttingOut found node before link) steps = InFound found steps
+  SawAtRelease (at.ChainLink found second) steps = InFound found steps
+  SawAtRelease (at.SecondLink found second link) steps = InFound found steps
+  SawAtRelease (at.Promoting found relink) steps = InFound found steps
+  SawAtRelease (at.Unlinking found relink) steps = InFound found steps
+  SawAtRelease (at.Lowering node shape) steps = WalkedShape shape steps
+  SawAtRelease (at.Unlocking table unlock removed) steps = SawRemoved removed steps
+
+  -- so far it has lowered no count
+  abbrev pub SawRelease : ReleaseAt → List Did → Type 0
+  SawRelease state steps = SawAtRelease state steps × AllByRecursion IsNoLowering steps
+
+  -- It lowered the count with its last operation, and by this the table that it walked last is due to shrink or isn't; or it lowered
+  -- none, and there is nothing to do.
+  pub record SawKick (kick : Bool) (steps : List Did) : Type 0 where
+    pub before : List Did
+    pub last : Did
+    pub split : steps ≡ before ++ last ∷ []
+    pub unlowered : AllByRecursion IsNoLowering before
+    pub table : ℕ
+    pub shape : ℕ
+    pub walked : LastWalked env.geometry table shape before
+    pub still : IsAside env.geometry last
+    pub last_says : (IsLowering env.geometry last × (kick ≡ kicks env shape last.old)) ⊎ (IsNoLowering last × (kick ≡ false))
+
+  abbrev pub SawForRelease : Reply → List Did → Type 0
+  SawForRelease (Released kick) steps = SawKick kick steps
+  SawForRelease _ steps = Unit {0}
+
+  abbrev SawNextRelease : List Did → ReleaseAt × Next (Reply × Option ℕ) → Type 0
+  SawNextRelease all next = GoesOrEnds (λ state. SawAtRelease state all) (λ end. SawForRelease end.0 all) next
+
+  -- ---- the way to the port
+
+  place-saw : (mix : ℕ → ℕ → ℕ → ℕ) (g : Geometry) (port : ℕ) (locate : LocateModel) (shape : ℕ) (place : Option ℕ) (h : Geometry) (all : List Did)
+      → Walked env.geometry locate.table shape all
+      → let next = bucket_or_none g port locate shape place in
+      SawNextRelease all (sought (record { geometry = h; at = next.0 }) next.1)
+  place-saw mix g port locate shape None h all walked = tt
+  place-saw mix g port locate shape (Some place) h all walked = walked
+
+  located-saw : (mix : ℕ → ℕ → ℕ → ℕ) (g : Geometry) (port : ℕ) (table : ℕ) (locate : LocateModel) (end : Next Located) (h : Geometry) (all : List Did)
+      → locate.table ≡ table → WalkedNext env.geometry table (locate, end) all
+      → let next = located g port locate end in
+      SawNextRelease all (sought (record { geometry = h; at = next.0 }) next.1)
+  located-saw mix g port table locate Go h all same walked =
+      subst (λ t. WalkedAt env.geometry t locate.at all) (sym same) walked
+  located-saw mix g port table locate (Done there) h all same walked =
+      place-saw mix g port locate there.shape there.place h all
+      (subst (λ t. Walked env.geometry t there.shape all) (sym same) walked)
+
+  seen-saw : (table shape : ℕ) (probe : ProbeModel) (end : Probed) (found : Option ℕ) (h : Geometry) (all : List Did)
+      → Walked env.geometry table shape all
+      → let next = found_or_future table shape probe end found in
+      SawNextRelease all (sought (record { geometry = h; at = next.0 }) next.1)
+  seen-saw table shape probe end None h all walked = tt
+  seen-saw table shape probe end (Some node) h all walked = walked
+
+  probed-saw : (table shape : ℕ) (probe : ProbeModel) (end : Next Probed) (h : Geometry) (all : List Did)
+      → Walked env.geometry table shape all
+      → let next = probed table shape probe end in
+      SawNextRelease all (sought (record { geometry = h; at = next.0 }) next.1)
+  probed-saw table shape probe Go h all walked = walked
+  probed-saw table shape probe (Done end) h all walked = seen-saw table shape probe end end.seen.found h all walked
+
+  left-saw : (g : Geometry) (table : ℕ) (unlock : Unlock) (future : Option ℕ) (h : Geometry) (all : List Did)
+      → let next = left g table unlock future in
+      SawNextRelease all (sought (record { geometry = h; at = next.0 }) next.1)
+  left-saw g table unlock None h all = tt
+  left-saw g table unlock (Some future) h all = tt
+
+  seek-saw : (mix : ℕ → ℕ → ℕ → ℕ) (port : ℕ) (h : Geometry) (state : SeekAt) (steps : List Did) (did : Did)
+      → IsSeekAtIn env.geometry state → did.op ≡ seek_plan_at h state → SawSeek state steps
+      → let next = seek_after mix port (record { geometry = h; at = state }) did.old in
+      SawNextRelease (steps ++ did ∷ []) (sought next.0 next.1)
+  seek-saw mix port h seeks.CurrentTable steps did within is saw = tt
+  seek-saw mix port h (seeks.Locating locate) steps did within is saw =
+      let next = locate_after mix port locate did.old in
+      located-saw mix h port locate.table next.0 next.1 h (steps ++ did ∷ [])
+      (same_table env.geometry mix port locate locate.at did.old)
+      (locate-walked env.geometry mix port locate locate.at steps did within.table_in is saw)
+  seek-saw mix port h (seeks.Probing table shape probe) steps did within is saw =
+      probed-saw table shape (probe_after probe did.old).0 (probe_after probe did.old).1 h (steps ++ did ∷ [])
+      (Walked-push env.geometry table shape steps did
+      (probe_loads env.geometry did probe.at within.probe_in.at_in is) saw)
+  seek-saw mix port h (seeks.Future table bucket) steps did within is saw = tt
+  seek-saw mix port h (seeks.Leaving table unlock future) steps did within is saw =
+      left-saw h table unlock future h (steps ++ did ∷ [])
+
+  -- ---- in the port's list
+
+  compared-saw : (found : FoundPort) (node : ℕ) (before : Option ℕ) (equal : Bool) (all : List Did) → InFound found all
+      → SawAtRelease (owner_compared found node before equal) all
+  compared-saw found node before true all walked = walked
+  compared-saw found node before false all walked = walked
+
+  followed-saw : (found : FoundPort) (node : ℕ) (next : Option ℕ) (all : List Did) → InFound found all
+      → SawAtRelease (list_followed found node next) all
+  followed-saw found node None all walked = tt
+  followed-saw found node (Some next) all walked = walked
+
+  behind-saw : (found : FoundPort) (node link : ℕ) (before : Option ℕ) (all : List Did) → InFound found all
+      → SawAtRelease (cut_or_chain env.geometry found node link before) all
+  behind-saw found node link None all walked = walked
+  behind-saw found node link (Some before) all walked = walked
+
+  second-saw : (found : FoundPort) (link : ℕ) (second : Option ℕ) (all : List Did) → InFound found all
+      → SawAtRelease (unlink_or_promote env.geometry found link second) all
+  second-saw found link None all walked = walked
+  second-saw found link (Some second) all walked = walked
+
+  -- a release that lowers no count ends with this operation
+  ended-saw : (table shape : ℕ) (steps : List Did) (did : Did) → Walked env.geometry table shape steps → IsAside env.geometry did
+      → AllByRecursion IsNoLowering steps → IsNoLowering did → SawKick false (steps ++ did ∷ [])
+  ended-saw table shape steps did walked still unlowered none = record {
+    before = steps;
+    last = did;
+    split = refl;
+    unlowered = unlowered;
+    table = table;
+    shape = shape;
+    walked = walked.last;
+    still = still;
+    last_says = inr (none, refl);
+  }
+
+  promoted-saw : (found : FoundPort) (relink : RelinkModel) (next : Next (Unit {0})) (steps : List Did) (did : Did)
+      → InFound found steps → IsAside env.geometry did → AllByRecursion IsNoLowering steps → IsNoLowering did
+      → SawNextRelease (steps ++ did ∷ []) (promoted found relink next)
+  promoted-saw found relink Go steps did walked still unlowered none =
+      Walked-push env.geometry found.table found.shape steps did still walked
+  promoted-saw found relink (Done done) steps did walked still unlowered none =
+      ended-saw found.table found.shape steps did walked still unlowered none
+
+  unlinked-saw : (found : FoundPort) (relink : RelinkModel) (next : Next (Unit {0})) (all : List Did) → InFound found all
+      → SawAtRelease (unlinked found relink next) all
+  unlinked-saw found relink Go all walked = walked
+  unlinked-saw found relink (Done done) all walked = record { table = found.table; walked = walked }
+
+  unlocked-saw : (removed : Option ℕ) (steps : List Did) (did : Did) → SawRemoved removed steps → IsAside env.geometry did
+      → AllByRecursion IsNoLowering steps → IsNoLowering did
+      → SawForRelease (removed_reply removed) (steps ++ did ∷ [])
+  unlocked-saw None steps did saw still unlowered none = tt
+  unlocked-saw (Some node) steps did saw still unlowered none =
+      ended-saw saw.table saw.shape steps did saw.walked still unlowered none
+
+  -- ---- all states
+
+  -- a store tells nothing of the last table
+  stores : (did : Did) (place value : ℕ) → did.op ≡ Store place value → IsAside env.geometry did
+  stores did place value is = aside env.geometry did _ is (λ other load. cc) (λ other by adds. cc)
+
+  -- what the operation showed, and that it lowered no count
+  both : (next : ReleaseAt × Next (Reply × Option ℕ)) (all : List Did) → SawNextRelease all next
+      → AllByRecursion IsNoLowering all
+      → GoesOrEnds (λ state. SawRelease state all) (λ end. SawForRelease end.0 all) next
+  both (state, Go) all saw none = (saw, none)
+  both (state, Done end) all saw none = saw
+
+  pub release-saw : (mix : ℕ → ℕ → ℕ → ℕ) (port owner : ℕ) (state : ReleaseAt) (steps : List Did) (did : Did)
+      → IsReleaseAtIn env state → did.op ≡ plan_at env state → SawRelease state steps
+      → GoesOrEnds (λ next. SawRelease next (steps ++ did ∷ [])) (λ end. SawForRelease end.0 (steps ++ did ∷ []))
+      (after_at mix env port owner state did.old)
+  release-saw mix port owner (at.Seeking seek) steps did within is saw =
+      let all = steps ++ did ∷ [] in
+      let next = seek_after mix port seek did.old in
+      both (sought next.0 next.1) all (seek-saw mix port seek.geometry seek.at steps did within.at_in is saw.0)
+      (AllByRecursion-push IsNoLowering steps did saw.1 (no_sub did _ is (seek-none seek.geometry seek.at)))
+  release-saw mix port owner (at.Owner found node before) steps did within is saw = (
+    compared-saw found node before (owner_of did.old == owner) (steps ++ did ∷ [])
+        (Walked-push env.geometry found.table found.shape steps did (node_loads env.geometry did env.geometry node OwnerWord is) saw.0),
+    AllByRecursion-push IsNoLowering steps did saw.1 (no_sub did _ is (λ place value same. cc)),
+  )
+  release-saw mix port owner (at.ListLink found node) steps did within is saw = (
+    followed-saw found node (node_of env.geometry.nodes did.old) (steps ++ did ∷ [])
+        (Walked-push env.geometry found.table found.shape steps did (node_loads env.geometry did env.geometry node ListLink is) saw.0),
+    AllByRecursion-push IsNoLowering steps did saw.1 (no_sub did _ is (λ place value same. cc)),
+  )
+  release-saw mix port owner (at.LinkBehind found node before) steps did within is saw = (
+    behind-saw found node did.old before (steps ++ did ∷ [])
+        (Walked-push env.geometry found.table found.shape steps did (node_loads env.geometry did env.geometry node ListLink is) saw.0),
+    AllByRecursion-push IsNoLowering steps did saw.1 (no_sub did _ is (λ place value same. cc)),
+  )
+  release-saw mix port owner (at.CuttingOut found node before link) steps did within is saw = (
+    record {
+      table = found.table;
+      shape = found.shape;
+      walked = Walked-push env.geometry found.table found.shape steps did (stores did _ _ is) saw.0;
+    },
+    AllByRecursion-push IsNoLowering steps did saw.1 (no_sub did _ is (λ place value same. cc)),
+  )
+  release-saw mix port owner (at.ChainLink found second) steps did within is saw = (
+    second-saw found did.old second (steps ++ did ∷ [])
+        (Walked-push env.geometry found.table found.shape steps did
+        (node_loads env.geometry did env.geometry found.node ChainLink is) saw.0),
+    AllByRecursion-push IsNoLowering steps did saw.1 (no_sub did _ is (λ place value same. cc)),
+  )
+  release-saw mix port owner (at.SecondLink found second link) steps did within is saw = (
+    Walked-push env.geometry found.table found.shape steps did (stores did _ _ is) saw.0,
+    AllByRecursion-push IsNoLowering steps did saw.1 (no_sub did _ is (λ place value same. cc)),
+  )
+  release-saw mix port owner (at.Promoting found relink) steps did within is saw =
+      let still = relink_stores env.geometry did relink relink.at is in
+      let none = no_sub did _ is (relink-none relink relink.at) in
+      let next = relink_after relink in
+      both (promoted found next.0 next.1) (steps ++ did ∷ []) (promoted-saw found next.0 next.1 steps did saw.0 still saw.1 none)
+      (AllByRecursion-push IsNoLowering steps did saw.1 none)
+  release-saw mix port owner (at.Unlinking found relink) steps did within is saw = (
+    unlinked-saw found (relink_after relink).0 (relink_after relink).1 (steps ++ did ∷ [])
+        (Walked-push env.geometry found.table found.shape steps did (relink_stores env.geometry did relink relink.at is) saw.0),
+    AllByRecursion-push IsNoLowering steps did saw.1 (no_sub did _ is (relink-none relink relink.at)),
+  )
+  release-saw mix port owner (at.Lowering node shape) steps did within is saw = record {
+    before = steps;
+    last = did;
+    split = refl;
+    unlowered = saw.1;
+    table = saw.0.table;
+    shape = shape;
+    walked = saw.0.walked.last;
+    still = aside env.geometry did _ is (λ place load. cc) (λ place value adds. cc);
+    last_says = inl (is, refl);
+  }
+  release-saw mix port owner (at.Unlocking table unlock removed) steps did within is saw =
+      unlocked-saw removed steps did saw.0 (stores did _ _ is) saw.1 (no_sub did _ is (λ place value same. cc))
+
+  -- ---- the kick
+
+  -- no clamp of the count has changed whether the table is due to shrink
+  unclamped : (shape old : ℕ) → old ≤ env.geometry.nodes
+      → kicks env shape old ≡ is_sparse env (old - 1) (size_of (unpacked shape))
+  unclamped shape old few =
+      let most = env.geometry.within.nodes_within.1 in
+      let same : min (old - 1) 65536 ≡ old - 1 = omega (arith, few, most) in
+      ap (λ count. is_sparse env count (size_of (unpacked shape))) same
+
+  -- a release kicks exactly where it lowered the count, and by this the table is due to shrink
+  pub kicks_right : (kick : Bool) (steps : List Did) → (saw : SawKick kick steps)
+      → (IsLowering env.geometry saw.last → saw.last.old ≤ env.geometry.nodes)
+      → KicksOnRelease env kick steps
+  kicks_right kick steps saw few =
+      let was = saw.walked in
+      let last = saw.last in
+      let parts = AllByRecursion-cut IsNoLowering was.before (was.at ∷ was.behind) (subst (AllByRecursion IsNoLowering) was.split saw.unlowered) in
+      let each = AllByRecursion-push Kicked was.behind last (unlowered was.behind parts.1.1) (by_last saw.last_says few) in
+      record {
+        table = saw.table;
+        shape = saw.shape;
+        walked = record {
+          before = was.before;
+          at = was.at;
+          behind = was.behind ++ last ∷ [];
+          split = saw.split ∙ ap (λ l. l ++ last ∷ []) was.split ∙ append_assoc was.before (was.at ∷ was.behind) (last ∷ []);
+          table_in = was.table_in;
+          loaded = was.loaded;
+          found = was.found;
+          last = AllByRecursion-push (IsNoShapeLoad env.geometry) was.behind last was.last saw.still.no_shape;
+        };
+        kicks = (
+          λ is. Any-push (IsSparseBy env saw.shape) was.behind last (due saw.last_says few is),
+          λ any. from_any (was.behind ++ last ∷ []) each any,
+        );
+      }
+    where
+      Kicked : Did → Type 0
+      Kicked did = IsSparseBy env saw.shape did → kick ≡ true
+
+      unlowered : (dids : List Did) → AllByRecursion IsNoLowering dids → AllByRecursion Kicked dids
+      unlowered [] none = tt
+      unlowered (did ∷ dids) none = ((λ sparse. absurd (none.0 sparse.lowered)), unlowered dids none.1)
+
+      by_last : (IsLowering env.geometry saw.last × (kick ≡ kicks env saw.shape saw.last.old)) ⊎ (IsNoLowering saw.last × (kick ≡ false))
+          → (IsLowering env.geometry saw.last → saw.last.old ≤ env.geometry.nodes) → Kicked saw.last
+      by_last (inl (lowers, says)) few sparse = says ∙ unclamped saw.shape saw.last.old (few lowers) ∙ sparse.due
+      by_last (inr (none, says)) few sparse = absurd (none sparse.lowered)
+
+      due : (IsLowering env.geometry saw.last × (kick ≡ kicks env saw.shape saw.last.old)) ⊎ (IsNoLowering saw.last × (kick ≡ false))
+          → (IsLowering env.geometry saw.last → saw.last.old ≤ env.geometry.nodes) → kick ≡ true
+          → IsSparseBy env saw.shape saw.last
+      due (inl (lowers, says)) few is = record {
+        lowered = lowers;
+        due = sym (unclamped saw.shape saw.last.old (few lowers)) ∙ sym says ∙ is;
+      }
+      due (inr (none, says)) few is = absurd (let both : true ≡ false = sym is ∙ says in cc)
+
+      from_any : (dids : List Did) → AllByRecursion Kicked dids → Any (IsSparseBy env saw.shape) dids → kick ≡ true
+      from_any dids each (k, did, within, at_k, sparse) =
+          subst Kicked at_k (All-from_recursion Kicked dids each k did within) sparse
