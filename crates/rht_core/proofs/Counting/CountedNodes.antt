@@ -145,12 +145,12 @@ module _ (env : Env) (mix : ℕ → ℕ → ℕ → ℕ) (M : Type 0) where
   found_few : (events : List Event) (c : ℕ) (did : Did) (op : Op) → IsAdmitted env.config.kind events → did.op ≡ op
       → ((words : List ℕ) → old_of words op ≡ word_at env.geometry words PortCount)
       → IsRecorded M mix env events c did → did.old ≤ env.geometry.nodes
-  found_few events c did op admitted same finds is =
+  found_few events c did op admitted same reads is =
       let before = take did.index events in
       let core : Core M = (run_of mix env before).core in
       let has = has_inv env mix M before (taken (IsAdmittedEvent env.config.kind) did.index events admitted) in
       let found : did.old ≡ word_at env.geometry core.words PortCount =
-      sym is.found ∙ ap (old_of core.words) same ∙ finds core.words in
+      sym is.found ∙ ap (old_of core.words) same ∙ reads core.words in
       let few = count_few core has.ghost has.inv in
       omega (arith, found, few)
 
