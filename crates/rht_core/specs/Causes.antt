@@ -151,11 +151,12 @@ pub record IsSparseBy (env : Env) (shape : ℕ) (did : Did) : Type 0 where
   pub due : is_sparse env (did.old - 1) (size_of (unpacked shape)) ≡ true
 
 -- A release says that there is something to do for `work` exactly where, behind the last table that it walked, it lowered the count
--- and that table is due to shrink by this.
+-- and that table is due to shrink by this. It has lowered none before.
 pub record KicksOnRelease (env : Env) (kick : Bool) (steps : List Did) : Type 0 where
   pub table : ℕ
   pub shape : ℕ
   pub walked : LastWalked env.geometry table shape steps
+  pub unlowered : AllByRecursion (λ did. IsLowering env.geometry did → ⊥) walked.before
   pub kicks : (kick ≡ true) ↔ Any (IsSparseBy env shape) walked.behind
 
 -- why a release ended with this reply: its kick has a cause, and its other answer has nothing to show

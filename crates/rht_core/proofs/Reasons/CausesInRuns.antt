@@ -893,7 +893,7 @@ module _ (M : Type 0) (mix : ℕ → ℕ → ℕ → ℕ) (env : Env) where
   job-leads (releases port owner state) steps did performs saw =
       let next = release.after_at mix env port owner state did.old in
       next-leads (releases port owner state) (releases port owner) node_ending (steps ++ did ∷ []) next
-      (release-saw env mix port owner state steps did performs.within.at_in performs.planned saw)
+      (release-saw env mix port owner state steps did performs.within performs.planned saw)
   job-leads (rebinds port owner new state) steps did performs saw =
       next-leads (rebinds port owner new state) (rebinds port owner new) node_ending (steps ++ did ∷ [])
       (rebind.after_at mix env port owner state did.old)

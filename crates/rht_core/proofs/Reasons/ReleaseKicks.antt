@@ -368,7 +368,7 @@ module _ (env : Env) where
       let was = saw.walked in
       let last = saw.last in
       let parts = AllByRecursion-cut IsNoLowering was.before (was.at ∷ was.behind) (subst (AllByRecursion IsNoLowering) was.split saw.unlowered) in
-      let each = AllByRecursion-push Kicked was.behind last (unlowered was.behind parts.1.1) (by_last saw.last_says few) in
+      let each = AllByRecursion-push Kicked was.behind last (none_kicked was.behind parts.1.1) (by_last saw.last_says few) in
       record {
         table = saw.table;
         shape = saw.shape;
@@ -382,6 +382,7 @@ module _ (env : Env) where
           found = was.found;
           last = AllByRecursion-push (IsNoShapeLoad env.geometry) was.behind last was.last saw.still.no_shape;
         };
+        unlowered = parts.0;
         kicks = (
           λ is. Any-push (IsSparseBy env saw.shape) was.behind last (due saw.last_says few is),
           λ any. from_any (was.behind ++ last ∷ []) each any,
@@ -391,9 +392,9 @@ module _ (env : Env) where
       Kicked : Did → Type 0
       Kicked did = IsSparseBy env saw.shape did → kick ≡ true
 
-      unlowered : (dids : List Did) → AllByRecursion IsNoLowering dids → AllByRecursion Kicked dids
-      unlowered [] none = tt
-      unlowered (did ∷ dids) none = ((λ sparse. absurd (none.0 sparse.lowered)), unlowered dids none.1)
+      none_kicked : (dids : List Did) → AllByRecursion IsNoLowering dids → AllByRecursion Kicked dids
+      none_kicked [] none = tt
+      none_kicked (did ∷ dids) none = ((λ sparse. absurd (none.0 sparse.lowered)), none_kicked dids none.1)
 
       by_last : (IsLowering env.geometry saw.last × (kick ≡ kicks env saw.shape saw.last.old)) ⊎ (IsNoLowering saw.last × (kick ≡ false))
           → (IsLowering env.geometry saw.last → saw.last.old ≤ env.geometry.nodes) → Kicked saw.last
