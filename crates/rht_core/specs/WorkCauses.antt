@@ -1,6 +1,6 @@
 -- Why a resizing was answered as it was: what its operations show of that.
 -- Every address that a row names is one of the table's words, since places alone don't tell it from a word that isn't there.
-use Rattle.std.specs.Prelude.{◌≡◌, ◌≢◌, ◌↔◌, ⊥, ℕ, ◌*◌, ◌+◌, ◌<◌, ◌==◌, ◌⊎◌, Bool, true, List, [], ◌∷◌, ◌++◌, map, Some, None}
+use Rattle.std.specs.Prelude.{◌≡◌, ◌≢◌, ◌↔◌, ℕ, ◌*◌, ◌+◌, ◌<◌, ◌==◌, ◌⊎◌, Bool, true, List, [], ◌∷◌, ◌++◌, map, Some, None}
 use Rattle.std.specs.List.{AllByRecursion, Any}
 use Rattle.rht_words.specs.declared.op.Op.TheVariants.{Store, Exchange}
 use Rattle.rht_words.specs.declared.env.Env.{Env}
