@@ -1,6 +1,6 @@
 -- While no other caller is in a call, nothing but this one's own operations and the enrolling of callers changes words. So a word
--- that the operations of one of its calls leave as it is stays the same from the first of them up to the end of the call.
--- By induction from the end back, event by event: an enrolling changes the word of the enrolled callers alone, a beginning none, a
+-- that the operations of one of its calls leave from one event of the call up to another is behind these events what it was before.
+-- By induction over the events from the last one back: an enrolling changes the word of the enrolled callers alone, a beginning none, a
 -- step of a caller in no call none, and one of the caller itself is one of the call.
 use Rattle.std.proofs.Common.{◌≡◌, ◌≢◌, ◌⊎◌, ℕ, zero, suc, ◌+◌, ◌-◌, ◌<◌, ◌≤◌, Bool, true, false, cond, nat_lt, List, [], ◌∷◌, ◌++◌, length, take, get_or, refl, sym, ap, ◌∙◌, subst, inl, inr, arith}
 use Rattle.std.specs.Prelude.{Option, Some, None}
@@ -10,18 +10,18 @@ use Rattle.std.proofs.lemmas.List.Elements.{All-contains, All-from_recursion, Co
 use Rattle.std.proofs.lemmas.Option.{slice_get_within, slice_get-get_or, get_or_from_slice_get}
 use Rattle.std.proofs.Math.Seq.{take-suc}
 use Rattle.rht_words.specs.declared.op.Op.{Op}
-use Rattle.rht_words.specs.declared.op.Op.TheVariants.{Load}
+use Rattle.rht_words.specs.declared.op.Op.TheVariants.{Store}
 use Rattle.rht_words.specs.declared.env.Env.{Env}
 use Rattle.rht_words.specs.Operations.{op_place, old_of, word_after, applied}
 use Rattle.rht_words.specs.Places.{Address, EnrolledCallers, IsAddress, place_of, word_at}
-use Rattle.rht_words.proofs.PlacesApart.{place_of-apart}
-use Rattle.rht_words.proofs.WordChanges.{applied-other}
+use Rattle.rht_words.proofs.PlacesApart.{place_of-apart, place_of-below}
+use Rattle.rht_words.proofs.WordChanges.{applied-same, applied-other}
 use Rattle.rht_core.specs.declared.event.Event.{Event}
 use Rattle.rht_core.specs.declared.event.Event.TheVariants.{Enroll, Begin, Step}
 use Rattle.rht_core.specs.declared.local.Local.{Local}
 use Rattle.rht_core.specs.Locals.{is_idle, plan_of, local_after}
 use Rattle.rht_core.specs.Runs.{Core, World, View, local_of, planned_in, with_step, enrolling, world_step, run_of, IsAdmitted}
-use Rattle.rht_core.specs.Traces.{Did, Past, traced_of, behind_steps, behind_call}
+use Rattle.rht_core.specs.Traces.{Did, Past, traced_of, IsRising, behind_steps, behind_call}
 use Rattle.rht_core.specs.Laws.{IsRecorded, IsPastCall}
 use Rattle.rht_core.specs.ResizeCauses.{Loaded}
 use Rattle.rht_core.specs.Worked.{IsAloneDuring}
@@ -65,17 +65,21 @@ module _ (M : Type 0) (mix : ℕ → ℕ → ℕ → ℕ) (env : Env) (events : 
       All-contains (IsRecorded M mix env events c) past.steps did
       (All-from_recursion (IsRecorded M mix env events c) past.steps past_call.steps) there
 
-  -- its operations lie between its beginning and its end
-  steps_within : (did : Did) → Contains past.steps did
-      → (past.begin + 1 ≤ did.index) × (did.index < behind_call past)
-  steps_within did there =
+  -- its operations are in order
+  pub steps_rising : IsRising (past.begin + 1) past.steps
+  steps_rising =
       let order = at_events M mix env events admitted c in
       let (number, within, is) = ended in
       let calls = ((traced_of {M = M} mix env events).traces c).past in
-      let rising = (call_in_order 0 calls number past order.in_order (slice_get-get_or calls number past within ∙ ap Some is)).rising in
+      (call_in_order 0 calls number past order.in_order (slice_get-get_or calls number past within ∙ ap Some is)).rising
+
+  -- and lie between its beginning and its end
+  steps_within : (did : Did) → Contains past.steps did
+      → (past.begin + 1 ≤ did.index) × (did.index < behind_call past)
+  steps_within did there =
       let P = λ (d : Did). (past.begin + 1 ≤ d.index) × (d.index < behind_call past) in
       All-contains P past.steps did
-      (All-from_recursion P past.steps (rising-within (past.begin + 1) past.steps rising)) there
+      (All-from_recursion P past.steps (rising-within (past.begin + 1) past.steps steps_rising)) there
 
   -- the last of them, which answered it, is the event before its end
   ends_at : past_call.answered.last.index + 1 ≡ behind_call past
@@ -128,25 +132,36 @@ module _ (M : Type 0) (mix : ℕ → ℕ → ℕ → ℕ) (env : Env) (events : 
       (ap (λ (v : World M). is_idle (local_of v.core c)) (behind-suc last.index (Step c) recorded.event)
       ∙ ap is_idle now ∙ ended)
 
-  module _ (place : ℕ) (spared : AllByRecursion (Spares place) past.steps)
-      (apart : place ≢ place_of env.geometry EnrolledCallers) where
-    -- the word at the place behind so many events
-    abbrev word : ℕ → ℕ
-    word n = get_or (behind n).core.words place 0
+  -- the word at a place behind so many events
+  abbrev word : ℕ → ℕ → ℕ
+  word place n = get_or (behind n).core.words place 0
 
-    -- a step of the caller itself is one of the call
-    step_own : (n : ℕ) (op : Option Op) → slice_get events n ≡ Some (Step c) → past.begin < n → n < behind_call past
+  -- the operation leaves the word at this place, if its event is among these
+  abbrev pub SparesWithin : ℕ → ℕ → ℕ → Did → Type 0
+  SparesWithin place from to did = from ≤ did.index → did.index < to → Spares place did
+
+  module _ (place from to : ℕ) (low : past.begin ≤ from) (high : to ≤ behind_call past)
+      (spared : AllByRecursion (SparesWithin place from to) past.steps)
+      (apart : place ≢ place_of env.geometry EnrolledCallers) where
+    -- a step of the caller itself is one of the call, which began with no step
+    step_own : (n : ℕ) (op : Option Op) → slice_get events n ≡ Some (Step c) → from ≤ n → n < to
         → planned_in (behind n).core c ≡ op
-        → get_or (world_step mix (behind n) (Step c)).core.words place 0 ≡ word n
-    step_own n None is low high none =
+        → get_or (world_step mix (behind n) (Step c)).core.words place 0 ≡ word place n
+    step_own n None is first last none =
         ap (λ (w : World M). get_or w.core.words place 0) (step_none M mix (behind n) c none)
-    step_own n (Some op) is low high plan =
-        let did : Did = record { index = n; op = op; old = old_of (behind n).core.words op } in
-        let there = stands_within M mix env events c admitted past did ended
-        (record { event = is; plan = plan; found = refl }) low high in
-        ap (λ words. get_or words place 0) (step_words M mix (behind n) c op plan)
-        ∙ spared_word (behind n).core.words place did refl
-        (All-contains (Spares place) past.steps did (All-from_recursion (Spares place) past.steps spared) there)
+    step_own n (Some op) is first last plan = elim (cases_eq n past.begin) [
+      | inl same ↦
+          let both : Some (Step c) ≡ Some (Begin c past.done.call) = sym is ∙ ap (slice_get events) same ∙ past_call.began in
+          absurd (cc)
+      | inr later ↦
+          let did : Did = record { index = n; op = op; old = old_of (behind n).core.words op } in
+          let there = stands_within M mix env events c admitted past did ended
+          (record { event = is; plan = plan; found = refl }) (omega (arith, low, first, later)) (omega (arith, last, high)) in
+          ap (λ words. get_or words place 0) (step_words M mix (behind n) c op plan)
+          ∙ spared_word (behind n).core.words place did refl
+          (All-contains (SparesWithin place from to) past.steps did
+          (All-from_recursion (SparesWithin place from to) past.steps spared) there first last)
+    ]
 
     -- who is in no call performs nothing
     idle_planned : (core : Core M) (d : ℕ) → is_idle (local_of core d) ≡ true → planned_in core d ≡ None
@@ -156,45 +171,86 @@ module _ (M : Type 0) (mix : ℕ → ℕ → ℕ → ℕ) (env : Env) (events : 
         none_either true = refl
         none_either false = refl
 
-    event_leaves : (n : ℕ) (event : Event) → slice_get events n ≡ Some event → past.begin < n → n < behind_call past
-        → get_or (world_step mix (behind n) event).core.words place 0 ≡ word n
-    event_leaves n Enroll is low high =
+    event_leaves : (n : ℕ) (event : Event) → slice_get events n ≡ Some event → from ≤ n → n < to
+        → get_or (world_step mix (behind n) event).core.words place 0 ≡ word place n
+    event_leaves n Enroll is first last =
         applied-other (behind n).core.words (enrolling (behind n).core.env) place apart
-    event_leaves n (Begin d call) is low high = refl
-    event_leaves n (Step d) is low high = elim (cases_eq d c) [
+    event_leaves n (Begin d call) is first last = refl
+    event_leaves n (Step d) is first last = elim (cases_eq d c) [
       | inl same ↦
-          subst (λ k. get_or (world_step mix (behind n) (Step k)).core.words place 0 ≡ word n) (sym same)
-          (step_own n (planned_in (behind n).core c)
-          (is ∙ ap (λ k. Some (Step k)) same) low high refl)
+          subst (λ k. get_or (world_step mix (behind n) (Step k)).core.words place 0 ≡ word place n) (sym same)
+          (step_own n (planned_in (behind n).core c) (is ∙ ap (λ k. Some (Step k)) same) first last refl)
       | inr other ↦
           ap (λ (w : World M). get_or w.core.words place 0)
           (step_none M mix (behind n) d
-          (idle_planned (behind n).core d (alone n d (omega (arith, low)) (omega (arith, high)) other)))
+          (idle_planned (behind n).core d
+          (alone n d (omega (arith, low, first)) (omega (arith, last, high)) other)))
     ]
 
-    -- so the word is at the end of the call what it was
-    pub same_at_end : (left n : ℕ) → n + left ≡ behind_call past → past.begin < n
-        → word n ≡ word (behind_call past)
-    same_at_end zero n is low = ap word (omega (arith, is))
-    same_at_end (suc left) n is low =
-        let within : n < length events = let ends = past-ends M mix env events c past past_call in omega (arith, is, ends) in
+    -- so the word is behind these events what it was before them
+    same_between : (left n : ℕ) → n + left ≡ to → from ≤ n → word place n ≡ word place to
+    same_between zero n is first = ap (word place) (omega (arith, is))
+    same_between (suc left) n is first =
+        let within : n < length events = let ends = past-ends M mix env events c past past_call in omega (arith, is, high, ends) in
         let event = get_or events n Enroll in
         let there = slice_get-get_or events n Enroll within in
-        sym (event_leaves n event there low (omega (arith, is)))
+        sym (event_leaves n event there first (omega (arith, is)))
         ∙ ap (λ (w : World M). get_or w.core.words place 0) (sym (behind-suc n event there))
-        ∙ same_at_end left (suc n) (omega (arith, is)) (omega (arith, low))
+        ∙ same_between left (suc n) (omega (arith, is)) (omega (arith, first))
 
-  -- a word that one of the call's operations loaded, and that they all leave, is at the end of the call what was loaded
+    pub same_over : from ≤ to → word place from ≡ word place to
+    same_over within = same_between (to - from) from (omega (arith, within)) (omega arith)
+
+  -- what an operation loaded is what stood there
+  loaded_there : (address : Address) (value : ℕ) (did : Did) → Contains past.steps did → Loaded env.geometry address value did
+      → word (place_of env.geometry address) did.index ≡ value
+  loaded_there address value did there loaded =
+      sym (ap (old_of (behind did.index).core.words) loaded.word.loads) ∙ (recorded_in did there).found ∙ loaded.found
+
+  not_enrolled : (address : Address) → IsAddress env.geometry address → address ≢ EnrolledCallers
+      → place_of env.geometry address ≢ place_of env.geometry EnrolledCallers
+  not_enrolled address there other same = other (place_of-apart env.geometry address EnrolledCallers there tt same)
+
+  -- a word that one of the call's operations loaded, and that none leaves otherwise from there on, is at the end of the call what was
+  -- loaded
   pub loaded_at_end : (address : Address) (value : ℕ) (did : Did) → Contains past.steps did
       → Loaded env.geometry address value did → address ≢ EnrolledCallers
-      → AllByRecursion (Spares (place_of env.geometry address)) past.steps
+      → AllByRecursion (SparesWithin (place_of env.geometry address) did.index (behind_call past)) past.steps
       → word_at env.geometry (behind (behind_call past)).core.words address ≡ value
   loaded_at_end address value did there loaded other spared =
-      let recorded = recorded_in did there in
-      let place = place_of env.geometry address in
       let within = steps_within did there in
-      let left = behind_call past - did.index in
-      sym (same_at_end place spared
-      (λ same. other (place_of-apart env.geometry address EnrolledCallers loaded.word.there tt same))
-      left did.index (omega (arith, within.1)) (omega (arith, within.0)))
-      ∙ sym (ap (old_of (behind did.index).core.words) loaded.word.loads) ∙ recorded.found ∙ loaded.found
+      sym (same_over (place_of env.geometry address) did.index (behind_call past) (omega (arith, within.0)) (omega arith) spared
+      (not_enrolled address loaded.word.there other) (omega (arith, within.1)))
+      ∙ loaded_there address value did there loaded
+
+  -- and one that none leaves otherwise before is at the beginning what was loaded
+  pub loaded_at_begin : (address : Address) (value : ℕ) (did : Did) → Contains past.steps did
+      → Loaded env.geometry address value did → address ≢ EnrolledCallers
+      → AllByRecursion (SparesWithin (place_of env.geometry address) past.begin did.index) past.steps
+      → word_at env.geometry (behind past.begin).core.words address ≡ value
+  loaded_at_begin address value did there loaded other spared =
+      let within = steps_within did there in
+      same_over (place_of env.geometry address) past.begin did.index (omega arith) (omega (arith, within.1)) spared
+      (not_enrolled address loaded.word.there other) (omega (arith, within.0))
+      ∙ loaded_there address value did there loaded
+
+  -- one that an operation stored, and that none leaves otherwise behind it, is at the end what was stored
+  pub stored_at_end : (address : Address) (value : ℕ) (did : Did) → Contains past.steps did → IsAddress env.geometry address
+      → did.op ≡ Store (place_of env.geometry address) value → address ≢ EnrolledCallers
+      → AllByRecursion (SparesWithin (place_of env.geometry address) (did.index + 1) (behind_call past)) past.steps
+      → word_at env.geometry (behind (behind_call past)).core.words address ≡ value
+  stored_at_end address value did there is_address stores other spared =
+      let within = steps_within did there in
+      let place = place_of env.geometry address in
+      let recorded = recorded_in did there in
+      let w = behind did.index in
+      let inside : place < length w.core.words =
+      let all = (runs-in M mix env (take did.index events)).all_words in
+      let below = place_of-below env.geometry address is_address in omega (arith, all, below) in
+      let words : (behind (suc did.index)).core.words ≡ applied w.core.words (Store place value) =
+      ap (λ (v : World M). v.core.words) (behind-suc did.index (Step c) recorded.event)
+      ∙ step_words M mix w c did.op recorded.plan ∙ ap (applied w.core.words) stores in
+      let next : did.index + 1 ≡ suc did.index = omega arith in
+      sym (same_over place (did.index + 1) (behind_call past) (omega (arith, within.0)) (omega arith) spared
+      (not_enrolled address is_address other) (omega (arith, within.1)))
+      ∙ ap (word place) next ∙ ap (λ ws. get_or ws place 0) words ∙ applied-same w.core.words (Store place value) inside

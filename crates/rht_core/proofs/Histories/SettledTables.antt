@@ -2,7 +2,7 @@
 -- Its operations are loads, but for the two on the work lock. So all words by which it chose are at its end as it loaded them: the
 -- current table, which has no future and so is the only one in force and the last; its shape; and the count, which is that of the ports
 -- bound, since nobody is in a call then.
-use Rattle.std.proofs.Common.{◌≡◌, ◌≢◌, ◌⊎◌, ℕ, suc, ◌+◌, ◌≤◌, ◌==◌, ◌&&◌, Bool, true, false, cond, min, List, [], ◌∷◌, ◌++◌, take, refl, sym, ap, ◌∙◌, subst, inl, inr, arith}
+use Rattle.std.proofs.Common.{◌≡◌, ◌≢◌, ◌⊎◌, ℕ, suc, ◌+◌, ◌<◌, ◌≤◌, ◌==◌, ◌&&◌, Bool, true, false, cond, min, List, [], ◌∷◌, ◌++◌, take, refl, sym, ap, ◌∙◌, subst, inl, inr, arith}
 use Rattle.std.specs.Prelude.{Option, Some, None, if◌then◌else◌}
 use Rattle.std.specs.List.{AllByRecursion, Contains}
 use Rattle.std.proofs.lemmas.Bool.{cases_eq, eq-eqb}
@@ -10,11 +10,12 @@ use Rattle.std.proofs.lemmas.List.Elements.{Contains-append_left, Contains-appen
 use Rattle.rht_words.specs.declared.op.Op.{Op}
 use Rattle.rht_words.specs.declared.op.Op.TheVariants.{Load, Store}
 use Rattle.rht_words.specs.declared.env.Env.{Env}
+use Rattle.rht_words.specs.declared.geometry.Geometry.{Geometry}
 use Rattle.rht_words.specs.Links.{table_of, slot_of}
 use Rattle.rht_words.specs.Operations.{op_place, word_after}
 use Rattle.rht_words.specs.Places.{Address, CurrentTable, WorkLock, PortCount, EnrolledCallers, Slot, ShapeWord, FutureWord, IsAddress, place_of, word_at}
 use Rattle.rht_words.specs.Shapes.{unpacked, size_of}
-use Rattle.rht_words.proofs.EachElement.{AllByRecursion-append}
+use Rattle.rht_words.proofs.EachElement.{AllByRecursion-append, AllByRecursion-weaker}
 use Rattle.rht_words.proofs.PlacesApart.{place_of-apart}
 use Rattle.rht_policy.specs.Sizes.{shrunk_size}
 use Rattle.rht_policy.specs.Thresholds.{is_above_75}
@@ -31,14 +32,15 @@ use Rattle.rht_core.specs.Alone.{IsQuiet}
 use Rattle.rht_core.specs.Counts.{IsAtRest}
 use Rattle.rht_core.specs.StandsFor.{in_force, shape_of, stands_for, tables_from, AreAllBound}
 use Rattle.rht_core.specs.Runs.{Core, World, local_of, planned_in, with_step, core_step, world_step, run_of, IsAdmitted, IsAdmittedEvent}
-use Rattle.rht_core.specs.Traces.{Did, Past, Trace, traced_of, behind_call}
+use Rattle.rht_core.specs.Traces.{Did, Past, traced_of, IsRising, behind_call}
 use Rattle.rht_core.specs.Laws.{IsRecorded, IsPastCall}
 use Rattle.rht_core.specs.ResizeCauses.{Loaded}
-use Rattle.rht_core.specs.WorkCauses.{AreFuturesRead, HasChosen}
-use Rattle.rht_core.specs.Worked.{IsSettled, IsAloneDuring, HasWorked, Worked}
+use Rattle.rht_core.specs.WorkCauses.{TakesWorkLock, AreFuturesRead, HasChosen, StoresCurrent}
+use Rattle.rht_core.specs.Worked.{IsSettled, HasReplaced, IsAloneDuring, words_behind, HasWorked, Worked}
+use Rattle.rht_core.proofs.Tracing.StepsInTraces.{rising_around}
 use Rattle.rht_core.proofs.Counting.CountedRuns.{counted, at_rest}
 use Rattle.rht_core.proofs.Counting.FullTables.{taken}
-use Rattle.rht_core.proofs.Histories.LoneCalls.{Spares, begins_before, idle_at_end, loaded_at_end}
+use Rattle.rht_core.proofs.Histories.LoneCalls.{Spares, SparesWithin, steps_rising, begins_before, idle_at_end, loaded_at_end, loaded_at_begin, stored_at_end}
 
 -- a resizing that found nothing due chose so, loaded that the current table has no future, and let go of the work lock
 pub record SawIdle (env : Env) (steps : List Did) : Type 0 where
@@ -49,6 +51,27 @@ pub record SawIdle (env : Env) (steps : List Did) : Type 0 where
   pub future_read : Loaded env.geometry (Slot chose.root FutureWord) future.old future
   pub none : slot_of future.old ≡ None
   pub lets : letting.op ≡ Store (place_of env.geometry WorkLock) 0
+
+-- these operations made a table the current one, and those behind that leave it so
+pub record HasStored (g : Geometry) (table : ℕ) (steps : List Did) : Type 0 where
+  pub before : List Did
+  pub at : Did
+  pub behind : List Did
+  pub split : steps ≡ before ++ at ∷ behind
+  pub stored : StoresCurrent g table at
+  pub leave : AllByRecursion (Spares (place_of g CurrentTable)) behind
+
+-- a resizing that took the work lock and loaded the current table has made another table the current one
+pub record SawReplaced (env : Env) (steps : List Did) : Type 0 where
+  pub lock : Did
+  pub current : Did
+  pub rest : List Did
+  pub split : steps ≡ lock ∷ current ∷ rest
+  pub took : TakesWorkLock env.geometry lock
+  pub current_read : Loaded env.geometry CurrentTable current.old current
+  pub table : ℕ
+  pub stores : HasStored env.geometry table steps
+  pub another : table_of current.old ≢ table
 
 -- ---- where nothing is due
 
@@ -103,19 +126,18 @@ module _ (env : Env) where
         let apart : place_of env.geometry WorkLock ≢ place =
         λ same. other (place_of-apart env.geometry address WorkLock there tt (sym same)) in
         let chose = saw.chose in
+        let end : AllByRecursion (Spares place) (saw.future ∷ saw.letting ∷ []) =
+        (inr (ap (word_after saw.future.old) saw.future_read.word.loads), (inl (λ same. apart (sym (ap op_place saw.lets) ∙ same)), tt)) in
+        let rest : AllByRecursion (Spares place) (chose.shape ∷ chose.count ∷ saw.future ∷ saw.letting ∷ []) = (
+          inr (ap (word_after chose.shape.old) chose.shape_read.word.loads),
+          (inr (ap (word_after chose.count.old) chose.count_read.word.loads), end),
+        ) in
+        let futures = AllByRecursion-append (Spares place) chose.futures
+        (chose.shape ∷ chose.count ∷ saw.future ∷ saw.letting ∷ [])
+        (loads-spare place chose.futures (futures-load chose.root chose.last chose.futures chose.futures_read)) rest in
         subst (AllByRecursion (Spares place)) (sym all_steps) (
           inl (λ same. apart (sym (ap op_place chose.took.tries) ∙ same)),
-          inr (ap (word_after chose.current.old) chose.current_read.word.loads),
-          AllByRecursion-append (Spares place) chose.futures
-              (chose.shape ∷ chose.count ∷ saw.future ∷ saw.letting ∷ [])
-              (loads-spare place chose.futures (futures-load chose.root chose.last chose.futures chose.futures_read))
-              (
-                inr (ap (word_after chose.shape.old) chose.shape_read.word.loads),
-                inr (ap (word_after chose.count.old) chose.count_read.word.loads),
-                inr (ap (word_after saw.future.old) saw.future_read.word.loads),
-                inl (λ same. apart (sym (ap op_place saw.lets) ∙ same)),
-                tt,
-              ),
+          (inr (ap (word_after chose.current.old) chose.current_read.word.loads), futures),
         )
 
     -- and these four are among them
@@ -160,7 +182,9 @@ module _ (M : Type 0) (mix : ℕ → ℕ → ℕ → ℕ) (env : Env) (events : 
         → word_at env.geometry after address ≡ value
     stands address value did there loaded unlocked other =
         loaded_at_end M mix env events c past admitted ended alone address value did there loaded other
-        (all_spare env past.steps saw address loaded.word.there unlocked)
+        (AllByRecursion-weaker (Spares (place_of env.geometry address))
+        (λ d. did.index ≤ d.index → d.index < behind_call past → Spares (place_of env.geometry address) d)
+        (λ d spares first last. spares) past.steps (all_spare env past.steps saw address loaded.word.there unlocked))
 
     abbrev root : ℕ
     root = saw.chose.root
@@ -233,8 +257,71 @@ module _ (M : Type 0) (mix : ℕ → ℕ → ℕ → ℕ) (env : Env) (events : 
           unlocked = rest.none_held.no_work;
         }
 
+  -- ---- another table
+
+  module _ (saw : SawReplaced env past.steps) where
+    abbrev stores : HasStored env.geometry saw.table past.steps
+    stores = saw.stores
+
+    stored_there : Contains past.steps stores.at
+    stored_there =
+        subst (λ s. Contains s stores.at) (sym stores.split)
+        (Contains-append_right stores.before (stores.at ∷ stores.behind) stores.at (0, omega arith, refl))
+
+    loaded_there : Contains past.steps saw.current
+    loaded_there = subst (λ s. Contains s saw.current) (sym saw.split) (1, omega arith, refl)
+
+    abbrev place : ℕ
+    place = place_of env.geometry CurrentTable
+
+    -- no operation stores which table is the current one before this is loaded
+    none_before : AllByRecursion (SparesWithin M mix env events c past admitted ended alone place past.begin saw.current.index) past.steps
+    none_before =
+        let lock = saw.lock in
+        let current = saw.current in
+        let rising = rising_around (past.begin + 1) (lock ∷ []) current saw.rest
+        (subst (IsRising (past.begin + 1)) saw.split (steps_rising M mix env events c past admitted ended alone)) in
+        let P = SparesWithin M mix env events c past admitted ended alone place past.begin current.index in
+        let later : AllByRecursion P saw.rest =
+        AllByRecursion-weaker (λ (d : Did). current.index < d.index) P (λ d more first last. absurd (omega (arith, more, last)))
+        saw.rest rising.1 in
+        let here : P current = λ first last. absurd (omega (arith, last)) in
+        let first : P lock = λ from to. inl (λ same. let both = sym (ap op_place saw.took.tries) ∙ same in absurd (omega (arith, both))) in
+        subst (AllByRecursion P) (sym saw.split) (first, (here, later))
+
+    -- nor behind the store
+    none_behind : AllByRecursion (SparesWithin M mix env events c past admitted ended alone place (stores.at.index + 1) (behind_call past)) past.steps
+    none_behind =
+        let at = stores.at in
+        let rising = rising_around (past.begin + 1) stores.before at stores.behind
+        (subst (IsRising (past.begin + 1)) stores.split (steps_rising M mix env events c past admitted ended alone)) in
+        let P = SparesWithin M mix env events c past admitted ended alone place (at.index + 1) (behind_call past) in
+        let before : AllByRecursion P stores.before =
+        AllByRecursion-weaker (λ (d : Did). d.index < at.index) P (λ d less first last. absurd (omega (arith, less, first)))
+        stores.before rising.0 in
+        let here : P at = λ first last. absurd (omega (arith, first)) in
+        let behind : AllByRecursion P stores.behind =
+        AllByRecursion-weaker (Spares place) P (λ d spares first last. spares) stores.behind stores.leave in
+        subst (AllByRecursion P) (sym stores.split) (AllByRecursion-append P stores.before (at ∷ stores.behind) before (here, behind))
+
+    replaced : HasReplaced env.geometry past.steps (words_behind M mix env events past.begin) after
+    replaced =
+        let (number, within, is) = stored_there in
+        let stored = stores.stored in
+        let now = stored_at_end M mix env events c past admitted ended alone CurrentTable saw.table stores.at stored_there tt
+        stored.stores (λ e. cc) none_behind in
+        let was = loaded_at_begin M mix env events c past admitted ended alone CurrentTable saw.current.old saw.current loaded_there
+        saw.current_read (λ e. cc) none_before in
+        let table_in = stored.table_in in
+        record {
+          table = saw.table;
+          stored = (number, stores.at, within, is, stored);
+          current = ap table_of now ∙ omega (arith, table_in);
+          another = λ same. saw.another (sym (ap table_of was) ∙ same);
+        }
+
 pub worked : (M : Type 0) (mix : ℕ → ℕ → ℕ → ℕ) → Worked M mix
 worked M mix env events c past admitted ended work alone = record {
-  idle = λ is. settled M mix env events c past admitted ended alone ?saw;
-  moved = λ again is. ?moved;
+  idle = λ is. settled M mix env events c past admitted ended alone ?idle;
+  moved = λ again is. replaced M mix env events c past admitted ended alone ?moved;
 }
