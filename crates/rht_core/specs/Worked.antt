@@ -2,6 +2,7 @@
 use Rattle.std.specs.Prelude.{◌≡◌, ◌≢◌, ℕ, ◌≤◌, Bool, true, false, List, [], ◌∷◌, take}
 use Rattle.std.specs.List.{Any, Contains}
 use Rattle.rht_words.specs.declared.env.Env.{Env}
+use Rattle.rht_words.specs.declared.geometry.Geometry.{Geometry}
 use Rattle.rht_words.specs.Links.{table_of}
 use Rattle.rht_words.specs.Places.{CurrentTable, WorkLock, word_at}
 use Rattle.rht_words.specs.Shapes.{unpacked, size_of}
@@ -12,7 +13,7 @@ use Rattle.rht_move.specs.Choice.{is_nested, is_sparse}
 use Rattle.rht_core.specs.declared.event.Event.{Event}
 use Rattle.rht_core.specs.Locals.{is_idle}
 use Rattle.rht_core.specs.Runs.{local_of, run_of, IsAdmitted}
-use Rattle.rht_core.specs.Traces.{Past, traced_of, behind_call}
+use Rattle.rht_core.specs.Traces.{Did, Past, traced_of, behind_call}
 use Rattle.rht_core.specs.StandsFor.{in_force, shape_of, stands_for, AreAllBound}
 use Rattle.rht_core.specs.WorkCauses.{StoresCurrent}
 
@@ -29,6 +30,13 @@ pub record IsSettled (env : Env) (words : List ℕ) : Type 0 where
   pub not_sparse : is_sparse env ports (size_of (unpacked (shape_of env.geometry words table))) ≡ false
   pub unlocked : word_at env.geometry words WorkLock ≡ 0
 
+-- One of these operations made this table the current one, which it is in the second words; in the first ones that is another table.
+pub record HasReplaced (g : Geometry) (steps : List Did) (before after : List ℕ) : Type 0 where
+  pub table : ℕ
+  pub stored : Any (StoresCurrent g table) steps
+  pub current : table_of (word_at g after CurrentTable) ≡ table
+  pub another : table_of (word_at g before CurrentTable) ≢ table
+
 module _ (M : Type 0) (mix : ℕ → ℕ → ℕ → ℕ) where
   -- from the call's beginning up to its end no other caller is in a call
   abbrev pub IsAloneDuring : Env → List Event → ℕ → Past → Type 0
@@ -36,12 +44,16 @@ module _ (M : Type 0) (mix : ℕ → ℕ → ℕ → ℕ) where
       (index other : ℕ) → past.begin ≤ index → index ≤ behind_call past → other ≢ c
       → is_idle (local_of (run_of {M = M} mix env (take index events)).core other) ≡ true
 
+  -- the words behind so many events
+  abbrev pub words_behind : Env → List Event → ℕ → List ℕ
+  words_behind env events n = (run_of {M = M} mix env (take n events)).core.words
+
   -- A resizing that was alone and answered that nothing was due left nothing due; one that answered that it moved made another table
   -- the current one.
   pub record HasWorked (env : Env) (events : List Event) (past : Past) : Type 0 where
-    pub idle : past.done.reply ≡ Idle → IsSettled env (run_of {M = M} mix env (take (behind_call past) events)).core.words
+    pub idle : past.done.reply ≡ Idle → IsSettled env (words_behind env events (behind_call past))
     pub moved : (again : Bool) → past.done.reply ≡ Moved again
-        → Any (λ did. (table : ℕ) × StoresCurrent env.geometry table did) past.steps
+        → HasReplaced env.geometry past.steps (words_behind env events past.begin) (words_behind env events (behind_call past))
 
   abbrev pub Worked : Type 0
   Worked =

@@ -8,6 +8,7 @@ ghost use Rattle.rht_core.specs.ListedOwners.{ListedOwners};
 ghost use Rattle.rht_core.specs.NodesUsed.{Nodes};
 ghost use Rattle.rht_core.specs.RunHistories.{HasFittingHistory};
 ghost use Rattle.rht_core.specs.ToldHistories.{HasToldHistory};
+ghost use Rattle.rht_core.specs.Worked.{Worked};
 ghost use Rattle.rht_core.specs.Laws.{Extends, InRange, Enrolled, NotEnrolled, Replies, Remembers, AtEvents, AllStepsTraced, TakenAlone, WordsFit};
 
 use rht_policy::Mix;
@@ -141,6 +142,15 @@ pub fn listed<M: Mix>()
 /// doesn't say that the call ends, and nothing of calls whose events mix.
 pub fn alone<M: Mix>()
     ensures { Alone M M.mix_of }
+{}
+
+/// A resizing that was answered `Idle`, while no other caller was in the middle of a call, leaves nothing
+/// to do: one table is in force, and it is flat; the ports bound are neither too many for its size, where it
+/// may grow, nor, where shrinking is on, too few; and the work lock is free. One that was answered `Moved`
+/// has made another table the current one. The run's other events are arbitrary. It doesn't say that the
+/// call ends, and nothing of one during which others were in calls.
+pub fn worked<M: Mix>()
+    ensures { Worked M M.mix_of }
 {}
 
 /// Every run has a history that fits it, whatever the order of its events. The history is legal. Its

@@ -8,7 +8,7 @@ use Rattle.std.specs.List.{AllByRecursion, Contains, slice_get}
 use Rattle.std.proofs.lemmas.Bool.{cases_eq}
 use Rattle.std.proofs.lemmas.List.{length_push, length-map, map-append, nil_from_length}
 use Rattle.std.proofs.lemmas.List.Elements.{All-contains, All-from_recursion, Contains-append_left, Contains-append_right}
-use Rattle.std.proofs.lemmas.Option.{slice_get_within}
+use Rattle.std.proofs.lemmas.Option.{slice_get_within, slice_get-get_or}
 use Rattle.rht_words.specs.declared.op.Op.{Op}
 use Rattle.rht_words.specs.declared.env.Env.{Env}
 use Rattle.rht_words.specs.Operations.{old_of}
@@ -26,6 +26,7 @@ use Rattle.rht_core.specs.Runs.{World, local_of, beginning_in, planned_in, run_o
 use Rattle.rht_core.specs.Traces.{Did, Past, Trace, Traced, trace_begun, trace_did, traces_after, traced_of, steps_by_call, IsStepOf, IsRising, behind_steps, behind_call, behind_calls, AreInOrder}
 use Rattle.rht_core.specs.Replies.{IsBookOfIdle}
 use Rattle.rht_core.specs.Laws.{IsInProgress, IsRecorded, calls_ended, AllStepsTraced}
+use Rattle.rht_core.proofs.Theory.Ghosts.{some-same}
 use Rattle.rht_core.proofs.Events.Worlds.{induct_by_last, take-push, take-push_all, beginning-some, planned-some}
 use Rattle.rht_core.proofs.Events.CallBeginnings.{idle_plans}
 use Rattle.rht_core.proofs.Events.JobsOfCallers.{is_no_job, nothing-job}
@@ -349,7 +350,7 @@ from-behind : (from : ℕ) (steps : List Did) → IsRising from steps → from �
 from-behind from [] rising = omega arith
 from-behind from (did ∷ steps) rising = omega (arith, rising.0, from-behind (did.index + 1) steps rising.1)
 
-rising-within : (from : ℕ) (steps : List Did) → IsRising from steps
+pub rising-within : (from : ℕ) (steps : List Did) → IsRising from steps
     → AllByRecursion (λ did. (from ≤ did.index) × (did.index < behind_steps from steps)) steps
 rising-within from [] rising = tt
 rising-within from (did ∷ steps) rising =
@@ -361,6 +362,19 @@ rising-within from (did ∷ steps) rising =
           (λ d within. (omega (arith, rising.0, within.0), within.1)) steps
           (rising-within (did.index + 1) steps rising.1),
     )
+
+-- those before one of them have smaller numbers, and those behind it greater ones
+pub rising_around : (from : ℕ) (before : List Did) (at : Did) (behind : List Did) → IsRising from (before ++ at ∷ behind)
+    → AllByRecursion (λ did. did.index < at.index) before × AllByRecursion (λ did. at.index < did.index) behind
+rising_around from [] at behind rising =
+    (tt, AllByRecursion-weaker (λ (d : Did). (at.index + 1 ≤ d.index) × (d.index < behind_steps (at.index + 1) behind))
+    (λ (d : Did). at.index < d.index) (λ d within. omega (arith, within.0)) behind (rising-within (at.index + 1) behind rising.1))
+rising_around from (did ∷ before) at behind rising =
+    let all = before ++ at ∷ behind in
+    let later = AllByRecursion-cut (λ (d : Did). (did.index + 1 ≤ d.index) × (d.index < behind_steps (did.index + 1) all)) before
+    (at ∷ behind) (rising-within (did.index + 1) all rising.1) in
+    let rest = rising_around (did.index + 1) before at behind rising.1 in
+    ((omega (arith, later.1.0.0), rest.0), rest.1)
 
 -- each list begins behind the one before
 abbrev AreRisingLists : ℕ → List (List Did) → Type 0
@@ -436,6 +450,50 @@ calls-rising from (past ∷ calls) last order rising =
           (calls-rising (behind_call past) calls last order.2 rising),
     )
 
+-- each of these calls begins behind all calls before it, and its steps are in order
+pub record IsInOrder (from : ℕ) (past : Past) : Type 0 where
+  pub begins : from ≤ past.begin
+  pub rising : IsRising (past.begin + 1) past.steps
+
+pub call_in_order : (from : ℕ) (calls : List Past) (number : ℕ) (past : Past) → AreInOrder from calls
+    → slice_get calls number ≡ Some past → IsInOrder from past
+call_in_order from [] number past order is = absurd (cc)
+call_in_order from (first ∷ calls) zero past order is =
+    let same : first ≡ past = cc in
+    subst (IsInOrder from) same (record { begins = order.0; rising = order.1 })
+call_in_order from (first ∷ calls) (suc number) past order is =
+    let later = call_in_order (behind_call first) calls number past order.2 is in
+    let until = from-behind (first.begin + 1) first.steps order.1 in
+    let begins = later.begins in
+    record { begins = omega (arith, order.0, until, begins); rising = later.rising }
+
+-- an operation of one of them that lies between the beginning of a call and its end is that call's
+within_call : (from : ℕ) (calls : List Past) (last : List Did) (number other : ℕ) (past : Past) (did : Did)
+    → AreInOrder from calls → IsRising (behind_calls from calls) last → slice_get calls number ≡ Some past
+    → past.begin < did.index → did.index < behind_call past
+    → IsIn (map (λ past. past.steps) calls ++ last ∷ []) other did → Contains past.steps did
+within_call from [] last number other past did order rising is low high there = absurd (cc)
+within_call from (first ∷ calls) last zero zero past did order rising is low high there =
+    let same : first ≡ past = cc in
+    let steps : there.steps ≡ first.steps = sym (some-same first.steps there.steps there.call) in
+    subst (λ (p : Past). Contains p.steps did) same (subst (λ (s : List Did). Contains s did) steps there.stands)
+within_call from (first ∷ calls) last zero (suc other) past did order rising is low high there =
+    let same : first ≡ past = cc in
+    let lists = map (λ (past : Past). past.steps) calls ++ last ∷ [] in
+    let later = at_least (behind_call first) lists other did (calls-rising (behind_call first) calls last order.2 rising)
+    (in_rest first.steps lists other did there) in
+    let ends = subst (λ (p : Past). did.index < behind_call p) (sym same) high in
+    absurd (omega (arith, later, ends))
+within_call from (first ∷ calls) last (suc number) zero past did order rising is low high there =
+    let lists = map (λ (past : Past). past.steps) calls ++ last ∷ [] in
+    let until = (in_first (first.begin + 1) first.steps lists did order.1 there).1 in
+    let begins = (call_in_order (behind_call first) calls number past order.2 is).begins in
+    absurd (omega (arith, until, begins, low))
+within_call from (first ∷ calls) last (suc number) (suc other) past did order rising is low high there =
+    let lists = map (λ (past : Past). past.steps) calls ++ last ∷ [] in
+    within_call (behind_call first) calls last number other past did order.2 rising is low high
+    (in_rest first.steps lists other did there)
+
 module _ (M : Type 0) (mix : ℕ → ℕ → ℕ → ℕ) (env : Env) (events : List Event) (c : ℕ)
     (admitted : IsAdmitted env.config.kind events) where
   abbrev trace : Trace
@@ -462,6 +520,16 @@ module _ (M : Type 0) (mix : ℕ → ℕ → ℕ → ℕ) (env : Env) (events : 
   all-rising =
       calls-rising 0 trace.past trace.steps (at_events M mix env events admitted c).in_order
       (last-rising _ (runs-right M mix env events c admitted).now)
+
+  -- an operation of the caller that lies between the beginning of one of its calls and the call's end is one of that call
+  pub stands_within : (past : Past) (did : Did) → Contains trace.past past → IsRecorded M mix env events c did
+      → past.begin < did.index → did.index < behind_call past → Contains past.steps did
+  stands_within past did (number, within, is) recorded low high =
+      let there = all_stand M mix env events admitted c did recorded in
+      within_call 0 trace.past trace.steps number _ past did (at_events M mix env events admitted c).in_order
+      (last-rising _ (runs-right M mix env events c admitted).now)
+      (slice_get-get_or trace.past number past within ∙ ap Some is) low high
+      (record { steps = there.steps; call = there.call; stands = there.stands })
 
 pub all_steps_traced : (M : Type 0) (mix : ℕ → ℕ → ℕ → ℕ) → AllStepsTraced M mix
 all_steps_traced M mix env events c did admitted recorded =

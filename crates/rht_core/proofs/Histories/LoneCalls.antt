@@ -1,0 +1,256 @@
+-- While no other caller is in a call, nothing but this one's own operations and the enrolling of callers changes words. So a word
+-- that the operations of one of its calls leave from one event of the call up to another is behind these events what it was before.
+-- By induction over the events from the last one back: an enrolling changes the word of the enrolled callers alone, a beginning none, a
+-- step of a caller in no call none, and one of the caller itself is one of the call.
+use Rattle.std.proofs.Common.{◌≡◌, ◌≢◌, ◌⊎◌, ℕ, zero, suc, ◌+◌, ◌-◌, ◌<◌, ◌≤◌, Bool, true, false, cond, nat_lt, List, [], ◌∷◌, ◌++◌, length, take, get_or, refl, sym, ap, ◌∙◌, subst, inl, inr, arith}
+use Rattle.std.specs.Prelude.{Option, Some, None}
+use Rattle.std.specs.List.{AllByRecursion, Contains, slice_get}
+use Rattle.std.proofs.lemmas.Bool.{cases_eq}
+use Rattle.std.proofs.lemmas.List.Elements.{All-contains, All-from_recursion, Contains-push}
+use Rattle.std.proofs.lemmas.Option.{slice_get_within, slice_get-get_or, get_or_from_slice_get}
+use Rattle.std.proofs.Math.Seq.{take-suc}
+use Rattle.rht_words.specs.declared.op.Op.{Op}
+use Rattle.rht_words.specs.declared.op.Op.TheVariants.{Store}
+use Rattle.rht_words.specs.declared.env.Env.{Env}
+use Rattle.rht_words.specs.Operations.{op_place, old_of, word_after, applied}
+use Rattle.rht_words.specs.Places.{Address, EnrolledCallers, IsAddress, place_of, word_at}
+use Rattle.rht_words.proofs.PlacesApart.{place_of-apart, place_of-below}
+use Rattle.rht_words.proofs.WordChanges.{applied-same, applied-other}
+use Rattle.rht_core.specs.declared.event.Event.{Event}
+use Rattle.rht_core.specs.declared.event.Event.TheVariants.{Enroll, Begin, Step}
+use Rattle.rht_core.specs.declared.local.Local.{Local}
+use Rattle.rht_core.specs.Locals.{is_idle, plan_of, local_after}
+use Rattle.rht_core.specs.Runs.{Core, World, View, local_of, planned_in, with_step, enrolling, world_step, run_of, IsAdmitted}
+use Rattle.rht_core.specs.Traces.{Did, Past, traced_of, IsRising, behind_steps, behind_call}
+use Rattle.rht_core.specs.Laws.{IsRecorded, IsPastCall}
+use Rattle.rht_core.specs.ResizeCauses.{Loaded}
+use Rattle.rht_core.specs.Worked.{IsAloneDuring}
+use Rattle.rht_core.proofs.Theory.Steps.{unchanged}
+use Rattle.rht_core.proofs.Events.Worlds.{planned-some, run_of-push, step_none, step_self, step_words}
+use Rattle.rht_core.proofs.Events.CallBeginnings.{idle_plans}
+use Rattle.rht_core.proofs.Events.BusyCallers.{ends}
+use Rattle.rht_core.proofs.Events.SoundRuns.{runs-in, has_place}
+use Rattle.rht_core.proofs.Tracing.TracesAtEvents.{behind_steps-push, at_events}
+use Rattle.rht_core.proofs.Tracing.StepsInTraces.{stands_within, call_in_order, rising-within}
+use Rattle.rht_core.proofs.Histories.AloneCalls.{past-ends}
+
+-- the operation leaves the word at this place
+abbrev pub Spares : ℕ → Did → Type 0
+Spares place did = (op_place did.op ≢ place) ⊎ (word_after did.old did.op ≡ did.old)
+
+spared_word : (words : List ℕ) (place : ℕ) (did : Did) → old_of words did.op ≡ did.old → Spares place did
+    → get_or (applied words did.op) place 0 ≡ get_or words place 0
+spared_word words place did found (inl apart) = applied-other words did.op place (λ same. apart (sym same))
+spared_word words place did found (inr same) =
+    ap (λ w. get_or w place 0)
+    (unchanged words did.op (ap (λ old. word_after old did.op) found ∙ same ∙ sym found))
+
+module _ (M : Type 0) (mix : ℕ → ℕ → ℕ → ℕ) (env : Env) (events : List Event) (c : ℕ) (past : Past)
+    (admitted : IsAdmitted env.config.kind events)
+    (ended : Contains ((traced_of {M = M} mix env events).traces c).past past)
+    (alone : IsAloneDuring M mix env events c past) where
+  -- the run behind so many events
+  abbrev behind : ℕ → World M
+  behind n = run_of mix env (take n events)
+
+  -- what the events say of the call
+  pub past_call : IsPastCall M mix env events c past
+  past_call =
+      let calls = ((traced_of {M = M} mix env events).traces c).past in
+      All-contains (IsPastCall M mix env events c) calls past
+      (All-from_recursion (IsPastCall M mix env events c) calls (at_events M mix env events admitted c).past) ended
+
+  recorded_in : (did : Did) → Contains past.steps did → IsRecorded M mix env events c did
+  recorded_in did there =
+      All-contains (IsRecorded M mix env events c) past.steps did
+      (All-from_recursion (IsRecorded M mix env events c) past.steps past_call.steps) there
+
+  -- its operations are in order
+  pub steps_rising : IsRising (past.begin + 1) past.steps
+  steps_rising =
+      let order = at_events M mix env events admitted c in
+      let (number, within, is) = ended in
+      let calls = ((traced_of {M = M} mix env events).traces c).past in
+      (call_in_order 0 calls number past order.in_order (slice_get-get_or calls number past within ∙ ap Some is)).rising
+
+  -- and lie between its beginning and its end
+  steps_within : (did : Did) → Contains past.steps did
+      → (past.begin + 1 ≤ did.index) × (did.index < behind_call past)
+  steps_within did there =
+      let P = λ (d : Did). (past.begin + 1 ≤ d.index) × (d.index < behind_call past) in
+      All-contains P past.steps did
+      (All-from_recursion P past.steps (rising-within (past.begin + 1) past.steps steps_rising)) there
+
+  -- the last of them, which answered it, is the event before its end
+  ends_at : past_call.answered.last.index + 1 ≡ behind_call past
+  ends_at =
+      let answered = past_call.answered in
+      sym (ap (behind_steps (past.begin + 1)) answered.steps_are
+      ∙ behind_steps-push (past.begin + 1) answered.before answered.last)
+
+  last_there : Contains past.steps past_call.answered.last
+  last_there =
+      let answered = past_call.answered in
+      subst (λ s. Contains s answered.last) (sym answered.steps_are) (Contains-push answered.before answered.last)
+
+  pub begins_before : past.begin ≤ behind_call past
+  begins_before = let within = steps_within past_call.answered.last last_there in omega (arith, within.0, within.1)
+
+  -- who plans an operation is in a call
+  busy_planned : (local : Local M) (op : Op) → plan_of local ≡ Some op → is_idle local ≡ false
+  busy_planned local op plan = go (is_idle local) refl
+    where
+      go : (idle : Bool) → is_idle local ≡ idle → idle ≡ false
+      go false is = refl
+      go true is = let none : ◌≡◌ {A = Option Op} None (Some op) = sym (idle_plans M local is) ∙ plan in absurd (cc)
+
+  -- one event more
+  behind-suc : (n : ℕ) (event : Event) → slice_get events n ≡ Some event
+      → ◌≡◌ {A = World M} (behind (suc n)) (world_step mix (behind n) event)
+  behind-suc n event is =
+      ap (run_of {M = M} mix env)
+      (take-suc events n event (slice_get_within events n event is)
+      ∙ ap (λ e. take n events ++ e ∷ []) (get_or_from_slice_get events n event event is))
+      ∙ run_of-push M mix env (take n events) event
+
+  -- then it is in no call
+  pub idle_at_end : is_idle (local_of (behind (behind_call past)).core c) ≡ true
+  idle_at_end =
+      let answered = past_call.answered in
+      let last = answered.last in
+      let recorded = recorded_in last last_there in
+      let w = behind last.index in
+      let can = planned-some w.core.env w.core.enrolled w.core.locals c last.op recorded.plan in
+      let place = has_place M mix env w.core c (runs-in M mix env (take last.index events)) can.below in
+      let found = old_of w.core.words last.op in
+      let now = ap (λ (v : View M). v.local) (step_self M mix w c last.op recorded.plan place) in
+      let reply : (local_after mix (local_of w.core c) found).1 ≡ Some past.done.reply =
+      sym (ap (λ (o : Option Op). (with_step mix w.core c o).1.reply) recorded.plan) ∙ answered.reply in
+      let ended = ends M mix (local_of w.core c) found past.done.reply (busy_planned (local_of w.core c) last.op can.plan) reply in
+      let next : suc last.index ≡ behind_call past = omega (arith, ends_at) in
+      subst (λ n. is_idle (local_of (behind n).core c) ≡ true) next
+      (ap (λ (v : World M). is_idle (local_of v.core c)) (behind-suc last.index (Step c) recorded.event)
+      ∙ ap is_idle now ∙ ended)
+
+  -- the word at a place behind so many events
+  abbrev word : ℕ → ℕ → ℕ
+  word place n = get_or (behind n).core.words place 0
+
+  -- the operation leaves the word at this place, if its event is among these
+  abbrev pub SparesWithin : ℕ → ℕ → ℕ → Did → Type 0
+  SparesWithin place from to did = from ≤ did.index → did.index < to → Spares place did
+
+  module _ (place from to : ℕ) (low : past.begin ≤ from) (high : to ≤ behind_call past)
+      (spared : AllByRecursion (SparesWithin place from to) past.steps)
+      (apart : place ≢ place_of env.geometry EnrolledCallers) where
+    -- a step of the caller itself is one of the call, which began with no step
+    step_own : (n : ℕ) (op : Option Op) → slice_get events n ≡ Some (Step c) → from ≤ n → n < to
+        → planned_in (behind n).core c ≡ op
+        → get_or (world_step mix (behind n) (Step c)).core.words place 0 ≡ word place n
+    step_own n None is first last none =
+        ap (λ (w : World M). get_or w.core.words place 0) (step_none M mix (behind n) c none)
+    step_own n (Some op) is first last plan = elim (cases_eq n past.begin) [
+      | inl same ↦
+          let both : Some (Step c) ≡ Some (Begin c past.done.call) = sym is ∙ ap (slice_get events) same ∙ past_call.began in
+          absurd (cc)
+      | inr later ↦
+          let did : Did = record { index = n; op = op; old = old_of (behind n).core.words op } in
+          let there = stands_within M mix env events c admitted past did ended
+          (record { event = is; plan = plan; found = refl }) (omega (arith, low, first, later)) (omega (arith, last, high)) in
+          ap (λ words. get_or words place 0) (step_words M mix (behind n) c op plan)
+          ∙ spared_word (behind n).core.words place did refl
+          (All-contains (SparesWithin place from to) past.steps did
+          (All-from_recursion (SparesWithin place from to) past.steps spared) there first last)
+    ]
+
+    -- who is in no call performs nothing
+    idle_planned : (core : Core M) (d : ℕ) → is_idle (local_of core d) ≡ true → planned_in core d ≡ None
+    idle_planned core d idle = rw (idle_plans M (local_of core d) idle) (none_either (nat_lt d core.enrolled))
+      where
+        none_either : (b : Bool) → ◌≡◌ {A = Option Op} (cond b None None) None
+        none_either true = refl
+        none_either false = refl
+
+    event_leaves : (n : ℕ) (event : Event) → slice_get events n ≡ Some event → from ≤ n → n < to
+        → get_or (world_step mix (behind n) event).core.words place 0 ≡ word place n
+    event_leaves n Enroll is first last =
+        applied-other (behind n).core.words (enrolling (behind n).core.env) place apart
+    event_leaves n (Begin d call) is first last = refl
+    event_leaves n (Step d) is first last = elim (cases_eq d c) [
+      | inl same ↦
+          subst (λ k. get_or (world_step mix (behind n) (Step k)).core.words place 0 ≡ word place n) (sym same)
+          (step_own n (planned_in (behind n).core c) (is ∙ ap (λ k. Some (Step k)) same) first last refl)
+      | inr other ↦
+          ap (λ (w : World M). get_or w.core.words place 0)
+          (step_none M mix (behind n) d
+          (idle_planned (behind n).core d
+          (alone n d (omega (arith, low, first)) (omega (arith, last, high)) other)))
+    ]
+
+    -- so the word is behind these events what it was before them
+    same_between : (left n : ℕ) → n + left ≡ to → from ≤ n → word place n ≡ word place to
+    same_between zero n is first = ap (word place) (omega (arith, is))
+    same_between (suc left) n is first =
+        let within : n < length events = let ends = past-ends M mix env events c past past_call in omega (arith, is, high, ends) in
+        let event = get_or events n Enroll in
+        let there = slice_get-get_or events n Enroll within in
+        sym (event_leaves n event there first (omega (arith, is)))
+        ∙ ap (λ (w : World M). get_or w.core.words place 0) (sym (behind-suc n event there))
+        ∙ same_between left (suc n) (omega (arith, is)) (omega (arith, first))
+
+    pub same_over : from ≤ to → word place from ≡ word place to
+    same_over within = same_between (to - from) from (omega (arith, within)) (omega arith)
+
+  -- what an operation loaded is what stood there
+  loaded_there : (address : Address) (value : ℕ) (did : Did) → Contains past.steps did → Loaded env.geometry address value did
+      → word (place_of env.geometry address) did.index ≡ value
+  loaded_there address value did there loaded =
+      sym (ap (old_of (behind did.index).core.words) loaded.word.loads) ∙ (recorded_in did there).found ∙ loaded.found
+
+  not_enrolled : (address : Address) → IsAddress env.geometry address → address ≢ EnrolledCallers
+      → place_of env.geometry address ≢ place_of env.geometry EnrolledCallers
+  not_enrolled address there other same = other (place_of-apart env.geometry address EnrolledCallers there tt same)
+
+  -- a word that one of the call's operations loaded, and that none leaves otherwise from there on, is at the end of the call what was
+  -- loaded
+  pub loaded_at_end : (address : Address) (value : ℕ) (did : Did) → Contains past.steps did
+      → Loaded env.geometry address value did → address ≢ EnrolledCallers
+      → AllByRecursion (SparesWithin (place_of env.geometry address) did.index (behind_call past)) past.steps
+      → word_at env.geometry (behind (behind_call past)).core.words address ≡ value
+  loaded_at_end address value did there loaded other spared =
+      let within = steps_within did there in
+      sym (same_over (place_of env.geometry address) did.index (behind_call past) (omega (arith, within.0)) (omega arith) spared
+      (not_enrolled address loaded.word.there other) (omega (arith, within.1)))
+      ∙ loaded_there address value did there loaded
+
+  -- and one that none leaves otherwise before is at the beginning what was loaded
+  pub loaded_at_begin : (address : Address) (value : ℕ) (did : Did) → Contains past.steps did
+      → Loaded env.geometry address value did → address ≢ EnrolledCallers
+      → AllByRecursion (SparesWithin (place_of env.geometry address) past.begin did.index) past.steps
+      → word_at env.geometry (behind past.begin).core.words address ≡ value
+  loaded_at_begin address value did there loaded other spared =
+      let within = steps_within did there in
+      same_over (place_of env.geometry address) past.begin did.index (omega arith) (omega (arith, within.1)) spared
+      (not_enrolled address loaded.word.there other) (omega (arith, within.0))
+      ∙ loaded_there address value did there loaded
+
+  -- one that an operation stored, and that none leaves otherwise behind it, is at the end what was stored
+  pub stored_at_end : (address : Address) (value : ℕ) (did : Did) → Contains past.steps did → IsAddress env.geometry address
+      → did.op ≡ Store (place_of env.geometry address) value → address ≢ EnrolledCallers
+      → AllByRecursion (SparesWithin (place_of env.geometry address) (did.index + 1) (behind_call past)) past.steps
+      → word_at env.geometry (behind (behind_call past)).core.words address ≡ value
+  stored_at_end address value did there is_address stores other spared =
+      let within = steps_within did there in
+      let place = place_of env.geometry address in
+      let recorded = recorded_in did there in
+      let w = behind did.index in
+      let inside : place < length w.core.words =
+      let all = (runs-in M mix env (take did.index events)).all_words in
+      let below = place_of-below env.geometry address is_address in omega (arith, all, below) in
+      let words : (behind (suc did.index)).core.words ≡ applied w.core.words (Store place value) =
+      ap (λ (v : World M). v.core.words) (behind-suc did.index (Step c) recorded.event)
+      ∙ step_words M mix w c did.op recorded.plan ∙ ap (applied w.core.words) stores in
+      let next : did.index + 1 ≡ suc did.index = omega arith in
+      sym (same_over place (did.index + 1) (behind_call past) (omega (arith, within.0)) (omega arith) spared
+      (not_enrolled address is_address other) (omega (arith, within.1)))
+      ∙ ap (word place) next ∙ ap (λ ws. get_or ws place 0) words ∙ applied-same w.core.words (Store place value) inside

@@ -1,0 +1,327 @@
+-- A resizing that no other caller disturbed and that found nothing due leaves a table in which nothing is due.
+-- Its operations are loads, but for the two on the work lock. So all words by which it chose are at its end as it loaded them: the
+-- current table, which has no future and so is the only one in force and the last; its shape; and the count, which is that of the ports
+-- bound, since nobody is in a call then.
+use Rattle.std.proofs.Common.{◌≡◌, ◌≢◌, ◌⊎◌, ℕ, suc, ◌+◌, ◌<◌, ◌≤◌, ◌==◌, ◌&&◌, Bool, true, false, cond, min, List, [], ◌∷◌, ◌++◌, take, refl, sym, ap, ◌∙◌, subst, inl, inr, arith}
+use Rattle.std.specs.Prelude.{Option, Some, None, if◌then◌else◌}
+use Rattle.std.specs.List.{AllByRecursion, Contains}
+use Rattle.std.proofs.lemmas.Bool.{cases_eq, eq-eqb}
+use Rattle.std.proofs.lemmas.List.Elements.{Contains-append_left, Contains-append_right}
+use Rattle.rht_words.specs.declared.op.Op.{Op}
+use Rattle.rht_words.specs.declared.op.Op.TheVariants.{Load, Store}
+use Rattle.rht_words.specs.declared.env.Env.{Env}
+use Rattle.rht_words.specs.declared.geometry.Geometry.{Geometry}
+use Rattle.rht_words.specs.Links.{table_of, slot_of}
+use Rattle.rht_words.specs.Operations.{op_place, word_after}
+use Rattle.rht_words.specs.Places.{Address, CurrentTable, WorkLock, PortCount, EnrolledCallers, Slot, ShapeWord, FutureWord, IsAddress, place_of, word_at}
+use Rattle.rht_words.specs.Shapes.{unpacked, size_of}
+use Rattle.rht_words.proofs.EachElement.{AllByRecursion-append, AllByRecursion-weaker}
+use Rattle.rht_words.proofs.PlacesApart.{place_of-apart}
+use Rattle.rht_policy.specs.Sizes.{shrunk_size}
+use Rattle.rht_policy.specs.Thresholds.{is_above_75}
+use Rattle.rht_model.specs.declared.history.Call.TheVariants.{Work}
+use Rattle.rht_model.specs.declared.history.Reply.{Reply}
+use Rattle.rht_model.specs.declared.history.Reply.TheVariants.{Idle}
+use Rattle.rht_move.specs.Choice.{choice_of, chosen, is_nested, is_sparse}
+use Rattle.rht_move.specs.declared.work.choice.Choice.{Choice}
+use Rattle.rht_move.specs.declared.work.choice.Choice.TheVariants as choices
+use Rattle.rht_core.specs.declared.event.Event.{Event}
+use Rattle.rht_core.specs.declared.event.Event.TheVariants.{Step}
+use Rattle.rht_core.specs.Locals.{is_idle, local_after}
+use Rattle.rht_core.specs.Alone.{IsQuiet}
+use Rattle.rht_core.specs.Counts.{IsAtRest}
+use Rattle.rht_core.specs.StandsFor.{in_force, shape_of, stands_for, tables_from, AreAllBound}
+use Rattle.rht_core.specs.Runs.{Core, World, local_of, planned_in, with_step, core_step, world_step, run_of, IsAdmitted, IsAdmittedEvent}
+use Rattle.rht_core.specs.Traces.{Did, Past, traced_of, IsRising, behind_call}
+use Rattle.rht_core.specs.Laws.{IsRecorded, IsPastCall}
+use Rattle.rht_core.specs.ResizeCauses.{Loaded}
+use Rattle.rht_core.specs.WorkCauses.{TakesWorkLock, AreFuturesRead, HasChosen, StoresCurrent}
+use Rattle.rht_core.specs.Worked.{IsSettled, HasReplaced, IsAloneDuring, words_behind, HasWorked, Worked}
+use Rattle.rht_core.proofs.Tracing.StepsInTraces.{rising_around}
+use Rattle.rht_core.proofs.Counting.CountedRuns.{counted, at_rest}
+use Rattle.rht_core.proofs.Counting.FullTables.{taken}
+use Rattle.rht_core.proofs.Histories.LoneCalls.{Spares, SparesWithin, steps_rising, begins_before, idle_at_end, loaded_at_end, loaded_at_begin, stored_at_end}
+
+-- a resizing that found nothing due chose so, loaded that the current table has no future, and let go of the work lock
+pub record SawIdle (env : Env) (steps : List Did) : Type 0 where
+  pub chose : HasChosen env choices.Nothing steps
+  pub future : Did
+  pub letting : Did
+  pub behind_is : chose.behind ≡ future ∷ letting ∷ []
+  pub future_read : Loaded env.geometry (Slot chose.root FutureWord) future.old future
+  pub none : slot_of future.old ≡ None
+  pub lets : letting.op ≡ Store (place_of env.geometry WorkLock) 0
+
+-- these operations made a table the current one, and those behind that leave it so
+pub record HasStored (g : Geometry) (table : ℕ) (steps : List Did) : Type 0 where
+  pub before : List Did
+  pub at : Did
+  pub behind : List Did
+  pub split : steps ≡ before ++ at ∷ behind
+  pub stored : StoresCurrent g table at
+  pub leave : AllByRecursion (Spares (place_of g CurrentTable)) behind
+
+-- a resizing that took the work lock and loaded the current table has made another table the current one
+pub record SawReplaced (env : Env) (steps : List Did) : Type 0 where
+  pub lock : Did
+  pub current : Did
+  pub rest : List Did
+  pub split : steps ≡ lock ∷ current ∷ rest
+  pub took : TakesWorkLock env.geometry lock
+  pub current_read : Loaded env.geometry CurrentTable current.old current
+  pub table : ℕ
+  pub stores : HasStored env.geometry table steps
+  pub another : table_of current.old ≢ table
+
+-- ---- where nothing is due
+
+-- a choice of nothing is one where a table is neither too full nor too empty, and is flat
+pub record IsNoneDue (full sparse nested : Bool) : Type 0 where
+  pub not_full : full ≡ false
+  pub not_sparse : sparse ≡ false
+  pub flat : nested ≡ false
+
+pub chosen-none : (size smaller : ℕ) (full sparse alone nested : Bool)
+    → chosen size smaller full sparse alone nested ≡ choices.Nothing → IsNoneDue full sparse nested
+chosen-none size smaller true sparse alone nested is = absurd (cc)
+chosen-none size smaller false true true nested is = absurd (cc)
+chosen-none size smaller false true false true is = absurd (cc)
+chosen-none size smaller false true false false is = absurd (cc)
+chosen-none size smaller false false alone true is = absurd (cc)
+chosen-none size smaller false false alone false is = record { not_full = refl; not_sparse = refl; flat = refl }
+
+module _ (env : Env) where
+  -- ---- which words the operations of such a call leave
+
+  -- the operation is a load
+  abbrev IsLoad : Did → Type 0
+  IsLoad did = (place : ℕ) × (did.op ≡ Load place)
+
+  loads-spare : (place : ℕ) (steps : List Did) → AllByRecursion IsLoad steps
+      → AllByRecursion (Spares place) steps
+  loads-spare place [] loads = tt
+  loads-spare place (did ∷ steps) loads =
+      (inr (ap (word_after did.old) loads.0.1), loads-spare place steps loads.1)
+
+  futures-load : (root last : ℕ) (futures : List Did) → AreFuturesRead env.geometry root last futures
+      → AllByRecursion IsLoad futures
+  futures-load root last [] read = absurd read
+  futures-load root last (did ∷ []) read = ((_, read.0.word.loads), tt)
+  futures-load root last (did ∷ next ∷ dids) (slot, read, leads, rest) =
+      ((_, read.word.loads), futures-load slot last (next ∷ dids) rest)
+
+  module _ (steps : List Did) (saw : SawIdle env steps) where
+    -- those of the call, one after another
+    all_steps : steps ≡ (saw.chose.lock ∷ saw.chose.current ∷ saw.chose.futures) ++ saw.chose.shape ∷ saw.chose.count
+        ∷ saw.future ∷ saw.letting ∷ []
+    all_steps = saw.chose.split
+        ∙ ap (λ behind. (saw.chose.lock ∷ saw.chose.current ∷ saw.chose.futures) ++ saw.chose.shape ∷ saw.chose.count ∷ behind)
+        saw.behind_is
+
+    -- they leave each word but that of the work lock
+    all_spare : (address : Address) → IsAddress env.geometry address → address ≢ WorkLock
+        → AllByRecursion (Spares (place_of env.geometry address)) steps
+    all_spare address there other =
+        let place = place_of env.geometry address in
+        let apart : place_of env.geometry WorkLock ≢ place =
+        λ same. other (place_of-apart env.geometry address WorkLock there tt (sym same)) in
+        let chose = saw.chose in
+        let end : AllByRecursion (Spares place) (saw.future ∷ saw.letting ∷ []) =
+        (inr (ap (word_after saw.future.old) saw.future_read.word.loads), (inl (λ same. apart (sym (ap op_place saw.lets) ∙ same)), tt)) in
+        let rest : AllByRecursion (Spares place) (chose.shape ∷ chose.count ∷ saw.future ∷ saw.letting ∷ []) = (
+          inr (ap (word_after chose.shape.old) chose.shape_read.word.loads),
+          (inr (ap (word_after chose.count.old) chose.count_read.word.loads), end),
+        ) in
+        let futures = AllByRecursion-append (Spares place) chose.futures
+        (chose.shape ∷ chose.count ∷ saw.future ∷ saw.letting ∷ [])
+        (loads-spare place chose.futures (futures-load chose.root chose.last chose.futures chose.futures_read)) rest in
+        subst (AllByRecursion (Spares place)) (sym all_steps) (
+          inl (λ same. apart (sym (ap op_place chose.took.tries) ∙ same)),
+          (inr (ap (word_after chose.current.old) chose.current_read.word.loads), futures),
+        )
+
+    -- and these four are among them
+    current_there : Contains steps saw.chose.current
+    current_there = subst (λ s. Contains s saw.chose.current) (sym all_steps) (1, omega arith, refl)
+
+    behind_there : (did : Did) → Contains (saw.chose.shape ∷ saw.chose.count ∷ saw.future ∷ saw.letting ∷ []) did
+        → Contains steps did
+    behind_there did there =
+        subst (λ s. Contains s did) (sym all_steps)
+        (Contains-append_right (saw.chose.lock ∷ saw.chose.current ∷ saw.chose.futures)
+        (saw.chose.shape ∷ saw.chose.count ∷ saw.future ∷ saw.letting ∷ []) did there)
+
+    future_there : (did : Did) → Contains saw.chose.futures did → Contains steps did
+    future_there did (number, within, is) =
+        let chose = saw.chose in
+        subst (λ s. Contains s did) (sym all_steps)
+        (Contains-append_left (chose.lock ∷ chose.current ∷ chose.futures)
+        (chose.shape ∷ chose.count ∷ saw.future ∷ saw.letting ∷ []) did (suc (suc number), omega (arith, within), is))
+
+module _ (M : Type 0) (mix : ℕ → ℕ → ℕ → ℕ) (env : Env) (events : List Event) (c : ℕ) (past : Past)
+    (admitted : IsAdmitted env.config.kind events)
+    (ended : Contains ((traced_of {M = M} mix env events).traces c).past past)
+    (alone : IsAloneDuring M mix env events c past) where
+  -- the words at the end of the call
+  abbrev after : List ℕ
+  after = (run_of {M = M} mix env (take (behind_call past) events)).core.words
+
+  -- nobody is in a call then
+  quiet : IsQuiet M mix env (take (behind_call past) events)
+  quiet d = elim (cases_eq d c) [
+    | inl same ↦
+        subst (λ k. is_idle (local_of (run_of {M = M} mix env (take (behind_call past) events)).core k) ≡ true) (sym same)
+        (idle_at_end M mix env events c past admitted ended alone)
+    | inr other ↦ alone (behind_call past) d (begins_before M mix env events c past admitted ended alone) (omega arith) other
+  ]
+
+  module _ (saw : SawIdle env past.steps) where
+    -- what it loaded of a word that isn't one of the work lock or the enrolled callers stands there at its end
+    stands : (address : Address) (value : ℕ) (did : Did) → Contains past.steps did
+        → Loaded env.geometry address value did → address ≢ WorkLock → address ≢ EnrolledCallers
+        → word_at env.geometry after address ≡ value
+    stands address value did there loaded unlocked other =
+        loaded_at_end M mix env events c past admitted ended alone address value did there loaded other
+        (AllByRecursion-weaker (Spares (place_of env.geometry address))
+        (λ d. did.index ≤ d.index → d.index < behind_call past → Spares (place_of env.geometry address) d)
+        (λ d spares first last. spares) past.steps (all_spare env past.steps saw address loaded.word.there unlocked))
+
+    abbrev root : ℕ
+    root = saw.chose.root
+
+    -- the current table's future, loaded last
+    no_future : slot_of (word_at env.geometry after (Slot root FutureWord)) ≡ None
+    no_future =
+        ap slot_of
+        (stands (Slot root FutureWord) saw.future.old saw.future
+        (behind_there env past.steps saw saw.future (2, omega arith, refl)) saw.future_read (λ e. cc) (λ e. cc))
+        ∙ saw.none
+
+    -- so the search for the last table ended at the current one
+    ends_there : (last : ℕ) (futures : List Did) → AreFuturesRead env.geometry root last futures
+        → ((did : Did) → Contains futures did → Contains past.steps did) → root ≡ last
+    ends_there last [] read among = absurd read
+    ends_there last (did ∷ []) read among = read.2
+    ends_there last (did ∷ next ∷ dids) (slot, read, leads, rest) among =
+        let same = stands (Slot root FutureWord) did.old did (among did (0, omega arith, refl)) read (λ e. cc) (λ e. cc) in
+        let both : ◌≡◌ {A = Option ℕ} None (Some slot) = sym no_future ∙ ap slot_of same ∙ leads in
+        absurd (cc)
+
+    last_is : root ≡ saw.chose.last
+    last_is = ends_there saw.chose.last saw.chose.futures saw.chose.futures_read (future_there env past.steps saw)
+
+    -- what is due where so many ports are bound, in a table of this shape that is the only one
+    abbrev choice_with : ℕ → ℕ → Choice
+    choice_with shape ports =
+        let size = size_of (unpacked shape) in
+        chosen size (shrunk_size ports env.config.min) (is_above_75 ports size env.config.max) (is_sparse env ports size)
+        (root == saw.chose.last) (is_nested shape)
+
+    settled : IsSettled env after
+    settled =
+        let chose = saw.chose in
+        let g = env.geometry in
+        let before = taken (IsAdmittedEvent env.config.kind) (behind_call past) events admitted in
+        let rest = at_rest M mix env (take (behind_call past) events) before quiet in
+        let few = (counted M mix env (take (behind_call past) events) before).few in
+        let most = env.geometry.within.nodes_within.1 in
+        let ports = word_at g after PortCount in
+        let counts : ports ≡ chose.count.old =
+        stands PortCount chose.count.old chose.count (behind_there env past.steps saw chose.count (1, omega arith, refl))
+        chose.count_read (λ e. cc) (λ e. cc) in
+        let clamp : min chose.count.old 65536 ≡ ports = omega (arith, few, most, counts) in
+        let current : table_of (word_at g after CurrentTable) ≡ root =
+        ap table_of (stands CurrentTable chose.current.old chose.current (current_there env past.steps saw) chose.current_read
+        (λ e. cc) (λ e. cc)) ∙ chose.root_is in
+        let shape : shape_of g after root ≡ chose.shape.old =
+        ap (λ s. word_at g after (Slot s ShapeWord)) last_is
+        ∙ stands (Slot chose.last ShapeWord) chose.shape.old chose.shape
+        (behind_there env past.steps saw chose.shape (0, omega arith, refl)) chose.shape_read (λ e. cc) (λ e. cc) in
+        let size = size_of (unpacked (shape_of g after root)) in
+        let none : IsNoneDue (is_above_75 ports size env.config.max) (is_sparse env ports size) (is_nested (shape_of g after root)) =
+        chosen-none size (shrunk_size ports env.config.min) (is_above_75 ports size env.config.max) (is_sparse env ports size)
+        (root == chose.last) (is_nested (shape_of g after root))
+        (ap (λ s. choice_with s ports) shape
+        ∙ ap (choice_with chose.shape.old) (sym clamp) ∙ chose.chosen) in
+        record {
+          ports = ports;
+          bound = rest.counted;
+          table = root;
+          current = current;
+          alone =
+              ap (λ t. tables_from g after 8 (Some t)) current
+              ∙ ap (λ next. root ∷ tables_from g after 7 next) no_future;
+          flat = none.flat;
+          not_full = none.not_full;
+          not_sparse = none.not_sparse;
+          unlocked = rest.none_held.no_work;
+        }
+
+  -- ---- another table
+
+  module _ (saw : SawReplaced env past.steps) where
+    abbrev stores : HasStored env.geometry saw.table past.steps
+    stores = saw.stores
+
+    stored_there : Contains past.steps stores.at
+    stored_there =
+        subst (λ s. Contains s stores.at) (sym stores.split)
+        (Contains-append_right stores.before (stores.at ∷ stores.behind) stores.at (0, omega arith, refl))
+
+    loaded_there : Contains past.steps saw.current
+    loaded_there = subst (λ s. Contains s saw.current) (sym saw.split) (1, omega arith, refl)
+
+    abbrev place : ℕ
+    place = place_of env.geometry CurrentTable
+
+    -- no operation stores which table is the current one before this is loaded
+    none_before : AllByRecursion (SparesWithin M mix env events c past admitted ended alone place past.begin saw.current.index) past.steps
+    none_before =
+        let lock = saw.lock in
+        let current = saw.current in
+        let rising = rising_around (past.begin + 1) (lock ∷ []) current saw.rest
+        (subst (IsRising (past.begin + 1)) saw.split (steps_rising M mix env events c past admitted ended alone)) in
+        let P = SparesWithin M mix env events c past admitted ended alone place past.begin current.index in
+        let later : AllByRecursion P saw.rest =
+        AllByRecursion-weaker (λ (d : Did). current.index < d.index) P (λ d more first last. absurd (omega (arith, more, last)))
+        saw.rest rising.1 in
+        let here : P current = λ first last. absurd (omega (arith, last)) in
+        let first : P lock = λ from to. inl (λ same. let both = sym (ap op_place saw.took.tries) ∙ same in absurd (omega (arith, both))) in
+        subst (AllByRecursion P) (sym saw.split) (first, (here, later))
+
+    -- nor behind the store
+    none_behind : AllByRecursion (SparesWithin M mix env events c past admitted ended alone place (stores.at.index + 1) (behind_call past)) past.steps
+    none_behind =
+        let at = stores.at in
+        let rising = rising_around (past.begin + 1) stores.before at stores.behind
+        (subst (IsRising (past.begin + 1)) stores.split (steps_rising M mix env events c past admitted ended alone)) in
+        let P = SparesWithin M mix env events c past admitted ended alone place (at.index + 1) (behind_call past) in
+        let before : AllByRecursion P stores.before =
+        AllByRecursion-weaker (λ (d : Did). d.index < at.index) P (λ d less first last. absurd (omega (arith, less, first)))
+        stores.before rising.0 in
+        let here : P at = λ first last. absurd (omega (arith, first)) in
+        let behind : AllByRecursion P stores.behind =
+        AllByRecursion-weaker (Spares place) P (λ d spares first last. spares) stores.behind stores.leave in
+        subst (AllByRecursion P) (sym stores.split) (AllByRecursion-append P stores.before (at ∷ stores.behind) before (here, behind))
+
+    replaced : HasReplaced env.geometry past.steps (words_behind M mix env events past.begin) after
+    replaced =
+        let (number, within, is) = stored_there in
+        let stored = stores.stored in
+        let now = stored_at_end M mix env events c past admitted ended alone CurrentTable saw.table stores.at stored_there tt
+        stored.stores (λ e. cc) none_behind in
+        let was = loaded_at_begin M mix env events c past admitted ended alone CurrentTable saw.current.old saw.current loaded_there
+        saw.current_read (λ e. cc) none_before in
+        let table_in = stored.table_in in
+        record {
+          table = saw.table;
+          stored = (number, stores.at, within, is, stored);
+          current = ap table_of now ∙ omega (arith, table_in);
+          another = λ same. saw.another (sym (ap table_of was) ∙ same);
+        }
+
+pub worked : (M : Type 0) (mix : ℕ → ℕ → ℕ → ℕ) → Worked M mix
+worked M mix env events c past admitted ended work alone = record {
+  idle = λ is. settled M mix env events c past admitted ended alone ?idle;
+  moved = λ again is. replaced M mix env events c past admitted ended alone ?moved;
+}
