@@ -38,28 +38,28 @@ module _ (low first end : ℕ) (behind : low ≤ first) where
   run_left a (suc n) =
       let rest = filter in_run (range_with_len (a + 1) n) in
       elim (cases_lt a first) [
-    | inl before ↦
-        ap (λ t. cond t (a ∷ rest) rest) (not_from a before)
-        ∙ run_left (a + 1) n
-        ∙ row_same (max (a + 1) first) (max a first) (min (a + 1 + n) end - max (a + 1) first)
-        (min (a + suc n) end - max a first) (omega (arith, before)) (omega (arith, before))
-    | inr from ↦ elim (cases_lt a end) [
-      | inl below ↦
-          ap (λ t. cond t (a ∷ rest) rest) (is_in a from below)
-          ∙ ap (λ l. a ∷ l) (run_left (a + 1) n
-          ∙ row_same (max (a + 1) first) (a + 1) (min (a + 1 + n) end - max (a + 1) first)
-          (min (a + suc n) end - (a + 1)) (omega (arith, from)) (omega (arith, from)))
-          ∙ row_same a (max a first) (suc (min (a + suc n) end - (a + 1))) (min (a + suc n) end - max a first)
-          (omega (arith, from)) (omega (arith, from, below))
-      | inr above ↦
-          ap (λ t. cond t (a ∷ rest) rest) (not_below a above)
-          ∙ run_left (a + 1) n
-          ∙ row_same (max (a + 1) first) (max (a + 1) first) (min (a + 1 + n) end - max (a + 1) first) 0 refl
-          (omega (arith, from, above))
-          ∙ row_same (max a first) (max a first) 0 (min (a + suc n) end - max a first) refl
-          (omega (arith, from, above))
-    ]
-  ]
+        | inl before ↦
+            ap (λ t. cond t (a ∷ rest) rest) (not_from a before)
+            ∙ run_left (a + 1) n
+            ∙ row_same (max (a + 1) first) (max a first) (min (a + 1 + n) end - max (a + 1) first)
+            (min (a + suc n) end - max a first) (omega (arith, before)) (omega (arith, before))
+        | inr from ↦ elim (cases_lt a end) [
+          | inl below ↦
+              ap (λ t. cond t (a ∷ rest) rest) (is_in a from below)
+              ∙ ap (λ l. a ∷ l) (run_left (a + 1) n
+              ∙ row_same (max (a + 1) first) (a + 1) (min (a + 1 + n) end - max (a + 1) first)
+              (min (a + suc n) end - (a + 1)) (omega (arith, from)) (omega (arith, from)))
+              ∙ row_same a (max a first) (suc (min (a + suc n) end - (a + 1))) (min (a + suc n) end - max a first)
+              (omega (arith, from)) (omega (arith, from, below))
+          | inr above ↦
+              ap (λ t. cond t (a ∷ rest) rest) (not_below a above)
+              ∙ run_left (a + 1) n
+              ∙ row_same (max (a + 1) first) (max (a + 1) first) (min (a + 1 + n) end - max (a + 1) first) 0 refl
+              (omega (arith, from, above))
+              ∙ row_same (max a first) (max a first) 0 (min (a + suc n) end - max a first) refl
+              (omega (arith, from, above))
+        ]
+      ]
 
 -- a number of a row isn't below its first one
 row_from : (a n x : ℕ) → In x (range_with_len a n) → a ≤ x
