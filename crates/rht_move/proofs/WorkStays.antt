@@ -18,8 +18,8 @@ use Rattle.rht_nest.specs.Locate.{IsBucketOrNone}
 use Rattle.rht_nest.specs.Place.{bucket_place}
 use Rattle.rht_nest.proofs.BucketsApart.{bucket_is_in}
 use Rattle.rht_nest.specs.Make.{MakeModel, make_new, make_after, IsMakeIn, IsMakeEndIn}
-use Rattle.rht_nest.specs.Unmake.{UnmakeModel, unmake_new, unmake_after, IsUnmakeIn}
-use Rattle.rht_nest.proofs.MakesStay.{make_stays, unmake_stays}
+use Rattle.rht_nest.specs.Unmake.{UnmakeModel, unmake_after, IsUnmakeIn}
+use Rattle.rht_nest.proofs.MakesStay.{make_stays, unmake_begins, unmake_stays}
 use Rattle.rht_chain.specs.Lock.{LockModel, lock_new, lock_after, IsLockIn}
 use Rattle.rht_chain.specs.LockedWalk.{IsNodeOrNone}
 use Rattle.rht_chain.proofs.PiecesStay.{LockStays, lock_stays}
@@ -54,20 +54,6 @@ make_begins g size seed nested = record {
   greatest = omega arith;
   at_in = omega arith;
 }
-
--- the giving back of a table begins with its pages, as they are read from its shape
-unmake_begins : (g : Geometry) (slot shape : ℕ) → slot < 8 → IsUnmakeIn g (unmake_new g slot shape)
-unmake_begins g slot shape slot_in =
-    let some = g.within.pages_within in
-    record {
-      geometry_same = refl;
-      slot_in = slot_in;
-      at_in = record {
-        geometry_same = refl;
-        run = record { some = omega (arith, some); within = omega (arith, some) };
-        word = record { from = omega arith; until = omega (arith, some) };
-      };
-    }
 
 module _ (mix : ℕ → ℕ → ℕ → ℕ) (env : Env) where
   abbrev g : Geometry

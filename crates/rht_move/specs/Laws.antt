@@ -5,9 +5,9 @@ use Rattle.rht_words.specs.declared.env.Env.{Env}
 use Rattle.rht_words.specs.declared.geometry.Geometry.{Geometry}
 use Rattle.rht_words.specs.Shapes.{size_of, unpacked}
 use Rattle.rht_words.specs.Sizes.{IsSizeUpTo}
+use Rattle.rht_nest.specs.Tables.{pages_of_shape}
 use Rattle.rht_nest.specs.Make.{made_pages, IsMadeIn}
 use Rattle.rht_move.specs.Choice.{choice_of}
-use Rattle.rht_move.specs.WorkHeld.{pages_of_shape}
 use Rattle.rht_move.specs.declared.work.choice.Choice.{Choice}
 use Rattle.rht_move.specs.declared.work.choice.Choice.TheVariants.{Attach, Later, Nothing}
 

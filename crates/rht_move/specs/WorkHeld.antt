@@ -2,12 +2,10 @@
 -- and pages, until the table is attached or given back; the locks of one bucket or two; and its answer once it is known. It moves
 -- entries from the locking of the first bucket on, and won't refuse any more.
 use Rattle.std.specs.Prelude.{ℕ, Bool, true, false, Option, None, Some, List, if◌then◌else◌}
-use Rattle.std.specs.List.{range_with_len}
 use Rattle.rht_words.specs.Held.{Held, holds_nothing, ended_with}
-use Rattle.rht_words.specs.Shapes.{unpacked}
 use Rattle.rht_words.specs.declared.machine.Next.{Next}
 use Rattle.rht_words.specs.declared.machine.Next.TheVariants.{Go, Done}
-use Rattle.rht_nest.specs.Tables.{table_pages}
+use Rattle.rht_nest.specs.Tables.{pages_of_shape}
 use Rattle.rht_nest.specs.Make.{slot_of_make, pages_of_make}
 use Rattle.rht_nest.specs.Unmake.{pages_of_unmake}
 use Rattle.rht_model.specs.Answers.{Answer, plain}
@@ -27,10 +25,6 @@ holds_work = record holds_nothing { worker = true }
 -- and a slot, where it has one, and these pages
 abbrev pub holds_table : Option ℕ → List ℕ → Held Answer
 holds_table slot pages = record holds_work { slot = slot; pages = pages }
-
--- the pages of a flat table with this word for its shape
-abbrev pub pages_of_shape : ℕ → List ℕ
-pages_of_shape shape = range_with_len (unpacked shape).page (table_pages (unpacked shape))
 
 -- while entries are moved: the locks of the buckets at these places, where there are any
 abbrev pub holds_moving : Option ℕ → Option ℕ → Held Answer

@@ -1,6 +1,5 @@
 -- What a resizing knows in each state, and that each of its operations leads from what it knows to what it knows next.
 use Rattle.std.proofs.Common.{◌≡◌, ℕ, ◌+◌, ◌*◌, ◌/◌, ◌<◌, ◌≤◌, ◌==◌, ◌||◌, Bool, true, false, List, [], ◌∷◌, length, nat_lt, slice_index, cond, Option, Some, None, refl, sym, ◌∙◌, ap, subst, inl, inr, arith}
-use Rattle.std.specs.List.{range_with_len}
 use Rattle.std.proofs.lemmas.Bool.{cond_both, or_parts, eqb-true, eqb-false, ltb-true, ltb-false}
 use Rattle.rht_words.specs.declared.env.Env.{Env}
 use Rattle.rht_words.specs.declared.op.Op.{Op}
@@ -19,7 +18,7 @@ use Rattle.rht_words.proofs.ShapeSizes.{IsSizeUpTo-size_of}
 use Rattle.rht_policy.specs.Mix.{bucket_of}
 use Rattle.rht_chain.specs.Lock.{LockModel, lock_new, lock_plan, lock_after}
 use Rattle.rht_nest.specs.Place.{bucket_place}
-use Rattle.rht_nest.specs.Tables.{table_pages, run_first, run_pages, pages_of_table}
+use Rattle.rht_nest.proofs.TablePages.{pages_of_table-shape}
 use Rattle.rht_nest.specs.Make.{MakeModel, make_plan, make_after_at}
 use Rattle.rht_nest.specs.declared.make.MakeAt.{MakeAt}
 use Rattle.rht_nest.specs.Unmake.{UnmakeModel, unmake_new, unmake_plan, unmake_after_at, pages_of_unmake}
@@ -51,7 +50,7 @@ use Rattle.rht_move.specs.Choice.{chosen, choice_of, is_nested}
 use Rattle.rht_move.specs.LastTable.{LastTableModel, last_table_new, next_or_shape}
 use Rattle.rht_move.specs.LastEntry.{LastEntryModel, followed}
 use Rattle.rht_move.specs.Work.{plan_at, after_at, begun, made, not_made, unmade, future_or_idle, is_later, unlocking, entry_or_empty, with_word, walked, retiring, locked, second_locked, cut_off, next_bucket, bucket_or_publish, locking_or_publish, second_or_stop, reply_of, IsWorkAtIn}
-use Rattle.rht_move.specs.WorkHeld.{holds_work, holds_table, holds_moving, pages_of_shape, has_moved, held_of_work}
+use Rattle.rht_move.specs.WorkHeld.{holds_work, holds_table, holds_moving, has_moved, held_of_work}
 use Rattle.rht_core.specs.Counts.{takes_out}
 use Rattle.rht_core.specs.Replies.{IsWorkReply, AreOwnersWith, ArePairsWith}
 use Rattle.rht_core.proofs.Theory.Ghosts.{Ghost}
@@ -348,16 +347,6 @@ module _ (env : Env) (mix : ℕ → ℕ → ℕ → ℕ) (c : ℕ) where
         load_early (plan_at env (at.Count root last)) (Rooted root (From last.table)) (Rooted root NoAim)
         (begun env root last Nothing) refl known (root_alone env mix c M G whole root (From last.table)) refl refl
 
-    -- the pages of a table that is made, as its shape tells them
-    made_pages_are : (M' : Memory) (G' : Ghost) (slot shape : ℕ) → IsMade env mix c M' G' slot shape
-        → pages_of_table env.geometry shape ≡ pages_of_shape shape
-    made_pages_are M' G' slot shape made =
-        let fits = made.fits in
-        let first : run_first env.geometry shape ≡ (unpacked shape).page = omega (arith, fits) in
-        let many : run_pages env.geometry shape ≡ table_pages (unpacked shape) = omega (arith, fits, first) in
-        ap (λ f. range_with_len f (run_pages env.geometry shape)) first
-        ∙ ap (λ m. range_with_len (unpacked shape).page m) many
-
     -- where there is none the call is refused, or the current table is moved
     none_made : (op : Op) (h : Holding) (wanted : Wanted) → h.node ≡ None → h.answer ≡ None
         → Moved env mix c words G op h holds_work (knowing holds_work (Rooted wanted.root (From wanted.last.table)))
@@ -398,7 +387,7 @@ module _ (env : Env) (mix : ℕ → ℕ → ℕ → ℕ) (c : ℕ) where
         none_made (make_plan make) (held_of_work (at.Making wanted make)) wanted refl refl step
     made_leads wanted make (state, Done (Some table)) step =
         let next = at.Attaching wanted.root wanted.last.table table.0 table.1 in
-        let is = made_pages_are _ _ table.0 table.1 step.knows.means.making in
+        let is = pages_of_table-shape env.geometry table.1 step.knows.means.making.fits in
         leads (make_plan make) (held_of_work (at.Making wanted make)) (held_of_work next) (known_of_work next) next
         (inl refl) refl refl refl
         (subst (λ ps. Moved env mix c words G (make_plan make) (held_of_work (at.Making wanted make))
@@ -424,7 +413,7 @@ module _ (env : Env) (mix : ℕ → ℕ → ℕ → ℕ) (c : ℕ) where
         let op = plan_at env state in
         let word = old_of words op in
         let about = knows_work MakesNothing (Rooted root (From last)) in
-        let is = made_pages_are M G slot shape known.means.making in
+        let is = pages_of_table-shape env.geometry shape known.means.making.fits in
         let knows = subst (λ ps. Knowing env mix c (holds_table (Some slot) ps) (known_of_work state) M G) (sym is) known in
         cond_both (word == 0) _ _ (λ next. WorkMoved state (next, Go))
         (λ t.
