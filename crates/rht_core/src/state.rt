@@ -105,7 +105,6 @@ impl<M: Mix> State<M> {
     pub fn closed(&self) -> Result<Closed, AllocError>
         requires idle { (caller : ℕ) → caller < self.now.env.geometry.callers
             → is_idle (local_of self.now caller) ≡ true }
-        requires alone { self.now.env.geometry.callers ≡ 1 }
         ensures { IfOk result (IsClosedOf self.now.env.geometry self.now.words) }
     {
         let bindings = listing(*self.words.allocator(), self.env.geometry, &self.words)?;
