@@ -22,7 +22,7 @@ use Rattle.rht_core.specs.Runs.{IsAdmitted}
 use Rattle.rht_core.specs.Traces.{Did, Past, performed_of, traced_of}
 use Rattle.rht_core.specs.Seen.{LastWalked, CountedAt, SawCount}
 use Rattle.rht_core.specs.ResizeCauses.{AttachesSome, HasFollowed, SawBusy, SawNoTable}
-use Rattle.rht_core.specs.WorkCauses.{FindsWorkLocked, SawNoTableDue, SawNothingDue, SawMoved}
+use Rattle.rht_core.specs.WorkCauses.{SawElsewhere, SawNoTableDue, SawNothingDue, SawMoved}
 
 -- why a look-up ended with this reply: it has nothing to show for its answers
 abbrev pub FindCause : Reply → Type 0
@@ -101,7 +101,7 @@ RebindCause env past (Counted count) = ⊥
 -- why a resizing ended with this reply: another caller was at work, a table was due that couldn't be had, nothing was due, or another
 -- table became the current one
 abbrev pub WorkCause : Env → Past → Reply → Type 0
-WorkCause env past Elsewhere = Any (FindsWorkLocked env.geometry) past.steps
+WorkCause env past Elsewhere = SawElsewhere env.geometry past.steps
 WorkCause env past (Moved again) = SawMoved env again past.steps
 WorkCause env past Idle = SawNothingDue env past.steps
 WorkCause env past (NoTable size) = SawNoTableDue env size past.steps

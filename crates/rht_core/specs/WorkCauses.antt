@@ -26,6 +26,12 @@ pub record FindsWorkLocked (g : Geometry) (did : Did) : Type 0 where
   pub tries : TriesWorkLock g did
   pub taken : did.old ≢ 0
 
+-- that was the one operation of the call
+pub record SawElsewhere (g : Geometry) (steps : List Did) : Type 0 where
+  pub did : Did
+  pub only : steps ≡ did ∷ []
+  pub finds : FindsWorkLocked g did
+
 -- or took it
 pub record TakesWorkLock (g : Geometry) (did : Did) : Type 0 where
   pub tries : TriesWorkLock g did

@@ -57,7 +57,7 @@ use Rattle.rht_move.specs.Work.{plan_at, cut_plan, after_at, lock_seen, seeking,
 use Rattle.rht_core.specs.Jobs.{works}
 use Rattle.rht_core.specs.Traces.{Did, performed_of}
 use Rattle.rht_core.specs.ResizeCauses.{Loaded, Attaches}
-use Rattle.rht_core.specs.WorkCauses.{TakesWorkLock, FindsWorkLocked, AreFuturesRead, HasChosen, HasPublished, IsUnattached, SawNoTableDue, SawNothingDue, SawPublished}
+use Rattle.rht_core.specs.WorkCauses.{TakesWorkLock, SawElsewhere, AreFuturesRead, HasChosen, HasPublished, IsUnattached, SawNoTableDue, SawNothingDue, SawPublished}
 use Rattle.rht_core.proofs.Theory.Steps.{mem, by_test}
 use Rattle.rht_core.proofs.Theory.Knowns.{Onward, Rooted}
 use Rattle.rht_core.proofs.Theory.Knowledge.{WorkMeans}
@@ -265,7 +265,7 @@ module _ (env : Env) where
 
   -- for an answer
   abbrev pub SawForWork : Reply → List Did → Type 0
-  SawForWork Elsewhere steps = Any (FindsWorkLocked env.geometry) steps
+  SawForWork Elsewhere steps = SawElsewhere env.geometry steps
   SawForWork (NoTable size) steps = SawNoTableDue env size steps
   SawForWork Idle steps = SawNothingDue env steps
   SawForWork (Moved again) steps = SawPublished env again steps
@@ -316,7 +316,11 @@ module _ (env : Env) where
         only = ap (λ s. s ++ did ∷ []) none;
         took = record { tries = is; free = eqb-true did.old 0 t };
       })
-      (λ f. Any-push (FindsWorkLocked env.geometry) steps did (record { tries = is; taken = eqb-false did.old 0 f }))
+      (λ f. record {
+        did = did;
+        only = ap (λ s. s ++ did ∷ []) none;
+        finds = record { tries = is; taken = eqb-false did.old 0 f };
+      })
 
   current-saw : (steps : List Did) (did : Did) → did.op ≡ plan_at env at.CurrentTable → HasLock steps
       → SawAtWork (seeking env.geometry (table_of did.old)) (steps ++ did ∷ [])
