@@ -3,9 +3,9 @@
 ghost use Rattle.std.specs.Prelude.{◌≡◌, ℕ, ◌+◌, true, false, None, Some};
 ghost use Rattle.rht_words.specs.declared.config.Kind.TheVariants.{Single};
 ghost use Rattle.rht_model.specs.declared.history.Call.{Call as CallOf};
-ghost use Rattle.rht_model.specs.declared.history.Call.TheVariants.{Find, Bind, Release, Rebind, All, Count};
+ghost use Rattle.rht_model.specs.declared.history.Call.TheVariants.{Find, Bind, Release, Rebind, All, Work, Count};
 ghost use Rattle.rht_core.specs.Locals.{is_idle};
-ghost use Rattle.rht_core.specs.Replies.{IsFindReply, IsBindReply, IsReleaseReply, IsRebindReply, IsAllReply, IsCountReply, AreOwnersWith};
+ghost use Rattle.rht_core.specs.Replies.{IsFindReply, IsBindReply, IsReleaseReply, IsRebindReply, IsAllReply, IsWorkReply, IsCountReply, AreOwnersWith};
 ghost use Rattle.rht_run.specs.declared.pass.Pass.{Pass as PassOf};
 ghost use Rattle.rht_run.specs.Rule.{MayBegin};
 ghost use Rattle.rht_run.specs.Passes.{IsPassOf, IsCalling, HasCalled, Turned, HasGone};
@@ -130,6 +130,20 @@ impl<M: Mix> Table<M> {
         ensures owners { AreOwnersWith result pass.new.local.owners.items }
     {
         self.call(rt, pass, Call::All { port })
+    }
+
+    /// Attaches a table where one is due, and moves the current table's entries into its future one,
+    /// where it has one. `Moved` says that another table is the current one, and whether there is more
+    /// to do; `Idle`, that nothing was due; `NoTable`, that a table of this size was and couldn't be
+    /// had; `Elsewhere`, that another caller is at it, for which this one doesn't wait. It waits for the
+    /// locks of buckets. The kernel's counterpart is `rht_deferred_worker`.
+    pub fn work<R: Wait>(&self, rt: &R, pass: &mut Pass<M>) -> Reply
+        requires pass { IsPassOf M.mix_of self.now pass.old }
+        requires idle { is_idle pass.old.local ≡ true }
+        ensures called { HasCalled M.mix_of self.now Work result pass.old pass.new }
+        ensures reply { IsWorkReply result }
+    {
+        self.call(rt, pass, Call::Work)
     }
 
     /// Counts the bound ports: `Counted`. It waits for nobody.

@@ -39,8 +39,8 @@ fn only<M: Mix>(table: &Table<M>, mut passes: Vec<Pass<M>>) -> Option<Pass<M>>
     passes.pop()
 }
 
-/// Makes each call, and `all` last.
-fn each_call<M: Mix, R: Wait>(rt: &R, table: &Table<M>, pass: &mut Pass<M>) -> [Reply; 8]
+/// Makes each call, and `all` last, whose owners stay until the next call.
+fn each_call<M: Mix, R: Wait>(rt: &R, table: &Table<M>, pass: &mut Pass<M>) -> [Reply; 9]
     requires pass { IsPassOf M.mix_of table.now pass.old }
     requires idle { is_idle pass.old.local ≡ true }
     requires single { table.now.env.config.kind ≡ Single }
@@ -53,9 +53,10 @@ fn each_call<M: Mix, R: Wait>(rt: &R, table: &Table<M>, pass: &mut Pass<M>) -> [
     let other = table.bind(rt, pass, 6, 2);
     let released = table.release(rt, pass, 6, 2);
     let counted = table.count(pass);
+    let worked = table.work(rt, pass);
     let listed = table.all(rt, pass, 5);
     [
-        bound, exists, found, rebound, other, released, counted, listed,
+        bound, exists, found, rebound, other, released, counted, worked, listed,
     ]
 }
 
@@ -88,6 +89,7 @@ fn makes_each_call(rt: HostRuntime) -> Result<(), Fail> {
         Reply::Bound { kick: false },
         Reply::Released { kick: false },
         Reply::Counted { count: 1 },
+        Reply::Idle,
         Reply::Listed { len: 1 },
     ];
     assert_eq!(rt; each_call(&rt, &table, &mut pass), want);
