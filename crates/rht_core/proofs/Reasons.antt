@@ -16,5 +16,5 @@ pub mod KicksInRuns
 pub mod ListingsKept
 -- by which operation a release says that there is something to do for `work`
 pub mod ReleaseKicks
--- by which loads a resizing chose what is due
+-- by which loads a resizing chose what is due, and which table it made the current one
 pub mod WorkChoices
