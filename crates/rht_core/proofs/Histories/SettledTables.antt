@@ -2,12 +2,11 @@
 -- Its operations are loads, but for the two on the work lock. So all words by which it chose are at its end as it loaded them: the
 -- current table, which has no future and so is the only one in force and the last; its shape; and the count, which is that of the ports
 -- bound, since nobody is in a call then.
-use Rattle.std.proofs.Common.{◌≡◌, ◌≢◌, ◌⊎◌, ℕ, suc, ◌+◌, ◌<◌, ◌≤◌, ◌==◌, ◌&&◌, Bool, true, false, cond, min, List, [], ◌∷◌, ◌++◌, take, refl, sym, ap, ◌∙◌, subst, inl, inr, arith}
-use Rattle.std.specs.Prelude.{Option, Some, None, if◌then◌else◌}
+use Rattle.std.proofs.Common.{◌≡◌, ◌≢◌, ℕ, suc, ◌+◌, ◌<◌, ◌≤◌, ◌==◌, Bool, true, false, min, List, [], ◌∷◌, ◌++◌, take, refl, sym, ap, ◌∙◌, subst, inl, inr, arith}
+use Rattle.std.specs.Prelude.{Option, Some, None}
 use Rattle.std.specs.List.{AllByRecursion, Contains}
-use Rattle.std.proofs.lemmas.Bool.{cases_eq, eq-eqb}
+use Rattle.std.proofs.lemmas.Bool.{cases_eq}
 use Rattle.std.proofs.lemmas.List.Elements.{Contains-append_left, Contains-append_right}
-use Rattle.rht_words.specs.declared.op.Op.{Op}
 use Rattle.rht_words.specs.declared.op.Op.TheVariants.{Load, Store}
 use Rattle.rht_words.specs.declared.env.Env.{Env}
 use Rattle.rht_words.specs.declared.geometry.Geometry.{Geometry}
@@ -19,28 +18,22 @@ use Rattle.rht_words.proofs.EachElement.{AllByRecursion-append, AllByRecursion-w
 use Rattle.rht_words.proofs.PlacesApart.{place_of-apart}
 use Rattle.rht_policy.specs.Sizes.{shrunk_size}
 use Rattle.rht_policy.specs.Thresholds.{is_above_75}
-use Rattle.rht_model.specs.declared.history.Call.TheVariants.{Work}
-use Rattle.rht_model.specs.declared.history.Reply.{Reply}
-use Rattle.rht_model.specs.declared.history.Reply.TheVariants.{Idle}
-use Rattle.rht_move.specs.Choice.{choice_of, chosen, is_nested, is_sparse}
+use Rattle.rht_move.specs.Choice.{chosen, is_nested, is_sparse}
 use Rattle.rht_move.specs.declared.work.choice.Choice.{Choice}
 use Rattle.rht_move.specs.declared.work.choice.Choice.TheVariants as choices
 use Rattle.rht_core.specs.declared.event.Event.{Event}
-use Rattle.rht_core.specs.declared.event.Event.TheVariants.{Step}
-use Rattle.rht_core.specs.Locals.{is_idle, local_after}
+use Rattle.rht_core.specs.Locals.{is_idle}
 use Rattle.rht_core.specs.Alone.{IsQuiet}
-use Rattle.rht_core.specs.Counts.{IsAtRest}
-use Rattle.rht_core.specs.StandsFor.{in_force, shape_of, stands_for, tables_from, AreAllBound}
-use Rattle.rht_core.specs.Runs.{Core, World, local_of, planned_in, with_step, core_step, world_step, run_of, IsAdmitted, IsAdmittedEvent}
+use Rattle.rht_core.specs.StandsFor.{shape_of, tables_from}
+use Rattle.rht_core.specs.Runs.{local_of, run_of, IsAdmitted, IsAdmittedEvent}
 use Rattle.rht_core.specs.Traces.{Did, Past, traced_of, IsRising, behind_call}
-use Rattle.rht_core.specs.Laws.{IsRecorded, IsPastCall}
 use Rattle.rht_core.specs.ResizeCauses.{Loaded}
 use Rattle.rht_core.specs.WorkCauses.{TakesWorkLock, AreFuturesRead, HasChosen, StoresCurrent}
-use Rattle.rht_core.specs.Worked.{IsSettled, HasReplaced, IsAloneDuring, words_behind, HasWorked, Worked}
+use Rattle.rht_core.specs.Worked.{IsSettled, HasReplaced, IsAloneDuring, words_behind, Worked}
 use Rattle.rht_core.proofs.Tracing.StepsInTraces.{rising_around}
 use Rattle.rht_core.proofs.Counting.CountedRuns.{counted, at_rest}
 use Rattle.rht_core.proofs.Counting.FullTables.{taken}
-use Rattle.rht_core.proofs.Histories.LoneCalls.{Spares, SparesWithin, steps_rising, begins_before, idle_at_end, loaded_at_end, loaded_at_begin, stored_at_end}
+use Rattle.rht_core.proofs.Tracing.LoneCalls.{Spares, SparesWithin, steps_rising, begins_before, idle_at_end, loaded_at_end, loaded_at_begin, stored_at_end}
 
 -- a resizing that found nothing due chose so, loaded that the current table has no future, and let go of the work lock
 pub record SawIdle (env : Env) (steps : List Did) : Type 0 where
