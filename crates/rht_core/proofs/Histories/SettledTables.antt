@@ -240,7 +240,6 @@ module _ (M : Type 0) (mix : ℕ → ℕ → ℕ → ℕ) (env : Env) (events : 
           ports = ports;
           bound = rest.counted;
           table = root;
-          current = current;
           alone =
               ap (λ t. tables_from g after 8 (Some t)) current
               ∙ ap (λ next. root ∷ tables_from g after 7 next) no_future;

@@ -366,9 +366,11 @@ rising-within from (did ∷ steps) rising =
 -- those before one of them have smaller numbers, and those behind it greater ones
 pub rising_around : (from : ℕ) (before : List Did) (at : Did) (behind : List Did) → IsRising from (before ++ at ∷ behind)
     → AllByRecursion (λ did. did.index < at.index) before × AllByRecursion (λ did. at.index < did.index) behind
-rising_around from [] at behind rising =
-    (tt, AllByRecursion-weaker (λ (d : Did). (at.index + 1 ≤ d.index) × (d.index < behind_steps (at.index + 1) behind))
-    (λ (d : Did). at.index < d.index) (λ d within. omega (arith, within.0)) behind (rising-within (at.index + 1) behind rising.1))
+rising_around from [] at behind rising = (
+  tt,
+  AllByRecursion-weaker (λ (d : Did). (at.index + 1 ≤ d.index) × (d.index < behind_steps (at.index + 1) behind))
+      (λ (d : Did). at.index < d.index) (λ d within. omega (arith, within.0)) behind (rising-within (at.index + 1) behind rising.1),
+)
 rising_around from (did ∷ before) at behind rising =
     let all = before ++ at ∷ behind in
     let later = AllByRecursion-cut (λ (d : Did). (did.index + 1 ≤ d.index) × (d.index < behind_steps (did.index + 1) all)) before
