@@ -122,14 +122,16 @@ abbrev pub IsUnattached : Geometry → ℕ → Choice → List Did → Type 0
 IsUnattached g last choice steps =
     (choice ≢ choices.Nothing) × AllByRecursion (λ did. (slot : ℕ) → Attaches g last slot did → ⊥) steps
 
--- A resizing made another table the current one. It says that there is more to do exactly where it then found that this one has a
--- future, or where a table that was due wasn't attached.
+-- A resizing made the table the current one that it had loaded as the future of the one which was current. It says that there is more
+-- to do exactly where it then found that the new current table has a future, or where a table that was due wasn't attached.
 pub record SawPublished (env : Env) (again : Bool) (steps : List Did) : Type 0 where
   pub choice : Choice
   pub chose : HasChosen env choice steps
   pub table : ℕ
   pub behind : List Did
   pub published : HasPublished env.geometry table behind chose.behind
+  pub followed :
+      Any (λ did. Loaded env.geometry (Slot chose.root FutureWord) did.old did × (slot_of did.old ≡ Some table)) published.before
   pub again_right :
       (again ≡ true)
       ↔ (Any (λ did. Loaded env.geometry (Slot table FutureWord) did.old did × (slot_of did.old ≢ None)) behind

@@ -1,7 +1,7 @@
 -- What a resizing knows in each state, and that each of its operations leads from what it knows to what it knows next.
 use Rattle.std.proofs.Common.{◌≡◌, ℕ, ◌+◌, ◌*◌, ◌/◌, ◌<◌, ◌≤◌, ◌==◌, ◌||◌, Bool, true, false, List, [], ◌∷◌, length, nat_lt, slice_index, cond, Option, Some, None, refl, sym, ◌∙◌, ap, subst, inl, inr, arith}
 use Rattle.std.specs.List.{range_with_len}
-use Rattle.std.proofs.lemmas.Bool.{cond_both, eqb-true, eqb-false, ltb-true, ltb-false}
+use Rattle.std.proofs.lemmas.Bool.{cond_both, or_parts, eqb-true, eqb-false, ltb-true, ltb-false}
 use Rattle.rht_words.specs.declared.env.Env.{Env}
 use Rattle.rht_words.specs.declared.op.Op.{Op}
 use Rattle.rht_words.specs.declared.op.Op.TheVariants.{Load}
@@ -9,12 +9,12 @@ use Rattle.rht_words.specs.declared.geometry.Geometry.{Geometry}
 use Rattle.rht_words.specs.declared.machine.Next.{Next}
 use Rattle.rht_words.specs.declared.machine.Next.TheVariants.{Go, Done}
 use Rattle.rht_words.specs.Held as held
-use Rattle.rht_words.specs.Links.{table_of, slot_of, node_of, head_of, unlocked}
+use Rattle.rht_words.specs.Links.{table_of, slot_of, future_of, node_of, head_of, unlocked}
 use Rattle.rht_words.specs.Ports.{port_of}
 use Rattle.rht_words.specs.Shapes.{unpacked, size_of}
 use Rattle.rht_words.specs.Operations.{old_of, word_after, applied}
 use Rattle.rht_words.specs.Places.{CurrentTable, Slot, ShapeWord, SeedWord, FutureWord, Node, ChainLink, KeyWord, PageWord, place_of, words_in}
-use Rattle.rht_words.proofs.Memory.{Memory}
+use Rattle.rht_words.proofs.Memory.{Memory, is_write}
 use Rattle.rht_words.proofs.ShapeSizes.{IsSizeUpTo-size_of}
 use Rattle.rht_policy.specs.Mix.{bucket_of}
 use Rattle.rht_chain.specs.Lock.{LockModel, lock_new, lock_plan, lock_after}
@@ -47,7 +47,7 @@ use Rattle.rht_move.specs.declared.work.Outcome.{Outcome}
 use Rattle.rht_move.specs.declared.work.Outcome.TheVariants.{Idle, NoTable, Moved as HasMoved}
 use Rattle.rht_move.specs.declared.work.WorkAt.{WorkAt}
 use Rattle.rht_move.specs.declared.work.WorkAt.TheVariants as at
-use Rattle.rht_move.specs.Choice.{choice_of, is_nested}
+use Rattle.rht_move.specs.Choice.{chosen, choice_of, is_nested}
 use Rattle.rht_move.specs.LastTable.{LastTableModel, last_table_new, next_or_shape}
 use Rattle.rht_move.specs.LastEntry.{LastEntryModel, followed}
 use Rattle.rht_move.specs.Work.{plan_at, after_at, begun, made, not_made, unmade, future_or_idle, is_later, unlocking, entry_or_empty, with_word, walked, retiring, locked, second_locked, cut_off, next_bucket, bucket_or_publish, locking_or_publish, second_or_stop, reply_of, IsWorkAtIn}
@@ -56,14 +56,14 @@ use Rattle.rht_core.specs.Counts.{takes_out}
 use Rattle.rht_core.specs.Replies.{IsWorkReply, AreOwnersWith, ArePairsWith}
 use Rattle.rht_core.proofs.Theory.Ghosts.{Ghost}
 use Rattle.rht_core.proofs.Theory.Wholes.{word_index, place_at-index, pages_of, Whole}
-use Rattle.rht_core.proofs.Theory.Knowns.{Known, KnownMaking, MakesNothing, HasTaken, HasMade, KnownAim, NoAim, From, Beyond, KnownRehash, KnownPlace, KnownEntry, KnownWork, NoWork, Works, Rooted, Follows, Empties, LeavesBehind, Faces, InBucket, Bare, AtEntry, AtTail, Aims, Brings, TakesOut, HasBrought}
+use Rattle.rht_core.proofs.Theory.Knowns.{Known, KnownMaking, MakesNothing, HasTaken, HasMade, KnownAim, NoAim, Onward, From, Beyond, KnownRehash, KnownPlace, KnownEntry, KnownWork, NoWork, Works, Rooted, Follows, Empties, LeavesBehind, Faces, InBucket, Bare, AtEntry, AtTail, Aims, Brings, TakesOut, HasBrought}
 use Rattle.rht_core.proofs.Theory.Knowledge.{IsMade, WorkMeans, Means, Only, Knowing}
 use Rattle.rht_core.proofs.Theory.Answering.{Tells, keeps}
 use Rattle.rht_core.proofs.Theory.Steps.{Holding, mem, owners, Moved, moved-map, with_knowledge, with_answer, Step, answered, still_has, loads}
 use Rattle.rht_core.proofs.Pieces.Holdings.{bare_slot}
 use Rattle.rht_core.proofs.Pieces.Makes.{known_of_make, slot_made, made_with, known_made, make_step, slot_given, pages_given, known_given, unmake_step}
 use Rattle.rht_core.proofs.Pieces.Attaches.{attach_step, lose_attach_step}
-use Rattle.rht_core.proofs.Pieces.WorkLoads.{last_sought, aim_sought, first_known, next_known, root_seen, from_root, root_alone, last_seen, future_seen, shape_seen, place_seen, from_current, aim_seen, aim_shape, aim_seed, word_seen, first_seen, next_seen, key_seen}
+use Rattle.rht_core.proofs.Pieces.WorkLoads.{last_sought, aim_sought, first_known, next_known, root_seen, from_root, root_alone, other_behind, future_behind, last_seen, future_seen, shape_seen, place_seen, from_current, aim_seen, aim_shape, aim_seed, word_seen, first_seen, next_seen, key_seen}
 use Rattle.rht_core.proofs.Pieces.WorkSteps.{knows_work, locked_by, LockWorks, work_loads, lock_work_step, unlock_work_step}
 use Rattle.rht_core.proofs.Pieces.WorkStores.{second_by, SecondWorks, take_work_step, lose_work_step, give_work_step, begin_moving_step, stop_step, lock_second_step, leave_step, arrive_step, cut_step, publish_step, retire_step}
 use Rattle.rht_core.proofs.Machines.FindSteps.{known_nothing}
@@ -102,6 +102,12 @@ known_unlocking rehash place false = Bare (known_rehash rehash) place
 abbrev pub in_bucket : Emptying → KnownAim → KnownWork
 in_bucket emptying aim = InBucket (known_rehash emptying.rehash) (known_place emptying) aim
 
+-- where a table was due, one is behind the current one before it is moved
+abbrev pub due_aim : Due → KnownAim
+due_aim dues.Nothing = NoAim
+due_aim dues.Attached = Onward
+due_aim dues.Later = Onward
+
 -- what is known of the work in a state
 abbrev pub known_at_work : WorkAt → KnownWork
 known_at_work at.WorkLock = NoWork
@@ -110,8 +116,8 @@ known_at_work (at.LastTable root seek) = Rooted root (last_aim seek.at)
 known_at_work (at.Count root last) = Rooted root (From last.table)
 known_at_work (at.Making wanted make) = Rooted wanted.root (From wanted.last.table)
 known_at_work (at.Attaching root last slot shape) = Rooted root (From last)
-known_at_work (at.Unmaking root unmake) = Rooted root NoAim
-known_at_work (at.RootFuture root due) = Rooted root NoAim
+known_at_work (at.Unmaking root unmake) = Rooted root Onward
+known_at_work (at.RootFuture root due) = Rooted root (due_aim due)
 known_at_work (at.RootShape root future again) = Follows root future
 known_at_work (at.Locking rehash number lock) = Faces (known_rehash rehash) number lock.place
 known_at_work (at.EntryTable emptying seek) = in_bucket emptying (entry_aim seek.at)
@@ -318,15 +324,27 @@ module _ (env : Env) (mix : ℕ → ℕ → ℕ → ℕ) (c : ℕ) where
 
     -- ---- a table that is due
 
-    begin_due : (root : ℕ) (last : Last) (choice : Choice) → WorkKnows (at.Count root last) M G
-        → WorkMoved (at.Count root last) (begun env root last choice, Go)
-    begin_due root last (Attach size) known =
+    -- a table that has to wait is due where the last one isn't the only one
+    later_other : (size smaller : ℕ) (full sparse alone nested : Bool)
+        → chosen size smaller full sparse alone nested ≡ Later → alone ≡ false
+    later_other size smaller full sparse false nested is = refl
+    later_other size smaller true sparse true nested is = absurd (cc)
+    later_other size smaller false true true nested is = absurd (cc)
+    later_other size smaller false false true true is = absurd (cc)
+    later_other size smaller false false true false is = absurd (cc)
+
+    begin_due : (root : ℕ) (last : Last) (choice : Choice)
+        → choice_of env (old_of words (plan_at env (at.Count root last))) last.shape (root == last.table) ≡ choice
+        → WorkKnows (at.Count root last) M G → WorkMoved (at.Count root last) (begun env root last choice, Go)
+    begin_due root last (Attach size) is known =
         load_early (plan_at env (at.Count root last)) (Rooted root (From last.table)) (Rooted root (From last.table))
         (begun env root last (Attach size)) refl known (λ k. k) refl refl
-    begin_due root last Later known =
-        load_early (plan_at env (at.Count root last)) (Rooted root (From last.table)) (Rooted root NoAim)
-        (begun env root last Later) refl known (root_alone env mix c M G whole root (From last.table)) refl refl
-    begin_due root last Nothing known =
+    begin_due root last Later is known =
+        let other = later_other _ _ _ _ (root == last.table) (is_nested last.shape) is in
+        load_early (plan_at env (at.Count root last)) (Rooted root (From last.table)) (Rooted root Onward)
+        (begun env root last Later) refl known
+        (other_behind env mix c M G whole root last.table (eqb-false root last.table other)) refl refl
+    begin_due root last Nothing is known =
         load_early (plan_at env (at.Count root last)) (Rooted root (From last.table)) (Rooted root NoAim)
         (begun env root last Nothing) refl known (root_alone env mix c M G whole root (From last.table)) refl refl
 
@@ -351,10 +369,12 @@ module _ (env : Env) (mix : ℕ → ℕ → ℕ → ℕ) (c : ℕ) where
         (λ t. leads op h holds_work (knows_work MakesNothing Works) (at.LettingGo (NoTable wanted.size))
         (told (replies.NoTable wanted.size) (says (replies.NoTable wanted.size) tt refl refl refl)) (sym node) refl refl
         (learning op h holds_work known Works (λ M' G' w k. record { works = k.works; more = tt }) step))
-        (λ f. leads op h holds_work (knows_work MakesNothing (Rooted wanted.root NoAim)) (at.RootFuture wanted.root dues.Later)
+        (λ f.
+        let other = eqb-false wanted.root wanted.last.table (or_parts _ _ f).0 in
+        leads op h holds_work (knows_work MakesNothing (Rooted wanted.root Onward)) (at.RootFuture wanted.root dues.Later)
         (subst (λ a. Tells env.config.kind c call h.node now a None) (sym unknown) (inl refl)) (sym node) refl refl
-        (learning op h holds_work known (Rooted wanted.root NoAim)
-        (λ M' G' w k. root_alone env mix c M' G' w wanted.root (From wanted.last.table) k) step))
+        (learning op h holds_work known (Rooted wanted.root Onward)
+        (λ M' G' w k. other_behind env mix c M' G' w wanted.root wanted.last.table other k) step))
       where
         told : (reply : Reply) → Tells env.config.kind c call None now None (Some (plain reply))
             → Tells env.config.kind c call h.node now h.answer (Some (plain reply))
@@ -397,9 +417,9 @@ module _ (env : Env) (mix : ℕ → ℕ → ℕ → ℕ) (c : ℕ) where
         whole make is.make_in known))
 
     -- what is known while the table is attached that was made, with its pages in the other form
-    attach_due : (root last slot shape : ℕ) → WorkKnows (at.Attaching root last slot shape) M G
+    attach_due : (root last slot shape : ℕ) → last < 8 → WorkKnows (at.Attaching root last slot shape) M G
         → WorkStep (at.Attaching root last slot shape)
-    attach_due root last slot shape known =
+    attach_due root last slot shape l known =
         let state = at.Attaching root last slot shape in
         let op = plan_at env state in
         let word = old_of words op in
@@ -407,36 +427,41 @@ module _ (env : Env) (mix : ℕ → ℕ → ℕ → ℕ) (c : ℕ) where
         let is = made_pages_are M G slot shape known.means.making in
         let knows = subst (λ ps. Knowing env mix c (holds_table (Some slot) ps) (known_of_work state) M G) (sym is) known in
         cond_both (word == 0) _ _ (λ next. WorkMoved state (next, Go))
-        (λ t. leads op (held_of_work state) holds_work (knows_work MakesNothing (Rooted root NoAim))
-        (at.RootFuture root dues.Attached) (inl refl) refl refl refl
-        (learning op (held_of_work state) holds_work (Rooted root (From last)) (Rooted root NoAim)
-        (λ M' G' w k. root_alone env mix c M' G' w root (From last) k)
-        (subst (λ ps. Moved env mix c words G op (holds_table (Some slot) ps) holds_work
+        (λ t.
+        let none = eqb-true word 0 t in
+        let step =
+        subst (λ ps. Moved env mix c words G op (holds_table (Some slot) ps) holds_work
         (knowing holds_work (Rooted root (From last)))) is
-        (attach_step env mix c holds_work about words G all whole last slot shape known.means.work.more.aim_is.table
-        (eqb-true word 0 t) knows))))
+        (attach_step env mix c holds_work about words G all whole last slot shape known.means.work.more.aim_is.table none knows) in
+        let write = is_write env.geometry words (Slot last FutureWord) op all (l, tt) refl in
+        let future : mem env mix (applied words op) (Slot last FutureWord) ≡ future_of slot =
+        write.same ∙ ap (λ w. cond (w == 0) (future_of slot) w) none in
+        leads op (held_of_work state) holds_work (knows_work MakesNothing (Rooted root Onward))
+        (at.RootFuture root dues.Attached) (inl refl) refl refl refl
+        (with_knowledge env mix c words G op (held_of_work state) holds_work (knowing holds_work (Rooted root (From last)))
+        (knowing holds_work (Rooted root Onward)) step
+        (knows_that holds_work _ _ (Rooted root (From last)) (Rooted root Onward) step.knows
+        (future_behind env mix c _ _ step.made.whole root last (λ e. absurd (omega (arith, future, e))) step.knows.means.work))))
         (λ f.
         let next = at.Unmaking root (unmake_new env.geometry slot shape) in
+        let some = eqb-false word 0 f in
         leads op (held_of_work state) (held_of_work next) (known_of_work next) next (inl refl) refl refl refl
-        (moved-map env mix c words G op (held_of_work state) (held_of_work next)
-        (λ M' G'. Knowing env mix c (held_of_work next) (record (known_of_work next) { work = Rooted root (From last) }) M' G')
-        (λ M' G'. Knowing env mix c (held_of_work next) (known_of_work next) M' G')
-        (λ M' G' w k. record {
-          only = k.only;
+        (subst (λ ps. Moved env mix c words G op (holds_table (Some slot) ps) (held_of_work next)
+        (λ M' G'. Knowing env mix c (held_of_work next) (known_of_work next) M' G'))
+        is (lose_attach_step env mix c holds_work (knows_work MakesNothing (Rooted root Onward)) words G all whole last slot
+        shape some (record {
+          only = knows.only;
           means = record {
             node = tt;
             table = tt;
             bucket = tt;
-            making = k.means.making;
-            work = root_alone env mix c M' G' w root (From last) k.means.work;
+            making = knows.means.making;
+            work = future_behind env mix c M G whole root last some knows.means.work;
           };
-        })
-        (subst (λ ps. Moved env mix c words G op (holds_table (Some slot) ps) (held_of_work next)
-        (λ M' G'. Knowing env mix c (held_of_work next) (record (known_of_work next) { work = Rooted root (From last) }) M' G'))
-        is (lose_attach_step env mix c holds_work about words G all whole last slot shape (eqb-false word 0 f) knows))))
+        }))))
 
     unmade_leads : (root : ℕ) (unmake : UnmakeModel) (r : UnmakeAt × Next (Unit {0}))
-        → let about = knows_work MakesNothing (Rooted root NoAim) in
+        → let about = knows_work MakesNothing (Rooted root Onward) in
         let pages = pages_given env mix c holds_work about words G all whole r in
         let slot = slot_given env mix c holds_work about words G all whole unmake.slot r in
         Moved env mix c words G (unmake_plan unmake) (held_of_work (at.Unmaking root unmake)) (holds_table slot pages)
@@ -449,7 +474,7 @@ module _ (env : Env) (mix : ℕ → ℕ → ℕ → ℕ) (c : ℕ) where
         (inl refl) refl refl refl step
     unmade_leads root unmake (state, Done done) step =
         leads (unmake_plan unmake) (held_of_work (at.Unmaking root unmake)) holds_work
-        (knows_work MakesNothing (Rooted root NoAim)) (at.RootFuture root dues.Later) (inl refl) refl refl refl step
+        (knows_work MakesNothing (Rooted root Onward)) (at.RootFuture root dues.Later) (inl refl) refl refl refl step
 
     -- ---- the move of the current table
 
@@ -460,11 +485,12 @@ module _ (env : Env) (mix : ℕ → ℕ → ℕ → ℕ) (c : ℕ) where
         let op = plan_at env (at.RootFuture root due) in
         leads op holds_work holds_work (knows_work MakesNothing Works) (at.LettingGo Idle)
         (says replies.Idle tt refl refl refl) refl refl refl
-        (work_loads env mix c holds_work words G all whole None MakesNothing op (Rooted root NoAim) Works refl known
+        (work_loads env mix c holds_work words G all whole None MakesNothing op (Rooted root (due_aim due)) Works refl known
         (λ k. record { works = k.works; more = tt }))
     root_future root due (Some next) is known =
-        load_early (plan_at env (at.RootFuture root due)) (Rooted root NoAim) (Follows root next)
-        (at.RootShape root next (is_later due)) refl known (λ k. future_seen env mix c M G whole root next k is) refl refl
+        load_early (plan_at env (at.RootFuture root due)) (Rooted root (due_aim due)) (Follows root next)
+        (at.RootShape root next (is_later due)) refl known (λ k. future_seen env mix c M G whole root next (due_aim due) k is)
+        refl refl
 
     root_shape : (root future : ℕ) (again : Bool) → WorkKnows (at.RootShape root future again) M G
         → WorkStep (at.RootShape root future again)
@@ -787,12 +813,12 @@ module _ (env : Env) (mix : ℕ → ℕ → ℕ → ℕ) (c : ℕ) where
         (sym is.seek_in.geometry_same) (seek_last root seek.at known)
     work_step (at.Count root last) is known =
         begin_due root last (choice_of env (old_of words (plan_at env (at.Count root last))) last.shape (root == last.table))
-        known
+        refl known
     work_step (at.Making wanted make) is known = make_due wanted make is known
-    work_step (at.Attaching root last slot shape) is known = attach_due root last slot shape known
+    work_step (at.Attaching root last slot shape) is known = attach_due root last slot shape is.last_in known
     work_step (at.Unmaking root unmake) is known =
         unmade_leads root unmake (unmake_after_at unmake.at (old_of words (unmake_plan unmake)))
-        (unmake_step env mix c holds_work (knows_work MakesNothing (Rooted root NoAim)) words G all whole unmake is.unmake_in
+        (unmake_step env mix c holds_work (knows_work MakesNothing (Rooted root Onward)) words G all whole unmake is.unmake_in
         known)
     work_step (at.RootFuture root due) is known =
         root_future root due (slot_of (M (Slot root FutureWord))) refl known

@@ -1,5 +1,5 @@
 -- What the caller that does the work learns by its loads.
-use Rattle.std.proofs.Common.{◌≡◌, ℕ, ◌+◌, ◌*◌, ◌^◌, ◌<◌, ◌≤◌, List, [], ◌∷◌, ◌++◌, Option, Some, None, true, cond, refl, sym, ◌∙◌, ap, subst, inl, inr, arith}
+use Rattle.std.proofs.Common.{◌≡◌, ◌≢◌, ℕ, ◌+◌, ◌*◌, ◌^◌, ◌<◌, ◌≤◌, List, [], ◌∷◌, ◌++◌, Option, Some, None, true, false, nat_lt, cond, refl, sym, ◌∙◌, ap, subst, inl, inr, arith}
 use Rattle.std.proofs.Math.Nat.{mod-eq_of_lt}
 use Rattle.std.proofs.Math.Seq.{append_snoc}
 use Rattle.std.proofs.lemmas.Bool.{lt-ltb, cases_lt, le-ltb}
@@ -17,10 +17,11 @@ use Rattle.rht_words.proofs.LinksRead.{links_tell_apart}
 use Rattle.rht_words.proofs.ChainLemmas.{IsSegment-cut}
 use Rattle.rht_policy.specs.Mix.{bucket_of}
 use Rattle.rht_nest.specs.Place.{bucket_index, bucket_place}
+use Rattle.rht_move.specs.Choice.{is_nested}
 use Rattle.rht_core.proofs.Theory.Ghosts.{Ghost, has_table, index_at, lock_bit}
 use Rattle.rht_core.proofs.Theory.Wholes.{chain_of, key_of, place_at, word_index, place_at-index, index-place_at, index-within, hash_in, future_in, stop, TableRight, Whole}
 use Rattle.rht_core.proofs.Theory.Passed.{hash-below, home-index}
-use Rattle.rht_core.proofs.Theory.Knowns.{KnownAim, NoAim, From, Beyond, KnownRehash, KnownPlace, KnownEntry, KnownWork, Works, Rooted, Follows, Empties, Faces, InBucket, Bare, AtEntry, AtTail, Aims}
+use Rattle.rht_core.proofs.Theory.Knowns.{KnownAim, NoAim, Onward, From, Beyond, KnownRehash, KnownPlace, KnownEntry, KnownWork, Works, Rooted, Follows, Empties, Faces, InBucket, Bare, AtEntry, AtTail, Aims}
 use Rattle.rht_core.proofs.Theory.Knowledge.{HasLock, IsInBucket, WorkMeans}
 use Rattle.rht_core.proofs.Moves.Relinking.{last_of-more}
 
@@ -156,10 +157,60 @@ module _ (env : Env) (mix : ℕ → ℕ → ℕ → ℕ) (c : ℕ) (M : Memory) 
         };
       }
 
+  -- a table is behind the current one where the last one is another one
+  pub other_behind : (root last : ℕ) → root ≢ last → Knows (Rooted root (From last)) → Knows (Rooted root Onward)
+  other_behind root last other knows =
+      let aim = knows.more.aim_is in
+      let is = whole.tables.slots last aim.table in
+      record {
+        works = knows.works;
+        more = record {
+          root_is = knows.more.root_is;
+          aim_is = elim (cases_lt G.current (index_at G last)) [
+            | inl later ↦ omega (arith, later, is.attached)
+            | inr early ↦
+                let same : G.current ≡ index_at G last = omega (arith, aim.from, early) in
+                absurd (other (sym knows.more.root_is ∙ ap (λ τ. (G.table τ).slot) same ∙ is.slot))
+          ];
+        };
+      }
+
+  -- and where that one has a future
+  pub future_behind : (root last : ℕ) → M (Slot last FutureWord) ≢ 0 → Knows (Rooted root (From last))
+      → Knows (Rooted root Onward)
+  future_behind root last some knows =
+      let aim = knows.more.aim_is in
+      let τ = index_at G last in
+      let future : M (Slot last FutureWord) ≡ future_in env mix G τ = slot_word last FutureWord aim.table
+      ∙ (table_right last aim.table).future_is in
+      record {
+        works = knows.works;
+        more = record {
+          root_is = knows.more.root_is;
+          aim_is = elim (cases_lt (τ + 1) G.attached) [
+            | inl more ↦ omega (arith, more, aim.from)
+            | inr end ↦
+                absurd (some (future ∙ ap (λ t. cond t (future_of (G.table (τ + 1)).slot) 0) (le-ltb (τ + 1) G.attached end)))
+          ];
+        };
+      }
+
+  -- then the current one's future is none no more
+  pub has_future : (root : ℕ) → Knows (Rooted root Onward) → slot_of (M (Slot root FutureWord)) ≢ None
+  has_future root knows none =
+      let has = root_has root knows.more.root_is in
+      let last : index_at G root + 1 ≡ G.attached = subst (LeadsTo (index_at G root)) none (future_leads root has.0) in
+      let more = knows.more.aim_is in
+      absurd (omega (arith, last, has.1, more))
+
+  -- no table is nested
+  pub flat_seen : (slot : ℕ) → has_table (G.slot slot) ≡ true → is_nested (M (Slot slot ShapeWord)) ≡ false
+  flat_seen slot has = ap is_nested (shape_word slot has) ∙ ap (nat_lt 0) (table_right slot has).placed.flat
+
   -- the table behind the current one, and the current one's shape
-  pub future_seen : (root future : ℕ) → Knows (Rooted root NoAim)
+  pub future_seen : (root future : ℕ) (aim : KnownAim) → Knows (Rooted root aim)
       → slot_of (M (Slot root FutureWord)) ≡ Some future → Knows (Follows root future)
-  future_seen root future knows is =
+  future_seen root future aim knows is =
       let has = root_has root knows.more.root_is in
       let leads : IsNextTable (index_at G root) future = subst (LeadsTo (index_at G root)) is
       (future_leads root has.0) in

@@ -13,7 +13,7 @@ use Rattle.rht_words.specs.Members.{In}
 use Rattle.rht_core.proofs.Theory.Ghosts.{Bucket, Held, Leaving, First, PageHeld, SlotHeld, Ghost, is_taken_by, table_at, has_table, index_at}
 use Rattle.rht_core.proofs.Theory.Wholes.{chain_of, key_of, place_at, word_index, home, pages_of, MovesNone, moves_none, IsFurther, Whole}
 use Rattle.rht_core.proofs.Theory.Passed.{NoKey, Passed}
-use Rattle.rht_core.proofs.Theory.Knowns.{Armed, KnownAim, NoAim, From, Beyond, KnownRehash, KnownPlace, Follows, Faces, InBucket, Bare, Aims, LeavesBehind, AtEntry, AtHome, AtNode, AtTail, Brings, Collected, CollectedTo, CutsOut, Differing, Differs, Empties, FirstLink, Found, HasBrought, HasMade, HasTaken, InList, InSlot, IsAmong, IsCollected, IsCollectedTo, IsCutOut, IsLeading, IsLeadingTo, IsOtherOwner, IsOwnersNode, IsPromoting, Known, KnownBucket, KnownEntry, KnownList, KnownMaking, KnownNode, KnownSlot, KnownTable, KnownWork, Leads, LeadsTo, Listing, Locks, LocksTakenOut, MakesNothing, Matching, Member, Missed, NoWork, Nowhere, Passes, Promotes, Replaces, Rooted, Shaped, Stands, StandsAt, StandsInList, Succeeds, TakenOut, TakesOut, Unlocked, Unlocks, WithShape, Works, last_of}
+use Rattle.rht_core.proofs.Theory.Knowns.{Armed, KnownAim, NoAim, Onward, From, Beyond, KnownRehash, KnownPlace, Follows, Faces, InBucket, Bare, Aims, LeavesBehind, AtEntry, AtHome, AtNode, AtTail, Brings, Collected, CollectedTo, CutsOut, Differing, Differs, Empties, FirstLink, Found, HasBrought, HasMade, HasTaken, InList, InSlot, IsAmong, IsCollected, IsCollectedTo, IsCutOut, IsLeading, IsLeadingTo, IsOtherOwner, IsOwnersNode, IsPromoting, Known, KnownBucket, KnownEntry, KnownList, KnownMaking, KnownNode, KnownSlot, KnownTable, KnownWork, Leads, LeadsTo, Listing, Locks, LocksTakenOut, MakesNothing, Matching, Member, Missed, NoWork, Nowhere, Passes, Promotes, Replaces, Rooted, Shaped, Stands, StandsAt, StandsInList, Succeeds, TakenOut, TakesOut, Unlocked, Unlocks, WithShape, Works, last_of}
 
 module _ (env : Env) (mix : ℕ → ℕ → ℕ → ℕ) where
   -- ---- what it means
@@ -282,6 +282,7 @@ module _ (env : Env) (mix : ℕ → ℕ → ℕ → ℕ) where
 
   abbrev pub AimMeans : Ghost → KnownAim → Type 0
   AimMeans G NoAim = Unit {0}
+  AimMeans G Onward = G.current + 1 < G.attached
   AimMeans G (From slot) = IsFrom G slot
   AimMeans G (Beyond slot shape seed) = IsBeyond G slot shape seed
 

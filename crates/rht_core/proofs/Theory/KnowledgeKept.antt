@@ -11,7 +11,7 @@ use Rattle.rht_words.proofs.Members.{in-middle}
 use Rattle.rht_core.proofs.Theory.Ghosts.{Ghost, has_table, index_at, seat-used}
 use Rattle.rht_core.proofs.Theory.Wholes.{key_of, word_index, home, out-seated, Whole}
 use Rattle.rht_core.proofs.Theory.Passed.{place-table, TablesGrow, table_at-grows, home-stays}
-use Rattle.rht_core.proofs.Theory.Knowns.{KnownAim, NoAim, From, Beyond, KnownRehash, KnownPlace, Follows, Faces, KnownEntry, InBucket, Bare, AtEntry, AtTail, Aims, Brings, Empties, LeavesBehind, HasBrought, HasMade, HasTaken, Known, KnownMaking, KnownWork, MakesNothing, NoWork, Rooted, TakesOut, Works, last_of}
+use Rattle.rht_core.proofs.Theory.Knowns.{KnownAim, NoAim, Onward, From, Beyond, KnownRehash, KnownPlace, Follows, Faces, KnownEntry, InBucket, Bare, AtEntry, AtTail, Aims, Brings, Empties, LeavesBehind, HasBrought, HasMade, HasTaken, Known, KnownMaking, KnownWork, MakesNothing, NoWork, Rooted, TakesOut, Works, last_of}
 use Rattle.rht_core.proofs.Theory.Knowledge.{AimMeans, IsRooted, IsFollowed, IsFacing, IsLeftBehind, IsNext, IsInBucket, IsBare, IsAim, IsAiming, IsWorking, HasLock, HasOnly, HasSlot, IsBringing, IsBrought, IsEmptying, IsEntry, IsOutOf, IsRoot, IsTail, IsTakenOut, IsTarget, Knowing, MakingMeans, Means, WorkMeans, bucket_at}
 use Rattle.rht_core.proofs.Theory.Reliance.{HoldingsStay, Rely, WordStays, WorkStays, members_used}
 use Rattle.rht_core.proofs.Theory.KnowledgeStays.{BucketMeans-own, NodeMeans-stay, TableMeans-stay}
@@ -125,6 +125,7 @@ module _ (env : Env) (mix : ℕ → ℕ → ℕ → ℕ) where
 
     AimMeans-stay : (aim : KnownAim) → AimMeans env mix G aim → AimMeans env mix G' aim
     AimMeans-stay NoAim is = tt
+    AimMeans-stay Onward is = omega (arith, is, stays.current, keeps.grow.attached)
     AimMeans-stay (From slot) is = record {
       table = keeps.grow.slots slot is.table;
       from = omega (arith, is.from, stays.current, index-stays slot is.table);
