@@ -135,7 +135,7 @@ pub record SawPublished (env : Env) (again : Bool) (steps : List Did) : Type 0 w
   pub again_right :
       (again ≡ true)
       ↔ (Any (λ did. Loaded env.geometry (Slot table FutureWord) did.old did × (slot_of did.old ≢ None)) behind
-        ⊎ IsUnattached env.geometry chose.last choice chose.behind)
+      ⊎ IsUnattached env.geometry chose.last choice chose.behind)
 
 -- or it stopped, and then there is more to do
 pub record SawStop (env : Env) (again : Bool) (steps : List Did) : Type 0 where

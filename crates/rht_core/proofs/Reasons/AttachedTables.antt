@@ -233,7 +233,7 @@ module _ (g : Geometry) where
   locate-none h slot (locates.Seed shape) table old new l e = cc
 
   -- buckets stand behind the slots
-  lock-none : (place : ℕ) (state : LockAt) → IsBucketPlace g place → IsNoFutureExchange g (lock_plan_at place state)
+  pub lock-none : (place : ℕ) (state : LockAt) → IsBucketPlace g place → IsNoFutureExchange g (lock_plan_at place state)
   lock-none place locks.Word there table old new l e = cc
   lock-none place (locks.Exchange word) there table old new l e =
       let same : place ≡ place_of g (Slot table FutureWord) = cc in
@@ -258,7 +258,7 @@ module _ (g : Geometry) where
   run-none h pages (runs.GiveBack first index bits) table old new l e = cc
 
   -- the state of a slot is another word than a future
-  make-none : (h : Geometry) (exponent seed : ℕ) (state : MakeAt)
+  pub make-none : (h : Geometry) (exponent seed : ℕ) (state : MakeAt)
       → IsNoFutureExchange g (make_plan_at h exponent seed state)
   make-none h exponent seed (makes.Slot slot) table old new l e =
       let same : place_of h (Slot slot StateWord) ≡ place_of g (Slot table FutureWord) = cc in

@@ -830,8 +830,8 @@ module _ (env : Env) where
     both-saw (state, Done reply) all saw so = saw
 
   work-cause : (past : Past) (reply : Reply) → SawForWork env reply past.steps → IsWorkReply reply → WorkCause env past reply
-  work-cause past (Moved again) saw is = tt
-  work-cause past Idle saw is = tt
+  work-cause past (Moved again) saw is = inl saw
+  work-cause past Idle saw is = saw
   work-cause past (NoTable size) saw is = saw
   work-cause past Elsewhere saw is = saw
   work-cause past _ saw is = absurd is
@@ -905,7 +905,7 @@ module _ (M : Type 0) (mix : ℕ → ℕ → ℕ → ℕ) (env : Env) where
       (rebind-saw env mix port owner new state steps did performs saw)
   job-leads (works state) steps did performs saw =
       next-leads (works state) works plain_ending (steps ++ did ∷ []) (work.after_at mix env state did.old)
-      (work-saw env mix state steps did performs.within performs.planned saw)
+      (work-saw env mix state steps did performs saw)
   job-leads counts steps did performs saw =
       Any-push (LoadedCount env did.old) steps did (record { loaded = performs.planned; found = refl })
 

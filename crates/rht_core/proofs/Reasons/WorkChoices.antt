@@ -1,25 +1,32 @@
--- By which loads a resizing chose what is due, and that a table which it couldn't make had no slot or no run of pages.
-use Rattle.std.proofs.Common.{◌≡◌, ◌⊎◌, ℕ, ◌<◌, ◌+◌, Bool, true, false, cond, nat_lt, List, [], ◌∷◌, ◌++◌, map, append_assoc, refl, sym, ap, ◌∙◌, subst, inl, inr, arith}
+-- By which loads a resizing chose what is due, and that a table which it couldn't make had no slot or no run of pages; that one which found
+-- no future had chosen nothing; and which table it made the current one, and whether it said rightly that there is more to do.
+--
+-- What was chosen is kept behind the choice, with whether a table was attached since. Where one was due there is a future to be found, by
+-- what the caller knows then; and a move never stops, since no table is nested.
+use Rattle.std.proofs.Common.{◌≡◌, ◌≢◌, ◌⊎◌, ◌↔◌, ℕ, ◌<◌, ◌≤◌, ◌+◌, Bool, true, false, cond, nat_lt, List, [], ◌∷◌, ◌++◌, length, length-append, get_or, map, append_assoc, refl, sym, ap, ◌∙◌, subst, inl, inr, arith}
 use Rattle.std.specs.Prelude.{Option, Some, None, ◌==◌, ◌||◌}
-use Rattle.std.specs.List.{Any}
-use Rattle.std.proofs.lemmas.Bool.{eqb-true, eqb-false}
-use Rattle.std.proofs.lemmas.List.{map-append}
+use Rattle.std.specs.List.{AllByRecursion, Any}
+use Rattle.std.proofs.Math.Seq.{get_or-append_seam}
+use Rattle.std.proofs.lemmas.Bool.{cases_lt, eqb-true, eqb-false}
+use Rattle.std.proofs.lemmas.List.{map-append, get_or_append_left}
+use Rattle.std.proofs.lemmas.List.Elements.{All-from_recursion}
 use Rattle.std.proofs.lemmas.List.Quantifiers.{Any-push}
 use Rattle.rht_words.specs.declared.op.Op.{Op}
-use Rattle.rht_words.specs.declared.op.Op.TheVariants.{Load}
+use Rattle.rht_words.specs.declared.op.Op.TheVariants.{Load, Store}
 use Rattle.rht_words.specs.declared.env.Env.{Env}
 use Rattle.rht_words.specs.declared.geometry.Geometry.{Geometry}
 use Rattle.rht_words.specs.declared.machine.Next.{Next}
 use Rattle.rht_words.specs.declared.machine.Next.TheVariants.{Go, Done}
 use Rattle.rht_words.specs.Links.{table_of, slot_of, node_of, head_of, unlocked}
 use Rattle.rht_words.specs.Machines.{GoesOrEnds, Performed, Ran, went_on, ran}
-use Rattle.rht_words.specs.Places.{Address, CurrentTable, PortCount, Slot, ShapeWord, FutureWord, IsAddress, place_of}
+use Rattle.rht_words.specs.Operations.{old_of}
+use Rattle.rht_words.specs.Places.{Address, CurrentTable, PortCount, Slot, ShapeWord, FutureWord, Node, KeyWord, IsAddress, place_of}
 use Rattle.rht_words.specs.Ports.{port_of}
 use Rattle.rht_words.specs.Shapes.{unpacked, size_of}
-use Rattle.rht_words.proofs.EachElement.{Any-append_left}
+use Rattle.rht_words.proofs.EachElement.{Any-append_left, AllByRecursion-cut, AllByRecursion-push}
 use Rattle.rht_policy.specs.Mix.{bucket_of}
 use Rattle.rht_model.specs.declared.history.Reply.{Reply}
-use Rattle.rht_model.specs.declared.history.Reply.TheVariants.{NoTable, Elsewhere}
+use Rattle.rht_model.specs.declared.history.Reply.TheVariants.{NoTable, Elsewhere, Idle, Moved}
 use Rattle.rht_arena.specs.RunLaws.{AreRunsSeenInTurn}
 use Rattle.rht_chain.specs.Lock.{LockModel, lock_after}
 use Rattle.rht_nest.specs.Place.{bucket_place}
@@ -46,11 +53,28 @@ use Rattle.rht_move.specs.declared.work.WorkAt.TheVariants as at
 use Rattle.rht_move.specs.Choice.{choice_of, is_nested}
 use Rattle.rht_move.specs.LastTable.{LastTableModel, last_table_plan_at, last_table_after, next_or_shape, IsLastTableAtIn}
 use Rattle.rht_move.specs.LastEntry.{LastEntryModel, last_entry_after}
-use Rattle.rht_move.specs.Work.{plan_at, after_at, lock_seen, seeking, last_seen, begun, made, not_made, attached, unmade, future_or_idle, locking_or_publish, bucket_or_publish, locked, unlocking, entry_table_seen, with_word, entry_or_empty, walked, second_or_stop, second_locked, cut_off, unlocked_bucket, retiring, reply_of, IsWorkAtIn}
+use Rattle.rht_move.specs.Work.{plan_at, cut_plan, after_at, lock_seen, seeking, last_seen, begun, made, not_made, attached, unmade, is_later, future_or_idle, locking_or_publish, bucket_or_publish, locked, unlocking, entry_table_seen, with_word, entry_or_empty, walked, keyed, second_or_stop, second_locked, cut_off, unlocked_bucket, retiring, reply_of}
+use Rattle.rht_core.specs.Jobs.{works}
 use Rattle.rht_core.specs.Traces.{Did, performed_of}
-use Rattle.rht_core.specs.ResizeCauses.{Loaded}
-use Rattle.rht_core.specs.WorkCauses.{TakesWorkLock, FindsWorkLocked, AreFuturesRead, HasChosen, SawNoTableDue}
-use Rattle.rht_core.proofs.Theory.Steps.{by_test}
+use Rattle.rht_core.specs.ResizeCauses.{Loaded, Attaches}
+use Rattle.rht_core.specs.WorkCauses.{TakesWorkLock, FindsWorkLocked, AreFuturesRead, HasChosen, HasPublished, IsUnattached, SawNoTableDue, SawNothingDue, SawPublished}
+use Rattle.rht_core.proofs.Theory.Steps.{mem, by_test}
+use Rattle.rht_core.proofs.Theory.Knowns.{Onward, Rooted}
+use Rattle.rht_core.proofs.Theory.Knowledge.{WorkMeans}
+use Rattle.rht_core.proofs.Pieces.WorkLoads.{has_future, flat_seen, key_seen}
+use Rattle.rht_core.proofs.Machines.WorkMachine.{known_rehash, known_place, known_entry}
+use Rattle.rht_core.proofs.Tracing.TracedJobs.{Performs}
+use Rattle.rht_core.proofs.Reasons.AttachedTables.{IsNoFutureExchange, IsNoAttach, no_attach, lock-none, make-none, unmake-none}
+
+-- what is so of one of the elements is so of one before the last, or of that one
+Any-last : {X : Type 0} (P : X → Type 0) (xs : List X) (x : X) → Any P (xs ++ x ∷ []) → Any P xs ⊎ P x
+Any-last P xs x (k, y, within, is, holds) = elim (cases_lt k (length xs)) [
+  | inl low ↦ inl (k, y, low, sym (get_or_append_left xs (x ∷ []) y k low) ∙ is, holds)
+  | inr high ↦
+      let at : k ≡ length xs = omega (arith, within, high, length-append xs (x ∷ [])) in
+      let here : x ≡ y = sym (get_or-append_seam xs x [] y) ∙ sym (ap (λ i. get_or (xs ++ x ∷ []) i y) at) ∙ is in
+      inr (subst P (sym here) holds)
+]
 
 module _ (g : Geometry) where
   -- the futures that were loaded lead from one table to another
@@ -183,21 +207,68 @@ module _ (env : Env) where
     pub shape_read : Loaded env.geometry (Slot last.table ShapeWord) shape.old shape
     pub same : shape.old ≡ last.shape
 
+  -- ---- what was chosen, and what has become of it
+
+  -- no operation attached a table behind that of this slot
+  abbrev NoneAttached : ℕ → List Did → Type 0
+  NoneAttached last steps = AllByRecursion (λ did. (slot : ℕ) → Attaches env.geometry last slot did → ⊥) steps
+
   -- it has chosen a table of this size behind that one
   pub record Wants (wanted : Wanted) (steps : List Did) : Type 0 where
     pub chose : HasChosen env (Attach wanted.size) steps
     pub root_same : chose.root ≡ wanted.root
     pub last_same : chose.last ≡ wanted.last.table
     pub shape_same : chose.shape.old ≡ wanted.last.shape
+    pub none : NoneAttached chose.last chose.behind
 
   pub record Makes (wanted : Wanted) (make : MakeModel) (steps : List Did) : Type 0 where
     pub wants : Wants wanted steps
     pub making : IsMakingTo (make_new env.geometry wanted.size env.config.seed false) make (map performed_of wants.chose.behind)
 
+  -- none was due; one was and is attached; or it isn't
+  abbrev pub DueSaw : Due → ℕ → Choice → List Did → Type 0
+  DueSaw dues.Nothing last choice behind = choice ≡ Nothing
+  DueSaw dues.Attached last choice behind = Any (λ did. (slot : ℕ) × Attaches env.geometry last slot did) behind
+  DueSaw dues.Later last choice behind = IsUnattached env.geometry last choice behind
+
+  pub record HasDue (root : ℕ) (due : Due) (steps : List Did) : Type 0 where
+    pub choice : Choice
+    pub chose : HasChosen env choice steps
+    pub root_same : chose.root ≡ root
+    pub saw : DueSaw due chose.last choice chose.behind
+
+  -- and it is to be attached behind this one
+  pub record IsToAttach (root last : ℕ) (steps : List Did) : Type 0 where
+    pub due : HasDue root dues.Later steps
+    pub last_same : due.chose.last ≡ last
+
+  -- it has loaded this table as the future of the current one, which it moves
+  pub record Moves (future : ℕ) (again : Bool) (steps : List Did) : Type 0 where
+    pub choice : Choice
+    pub chose : HasChosen env choice steps
+    pub followed :
+        Any (λ did. Loaded env.geometry (Slot chose.root FutureWord) did.old did × (slot_of did.old ≡ Some future)) chose.behind
+    pub again_right : (again ≡ true) ↔ IsUnattached env.geometry chose.last choice chose.behind
+
+  -- and has made it the current one
+  pub record HasMoved (rehash : Rehash) (steps : List Did) : Type 0 where
+    pub saw : SawPublished env rehash.again steps
+    pub same : saw.table ≡ rehash.future
+
+  abbrev pub RehashSaw : Rehash → List Did → Type 0
+  RehashSaw rehash steps = Moves rehash.future rehash.again steps
+
+  -- no move stops
+  abbrev pub UnlockingSaw : Rehash → Bool → List Did → Type 0
+  UnlockingSaw rehash true steps = ⊥
+  UnlockingSaw rehash false steps = RehashSaw rehash steps
+
   -- for an answer
   abbrev pub SawForWork : Reply → List Did → Type 0
   SawForWork Elsewhere steps = Any (FindsWorkLocked env.geometry) steps
   SawForWork (NoTable size) steps = SawNoTableDue env size steps
+  SawForWork Idle steps = SawNothingDue env steps
+  SawForWork (Moved again) steps = SawPublished env again steps
   SawForWork _ steps = Unit {0}
 
   abbrev pub SawAtWork : WorkAt → List Did → Type 0
@@ -206,24 +277,24 @@ module _ (env : Env) where
   SawAtWork (at.LastTable root seek) steps = SeekSaw root seek.at steps
   SawAtWork (at.Count root last) steps = Measures root last steps
   SawAtWork (at.Making wanted make) steps = Makes wanted make steps
-  SawAtWork (at.Attaching root last slot shape) steps = Unit {0}
-  SawAtWork (at.Unmaking root unmake) steps = Unit {0}
-  SawAtWork (at.RootFuture root due) steps = Unit {0}
-  SawAtWork (at.RootShape root future again) steps = Unit {0}
-  SawAtWork (at.Locking rehash number lock) steps = Unit {0}
-  SawAtWork (at.EntryTable emptying seek) steps = Unit {0}
-  SawAtWork (at.Seed emptying last) steps = Unit {0}
-  SawAtWork (at.BucketWord emptying target) steps = Unit {0}
-  SawAtWork (at.Walking emptying target walk) steps = Unit {0}
-  SawAtWork (at.Key emptying target entry) steps = Unit {0}
-  SawAtWork (at.LockingSecond emptying entry table lock) steps = Unit {0}
-  SawAtWork (at.EntryLink emptying entry second) steps = Unit {0}
-  SawAtWork (at.Linking emptying entry second) steps = Unit {0}
-  SawAtWork (at.CuttingOff emptying entry) steps = Unit {0}
-  SawAtWork (at.Unlocking rehash number unlock stop) steps = Unit {0}
-  SawAtWork (at.Publishing rehash) steps = Unit {0}
-  SawAtWork (at.NewFuture rehash) steps = Unit {0}
-  SawAtWork (at.Retiring root again) steps = Unit {0}
+  SawAtWork (at.Attaching root last slot shape) steps = IsToAttach root last steps
+  SawAtWork (at.Unmaking root unmake) steps = HasDue root dues.Later steps
+  SawAtWork (at.RootFuture root due) steps = HasDue root due steps
+  SawAtWork (at.RootShape root future again) steps = Moves future again steps
+  SawAtWork (at.Locking rehash number lock) steps = RehashSaw rehash steps
+  SawAtWork (at.EntryTable emptying seek) steps = RehashSaw emptying.rehash steps
+  SawAtWork (at.Seed emptying last) steps = RehashSaw emptying.rehash steps
+  SawAtWork (at.BucketWord emptying target) steps = RehashSaw emptying.rehash steps
+  SawAtWork (at.Walking emptying target walk) steps = RehashSaw emptying.rehash steps
+  SawAtWork (at.Key emptying target entry) steps = RehashSaw emptying.rehash steps
+  SawAtWork (at.LockingSecond emptying entry table lock) steps = RehashSaw emptying.rehash steps
+  SawAtWork (at.EntryLink emptying entry second) steps = RehashSaw emptying.rehash steps
+  SawAtWork (at.Linking emptying entry second) steps = RehashSaw emptying.rehash steps
+  SawAtWork (at.CuttingOff emptying entry) steps = RehashSaw emptying.rehash steps
+  SawAtWork (at.Unlocking rehash number unlock stop) steps = UnlockingSaw rehash stop steps
+  SawAtWork (at.Publishing rehash) steps = RehashSaw rehash steps
+  SawAtWork (at.NewFuture rehash) steps = HasMoved rehash steps
+  SawAtWork (at.Retiring root again) steps = SawPublished env again steps
   SawAtWork (at.LettingGo outcome) steps = SawForWork (reply_of outcome) steps
 
   abbrev pub SawNextWork : List Did → WorkAt × Next Reply → Type 0
@@ -293,41 +364,60 @@ module _ (env : Env) where
     same = refl;
   }
 
+  -- the load of the count is the last one by which it chooses
+  chosen-saw : (root : ℕ) (last : Last) (choice : Choice) (steps : List Did) (did : Did)
+      → did.op ≡ Load (place_of env.geometry PortCount)
+      → choice_of env did.old last.shape (root == last.table) ≡ choice → Measures root last steps
+      → HasChosen env choice (steps ++ did ∷ [])
+  chosen-saw root last choice steps did is chosen saw =
+      let began = Began-push root (saw.futures ++ saw.shape ∷ []) steps did saw.began in
+      record {
+        root = root;
+        last = last.table;
+        lock = began.lock;
+        current = began.current;
+        futures = saw.futures;
+        shape = saw.shape;
+        count = did;
+        behind = [];
+        split = began.split
+            ∙ ap (λ s. began.lock ∷ began.current ∷ s) (append_assoc saw.futures (saw.shape ∷ []) (did ∷ []));
+        took = began.took;
+        current_read = began.current_read;
+        root_is = began.root_is;
+        futures_read = saw.read;
+        shape_read = saw.shape_read;
+        count_read = reads PortCount did tt is;
+        chosen = ap (λ shape. choice_of env did.old shape (root == last.table)) saw.same ∙ chosen;
+      }
+
   begun-saw : (root : ℕ) (last : Last) (choice : Choice) (steps : List Did) (did : Did)
       → did.op ≡ Load (place_of env.geometry PortCount)
       → choice_of env did.old last.shape (root == last.table) ≡ choice → Measures root last steps
       → SawAtWork (begun env root last choice) (steps ++ did ∷ [])
-  begun-saw root last (Attach size) steps did is chosen saw =
-      let began = Began-push root (saw.futures ++ saw.shape ∷ []) steps did saw.began in
-      record {
-        wants = record {
-          chose = record {
-            root = root;
-            last = last.table;
-            lock = began.lock;
-            current = began.current;
-            futures = saw.futures;
-            shape = saw.shape;
-            count = did;
-            behind = [];
-            split = began.split
-                ∙ ap (λ s. began.lock ∷ began.current ∷ s) (append_assoc saw.futures (saw.shape ∷ []) (did ∷ []));
-            took = began.took;
-            current_read = began.current_read;
-            root_is = began.root_is;
-            futures_read = saw.read;
-            shape_read = saw.shape_read;
-            count_read = reads PortCount did tt is;
-            chosen = ap (λ shape. choice_of env did.old shape (root == last.table)) saw.same ∙ chosen;
-          };
-          root_same = refl;
-          last_same = refl;
-          shape_same = saw.same;
-        };
-        making = making_begins (make_new env.geometry size env.config.seed false);
-      }
-  begun-saw root last Later steps did is chosen saw = tt
-  begun-saw root last Nothing steps did is chosen saw = tt
+  unfolding chosen-saw
+  begun-saw root last (Attach size) steps did is chosen saw = record {
+    wants = record {
+      chose = chosen-saw root last (Attach size) steps did is chosen saw;
+      root_same = refl;
+      last_same = refl;
+      shape_same = saw.same;
+      none = tt;
+    };
+    making = making_begins (make_new env.geometry size env.config.seed false);
+  }
+  begun-saw root last Later steps did is chosen saw = record {
+    choice = Later;
+    chose = chosen-saw root last Later steps did is chosen saw;
+    root_same = refl;
+    saw = ((λ e. absurd (cc)), tt);
+  }
+  begun-saw root last Nothing steps did is chosen saw = record {
+    choice = Nothing;
+    chose = chosen-saw root last Nothing steps did is chosen saw;
+    root_same = refl;
+    saw = refl;
+  }
 
   -- what was chosen stays so
   HasChosen-push : (choice : Choice) (steps : List Did) (did : Did) → HasChosen env choice steps
@@ -352,14 +442,66 @@ module _ (env : Env) where
     chosen = chose.chosen;
   }
 
-  Wants-push : (wanted : Wanted) (steps : List Did) (did : Did) → Wants wanted steps → Wants wanted (steps ++ did ∷ [])
+  NoneAttached-push : (last : ℕ) (steps : List Did) (did : Did) → IsNoAttach env.geometry did → NoneAttached last steps
+      → NoneAttached last (steps ++ did ∷ [])
+  NoneAttached-push last steps did quiet none =
+      AllByRecursion-push (λ did. (slot : ℕ) → Attaches env.geometry last slot did → ⊥) steps did none
+      (λ slot attaches. quiet (record { table = last; slot = slot; attaches = attaches }))
+
+  NoneAttached-cut : (last : ℕ) (steps : List Did) (did : Did) → NoneAttached last (steps ++ did ∷ [])
+      → NoneAttached last steps
+  NoneAttached-cut last steps did none =
+      (AllByRecursion-cut (λ did. (slot : ℕ) → Attaches env.geometry last slot did → ⊥) steps (did ∷ []) none).0
+
+  Wants-push : (wanted : Wanted) (steps : List Did) (did : Did) → IsNoAttach env.geometry did → Wants wanted steps
+      → Wants wanted (steps ++ did ∷ [])
   unfolding HasChosen-push
-  Wants-push wanted steps did wants = record {
+  Wants-push wanted steps did quiet wants = record {
     chose = HasChosen-push (Attach wanted.size) steps did wants.chose;
     root_same = wants.root_same;
     last_same = wants.last_same;
     shape_same = wants.shape_same;
+    none = NoneAttached-push wants.chose.last wants.chose.behind did quiet wants.none;
   }
+
+  DueSaw-push : (due : Due) (last : ℕ) (choice : Choice) (behind : List Did) (did : Did) → IsNoAttach env.geometry did
+      → DueSaw due last choice behind → DueSaw due last choice (behind ++ did ∷ [])
+  DueSaw-push dues.Nothing last choice behind did quiet saw = saw
+  DueSaw-push dues.Attached last choice behind did quiet saw =
+      Any-append_left (λ did. (slot : ℕ) × Attaches env.geometry last slot did) behind (did ∷ []) saw
+  DueSaw-push dues.Later last choice behind did quiet saw = (saw.0, NoneAttached-push last behind did quiet saw.1)
+
+  HasDue-push : (root : ℕ) (due : Due) (steps : List Did) (did : Did) → IsNoAttach env.geometry did → HasDue root due steps
+      → HasDue root due (steps ++ did ∷ [])
+  unfolding HasChosen-push
+  HasDue-push root due steps did quiet has = record {
+    choice = has.choice;
+    chose = HasChosen-push has.choice steps did has.chose;
+    root_same = has.root_same;
+    saw = DueSaw-push due has.chose.last has.choice has.chose.behind did quiet has.saw;
+  }
+
+  Moves-push : (future : ℕ) (again : Bool) (steps : List Did) (did : Did) → IsNoAttach env.geometry did
+      → Moves future again steps → Moves future again (steps ++ did ∷ [])
+  unfolding HasChosen-push
+  Moves-push future again steps did quiet moves =
+      let last = moves.chose.last in
+      let behind = moves.chose.behind in
+      record {
+        choice = moves.choice;
+        chose = HasChosen-push moves.choice steps did moves.chose;
+        followed = Any-append_left _ behind (did ∷ []) moves.followed;
+        again_right = (
+          λ is.
+              let so = moves.again_right.0 is in
+              (so.0, NoneAttached-push last behind did quiet so.1),
+          λ so. moves.again_right.1 (so.0, NoneAttached-cut last behind did so.1),
+        );
+      }
+
+  -- the operation finds that the table of this slot has a future
+  abbrev FindsFurther : ℕ → Did → Type 0
+  FindsFurther table did = Loaded env.geometry (Slot table FutureWord) did.old did × (slot_of did.old ≢ None)
 
   -- an operation of the making among what it performed
   performed-push : (make : MakeModel) (behind : List Did) (did : Did) → did.op ≡ make_plan make
@@ -367,6 +509,15 @@ module _ (env : Env) where
   performed-push make behind did is =
       map-append performed_of behind (did ∷ [])
       ∙ ap (λ (op : Op). map performed_of behind ++ record { op = op; old = did.old } ∷ []) is
+
+  -- a table that was wanted is due, and isn't attached
+  wanted-due : (wanted : Wanted) (all : List Did) → Wants wanted all → HasDue wanted.root dues.Later all
+  wanted-due wanted all wants = record {
+    choice = Attach wanted.size;
+    chose = wants.chose;
+    root_same = wants.root_same;
+    saw = ((λ e. absurd (cc)), wants.none);
+  }
 
   refused-saw : (wanted : Wanted) (all : List Did) → (wants : Wants wanted all)
       → AreSlotsSeenTaken env.geometry (map performed_of wants.chose.behind)
@@ -385,7 +536,7 @@ module _ (env : Env) where
         ];
         room = room;
       })
-      (λ f. tt)
+      (λ f. wanted-due wanted all wants)
     where
       or_cases : (a b : Bool) → (a || b) ≡ true → (a ≡ true) ⊎ (b ≡ true)
       or_cases true b is = inl refl
@@ -394,91 +545,327 @@ module _ (env : Env) where
   made-saw : (wanted : Wanted) (make : MakeModel) (steps : List Did) (did : Did) (next : Next (Option (ℕ × ℕ)))
       → did.op ≡ make_plan make → (make_after make did.old).1 ≡ next → Makes wanted make steps
       → SawAtWork (made wanted (make_after make did.old).0 next) (steps ++ did ∷ [])
-  unfolding HasChosen-push Wants-push
-  made-saw wanted make steps did Go is goes saw =
-      let first = make_new env.geometry wanted.size env.config.seed false in
-      record {
-        wants = Wants-push wanted steps did saw.wants;
-        making =
-            subst (IsMakingTo first (make_after make did.old).0) (sym (performed-push make saw.wants.chose.behind did is))
-            (making_goes first make (map performed_of saw.wants.chose.behind) did.old goes saw.making);
-      }
-  made-saw wanted make steps did (Done None) is fails saw =
-      refused-saw wanted (steps ++ did ∷ []) (Wants-push wanted steps did saw.wants)
-      (subst (λ s. AreSlotsSeenTaken env.geometry s ⊎ AreRunsSeenInTurn env.geometry (pages_for wanted.size) 0 s)
-      (sym (performed-push make saw.wants.chose.behind did is))
-      (making_fails env.geometry wanted.size env.config.seed make (map performed_of saw.wants.chose.behind) did.old fails
-      saw.making))
-  made-saw wanted make steps did (Done (Some table)) is ends saw = tt
+  unfolding HasChosen-push Wants-push wanted-due
+  made-saw wanted make steps did next is after saw = go next after
+    where
+      quiet : IsNoAttach env.geometry did
+      quiet = no_attach env.geometry did (make_plan make) is
+          (make-none env.geometry make.geometry make.exponent make.seed make.at)
 
-  -- ---- states of which nothing is kept
+      wants : Wants wanted (steps ++ did ∷ [])
+      wants = Wants-push wanted steps did quiet saw.wants
 
-  attached-saw : (root slot shape future : ℕ) (all : List Did) → SawAtWork (attached env.geometry root slot shape future) all
-  attached-saw root slot shape future all =
-      by_test (λ t. SawAtWork (cond t (at.RootFuture root dues.Attached) (at.Unmaking root (unmake_new env.geometry slot shape))) all)
-      (future == 0) (λ t. tt) (λ f. tt)
+      go : (next : Next (Option (ℕ × ℕ))) → (make_after make did.old).1 ≡ next
+          → SawAtWork (made wanted (make_after make did.old).0 next) (steps ++ did ∷ [])
+      go Go goes =
+          let first = make_new env.geometry wanted.size env.config.seed false in
+          record {
+            wants = wants;
+            making =
+                subst (IsMakingTo first (make_after make did.old).0) (sym (performed-push make saw.wants.chose.behind did is))
+                (making_goes first make (map performed_of saw.wants.chose.behind) did.old goes saw.making);
+          }
+      go (Done None) fails =
+          refused-saw wanted (steps ++ did ∷ []) wants
+          (subst (λ s. AreSlotsSeenTaken env.geometry s ⊎ AreRunsSeenInTurn env.geometry (pages_for wanted.size) 0 s)
+          (sym (performed-push make saw.wants.chose.behind did is))
+          (making_fails env.geometry wanted.size env.config.seed make (map performed_of saw.wants.chose.behind) did.old fails
+          saw.making))
+      go (Done (Some table)) ends =
+          record { due = wanted-due wanted (steps ++ did ∷ []) wants; last_same = wants.last_same }
 
-  unmade-saw : (root : ℕ) (unmake : UnmakeModel) (next : Next (Unit {0})) (all : List Did)
+  -- ---- the table is attached, or another one was
+
+  attached-saw : (root last slot shape : ℕ) (steps : List Did) (did : Did) → last < 8 → slot < 8
+      → did.op ≡ plan_at env (at.Attaching root last slot shape) → IsToAttach root last steps
+      → SawAtWork (attached env.geometry root slot shape did.old) (steps ++ did ∷ [])
+  unfolding HasChosen-push
+  attached-saw root last slot shape steps did last_in slot_in is saw =
+      let due = saw.due in
+      let all = steps ++ did ∷ [] in
+      by_test
+      (λ t. SawAtWork (cond t (at.RootFuture root dues.Attached) (at.Unmaking root (unmake_new env.geometry slot shape))) all)
+      (did.old == 0)
+      (λ t. record {
+        choice = due.choice;
+        chose = HasChosen-push due.choice steps did due.chose;
+        root_same = due.root_same;
+        saw =
+            Any-push (λ did. (slot : ℕ) × Attaches env.geometry due.chose.last slot did) due.chose.behind did
+            (subst (λ l. (slot : ℕ) × Attaches env.geometry l slot did) (sym saw.last_same)
+            (slot, record { table_in = last_in; slot_in = slot_in; exchanges = is; found = eqb-true did.old 0 t }));
+      })
+      (λ f. HasDue-push root dues.Later steps did (λ some. eqb-false did.old 0 f some.attaches.found) due)
+
+  unmade-saw : (root : ℕ) (unmake : UnmakeModel) (next : Next (Unit {0})) (all : List Did) → HasDue root dues.Later all
       → SawAtWork (unmade root unmake next) all
-  unmade-saw root unmake Go all = tt
-  unmade-saw root unmake (Done done) all = tt
+  unmade-saw root unmake Go all saw = saw
+  unmade-saw root unmake (Done done) all saw = saw
 
-  idle-saw : (root : ℕ) (due : Due) (next : Option ℕ) (all : List Did) → SawAtWork (future_or_idle root due next) all
-  idle-saw root due None all = tt
-  idle-saw root due (Some next) all = tt
+  -- ---- the future of the current table
 
-  locking-saw : (rehash : Rehash) (number : ℕ) (place : Option ℕ) (all : List Did)
+  -- there is none only where nothing was due
+  nothing-due : (choice : Choice) (steps : List Did) (chose : HasChosen env choice steps) → choice ≡ Nothing
+      → Any (λ did. Loaded env.geometry (Slot chose.root FutureWord) did.old did × (slot_of did.old ≡ None)) chose.behind
+      → SawNothingDue env steps
+  nothing-due Nothing steps chose is none = record { chose = chose; none = none }
+  nothing-due (Attach size) steps chose is none = absurd (cc)
+  nothing-due Later steps chose is none = absurd (cc)
+
+  -- whether a further call has something to do is whether the table that was due isn't attached
+  later-right : (due : Due) (last : ℕ) (choice : Choice) (behind : List Did) → DueSaw due last choice behind
+      → (is_later due ≡ true) ↔ IsUnattached env.geometry last choice behind
+  later-right dues.Nothing last choice behind saw = (λ is. absurd (cc), λ so. absurd (so.0 saw))
+  later-right dues.Attached last choice behind (k, did, within, is, attaches) = (
+    λ e. absurd (cc),
+    λ so.
+        let NoAttachOf : Did → Type 0 = λ did. (slot : ℕ) → Attaches env.geometry last slot did → ⊥ in
+        absurd (subst NoAttachOf is (All-from_recursion NoAttachOf behind so.1 k did within) attaches.0 attaches.1),
+  )
+  later-right dues.Later last choice behind saw = (λ is. saw, λ so. refl)
+
+  future-saw : (root : ℕ) (due : Due) (next : Option ℕ) (steps : List Did) (did : Did) → root < 8
+      → did.op ≡ plan_at env (at.RootFuture root due) → slot_of did.old ≡ next → (next ≡ None → due ≡ dues.Nothing)
+      → HasDue root due steps → SawAtWork (future_or_idle root due next) (steps ++ did ∷ [])
+  unfolding HasChosen-push HasDue-push
+  future-saw root due next steps did l is finds none has = go due next finds none has
+    where
+      quiet : IsNoAttach env.geometry did
+      quiet = no_attach env.geometry did _ is (λ table old new l e. cc)
+
+      loaded : (slot : ℕ) → slot ≡ root → Loaded env.geometry (Slot slot FutureWord) did.old did
+      loaded slot same =
+          subst (λ s. Loaded env.geometry (Slot s FutureWord) did.old did) (sym same) (reads (Slot root FutureWord) did (l, tt) is)
+
+      go : (due : Due) (next : Option ℕ) → slot_of did.old ≡ next → (next ≡ None → due ≡ dues.Nothing) → HasDue root due steps
+          → SawAtWork (future_or_idle root due next) (steps ++ did ∷ [])
+      go dues.Nothing None finds none has =
+          let pushed = HasDue-push root dues.Nothing steps did quiet has in
+          nothing-due pushed.choice (steps ++ did ∷ []) pushed.chose pushed.saw
+          (Any-push (λ did. Loaded env.geometry (Slot has.chose.root FutureWord) did.old did × (slot_of did.old ≡ None))
+          has.chose.behind did (loaded has.chose.root has.root_same, finds))
+      go dues.Attached None finds none has = absurd (let e = none refl in cc)
+      go dues.Later None finds none has = absurd (let e = none refl in cc)
+      go due (Some next) finds none has =
+          let pushed = HasDue-push root due steps did quiet has in
+          record {
+            choice = pushed.choice;
+            chose = pushed.chose;
+            followed =
+                Any-push (λ did. Loaded env.geometry (Slot has.chose.root FutureWord) did.old did × (slot_of did.old ≡ Some next))
+                has.chose.behind did (loaded has.chose.root has.root_same, finds);
+            again_right = later-right due pushed.chose.last pushed.choice pushed.chose.behind pushed.saw;
+          }
+
+  -- ---- the move of the current table
+
+  -- no operation of the move attaches a table
+  goes : (rehash : Rehash) (op : Op) (steps : List Did) (did : Did) → did.op ≡ op → IsNoFutureExchange env.geometry op
+      → RehashSaw rehash steps → RehashSaw rehash (steps ++ did ∷ [])
+  goes rehash op steps did is none saw =
+      Moves-push rehash.future rehash.again steps did (no_attach env.geometry did op is none) saw
+
+  locking-saw : (rehash : Rehash) (number : ℕ) (place : Option ℕ) (all : List Did) → RehashSaw rehash all
       → SawAtWork (locking_or_publish rehash number place) all
-  locking-saw rehash number None all = tt
-  locking-saw rehash number (Some place) all = tt
+  locking-saw rehash number None all saw = saw
+  locking-saw rehash number (Some place) all saw = saw
 
-  locked-saw : (rehash : Rehash) (number : ℕ) (lock : LockModel) (next : Next ℕ) (all : List Did)
+  locked-saw : (rehash : Rehash) (number : ℕ) (lock : LockModel) (next : Next ℕ) (all : List Did) → RehashSaw rehash all
       → SawAtWork (locked env.geometry rehash number lock next) all
-  locked-saw rehash number lock Go all = tt
-  locked-saw rehash number lock (Done word) all = tt
+  locked-saw rehash number lock Go all saw = saw
+  locked-saw rehash number lock (Done word) all saw = saw
 
-  table-saw : (emptying : Emptying) (seek : LastTableModel) (next : Next Last) (all : List Did)
-      → SawAtWork (entry_table_seen emptying seek next) all
-  table-saw emptying seek Go all = tt
-  table-saw emptying seek (Done last) all =
-      by_test (λ t. SawAtWork (cond t (unlocking emptying true) (at.Seed emptying last)) all) (is_nested last.shape)
-      (λ t. tt) (λ f. tt)
-
-  entry-saw : (emptying : Emptying) (target : Target) (first : Option ℕ) (all : List Did)
+  entry-saw : (emptying : Emptying) (target : Target) (first : Option ℕ) (all : List Did) → RehashSaw emptying.rehash all
       → SawAtWork (entry_or_empty env.geometry emptying target first) all
-  entry-saw emptying target None all = tt
-  entry-saw emptying target (Some first) all = tt
+  entry-saw emptying target None all saw = saw
+  entry-saw emptying target (Some first) all saw = saw
 
   walked-saw : (emptying : Emptying) (target : Target) (walk : LastEntryModel) (next : Next Entry) (all : List Did)
-      → SawAtWork (walked emptying target walk next) all
-  walked-saw emptying target walk Go all = tt
-  walked-saw emptying target walk (Done entry) all = tt
-
-  second-saw : (emptying : Emptying) (table : ℕ) (entry : Entry) (place : Option ℕ) (all : List Did)
-      → SawAtWork (second_or_stop emptying table entry place) all
-  second-saw emptying table entry None all = tt
-  second-saw emptying table entry (Some place) all = tt
+      → RehashSaw emptying.rehash all → SawAtWork (walked emptying target walk next) all
+  walked-saw emptying target walk Go all saw = saw
+  walked-saw emptying target walk (Done entry) all saw = saw
 
   second_locked-saw : (emptying : Emptying) (entry : Entry) (table : ℕ) (lock : LockModel) (next : Next ℕ) (all : List Did)
-      → SawAtWork (second_locked emptying entry table lock next) all
-  second_locked-saw emptying entry table lock Go all = tt
-  second_locked-saw emptying entry table lock (Done word) all = tt
+      → RehashSaw emptying.rehash all → SawAtWork (second_locked emptying entry table lock next) all
+  second_locked-saw emptying entry table lock Go all saw = saw
+  second_locked-saw emptying entry table lock (Done word) all saw = saw
 
-  cut-saw : (emptying : Emptying) (before : Option ℕ) (all : List Did) → SawAtWork (cut_off env.geometry emptying before) all
-  cut-saw emptying None all = tt
-  cut-saw emptying (Some before) all = tt
+  cut-none : (place : ℕ) (before : Option ℕ) → IsNoFutureExchange env.geometry (cut_plan env.geometry place before)
+  cut-none place None table old new l e = cc
+  cut-none place (Some before) table old new l e = cc
 
-  unlocked-saw : (rehash : Rehash) (number : ℕ) (stop : Bool) (all : List Did)
-      → SawAtWork (unlocked_bucket env.geometry rehash number stop) all
-  unlocked-saw rehash number true all = tt
-  unlocked-saw rehash number false all =
+  cut-saw : (emptying : Emptying) (before : Option ℕ) (all : List Did) → RehashSaw emptying.rehash all
+      → SawAtWork (cut_off env.geometry emptying before) all
+  cut-saw emptying None all saw = saw
+  cut-saw emptying (Some before) all saw = saw
+
+  unlocked-saw : (rehash : Rehash) (number : ℕ) (stop : Bool) (steps : List Did) (did : Did)
+      → IsNoAttach env.geometry did → UnlockingSaw rehash stop steps
+      → SawAtWork (unlocked_bucket env.geometry rehash number stop) (steps ++ did ∷ [])
+  unlocked-saw rehash number true steps did quiet saw = absurd saw
+  unlocked-saw rehash number false steps did quiet saw =
+      let all = steps ++ did ∷ [] in
+      let moves = Moves-push rehash.future rehash.again steps did quiet saw in
       by_test (λ t. SawAtWork (cond t (bucket_or_publish env.geometry rehash (number + 1)) (at.Publishing rehash)) all)
       (nat_lt (number + 1) (size_of (unpacked rehash.shape)))
-      (λ t. locking-saw rehash (number + 1) (bucket_place env.geometry rehash.shape (number + 1)) all) (λ f. tt)
+      (λ t. locking-saw rehash (number + 1) (bucket_place env.geometry rehash.shape (number + 1)) all moves) (λ f. moves)
 
-  retiring-saw : (rehash : Rehash) (next : Option ℕ) (all : List Did) → SawAtWork (retiring rehash next) all
-  retiring-saw rehash None all = tt
-  retiring-saw rehash (Some next) all = tt
+  -- ---- another table is the current one
+
+  publish-saw : (rehash : Rehash) (steps : List Did) (did : Did) → rehash.future < 8
+      → did.op ≡ plan_at env (at.Publishing rehash) → RehashSaw rehash steps → HasMoved rehash (steps ++ did ∷ [])
+  unfolding HasChosen-push Moves-push goes
+  publish-saw rehash steps did l is saw =
+      let pushed = goes rehash _ steps did is (λ table old new l e. cc) saw in
+      record {
+        saw = record {
+          choice = pushed.choice;
+          chose = pushed.chose;
+          table = rehash.future;
+          behind = [];
+          published = record {
+            before = saw.chose.behind;
+            at = did;
+            split = refl;
+            stored = record { table_in = l; stores = is };
+          };
+          followed = saw.followed;
+          again_right = (
+            λ is. inr (pushed.again_right.0 is),
+            λ either. elim either [
+              | inl any ↦ absurd (omega (arith, any.2))
+              | inr so ↦ pushed.again_right.1 so
+            ],
+          );
+        };
+        same = refl;
+      }
+
+  -- what came behind that stays so
+  HasPublished-push : (table : ℕ) (behind steps : List Did) (did : Did) → HasPublished env.geometry table behind steps
+      → HasPublished env.geometry table (behind ++ did ∷ []) (steps ++ did ∷ [])
+  HasPublished-push table behind steps did published = record {
+    before = published.before;
+    at = published.at;
+    split = ap (λ s. s ++ did ∷ []) published.split ∙ append_assoc published.before (published.at ∷ behind) (did ∷ []);
+    stored = published.stored;
+  }
+
+  SawPublished-push : (again : Bool) (steps : List Did) (did : Did) → IsNoAttach env.geometry did
+      → (saw : SawPublished env again steps) → (FindsFurther saw.table did → ⊥) → SawPublished env again (steps ++ did ∷ [])
+  unfolding HasChosen-push HasPublished-push
+  SawPublished-push again steps did quiet saw none =
+      let last = saw.chose.last in
+      record {
+        choice = saw.choice;
+        chose = HasChosen-push saw.choice steps did saw.chose;
+        table = saw.table;
+        behind = saw.behind ++ did ∷ [];
+        published = HasPublished-push saw.table saw.behind saw.chose.behind did saw.published;
+        followed = saw.followed;
+        again_right = (
+          λ is. elim (saw.again_right.0 is) [
+            | inl any ↦ inl (Any-append_left (FindsFurther saw.table) saw.behind (did ∷ []) any)
+            | inr so ↦ inr (so.0, NoneAttached-push last saw.chose.behind did quiet so.1)
+          ],
+          λ either. elim either [
+            | inl any ↦ elim (Any-last (FindsFurther saw.table) saw.behind did any) [
+              | inl before ↦ saw.again_right.1 (inl before)
+              | inr here ↦ absurd (none here)
+            ]
+            | inr so ↦ saw.again_right.1 (inr (so.0, NoneAttached-cut last saw.chose.behind did so.1))
+          ],
+        );
+      }
+
+  -- a store attaches nothing and finds nothing
+  stored-saw : (again : Bool) (place value : ℕ) (steps : List Did) (did : Did) → did.op ≡ Store place value
+      → SawPublished env again steps → SawPublished env again (steps ++ did ∷ [])
+  stored-saw again place value steps did is saw =
+      SawPublished-push again steps did (no_attach env.geometry did _ is (λ table old new l e. cc)) saw
+      (λ finds. let loads = finds.0.word.loads in cc)
+
+  retiring-saw : (rehash : Rehash) (next : Option ℕ) (steps : List Did) (did : Did) → rehash.future < 8
+      → did.op ≡ plan_at env (at.NewFuture rehash) → slot_of did.old ≡ next → HasMoved rehash steps
+      → SawAtWork (retiring rehash next) (steps ++ did ∷ [])
+  unfolding HasChosen-push HasPublished-push
+  retiring-saw rehash None steps did l is finds moved =
+      SawPublished-push rehash.again steps did (no_attach env.geometry did _ is (λ table old new l e. cc)) moved.saw
+      (λ further. further.1 finds)
+  retiring-saw rehash (Some next) steps did l is finds moved =
+      let saw = moved.saw in
+      let loaded =
+      subst (λ s. Loaded env.geometry (Slot s FutureWord) did.old did) (sym moved.same)
+      (reads (Slot rehash.future FutureWord) did (l, tt) is) in
+      record {
+        choice = saw.choice;
+        chose = HasChosen-push saw.choice steps did saw.chose;
+        table = saw.table;
+        behind = saw.behind ++ did ∷ [];
+        published = HasPublished-push saw.table saw.behind saw.chose.behind did saw.published;
+        followed = saw.followed;
+        again_right =
+            ((λ e. inl (Any-push (FindsFurther saw.table) saw.behind did (loaded, λ none. absurd (cc)))), λ either. refl);
+      }
+
+  -- ---- what the caller knows
+
+  module _ (mix : ℕ → ℕ → ℕ → ℕ) where
+    -- what the future of the current table is, of which it knows that it has one
+    found_none : (root : ℕ) (due : Due) (did : Did) → (does : Performs mix env (works (at.RootFuture root due)) did)
+        → slot_of did.old ≡ None → WorkMeans env mix does.caller (mem env mix does.words) does.ghost (Rooted root Onward) → ⊥
+    found_none root due did does none knows =
+        let found : did.old ≡ mem env mix does.words (Slot root FutureWord) =
+        does.found ∙ ap (old_of does.words) does.planned in
+        has_future env mix does.caller (mem env mix does.words) does.ghost does.whole root knows
+        (sym (ap slot_of found) ∙ none)
+
+    -- and its shape, where it is the last one
+    flat_shape : (emptying : Emptying) (h : Geometry) (slot : ℕ) (did : Did)
+        → Performs mix env (works (at.EntryTable emptying (record { geometry = h; at = seeks.Shape slot }))) did
+        → is_nested did.old ≡ false
+    flat_shape emptying h slot did does =
+        let found : did.old ≡ mem env mix does.words (Slot slot ShapeWord) =
+        does.found ∙ ap (old_of does.words)
+        (does.planned ∙ ap (λ (g : Geometry). last_table_plan_at g (seeks.Shape slot)) does.within.seek_in.geometry_same) in
+        ap is_nested found
+        ∙ flat_seen env mix does.caller (mem env mix does.words) does.ghost does.whole slot
+        does.knows.knowing.means.work.more.aim_is.table
+
+    -- where a table was due the current one has a future
+    nothing-found : (root : ℕ) (due : Due) (did : Did) → Performs mix env (works (at.RootFuture root due)) did
+        → slot_of did.old ≡ None → due ≡ dues.Nothing
+    nothing-found root dues.Nothing did does none = refl
+    nothing-found root dues.Attached did does none = absurd (found_none root dues.Attached did does none does.knows.knowing.means.work)
+    nothing-found root dues.Later did does none = absurd (found_none root dues.Later did does none does.knows.knowing.means.work)
+
+    -- no table is nested
+    table-saw : (emptying : Emptying) (h : Geometry) (state : LastTableAt) (steps : List Did) (did : Did)
+        → let seek : LastTableModel = record { geometry = h; at = state } in
+        Performs mix env (works (at.EntryTable emptying seek)) did → RehashSaw emptying.rehash steps
+        → let next = last_table_after seek did.old in
+        SawAtWork (entry_table_seen emptying next.0 next.1) (steps ++ did ∷ [])
+    table-saw emptying h (seeks.Future slot) steps did does saw =
+        goes emptying.rehash _ steps did does.planned (λ table old new l e. cc) saw
+    table-saw emptying h (seeks.Shape slot) steps did does saw =
+        let last : Last = record { table = slot; shape = did.old } in
+        let flat = flat_shape emptying h slot did does in
+        subst (λ t. SawAtWork (cond t (unlocking emptying true) (at.Seed emptying last)) (steps ++ did ∷ [])) (sym flat)
+        (goes emptying.rehash _ steps did does.planned (λ table old new l e. cc) saw)
+
+    -- and each bucket of one is there
+    key-saw : (emptying : Emptying) (target : Target) (entry : Entry) (steps : List Did) (did : Did)
+        → Performs mix env (works (at.Key emptying target entry)) did → RehashSaw emptying.rehash steps
+        → SawAtWork (keyed mix env.geometry emptying target entry did.old) (steps ++ did ∷ [])
+    key-saw emptying target entry steps did does saw =
+        let aim = key_seen env mix does.caller (mem env mix does.words) does.ghost does.whole (known_rehash emptying.rehash)
+        (known_place emptying) (known_entry entry) target.table target.shape target.seed does.knows.knowing.means.work in
+        let found : did.old ≡ mem env mix does.words (Node entry.node KeyWord) =
+        does.found ∙ ap (old_of does.words) does.planned in
+        let there = ap (λ key. bucket_place env.geometry target.shape (bucket_of mix (port_of key) target.shape target.seed)) found
+        ∙ aim.there in
+        subst (λ place. SawAtWork (second_or_stop emptying target.table entry place) (steps ++ did ∷ [])) (sym there)
+        (goes emptying.rehash _ steps did does.planned (λ table old new l e. cc) saw)
 
   -- ---- all states
 
@@ -499,52 +886,73 @@ module _ (env : Env) where
         ];
       }
 
-  ended-saw : (outcome : Outcome) (steps : List Did) (did : Did) → SawForWork (reply_of outcome) steps
-      → SawForWork (reply_of outcome) (steps ++ did ∷ [])
-  ended-saw outcomes.Idle steps did saw = tt
-  ended-saw (outcomes.NoTable size) steps did saw = no_table-push size steps did saw
-  ended-saw (outcomes.Moved again) steps did saw = tt
+  idle-push : (steps : List Did) (did : Did) → SawNothingDue env steps → SawNothingDue env (steps ++ did ∷ [])
+  unfolding HasChosen-push
+  idle-push steps did saw = record {
+    chose = HasChosen-push Nothing steps did saw.chose;
+    none = Any-append_left _ saw.chose.behind (did ∷ []) saw.none;
+  }
 
-  pub work-saw : (mix : ℕ → ℕ → ℕ → ℕ) (state : WorkAt) (steps : List Did) (did : Did) → IsWorkAtIn env state
-      → did.op ≡ plan_at env state → SawAtWork state steps → SawNextWork (steps ++ did ∷ []) (after_at mix env state did.old)
-  work-saw mix at.WorkLock steps did within is saw = lock-saw steps did is saw
-  work-saw mix at.CurrentTable steps did within is saw = current-saw steps did is saw
-  work-saw mix (at.LastTable root seek) steps did within is saw =
-      last-saw root seek.geometry seek.at steps did within.seek_in.at_in
-      (is ∙ ap (λ (h : Geometry). last_table_plan_at h seek.at) within.seek_in.geometry_same) saw
-  work-saw mix (at.Count root last) steps did within is saw =
-      begun-saw root last (choice_of env did.old last.shape (root == last.table)) steps did is refl saw
-  work-saw mix (at.Making wanted make) steps did within is saw =
-      made-saw wanted make steps did (make_after make did.old).1 is refl saw
-  work-saw mix (at.Attaching root last slot shape) steps did within is saw =
-      attached-saw root slot shape did.old (steps ++ did ∷ [])
-  work-saw mix (at.Unmaking root unmake) steps did within is saw =
+  ended-saw : (outcome : Outcome) (steps : List Did) (did : Did) → did.op ≡ plan_at env (at.LettingGo outcome)
+      → SawForWork (reply_of outcome) steps → SawForWork (reply_of outcome) (steps ++ did ∷ [])
+  ended-saw outcomes.Idle steps did is saw = idle-push steps did saw
+  ended-saw (outcomes.NoTable size) steps did is saw = no_table-push size steps did saw
+  ended-saw (outcomes.Moved again) steps did is saw = stored-saw again _ _ steps did is saw
+
+  pub work-saw : (mix : ℕ → ℕ → ℕ → ℕ) (state : WorkAt) (steps : List Did) (did : Did)
+      → Performs mix env (works state) did → SawAtWork state steps
+      → SawNextWork (steps ++ did ∷ []) (after_at mix env state did.old)
+  work-saw mix at.WorkLock steps did does saw = lock-saw steps did does.planned saw
+  work-saw mix at.CurrentTable steps did does saw = current-saw steps did does.planned saw
+  work-saw mix (at.LastTable root seek) steps did does saw =
+      last-saw root seek.geometry seek.at steps did does.within.seek_in.at_in
+      (does.planned ∙ ap (λ (h : Geometry). last_table_plan_at h seek.at) does.within.seek_in.geometry_same) saw
+  work-saw mix (at.Count root last) steps did does saw =
+      begun-saw root last (choice_of env did.old last.shape (root == last.table)) steps did does.planned refl saw
+  work-saw mix (at.Making wanted make) steps did does saw =
+      made-saw wanted make steps did (make_after make did.old).1 does.planned refl saw
+  work-saw mix (at.Attaching root last slot shape) steps did does saw =
+      attached-saw root last slot shape steps did does.within.last_in does.within.made_in.slot_in does.planned saw
+  work-saw mix (at.Unmaking root unmake) steps did does saw =
       unmade-saw root (unmake_after unmake did.old).0 (unmake_after unmake did.old).1 (steps ++ did ∷ [])
-  work-saw mix (at.RootFuture root due) steps did within is saw = idle-saw root due (slot_of did.old) (steps ++ did ∷ [])
-  work-saw mix (at.RootShape root future again) steps did within is saw =
-      locking-saw (record { root = root; future = future; shape = did.old; again = again }) 0
-      (bucket_place env.geometry did.old 0) (steps ++ did ∷ [])
-  work-saw mix (at.Locking rehash number lock) steps did within is saw =
+      (HasDue-push root dues.Later steps did
+      (no_attach env.geometry did _ does.planned (unmake-none env.geometry unmake.geometry unmake.slot unmake.at)) saw)
+  work-saw mix (at.RootFuture root due) steps did does saw =
+      future-saw root due (slot_of did.old) steps did does.within does.planned refl (nothing-found mix root due did does) saw
+  work-saw mix (at.RootShape root future again) steps did does saw =
+      let rehash : Rehash = record { root = root; future = future; shape = did.old; again = again } in
+      locking-saw rehash 0 (bucket_place env.geometry did.old 0) (steps ++ did ∷ [])
+      (goes rehash _ steps did does.planned (λ table old new l e. cc) saw)
+  work-saw mix (at.Locking rehash number lock) steps did does saw =
       locked-saw rehash number (lock_after lock did.old).0 (lock_after lock did.old).1 (steps ++ did ∷ [])
-  work-saw mix (at.EntryTable emptying seek) steps did within is saw =
-      table-saw emptying (last_table_after seek did.old).0 (last_table_after seek did.old).1 (steps ++ did ∷ [])
-  work-saw mix (at.Seed emptying last) steps did within is saw = tt
-  work-saw mix (at.BucketWord emptying target) steps did within is saw =
+      (goes rehash _ steps did does.planned (lock-none env.geometry lock.place lock.at does.within.lock_in.place_in) saw)
+  work-saw mix (at.EntryTable emptying seek) steps did does saw =
+      table-saw mix emptying seek.geometry seek.at steps did does saw
+  work-saw mix (at.Seed emptying last) steps did does saw =
+      goes emptying.rehash _ steps did does.planned (λ table old new l e. cc) saw
+  work-saw mix (at.BucketWord emptying target) steps did does saw =
       entry-saw (with_word emptying (unlocked did.old)) target
       (node_of env.geometry.nodes (head_of emptying.bucket.place (unlocked did.old))) (steps ++ did ∷ [])
-  work-saw mix (at.Walking emptying target walk) steps did within is saw =
+      (goes emptying.rehash _ steps did does.planned (λ table old new l e. cc) saw)
+  work-saw mix (at.Walking emptying target walk) steps did does saw =
       walked-saw emptying target (last_entry_after walk did.old).0 (last_entry_after walk did.old).1 (steps ++ did ∷ [])
-  work-saw mix (at.Key emptying target entry) steps did within is saw =
-      second-saw emptying target.table entry
-      (bucket_place env.geometry target.shape (bucket_of mix (port_of did.old) target.shape target.seed)) (steps ++ did ∷ [])
-  work-saw mix (at.LockingSecond emptying entry table lock) steps did within is saw =
+      (goes emptying.rehash _ steps did does.planned (λ table old new l e. cc) saw)
+  work-saw mix (at.Key emptying target entry) steps did does saw = key-saw mix emptying target entry steps did does saw
+  work-saw mix (at.LockingSecond emptying entry table lock) steps did does saw =
       second_locked-saw emptying entry table (lock_after lock did.old).0 (lock_after lock did.old).1 (steps ++ did ∷ [])
-  work-saw mix (at.EntryLink emptying entry second) steps did within is saw = tt
-  work-saw mix (at.Linking emptying entry second) steps did within is saw = tt
-  work-saw mix (at.CuttingOff emptying entry) steps did within is saw = cut-saw emptying entry.before (steps ++ did ∷ [])
-  work-saw mix (at.Unlocking rehash number unlock stop) steps did within is saw =
-      unlocked-saw rehash number stop (steps ++ did ∷ [])
-  work-saw mix (at.Publishing rehash) steps did within is saw = tt
-  work-saw mix (at.NewFuture rehash) steps did within is saw = retiring-saw rehash (slot_of did.old) (steps ++ did ∷ [])
-  work-saw mix (at.Retiring root again) steps did within is saw = tt
-  work-saw mix (at.LettingGo outcome) steps did within is saw = ended-saw outcome steps did saw
+      (goes emptying.rehash _ steps did does.planned (lock-none env.geometry lock.place lock.at does.within.lock_in.place_in) saw)
+  work-saw mix (at.EntryLink emptying entry second) steps did does saw =
+      goes emptying.rehash _ steps did does.planned (λ table old new l e. cc) saw
+  work-saw mix (at.Linking emptying entry second) steps did does saw =
+      goes emptying.rehash _ steps did does.planned (λ table old new l e. cc) saw
+  work-saw mix (at.CuttingOff emptying entry) steps did does saw =
+      cut-saw emptying entry.before (steps ++ did ∷ [])
+      (goes emptying.rehash _ steps did does.planned (cut-none emptying.bucket.place entry.before) saw)
+  work-saw mix (at.Unlocking rehash number unlock stop) steps did does saw =
+      unlocked-saw rehash number stop steps did (no_attach env.geometry did _ does.planned (λ table old new l e. cc)) saw
+  work-saw mix (at.Publishing rehash) steps did does saw =
+      publish-saw rehash steps did does.within.tables_in.future_in does.planned saw
+  work-saw mix (at.NewFuture rehash) steps did does saw =
+      retiring-saw rehash (slot_of did.old) steps did does.within.tables_in.future_in does.planned refl saw
+  work-saw mix (at.Retiring root again) steps did does saw = stored-saw again _ _ steps did does.planned saw
+  work-saw mix (at.LettingGo outcome) steps did does saw = ended-saw outcome steps did does.planned saw
