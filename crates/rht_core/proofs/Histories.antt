@@ -18,7 +18,5 @@ pub mod AloneLaw
 pub mod ToldEntries
 -- a run that serves commands has a history that tells so
 pub mod ToldHistories
--- the words that a call leaves, while no other caller is in one
-pub mod LoneCalls
 -- a resizing that was alone and found nothing due leaves nothing due
 pub mod SettledTables

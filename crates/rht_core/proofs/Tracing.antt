@@ -10,5 +10,7 @@ pub mod TracesInRuns
 pub mod TracesAtEvents
 -- in every run each operation stands in the trace of its call
 pub mod StepsInTraces
+-- the words that a call leaves, while no other caller is in one
+pub mod LoneCalls
 -- in every run each call that has ended has a reply of its kind
 pub mod RepliesInRuns

@@ -41,4 +41,5 @@ pub mod Serving
 pub mod ToldHistories
 -- why a resizing was answered as it was
 pub mod WorkCauses
+-- what a resizing leaves that is alone
 pub mod Worked

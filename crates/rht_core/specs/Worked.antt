@@ -17,20 +17,19 @@ use Rattle.rht_core.specs.Traces.{Did, Past, traced_of, behind_call}
 use Rattle.rht_core.specs.StandsFor.{in_force, shape_of, stands_for, AreAllBound}
 use Rattle.rht_core.specs.WorkCauses.{StoresCurrent}
 
--- Nothing is due: one table is in force, which is flat; it has neither too many ports nor, where shrinking is on, too few for its size;
--- and nobody does the work.
+-- Nothing is due: one table is in force, and it is flat; the ports bound are neither too many for its size, where it may grow, nor too
+-- few, where shrinking is on; and nobody has the work lock.
 pub record IsSettled (env : Env) (words : List ℕ) : Type 0 where
   pub ports : ℕ
   pub bound : AreAllBound (stands_for env.geometry words) ports
   pub table : ℕ
-  pub current : table_of (word_at env.geometry words CurrentTable) ≡ table
   pub alone : in_force env.geometry words ≡ table ∷ []
   pub flat : is_nested (shape_of env.geometry words table) ≡ false
   pub not_full : is_above_75 ports (size_of (unpacked (shape_of env.geometry words table))) env.config.max ≡ false
   pub not_sparse : is_sparse env ports (size_of (unpacked (shape_of env.geometry words table))) ≡ false
   pub unlocked : word_at env.geometry words WorkLock ≡ 0
 
--- One of these operations made this table the current one, which it is in the second words; in the first ones that is another table.
+-- one of these operations made this table the current one, which it is behind them; before them another one was
 pub record HasReplaced (g : Geometry) (steps : List Did) (before after : List ℕ) : Type 0 where
   pub table : ℕ
   pub stored : Any (StoresCurrent g table) steps
@@ -55,6 +54,7 @@ module _ (M : Type 0) (mix : ℕ → ℕ → ℕ → ℕ) where
     pub moved : (again : Bool) → past.done.reply ≡ Moved again
         → HasReplaced env.geometry past.steps (words_behind env events past.begin) (words_behind env events (behind_call past))
 
+  -- in every run each resizing has worked so that has ended with no other caller in a call
   abbrev pub Worked : Type 0
   Worked =
       (env : Env) (events : List Event) (c : ℕ) (past : Past) → IsAdmitted env.config.kind events

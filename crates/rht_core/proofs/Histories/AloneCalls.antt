@@ -5,11 +5,9 @@ use Rattle.std.specs.Prelude.{IfSome, is_some}
 use Rattle.std.specs.List.{AllByRecursion}
 use Rattle.std.proofs.lemmas.Bool.{cases_eq, eq-eqb, ne_eqb}
 use Rattle.std.proofs.lemmas.List.{append-nil, append_cancel_left}
-use Rattle.std.proofs.lemmas.Option.{slice_get_within}
 use Rattle.rht_words.specs.declared.env.Env.{Env}
 use Rattle.rht_words.specs.declared.op.Op.{Op}
 use Rattle.rht_words.specs.Operations.{old_of}
-use Rattle.rht_words.proofs.EachElement.{AllByRecursion-last}
 use Rattle.rht_model.specs.declared.history.Call.{Call}
 use Rattle.rht_model.specs.Endings.{Ending, ended_with}
 use Rattle.rht_model.specs.Answers.{port_of}
@@ -19,14 +17,12 @@ use Rattle.rht_core.specs.declared.book.Book.{Book}
 use Rattle.rht_core.specs.declared.local.Doing.{Doing}
 use Rattle.rht_core.specs.Locals.{local_after, ending_of}
 use Rattle.rht_core.specs.Runs.{View, local_of, beginning_in, planned_in, books_begun, books_stepped, book_after}
-use Rattle.rht_core.specs.Traces.{Did, Past, Trace, Traced, trace_did, traces_begun, traces_stepped, traced_step, traced_from, traced_of, behind_steps, behind_call}
-use Rattle.rht_core.specs.Laws.{IsRecorded, IsPastCall}
+use Rattle.rht_core.specs.Traces.{Did, Past, Trace, Traced, trace_did, traces_begun, traces_stepped, traced_step, traced_from, traced_of, behind_call}
 use Rattle.rht_core.specs.Numbered.{Numbered, NeverFalls, entries_of}
 use Rattle.rht_core.specs.Alone.{call_events}
 use Rattle.rht_core.specs.RunHistories.{IsEntryOf, AreOfCalls, about_bindings}
 use Rattle.rht_core.proofs.Events.Worlds.{begin_other, step_other}
 use Rattle.rht_core.proofs.Tracing.TracedRuns.{traced_opening, traced_from-append, count-traced_of, trace_begin_other, trace_step_other}
-use Rattle.rht_core.proofs.Tracing.TracesAtEvents.{behind_steps-push}
 use Rattle.rht_core.proofs.Histories.NumberedEntries.{AllBelow}
 use Rattle.rht_core.proofs.Histories.CallEnds.{AreEnded}
 
@@ -148,19 +144,6 @@ module _ (n c : ℕ) (past : Past) where
           one-before x xs (omega (arith, number, end)) (further rest low.1 now.1)
 
 -- ---- the events of the call
-
--- a call that has ended lies before the end of the run
-pub past-ends : (M : Type 0) (mix : ℕ → ℕ → ℕ → ℕ) (env : Env) (events : List Event) (c : ℕ) (past : Past)
-    → IsPastCall M mix env events c past → behind_call past ≤ length events
-past-ends M mix env events c past is =
-    let answered = is.answered in
-    let steps = subst (AllByRecursion (IsRecorded M mix env events c)) answered.steps_are is.steps in
-    let recorded = AllByRecursion-last (IsRecorded M mix env events c) answered.before answered.last steps in
-    let within = slice_get_within events answered.last.index (Step c) recorded.event in
-    let behind : behind_call past ≡ answered.last.index + 1 =
-    ap (behind_steps (past.begin + 1)) answered.steps_are
-    ∙ behind_steps-push (past.begin + 1) answered.before answered.last in
-    omega (arith, within, behind)
 
 module _ (M : Type 0) (mix : ℕ → ℕ → ℕ → ℕ) (env : Env) (start : List Event) (c : ℕ) (call : Call) where
   -- the run before the call

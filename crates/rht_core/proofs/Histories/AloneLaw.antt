@@ -27,13 +27,13 @@ use Rattle.rht_core.specs.Numbered.{Numbered, history_of, numbered_to, NeverFall
 use Rattle.rht_core.specs.Alone.{entry_done, MeetsModel, IsQuiet, bindings_at, call_events, Alone}
 use Rattle.rht_core.specs.RunHistories.{bindings_behind, ChangesBindings, about_bindings, Fits}
 use Rattle.rht_core.proofs.Tracing.TracedRuns.{world-traced_of}
-use Rattle.rht_core.proofs.Tracing.TracesAtEvents.{at_events}
+use Rattle.rht_core.proofs.Tracing.TracesAtEvents.{at_events, past-ends}
 use Rattle.rht_core.proofs.Tracing.StepsInTraces.{idle-book}
 use Rattle.rht_core.proofs.Reasons.CausesInRuns.{causes}
 use Rattle.rht_core.proofs.Histories.NumberedEntries.{AllBelow, AllBelow-more, numbered_to-before, history_of-push, push-below}
 use Rattle.rht_core.proofs.Histories.CallEnds.{AreEnded, about-push}
 use Rattle.rht_core.proofs.Histories.FittingRuns.{opening-agree, fits}
-use Rattle.rht_core.proofs.Histories.AloneCalls.{none-progress, AreEndedBy, about-ended, ended-below, HasLast, has-last, past-ends, IsAlone, alone-after, HasEnded, has-ended}
+use Rattle.rht_core.proofs.Histories.AloneCalls.{none-progress, AreEndedBy, about-ended, ended-below, HasLast, has-last, IsAlone, alone-after, HasEnded, has-ended}
 
 module _ (M : Type 0) (mix : ℕ → ℕ → ℕ → ℕ) (env : Env) where
   abbrev kind : Kind

@@ -2,15 +2,13 @@
 -- Its operations are loads, but for the two on the work lock. So all words by which it chose are at its end as it loaded them: the
 -- current table, which has no future and so is the only one in force and the last; its shape; and the count, which is that of the ports
 -- bound, since nobody is in a call then.
-use Rattle.std.proofs.Common.{◌≡◌, ◌≢◌, ◌⊎◌, ℕ, suc, ◌+◌, ◌<◌, ◌≤◌, ◌==◌, ◌&&◌, Bool, true, false, cond, min, List, [], ◌∷◌, ◌++◌, take, refl, sym, ap, ◌∙◌, subst, inl, inr, arith}
-use Rattle.std.specs.Prelude.{Option, Some, None, if◌then◌else◌}
+use Rattle.std.proofs.Common.{◌≡◌, ◌≢◌, ℕ, suc, ◌+◌, ◌<◌, ◌≤◌, ◌==◌, Bool, true, false, min, List, [], ◌∷◌, ◌++◌, take, append_assoc, refl, sym, ap, ◌∙◌, subst, inl, inr, arith}
+use Rattle.std.specs.Prelude.{Option, Some, None}
 use Rattle.std.specs.List.{AllByRecursion, Contains}
-use Rattle.std.proofs.lemmas.Bool.{cases_eq, eq-eqb}
-use Rattle.std.proofs.lemmas.List.Elements.{Contains-append_left, Contains-append_right}
-use Rattle.rht_words.specs.declared.op.Op.{Op}
-use Rattle.rht_words.specs.declared.op.Op.TheVariants.{Load, Store}
+use Rattle.std.proofs.lemmas.Bool.{cases_eq}
+use Rattle.std.proofs.lemmas.List.Elements.{All-contains, All-from_recursion, Contains-append_left, Contains-append_right}
+use Rattle.rht_words.specs.declared.op.Op.TheVariants.{Load}
 use Rattle.rht_words.specs.declared.env.Env.{Env}
-use Rattle.rht_words.specs.declared.geometry.Geometry.{Geometry}
 use Rattle.rht_words.specs.Links.{table_of, slot_of}
 use Rattle.rht_words.specs.Operations.{op_place, word_after}
 use Rattle.rht_words.specs.Places.{Address, CurrentTable, WorkLock, PortCount, EnrolledCallers, Slot, ShapeWord, FutureWord, IsAddress, place_of, word_at}
@@ -20,58 +18,24 @@ use Rattle.rht_words.proofs.PlacesApart.{place_of-apart}
 use Rattle.rht_policy.specs.Sizes.{shrunk_size}
 use Rattle.rht_policy.specs.Thresholds.{is_above_75}
 use Rattle.rht_model.specs.declared.history.Call.TheVariants.{Work}
-use Rattle.rht_model.specs.declared.history.Reply.{Reply}
-use Rattle.rht_model.specs.declared.history.Reply.TheVariants.{Idle}
-use Rattle.rht_move.specs.Choice.{choice_of, chosen, is_nested, is_sparse}
+use Rattle.rht_move.specs.Choice.{chosen, is_nested, is_sparse}
 use Rattle.rht_move.specs.declared.work.choice.Choice.{Choice}
 use Rattle.rht_move.specs.declared.work.choice.Choice.TheVariants as choices
 use Rattle.rht_core.specs.declared.event.Event.{Event}
-use Rattle.rht_core.specs.declared.event.Event.TheVariants.{Step}
-use Rattle.rht_core.specs.Locals.{is_idle, local_after}
+use Rattle.rht_core.specs.Locals.{is_idle}
 use Rattle.rht_core.specs.Alone.{IsQuiet}
-use Rattle.rht_core.specs.Counts.{IsAtRest}
-use Rattle.rht_core.specs.StandsFor.{in_force, shape_of, stands_for, tables_from, AreAllBound}
-use Rattle.rht_core.specs.Runs.{Core, World, local_of, planned_in, with_step, core_step, world_step, run_of, IsAdmitted, IsAdmittedEvent}
+use Rattle.rht_core.specs.StandsFor.{shape_of, tables_from}
+use Rattle.rht_core.specs.Runs.{local_of, run_of, IsAdmitted, IsAdmittedEvent}
 use Rattle.rht_core.specs.Traces.{Did, Past, traced_of, IsRising, behind_call}
-use Rattle.rht_core.specs.Laws.{IsRecorded, IsPastCall}
 use Rattle.rht_core.specs.ResizeCauses.{Loaded}
-use Rattle.rht_core.specs.WorkCauses.{TakesWorkLock, AreFuturesRead, HasChosen, StoresCurrent}
-use Rattle.rht_core.specs.Worked.{IsSettled, HasReplaced, IsAloneDuring, words_behind, HasWorked, Worked}
+use Rattle.rht_core.specs.WorkCauses.{AreFuturesRead, HasChosen, SawPublished}
+use Rattle.rht_core.specs.Worked.{IsSettled, HasReplaced, IsAloneDuring, words_behind, Worked}
 use Rattle.rht_core.proofs.Tracing.StepsInTraces.{rising_around}
+use Rattle.rht_core.proofs.Reasons.WorkChoices.{SawIdle, SawReplaced, SawForWork}
+use Rattle.rht_core.proofs.Reasons.CausesInRuns.{SawOf, past-saw}
 use Rattle.rht_core.proofs.Counting.CountedRuns.{counted, at_rest}
 use Rattle.rht_core.proofs.Counting.FullTables.{taken}
-use Rattle.rht_core.proofs.Histories.LoneCalls.{Spares, SparesWithin, steps_rising, begins_before, idle_at_end, loaded_at_end, loaded_at_begin, stored_at_end}
-
--- a resizing that found nothing due chose so, loaded that the current table has no future, and let go of the work lock
-pub record SawIdle (env : Env) (steps : List Did) : Type 0 where
-  pub chose : HasChosen env choices.Nothing steps
-  pub future : Did
-  pub letting : Did
-  pub behind_is : chose.behind ≡ future ∷ letting ∷ []
-  pub future_read : Loaded env.geometry (Slot chose.root FutureWord) future.old future
-  pub none : slot_of future.old ≡ None
-  pub lets : letting.op ≡ Store (place_of env.geometry WorkLock) 0
-
--- these operations made a table the current one, and those behind that leave it so
-pub record HasStored (g : Geometry) (table : ℕ) (steps : List Did) : Type 0 where
-  pub before : List Did
-  pub at : Did
-  pub behind : List Did
-  pub split : steps ≡ before ++ at ∷ behind
-  pub stored : StoresCurrent g table at
-  pub leave : AllByRecursion (Spares (place_of g CurrentTable)) behind
-
--- a resizing that took the work lock and loaded the current table has made another table the current one
-pub record SawReplaced (env : Env) (steps : List Did) : Type 0 where
-  pub lock : Did
-  pub current : Did
-  pub rest : List Did
-  pub split : steps ≡ lock ∷ current ∷ rest
-  pub took : TakesWorkLock env.geometry lock
-  pub current_read : Loaded env.geometry CurrentTable current.old current
-  pub table : ℕ
-  pub stores : HasStored env.geometry table steps
-  pub another : table_of current.old ≢ table
+use Rattle.rht_core.proofs.Tracing.LoneCalls.{Spares, SparesWithin, steps_rising, begins_before, idle_at_end, loaded_at_end, loaded_at_begin, stored_at_end}
 
 -- ---- where nothing is due
 
@@ -106,17 +70,18 @@ module _ (env : Env) where
   futures-load : (root last : ℕ) (futures : List Did) → AreFuturesRead env.geometry root last futures
       → AllByRecursion IsLoad futures
   futures-load root last [] read = absurd read
-  futures-load root last (did ∷ []) read = ((_, read.0.word.loads), tt)
-  futures-load root last (did ∷ next ∷ dids) (slot, read, leads, rest) =
-      ((_, read.word.loads), futures-load slot last (next ∷ dids) rest)
+  futures-load root last (did ∷ []) read = ((_, read.0.0.word.loads), tt)
+  futures-load root last (did ∷ next ∷ dids) (slot, read, rest) =
+      ((_, read.0.word.loads), futures-load slot last (next ∷ dids) rest)
 
   module _ (steps : List Did) (saw : SawIdle env steps) where
+    abbrev chose : HasChosen env choices.Nothing steps
+    chose = saw.chose
+
     -- those of the call, one after another
-    all_steps : steps ≡ (saw.chose.lock ∷ saw.chose.current ∷ saw.chose.futures) ++ saw.chose.shape ∷ saw.chose.count
-        ∷ saw.future ∷ saw.letting ∷ []
-    all_steps = saw.chose.split
-        ∙ ap (λ behind. (saw.chose.lock ∷ saw.chose.current ∷ saw.chose.futures) ++ saw.chose.shape ∷ saw.chose.count ∷ behind)
-        saw.behind_is
+    all_steps : steps ≡ (chose.lock ∷ chose.current ∷ chose.futures) ++ chose.shape ∷ chose.count ∷ saw.future ∷ saw.rest
+    all_steps = chose.split
+        ∙ ap (λ behind. (chose.lock ∷ chose.current ∷ chose.futures) ++ chose.shape ∷ chose.count ∷ behind) saw.behind_is
 
     -- they leave each word but that of the work lock
     all_spare : (address : Address) → IsAddress env.geometry address → address ≢ WorkLock
@@ -125,38 +90,38 @@ module _ (env : Env) where
         let place = place_of env.geometry address in
         let apart : place_of env.geometry WorkLock ≢ place =
         λ same. other (place_of-apart env.geometry address WorkLock there tt (sym same)) in
-        let chose = saw.chose in
-        let end : AllByRecursion (Spares place) (saw.future ∷ saw.letting ∷ []) =
-        (inr (ap (word_after saw.future.old) saw.future_read.word.loads), (inl (λ same. apart (sym (ap op_place saw.lets) ∙ same)), tt)) in
-        let rest : AllByRecursion (Spares place) (chose.shape ∷ chose.count ∷ saw.future ∷ saw.letting ∷ []) = (
+        let rest : AllByRecursion (Spares place) saw.rest =
+        AllByRecursion-weaker (λ (did : Did). op_place did.op ≡ place_of env.geometry WorkLock) (Spares place)
+        (λ did on. inl (λ same. apart (sym on ∙ same))) saw.rest saw.on_lock in
+        let end : AllByRecursion (Spares place) (chose.shape ∷ chose.count ∷ saw.future ∷ saw.rest) = (
           inr (ap (word_after chose.shape.old) chose.shape_read.word.loads),
-          (inr (ap (word_after chose.count.old) chose.count_read.word.loads), end),
+          (
+            inr (ap (word_after chose.count.old) chose.count_read.word.loads),
+            (inr (ap (word_after saw.future.old) saw.future_read.word.loads), rest),
+          ),
         ) in
-        let futures = AllByRecursion-append (Spares place) chose.futures
-        (chose.shape ∷ chose.count ∷ saw.future ∷ saw.letting ∷ [])
-        (loads-spare place chose.futures (futures-load chose.root chose.last chose.futures chose.futures_read)) rest in
+        let futures = AllByRecursion-append (Spares place) chose.futures (chose.shape ∷ chose.count ∷ saw.future ∷ saw.rest)
+        (loads-spare place chose.futures (futures-load chose.root chose.last chose.futures chose.futures_read)) end in
         subst (AllByRecursion (Spares place)) (sym all_steps) (
           inl (λ same. apart (sym (ap op_place chose.took.tries) ∙ same)),
           (inr (ap (word_after chose.current.old) chose.current_read.word.loads), futures),
         )
 
-    -- and these four are among them
-    current_there : Contains steps saw.chose.current
-    current_there = subst (λ s. Contains s saw.chose.current) (sym all_steps) (1, omega arith, refl)
+    -- and these are among them
+    current_there : Contains steps chose.current
+    current_there = subst (λ s. Contains s chose.current) (sym all_steps) (1, omega arith, refl)
 
-    behind_there : (did : Did) → Contains (saw.chose.shape ∷ saw.chose.count ∷ saw.future ∷ saw.letting ∷ []) did
-        → Contains steps did
+    behind_there : (did : Did) → Contains (chose.shape ∷ chose.count ∷ saw.future ∷ saw.rest) did → Contains steps did
     behind_there did there =
         subst (λ s. Contains s did) (sym all_steps)
-        (Contains-append_right (saw.chose.lock ∷ saw.chose.current ∷ saw.chose.futures)
-        (saw.chose.shape ∷ saw.chose.count ∷ saw.future ∷ saw.letting ∷ []) did there)
+        (Contains-append_right (chose.lock ∷ chose.current ∷ chose.futures) (chose.shape ∷ chose.count ∷ saw.future ∷ saw.rest)
+        did there)
 
-    future_there : (did : Did) → Contains saw.chose.futures did → Contains steps did
+    future_there : (did : Did) → Contains chose.futures did → Contains steps did
     future_there did (number, within, is) =
-        let chose = saw.chose in
         subst (λ s. Contains s did) (sym all_steps)
         (Contains-append_left (chose.lock ∷ chose.current ∷ chose.futures)
-        (chose.shape ∷ chose.count ∷ saw.future ∷ saw.letting ∷ []) did (suc (suc number), omega (arith, within), is))
+        (chose.shape ∷ chose.count ∷ saw.future ∷ saw.rest) did (suc (suc number), omega (arith, within), is))
 
 module _ (M : Type 0) (mix : ℕ → ℕ → ℕ → ℕ) (env : Env) (events : List Event) (c : ℕ) (past : Past)
     (admitted : IsAdmitted env.config.kind events)
@@ -201,10 +166,10 @@ module _ (M : Type 0) (mix : ℕ → ℕ → ℕ → ℕ) (env : Env) (events : 
     ends_there : (last : ℕ) (futures : List Did) → AreFuturesRead env.geometry root last futures
         → ((did : Did) → Contains futures did → Contains past.steps did) → root ≡ last
     ends_there last [] read among = absurd read
-    ends_there last (did ∷ []) read among = read.2
-    ends_there last (did ∷ next ∷ dids) (slot, read, leads, rest) among =
-        let same = stands (Slot root FutureWord) did.old did (among did (0, omega arith, refl)) read (λ e. cc) (λ e. cc) in
-        let both : ◌≡◌ {A = Option ℕ} None (Some slot) = sym no_future ∙ ap slot_of same ∙ leads in
+    ends_there last (did ∷ []) read among = read.1
+    ends_there last (did ∷ next ∷ dids) (slot, read, rest) among =
+        let same = stands (Slot root FutureWord) did.old did (among did (0, omega arith, refl)) read.0 (λ e. cc) (λ e. cc) in
+        let both : ◌≡◌ {A = Option ℕ} None (Some slot) = sym no_future ∙ ap slot_of same ∙ read.1 in
         absurd (cc)
 
     last_is : root ≡ saw.chose.last
@@ -247,7 +212,6 @@ module _ (M : Type 0) (mix : ℕ → ℕ → ℕ → ℕ) (env : Env) (events : 
           ports = ports;
           bound = rest.counted;
           table = root;
-          current = current;
           alone =
               ap (λ t. tables_from g after 8 (Some t)) current
               ∙ ap (λ next. root ∷ tables_from g after 7 next) no_future;
@@ -259,69 +223,108 @@ module _ (M : Type 0) (mix : ℕ → ℕ → ℕ → ℕ) (env : Env) (events : 
 
   -- ---- another table
 
-  module _ (saw : SawReplaced env past.steps) where
-    abbrev stores : HasStored env.geometry saw.table past.steps
-    stores = saw.stores
+  module _ (again : Bool) (saw : SawReplaced env again past.steps) where
+    abbrev published : SawPublished env again past.steps
+    published = saw.published
 
-    stored_there : Contains past.steps stores.at
+    abbrev lock : Did
+    lock = published.chose.lock
+
+    abbrev current : Did
+    current = published.chose.current
+
+    abbrev at : Did
+    at = published.published.at
+
+    -- what came behind the load of the current table, and what before the store of another one
+    abbrev rest : List Did
+    rest = published.chose.futures ++ published.chose.shape ∷ published.chose.count ∷ published.chose.behind
+
+    abbrev before : List Did
+    before = (lock ∷ current ∷ published.chose.futures) ++ published.chose.shape ∷ published.chose.count ∷ published.published.before
+
+    from_load : past.steps ≡ lock ∷ current ∷ rest
+    from_load = published.chose.split
+
+    to_store : past.steps ≡ before ++ at ∷ published.behind
+    to_store =
+        let chose = published.chose in
+        let front = lock ∷ current ∷ chose.futures in
+        chose.split ∙ ap (λ behind. front ++ chose.shape ∷ chose.count ∷ behind) published.published.split
+        ∙ sym (append_assoc front (chose.shape ∷ chose.count ∷ published.published.before) (at ∷ published.behind))
+
+    stored_there : Contains past.steps at
     stored_there =
-        subst (λ s. Contains s stores.at) (sym stores.split)
-        (Contains-append_right stores.before (stores.at ∷ stores.behind) stores.at (0, omega arith, refl))
+        subst (λ s. Contains s at) (sym to_store)
+        (Contains-append_right before (at ∷ published.behind) at (0, omega arith, refl))
 
-    loaded_there : Contains past.steps saw.current
-    loaded_there = subst (λ s. Contains s saw.current) (sym saw.split) (1, omega arith, refl)
+    loaded_there : Contains past.steps current
+    loaded_there = subst (λ s. Contains s current) (sym from_load) (1, omega arith, refl)
 
     abbrev place : ℕ
     place = place_of env.geometry CurrentTable
 
+    abbrev Leaves : ℕ → ℕ → Did → Type 0
+    Leaves from to did = SparesWithin M mix env events c past admitted ended alone place from to did
+
     -- no operation stores which table is the current one before this is loaded
-    none_before : AllByRecursion (SparesWithin M mix env events c past admitted ended alone place past.begin saw.current.index) past.steps
+    none_before : AllByRecursion (Leaves past.begin current.index) past.steps
     none_before =
-        let lock = saw.lock in
-        let current = saw.current in
-        let rising = rising_around (past.begin + 1) (lock ∷ []) current saw.rest
-        (subst (IsRising (past.begin + 1)) saw.split (steps_rising M mix env events c past admitted ended alone)) in
-        let P = SparesWithin M mix env events c past admitted ended alone place past.begin current.index in
-        let later : AllByRecursion P saw.rest =
+        let rising = rising_around (past.begin + 1) (lock ∷ []) current rest
+        (subst (IsRising (past.begin + 1)) from_load (steps_rising M mix env events c past admitted ended alone)) in
+        let P = Leaves past.begin current.index in
+        let later : AllByRecursion P rest =
         AllByRecursion-weaker (λ (d : Did). current.index < d.index) P (λ d more first last. absurd (omega (arith, more, last)))
-        saw.rest rising.1 in
+        rest rising.1 in
         let here : P current = λ first last. absurd (omega (arith, last)) in
-        let first : P lock = λ from to. inl (λ same. let both = sym (ap op_place saw.took.tries) ∙ same in absurd (omega (arith, both))) in
-        subst (AllByRecursion P) (sym saw.split) (first, (here, later))
+        let first : P lock = λ from to. inl
+        (λ same. let both = sym (ap op_place published.chose.took.tries) ∙ same in absurd (omega (arith, both))) in
+        subst (AllByRecursion P) (sym from_load) (first, (here, later))
 
     -- nor behind the store
-    none_behind : AllByRecursion (SparesWithin M mix env events c past admitted ended alone place (stores.at.index + 1) (behind_call past)) past.steps
+    none_behind : AllByRecursion (Leaves (at.index + 1) (behind_call past)) past.steps
     none_behind =
-        let at = stores.at in
-        let rising = rising_around (past.begin + 1) stores.before at stores.behind
-        (subst (IsRising (past.begin + 1)) stores.split (steps_rising M mix env events c past admitted ended alone)) in
-        let P = SparesWithin M mix env events c past admitted ended alone place (at.index + 1) (behind_call past) in
-        let before : AllByRecursion P stores.before =
+        let rising = rising_around (past.begin + 1) before at published.behind
+        (subst (IsRising (past.begin + 1)) to_store (steps_rising M mix env events c past admitted ended alone)) in
+        let P = Leaves (at.index + 1) (behind_call past) in
+        let earlier : AllByRecursion P before =
         AllByRecursion-weaker (λ (d : Did). d.index < at.index) P (λ d less first last. absurd (omega (arith, less, first)))
-        stores.before rising.0 in
+        before rising.0 in
         let here : P at = λ first last. absurd (omega (arith, first)) in
-        let behind : AllByRecursion P stores.behind =
-        AllByRecursion-weaker (Spares place) P (λ d spares first last. spares) stores.behind stores.leave in
-        subst (AllByRecursion P) (sym stores.split) (AllByRecursion-append P stores.before (at ∷ stores.behind) before (here, behind))
+        let behind : AllByRecursion P published.behind =
+        AllByRecursion-weaker (Spares place) P (λ d spares first last. spares) published.behind saw.leave in
+        subst (AllByRecursion P) (sym to_store) (AllByRecursion-append P before (at ∷ published.behind) earlier (here, behind))
 
     replaced : HasReplaced env.geometry past.steps (words_behind M mix env events past.begin) after
     replaced =
         let (number, within, is) = stored_there in
-        let stored = stores.stored in
-        let now = stored_at_end M mix env events c past admitted ended alone CurrentTable saw.table stores.at stored_there tt
+        let stored = published.published.stored in
+        let now = stored_at_end M mix env events c past admitted ended alone CurrentTable published.table at stored_there tt
         stored.stores (λ e. cc) none_behind in
-        let was = loaded_at_begin M mix env events c past admitted ended alone CurrentTable saw.current.old saw.current loaded_there
-        saw.current_read (λ e. cc) none_before in
+        let was = loaded_at_begin M mix env events c past admitted ended alone CurrentTable current.old current loaded_there
+        published.chose.current_read (λ e. cc) none_before in
         let table_in = stored.table_in in
         record {
-          table = saw.table;
-          stored = (number, stores.at, within, is, stored);
+          table = published.table;
+          stored = (number, at, within, is, stored);
           current = ap table_of now ∙ omega (arith, table_in);
-          another = λ same. saw.another (sym (ap table_of was) ∙ same);
+          another = λ same. saw.another (sym published.chose.root_is ∙ sym (ap table_of was) ∙ same);
         }
 
+  -- what the operations of the call show
+  saw_work : past.done.call ≡ Work → SawForWork env past.done.reply past.steps
+  saw_work is =
+      let calls = ((traced_of {M = M} mix env events).traces c).past in
+      let P = λ (p : Past). SawOf env p.done.call p.done.reply p.steps in
+      subst (λ call. SawOf env call past.done.reply past.steps) is
+      (All-contains P calls past (All-from_recursion P calls (past-saw M mix env events c admitted)) ended)
+
 pub worked : (M : Type 0) (mix : ℕ → ℕ → ℕ → ℕ) → Worked M mix
-worked M mix env events c past admitted ended work alone = record {
-  idle = λ is. settled M mix env events c past admitted ended alone ?idle;
-  moved = λ again is. replaced M mix env events c past admitted ended alone ?moved;
-}
+worked M mix env events c past admitted ended work alone =
+    let saw = saw_work M mix env events c past admitted ended alone work in
+    record {
+      idle = λ is. settled M mix env events c past admitted ended alone
+          (subst (λ reply. SawForWork env reply past.steps) is saw);
+      moved = λ again is. replaced M mix env events c past admitted ended alone again
+          (subst (λ reply. SawForWork env reply past.steps) is saw);
+    }

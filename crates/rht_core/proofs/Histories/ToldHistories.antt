@@ -41,14 +41,14 @@ use Rattle.rht_core.proofs.Events.CallersNotEnrolled.{not_enrolled}
 use Rattle.rht_core.proofs.Events.SoundRuns.{runs-in, StaysIn}
 use Rattle.rht_core.proofs.Tracing.TracedRuns.{world-traced_of}
 use Rattle.rht_core.proofs.Tracing.TracesInRuns.{remembers}
-use Rattle.rht_core.proofs.Tracing.TracesAtEvents.{at_events}
+use Rattle.rht_core.proofs.Tracing.TracesAtEvents.{at_events, past-ends}
 use Rattle.rht_core.proofs.Tracing.StepsInTraces.{idle-book}
 use Rattle.rht_core.proofs.Reasons.CausesInRuns.{causes}
 use Rattle.rht_core.proofs.Counting.NodesUsed.{nodes}
 use Rattle.rht_core.proofs.Counting.OutnumberedNodes.{sum-below, sum-calls_of, took-needs, NeedsNode, FoundNode, fewer-took}
 use Rattle.rht_core.proofs.Histories.NumberedEntries.{AllBelow}
 use Rattle.rht_core.proofs.Histories.CallEnds.{AreEnded}
-use Rattle.rht_core.proofs.Histories.AloneCalls.{none-progress, about-ended, ended-below, past-ends}
+use Rattle.rht_core.proofs.Histories.AloneCalls.{none-progress, about-ended, ended-below}
 use Rattle.rht_core.proofs.Histories.AloneLaw.{left-behind}
 use Rattle.rht_core.proofs.Histories.FittingRuns.{fits}
 use Rattle.rht_core.proofs.Histories.ToldEntries.{entries_by-ended, entries_done, entries_done-serves, calls_made-serves, replies-serves, entries_told-none, AllByRecursion-of_map, all_first, AllBelow-callers, split_at}

@@ -112,7 +112,7 @@ use Rattle.rht_core.proofs.Tracing.TracesAtEvents.{at_events}
 use Rattle.rht_core.proofs.Tracing.TracedJobs.{Performs, LeadsOn, IsEndedSo, jobs_keep}
 use Rattle.rht_move.specs.Work as work
 use Rattle.rht_move.specs.declared.work.WorkAt.TheVariants as works_at
-use Rattle.rht_core.proofs.Reasons.WorkChoices.{SawForWork, SawAtWork, work-saw}
+use Rattle.rht_core.proofs.Reasons.WorkChoices.{SawIdle-nothing, SawForWork, SawAtWork, work-saw}
 use Rattle.rht_core.proofs.Counting.FullTables.{counted_at}
 use Rattle.rht_core.proofs.Reasons.TablesWalked.{IsNoRaise, IsAside, no_load, aside, elsewhere, node_loads, probe_loads, relink_stores, LastWalked-push, Walked, Walked-push, WalkedAt, WalkedNext, same_table, locate-walked}
 use Rattle.rht_core.proofs.Reasons.AttachedTables.{IsNoFutureExchange, IsNoAttach, no_attach, AttachedSo, AttachedSo-push, SawAttached, attached-saw, relink-none, unmake-none}
@@ -831,8 +831,8 @@ module _ (env : Env) where
     both-saw (state, Done reply) all saw so = saw
 
   work-cause : (past : Past) (reply : Reply) → SawForWork env reply past.steps → IsWorkReply reply → WorkCause env past reply
-  work-cause past (Moved again) saw is = inl saw
-  work-cause past Idle saw is = saw
+  work-cause past (Moved again) saw is = inl saw.published
+  work-cause past Idle saw is = SawIdle-nothing env past.steps saw
   work-cause past (NoTable size) saw is = saw
   work-cause past Elsewhere saw is = saw
   work-cause past _ saw is = absurd is
@@ -929,7 +929,7 @@ module _ (M : Type 0) (mix : ℕ → ℕ → ℕ → ℕ) (env : Env) where
   first_job-saw _ job is = absurd (cc)
 
   -- what the operations of each call that has ended have seen
-  past-saw : (events : List Event) (c : ℕ) → IsAdmitted env.config.kind events
+  pub past-saw : (events : List Event) (c : ℕ) → IsAdmitted env.config.kind events
       → AllByRecursion (λ (past : Past). SawOf env past.done.call past.done.reply past.steps) ((traced_of {M = M} mix env events).traces c).past
   past-saw events c admitted =
       (jobs_keep M mix env (JobSaw env) EndsSeen record { begins = first_job-saw; goes = job-leads } events c admitted).past

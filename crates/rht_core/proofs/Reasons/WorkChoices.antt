@@ -1,9 +1,9 @@
--- By which loads a resizing chose what is due, and that a table which it couldn't make had no slot or no run of pages; that one
--- which found no future had nothing due; and which table it made the current one, and when it said that there is more to do.
+-- By which loads a resizing chose what is due, and that a table which it couldn't make had no slot or no run of pages; that one which found
+-- no future had chosen nothing; and which table it made the current one, and whether it said rightly that there is more to do.
 --
--- What was chosen is kept behind the choice, with whether a table was attached since. Where one was due the current table has a
--- future, by what the caller knows then; and a move never stops, since no table is nested.
-use Rattle.std.proofs.Common.{◌≡◌, ◌⊎◌, ◌↔◌, ℕ, ◌<◌, ◌+◌, Bool, true, false, cond, nat_lt, List, [], ◌∷◌, ◌++◌, length, length-append, get_or, map, append_assoc, refl, sym, ap, ◌∙◌, subst, inl, inr, arith}
+-- What was chosen is kept behind the choice, with whether a table was attached since. Where one was due there is a future to be found, by
+-- what the caller knows then; and a move never stops, since no table is nested.
+use Rattle.std.proofs.Common.{◌≡◌, ◌≢◌, ◌⊎◌, ◌↔◌, ℕ, ◌<◌, ◌≤◌, ◌+◌, Bool, true, false, cond, nat_lt, List, [], ◌∷◌, ◌++◌, length, length-append, get_or, map, append_assoc, refl, sym, ap, ◌∙◌, subst, inl, inr, arith}
 use Rattle.std.specs.Prelude.{Option, Some, None, ◌==◌, ◌||◌}
 use Rattle.std.specs.List.{AllByRecursion, Any}
 use Rattle.std.proofs.Math.Seq.{get_or-append_seam}
@@ -19,11 +19,12 @@ use Rattle.rht_words.specs.declared.machine.Next.{Next}
 use Rattle.rht_words.specs.declared.machine.Next.TheVariants.{Go, Done}
 use Rattle.rht_words.specs.Links.{table_of, slot_of, node_of, head_of, unlocked}
 use Rattle.rht_words.specs.Machines.{GoesOrEnds, Performed, Ran, went_on, ran}
-use Rattle.rht_words.specs.Operations.{old_of}
-use Rattle.rht_words.specs.Places.{Address, CurrentTable, PortCount, Slot, ShapeWord, FutureWord, Node, KeyWord, IsAddress, place_of}
+use Rattle.rht_words.specs.Operations.{op_place, old_of, word_after}
+use Rattle.rht_words.specs.Places.{Address, CurrentTable, WorkLock, PortCount, Slot, ShapeWord, FutureWord, StateWord, Node, KeyWord, IsAddress, place_of}
 use Rattle.rht_words.specs.Ports.{port_of}
 use Rattle.rht_words.specs.Shapes.{unpacked, size_of}
 use Rattle.rht_words.proofs.EachElement.{Any-append_left, AllByRecursion-cut, AllByRecursion-push}
+use Rattle.rht_words.proofs.PlacesApart.{place_of-apart}
 use Rattle.rht_policy.specs.Mix.{bucket_of}
 use Rattle.rht_model.specs.declared.history.Reply.{Reply}
 use Rattle.rht_model.specs.declared.history.Reply.TheVariants.{NoTable, Elsewhere, Idle, Moved}
@@ -58,12 +59,14 @@ use Rattle.rht_core.specs.Jobs.{works}
 use Rattle.rht_core.specs.Traces.{Did, performed_of}
 use Rattle.rht_core.specs.ResizeCauses.{Loaded, Attaches}
 use Rattle.rht_core.specs.WorkCauses.{TakesWorkLock, SawElsewhere, ReadsFuture, AreFuturesRead, HasChosen, HasPublished, IsUnattached, SawNoTableDue, SawNothingDue, SawPublished}
+use Rattle.rht_core.proofs.Theory.Ghosts.{index_at}
 use Rattle.rht_core.proofs.Theory.Steps.{mem, by_test}
 use Rattle.rht_core.proofs.Theory.Knowns.{Onward, Rooted}
 use Rattle.rht_core.proofs.Theory.Knowledge.{WorkMeans}
-use Rattle.rht_core.proofs.Pieces.WorkLoads.{has_future, flat_seen, key_seen}
+use Rattle.rht_core.proofs.Pieces.WorkLoads.{has_future, future_seen, flat_seen, key_seen}
 use Rattle.rht_core.proofs.Machines.WorkMachine.{known_rehash, known_place, known_entry}
 use Rattle.rht_core.proofs.Tracing.TracedJobs.{Performs}
+use Rattle.rht_core.proofs.Tracing.LoneCalls.{Spares}
 use Rattle.rht_core.proofs.Reasons.AttachedTables.{IsNoFutureExchange, IsNoAttach, no_attach, lock-none, make-none, unmake-none}
 
 -- what is so of one of the elements is so of one before the last, or of that one
@@ -80,7 +83,8 @@ module _ (g : Geometry) where
   -- the futures that were loaded lead from one table to another
   abbrev pub AreFuturesTo : ℕ → ℕ → List Did → Type 0
   AreFuturesTo root slot [] = root ≡ slot
-  AreFuturesTo root slot (did ∷ dids) = (next : ℕ) × ReadsFuture g root (Some next) did × AreFuturesTo next slot dids
+  AreFuturesTo root slot (did ∷ dids) =
+      (next : ℕ) × ReadsFuture g root (Some next) did × AreFuturesTo next slot dids
 
   -- and to the next one
   pub futures_more : (root slot next : ℕ) (futures : List Did) (did : Did) → AreFuturesTo root slot futures
@@ -219,7 +223,7 @@ module _ (env : Env) where
     pub wants : Wants wanted steps
     pub making : IsMakingTo (make_new env.geometry wanted.size env.config.seed false) make (map performed_of wants.chose.behind)
 
-  -- none was due; one was and is attached; or it isn't
+  -- none was due; one was and is attached; or it isn't. Where none was it has performed nothing since
   abbrev pub DueSaw : Due → ℕ → Choice → List Did → Type 0
   DueSaw dues.Nothing last choice behind = choice ≡ Nothing
   DueSaw dues.Attached last choice behind = Any (λ did. (slot : ℕ) × Attaches env.geometry last slot did) behind
@@ -230,6 +234,7 @@ module _ (env : Env) where
     pub chose : HasChosen env choice steps
     pub root_same : chose.root ≡ root
     pub saw : DueSaw due chose.last choice chose.behind
+    pub at_once : due ≡ dues.Nothing → chose.behind ≡ []
 
   -- and it is to be attached behind this one
   pub record IsToAttach (root last : ℕ) (steps : List Did) : Type 0 where
@@ -240,13 +245,40 @@ module _ (env : Env) where
   pub record Moves (future : ℕ) (again : Bool) (steps : List Did) : Type 0 where
     pub choice : Choice
     pub chose : HasChosen env choice steps
-    pub followed : Any (ReadsFuture env.geometry chose.root (Some future)) chose.behind
+    pub followed :
+        Any (ReadsFuture env.geometry chose.root (Some future)) chose.behind
+    pub apart : chose.root ≢ future
     pub again_right : (again ≡ true) ↔ IsUnattached env.geometry chose.last choice chose.behind
 
-  -- and has made it the current one
+  -- it has made a table the current one that wasn't, and has left it so since
+  pub record SawReplaced (again : Bool) (steps : List Did) : Type 0 where
+    pub published : SawPublished env again steps
+    pub another : published.chose.root ≢ published.table
+    pub leave : AllByRecursion (Spares (place_of env.geometry CurrentTable)) published.behind
+
   pub record HasMoved (rehash : Rehash) (steps : List Did) : Type 0 where
-    pub saw : SawPublished env rehash.again steps
-    pub same : saw.table ≡ rehash.future
+    pub saw : SawReplaced rehash.again steps
+    pub same : saw.published.table ≡ rehash.future
+
+  -- it found nothing due, loaded that the current table has no future, and has worked on the work lock alone since
+  pub record SawIdle (steps : List Did) : Type 0 where
+    pub chose : HasChosen env Nothing steps
+    pub future : Did
+    pub rest : List Did
+    pub behind_is : chose.behind ≡ future ∷ rest
+    pub future_read : Loaded env.geometry (Slot chose.root FutureWord) future.old future
+    pub none : slot_of future.old ≡ None
+    pub on_lock : AllByRecursion (λ did. op_place did.op ≡ place_of env.geometry WorkLock) rest
+
+  -- so it saw that nothing was due
+  pub SawIdle-nothing : (steps : List Did) → SawIdle steps → SawNothingDue env steps
+  SawIdle-nothing steps saw = record {
+    chose = saw.chose;
+    none =
+        subst
+        (Any (ReadsFuture env.geometry saw.chose.root None))
+        (sym saw.behind_is) (0, saw.future, omega arith, refl, (saw.future_read, saw.none));
+  }
 
   abbrev pub RehashSaw : Rehash → List Did → Type 0
   RehashSaw rehash steps = Moves rehash.future rehash.again steps
@@ -260,8 +292,8 @@ module _ (env : Env) where
   abbrev pub SawForWork : Reply → List Did → Type 0
   SawForWork Elsewhere steps = SawElsewhere env.geometry steps
   SawForWork (NoTable size) steps = SawNoTableDue env size steps
-  SawForWork Idle steps = SawNothingDue env steps
-  SawForWork (Moved again) steps = SawPublished env again steps
+  SawForWork Idle steps = SawIdle steps
+  SawForWork (Moved again) steps = SawReplaced again steps
   SawForWork _ steps = Unit {0}
 
   abbrev pub SawAtWork : WorkAt → List Did → Type 0
@@ -287,7 +319,7 @@ module _ (env : Env) where
   SawAtWork (at.Unlocking rehash number unlock stop) steps = UnlockingSaw rehash stop steps
   SawAtWork (at.Publishing rehash) steps = RehashSaw rehash steps
   SawAtWork (at.NewFuture rehash) steps = HasMoved rehash steps
-  SawAtWork (at.Retiring root again) steps = SawPublished env again steps
+  SawAtWork (at.Retiring root again) steps = SawReplaced again steps
   SawAtWork (at.LettingGo outcome) steps = SawForWork (reply_of outcome) steps
 
   abbrev pub SawNextWork : List Did → WorkAt × Next Reply → Type 0
@@ -298,10 +330,6 @@ module _ (env : Env) where
   reads : (address : Address) (did : Did) → IsAddress env.geometry address
       → did.op ≡ Load (place_of env.geometry address) → Loaded env.geometry address did.old did
   reads address did there is = record { word = record { there = there; loads = is }; found = refl }
-
-  reads_future : (slot : ℕ) (did : Did) → slot < 8 → did.op ≡ Load (place_of env.geometry (Slot slot FutureWord))
-      → ReadsFuture env.geometry slot (slot_of did.old) did
-  reads_future slot did l is = (reads (Slot slot FutureWord) did (l, tt) is, refl)
 
   lock-saw : (steps : List Did) (did : Did) → did.op ≡ plan_at env at.WorkLock → steps ≡ []
       → SawNextWork (steps ++ did ∷ []) (lock_seen did.old)
@@ -352,7 +380,7 @@ module _ (env : Env) where
       → let next = last_table_after (record { geometry = h; at = state }) did.old in
       SawAtWork (last_seen root next.0 next.1) (steps ++ did ∷ [])
   last-saw root h (seeks.Future slot) steps did l is seek =
-      seek-saw root slot steps did (slot_of did.old) (reads_future slot did l is) seek
+      seek-saw root slot steps did (slot_of did.old) (reads (Slot slot FutureWord) did (l, tt) is, refl) seek
   last-saw root h (seeks.Shape slot) steps did l is found = record {
     futures = found.futures;
     shape = did;
@@ -409,12 +437,14 @@ module _ (env : Env) where
     chose = chosen-saw root last Later steps did is chosen saw;
     root_same = refl;
     saw = ((λ e. absurd (cc)), tt);
+    at_once = λ e. absurd (cc);
   }
   begun-saw root last Nothing steps did is chosen saw = record {
     choice = Nothing;
     chose = chosen-saw root last Nothing steps did is chosen saw;
     root_same = refl;
     saw = refl;
+    at_once = λ e. refl;
   }
 
   -- what was chosen stays so
@@ -469,14 +499,15 @@ module _ (env : Env) where
       Any-append_left (λ did. (slot : ℕ) × Attaches env.geometry last slot did) behind (did ∷ []) saw
   DueSaw-push dues.Later last choice behind did quiet saw = (saw.0, NoneAttached-push last behind did quiet saw.1)
 
-  HasDue-push : (root : ℕ) (due : Due) (steps : List Did) (did : Did) → IsNoAttach env.geometry did → HasDue root due steps
-      → HasDue root due (steps ++ did ∷ [])
+  HasDue-push : (root : ℕ) (steps : List Did) (did : Did) → IsNoAttach env.geometry did → HasDue root dues.Later steps
+      → HasDue root dues.Later (steps ++ did ∷ [])
   unfolding HasChosen-push
-  HasDue-push root due steps did quiet has = record {
+  HasDue-push root steps did quiet has = record {
     choice = has.choice;
     chose = HasChosen-push has.choice steps did has.chose;
     root_same = has.root_same;
-    saw = DueSaw-push due has.chose.last has.choice has.chose.behind did quiet has.saw;
+    saw = DueSaw-push dues.Later has.chose.last has.choice has.chose.behind did quiet has.saw;
+    at_once = λ e. absurd (cc);
   }
 
   Moves-push : (future : ℕ) (again : Bool) (steps : List Did) (did : Did) → IsNoAttach env.geometry did
@@ -489,6 +520,7 @@ module _ (env : Env) where
         choice = moves.choice;
         chose = HasChosen-push moves.choice steps did moves.chose;
         followed = Any-append_left _ behind (did ∷ []) moves.followed;
+        apart = moves.apart;
         again_right = (
           λ is.
               let so = moves.again_right.0 is in
@@ -497,7 +529,7 @@ module _ (env : Env) where
         );
       }
 
-  -- the operation found that the table of this slot has a future
+  -- the operation finds that the table of this slot has a future
   abbrev FindsFurther : ℕ → Did → Type 0
   FindsFurther table did = (next : ℕ) × ReadsFuture env.geometry table (Some next) did
 
@@ -515,6 +547,7 @@ module _ (env : Env) where
     chose = wants.chose;
     root_same = wants.root_same;
     saw = ((λ e. absurd (cc)), wants.none);
+    at_once = λ e. absurd (cc);
   }
 
   refused-saw : (wanted : Wanted) (all : List Did) → (wants : Wants wanted all)
@@ -592,8 +625,9 @@ module _ (env : Env) where
             Any-push (λ did. (slot : ℕ) × Attaches env.geometry due.chose.last slot did) due.chose.behind did
             (subst (λ l. (slot : ℕ) × Attaches env.geometry l slot did) (sym saw.last_same)
             (slot, record { table_in = last_in; slot_in = slot_in; exchanges = is; found = eqb-true did.old 0 t }));
+        at_once = λ e. absurd (cc);
       })
-      (λ f. HasDue-push root dues.Later steps did (λ some. eqb-false did.old 0 f some.attaches.found) due)
+      (λ f. HasDue-push root steps did (λ some. eqb-false did.old 0 f some.attaches.found) due)
 
   unmade-saw : (root : ℕ) (unmake : UnmakeModel) (next : Next (Unit {0})) (all : List Did) → HasDue root dues.Later all
       → SawAtWork (unmade root unmake next) all
@@ -603,13 +637,15 @@ module _ (env : Env) where
   -- ---- the future of the current table
 
   -- there is none only where nothing was due
-  nothing-due : (choice : Choice) (steps : List Did) (chose : HasChosen env choice steps) → choice ≡ Nothing
-      → Any (ReadsFuture env.geometry chose.root None) chose.behind → SawNothingDue env steps
-  nothing-due Nothing steps chose is none = record { chose = chose; none = none }
-  nothing-due (Attach size) steps chose is none = absurd (cc)
-  nothing-due Later steps chose is none = absurd (cc)
+  nothing-due : (choice : Choice) (steps : List Did) (chose : HasChosen env choice steps) (future : Did) → choice ≡ Nothing
+      → chose.behind ≡ future ∷ [] → Loaded env.geometry (Slot chose.root FutureWord) future.old future
+      → slot_of future.old ≡ None → SawIdle steps
+  nothing-due Nothing steps chose future is behind read none =
+      record { chose = chose; future = future; rest = []; behind_is = behind; future_read = read; none = none; on_lock = tt }
+  nothing-due (Attach size) steps chose future is behind read none = absurd (cc)
+  nothing-due Later steps chose future is behind read none = absurd (cc)
 
-  -- a further call has something to do where the table that was due isn't attached
+  -- whether a further call has something to do is whether the table that was due isn't attached
   later-right : (due : Due) (last : ℕ) (choice : Choice) (behind : List Did) → DueSaw due last choice behind
       → (is_later due ≡ true) ↔ IsUnattached env.geometry last choice behind
   later-right dues.Nothing last choice behind saw = (λ is. absurd (cc), λ so. absurd (so.0 saw))
@@ -621,33 +657,37 @@ module _ (env : Env) where
   )
   later-right dues.Later last choice behind saw = (λ is. saw, λ so. refl)
 
-  future-saw : (root : ℕ) (due : Due) (next : Option ℕ) (steps : List Did) (did : Did)
-      → did.op ≡ plan_at env (at.RootFuture root due) → ReadsFuture env.geometry root next did
-      → (next ≡ None → due ≡ dues.Nothing) → HasDue root due steps
-      → SawAtWork (future_or_idle root due next) (steps ++ did ∷ [])
-  unfolding HasChosen-push HasDue-push
-  future-saw root due next steps did is read none has = go due next read none has
+  future-saw : (root : ℕ) (due : Due) (next : Option ℕ) (steps : List Did) (did : Did) → root < 8
+      → did.op ≡ plan_at env (at.RootFuture root due) → slot_of did.old ≡ next → (next ≡ None → due ≡ dues.Nothing)
+      → ((future : ℕ) → slot_of did.old ≡ Some future → root ≢ future)
+      → HasDue root due steps → SawAtWork (future_or_idle root due next) (steps ++ did ∷ [])
+  unfolding HasChosen-push
+  future-saw root due next steps did l is finds none apart has = go due next finds none has
     where
       quiet : IsNoAttach env.geometry did
       quiet = no_attach env.geometry did _ is (λ table old new l e. cc)
 
-      go : (due : Due) (next : Option ℕ) → ReadsFuture env.geometry root next did → (next ≡ None → due ≡ dues.Nothing)
-          → HasDue root due steps → SawAtWork (future_or_idle root due next) (steps ++ did ∷ [])
-      go dues.Nothing None read none has =
-          let pushed = HasDue-push root dues.Nothing steps did quiet has in
-          let here = subst (λ s. ReadsFuture env.geometry s None did) (sym has.root_same) read in
-          nothing-due pushed.choice (steps ++ did ∷ []) pushed.chose pushed.saw
-          (Any-push (ReadsFuture env.geometry has.chose.root None) has.chose.behind did here)
-      go dues.Attached None read none has = absurd (let e = none refl in cc)
-      go dues.Later None read none has = absurd (let e = none refl in cc)
-      go due (Some next) read none has =
-          let pushed = HasDue-push root due steps did quiet has in
-          let here = subst (λ s. ReadsFuture env.geometry s (Some next) did) (sym has.root_same) read in
+      loaded : (slot : ℕ) → slot ≡ root → Loaded env.geometry (Slot slot FutureWord) did.old did
+      loaded slot same =
+          subst (λ s. Loaded env.geometry (Slot s FutureWord) did.old did) (sym same) (reads (Slot root FutureWord) did (l, tt) is)
+
+      go : (due : Due) (next : Option ℕ) → slot_of did.old ≡ next → (next ≡ None → due ≡ dues.Nothing) → HasDue root due steps
+          → SawAtWork (future_or_idle root due next) (steps ++ did ∷ [])
+      go dues.Nothing None finds none has =
+          nothing-due has.choice (steps ++ did ∷ []) (HasChosen-push has.choice steps did has.chose) did has.saw
+          (ap (λ behind. behind ++ did ∷ []) (has.at_once refl)) (loaded has.chose.root has.root_same) finds
+      go dues.Attached None finds none has = absurd (let e = none refl in cc)
+      go dues.Later None finds none has = absurd (let e = none refl in cc)
+      go due (Some next) finds none has =
+          let behind = has.chose.behind in
+          let pushed = DueSaw-push due has.chose.last has.choice behind did quiet has.saw in
           record {
-            choice = pushed.choice;
-            chose = pushed.chose;
-            followed = Any-push (ReadsFuture env.geometry has.chose.root (Some next)) has.chose.behind did here;
-            again_right = later-right due pushed.chose.last pushed.choice pushed.chose.behind pushed.saw;
+            choice = has.choice;
+            chose = HasChosen-push has.choice steps did has.chose;
+            followed =
+                Any-push (ReadsFuture env.geometry has.chose.root (Some next)) behind did (loaded has.chose.root has.root_same, finds);
+            apart = λ same. apart next finds (sym has.root_same ∙ same);
+            again_right = later-right due has.chose.last has.choice (behind ++ did ∷ []) pushed;
           }
 
   -- ---- the move of the current table
@@ -712,24 +752,28 @@ module _ (env : Env) where
       let pushed = goes rehash _ steps did is (λ table old new l e. cc) saw in
       record {
         saw = record {
-          choice = pushed.choice;
-          chose = pushed.chose;
-          table = rehash.future;
-          behind = [];
           published = record {
-            before = saw.chose.behind;
-            at = did;
-            split = refl;
-            stored = record { table_in = l; stores = is };
+            choice = pushed.choice;
+            chose = pushed.chose;
+            table = rehash.future;
+            behind = [];
+            published = record {
+              before = saw.chose.behind;
+              at = did;
+              split = refl;
+              stored = record { table_in = l; stores = is };
+            };
+            followed = saw.followed;
+            again_right = (
+              λ is. inr (pushed.again_right.0 is),
+              λ either. elim either [
+                | inl any ↦ absurd (omega (arith, any.2))
+                | inr so ↦ pushed.again_right.1 so
+              ],
+            );
           };
-          followed = saw.followed;
-          again_right = (
-            λ is. inr (pushed.again_right.0 is),
-            λ either. elim either [
-              | inl any ↦ absurd (omega (arith, any.2))
-              | inr so ↦ pushed.again_right.1 so
-            ],
-          );
+          another = saw.apart;
+          leave = tt;
         };
         same = refl;
       }
@@ -771,37 +815,65 @@ module _ (env : Env) where
         );
       }
 
-  -- a store attaches nothing and finds nothing
-  stored-saw : (again : Bool) (place value : ℕ) (steps : List Did) (did : Did) → did.op ≡ Store place value
-      → SawPublished env again steps → SawPublished env again (steps ++ did ∷ [])
-  stored-saw again place value steps did is saw =
-      SawPublished-push again steps did (no_attach env.geometry did _ is (λ table old new l e. cc)) saw
-      (λ finds. let loads = finds.1.0.word.loads in cc)
+  -- a store of another word attaches nothing and finds nothing
+  stored-saw : (again : Bool) (address : Address) (value : ℕ) (steps : List Did) (did : Did) → IsAddress env.geometry address
+      → address ≢ CurrentTable → did.op ≡ Store (place_of env.geometry address) value → SawReplaced again steps
+      → SawReplaced again (steps ++ did ∷ [])
+  unfolding SawPublished-push HasChosen-push
+  stored-saw again address value steps did there other is saw = record {
+    published =
+        SawPublished-push again steps did (no_attach env.geometry did _ is (λ table old new l e. cc)) saw.published
+        (λ finds. let loads = finds.1.0.word.loads in cc);
+    another = saw.another;
+    leave =
+        AllByRecursion-push (Spares (place_of env.geometry CurrentTable)) saw.published.behind did saw.leave
+        (inl (λ same. other (place_of-apart env.geometry address CurrentTable there tt (sym (ap op_place is) ∙ same))));
+  }
 
-  retiring-saw : (rehash : Rehash) (next : Option ℕ) (steps : List Did) (did : Did)
-      → did.op ≡ plan_at env (at.NewFuture rehash) → ReadsFuture env.geometry rehash.future next did → HasMoved rehash steps
+  retiring-saw : (rehash : Rehash) (next : Option ℕ) (steps : List Did) (did : Did) → rehash.future < 8
+      → did.op ≡ plan_at env (at.NewFuture rehash) → slot_of did.old ≡ next → HasMoved rehash steps
       → SawAtWork (retiring rehash next) (steps ++ did ∷ [])
-  unfolding HasChosen-push HasPublished-push
-  retiring-saw rehash None steps did is read moved =
-      SawPublished-push rehash.again steps did (no_attach env.geometry did _ is (λ table old new l e. cc)) moved.saw
-      (λ further. let one = further.1.1 in let none = read.1 in cc)
-  retiring-saw rehash (Some next) steps did is read moved =
-      let saw = moved.saw in
-      let here = subst (λ s. ReadsFuture env.geometry s (Some next) did) (sym moved.same) read in
-      record {
-        choice = saw.choice;
-        chose = HasChosen-push saw.choice steps did saw.chose;
-        table = saw.table;
-        behind = saw.behind ++ did ∷ [];
-        published = HasPublished-push saw.table saw.behind saw.chose.behind did saw.published;
-        followed = saw.followed;
-        again_right = ((λ e. inl (Any-push (FindsFurther saw.table) saw.behind did (next, here))), λ either. refl);
+  unfolding HasChosen-push HasPublished-push SawPublished-push
+  retiring-saw rehash next steps did l is finds moved = go next finds
+    where
+      saw : SawPublished env rehash.again steps
+      saw = moved.saw.published
+
+      leave : AllByRecursion (Spares (place_of env.geometry CurrentTable)) (saw.behind ++ did ∷ [])
+      leave = AllByRecursion-push (Spares (place_of env.geometry CurrentTable)) saw.behind did moved.saw.leave
+          (inr (ap (word_after did.old) is))
+
+      go : (next : Option ℕ) → slot_of did.old ≡ next → SawAtWork (retiring rehash next) (steps ++ did ∷ [])
+      go None finds = record {
+        published =
+            SawPublished-push rehash.again steps did (no_attach env.geometry did _ is (λ table old new l e. cc)) saw
+            (λ further. let one = further.1.1 in let none = finds in cc);
+        another = moved.saw.another;
+        leave = leave;
       }
+      go (Some next) finds =
+          let loaded =
+          subst (λ s. Loaded env.geometry (Slot s FutureWord) did.old did) (sym moved.same)
+          (reads (Slot rehash.future FutureWord) did (l, tt) is) in
+          record {
+            published = record {
+              choice = saw.choice;
+              chose = HasChosen-push saw.choice steps did saw.chose;
+              table = saw.table;
+              behind = saw.behind ++ did ∷ [];
+              published = HasPublished-push saw.table saw.behind saw.chose.behind did saw.published;
+              followed = saw.followed;
+              again_right =
+                  ((λ e. inl (Any-push (FindsFurther saw.table) saw.behind did (next, (loaded, finds)))), λ either. refl);
+            };
+            another = moved.saw.another;
+            leave = leave;
+          }
 
   -- ---- what the caller knows
 
   module _ (mix : ℕ → ℕ → ℕ → ℕ) where
-    -- a current table of which it knows that one is behind it isn't found to have no future
+    -- what the future of the current table is, of which it knows that it has one
     found_none : (root : ℕ) (due : Due) (did : Did) → (does : Performs mix env (works (at.RootFuture root due)) did)
         → slot_of did.old ≡ None → WorkMeans env mix does.caller (mem env mix does.words) does.ghost (Rooted root Onward) → ⊥
     found_none root due did does none knows =
@@ -810,7 +882,7 @@ module _ (env : Env) where
         has_future env mix does.caller (mem env mix does.words) does.ghost does.whole root knows
         (sym (ap slot_of found) ∙ none)
 
-    -- the shape of the last table, which isn't nested
+    -- and its shape, where it is the last one
     flat_shape : (emptying : Emptying) (h : Geometry) (slot : ℕ) (did : Did)
         → Performs mix env (works (at.EntryTable emptying (record { geometry = h; at = seeks.Shape slot }))) did
         → is_nested did.old ≡ false
@@ -822,6 +894,21 @@ module _ (env : Env) where
         ∙ flat_seen env mix does.caller (mem env mix does.words) does.ghost does.whole slot
         does.knows.knowing.means.work.more.aim_is.table
 
+    -- nor is the next one the current one itself
+    other_future : (root : ℕ) (due : Due) (did : Did) → Performs mix env (works (at.RootFuture root due)) did → (future : ℕ)
+        → slot_of did.old ≡ Some future → root ≢ future
+    other_future root due did does future finds same =
+        let G = does.ghost in
+        let found : did.old ≡ mem env mix does.words (Slot root FutureWord) =
+        does.found ∙ ap (old_of does.words) does.planned in
+        let follows = (future_seen env mix does.caller (mem env mix does.words) G does.whole root future _
+        does.knows.knowing.means.work (sym (ap slot_of found) ∙ finds)).more in
+        let tables = does.whole.tables in
+        let one = (tables.each G.current tables.current_in).index in
+        let two = (tables.each (G.current + 1) follows.more).index in
+        let both = sym one ∙ ap (index_at G) (follows.root_is ∙ same ∙ sym follows.future_is) ∙ two in
+        absurd (omega (arith, both))
+
     -- where a table was due the current one has a future
     nothing-found : (root : ℕ) (due : Due) (did : Did) → Performs mix env (works (at.RootFuture root due)) did
         → slot_of did.old ≡ None → due ≡ dues.Nothing
@@ -829,7 +916,7 @@ module _ (env : Env) where
     nothing-found root dues.Attached did does none = absurd (found_none root dues.Attached did does none does.knows.knowing.means.work)
     nothing-found root dues.Later did does none = absurd (found_none root dues.Later did does none does.knows.knowing.means.work)
 
-    -- so the move doesn't stop before the last table
+    -- no table is nested
     table-saw : (emptying : Emptying) (h : Geometry) (state : LastTableAt) (steps : List Did) (did : Did)
         → let seek : LastTableModel = record { geometry = h; at = state } in
         Performs mix env (works (at.EntryTable emptying seek)) did → RehashSaw emptying.rehash steps
@@ -843,7 +930,7 @@ module _ (env : Env) where
         subst (λ t. SawAtWork (cond t (unlocking emptying true) (at.Seed emptying last)) (steps ++ did ∷ [])) (sym flat)
         (goes emptying.rehash _ steps did does.planned (λ table old new l e. cc) saw)
 
-    -- nor for want of a bucket there
+    -- and each bucket of one is there
     key-saw : (emptying : Emptying) (target : Target) (entry : Entry) (steps : List Did) (did : Did)
         → Performs mix env (works (at.Key emptying target entry)) did → RehashSaw emptying.rehash steps
         → SawAtWork (keyed mix env.geometry emptying target entry did.old) (steps ++ did ∷ [])
@@ -876,18 +963,25 @@ module _ (env : Env) where
         ];
       }
 
-  idle-push : (steps : List Did) (did : Did) → SawNothingDue env steps → SawNothingDue env (steps ++ did ∷ [])
+  idle-push : (steps : List Did) (did : Did) → did.op ≡ plan_at env (at.LettingGo outcomes.Idle) → SawIdle steps
+      → SawIdle (steps ++ did ∷ [])
   unfolding HasChosen-push
-  idle-push steps did saw = record {
+  idle-push steps did is saw = record {
     chose = HasChosen-push Nothing steps did saw.chose;
-    none = Any-append_left _ saw.chose.behind (did ∷ []) saw.none;
+    future = saw.future;
+    rest = saw.rest ++ did ∷ [];
+    behind_is = ap (λ behind. behind ++ did ∷ []) saw.behind_is;
+    future_read = saw.future_read;
+    none = saw.none;
+    on_lock =
+        AllByRecursion-push (λ did. op_place did.op ≡ place_of env.geometry WorkLock) saw.rest did saw.on_lock (ap op_place is);
   }
 
   ended-saw : (outcome : Outcome) (steps : List Did) (did : Did) → did.op ≡ plan_at env (at.LettingGo outcome)
       → SawForWork (reply_of outcome) steps → SawForWork (reply_of outcome) (steps ++ did ∷ [])
-  ended-saw outcomes.Idle steps did is saw = idle-push steps did saw
+  ended-saw outcomes.Idle steps did is saw = idle-push steps did is saw
   ended-saw (outcomes.NoTable size) steps did is saw = no_table-push size steps did saw
-  ended-saw (outcomes.Moved again) steps did is saw = stored-saw again _ _ steps did is saw
+  ended-saw (outcomes.Moved again) steps did is saw = stored-saw again WorkLock 0 steps did tt (λ e. cc) is saw
 
   pub work-saw : (mix : ℕ → ℕ → ℕ → ℕ) (state : WorkAt) (steps : List Did) (did : Did)
       → Performs mix env (works state) did → SawAtWork state steps
@@ -905,11 +999,11 @@ module _ (env : Env) where
       attached-saw root last slot shape steps did does.within.last_in does.within.made_in.slot_in does.planned saw
   work-saw mix (at.Unmaking root unmake) steps did does saw =
       unmade-saw root (unmake_after unmake did.old).0 (unmake_after unmake did.old).1 (steps ++ did ∷ [])
-      (HasDue-push root dues.Later steps did
+      (HasDue-push root steps did
       (no_attach env.geometry did _ does.planned (unmake-none env.geometry unmake.geometry unmake.slot unmake.at)) saw)
   work-saw mix (at.RootFuture root due) steps did does saw =
-      future-saw root due (slot_of did.old) steps did does.planned (reads_future root did does.within does.planned)
-      (nothing-found mix root due did does) saw
+      future-saw root due (slot_of did.old) steps did does.within does.planned refl (nothing-found mix root due did does)
+      (other_future mix root due did does) saw
   work-saw mix (at.RootShape root future again) steps did does saw =
       let rehash : Rehash = record { root = root; future = future; shape = did.old; again = again } in
       locking-saw rehash 0 (bucket_place env.geometry did.old 0) (steps ++ did ∷ [])
@@ -944,7 +1038,7 @@ module _ (env : Env) where
   work-saw mix (at.Publishing rehash) steps did does saw =
       publish-saw rehash steps did does.within.tables_in.future_in does.planned saw
   work-saw mix (at.NewFuture rehash) steps did does saw =
-      retiring-saw rehash (slot_of did.old) steps did does.planned
-      (reads_future rehash.future did does.within.tables_in.future_in does.planned) saw
-  work-saw mix (at.Retiring root again) steps did does saw = stored-saw again _ _ steps did does.planned saw
+      retiring-saw rehash (slot_of did.old) steps did does.within.tables_in.future_in does.planned refl saw
+  work-saw mix (at.Retiring root again) steps did does saw =
+      stored-saw again (Slot root StateWord) 2 steps did (does.within, tt) (λ e. cc) does.planned saw
   work-saw mix (at.LettingGo outcome) steps did does saw = ended-saw outcome steps did does.planned saw

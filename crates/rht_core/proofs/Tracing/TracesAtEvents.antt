@@ -264,3 +264,16 @@ at_events M mix env events admitted c =
           IfSome_then ((traced_of {M = M} mix env events).world.books c).call holds.progress
           (λ call way. way.is);
     }
+
+-- a call that has ended lies before the end of the run
+pub past-ends : (M : Type 0) (mix : ℕ → ℕ → ℕ → ℕ) (env : Env) (events : List Event) (c : ℕ) (past : Past)
+    → IsPastCall M mix env events c past → behind_call past ≤ length events
+past-ends M mix env events c past is =
+    let answered = is.answered in
+    let steps = subst (AllByRecursion (IsRecorded M mix env events c)) answered.steps_are is.steps in
+    let recorded = AllByRecursion-last (IsRecorded M mix env events c) answered.before answered.last steps in
+    let within = slice_get_within events answered.last.index (Step c) recorded.event in
+    let behind : behind_call past ≡ answered.last.index + 1 =
+    ap (behind_steps (past.begin + 1)) answered.steps_are
+    ∙ behind_steps-push (past.begin + 1) answered.before answered.last in
+    omega (arith, within, behind)

@@ -30,9 +30,8 @@ use Rattle.rht_core.proofs.Events.Worlds.{planned-some, run_of-push, step_none, 
 use Rattle.rht_core.proofs.Events.CallBeginnings.{idle_plans}
 use Rattle.rht_core.proofs.Events.BusyCallers.{ends}
 use Rattle.rht_core.proofs.Events.SoundRuns.{runs-in, has_place}
-use Rattle.rht_core.proofs.Tracing.TracesAtEvents.{behind_steps-push, at_events}
+use Rattle.rht_core.proofs.Tracing.TracesAtEvents.{behind_steps-push, at_events, past-ends}
 use Rattle.rht_core.proofs.Tracing.StepsInTraces.{stands_within, call_in_order, rising-within}
-use Rattle.rht_core.proofs.Histories.AloneCalls.{past-ends}
 
 -- the operation leaves the word at this place
 abbrev pub Spares : ℕ → Did → Type 0
