@@ -91,12 +91,15 @@ module _ (g : Geometry) (words : List ℕ) where
     pub taken : word_at g words (Slot slot StateWord) ≢ 0
     pub there : In page (run_in_slot slot)
 
-  -- nobody does the work; each page is free, or in the run of a slot that isn't; and of a slot that isn't free no page is
+  -- nobody does the work; each page is free, or in the run of a slot that isn't; of a slot that isn't free no page is; and each such
+  -- slot is retired, or has a table in force
   pub record AreNoneHeld : Type 0 where
     pub no_work : word_at g words WorkLock ≡ 0
     pub pages : (page : ℕ) → page < g.pages → IsPageFree page ⊎ IsPageInSlot page
     pub slots : (slot page : ℕ) → slot < 8 → word_at g words (Slot slot StateWord) ≢ 0
         → In page (run_in_slot slot) → ¬ IsPageFree page
+    pub attached : (slot : ℕ) → slot < 8 → word_at g words (Slot slot StateWord) ≢ 0
+        → (word_at g words (Slot slot StateWord) ≡ 2) ⊎ In slot (in_force g words)
 
 -- a call with this reply has taken a node out of a port's list
 abbrev pub takes_out : Reply → Bool
@@ -127,7 +130,8 @@ taken_out w =
     sum_by (λ c. count_by (λ done. takes_out done.reply) (w.books c).finished) (range_with_len 0 w.core.env.geometry.callers)
 
 -- No bucket in force is locked; as many nodes are out as were taken out, and no others; in a table of one owner each no port's
--- list has a second node; the count of ports is the number of those bound; and no caller has the work lock, a slot or pages
+-- list has a second node; the count of ports is the number of those bound; no caller has the work lock, a slot or pages; and each
+-- table that was left behind is retired
 pub record IsAtRest (env : Env) (words : List ℕ) (out : ℕ) : Type 0 where
   pub unlocked : (place : ℕ) → IsBucketInForce env.geometry words place → slice_index words place % 2 ≡ 0
   pub nodes : AreOut env.geometry words out

@@ -176,11 +176,13 @@ pub fn counted<M: Mix>()
 /// In every run, while nobody is in a call, no bucket of a table in force is locked; each node is free,
 /// in the list of a port, or out, and never two of these; those that are out are as many as the calls
 /// that were answered `Released` or `Rebound`; in a table of one owner for each port no list has a
-/// second node; the count is the number of ports that are bound; the work lock is free; and each page is
-/// free, or in the run of a table whose slot isn't. So no node is lost: a bind that is refused, or finds
-/// its port bound, has given its node back, and so has a rebind that is answered `Absent`; and no page is
-/// lost, nor taken for a table that isn't attached. It doesn't say which nodes are out or which call took
-/// one, which tables are retired, nor that such a moment comes.
+/// second node; the count is the number of ports that are bound; the work lock is free; each page is
+/// free, or in the run of a table whose slot isn't; and each slot that isn't free is retired, or has a
+/// table in force. So no node is lost: a bind that is refused, or finds its port bound, has given its
+/// node back, and so has a rebind that is answered `Absent`. And no slot or page is lost: each that isn't
+/// free is a table's that is in force or retired, so what was taken for a table that wasn't attached has
+/// been given back, and each table that was left behind is retired. It doesn't say which nodes are out or
+/// which call took one, that no table in force is retired, nor that such a moment comes.
 pub fn at_rest<M: Mix>()
     ensures { AtRest M M.mix_of }
 {}

@@ -4,6 +4,7 @@
 use Rattle.std.proofs.Common.{◌≡◌, ◌≢◌, ◌⊎◌, ℕ, ◌+◌, ◌-◌, ◌*◌, ◌/◌, ◌%◌, ◌<◌, ◌≤◌, true, length, slice_index, subst, false, List, [], ◌∷◌, Option, Some, None, refl, sym, ◌∙◌, ap, inl, inr, arith}
 use Rattle.std.specs.Prelude.{count_by, sum_by}
 use Rattle.std.specs.List.{range_with_len}
+use Rattle.std.proofs.lemmas.Bool.{cases_lt}
 use Rattle.rht_words.specs.declared.env.Env.{Env}
 use Rattle.rht_words.specs.declared.config.Kind.TheVariants.{Single}
 use Rattle.rht_words.specs.Places.{WorkLock, PortCount, Slot, ShapeWord, StateWord, PageWord, word_at}
@@ -14,17 +15,17 @@ use Rattle.rht_words.proofs.Members.{In-range_with_len, range_with_len-In, count
 use Rattle.rht_nest.specs.Tables.{table_pages, run_first, run_pages, pages_of_table}
 use Rattle.rht_core.specs.Jobs.{job_of}
 use Rattle.rht_core.specs.Runs.{Core, World, local_of, view_of, run_of}
-use Rattle.rht_core.specs.StandsFor.{nodes_of}
+use Rattle.rht_core.specs.StandsFor.{in_force, nodes_of}
 use Rattle.rht_core.specs.Counts.{is_raising, raising, IsListed, IsPlaced, IsPageFree, run_in_slot, IsPageInSlot, AreNoneHeld, taken_out, Counted, AtRest}
 use Rattle.rht_core.proofs.Theory.Ghosts.{Owner, Free, Held, First, Leaving, Behind, Taken, PageOwner, PageFree, PageHeld, PageOf, SlotOwner, SlotFree, SlotHeld, Live, Retired, Ghost, has_table, index_at, state_word, is_used, IsUsed, lock_bit, seat-used}
-use Rattle.rht_core.proofs.Theory.Wholes.{key_of, firsts, raisers, outs, IsBuilt, Whole}
+use Rattle.rht_core.proofs.Theory.Wholes.{AreRetired, key_of, firsts, raisers, outs, IsBuilt, Whole}
 use Rattle.rht_core.proofs.Theory.Steps.{mem}
 use Rattle.rht_core.proofs.Machines.JobSteps.{KnowsNothing}
 use Rattle.rht_core.proofs.Events.Invariants.{Inv, idle_knows}
 use Rattle.rht_core.proofs.Events.InvariantRuns.{has_inv}
 use Rattle.rht_core.proofs.Events.BooksInRuns.{ended_outs, idle-says, has_books}
 use Rattle.rht_core.proofs.Pieces.RunPages.{range_with_len-from}
-use Rattle.rht_core.proofs.Meaning.BoundPorts.{bucket_in_force, listed_bound}
+use Rattle.rht_core.proofs.Meaning.BoundPorts.{table_in_force, bucket_in_force, listed_bound}
 use Rattle.rht_core.proofs.Counting.CountedPorts.{firsts-AreAllBound}
 use Rattle.rht_core.proofs.Counting.CountedNodes.{count_few}
 use Rattle.rht_core.proofs.Counting.NodesOut.{is_out, out_nodes, out_nodes-distinct, out_nodes-among, out_nodes-many, out_nodes-in, out_nodes-out, sum_by-same, seat-is_out}
@@ -197,18 +198,46 @@ module _ (env : Env) (mix : ℕ → ℕ → ℕ → ℕ) (words : List ℕ) (G :
       let none : PageOf τ ≡ PageFree = sym of ∙ (whole.pages.bits p within).0 free in
       cc
 
+  -- a slot that isn't free is retired, or has a table in force
+  slot_in_force : (s : ℕ) → s < 8 → AreRetired G None → ((c : ℕ) → G.slot s ≢ SlotHeld c)
+      → word_at env.geometry words (Slot s StateWord) ≢ 0
+      → (word_at env.geometry words (Slot s StateWord) ≡ 2) ⊎ In s (in_force env.geometry words)
+  slot_in_force s l retired unheld taken = go (G.slot s) refl
+    where
+      go : (o : SlotOwner) → G.slot s ≡ o
+          → (word_at env.geometry words (Slot s StateWord) ≡ 2) ⊎ In s (in_force env.geometry words)
+      go SlotFree e = absurd (taken (whole.slots.states s l ∙ ap state_word e))
+      go (SlotHeld c) e = absurd (unheld c e)
+      go (Retired τ) e = inl (whole.slots.states s l ∙ ap state_word e)
+      go (Live τ) e =
+          let is = whole.tables.slots s (ap has_table e) in
+          let σ = index_at G s in
+          elim (cases_lt σ G.current) [
+            | inl before ↦ elim (retired σ before) [
+              | inl none ↦ absurd (cc)
+              | inr done ↦ let both : Live τ ≡ Retired σ = sym e ∙ ap G.slot (sym is.slot) ∙ done in absurd (cc)
+            ]
+            | inr from ↦
+                inr (subst (λ t. In t (in_force env.geometry words)) is.slot
+                (table_in_force env mix words G whole σ from is.attached))
+          ]
+
   -- where no caller has the work lock, a slot or a page
   none_held : ((c : ℕ) → G.worker ≢ Some c) → ((c s : ℕ) → G.slot s ≢ SlotHeld c) → ((c p : ℕ) → G.page p ≢ PageHeld c)
       → AreNoneHeld env.geometry words
   none_held idle no_slot no_page = record {
-    no_work = whole.slots.worker_is ∙ unlocked G.worker idle;
+    no_work = whole.slots.worker_is ∙ ap lock_bit nobody;
     pages = λ p l. page_placed p l (λ c. no_page c p);
     slots = λ s p l taken there. no_page_free s p l (λ c. no_slot c s) taken there;
+    attached = λ s l taken. slot_in_force s l (whole.slots.retired nobody) (λ c. no_slot c s) taken;
   }
     where
-      unlocked : (worker : Option ℕ) → ((c : ℕ) → worker ≢ Some c) → lock_bit worker ≡ 0
-      unlocked None none = refl
-      unlocked (Some c) none = absurd (none c refl)
+      none_is : (worker : Option ℕ) → ((c : ℕ) → worker ≢ Some c) → worker ≡ None
+      none_is None none = refl
+      none_is (Some c) none = absurd (none c refl)
+
+      nobody : G.worker ≡ None
+      nobody = none_is G.worker idle
 
 module _ (M : Type 0) (mix : ℕ → ℕ → ℕ → ℕ) where
   raising-raisers : (env : Env) (core : Core M) (G : Ghost) → Inv env mix M core G

@@ -145,7 +145,11 @@ module _ (env : Env) (mix : ℕ → ℕ → ℕ → ℕ) where
 
   pub opening_whole : Whole env mix (mem env mix (opening_words env)) (opening_ghost env)
   opening_whole = record {
-    slots = record { states = opening_states; worker_is = opened WorkLock tt };
+    slots = record {
+      states = opening_states;
+      worker_is = opened WorkLock tt;
+      retired = λ idle τ l. absurd (omega (arith, l));
+    };
     pages = opening_pages;
     moving = record { armed = λ j c is. absurd (cc); out = λ j entry is. absurd (cc) };
     tables = record {

@@ -495,7 +495,7 @@ module _ (env : Env) (mix : ℕ → ℕ → ℕ → ℕ) (c : ℕ) where
         (leads (plan_at env state) holds_work (moving_at None)
         (knows_work MakesNothing (Faces (known_rehash rehash) 0 place.place)) next (inl refl) refl refl refl
         (begin_moving_step env mix c held.holds_nothing words G all whole (plan_at env state) (Follows root future)
-        (Faces (known_rehash rehash) 0 place.place) refl known.means.work.works known (λ k. place.knows)))
+        (Faces (known_rehash rehash) 0 place.place) refl known.means.work.works.0 known (λ k. place.knows)))
 
     -- a bucket is locked
     locked_leads : (rehash : Rehash) (number : ℕ) (lock : LockModel) (r : LockModel × Next ℕ)

@@ -347,7 +347,7 @@ module _ (env : Env) (mix : ℕ → ℕ → ℕ → ℕ) (words : List ℕ) (G :
     | inr ne ↦ inr (in_slots τ (σ + 1) count (omega (arith, low, ne)) (omega (arith, high)))
   ]
 
-  table_in_force : (τ : ℕ) → G.current ≤ τ → τ < G.attached → In (G.table τ).slot (in_force g words)
+  pub table_in_force : (τ : ℕ) → G.current ≤ τ → τ < G.attached → In (G.table τ).slot (in_force g words)
   table_in_force τ low high =
       subst (In (G.table τ).slot) (sym tables_in_force) (in_slots τ G.current in_use low (omega (arith, low, high)))
 

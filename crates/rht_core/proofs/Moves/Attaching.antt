@@ -2,7 +2,7 @@
 -- caller has made. The slot and its pages are the table's, whose buckets are empty, and it is the last one.
 --
 -- The future that is written was 0, so that table was the last: each other table's leads to the one behind it.
-use Rattle.std.proofs.Common.{◌≡◌, ◌≢◌, ◌↔◌, ℕ, ◌+◌, ◌*◌, ◌/◌, ◌%◌, ◌<◌, ◌≤◌, cond, nat_lt, Some, true, false, refl, sym, ◌∙◌, ap, subst, inl, inr, arith}
+use Rattle.std.proofs.Common.{◌≡◌, ◌≢◌, ◌↔◌, ℕ, ◌+◌, ◌*◌, ◌/◌, ◌%◌, ◌<◌, ◌≤◌, cond, nat_lt, Some, None, true, false, refl, sym, ◌∙◌, ap, subst, inl, inr, arith}
 use Rattle.std.specs.Prelude.{nat_le}
 use Rattle.std.specs.Int.{bit_at}
 use Rattle.std.proofs.lemmas.Bool.{cases_eq, cases_lt, lt-ltb, le-ltb, ltb-true, leb-true, and_parts}
@@ -15,7 +15,7 @@ use Rattle.rht_words.proofs.Memory.{Memory, IsWrite}
 use Rattle.rht_nest.specs.Tables.{table_pages}
 use Rattle.rht_nest.proofs.MakesMade.{size_of-fits}
 use Rattle.rht_core.proofs.Theory.Ghosts.{Table, blank_bucket, put, put-same, put-other, put-all, put_in, put_in-there, put_in-all, PageOwner, PageFree, PageHeld, PageOf, SlotOwner, SlotHeld, Live, Ghost, state_word, table_of_slot, has_table, index_at, flat_table, is_page_for, with_table}
-use Rattle.rht_core.proofs.Theory.Wholes.{IsNoBucket, IsPageOf, SlotIsOf, TableRight, TablesRight, SlotsRight, PagesRight, PlacedRight, future_in, pages_of, Whole}
+use Rattle.rht_core.proofs.Theory.Wholes.{retired_stay, IsNoBucket, IsPageOf, SlotIsOf, TableRight, TablesRight, SlotsRight, PagesRight, PlacedRight, future_in, pages_of, Whole}
 use Rattle.rht_core.proofs.Theory.Readiness.{IsAttaching}
 use Rattle.rht_core.proofs.Theory.Frames.{Others, Made}
 use Rattle.rht_core.proofs.Theory.TableFrames.{TablesKept, no_table-no_bucket, Whole-retabled, Rely-retabled, TableRight-kept}
@@ -219,6 +219,9 @@ module _ (env : Env) (mix : ℕ → ℕ → ℕ → ℕ) where
           ∙ ap state_word ready.made.has.mine)
           (λ s ne k. other_word s StateWord k tt (λ e. cc) ∙ whole.slots.states s k);
       worker_is = write.others WorkLock tt (λ e. cc) ∙ whole.slots.worker_is;
+      retired = λ idle. retired_stay G G' None refl
+          (λ σ k. attached_kept.tables σ (omega (arith, k, whole.tables.current_in)))
+          (λ s σ is. attached_kept.slots s (ap has_table is) ∙ is) (whole.slots.retired idle);
     }
 
     -- a table that there was has the pages that it had

@@ -109,6 +109,7 @@ module _ (env : Env) (mix : ℕ → ℕ → ℕ → ℕ) where
     slots_right = record {
       states = λ s l. write.others (Slot s StateWord) (l, tt) (λ e. cc) ∙ whole.slots.states s l;
       worker_is = write.others WorkLock tt (λ e. cc) ∙ whole.slots.worker_is;
+      retired = whole.slots.retired;
     }
 
     repaged : Whole env mix M' G'

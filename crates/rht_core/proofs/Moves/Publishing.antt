@@ -113,6 +113,7 @@ module _ (env : Env) (mix : ℕ → ℕ → ℕ → ℕ) where
           slots = slots_stand env mix M G (G.current + 1) whole (omega arith);
           states = λ s l. write.others (Slot s StateWord) (l, tt) (λ e. cc) ∙ whole.slots.states s l;
           worker_is = write.others WorkLock tt (λ e. cc) ∙ whole.slots.worker_is;
+          retired = λ idle. absurd (none-some idle can.works);
           no_other = others_idle;
           none_gets_it = others_idle;
           seats = later_seat;
@@ -179,6 +180,7 @@ module _ (env : Env) (mix : ℕ → ℕ → ℕ → ℕ) where
               (λ l. write.same)
               (λ i ne l. write.others (Slot i StateWord) (l, tt) (λ e. ne (cc)) ∙ whole.slots.states i l);
           worker_is = write.others WorkLock tt (λ e. cc) ∙ whole.slots.worker_is;
+          retired = λ idle. absurd (none-some idle can.works);
           no_other = others_idle;
           none_gets_it = others_idle;
           seats = λ n j first. (whole.owned.first_at n j first).at_home.current;

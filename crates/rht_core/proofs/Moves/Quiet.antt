@@ -210,7 +210,11 @@ module _ (env : Env) (mix : ℕ → ℕ → ℕ → ℕ) where
       record {
         whole = record {
           tables = TablesRight-same env mix M G G' same whole.tables;
-          slots = record { states = whole.slots.states; worker_is = whole.slots.worker_is };
+          slots = record {
+            states = whole.slots.states;
+            worker_is = whole.slots.worker_is;
+            retired = whole.slots.retired;
+          };
           pages = record {
             bits = whole.pages.bits;
             page_of = λ p τ of. let page = whole.pages.page_of p τ of in

@@ -1,11 +1,11 @@
 -- The moves of slots: a free slot is taken, one that the caller has is given back, and a word of it that says something of its table is
 -- written. Others see nothing of them but that a slot is or isn't free. The next serial is nobody's.
-use Rattle.std.proofs.Common.{◌≡◌, ◌≢◌, ℕ, ◌<◌, true, false, refl, sym, ◌∙◌, ap, subst, arith}
+use Rattle.std.proofs.Common.{◌≡◌, ◌≢◌, ℕ, ◌<◌, None, true, false, refl, sym, ◌∙◌, ap, subst, arith}
 use Rattle.rht_words.specs.declared.env.Env.{Env}
 use Rattle.rht_words.specs.Places.{WorkLock, NextSerial, Slot, SlotWord, StateWord}
 use Rattle.rht_words.proofs.Memory.{Memory, IsWrite}
 use Rattle.rht_core.proofs.Theory.Ghosts.{put, put-other, put-all, SlotOwner, SlotFree, SlotHeld, Live, Retired, Ghost, state_word, has_table, with_slot}
-use Rattle.rht_core.proofs.Theory.Wholes.{SlotsRight, Whole}
+use Rattle.rht_core.proofs.Theory.Wholes.{retired_stay, SlotsRight, Whole}
 use Rattle.rht_core.proofs.Theory.Knowledge.{HasSlot}
 use Rattle.rht_core.proofs.Theory.Frames.{Others, Made, same_tables}
 use Rattle.rht_core.proofs.Theory.WholeFrames.{SlotsRight-write}
@@ -56,6 +56,8 @@ module _ (env : Env) (mix : ℕ → ℕ → ℕ → ℕ) where
       states = put-all (λ t o. t < 8 → M' (Slot t StateWord) ≡ state_word o) G.slot s owner (λ k. write.same)
           (λ t ne k. write.others (Slot t StateWord) (k, tt) (λ e. ne (cc)) ∙ whole.slots.states t k);
       worker_is = write.others WorkLock tt (λ e. cc) ∙ whole.slots.worker_is;
+      retired = λ idle. retired_stay G G' None refl (λ τ l. refl)
+          (λ t τ is. slots_kept.slots t (ap has_table is) ∙ is) (whole.slots.retired idle);
     }
 
     reslotted : Whole env mix M' G'

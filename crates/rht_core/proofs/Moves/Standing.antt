@@ -1,12 +1,12 @@
 -- The stores to the words that say which table is the current one, what has become of the table in each slot, and whether somebody does
 -- the work. What each such store leaves is shown here once.
-use Rattle.std.proofs.Common.{◌≡◌, ◌≢◌, ◌⊎◌, ℕ, ◌/◌, ◌<◌, ◌≤◌, Option, Some, true, refl, sym, ◌∙◌, ap, inl, inr, arith}
+use Rattle.std.proofs.Common.{◌≡◌, ◌≢◌, ◌⊎◌, ℕ, ◌/◌, ◌<◌, ◌≤◌, Option, Some, None, true, refl, sym, ◌∙◌, ap, inl, inr, arith}
 use Rattle.rht_words.specs.declared.env.Env.{Env}
 use Rattle.rht_words.specs.Places.{Address, CurrentTable, WorkLock, PortCount, Slot, SlotWord, ShapeWord, SeedWord, FutureWord, StateWord, NodeMap, PageMap, Node, NodeWord, ChainLink, KeyWord, ListLink, PageWord}
 use Rattle.rht_words.proofs.Memory.{Memory, IsWrite}
 use Rattle.rht_words.proofs.ChainLemmas.{IsSegment-members}
 use Rattle.rht_core.proofs.Theory.Ghosts.{Ghost, First, Leaving, SlotOwner, SlotHeld, Live, Retired, lock_bit, state_word, has_table, index_at, table_of_slot, table_at, is_used, seat_of}
-use Rattle.rht_core.proofs.Theory.Wholes.{list_of, key_of, TablesRight, PagesRight, OutRight, MovingRight, IsLeavingAt, Owned, Whole}
+use Rattle.rht_core.proofs.Theory.Wholes.{AreRetired, list_of, key_of, TablesRight, PagesRight, OutRight, MovingRight, IsLeavingAt, Owned, Whole}
 use Rattle.rht_core.proofs.Theory.Passed.{TablesGrow, Passed-stays}
 use Rattle.rht_core.proofs.Theory.Reliance.{TablesStay}
 use Rattle.rht_core.proofs.Theory.Frames.{Others, Made, UsedStay, used_stay, seat_stays, chains_stay, passes_same}
@@ -64,6 +64,7 @@ module _ (env : Env) (mix : ℕ → ℕ → ℕ → ℕ) where
       pub slots : SlotsStand G current slot
       pub states : (s : ℕ) → s < 8 → M' (Slot s StateWord) ≡ state_word (slot s)
       pub worker_is : M' WorkLock ≡ lock_bit worker
+      pub retired : worker ≡ None → AreRetired after None
       pub no_other : (c : ℕ) → c ≢ d → G.worker ≢ Some c
       pub none_gets_it : (c : ℕ) → c ≢ d → worker ≢ Some c
       pub seats : (n j : ℕ) → G.node n ≡ First j → current ≤ table_at G j
@@ -223,7 +224,7 @@ module _ (env : Env) (mix : ℕ → ℕ → ℕ → ℕ) where
       restated_whole : Whole env mix M' after
       restated_whole = record {
         tables = restated_tables;
-        slots = record { states = is.states; worker_is = is.worker_is };
+        slots = record { states = is.states; worker_is = is.worker_is; retired = is.retired };
         pages = restated_pages;
         buckets = λ j l. BucketRight-frame env mix M M' j (G.bucket j)
             (is.write.others (PageWord j) l (is.word.no_page j))

@@ -4,7 +4,7 @@ use Rattle.rht_words.specs.declared.env.Env.{Env}
 use Rattle.rht_words.specs.Places.{CurrentTable, WorkLock, Slot, StateWord}
 use Rattle.rht_words.proofs.Memory.{Memory, IsWrite}
 use Rattle.rht_core.proofs.Theory.Ghosts.{Ghost, lock_bit, none-some}
-use Rattle.rht_core.proofs.Theory.Wholes.{MovesNone, Whole}
+use Rattle.rht_core.proofs.Theory.Wholes.{AreRetired, MovesNone, Whole}
 use Rattle.rht_core.proofs.Theory.Frames.{Made}
 use Rattle.rht_core.proofs.Theory.Departures.{with_worker}
 use Rattle.rht_core.proofs.Moves.Standing.{IsStandingWord, slots_stand, IsRestated, restate}
@@ -26,9 +26,10 @@ module _ (env : Env) (mix : ℕ → ℕ → ℕ → ℕ) where
   -- where no entry is on its way, the work may go from caller to caller
   reworked : (d v : ℕ) (worker : Option ℕ) (M M' : Memory) (G : Ghost) → Whole env mix M G
       → ((j entry : ℕ) → (G.bucket j).out ≢ Some entry) → ((c : ℕ) → c ≢ d → G.worker ≢ Some c)
-      → ((c : ℕ) → c ≢ d → worker ≢ Some c) → v ≡ lock_bit worker → IsWrite env.geometry M M' WorkLock v
+      → ((c : ℕ) → c ≢ d → worker ≢ Some c) → (worker ≡ None → AreRetired G None) → v ≡ lock_bit worker
+      → IsWrite env.geometry M M' WorkLock v
       → IsRestated env mix d M M' G G.current G.slot worker WorkLock v
-  reworked d v worker M M' G whole none before after is write = record {
+  reworked d v worker M M' G whole none before after retired is write = record {
     write = write;
     word = lock_word G;
     current_in = whole.tables.current_in;
@@ -37,6 +38,7 @@ module _ (env : Env) (mix : ℕ → ℕ → ℕ → ℕ) where
     slots = slots_stand env mix M G G.current whole (omega arith);
     states = λ s l. write.others (Slot s StateWord) (l, tt) (λ e. cc) ∙ whole.slots.states s l;
     worker_is = write.same ∙ is;
+    retired = retired;
     no_other = before;
     none_gets_it = after;
     seats = λ n j first. (whole.owned.first_at n j first).at_home.current;
@@ -57,15 +59,15 @@ module _ (env : Env) (mix : ℕ → ℕ → ℕ → ℕ) where
         restate env mix d M M' G G.current G.slot (Some d) WorkLock 1 whole
             (reworked d 1 (Some d) M M' G whole
             (λ j entry out. none-some free (whole.moving.out j entry out).works)
-            (λ c ne works. none-some free works) (λ c ne e. ne (cc)) refl write),
+            (λ c ne works. none-some free works) (λ c ne e. ne (cc)) (λ none. absurd (cc)) refl write),
         free,
       )
 
-  -- the store of 0 by the caller that does the work, and has no entry on its way
+  -- the store of 0 by the caller that does the work, has no entry on its way, and has left no table behind that isn't retired
   pub give_work : (d : ℕ) (M M' : Memory) (G : Ghost) → Whole env mix M G → G.worker ≡ Some d
-      → MovesNone env mix G d → IsWrite env.geometry M M' WorkLock 0
+      → MovesNone env mix G d → AreRetired G None → IsWrite env.geometry M M' WorkLock 0
       → Made env mix d M G M' (with_worker G None)
-  give_work d M M' G whole works none write =
+  give_work d M M' G whole works none retired write =
       restate env mix d M M' G G.current G.slot None WorkLock 0 whole
       (reworked d 0 None M M' G whole
       (λ j entry out.
@@ -73,4 +75,4 @@ module _ (env : Env) (mix : ℕ → ℕ → ℕ → ℕ) where
       let same : ◌≡◌ {A = Option ℕ} (Some is.worker) (Some d) = sym is.works ∙ works in
       none j entry out (is.holder ∙ same))
       (λ c ne other. let e : ◌≡◌ {A = Option ℕ} (Some d) (Some c) = sym works ∙ other in ne (cc))
-      (λ c ne e. cc) refl write)
+      (λ c ne e. cc) (λ idle. retired) refl write)

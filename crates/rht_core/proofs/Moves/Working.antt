@@ -1,5 +1,5 @@
 -- The moves of the caller that does the work, by what it knows before each of them, and what it knows after it.
-use Rattle.std.proofs.Common.{◌≡◌, ◌⊎◌, ℕ, ◌+◌, ◌*◌, ◌/◌, ◌%◌, List, [], ◌∷◌, ◌++◌, Option, Some, None, refl, sym, ◌∙◌, ap, subst, inl, inr, arith}
+use Rattle.std.proofs.Common.{◌≡◌, ◌⊎◌, ℕ, ◌+◌, ◌*◌, ◌/◌, ◌%◌, ◌<◌, List, [], ◌∷◌, ◌++◌, Option, Some, None, refl, sym, ◌∙◌, ap, subst, inl, inr, arith}
 use Rattle.std.proofs.lemmas.Bool.{cases_eq}
 use Rattle.rht_words.specs.declared.env.Env.{Env}
 use Rattle.rht_words.specs.Links.{link_of, head_of}
@@ -8,11 +8,11 @@ use Rattle.rht_words.specs.Places.{CurrentTable, WorkLock, Slot, StateWord, Node
 use Rattle.rht_words.specs.Members.{In}
 use Rattle.rht_words.proofs.Memory.{Memory, IsWrite}
 use Rattle.rht_words.proofs.Members.{in-middle}
-use Rattle.rht_core.proofs.Theory.Ghosts.{put, put-same, put-other, put-all, Bucket, Owner, First, Leaving, PageOf, Ghost, has_table, index_at, table_at, held_by, with_holder, none-some, some-same}
+use Rattle.rht_core.proofs.Theory.Ghosts.{put, put-same, put-other, put-all, Bucket, Owner, First, Leaving, PageOf, SlotOwner, Retired, Ghost, has_table, index_at, table_at, held_by, with_holder, none-some, some-same}
 use Rattle.rht_core.proofs.Theory.Wholes.{key_of, place_at, word_index, place_at-index, index-place_at, index-within, home, IsNoBucket, MovesNone, Whole}
 use Rattle.rht_core.proofs.Theory.Passed.{place-table, home-table, home-bucket}
 use Rattle.rht_core.proofs.Theory.Knowns.{last_of, KnownAim, NoAim, KnownRehash, KnownPlace, KnownEntry, KnownWork, NoWork, Works, Empties, LeavesBehind, InBucket, Brings, TakesOut, HasBrought}
-use Rattle.rht_core.proofs.Theory.Knowledge.{IsEmptied, IsEmptying, IsLeftBehind, IsFacing, IsNext, IsInBucket, IsBare, IsEntry, IsAim, IsAiming, IsTarget, IsBringing, IsTakenOut, IsBrought, WorkMeans}
+use Rattle.rht_core.proofs.Theory.Knowledge.{DoesWork, IsEmptied, IsEmptying, IsLeftBehind, IsFacing, IsNext, IsInBucket, IsBare, IsEntry, IsAim, IsAiming, IsTarget, IsBringing, IsTakenOut, IsBrought, WorkMeans}
 use Rattle.rht_core.proofs.Theory.Frames.{Made}
 use Rattle.rht_core.proofs.Theory.Departures.{with_worker, published, retired, left_by, left, arrived, cut_plain, cut_by, cut_off, IsNextPlace, CanLeave, CanArrive, CanCut, CanPublish, CanRetire}
 use Rattle.rht_core.proofs.Theory.Readiness.{linked_bucket}
@@ -64,13 +64,13 @@ module _ (env : Env) (mix : ℕ → ℕ → ℕ → ℕ) (c : ℕ) where
           here = ap (home env mix G (key_of M entry)) table ∙ is.aim.here;
         }
 
-    pub can_leave : G.worker ≡ Some c → (root : KnownRehash) (at : KnownPlace) (entry : KnownEntry) (place word : ℕ)
+    pub can_leave : DoesWork c G None → (root : KnownRehash) (at : KnownPlace) (entry : KnownEntry) (place word : ℕ)
         → (is : IsBringing env mix c M G root at entry place word)
         → CanLeave env mix c (index at.place) (index place) entry.node is.tail.stands.among.front M G
     can_leave works root at entry place word is =
         let stands = is.tail.stands in
         record {
-          works = works;
+          works = works.0;
           holder = stands.bucket.next.lock.holder;
           table = next_table root at stands.bucket.next;
           still = stands.bucket.out;
@@ -79,13 +79,13 @@ module _ (env : Env) (mix : ℕ → ℕ → ℕ → ℕ) (c : ℕ) where
           next = next_place entry.node place word is.target;
         }
 
-    pub can_arrive : G.worker ≡ Some c → (root : KnownRehash) (at : KnownPlace) (entry : KnownEntry) (place word : ℕ)
+    pub can_arrive : DoesWork c G None → (root : KnownRehash) (at : KnownPlace) (entry : KnownEntry) (place word : ℕ)
         → IsTakenOut env mix c M G root at entry place word → LocksOnly G (Some at.place) (Some place)
         → CanArrive env mix c (index at.place) (index place) entry.node M G
     can_arrive works root at entry place word is only =
         let there = place_at-index env mix place is.target.lock.bucket in
         record {
-          works = works;
+          works = works.0;
           leaving = is.leaving;
           next = next_place entry.node place word is.target;
           chain = is.chain ∙ ap (λ p. head_of p word) (sym there)
@@ -96,20 +96,20 @@ module _ (env : Env) (mix : ℕ → ℕ → ℕ → ℕ) (c : ℕ) where
           ];
         }
 
-    pub can_cut : G.worker ≡ Some c → (root : KnownRehash) (at : KnownPlace) (entry : KnownEntry)
+    pub can_cut : DoesWork c G None → (root : KnownRehash) (at : KnownPlace) (entry : KnownEntry)
         → IsBrought env mix c G root at entry → CanCut env mix c (index at.place) entry.node entry.before G
     can_cut works root at entry is =
-        record { works = works; out = is.out.out; further = is.further; last = is.out.last }
+        record { works = works.0; out = is.out.out; further = is.further; last = is.out.last }
 
-    pub can_publish : G.worker ≡ Some c → (root : KnownRehash) (count : ℕ) → IsEmptying env mix G root count
+    pub can_publish : DoesWork c G None → (root : KnownRehash) (count : ℕ) → IsEmptying env mix G root count
         → count ≡ size_of (unpacked root.shape) → CanPublish env mix c G
     can_publish works root count is all =
         let size : count ≡ size_of (unpacked (G.table G.current).shape) =
         all ∙ ap (λ s. size_of (unpacked s)) (sym is.shape_is) in
-        record { works = works; root = root; emptied = subst (IsEmptying env mix G root) size is }
+        record { works = works.0; root = root; emptied = subst (IsEmptying env mix G root) size is }
 
-    pub can_retire : G.worker ≡ Some c → (slot : ℕ) → IsLeftBehind env mix G slot → CanRetire env mix c slot G
-    can_retire works slot is = record { works = works; table = is.table; left_behind = is.earlier }
+    pub can_retire : (slot : ℕ) → DoesWork c G (Some slot) → IsLeftBehind env mix G slot → CanRetire env mix c slot G
+    can_retire slot works is = record { works = works.0; table = is.table; left_behind = is.earlier }
 
     -- what it has emptied stays so where no emptied bucket of the current table changes
     emptying_stays : (root : KnownRehash) (count : ℕ) (bucket : ℕ → Bucket) (node : ℕ → Owner) → IsEmptying env mix G root count
@@ -142,7 +142,7 @@ module _ (env : Env) (mix : ℕ → ℕ → ℕ → ℕ) (c : ℕ) where
 
     -- ---- an entry goes out of its bucket
 
-    module _ (works : G.worker ≡ Some c) (root : KnownRehash) (at : KnownPlace) (entry : KnownEntry) (place word : ℕ)
+    module _ (works : DoesWork c G None) (root : KnownRehash) (at : KnownPlace) (entry : KnownEntry) (place word : ℕ)
         (M' : Memory) where
       abbrev j : ℕ
       j = index at.place
@@ -258,7 +258,7 @@ module _ (env : Env) (mix : ℕ → ℕ → ℕ → ℕ) (c : ℕ) where
 
     -- ---- the bucket is cut off
 
-    pub cut_work : G.worker ≡ Some c → (root : KnownRehash) (at : KnownPlace) (entry : KnownEntry) (M' : Memory)
+    pub cut_work : DoesWork c G None → (root : KnownRehash) (at : KnownPlace) (entry : KnownEntry) (M' : Memory)
         → IsBrought env mix c G root at entry
         → IsWrite env.geometry M M' (relink_address (index at.place) entry.before) (cut_value env mix at.place entry.before)
         → Worked M G M' (cut_off G (index at.place) entry.before)
@@ -305,7 +305,7 @@ module _ (env : Env) (mix : ℕ → ℕ → ℕ → ℕ) (c : ℕ) where
         omega (arith, same, far, is.below)
 
     -- it is locked
-    pub lock_work : G.worker ≡ Some c → (root : KnownRehash) (number place word : ℕ) (M' : Memory)
+    pub lock_work : DoesWork c G None → (root : KnownRehash) (number place word : ℕ) (M' : Memory)
         → IsFacing env mix G root number place → M (PageWord (index place)) ≡ word → word % 2 ≡ 0
         → IsWrite env.geometry M M' (PageWord (index place)) (word + 1)
         → Worked M G M' (with_holder G (index place) (Some c))
@@ -340,7 +340,7 @@ module _ (env : Env) (mix : ℕ → ℕ → ℕ → ℕ) (c : ℕ) where
         }
 
     -- and that to which its last entry goes
-    pub lock_second_work : G.worker ≡ Some c → (root : KnownRehash) (at : KnownPlace) (entry : KnownEntry) (place word : ℕ)
+    pub lock_second_work : DoesWork c G None → (root : KnownRehash) (at : KnownPlace) (entry : KnownEntry) (place word : ℕ)
         (M' : Memory) → IsAiming env mix c M G root at entry place
         → M (PageWord (index place)) ≡ word → word % 2 ≡ 0
         → IsWrite env.geometry M M' (PageWord (index place)) (word + 1)
@@ -414,7 +414,7 @@ module _ (env : Env) (mix : ℕ → ℕ → ℕ → ℕ) (c : ℕ) where
     ]
 
     -- the lock of a bucket with no entry is dropped
-    pub unlock_work : G.worker ≡ Some c → (root : KnownRehash) (at : KnownPlace) (M' : Memory) → IsBare env mix c G root at
+    pub unlock_work : DoesWork c G None → (root : KnownRehash) (at : KnownPlace) (M' : Memory) → IsBare env mix c G root at
         → LocksOnly G (Some at.place) None → IsWrite env.geometry M M' (PageWord (index at.place)) at.word
         → Worked M G M' (with_holder G (index at.place) None) (Empties root (at.number + 1))
     unlock_work works root at M' is only write =
@@ -451,7 +451,7 @@ module _ (env : Env) (mix : ℕ → ℕ → ℕ → ℕ) (c : ℕ) where
         }
 
     -- and that of one where the work stops
-    pub stop_work : G.worker ≡ Some c → (root : KnownRehash) (at : KnownPlace) (aim : KnownAim) (M' : Memory)
+    pub stop_work : DoesWork c G None → (root : KnownRehash) (at : KnownPlace) (aim : KnownAim) (M' : Memory)
         → IsInBucket env mix c G root at aim → LocksOnly G (Some at.place) None
         → IsWrite env.geometry M M' (PageWord (index at.place)) at.word
         → Worked M G M' (with_holder G (index at.place) None) Works
@@ -465,7 +465,7 @@ module _ (env : Env) (mix : ℕ → ℕ → ℕ → ℕ) (c : ℕ) where
     -- ---- tables
 
     -- the table whose buckets are all emptied is left behind
-    pub publish_work : G.worker ≡ Some c → (root : KnownRehash) (count : ℕ) (M' : Memory)
+    pub publish_work : DoesWork c G None → (root : KnownRehash) (count : ℕ) (M' : Memory)
         → IsEmptying env mix G root count → count ≡ size_of (unpacked root.shape)
         → IsWrite env.geometry M M' CurrentTable root.future → Worked M G M' (published G) (LeavesBehind root.root)
     publish_work works root count M' is all write =
@@ -476,7 +476,16 @@ module _ (env : Env) (mix : ℕ → ℕ → ℕ → ℕ) (c : ℕ) where
           made = publish env mix c M G whole (can_publish works root count is all) M'
               (subst (IsWrite env.geometry M M' CurrentTable) (sym is.followed.future_is) write);
           means = record {
-            works = works;
+            works = (
+              works.0,
+              λ τ l. elim (cases_eq τ G.current) [
+                | inl e ↦ inl (ap Some (sym root_is ∙ ap (λ σ. (G.table σ).slot) (sym e)))
+                | inr ne ↦ elim (works.1 τ (omega (arith, l, ne))) [
+                  | inl none ↦ absurd (cc)
+                  | inr done ↦ inr done
+                ]
+              ],
+            );
             more = record {
               table = ap (λ s. has_table (G.slot s)) (sym root_is) ∙ right.has_slot;
               earlier = omega (arith, index);
@@ -485,26 +494,38 @@ module _ (env : Env) (mix : ℕ → ℕ → ℕ → ℕ) (c : ℕ) where
         }
 
     -- and is retired
-    pub retire_work : G.worker ≡ Some c → (slot : ℕ) (M' : Memory) → IsLeftBehind env mix G slot
+    pub retire_work : (slot : ℕ) → DoesWork c G (Some slot) → (M' : Memory) → IsLeftBehind env mix G slot
         → IsWrite env.geometry M M' (Slot slot StateWord) 2 → Worked M G M' (retired G slot) Works
-    retire_work works slot M' is write = record {
-      made = retire env mix c slot M G whole (can_retire works slot is) M' write;
-      means = record { works = works; more = tt };
+    retire_work slot works M' is write = record {
+      made = retire env mix c slot M G whole (can_retire slot works is) M' write;
+      means = record { works = (works.0, λ τ l. inr (all_retired τ l)); more = tt };
     }
+      where
+        owner : SlotOwner
+        owner = Retired (index_at G slot)
+
+        all_retired : (τ : ℕ) → τ < G.current → put G.slot slot owner (G.table τ).slot ≡ Retired τ
+        all_retired τ l =
+            let right = whole.tables.each τ (omega (arith, l, whole.tables.current_in)) in
+            put-all (λ s o. s ≡ (G.table τ).slot → o ≡ Retired τ) G.slot slot owner
+            (λ same. ap Retired (ap (index_at G) same ∙ right.index))
+            (λ s ne same. elim (works.1 τ l) [
+              | inl left ↦ absurd (ne (same ∙ sym (some-same slot (G.table τ).slot left)))
+              | inr done ↦ ap G.slot same ∙ done
+            ]) (G.table τ).slot refl
 
     -- ---- the work lock
 
     pub take_work_lock : (M' : Memory) → M WorkLock ≡ 0 → IsWrite env.geometry M M' WorkLock 1
         → Worked M G M' (with_worker G (Some c)) Works
-    take_work_lock M' found write = record {
-      made = (take_work env mix c M M' G whole found write).0;
-      means = record { works = refl; more = tt };
-    }
+    take_work_lock M' found write =
+        let taken = take_work env mix c M M' G whole found write in
+        record { made = taken.0; means = record { works = (refl, whole.slots.retired taken.1); more = tt } }
 
-    pub give_work_lock : G.worker ≡ Some c → (M' : Memory) → LocksOnly G None None
+    pub give_work_lock : DoesWork c G None → (M' : Memory) → LocksOnly G None None
         → IsWrite env.geometry M M' WorkLock 0 → Worked M G M' (with_worker G None) NoWork
     give_work_lock works M' only write = record {
-      made = give_work env mix c M M' G whole works
-          (λ k entry out holds. elim (only k holds) [ inl e ↦ absurd (cc) | inr e ↦ absurd (cc) ]) write;
+      made = give_work env mix c M M' G whole works.0
+          (λ k entry out holds. elim (only k holds) [ inl e ↦ absurd (cc) | inr e ↦ absurd (cc) ]) works.1 write;
       means = tt;
     }

@@ -117,7 +117,7 @@ module _ (env : Env) (mix : ℕ → ℕ → ℕ → ℕ) (c : ℕ) (h : Holding)
         let worked = give_work_lock env mix c M G whole works (after op) knows.only.locks
         (is_write env.geometry words WorkLock op all tt refl) in
         moved env mix c words G op (at_work true moving) (at_work false false) (knowing false false NoWork) GivesWork
-        whole works tt worked.made (record { giving = refl; has = refl; holds = refl })
+        whole works.0 tt worked.made (record { giving = refl; has = refl; holds = refl })
         (knows_so (at_work false false) NoWork (after op) _ (worker_only env mix c G h.node None None h.raised h.slot
         h.pages true knows.only None false (λ e. absurd (cc))) worked.means)
 
@@ -212,7 +212,7 @@ module _ (env : Env) (mix : ℕ → ℕ → ℕ → ℕ) (c : ℕ) (h : Holding)
           let worked = lock_second_work env mix c M G whole works root at entry place found (after op)
           knows.means.work.more here even write in
           moved env mix c words G op (holding (Some at.place) None) (holding (Some at.place) (Some place))
-          (SecondWorks root at entry r) (TakesSecond i) whole works tt worked.made
+          (SecondWorks root at entry r) (TakesSecond i) whole works.0 tt worked.made
           (record {
             on = sym there;
             even = rw same even;
@@ -378,10 +378,10 @@ module _ (env : Env) (mix : ℕ → ℕ → ℕ → ℕ) (c : ℕ) (h : Holding)
           let is = knows.means.work.more in
           let of = whole.tables.slots slot is.table in
           let within : slot < 8 = subst (λ s. s < 8) of.slot (whole.tables.each (index_at G slot) of.attached).slot_in in
-          let worked = retire_work env mix c M G whole works slot (after op) is
+          let worked = retire_work env mix c M G whole slot works (after op) is
           (is_write env.geometry words (Slot slot StateWord) op all (within, tt) refl) in
           moved env mix c words G op (holding None None) (holding None None) (working None None Works) (Retires slot) whole
-          (can_retire env mix c M G whole works slot is) tt worked.made
+          (can_retire env mix c M G whole slot works is) tt worked.made
           (record { within = within; retiring = refl; moves = moves; holds = refl })
           (knows_so (holding None None) Works (after op) _
           (retired_only env mix c G h.node None None h.raised h.slot h.pages h.worker knows.only slot) worked.means)

@@ -11,9 +11,13 @@ use Rattle.rht_words.specs.Held as held
 use Rattle.rht_words.proofs.Memory.{Memory}
 use Rattle.rht_words.specs.Members.{In}
 use Rattle.rht_core.proofs.Theory.Ghosts.{Bucket, Held, Leaving, First, PageHeld, SlotHeld, Ghost, is_taken_by, table_at, has_table, index_at}
-use Rattle.rht_core.proofs.Theory.Wholes.{chain_of, key_of, place_at, word_index, home, pages_of, MovesNone, moves_none, IsFurther, Whole}
+use Rattle.rht_core.proofs.Theory.Wholes.{AreRetired, chain_of, key_of, place_at, word_index, home, pages_of, MovesNone, moves_none, IsFurther, Whole}
 use Rattle.rht_core.proofs.Theory.Passed.{NoKey, Passed}
 use Rattle.rht_core.proofs.Theory.Knowns.{Armed, KnownAim, NoAim, Onward, From, Beyond, KnownRehash, KnownPlace, Follows, Faces, InBucket, Bare, Aims, LeavesBehind, AtEntry, AtHome, AtNode, AtTail, Brings, Collected, CollectedTo, CutsOut, Differing, Differs, Empties, FirstLink, Found, HasBrought, HasMade, HasTaken, InList, InSlot, IsAmong, IsCollected, IsCollectedTo, IsCutOut, IsLeading, IsLeadingTo, IsOtherOwner, IsOwnersNode, IsPromoting, Known, KnownBucket, KnownEntry, KnownList, KnownMaking, KnownNode, KnownSlot, KnownTable, KnownWork, Leads, LeadsTo, Listing, Locks, LocksTakenOut, MakesNothing, Matching, Member, Missed, NoWork, Nowhere, Passes, Promotes, Replaces, Rooted, Shaped, Stands, StandsAt, StandsInList, Succeeds, TakenOut, TakesOut, Unlocked, Unlocks, WithShape, Works, last_of}
+
+-- the caller does the work, and each table before the current one is retired, but for the one in this slot
+abbrev pub DoesWork : ℕ → Ghost → Option ℕ → Type 0
+DoesWork c G slot = (G.worker ≡ Some c) × AreRetired G slot
 
 module _ (env : Env) (mix : ℕ → ℕ → ℕ → ℕ) where
   -- ---- what it means
@@ -373,26 +377,26 @@ module _ (env : Env) (mix : ℕ → ℕ → ℕ → ℕ) where
     pub further : IsFurther env mix G entry.node
 
   -- what is known while the caller does the work
-  pub record IsWorking (c : ℕ) (G : Ghost) (More : Type 0) : Type 0 where
-    pub works : G.worker ≡ Some c
+  pub record IsWorking (c : ℕ) (G : Ghost) (slot : Option ℕ) (More : Type 0) : Type 0 where
+    pub works : DoesWork c G slot
     pub more : More
 
   abbrev pub WorkMeans : ℕ → Memory → Ghost → KnownWork → Type 0
   WorkMeans c M G NoWork = Unit {0}
-  WorkMeans c M G Works = IsWorking c G (Unit {0})
-  WorkMeans c M G (Rooted root aim) = IsWorking c G (IsRooted G root aim)
-  WorkMeans c M G (Follows root future) = IsWorking c G (IsFollowed G root future)
-  WorkMeans c M G (Empties root count) = IsWorking c G (IsEmptying G root count)
-  WorkMeans c M G (LeavesBehind slot) = IsWorking c G (IsLeftBehind G slot)
-  WorkMeans c M G (Faces root number place) = IsWorking c G (IsFacing G root number place)
-  WorkMeans c M G (InBucket root at aim) = IsWorking c G (IsInBucket c G root at aim)
-  WorkMeans c M G (Bare root at) = IsWorking c G (IsBare c G root at)
-  WorkMeans c M G (AtEntry root at entry aim) = IsWorking c G (IsEntry c G root at entry aim)
-  WorkMeans c M G (AtTail root at entry aim) = IsWorking c G (IsTail c G root at entry aim)
-  WorkMeans c M G (Aims root at entry place) = IsWorking c G (IsAiming c M G root at entry place)
-  WorkMeans c M G (Brings root at entry place word) = IsWorking c G (IsBringing c M G root at entry place word)
-  WorkMeans c M G (TakesOut root at entry place word) = IsWorking c G (IsTakenOut c M G root at entry place word)
-  WorkMeans c M G (HasBrought root at entry) = IsWorking c G (IsBrought c G root at entry)
+  WorkMeans c M G Works = IsWorking c G None (Unit {0})
+  WorkMeans c M G (Rooted root aim) = IsWorking c G None (IsRooted G root aim)
+  WorkMeans c M G (Follows root future) = IsWorking c G None (IsFollowed G root future)
+  WorkMeans c M G (Empties root count) = IsWorking c G None (IsEmptying G root count)
+  WorkMeans c M G (LeavesBehind slot) = IsWorking c G (Some slot) (IsLeftBehind G slot)
+  WorkMeans c M G (Faces root number place) = IsWorking c G None (IsFacing G root number place)
+  WorkMeans c M G (InBucket root at aim) = IsWorking c G None (IsInBucket c G root at aim)
+  WorkMeans c M G (Bare root at) = IsWorking c G None (IsBare c G root at)
+  WorkMeans c M G (AtEntry root at entry aim) = IsWorking c G None (IsEntry c G root at entry aim)
+  WorkMeans c M G (AtTail root at entry aim) = IsWorking c G None (IsTail c G root at entry aim)
+  WorkMeans c M G (Aims root at entry place) = IsWorking c G None (IsAiming c M G root at entry place)
+  WorkMeans c M G (Brings root at entry place word) = IsWorking c G None (IsBringing c M G root at entry place word)
+  WorkMeans c M G (TakesOut root at entry place word) = IsWorking c G None (IsTakenOut c M G root at entry place word)
+  WorkMeans c M G (HasBrought root at entry) = IsWorking c G None (IsBrought c G root at entry)
 
   pub record Means (c : ℕ) (M : Memory) (G : Ghost) (known : Known) : Type 0 where
     pub node : IfSome known.node (NodeMeans c M G)

@@ -9,7 +9,7 @@ use Rattle.rht_words.proofs.Memory.{Memory}
 use Rattle.rht_words.specs.Members.{In}
 use Rattle.rht_words.proofs.Members.{in-middle}
 use Rattle.rht_core.proofs.Theory.Ghosts.{Ghost, has_table, index_at, seat-used}
-use Rattle.rht_core.proofs.Theory.Wholes.{key_of, word_index, home, out-seated, Whole}
+use Rattle.rht_core.proofs.Theory.Wholes.{retired_stay, key_of, word_index, home, out-seated, Whole}
 use Rattle.rht_core.proofs.Theory.Passed.{place-table, TablesGrow, table_at-grows, home-stays}
 use Rattle.rht_core.proofs.Theory.Knowns.{KnownAim, NoAim, Onward, From, Beyond, KnownRehash, KnownPlace, Follows, Faces, KnownEntry, InBucket, Bare, AtEntry, AtTail, Aims, Brings, Empties, LeavesBehind, HasBrought, HasMade, HasTaken, Known, KnownMaking, KnownWork, MakesNothing, NoWork, Rooted, TakesOut, Works, last_of}
 use Rattle.rht_core.proofs.Theory.Knowledge.{AimMeans, IsRooted, IsFollowed, IsFacing, IsLeftBehind, IsNext, IsInBucket, IsBare, IsAim, IsAiming, IsWorking, HasLock, HasOnly, HasSlot, IsBringing, IsBrought, IsEmptying, IsEntry, IsOutOf, IsRoot, IsTail, IsTakenOut, IsTarget, Knowing, MakingMeans, Means, WorkMeans, bucket_at}
@@ -285,9 +285,19 @@ module _ (env : Env) (mix : ℕ → ℕ → ℕ → ℕ) where
 
   -- whatever it is
   module _ (c : ℕ) (M M' : Memory) (G G' : Ghost) (whole : Whole env mix M G) (keeps : KeepsWork c M G M' G') where
-    still-working : {More More' : Type 0} → (IsWorking env mix c G More) → (G.worker ≡ Some c → More → More')
-        → IsWorking env mix c G' More'
-    still-working means go = record { works = (keeps.work means.works).worker; more = go means.works means.more }
+    still-working : {slot : Option ℕ} {More More' : Type 0} → IsWorking env mix c G slot More
+        → (G.worker ≡ Some c → More → More') → IsWorking env mix c G' slot More'
+    still-working {slot} means go =
+        let works = means.works.0 in
+        let stays = keeps.work works in
+        record {
+          works = (
+            stays.worker,
+            retired_stay G G' slot stays.current
+                (λ τ l. keeps.grow.tables τ (omega (arith, l, whole.tables.current_in))) keeps.grow.retired means.works.1,
+          );
+          more = go works means.more;
+        }
 
     pub WorkMeans-stay : (known : KnownWork) → WorkMeans env mix c M G known → WorkMeans env mix c M' G' known
     WorkMeans-stay NoWork means = tt

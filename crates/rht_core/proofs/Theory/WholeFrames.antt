@@ -1,5 +1,5 @@
 -- What a step leaves of the parts of the whole where it writes elsewhere.
-use Rattle.std.proofs.Common.{◌≡◌, ◌≢◌, ◌⊎◌, ◌↔◌, ℕ, ◌+◌, ◌*◌, ◌/◌, ◌%◌, ◌<◌, ◌≤◌, ◌∷◌, Option, Some, Bool, true, refl, sym, ◌∙◌, ap, subst, inl, inr, arith}
+use Rattle.std.proofs.Common.{◌≡◌, ◌≢◌, ◌⊎◌, ◌↔◌, ℕ, ◌+◌, ◌*◌, ◌/◌, ◌%◌, ◌<◌, ◌≤◌, ◌∷◌, Option, Some, None, Bool, true, refl, sym, ◌∙◌, ap, subst, inl, inr, arith}
 use Rattle.std.specs.Int.{bit_at}
 use Rattle.rht_words.specs.declared.env.Env.{Env}
 use Rattle.rht_words.specs.Places.{Address, CurrentTable, WorkLock, PortCount, Slot, SlotWord, ShapeWord, SeedWord, FutureWord, StateWord, NodeMap, PageMap, ChainLink, KeyWord, ListLink, PageWord}
@@ -9,7 +9,7 @@ use Rattle.rht_words.specs.Members.{In}
 use Rattle.rht_words.proofs.ChainLemmas.{IsSegment-members}
 use Rattle.rht_words.specs.Links.{head_of}
 use Rattle.rht_core.proofs.Theory.Ghosts.{Table, Bucket, Owner, First, Leaving, Behind, Ghost, lock_bit, state_word, is_used, IsUsed, PageOwner, PageFree, PageHeld, PageOf, SlotOwner, seat_of, seat, seat-used, has_table, table_at}
-use Rattle.rht_core.proofs.Theory.Wholes.{chain_of, list_of, key_of, place_at, home, stop, pages_of, IsNoBucket, TableRight, TablesRight, SlotsRight, PagesRight, LockedRight, BucketRight, ChainedRight, ArmedRight, OutRight, MovingRight, IsHomeOf, IsLeavingAt, Owned, ArenaRight, Whole, out-seated, firsts, raisers}
+use Rattle.rht_core.proofs.Theory.Wholes.{retired_stay, chain_of, list_of, key_of, place_at, home, stop, pages_of, IsNoBucket, TableRight, TablesRight, SlotsRight, PagesRight, LockedRight, BucketRight, ChainedRight, ArmedRight, OutRight, MovingRight, IsHomeOf, IsLeavingAt, Owned, ArenaRight, Whole, out-seated, firsts, raisers}
 use Rattle.rht_core.proofs.Theory.Passed.{PassesStay}
 use Rattle.rht_core.proofs.Theory.Frames.{IsNoTableWord, SameTables, UsedStay, first_stays, passes_same, same_tables, seat_stays, still}
 
@@ -99,6 +99,8 @@ module _ (env : Env) (mix : ℕ → ℕ → ℕ → ℕ) where
     states = λ s l. write.others (Slot s StateWord) (l, tt) (states s) ∙ right.states s l
         ∙ sym (ap (λ slot. state_word (slot s)) same.slot);
     worker_is = write.others WorkLock tt lock ∙ right.worker_is ∙ sym (ap lock_bit same.worker);
+    retired = λ idle. retired_stay G G' None same.current (λ τ l. ap (λ t. t τ) same.table)
+        (λ s τ is. ap (λ slot. slot s) same.slot ∙ is) (right.retired (sym same.worker ∙ idle));
   }
 
   -- by the tables alone

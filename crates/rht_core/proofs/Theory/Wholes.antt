@@ -12,7 +12,7 @@ use Rattle.rht_words.proofs.Memory.{Memory}
 use Rattle.rht_words.specs.Members.{In, IsDistinct}
 use Rattle.rht_words.proofs.Members.{count_below}
 use Rattle.rht_policy.specs.Mix.{bucket_of}
-use Rattle.rht_core.proofs.Theory.Ghosts.{Bucket, blank_bucket, Owner, Free, Held, First, Leaving, Behind, Taken, Ghost, Live, lock_bit, state_word, is_first, is_taken_by, seat_of, seated, table_at, has_table, index_at, PageOwner, PageFree, PageHeld, PageOf}
+use Rattle.rht_core.proofs.Theory.Ghosts.{Table, Bucket, blank_bucket, Owner, Free, Held, First, Leaving, Behind, Taken, Ghost, Live, Retired, lock_bit, state_word, is_first, is_taken_by, seat_of, seated, table_at, has_table, index_at, PageOwner, PageFree, PageHeld, PageOf}
 
 -- the links behind nodes
 abbrev pub chain_of : Memory → ℕ → ℕ
@@ -25,6 +25,23 @@ key_of M node = M (Node node KeyWord)
 -- the links behind nodes in the lists of their ports
 abbrev pub list_of : Memory → ℕ → ℕ
 list_of M node = M (Node node ListLink)
+
+-- each table before the current one is retired, but for the one in this slot
+abbrev pub AreRetired : Ghost → Option ℕ → Type 0
+AreRetired G slot =
+    (τ : ℕ) → τ < G.current → (slot ≡ Some (G.table τ).slot) ⊎ (G.slot (G.table τ).slot ≡ Retired τ)
+
+-- it is so still where the same table is the current one, and those before it, and those that are retired, stay what they are
+pub retired_stay : (G G' : Ghost) (slot : Option ℕ) → G'.current ≡ G.current
+    → ((τ : ℕ) → τ < G.current → G'.table τ ≡ G.table τ)
+    → ((s τ : ℕ) → G.slot s ≡ Retired τ → G'.slot s ≡ Retired τ) → AreRetired G slot → AreRetired G' slot
+retired_stay G G' slot current tables slots is τ l =
+    let before : τ < G.current = omega (arith, l, current) in
+    let same : (G'.table τ).slot ≡ (G.table τ).slot = ap (λ (t : Table). t.slot) (tables τ before) in
+    elim (is τ before) [
+      | inl left ↦ inl (left ∙ ap Some (sym same))
+      | inr done ↦ inr (ap G'.slot same ∙ slots (G.table τ).slot τ done)
+    ]
 
 module _ (env : Env) (mix : ℕ → ℕ → ℕ → ℕ) where
   -- the place of the word of a bucket, and which of the words of all pages stands at a place
@@ -88,10 +105,12 @@ module _ (env : Env) (mix : ℕ → ℕ → ℕ → ℕ) where
     pub each : (τ : ℕ) → τ < G.attached → TableRight M G τ
     pub slots : (s : ℕ) → has_table (G.slot s) ≡ true → SlotIsOf G s
 
-  -- the state word of each slot says who has it, and the work lock is set exactly while a caller has it
+  -- The state word of each slot says who has it, and the work lock is set exactly while a caller has it. While none has it each table
+  -- before the current one is retired.
   pub record SlotsRight (M : Memory) (G : Ghost) : Type 0 where
     pub states : (s : ℕ) → s < 8 → M (Slot s StateWord) ≡ state_word (G.slot s)
     pub worker_is : M WorkLock ≡ lock_bit G.worker
+    pub retired : G.worker ≡ None → AreRetired G None
 
   -- how many pages a table takes, the first of which its shape names
   abbrev pub pages_of : ℕ → ℕ
