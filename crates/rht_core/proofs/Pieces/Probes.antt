@@ -79,6 +79,34 @@ abbrev pub probed_by : ProbeAt × Next Probed → Option ℕ
 probed_by (at, Go) = lock_of_probe at
 probed_by (at, Done probed) = Some probed.bucket.place
 
+-- ---- how many nodes a walk has passed
+
+module _ (env : Env) (mix : ℕ → ℕ → ℕ → ℕ) (c port : ℕ) (M : Memory) (G : Ghost) (whole : Whole env mix M G)
+    (place word n : ℕ) (before : Option ℕ) where
+  -- before a node of a chain stand fewer nodes than there are
+  front_few : (standing : IsStanding env mix c M G place word port n before)
+      → length standing.stands.front < env.geometry.nodes
+  front_few standing =
+      let nodes = env.geometry.nodes in
+      let here = (G.bucket (word_index env mix place)).nodes in
+      let at = standing.stands in
+      let chained = (whole.buckets (word_index env mix place) (index-within env mix place standing.lock.bucket)).chained in
+      let among = In-AllByRecursion (λ m. m < nodes) here
+      (λ m i. (whole.owned.first_at m (word_index env mix place) (whole.owned.member (word_index env mix place) m i)).among) in
+      let few = length-count_below (λ m. true) nodes here chained.distinct among (λ m i. refl) in
+      let most = count_below-most (λ m. true) nodes in
+      let many = ap length at.split ∙ length-append at.front (n ∷ at.rear) in
+      omega (arith, few, most, many)
+
+  -- so a walk can count them, and one more
+  pub one_more-counted : (count : ℕ) → (is : IsReaching env mix c M G place word port n before count)
+      → one_more count ≡ length is.standing.stands.front + 1
+  one_more-counted count is =
+      let few = front_few is.standing in
+      let most = env.geometry.within.nodes_within.1 in
+      let counted = is.counted in
+      omega (arith, few, most, counted)
+
 module _ (env : Env) (mix : ℕ → ℕ → ℕ → ℕ) (c : ℕ) (h : Holding) (node : Option KnownNode)
     (port slot : ℕ) (shape : Option ℕ) where
   -- what the call holds with this lock, and what the caller knows with this known of the bucket of the port at this place
@@ -185,31 +213,6 @@ module _ (env : Env) (mix : ℕ → ℕ → ℕ → ℕ) (c : ℕ) (h : Holding)
     NoKey-more [] n none differs = (differs, tt)
     NoKey-more (other ∷ nodes) n none differs = (none.0, NoKey-more nodes n none.1 differs)
 
-    -- before a node of a chain stand fewer nodes than there are
-    front_few : (n : ℕ) (before : Option ℕ) → (standing : IsStanding env mix c M G place word port n before)
-        → length standing.stands.front < env.geometry.nodes
-    front_few n before standing =
-        let nodes = env.geometry.nodes in
-        let here = (G.bucket j).nodes in
-        let at = standing.stands in
-        let chained = (whole.buckets j (index-within env mix place standing.lock.bucket)).chained in
-        let among = In-AllByRecursion (λ m. m < nodes) here
-        (λ m i. (whole.owned.first_at m j (whole.owned.member j m i)).among) in
-        let few = length-count_below (λ m. true) nodes here chained.distinct among (λ m i. refl) in
-        let most = count_below-most (λ m. true) nodes in
-        let many = ap length at.split ∙ length-append at.front (n ∷ at.rear) in
-        omega (arith, few, most, many)
-
-    -- so a walk can count them, and one more
-    pub one_more-counted : (n : ℕ) (before : Option ℕ) (count : ℕ)
-        → (is : IsReaching env mix c M G place word port n before count)
-        → one_more count ≡ length is.standing.stands.front + 1
-    one_more-counted n before count is =
-        let few = front_few n before is.standing in
-        let most = env.geometry.within.nodes_within.1 in
-        let counted = is.counted in
-        omega (arith, few, most, counted)
-
     -- behind a node with another key the walk stands at the next one, or has missed the port
     walk_on : (n : ℕ) (walk : LockedWalkModel) → walk.geometry ≡ env.geometry → walk.key ≡ port
         → knowing (Some place) place (Differs place word port n walk.before walk.length) M G
@@ -297,7 +300,7 @@ module _ (env : Env) (mix : ℕ → ℕ → ℕ → ℕ) (c : ℕ) (h : Holding)
         let op = locked_walk_plan walk in
         let key = old_of words op in
         let standing = knows.means.bucket.standing in
-        let more = one_more-counted M G whole place word n before count knows.means.bucket in
+        let more = one_more-counted env mix c port M G whole place word n before count knows.means.bucket in
         by_test (λ t. (key == port) ≡ t → WalkMoved place word op
         (cond t (counted walk, Done (found_at (counted walk) n))
         (record (counted walk) { at = walks.ChainLink n }, Go))) (key == port)
