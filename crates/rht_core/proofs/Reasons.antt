@@ -1,7 +1,9 @@
+-- which operations load the key of no node
+pub mod KeyLoads
 -- the last table that a call walked is the one whose shape it loaded last
 pub mod TablesWalked
--- the nodes whose keys were loaded
-pub mod KeysRead
+-- what a bind has counted in a bucket
+pub mod ChainsCounted
 -- whether a bind has attached a table
 pub mod AttachedTables
 -- what the making of a table has seen so far

@@ -1,6 +1,6 @@
 -- Why a bind that found the last table full was refused or has to be made again: what its operations show of that.
 -- Every address that a row names is one of the table's words, since places alone don't tell it from a word that isn't there.
-use Rattle.std.specs.Prelude.{◌≡◌, ◌≢◌, ℕ, ◌*◌, ◌+◌, ◌<◌, ◌≤◌, ◌⊎◌, List, [], ◌∷◌, ◌++◌, length, map, take, if◌then◌else◌}
+use Rattle.std.specs.Prelude.{◌≡◌, ◌≢◌, ℕ, Some, ◌*◌, ◌+◌, ◌<◌, ◌≤◌, ◌⊎◌, List, [], ◌∷◌, ◌++◌, length, map, if◌then◌else◌}
 use Rattle.std.specs.List.{AllByRecursion, Any}
 use Rattle.rht_words.specs.declared.op.Op.{Op}
 use Rattle.rht_words.specs.declared.op.Op.TheVariants.{Load, Exchange}
@@ -15,10 +15,9 @@ use Rattle.rht_arena.specs.RunLaws.{SeesRunTaken}
 use Rattle.rht_nest.specs.Place.{bucket_place}
 use Rattle.rht_nest.specs.MakeLaws.{pages_for, AreSlotsSeenTaken}
 use Rattle.rht_core.specs.declared.event.Event.{Event}
-use Rattle.rht_core.specs.Runs.{run_of}
 use Rattle.rht_core.specs.StandsFor.{bucket_nodes, stands_for, AreBound}
 use Rattle.rht_core.specs.Traces.{Did, performed_of}
-use Rattle.rht_core.specs.Seen.{LastWalked, SawCount}
+use Rattle.rht_core.specs.Seen.{LastWalked, SawCount, words_before}
 
 -- the operation loaded this word of the table
 pub record LoadsWord (g : Geometry) (address : Address) (did : Did) : Type 0 where
@@ -76,12 +75,36 @@ pub record LoadsKey (g : Geometry) (node : ℕ) (did : Did) : Type 0 where
 abbrev pub IsNoKeyLoad : Geometry → Did → Type 0
 IsNoKeyLoad g did = (node : ℕ) → LoadsKey g node did → ⊥
 
--- the nodes whose keys these operations loaded, in order
-abbrev pub AreKeysRead : Geometry → List Did → List ℕ → Type 0
-AreKeysRead g [] nodes = nodes ≡ []
-AreKeysRead g (did ∷ steps) [] = IsNoKeyLoad g did × AreKeysRead g steps []
-AreKeysRead g (did ∷ steps) (node ∷ nodes) =
-    (LoadsKey g node did × AreKeysRead g steps nodes) ⊎ (IsNoKeyLoad g did × AreKeysRead g steps (node ∷ nodes))
+-- where these are the words before the event with each number
+module _ (g : Geometry) (words_at : ℕ → List ℕ) where
+  -- The operation counted a node in the bucket at this place: it loaded the node's key, at its event the node stood in the bucket
+  -- behind so many others, and as many ports were bound as these are with it.
+  pub record CountsNode (place number node : ℕ) (did : Did) : Type 0 where
+    pub loads : LoadsKey g node did
+    pub front : List ℕ
+    pub rear : List ℕ
+    pub stands : bucket_nodes g (words_at did.index) (Some place) ≡ front ++ node ∷ rear
+    pub as_many : length front ≡ number
+    pub bound : AreBound (stands_for g (words_at did.index)) (number + 1)
+
+  -- the operations counted these nodes in the bucket, in their order, from the one with this number on, and loaded no other key
+  abbrev pub AreCounted : ℕ → ℕ → List Did → List ℕ → Type 0
+  AreCounted place number [] nodes = nodes ≡ []
+  AreCounted place number (did ∷ steps) [] = IsNoKeyLoad g did × AreCounted place number steps []
+  AreCounted place number (did ∷ steps) (node ∷ nodes) =
+      (CountsNode place number node did × AreCounted place (number + 1) steps nodes)
+      ⊎ (IsNoKeyLoad g did × AreCounted place number steps (node ∷ nodes))
+
+  -- Behind the load of the table's shape the call counted 16 nodes or more, all in one bucket of the table: each stood there, as
+  -- its key was loaded, behind as many others as were counted before.
+  pub record SawLongChain (shape : ℕ) (behind : List Did) : Type 0 where
+    pub bucket : ℕ
+    pub bucket_in : bucket < size_of (unpacked shape)
+    pub place : ℕ
+    pub place_is : bucket_place g shape bucket ≡ Some place
+    pub nodes : List ℕ
+    pub counted : AreCounted place 0 behind nodes
+    pub many : 16 ≤ length nodes
 
 -- a table of this shape with so many ports is to have one of this size behind it: of twice its size where they are more
 -- than three quarters of its buckets, and of its own size where they aren't
@@ -101,34 +124,6 @@ abbrev pub SawNoRoom : Geometry → ℕ → List Did → Type 0
 SawNoRoom g size steps = AreSlotsSeenTaken g (map performed_of steps) ⊎ AreRunsSeenTaken g (pages_for size) steps
 
 module _ (M : Type 0) (mix : ℕ → ℕ → ℕ → ℕ) (env : Env) (events : List Event) (c : ℕ) where
-  -- the words before the event with this number
-  abbrev words_before : ℕ → List ℕ
-  words_before index = (run_of {M = M} mix env (take index events)).core.words
-
-  -- Behind the load of the table's shape the call counted 16 nodes or more. The last key was loaded by this operation. At its
-  -- event that node had as many others before it in a bucket of the table as keys had been loaded before, and as many ports
-  -- were bound as were counted.
-  pub record SawLongChain (table shape : ℕ) (behind : List Did) : Type 0 where
-    pub before : List Did
-    pub last : Did
-    pub rest : List Did
-    pub split : behind ≡ before ++ last ∷ rest
-    pub node : ℕ
-    pub loads : LoadsKey env.geometry node last
-    pub none_behind : AllByRecursion (IsNoKeyLoad env.geometry) rest
-    pub counted : List ℕ
-    pub read : AreKeysRead env.geometry before counted
-    pub bucket : ℕ
-    pub bucket_in : bucket < size_of (unpacked shape)
-    pub front : List ℕ
-    pub rear : List ℕ
-    pub stands :
-        bucket_nodes env.geometry (words_before last.index) (bucket_place env.geometry shape bucket)
-        ≡ front ++ node ∷ rear
-    pub as_many : length front ≡ length counted
-    pub many : 16 ≤ length counted + 1
-    pub bound : AreBound (stands_for env.geometry (words_before last.index)) (length counted + 1)
-
   -- a count above the size of a table of this shape was loaded
   pub record SawManyPorts (shape : ℕ) (did : Did) : Type 0 where
     pub count : ℕ
@@ -136,8 +131,9 @@ module _ (M : Type 0) (mix : ℕ → ℕ → ℕ → ℕ) (env : Env) (events : 
     pub above : size_of (unpacked shape) < count
 
   -- the table that was walked last is full: its bucket has 16 nodes or more, or it has fewer buckets than there are ports
-  abbrev pub SawCrowded : ℕ → ℕ → List Did → Type 0
-  SawCrowded table shape behind = SawLongChain table shape behind ⊎ Any (SawManyPorts shape) behind
+  abbrev pub SawCrowded : ℕ → List Did → Type 0
+  SawCrowded shape behind =
+      SawLongChain env.geometry (words_before M mix env events) shape behind ⊎ Any (SawManyPorts shape) behind
 
   -- A bind is refused while tables are moved: the last table that it walked is full and wasn't the current one, and it
   -- loaded its future as none.
@@ -145,7 +141,7 @@ module _ (M : Type 0) (mix : ℕ → ℕ → ℕ → ℕ) (env : Env) (events : 
     pub shape : ℕ
     pub walked : LastWalked env.geometry last shape steps
     pub other : root ≢ last
-    pub crowded : SawCrowded last shape walked.behind
+    pub crowded : SawCrowded shape walked.behind
     pub current : Any (λ did. LoadsWord env.geometry CurrentTable did × (table_of did.old ≡ root)) walked.behind
     pub none : Any (Loaded env.geometry (Slot last FutureWord) 0) walked.behind
 
@@ -155,7 +151,7 @@ module _ (M : Type 0) (mix : ℕ → ℕ → ℕ → ℕ) (env : Env) (events : 
     pub table : ℕ
     pub shape : ℕ
     pub walked : LastWalked env.geometry table shape steps
-    pub crowded : SawCrowded table shape walked.behind
+    pub crowded : SawCrowded shape walked.behind
     pub before : List Did
     pub at : Did
     pub rest : List Did

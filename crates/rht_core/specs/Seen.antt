@@ -32,6 +32,10 @@ pub record LastWalked (g : Geometry) (table shape : ℕ) (steps : List Did) : Ty
   pub last : AllByRecursion (IsNoShapeLoad g) behind
 
 module _ (M : Type 0) (mix : ℕ → ℕ → ℕ → ℕ) where
+  -- the words before the event with this number
+  abbrev pub words_before : Env → List Event → ℕ → List ℕ
+  words_before env events index = (run_of {M = M} mix env (take index events)).core.words
+
   -- at the event of this operation, the ports bound were at most so many, and with the other callers in mid-call at least
   pub record CountedAt (env : Env) (events : List Event) (c count : ℕ) (did : Did) : Type 0 where
     pub bound : ℕ

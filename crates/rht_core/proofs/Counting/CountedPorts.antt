@@ -1,14 +1,15 @@
 -- As many ports are bound as there are nodes in chains.
 -- Each node in a chain is what the port of its key is bound to, and all that it is bound to: so different nodes have different ports,
 -- and each bound port has its own node.
-use Rattle.std.proofs.Common.{◌≡◌, ◌≢◌, ℕ, zero, suc, ◌<◌, Bool, true, false, List, [], ◌∷◌, length, map, refl, sym, ap, ◌∙◌, inl, inr, arith, Some}
+use Rattle.std.proofs.Common.{◌≡◌, ◌≢◌, ℕ, zero, suc, ◌+◌, ◌*◌, ◌<◌, ◌≤◌, Bool, true, false, List, [], ◌∷◌, length, map, refl, sym, ap, ◌∙◌, inl, inr, arith, Some}
 use Rattle.std.specs.List.{AllByRecursion}
 use Rattle.rht_words.specs.declared.env.Env.{Env}
 use Rattle.rht_words.specs.Ports.{owner_of}
 use Rattle.rht_words.specs.Places.{Node, OwnerWord}
 use Rattle.rht_words.specs.Members.{In, NotIn, IsDistinct}
-use Rattle.rht_words.proofs.Members.{count_below, one_if, not_in_from, AllByRecursion-In, length-count_below}
+use Rattle.rht_words.proofs.Members.{count_below, one_if, not_in_from, AllByRecursion-In, In-AllByRecursion, length-count_below}
 use Rattle.rht_words.proofs.EachElement.{AllByRecursion-weaker}
+use Rattle.rht_model.specs.Multimap.{Multimap}
 use Rattle.rht_core.specs.StandsFor.{stands_for, AreBound, AreAllBound}
 use Rattle.rht_core.proofs.Theory.Ghosts.{Owner, Free, Held, First, Leaving, Behind, Taken, Ghost, is_first, seat-first, seat_of}
 use Rattle.rht_core.proofs.Theory.Wholes.{key_of, firsts, Whole, seated_at}
@@ -30,6 +31,40 @@ first_in (First j) is = (j, refl)
 first_in (Leaving j) is = (j, refl)
 first_in (Behind k) is = absurd (cc)
 first_in (Taken c) is = absurd (cc)
+
+module _ (bindings : Multimap) where
+  abbrev IsBound : ℕ → Type 0
+  IsBound port = bindings port ≢ []
+
+  -- so many of these ports, each of which is one of them
+  record FirstPorts (few : ℕ) (all : List ℕ) : Type 0 where
+    ports : List ℕ
+    distinct : IsDistinct ports
+    bound : AllByRecursion IsBound ports
+    many : length ports ≡ few
+    within : (port : ℕ) → NotIn port all → NotIn port ports
+
+  first_ports : (few : ℕ) (all : List ℕ) → few ≤ length all → IsDistinct all → AllByRecursion IsBound all
+      → FirstPorts few all
+  first_ports zero all less distinct bound =
+      record { ports = []; distinct = tt; bound = tt; many = refl; within = λ port out. tt }
+  first_ports (suc few) [] less distinct bound = absurd (omega (arith, less))
+  first_ports (suc few) (port ∷ all) less distinct bound =
+      let rest = first_ports few all (omega (arith, less)) distinct.1 bound.1 in
+      record {
+        ports = port ∷ rest.ports;
+        distinct = (rest.within port distinct.0, rest.distinct);
+        bound = (bound.0, rest.bound);
+        many = ap suc rest.many;
+        within = λ other out. (out.0, rest.within other out.1);
+      }
+
+  -- where so many ports are bound, so are fewer
+  fewer-AreBound : (many few : ℕ) → few ≤ many → AreBound bindings many → AreBound bindings few
+  fewer-AreBound many few less are =
+      let all = are.many in
+      let front = first_ports few are.ports (omega (arith, less, all)) are.distinct are.bound in
+      record { ports = front.ports; distinct = front.distinct; bound = front.bound; many = front.many }
 
 module _ (env : Env) (mix : ℕ → ℕ → ℕ → ℕ) (words : List ℕ) (G : Ghost)
     (whole : Whole env mix (mem env mix words) G) where
@@ -119,6 +154,17 @@ module _ (env : Env) (mix : ℕ → ℕ → ℕ → ℕ) (words : List ℕ) (G :
             all.ports all.each;
         many = all.many;
       }
+
+  -- and no fewer than there are nodes in one of them
+  pub members-AreBound : (j few : ℕ) → j < 64 * env.geometry.pages → few ≤ length (G.bucket j).nodes
+      → AreBound (stands_for env.geometry words) few
+  members-AreBound j few below less =
+      let bucket = (G.bucket j).nodes in
+      let among = In-AllByRecursion (λ n. n < env.geometry.nodes) bucket
+      (λ n i. (whole.owned.first_at n j (whole.owned.member j n i)).among) in
+      let most = length-count_below in_chain env.geometry.nodes bucket (whole.buckets j below).chained.distinct among
+      (λ n i. ap is_first (whole.owned.member j n i)) in
+      fewer-AreBound (stands_for env.geometry words) (firsts env mix G) few (omega (arith, less, most)) firsts-AreBound
 
   -- the node to which a port is bound; some node where it is bound to none
   abbrev node_for : List ℕ → ℕ

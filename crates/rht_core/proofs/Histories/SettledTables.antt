@@ -27,6 +27,7 @@ use Rattle.rht_core.specs.Alone.{IsQuiet}
 use Rattle.rht_core.specs.StandsFor.{shape_of, tables_from}
 use Rattle.rht_core.specs.Runs.{local_of, run_of, IsAdmitted, IsAdmittedEvent}
 use Rattle.rht_core.specs.Traces.{Did, Past, traced_of, IsRising, behind_call}
+use Rattle.rht_core.specs.Seen.{words_before}
 use Rattle.rht_core.specs.ResizeCauses.{Loaded}
 use Rattle.rht_core.specs.WorkCauses.{AreFuturesRead, HasChosen, SawPublished}
 use Rattle.rht_core.specs.Worked.{IsSettled, HasReplaced, IsAloneDuring, words_behind, Worked}
@@ -315,8 +316,8 @@ module _ (M : Type 0) (mix : ℕ → ℕ → ℕ → ℕ) (env : Env) (events : 
   saw_work : past.done.call ≡ Work → SawForWork env past.done.reply past.steps
   saw_work is =
       let calls = ((traced_of {M = M} mix env events).traces c).past in
-      let P = λ (p : Past). SawOf env p.done.call p.done.reply p.steps in
-      subst (λ call. SawOf env call past.done.reply past.steps) is
+      let P = λ (p : Past). SawOf env (words_before M mix env events) p.done.call p.done.reply p.steps in
+      subst (λ call. SawOf env (words_before M mix env events) call past.done.reply past.steps) is
       (All-contains P calls past (All-from_recursion P calls (past-saw M mix env events c admitted)) ended)
 
 pub worked : (M : Type 0) (mix : ℕ → ℕ → ℕ → ℕ) → Worked M mix

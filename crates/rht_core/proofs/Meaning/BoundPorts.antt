@@ -11,7 +11,7 @@ use Rattle.std.specs.List.{AllByRecursion, find, flat_map, range_with_len}
 use Rattle.rht_words.specs.declared.env.Env.{Env}
 use Rattle.rht_words.specs.declared.geometry.Geometry.{Geometry}
 use Rattle.rht_words.proofs.Memory.{Memory}
-use Rattle.rht_words.specs.Links.{node_of, table_of, future_of, head_of, link_of, slot_of}
+use Rattle.rht_words.specs.Links.{node_of, table_of, future_of, head_of, link_of, slot_of, marker_of}
 use Rattle.rht_words.specs.Shapes.{unpacked, size_of}
 use Rattle.rht_words.specs.Chains.{IsSegment}
 use Rattle.rht_words.specs.Places.{CurrentTable, Slot, FutureWord}
@@ -22,7 +22,7 @@ use Rattle.rht_words.proofs.Members.{In-flat_map, flat_map-In, In-range_with_len
 use Rattle.rht_nest.specs.Place.{bucket_place, bucket_index}
 use Rattle.rht_core.specs.StandsFor.{in_force, chain_from, bucket_nodes, table_nodes, has_key, first_node, list_from, nodes_of, stands_for, shape_of, tables_from}
 use Rattle.rht_core.proofs.Theory.Ghosts.{Ghost, lock_bit, table_at, some-same, First, Leaving, seat_of, seated, index_at}
-use Rattle.rht_core.proofs.Theory.Wholes.{chain_of, list_of, key_of, hash_in, place_at, Whole, stop, out-seated, seated_at, IsHomeOf}
+use Rattle.rht_core.proofs.Theory.Wholes.{chain_of, list_of, key_of, hash_in, home, place_at, Whole, stop, out-seated, seated_at, IsHomeOf}
 use Rattle.rht_core.proofs.Theory.Passed.{hash-below, home-index, home-within}
 use Rattle.rht_core.proofs.Pieces.Lists.{list_among, list_few}
 use Rattle.rht_core.proofs.Theory.Steps.{mem, owners, owners_in}
@@ -241,6 +241,50 @@ module _ (env : Env) (mix : ℕ → ℕ → ℕ → ℕ) (words : List ℕ) (G :
         place_is = some-same place (place_at env mix (index τ bucket))
             (sym (subst (λ s. bucket_place g s bucket ≡ Some place) shape there) ∙ place-index τ bucket l less);
       }
+
+  -- ---- a bucket that is locked
+
+  -- along a segment its nodes are met, and where no node is behind it, no others
+  chain_met : (left link : ℕ) (nodes : List ℕ) (end : ℕ) → length nodes ≤ left → ((n : ℕ) → In n nodes → n < g.nodes)
+      → IsSegment (chain_of M) link nodes end → node_of g.nodes end ≡ None
+      → chain_from g words left (node_of g.nodes link) ≡ nodes
+  chain_met left link [] end fuel among s none = rw (ap (node_of g.nodes) s ∙ none) (none_met left)
+    where
+      none_met : (fuel : ℕ) → chain_from g words fuel None ≡ []
+      none_met zero = refl
+      none_met (suc fuel) = refl
+  chain_met zero link (n ∷ nodes) end fuel among s none = absurd (omega arith)
+  chain_met (suc left) link (n ∷ nodes) end fuel among s none =
+      rw (ap (node_of g.nodes) s.0 ∙ links_tell_apart.link_names g.nodes n (among n (inl refl)))
+      (ap (λ rest. n ∷ rest)
+      (chain_met left (chain_of M n) nodes end (omega arith) (λ m i. among m (inr i)) s.1 none))
+
+  -- the nodes that are met in a bucket out of which no entry is on its way are the bucket's
+  pub still_met : (j : ℕ) → j < 64 * g.pages → (G.bucket j).out ≡ None
+      → bucket_nodes g words (Some (place_at env mix j)) ≡ (G.bucket j).nodes
+  still_met j l still =
+      let place = place_at env mix j in
+      let nodes = (G.bucket j).nodes in
+      let first = head_of place (G.bucket j).plain in
+      let chained = (whole.buckets j l).chained in
+      let among : (m : ℕ) → In m nodes → m < g.nodes = λ m k. seat-among m (first-seat j m k) in
+      let few = length-count_below (λ m. true) g.nodes nodes chained.distinct
+      (In-AllByRecursion (λ m. m < g.nodes) nodes among) (λ m k. refl) in
+      let most = count_below-most (λ m. true) g.nodes in
+      ap (λ link. chain_from g words g.nodes (node_of g.nodes link)) (first_link j l)
+      ∙ chain_met g.nodes first nodes (marker_of place) (omega (arith, few, most)) among
+      (subst (λ out. IsSegment (chain_of M) first nodes (stop env mix place out)) still chained.segment)
+      (links_tell_apart.marker_names_no_node g.nodes place)
+
+  -- the bucket of a port in a table is the one with this number
+  pub home_place : (port τ j : ℕ) → τ < G.attached → home env mix G port τ ≡ Some j
+      → bucket_place g (G.table τ).shape (hash_in env mix G port τ) ≡ Some (place_at env mix j)
+  unfolding size
+  home_place port τ j l here =
+      let bucket = hash_in env mix G port τ in
+      place-index τ bucket l (hash-below env mix M G whole port τ)
+      ∙ ap (λ i. Some (place_at env mix i))
+      (some-same (index τ bucket) j (sym (home-index env mix M G whole port τ l) ∙ here))
 
   -- ---- the tables in force
 

@@ -1,7 +1,8 @@
 -- The operations in a bucket: its lock is taken, its chain walked to the first node with a key, and the lock dropped.
-use Rattle.std.proofs.Common.{◌≡◌, ◌≢◌, ◌⊎◌, ℕ, ◌+◌, ◌%◌, ◌==◌, List, [], ◌∷◌, ◌++◌, length, slice_index, Option, Some, None, cond, refl, sym, ap, ◌∙◌, subst, inl, inr}
+use Rattle.std.proofs.Common.{◌≡◌, ◌≢◌, ◌⊎◌, ℕ, ◌+◌, ◌<◌, ◌%◌, ◌==◌, List, [], ◌∷◌, ◌++◌, length, slice_index, Option, Some, None, true, cond, refl, sym, ap, ◌∙◌, subst, inl, inr, arith}
 use Rattle.std.proofs.Math.Seq.{append_snoc}
 use Rattle.std.proofs.lemmas.Bool.{eqb-true, eqb-false, eq-eqb}
+use Rattle.std.proofs.lemmas.List.{length-append, length_push}
 use Rattle.rht_words.specs.declared.env.Env.{Env}
 use Rattle.rht_words.specs.declared.op.Op.{Op}
 use Rattle.rht_words.specs.declared.op.Op.TheVariants.{Load, Exchange}
@@ -16,12 +17,12 @@ use Rattle.rht_words.specs.Places.{PageWord, words_in, word_at}
 use Rattle.rht_words.proofs.LinksRead.{links_tell_apart}
 use Rattle.rht_words.proofs.Memory.{Memory, IsWrite, is_write}
 use Rattle.rht_words.specs.Members.{In}
-use Rattle.rht_words.proofs.Members.{in-middle}
+use Rattle.rht_words.proofs.Members.{in-middle, In-AllByRecursion, length-count_below, count_below-most}
 use Rattle.rht_words.proofs.ChainLemmas.{IsSegment-cut}
 use Rattle.rht_chain.specs.Lock.{LockModel, lock_plan, lock_after, IsEven}
 use Rattle.rht_chain.specs.declared.lock.LockAt.{LockAt}
 use Rattle.rht_chain.specs.declared.lock.LockAt.TheVariants as locks
-use Rattle.rht_chain.specs.LockedWalk.{LockedWalkModel, locked_walk_new, locked_walk_plan, locked_walk_after, walk_from, followed, counted, found_at}
+use Rattle.rht_chain.specs.LockedWalk.{LockedWalkModel, locked_walk_new, locked_walk_plan, locked_walk_after, walk_from, followed, counted, one_more, found_at}
 use Rattle.rht_chain.specs.declared.locked.Locked.{Locked}
 use Rattle.rht_chain.specs.declared.locked_walk.Seen.{Seen}
 use Rattle.rht_chain.specs.declared.locked_walk.LockedWalkAt.{LockedWalkAt}
@@ -34,16 +35,17 @@ use Rattle.rht_core.proofs.Theory.Ghosts.{put-same, put-all, Ghost, held_by, ind
 use Rattle.rht_core.proofs.Theory.Wholes.{chain_of, key_of, place_at, word_index, place_at-index, index-within, stop, Whole}
 use Rattle.rht_core.proofs.Theory.Passed.{NoKey, home-bucket}
 use Rattle.rht_core.proofs.Theory.Knowns.{KnownNode, AtHome, KnownBucket, Unlocked, Locks, Stands, Differs, Missed, Found, knows_plain, StandsAt}
-use Rattle.rht_core.proofs.Theory.Knowledge.{HoldsLock, BucketMeans, Knowing}
+use Rattle.rht_core.proofs.Theory.Knowledge.{HoldsLock, IsStanding, IsReaching, BucketMeans, Knowing}
 use Rattle.rht_core.proofs.Theory.Steps.{TakesLock, by_test, Holding, mem, Moved, moved, moved-map, loads}
 use Rattle.rht_core.proofs.Moves.Quiet.{take_lock, unworked_free, free-still}
 use Rattle.rht_core.proofs.Moves.Relinking.{last_of-more}
 use Rattle.rht_core.proofs.Pieces.Locks.{with-holder}
 
--- what is known at a state of the walk, in the bucket at this place whose word was this before it was locked
-abbrev pub known_walk : ℕ → ℕ → ℕ → Option ℕ → LockedWalkAt → KnownBucket
-known_walk place word key before (walks.Key node) = Stands place word key node before
-known_walk place word key before (walks.ChainLink node) = Differs place word key node before
+-- what is known at a state of the walk, in the bucket at this place whose word was this before it was locked, with so many keys
+-- loaded
+abbrev pub known_walk : ℕ → ℕ → ℕ → Option ℕ → ℕ → LockedWalkAt → KnownBucket
+known_walk place word key before count (walks.Key node) = Stands place word key node before count
+known_walk place word key before count (walks.ChainLink node) = Differs place word key node before count
 
 -- and where it has ended
 abbrev pub known_found : ℕ → ℕ → ℕ → Option ℕ → Option ℕ → KnownBucket
@@ -60,7 +62,8 @@ place_of_probe (probes.Walking bucket walk) = bucket.place
 
 abbrev pub known_probe : ℕ → ProbeAt → KnownBucket
 known_probe key (probes.Locking lock) = Unlocked
-known_probe key (probes.Walking bucket walk) = known_walk bucket.place bucket.word key walk.before walk.at
+known_probe key (probes.Walking bucket walk) =
+    known_walk bucket.place bucket.word key walk.before walk.length walk.at
 
 -- its walk is for this key
 abbrev pub IsProbeFor : ℕ → ProbeAt → Type 0
@@ -75,6 +78,34 @@ locked_by (lock, Done word) = Some lock.place
 abbrev pub probed_by : ProbeAt × Next Probed → Option ℕ
 probed_by (at, Go) = lock_of_probe at
 probed_by (at, Done probed) = Some probed.bucket.place
+
+-- ---- how many nodes a walk has passed
+
+module _ (env : Env) (mix : ℕ → ℕ → ℕ → ℕ) (c port : ℕ) (M : Memory) (G : Ghost) (whole : Whole env mix M G)
+    (place word n : ℕ) (before : Option ℕ) where
+  -- before a node of a chain stand fewer nodes than there are
+  front_few : (standing : IsStanding env mix c M G place word port n before)
+      → length standing.stands.front < env.geometry.nodes
+  front_few standing =
+      let nodes = env.geometry.nodes in
+      let here = (G.bucket (word_index env mix place)).nodes in
+      let at = standing.stands in
+      let chained = (whole.buckets (word_index env mix place) (index-within env mix place standing.lock.bucket)).chained in
+      let among = In-AllByRecursion (λ m. m < nodes) here
+      (λ m i. (whole.owned.first_at m (word_index env mix place) (whole.owned.member (word_index env mix place) m i)).among) in
+      let few = length-count_below (λ m. true) nodes here chained.distinct among (λ m i. refl) in
+      let most = count_below-most (λ m. true) nodes in
+      let many = ap length at.split ∙ length-append at.front (n ∷ at.rear) in
+      omega (arith, few, most, many)
+
+  -- so a walk can count them, and one more
+  pub one_more-counted : (count : ℕ) → (is : IsReaching env mix c M G place word port n before count)
+      → one_more count ≡ length is.standing.stands.front + 1
+  one_more-counted count is =
+      let few = front_few is.standing in
+      let most = env.geometry.within.nodes_within.1 in
+      let counted = is.counted in
+      omega (arith, few, most, counted)
 
 module _ (env : Env) (mix : ℕ → ℕ → ℕ → ℕ) (c : ℕ) (h : Holding) (node : Option KnownNode)
     (port slot : ℕ) (shape : Option ℕ) where
@@ -106,7 +137,7 @@ module _ (env : Env) (mix : ℕ → ℕ → ℕ → ℕ) (c : ℕ) (h : Holding)
 
   abbrev pub WalkKnows : ℕ → ℕ → LockedWalkModel × Next Seen → Memory → Ghost → Type 0
   WalkKnows place word (walk, Go) M G = knowing (Some place) place
-      (known_walk place word port walk.before walk.at) M G × (walk.key ≡ port)
+      (known_walk place word port walk.before walk.length walk.at) M G × (walk.key ≡ port)
   WalkKnows place word (walk, Done seen) M G = knowing (Some place) place
       (known_seen place word port seen) M G
 
@@ -166,17 +197,13 @@ module _ (env : Env) (mix : ℕ → ℕ → ℕ → ℕ) (c : ℕ) (h : Holding)
         go (m ∷ nodes) e s =
             let split = subst (λ l. IsSegment (chain_of M) first l (marker_of place)) e s in
             rw (link_names first m split.0 (rw e (inl refl))) (
-              known_more (Some place) place (Locks place word) (Stands place word port m None) M G knows
+              known_more (Some place) place (Locks place word) (Stands place word port m None 0) M G knows
                   (record {
-                    lock = lock;
-                    stands = record {
-                      front = [];
-                      rear = nodes;
-                      split = e;
-                      passed =
-                          tt;
-                      last = refl;
+                    standing = record {
+                      lock = lock;
+                      stands = record { front = []; rear = nodes; split = e; passed = tt; last = refl };
                     };
+                    counted = refl;
                   }),
               refl,
             )
@@ -188,7 +215,7 @@ module _ (env : Env) (mix : ℕ → ℕ → ℕ → ℕ) (c : ℕ) (h : Holding)
 
     -- behind a node with another key the walk stands at the next one, or has missed the port
     walk_on : (n : ℕ) (walk : LockedWalkModel) → walk.geometry ≡ env.geometry → walk.key ≡ port
-        → knowing (Some place) place (Differs place word port n walk.before) M G
+        → knowing (Some place) place (Differs place word port n walk.before walk.length) M G
         → WalkKnows place word (followed walk n (chain_of M n)
         (node_of walk.geometry.nodes (chain_of M n))) M G
     walk_on n walk geometry key knows = go stands.rear stands.split (rw stands.split at chain_here lock)
@@ -214,7 +241,7 @@ module _ (env : Env) (mix : ℕ → ℕ → ℕ → ℕ) (c : ℕ) (h : Holding)
             let cut = IsSegment-cut (chain_of M) front n [] (head_of place word) (marker_of place) s in
             let ends : node_of walk.geometry.nodes (chain_of M n) ≡ None =
             rw geometry (marker_ends (chain_of M n) cut.1) in
-            rw ends (known_more (Some place) place (Differs place word port n walk.before)
+            rw ends (known_more (Some place) place (Differs place word port n walk.before walk.length)
             (Missed place word port) M G knows
             (record { lock = lock; none = rw e (NoKey-more front n stands.passed differs) }))
         go (next ∷ rear) e s0 =
@@ -227,16 +254,19 @@ module _ (env : Env) (mix : ℕ → ℕ → ℕ → ℕ) (c : ℕ) (h : Holding)
             = rw geometry (link_names (chain_of M n) next cut.1.0
             (rw more (in-middle next (front ++ n ∷ []) rear))) in
             rw names (
-              known_more (Some place) place (Differs place word port n walk.before)
-                  (Stands place word port next (Some n)) M G knows (record {
-                    lock = lock;
-                    stands = record {
-                      front = front ++ n ∷ [];
-                      rear = rear;
-                      split = more;
-                      passed = NoKey-more front n stands.passed differs;
-                      last = last_of-more front n;
+              known_more (Some place) place (Differs place word port n walk.before walk.length)
+                  (Stands place word port next (Some n) walk.length) M G knows (record {
+                    standing = record {
+                      lock = lock;
+                      stands = record {
+                        front = front ++ n ∷ [];
+                        rear = rear;
+                        split = more;
+                        passed = NoKey-more front n stands.passed differs;
+                        last = last_of-more front n;
+                      };
                     };
+                    counted = knows.means.bucket.counted ∙ sym (length_push front n);
                   }),
               key,
             )
@@ -254,7 +284,7 @@ module _ (env : Env) (mix : ℕ → ℕ → ℕ → ℕ) (c : ℕ) (h : Holding)
 
     -- state by state
     walk_step_at : (place word : ℕ) (before : Option ℕ) (count : ℕ) (at : LockedWalkAt)
-        → knowing (Some place) place (known_walk place word port before at) M G
+        → knowing (Some place) place (known_walk place word port before count at) M G
         → let walk : LockedWalkModel = record {
           geometry = env.geometry;
           key = port;
@@ -269,20 +299,21 @@ module _ (env : Env) (mix : ℕ → ℕ → ℕ → ℕ) (c : ℕ) (h : Holding)
         record { geometry = env.geometry; key = port; before = before; length = count; at = walks.Key n } in
         let op = locked_walk_plan walk in
         let key = old_of words op in
-        let standing = knows.means.bucket in
+        let standing = knows.means.bucket.standing in
+        let more = one_more-counted env mix c port M G whole place word n before count knows.means.bucket in
         by_test (λ t. (key == port) ≡ t → WalkMoved place word op
         (cond t (counted walk, Done (found_at (counted walk) n))
         (record (counted walk) { at = walks.ChainLink n }, Go))) (key == port)
         (λ t e. loads env mix c words G op (holding (Some place)) (holding (Some place))
         (WalkKnows place word (counted walk, Done (found_at (counted walk) n))) whole refl refl
-        (known_more (Some place) place (Stands place word port n before) (Found place word port n before)
+        (known_more (Some place) place (Stands place word port n before count) (Found place word port n before)
         M G knows
         (record { standing = standing; key_is = eqb-true key port t })))
         (λ t e. loads env mix c words G op (holding (Some place)) (holding (Some place))
         (WalkKnows place word (record (counted walk) { at = walks.ChainLink n }, Go)) whole refl refl (
-          known_more (Some place) place (Stands place word port n before)
-              (Differs place word port n before) M G knows
-              (record { standing = standing; differs = eqb-false key port t }),
+          known_more (Some place) place (Stands place word port n before count)
+              (Differs place word port n before (one_more count)) M G knows
+              (record { standing = standing; differs = eqb-false key port t; counted = more }),
           refl,
         )) refl
     walk_step_at place word before count (walks.ChainLink n) knows =
@@ -301,7 +332,7 @@ module _ (env : Env) (mix : ℕ → ℕ → ℕ → ℕ) (c : ℕ) (h : Holding)
         (walk_on M G whole place word n walk refl refl knows)
 
     pub walk_step : (place word : ℕ) (walk : LockedWalkModel) → walk.geometry ≡ env.geometry → walk.key ≡ port
-        → knowing (Some place) place (known_walk place word port walk.before walk.at) M G
+        → knowing (Some place) place (known_walk place word port walk.before walk.length walk.at) M G
         → WalkMoved place word (locked_walk_plan walk)
         (locked_walk_after walk (old_of words (locked_walk_plan walk)))
     walk_step place word walk geometry key knows =

@@ -55,11 +55,14 @@ use Rattle.rht_nest.specs.declared.unmake.UnmakeAt.TheVariants as unmakes
 use Rattle.rht_nest.specs.Locate.{LocateModel, locate_plan, locate_after}
 use Rattle.rht_nest.specs.declared.locate.Located.{Located}
 use Rattle.rht_chain.specs.Locked.{answer_behind}
-use Rattle.rht_chain.specs.Probe.{ProbeModel, probe_after}
+use Rattle.rht_chain.specs.Probe.{ProbeModel, probe_after_at}
+use Rattle.rht_chain.specs.declared.probe.ProbeAt.{ProbeAt}
 use Rattle.rht_chain.specs.declared.probe.Probed.{Probed}
 use Rattle.rht_chain.specs.declared.locked.Then.{Then}
 use Rattle.rht_chain.specs.declared.locked.Then.TheVariants.{Table, Answer}
-use Rattle.rht_chain.specs.Relink.{RelinkModel, relink_after}
+use Rattle.rht_chain.specs.Relink.{RelinkModel, relink_plan_at, relink_after}
+use Rattle.rht_chain.specs.declared.relink.RelinkAt.{RelinkAt}
+use Rattle.rht_chain.specs.declared.relink.RelinkAt.TheVariants as relinks
 use Rattle.rht_arena.proofs.NodesSeen.{first_unseen, SawAllBelow, SawAllBelow-push, SawSoFar, take_after-saw}
 use Rattle.rht_find.specs.Find.{after_at as find_after_at}
 use Rattle.rht_find.specs.declared.find.FindAt.{FindAt}
@@ -90,8 +93,8 @@ use Rattle.rht_core.specs.Replies.{IsFindReply, IsReleaseReply, IsRebindReply, I
 use Rattle.rht_core.specs.Traces.{Did, Past, performed_of, traced_of}
 use Rattle.rht_core.specs.Runs.{IsAdmitted}
 use Rattle.rht_core.specs.Laws.{IsRecorded, IsPastCall}
-use Rattle.rht_core.specs.Seen.{IsNoShapeLoad, LastWalked, SawCount}
-use Rattle.rht_core.specs.ResizeCauses.{Loaded, Attaches, AttachesSome, FindsFuture, HasFollowed, wanted_size, SawCrowded}
+use Rattle.rht_core.specs.Seen.{IsNoShapeLoad, LastWalked, SawCount, words_before}
+use Rattle.rht_core.specs.ResizeCauses.{Loaded, Attaches, AttachesSome, FindsFuture, HasFollowed, wanted_size, IsNoKeyLoad, SawLongChain, SawCrowded}
 use Rattle.rht_core.specs.Causes.{FindCause, AllCause, IsRaise, IsDueBy, KicksRightly, SawFull, ReleaseCause, RebindCause, WorkCause, BindCause, CountCause, CauseOf, HasCause, Causes}
 use Rattle.rht_release.specs.declared.found_port.FoundPort.{FoundPort}
 use Rattle.rht_release.specs.Release as release
@@ -109,14 +112,16 @@ use Rattle.rht_core.proofs.Theory.Knowns.{Unlocked}
 use Rattle.rht_core.proofs.Pieces.NewNodes.{filled as filled_node}
 use Rattle.rht_core.proofs.Pieces.Locates.{LocateKnows, locate_step}
 use Rattle.rht_core.proofs.Tracing.TracesAtEvents.{at_events}
-use Rattle.rht_core.proofs.Tracing.TracedJobs.{Performs, LeadsOn, IsEndedSo, jobs_keep}
+use Rattle.rht_core.proofs.Tracing.TracedJobs.{Performs, LeadsOn, IsEndedSo, jobs_keep_in}
 use Rattle.rht_move.specs.Work as work
 use Rattle.rht_move.specs.declared.work.WorkAt.TheVariants as works_at
 use Rattle.rht_core.proofs.Reasons.WorkChoices.{SawIdle-nothing, SawForWork, SawAtWork, work-saw}
 use Rattle.rht_core.proofs.Counting.FullTables.{counted_at}
-use Rattle.rht_core.proofs.Reasons.TablesWalked.{IsNoRaise, IsAside, no_load, aside, elsewhere, node_loads, probe_loads, relink_stores, LastWalked-push, Walked, Walked-push, WalkedAt, WalkedNext, same_table, locate-walked}
+use Rattle.rht_core.proofs.Reasons.TablesWalked.{IsNoRaise, IsAside, no_load, aside, elsewhere, node_loads, probe_loads, relink_stores, LastWalked-push, Walked, Walked-push, WalkedSeeing, WalkedSeeing-push, WalkedAt, WalkedNext, same_table, locate-walked}
+use Rattle.rht_core.proofs.Reasons.KeyLoads.{no_key}
+use Rattle.rht_core.proofs.Reasons.ChainsCounted.{none-counted, HasCounted, HasCounted-push, CountedAt, CountedNext, probe-counted, long-counted}
 use Rattle.rht_core.proofs.Reasons.AttachedTables.{IsNoFutureExchange, IsNoAttach, no_attach, AttachedSo, AttachedSo-push, SawAttached, attached-saw, relink-none, unmake-none}
-use Rattle.rht_core.proofs.Reasons.RefusedBinds.{no_slot, Behind, Behind-push, SawWhy, SawWhy-push, SawRoot, SawOther, SawRefusal, SawToMake, BusySeen, BusySeen-push, NoTableSeen, NoTableSeen-push, above-why, root-saw, begins-making, other-saw, making-saw, no_room-saw, busy-saw, no_table-saw}
+use Rattle.rht_core.proofs.Reasons.RefusedBinds.{no_slot, no_key-future, Behind, Behind-push, SawWhy, SawWhy-push, SawRoot, SawOther, SawRefusal, SawToMake, BusySeen, BusySeen-push, NoTableSeen, NoTableSeen-push, above-why, root-saw, begins-making, other-saw, making-saw, no_room-saw, busy-saw, no_table-saw}
 use Rattle.rht_core.proofs.Counting.CountedNodes.{raise_few, load_few, lower_few}
 use Rattle.rht_core.proofs.Reasons.ReleaseKicks.{SawRelease, SawForRelease, release-saw, kicks_right}
 use Rattle.rht_core.proofs.Theory.Steps.{mem, by_test}
@@ -124,6 +129,13 @@ use Rattle.rht_core.proofs.Theory.Steps.{mem, by_test}
 -- ---- what a bind has seen
 
 module _ (env : Env) where
+  -- what the operations of a rebind saw for want of a node
+  abbrev SawForRebind : Reply → List Did → Type 0
+  SawForRebind NoNode steps = SawAllBelow env.geometry env.geometry.nodes (map performed_of steps)
+  SawForRebind _ steps = Unit {0}
+
+-- where these are the words before the event with each number
+module _ (env : Env) (words_at : ℕ → List ℕ) where
   -- the operation loaded this count of ports, which is as many as the table may hold or more
   pub record LoadedFull (count : ℕ) (did : Did) : Type 0 where
     pub loaded : did.op ≡ Load (place_of env.geometry PortCount)
@@ -156,8 +168,8 @@ module _ (env : Env) where
   SawFor (Bound kick) steps = Raised kick steps
   SawFor (Exists owner) steps = Unit {0}
   SawFor (Again table) steps = HasFollowed env.geometry table steps
-  SawFor (Busy root last) steps = BusySeen env root last steps
-  SawFor (NoTable size) steps = NoTableSeen env size steps
+  SawFor (Busy root last) steps = BusySeen env words_at root last steps
+  SawFor (NoTable size) steps = NoTableSeen env words_at size steps
   SawFor _ steps = ⊥
 
   -- the operation loaded this count of ports
@@ -169,18 +181,13 @@ module _ (env : Env) where
   SawForCount (Counted count) steps = Any (LoadedCount count) steps
   SawForCount _ steps = ⊥
 
-  -- and a rebind for want of a node
-  abbrev SawForRebind : Reply → List Did → Type 0
-  SawForRebind NoNode steps = SawAllBelow env.geometry env.geometry.nodes (map performed_of steps)
-  SawForRebind _ steps = Unit {0}
-
   -- and for any call to have it; a look-up and a listing have nothing to show, and of the others there is no machine yet
   abbrev pub SawOf : Call → Reply → List Did → Type 0
   SawOf (Bind port owner once) reply steps = SawFor reply steps
   SawOf (Find port) reply steps = Unit {0}
   SawOf (All port) reply steps = Unit {0}
   SawOf (Release port owner) reply steps = SawForRelease env reply steps
-  SawOf (Rebind port owner new) reply steps = SawForRebind reply steps
+  SawOf (Rebind port owner new) reply steps = SawForRebind env reply steps
   SawOf (Walk from limit) reply steps = ⊥
   SawOf Work reply steps = SawForWork env reply steps
   SawOf Tidy reply steps = ⊥
@@ -200,26 +207,28 @@ module _ (env : Env) where
   SawAt (at.Filling new) steps = SawNew new.at steps
   SawAt (at.CurrentTable attempt) steps = Unit {0}
   SawAt (at.Locating attempt locate) steps = WalkedAt env.geometry locate.table locate.at steps
-  SawAt (at.Probing attempt table shape probe) steps = Walked env.geometry table shape steps
+  SawAt (at.Probing attempt table shape probe) steps =
+      WalkedSeeing env.geometry table shape (CountedAt env.geometry words_at probe.at) steps
   SawAt (at.FoundOwner claimed found) steps = Unit {0}
   SawAt (at.ListLink list) steps = Walked env.geometry list.claimed.table list.claimed.shape steps
   SawAt (at.ChainLink list) steps = Walked env.geometry list.claimed.table list.claimed.shape steps
   SawAt (at.LinkBehind list link) steps = Walked env.geometry list.claimed.table list.claimed.shape steps
   SawAt (at.Replacing list relink) steps = Walked env.geometry list.claimed.table list.claimed.shape steps
-  SawAt (at.Future claimed length) steps = Walked env.geometry claimed.table claimed.shape steps
+  SawAt (at.Future claimed length) steps =
+      WalkedSeeing env.geometry claimed.table claimed.shape (HasCounted env.geometry words_at claimed.bucket.place length) steps
   SawAt (at.Count claimed) steps = Walked env.geometry claimed.table claimed.shape steps
   SawAt (at.Link claimed) steps = Walked env.geometry claimed.table claimed.shape steps
   SawAt (at.Raise claimed) steps = Walked env.geometry claimed.table claimed.shape steps
   SawAt (at.Publish node table relink kick) steps = Raised kick steps
   SawAt (at.Unlocking attempt table unlock next) steps = SawForReply (answer_behind next) steps
   SawAt (at.UnlockingFull growing unlock) steps =
-      Behind env growing.table growing.shape (SawWhy env growing.why growing.shape) steps
-  SawAt (at.Root growing) steps = Behind env growing.table growing.shape (SawWhy env growing.why growing.shape) steps
-  SawAt (at.GrowthCount growing root) steps = Behind env growing.table growing.shape (SawRoot env growing root) steps
+      Behind env words_at growing.table growing.shape (SawWhy env words_at growing.why growing.shape) steps
+  SawAt (at.Root growing) steps = Behind env words_at growing.table growing.shape (SawWhy env words_at growing.why growing.shape) steps
+  SawAt (at.GrowthCount growing root) steps = Behind env words_at growing.table growing.shape (SawRoot env words_at growing root) steps
   SawAt (at.Making growing size make) steps =
-      Behind env growing.table growing.shape (SawToMake env growing size make.exponent (make.at, Go)) steps
+      Behind env words_at growing.table growing.shape (SawToMake env words_at growing size make.exponent (make.at, Go)) steps
   SawAt (at.FutureAgain growing refusal) steps =
-      Behind env growing.table growing.shape (SawRefusal env growing refusal) steps
+      Behind env words_at growing.table growing.shape (SawRefusal env words_at growing refusal) steps
   SawAt (at.Attaching growing slot shape) steps = LastWalked env.geometry growing.table growing.shape steps
   SawAt (at.Unmaking attempt unmake answer) steps = SawForReply answer steps
   SawAt (at.Giving give reply) steps = SawFor reply steps
@@ -249,13 +258,20 @@ module _ (env : Env) where
   abbrev SawNext : List Did → BindAt × Next Reply → Type 0
   SawNext steps next = GoesOrEnds (λ state. SawAt state steps) (λ reply. SawFor reply steps) next
 
-  -- the operation tells nothing of the last table that was walked, raises no count, and attaches no table
+  -- the operation tells nothing of the last table that was walked, nor loads a key in it, raises no count, and attaches no table
   record IsStill (did : Did) : Type 0 where
     aside : IsAside env.geometry did
+    no_key : IsNoKeyLoad env.geometry did
     no_attach : IsNoAttach env.geometry did
 
-  still : (did : Did) (op : Op) → did.op ≡ op → IsAside env.geometry did → IsNoFutureExchange env.geometry op → IsStill did
-  still did op is beside none = record { aside = beside; no_attach = no_attach env.geometry did op is none }
+  -- such are operations that load nothing, add nothing and attach no table
+  still : (did : Did) (op : Op) → did.op ≡ op → ((place : ℕ) → op ≢ Load place) → ((place value : ℕ) → op ≢ Add place value)
+      → IsNoFutureExchange env.geometry op → IsStill did
+  still did op is none no_add apart = record {
+    aside = aside env.geometry did op is none no_add;
+    no_key = no_key env.geometry did op is none;
+    no_attach = no_attach env.geometry did op is apart;
+  }
 
   -- the operation attached the table of this slot behind that of another, or found it there
   abbrev IsFollowing : ℕ → ℕ → Did → Type 0
@@ -318,8 +334,8 @@ module _ (env : Env) where
   SawFor-push (Bound kick) steps did none saw = Raised-push kick steps did none saw
   SawFor-push (Exists owner) steps did none saw = saw
   SawFor-push (Again table) steps did none saw = HasFollowed-push table steps did none.aside saw
-  SawFor-push (Busy root last) steps did none saw = BusySeen-push env root last steps did none.aside.no_shape saw
-  SawFor-push (NoTable size) steps did none saw = NoTableSeen-push env size steps did none.aside.no_shape saw
+  SawFor-push (Busy root last) steps did none saw = BusySeen-push env words_at root last steps did none.aside.no_shape none.no_key saw
+  SawFor-push (NoTable size) steps did none saw = NoTableSeen-push env words_at size steps did none.aside.no_shape none.no_key saw
   SawFor-push _ steps did none saw = absurd saw
 
   -- ---- an operation of a bind
@@ -364,7 +380,7 @@ module _ (env : Env) where
   -- ---- what a rebind has seen
 
   abbrev SawNextRebind : List Did → RebindAt × Next (Reply × Option ℕ) → Type 0
-  SawNextRebind all next = GoesOrEnds (λ state. SawAtRebind state all) (λ end. SawForRebind end.0 all) next
+  SawNextRebind all next = GoesOrEnds (λ state. SawAtRebind state all) (λ end. SawForRebind env end.0 all) next
 
   rebind_made-saw : (new : NewNodeModel) (r : NewNodeAt × Next (Option ℕ)) (all : List Did) → SawMade all r
       → SawNextRebind all (rebind.filled env.geometry (record new { at = r.0 }) r.1)
@@ -418,26 +434,32 @@ module _ (env : Env) where
   bound-saw Listed claimed first before steps walked = walked
 
   seen-saw : (kind : Kind) (claimed : Claimed) (found before : Option ℕ) (length : ℕ) (steps : List Did)
-      → Walked env.geometry claimed.table claimed.shape steps
+      → WalkedSeeing env.geometry claimed.table claimed.shape (HasCounted env.geometry words_at claimed.bucket.place length) steps
       → SawAt (found_or_future kind claimed found before length) steps
-  seen-saw kind claimed None before length steps walked = walked
-  seen-saw kind claimed (Some first) before length steps walked = bound-saw kind claimed first before steps
-      walked
+  seen-saw kind claimed None before length steps seeing = seeing
+  seen-saw kind claimed (Some first) before length steps seeing =
+      bound-saw kind claimed first before steps seeing.walked
 
-  probed-saw : (kind : Kind) (attempt : Attempt) (table shape : ℕ) (probe : ProbeModel) (next : Next Probed)
+  probed-saw : (kind : Kind) (attempt : Attempt) (table shape : ℕ) (probe : ProbeModel) (r : ProbeAt × Next Probed)
       (steps : List Did)
-      → Walked env.geometry table shape steps → SawAt (probed kind attempt table shape probe next) steps
-  probed-saw kind attempt table shape probe Go steps walked = walked
-  probed-saw kind attempt table shape probe (Done end) steps walked =
+      → WalkedSeeing env.geometry table shape (CountedNext env.geometry words_at r) steps
+      → SawAt (probed kind attempt table shape (record probe { at = r.0 }) r.1) steps
+  probed-saw kind attempt table shape probe (state, Go) steps seeing = seeing
+  probed-saw kind attempt table shape probe (state, Done end) steps seeing =
       let claimed : Claimed = record { attempt = attempt; table = table; shape = shape; bucket = end.bucket } in
-      seen-saw kind claimed end.seen.found end.seen.before end.seen.length steps walked
+      seen-saw kind claimed end.seen.found end.seen.before end.seen.length steps seeing
 
+  -- 16 nodes that were counted are a long chain, where no table is behind
   future-saw : (claimed : Claimed) (length : ℕ) (future : Option ℕ) (steps : List Did)
-      → Walked env.geometry claimed.table claimed.shape steps → SawAt (future_or_count claimed length future) steps
-  future-saw claimed length None steps walked =
+      → ((behind : List Did) → 16 ≤ length → HasCounted env.geometry words_at claimed.bucket.place length behind
+      → SawLongChain env.geometry words_at claimed.shape behind)
+      → WalkedSeeing env.geometry claimed.table claimed.shape (HasCounted env.geometry words_at claimed.bucket.place length) steps
+      → SawAt (future_or_count claimed length future) steps
+  future-saw claimed length None steps long seeing =
       by_test (λ t. SawAt (cond t (unlocking_full claimed full.Chain) (at.Count claimed)) steps) (nat_le 16 length)
-      (λ t. record { walked = walked.last; saw = tt }) (λ f. walked)
-  future-saw claimed length (Some table) steps walked = tt
+      (λ t. record { walked = seeing.walked.last; saw = long seeing.walked.last.behind (leb-true 16 length t) seeing.saw })
+      (λ f. seeing.walked)
+  future-saw claimed length (Some table) steps long seeing = tt
 
   -- a count that refuses the bind was loaded by this operation
   count-saw : (claimed : Claimed) (steps : List Did) (did : Did) → did.op ≡ Load (place_of env.geometry PortCount)
@@ -461,7 +483,7 @@ module _ (env : Env) where
       by_test (λ t. SawAt (cond t (unlocking_full claimed full.Table) (at.Link claimed)) all) above
       (λ t. record {
         walked = LastWalked-push env.geometry claimed.table claimed.shape steps did beside.no_shape walked.last;
-        saw = above-why env claimed.shape walked.last.behind did is t;
+        saw = above-why env words_at claimed.shape walked.last.behind did is t;
       })
       (λ f. Walked-push env.geometry claimed.table claimed.shape steps did beside walked))
 
@@ -541,13 +563,24 @@ module _ (env : Env) where
   make_loads h exponent seed (makes.Future slot page serial) did is = no_load env.geometry did _ is (λ place load. cc)
   make_loads h exponent seed (makes.Serial slot page serial) did is = no_load env.geometry did _ is (λ place load. cc)
 
-  -- and its giving back loads nothing
-  unmake_aside : (h : Geometry) (slot : ℕ) (state : UnmakeAt) (did : Did) → did.op ≡ unmake_plan_at h slot state
-      → IsAside env.geometry did
-  unmake_aside h slot (unmakes.Giving give) did is =
-      aside env.geometry did _ is (λ place load. cc) (λ place value adds. cc)
-  unmake_aside h slot unmakes.SlotBack did is =
-      aside env.geometry did _ is (λ place load. cc) (λ place value adds. cc)
+  -- a store of a link loads nothing and adds nothing
+  relink-no_load : (m : RelinkModel) (state : RelinkAt) (place : ℕ) → relink_plan_at m state ≢ Load place
+  relink-no_load m (relinks.ChainLink before) place load = cc
+  relink-no_load m (relinks.Word word) place load = cc
+
+  relink-no_add : (m : RelinkModel) (state : RelinkAt) (place value : ℕ) → relink_plan_at m state ≢ Add place value
+  relink-no_add m (relinks.ChainLink before) place value adds = cc
+  relink-no_add m (relinks.Word word) place value adds = cc
+
+  -- nor does the giving back of a table
+  unmake-no_load : (h : Geometry) (slot : ℕ) (state : UnmakeAt) (place : ℕ) → unmake_plan_at h slot state ≢ Load place
+  unmake-no_load h slot (unmakes.Giving give) place load = cc
+  unmake-no_load h slot unmakes.SlotBack place load = cc
+
+  unmake-no_add : (h : Geometry) (slot : ℕ) (state : UnmakeAt) (place value : ℕ)
+      → unmake_plan_at h slot state ≢ Add place value
+  unmake-no_add h slot (unmakes.Giving give) place value adds = cc
+  unmake-no_add h slot unmakes.SlotBack place value adds = cc
 
   -- a future word that names a slot leads to it
   slot_named : (word slot : ℕ) → slot_of word ≡ Some slot → (slot < 8) × (word ≡ future_of slot)
@@ -575,7 +608,17 @@ module _ (env : Env) where
     found-saw c attempt locate (after, Go) memory ghost steps knows same walked =
         subst (λ table. WalkedAt env.geometry table after.at steps) (sym same) walked
     found-saw c attempt locate (after, Done there) memory ghost steps knows same walked =
-        rw knows.there (subst (λ table. Walked env.geometry table there.shape steps) (sym same) walked)
+        let place = knows.place in
+        rw knows.there (subst (λ table. WalkedSeeing env.geometry table there.shape (HasCounted env.geometry words_at place 0) steps)
+        (sym same)
+        (record {
+          walked = walked.walked;
+          saw = record {
+            nodes = [];
+            counted = none-counted env.geometry words_at place 0 walked.walked.last.behind walked.saw;
+            many = refl;
+          };
+        }))
 
     locating-saw : (attempt : Attempt) (locate : LocateModel) (steps : List Did) (did : Did)
         → Performs mix env (binds port owner once (at.Locating attempt locate)) did
@@ -611,7 +654,7 @@ module _ (env : Env) where
     -- the load of the count leads to a table of the size that it wants, or to a refusal
     want-saw : (growing : Growing) (root : ℕ) (steps : List Did) (did : Did)
         → did.op ≡ Load (place_of env.geometry PortCount) → IsNoShapeLoad env.geometry did
-        → Behind env growing.table growing.shape (SawRoot env growing root) steps
+        → Behind env words_at growing.table growing.shape (SawRoot env words_at growing root) steps
         → SawAt (want_or_busy env growing root did.old) (steps ++ did ∷ [])
     want-saw growing root steps did is none saw =
         let size = size_grown growing in
@@ -621,44 +664,44 @@ module _ (env : Env) where
         by_test (λ t. SawAt (cond t (making env growing (2 * size)) (cond same (making env growing size) busy)) all)
         (is_above_75 (min did.old 65536) size env.config.max)
         (λ above.
-        Behind-push env growing.table growing.shape (SawRoot env growing root)
-        (SawToMake env growing (2 * size) (exponent_made (2 * size)) (makes.Slot 0, Go)) steps did none
+        Behind-push env words_at growing.table growing.shape (SawRoot env words_at growing root)
+        (SawToMake env words_at growing (2 * size) (exponent_made (2 * size)) (makes.Slot 0, Go)) steps did none
         (λ behind so.
-        begins-making env growing root (2 * size) behind did is (sym (ap (λ b. cond b (2 * size) size) above)) so)
+        begins-making env words_at growing root (2 * size) behind did is (sym (ap (λ b. cond b (2 * size) size) above)) so)
         saw)
         (λ below.
         by_test (λ t. SawAt (cond t (making env growing size) busy) all) same
         (λ t.
-        Behind-push env growing.table growing.shape (SawRoot env growing root)
-        (SawToMake env growing size (exponent_made size) (makes.Slot 0, Go)) steps did none
+        Behind-push env words_at growing.table growing.shape (SawRoot env words_at growing root)
+        (SawToMake env words_at growing size (exponent_made size) (makes.Slot 0, Go)) steps did none
         (λ behind so.
-        begins-making env growing root size behind did is (sym (ap (λ b. cond b (2 * size) size) below)) so)
+        begins-making env words_at growing root size behind did is (sym (ap (λ b. cond b (2 * size) size) below)) so)
         saw)
         (λ other.
-        Behind-push env growing.table growing.shape (SawRoot env growing root) (SawOther env growing root) steps did none
-        (λ behind so. other-saw env growing root behind did (eqb-false root growing.table other) so) saw))
+        Behind-push env words_at growing.table growing.shape (SawRoot env words_at growing root) (SawOther env words_at growing root) steps did none
+        (λ behind so. other-saw env words_at growing root behind did is (eqb-false root growing.table other) so) saw))
 
     made-saw : (growing : Growing) (size : ℕ) (make : MakeModel) (r : MakeAt × Next (Option (ℕ × ℕ))) (all : List Did)
-        → Behind env growing.table growing.shape (SawToMake env growing size make.exponent r) all
+        → Behind env words_at growing.table growing.shape (SawToMake env words_at growing size make.exponent r) all
         → SawAt (made growing size (record make { at = r.0 }) r.1) all
     made-saw growing size make (state, Go) all saw = saw
     made-saw growing size make (state, Done None) all saw = record {
       walked = saw.walked;
-      saw = no_room-saw env growing size make.exponent state saw.walked.behind saw.saw;
+      saw = no_room-saw env words_at growing size make.exponent state saw.walked.behind saw.saw;
     }
     made-saw growing size make (state, Done (Some table)) all saw = saw.walked
 
     -- a future that was loaded again
     again-saw : (growing : Growing) (refusal : Refusal) (future : Option ℕ) (steps : List Did) (did : Did)
         → growing.table < 8 → did.op ≡ Load (place_of env.geometry (Slot growing.table FutureWord)) → did.old ≤ 8
-        → slot_of did.old ≡ future → Behind env growing.table growing.shape (SawRefusal env growing refusal) steps
+        → slot_of did.old ≡ future → Behind env words_at growing.table growing.shape (SawRefusal env words_at growing refusal) steps
         → SawAt (refused_or_found env once growing refusal future) (steps ++ did ∷ [])
     again-saw growing (refusals.Busy root) None steps did within is few reads saw =
-        busy-saw env growing root steps did
+        busy-saw env words_at growing root steps did
         (elsewhere env.geometry did _ is (λ other below same. absurd (omega (arith, same)))).no_shape within is
         (no_slot did.old few reads) saw
     again-saw growing (refusals.NoTable size) None steps did within is few reads saw =
-        no_table-saw env growing size steps did
+        no_table-saw env words_at growing size steps did
         (elsewhere env.geometry did _ is (λ other below same. absurd (omega (arith, same)))).no_shape within is
         (no_slot did.old few reads) saw
     again-saw growing refusal (Some table) steps did within is few reads saw =
@@ -734,93 +777,101 @@ module _ (env : Env) where
           found = named;
         }))))
 
-    bind-saw : (state : BindAt) (steps : List Did) (did : Did) → Performs mix env (binds port owner once state) did
+    bind-saw : (state : BindAt) (steps : List Did) (did : Did)
+        → (does : Performs mix env (binds port owner once state) did) → does.words ≡ words_at did.index
         → SawAt state steps → SawAttached env state steps
         → SawNext (steps ++ did ∷ []) (after_at mix env port once state did.old)
-    bind-saw (at.Filling new) steps did does saw so =
+    bind-saw (at.Filling new) steps did does now saw so =
         bind_made-saw new (new_node_after_at new.at did.old) (steps ++ did ∷ [])
         (new-saw new new.at steps did refl does.within.at_in does.planned saw)
-    bind-saw (at.CurrentTable attempt) steps did does saw so = tt
-    bind-saw (at.Locating attempt locate) steps did does saw so = locating-saw attempt locate steps did does saw
-    bind-saw (at.Probing attempt table shape probe) steps did does saw so =
-        probed-saw env.config.kind attempt table shape (probe_after probe did.old).0
-        (probe_after probe did.old).1 (steps ++ did ∷ [])
-        (Walked-push env.geometry table shape steps did
-        (probe_loads env.geometry did probe.at does.within.at_in.probe_in.at_in does.planned) saw)
-    bind-saw (at.FoundOwner claimed found) steps did does saw so = tt
-    bind-saw (at.ListLink list) steps did does saw so =
+    bind-saw (at.CurrentTable attempt) steps did does now saw so = tt
+    bind-saw (at.Locating attempt locate) steps did does now saw so = locating-saw attempt locate steps did does saw
+    bind-saw (at.Probing attempt table shape probe) steps did does now saw so =
+        let within = does.within.at_in.probe_in.at_in in
+        let after = probe_after_at probe.geometry probe.key probe.at did.old in
+        probed-saw env.config.kind attempt table shape probe after (steps ++ did ∷ [])
+        (WalkedSeeing-push env.geometry table shape (CountedAt env.geometry words_at probe.at)
+        (CountedNext env.geometry words_at after) steps did (probe_loads env.geometry did probe.at within does.planned)
+        (λ behind counted. probe-counted env mix words_at does.caller port does.words does.ghost does.whole probe.geometry
+        probe.key probe.at behind did within does.knows.knowing.means.bucket does.planned now counted) saw)
+    bind-saw (at.FoundOwner claimed found) steps did does now saw so = tt
+    bind-saw (at.ListLink list) steps did does now saw so =
         Walked-push env.geometry list.claimed.table list.claimed.shape steps did
         (aside env.geometry did _ does.planned (λ place load. cc) (λ place value adds. cc)) saw
-    bind-saw (at.ChainLink list) steps did does saw so =
+    bind-saw (at.ChainLink list) steps did does now saw so =
         Walked-push env.geometry list.claimed.table list.claimed.shape steps did
         (node_loads env.geometry did env.geometry list.first ChainLink does.planned) saw
-    bind-saw (at.LinkBehind list link) steps did does saw so =
+    bind-saw (at.LinkBehind list link) steps did does now saw so =
         Walked-push env.geometry list.claimed.table list.claimed.shape steps did
         (aside env.geometry did _ does.planned (λ place load. cc) (λ place value adds. cc)) saw
-    bind-saw (at.Replacing list relink) steps did does saw so =
+    bind-saw (at.Replacing list relink) steps did does now saw so =
         replaced-saw list (relink_after relink).0 (relink_after relink).1 (steps ++ did ∷ [])
         does.knows.fits.listed
         (Walked-push env.geometry list.claimed.table list.claimed.shape steps did
         (relink_stores env.geometry did relink relink.at does.planned) saw)
         (AttachedSo-push env.geometry list.claimed.attempt.attached steps did
         (no_attach env.geometry did _ does.planned (relink-none env.geometry relink relink.at)) so)
-    bind-saw (at.Future claimed length) steps did does saw so =
+    bind-saw (at.Future claimed length) steps did does now saw so =
+        let place = claimed.bucket.place in
+        let counted = HasCounted env.geometry words_at place length in
         future-saw claimed length (slot_of did.old) (steps ++ did ∷ [])
-        (Walked-push env.geometry claimed.table claimed.shape steps did
-        (elsewhere env.geometry did _ does.planned (λ table below same. absurd (omega arith))) saw)
-    bind-saw (at.Count claimed) steps did does saw so =
+        (λ behind enough has. long-counted env mix words_at does.caller port does.words does.ghost does.whole claimed.table
+        claimed.shape place length behind does.knows.knowing.means.table enough has)
+        (WalkedSeeing-push env.geometry claimed.table claimed.shape counted counted steps did
+        (elsewhere env.geometry did _ does.planned (λ table below same. absurd (omega arith)))
+        (λ behind has. HasCounted-push env.geometry words_at place length behind did
+        (no_key-future env words_at did claimed.table does.within.at_in.table_in does.planned) has) saw)
+    bind-saw (at.Count claimed) steps did does now saw so =
         count-saw claimed steps did does.planned saw
-    bind-saw (at.Link claimed) steps did does saw so =
+    bind-saw (at.Link claimed) steps did does now saw so =
         Walked-push env.geometry claimed.table claimed.shape steps did
         (aside env.geometry did _ does.planned (λ place load. cc) (λ place value adds. cc)) saw
-    bind-saw (at.Raise claimed) steps did does saw so = raise-saw claimed steps did does.planned saw so
-    bind-saw (at.Publish node table relink kick) steps did does saw so =
+    bind-saw (at.Raise claimed) steps did does now saw so = raise-saw claimed steps did does.planned saw so
+    bind-saw (at.Publish node table relink kick) steps did does now saw so =
         published-saw node table kick (relink_after relink).0 (relink_after relink).1 (steps ++ did ∷ [])
         (Raised-push kick steps did
-        (still did _ does.planned (relink_stores env.geometry did relink relink.at does.planned)
+        (still did _ does.planned (relink-no_load relink relink.at) (relink-no_add relink relink.at)
         (relink-none env.geometry relink relink.at)) saw)
-    bind-saw (at.Unlocking attempt table unlock next) steps did does saw so =
+    bind-saw (at.Unlocking attempt table unlock next) steps did does now saw so =
         unlocked-saw attempt next (steps ++ did ∷ [])
         (SawForReply-push (answer_behind next) steps did
-        (still did _ does.planned
-        (aside env.geometry did _ does.planned (λ place load. cc) (λ place value adds. cc))
-        (λ table old new l e. cc)) saw)
-    bind-saw (at.UnlockingFull growing unlock) steps did does saw so =
-        Behind-push env growing.table growing.shape (SawWhy env growing.why growing.shape)
-        (SawWhy env growing.why growing.shape) steps did
+        (still did _ does.planned (λ place load. cc) (λ place value adds. cc) (λ table old new l e. cc)) saw)
+    bind-saw (at.UnlockingFull growing unlock) steps did does now saw so =
+        Behind-push env words_at growing.table growing.shape (SawWhy env words_at growing.why growing.shape)
+        (SawWhy env words_at growing.why growing.shape) steps did
         (no_load env.geometry did _ does.planned (λ place load. cc))
-        (λ behind why. SawWhy-push env growing.why growing.shape behind did why) saw
-    bind-saw (at.Root growing) steps did does saw so =
-        Behind-push env growing.table growing.shape (SawWhy env growing.why growing.shape)
-        (SawRoot env growing (table_of did.old)) steps did
+        (λ behind why. SawWhy-push env words_at growing.why growing.shape behind did
+        (no_key env.geometry did _ does.planned (λ place load. cc)) why) saw
+    bind-saw (at.Root growing) steps did does now saw so =
+        Behind-push env words_at growing.table growing.shape (SawWhy env words_at growing.why growing.shape)
+        (SawRoot env words_at growing (table_of did.old)) steps did
         (elsewhere env.geometry did _ does.planned (λ table below same. absurd (omega (arith, same)))).no_shape
-        (λ behind why. root-saw env growing behind did does.planned why) saw
-    bind-saw (at.GrowthCount growing root) steps did does saw so =
+        (λ behind why. root-saw env words_at growing behind did does.planned why) saw
+    bind-saw (at.GrowthCount growing root) steps did does now saw so =
         want-saw growing root steps did does.planned
         (elsewhere env.geometry did _ does.planned (λ table below same. absurd (omega (arith, same)))).no_shape saw
-    bind-saw (at.Making growing size make) steps did does saw so =
+    bind-saw (at.Making growing size make) steps did does now saw so =
         let after = make_after_at make.geometry make.exponent make.at did.old in
         made-saw growing size make after (steps ++ did ∷ [])
-        (Behind-push env growing.table growing.shape (SawToMake env growing size make.exponent (make.at, Go))
-        (SawToMake env growing size make.exponent after) steps did
+        (Behind-push env words_at growing.table growing.shape (SawToMake env words_at growing size make.exponent (make.at, Go))
+        (SawToMake env words_at growing size make.exponent after) steps did
         (make_loads make.geometry make.exponent make.seed make.at did does.planned)
-        (λ behind so_far. making-saw env growing size make behind did does.within.at_in.make_in does.planned so_far) saw)
-    bind-saw (at.FutureAgain growing refusal) steps did does saw so =
+        (λ behind so_far. making-saw env words_at growing size make behind did does.within.at_in.make_in does.planned so_far) saw)
+    bind-saw (at.FutureAgain growing refusal) steps did does now saw so =
         again-saw growing refusal (slot_of did.old) steps did does.within.at_in.growing_in.table_in does.planned
         (again_few growing refusal did does) refl saw
-    bind-saw (at.Attaching growing slot shape) steps did does saw so =
+    bind-saw (at.Attaching growing slot shape) steps did does now saw so =
         attach-saw growing slot shape steps did does.within.at_in.growing_in.table_in does.within.at_in.slot_in
         does.planned (attaching_few growing slot shape did does) saw
-    bind-saw (at.Unmaking attempt unmake answer) steps did does saw so =
+    bind-saw (at.Unmaking attempt unmake answer) steps did does now saw so =
         unmade-saw attempt answer (unmake_after unmake did.old).0 (unmake_after unmake did.old).1 (steps ++ did ∷ [])
         (SawForReply-push answer steps did
-        (still did _ does.planned (unmake_aside unmake.geometry unmake.slot unmake.at did does.planned)
+        (still did _ does.planned (unmake-no_load unmake.geometry unmake.slot unmake.at)
+        (unmake-no_add unmake.geometry unmake.slot unmake.at)
         (unmake-none env.geometry unmake.geometry unmake.slot unmake.at)) saw)
-    bind-saw (at.Giving give reply) steps did does saw so =
+    bind-saw (at.Giving give reply) steps did does now saw so =
         SawFor-push reply steps did
-        (still did _ does.planned
-        (aside env.geometry did _ does.planned (λ place load. cc) (λ place value adds. cc))
-        (λ table old new l e. cc)) saw
+        (still did _ does.planned (λ place load. cc) (λ place value adds. cc) (λ table old new l e. cc)) saw
 
     -- with whether it has attached a table
     abbrev SawBoth : List Did → BindAt × Next Reply → Type 0
@@ -830,6 +881,9 @@ module _ (env : Env) where
     both-saw (state, Go) all saw so = (saw, so)
     both-saw (state, Done reply) all saw so = saw
 
+-- ---- the other calls
+
+module _ (env : Env) where
   work-cause : (past : Past) (reply : Reply) → SawForWork env reply past.steps → IsWorkReply reply → WorkCause env past reply
   work-cause past (Moved again) saw is = inl saw.published
   work-cause past Idle saw is = SawIdle-nothing env past.steps saw
@@ -848,7 +902,7 @@ module _ (env : Env) where
   all-cause (ListedOwners len) is = tt
   all-cause _ is = absurd is
 
-  rebind-cause : (past : Past) (reply : Reply) → SawForRebind reply past.steps → IsRebindReply reply
+  rebind-cause : (past : Past) (reply : Reply) → SawForRebind env reply past.steps → IsRebindReply reply
       → RebindCause env past reply
   rebind-cause past Rebound saw is = tt
   rebind-cause past Absent saw is = tt
@@ -857,15 +911,19 @@ module _ (env : Env) where
 
 -- ---- runs
 
-module _ (M : Type 0) (mix : ℕ → ℕ → ℕ → ℕ) (env : Env) where
+module _ (M : Type 0) (mix : ℕ → ℕ → ℕ → ℕ) (env : Env) (events : List Event) where
+  -- the words before the event with each number
+  abbrev words_at : ℕ → List ℕ
+  words_at = words_before M mix env events
+
   abbrev EndsSeen : Call → Ending → List Did → Type 0
-  EndsSeen call ending steps = SawOf env call ending.answer.reply steps
+  EndsSeen call ending steps = SawOf env words_at call ending.answer.reply steps
 
   -- an operation leads on where what is seen behind it is enough for the next state, or for the end
   next-leads : {S A : Type 0} (start : Job) (job : S → Job) (ending : A → Ending) (all : List Did) (next : S × Next A)
-      → GoesOrEnds (λ state. JobSaw env (job state) all)
-      (λ end. SawOf env (call_of start) (ending end).answer.reply all) next
-      → LeadsOn M mix env (JobSaw env) EndsSeen start all (job_next job ending next)
+      → GoesOrEnds (λ state. JobSaw env words_at (job state) all)
+      (λ end. SawOf env words_at (call_of start) (ending end).answer.reply all) next
+      → LeadsOn M mix env (JobSaw env words_at) EndsSeen start all (job_next job ending next)
   next-leads start job ending all (state, Go) saw = saw
   next-leads start job ending all (state, Done end) saw = saw
 
@@ -874,75 +932,77 @@ module _ (M : Type 0) (mix : ℕ → ℕ → ℕ → ℕ) (env : Env) where
   nothing-saw (state, Go) = tt
   nothing-saw (state, Done end) = tt
 
-  job-leads : (job : Job) (steps : List Did) (did : Did) → Performs mix env job did → JobSaw env job steps
-      → LeadsOn M mix env (JobSaw env) EndsSeen job (steps ++ did ∷ []) (job_after mix env job did.old)
-  job-leads (finds port state) steps did performs saw =
+  job-leads : (job : Job) (steps : List Did) (did : Did)
+      → (performs : Performs mix env job did) → performs.words ≡ words_at did.index → JobSaw env words_at job steps
+      → LeadsOn M mix env (JobSaw env words_at) EndsSeen job (steps ++ did ∷ []) (job_after mix env job did.old)
+  job-leads (finds port state) steps did performs now saw =
       let next = find_after_at mix env port state did.old in
       next-leads (finds port state) (finds port) plain_ending (steps ++ did ∷ []) next (nothing-saw next)
-  job-leads (binds port owner once state) steps did performs saw =
+  job-leads (binds port owner once state) steps did performs now saw =
       next-leads (binds port owner once state) (binds port owner once) plain_ending (steps ++ did ∷ [])
       (after_at mix env port once state did.old)
-      (both-saw env mix port owner once (after_at mix env port once state did.old) (steps ++ did ∷ [])
-      (bind-saw env mix port owner once state steps did performs saw.0 saw.1)
+      (both-saw env words_at mix port owner once (after_at mix env port once state did.old) (steps ++ did ∷ [])
+      (bind-saw env words_at mix port owner once state steps did performs now saw.0 saw.1)
       (attached-saw env mix port once state steps did performs.within.at_in performs.planned saw.1))
-  job-leads (lists port room state) steps did performs saw =
+  job-leads (lists port room state) steps did performs now saw =
       let after = all.room_after state room did.old in
       let next = all.after_at mix env port state did.old in
       next-leads (lists port room state) (lists port after) (listing_ending after) (steps ++ did ∷ []) next
       (nothing-saw next)
-  job-leads (releases port owner state) steps did performs saw =
+  job-leads (releases port owner state) steps did performs now saw =
       let next = release.after_at mix env port owner state did.old in
       next-leads (releases port owner state) (releases port owner) node_ending (steps ++ did ∷ []) next
       (release-saw env mix port owner state steps did performs.within performs.planned saw)
-  job-leads (rebinds port owner new state) steps did performs saw =
+  job-leads (rebinds port owner new state) steps did performs now saw =
       next-leads (rebinds port owner new state) (rebinds port owner new) node_ending (steps ++ did ∷ [])
       (rebind.after_at mix env port owner state did.old)
-      (rebind-saw env mix port owner new state steps did performs saw)
-  job-leads (works state) steps did performs saw =
+      (rebind-saw env words_at mix port owner new state steps did performs saw)
+  job-leads (works state) steps did performs now saw =
       next-leads (works state) works plain_ending (steps ++ did ∷ []) (work.after_at mix env state did.old)
       (work-saw env mix state steps did performs saw)
-  job-leads counts steps did performs saw =
-      Any-push (LoadedCount env did.old) steps did (record { loaded = performs.planned; found = refl })
+  job-leads counts steps did performs now saw =
+      Any-push (LoadedCount env words_at did.old) steps did (record { loaded = performs.planned; found = refl })
 
   -- below the first node there is none
   first_rebind-saw : (port owner new : ℕ) (kind : Kind) (job : Job) → first_rebind env port owner new kind ≡ Some job
-      → JobSaw env job []
+      → JobSaw env words_at job []
   first_rebind-saw port owner new Single job is =
       let here : rebinds port owner new (rebind.first_state env port new) ≡ job = cc in
-      subst (λ j. JobSaw env j []) here (λ node l. absurd (omega arith))
+      subst (λ j. JobSaw env words_at j []) here (λ node l. absurd (omega arith))
   first_rebind-saw port owner new Listed job is = absurd (cc)
 
-  first_job-saw : (call : Call) (job : Job) → first_job env call ≡ Some job → JobSaw env job []
-  first_job-saw (Find port) job is = subst (λ j. JobSaw env j []) (let here : finds port CurrentTable ≡ job = cc in here) tt
+  first_job-saw : (call : Call) (job : Job) → first_job env call ≡ Some job → JobSaw env words_at job []
+  first_job-saw (Find port) job is = subst (λ j. JobSaw env words_at j []) (let here : finds port CurrentTable ≡ job = cc in here) tt
   first_job-saw (Bind port owner once) job is =
       let here : binds port owner once (first_state env port owner) ≡ job = cc in
-      subst (λ j. JobSaw env j []) here (λ node l. absurd (omega arith), tt)
+      subst (λ j. JobSaw env words_at j []) here (λ node l. absurd (omega arith), tt)
   first_job-saw (All port) job is =
-      subst (λ j. JobSaw env j [])
+      subst (λ j. JobSaw env words_at j [])
       (let here : lists port (room_for_nodes env) (alls.Seeking (seek_new env.geometry)) ≡ job = cc in here) tt
   first_job-saw (Release port owner) job is =
-      subst (λ j. JobSaw env j []) (let here : releases port owner (Seeking (seek_new env.geometry)) ≡ job = cc in here) (tt, tt)
+      subst (λ j. JobSaw env words_at j []) (let here : releases port owner (Seeking (seek_new env.geometry)) ≡ job = cc in here) (tt, tt)
   first_job-saw (Rebind port owner new) job is = first_rebind-saw port owner new env.config.kind job is
   first_job-saw Work job is =
-      subst (λ j. JobSaw env j []) (let here : works works_at.WorkLock ≡ job = cc in here) refl
-  first_job-saw Count job is = subst (λ j. JobSaw env j []) (let here : counts ≡ job = cc in here) tt
+      subst (λ j. JobSaw env words_at j []) (let here : works works_at.WorkLock ≡ job = cc in here) refl
+  first_job-saw Count job is = subst (λ j. JobSaw env words_at j []) (let here : counts ≡ job = cc in here) tt
   first_job-saw _ job is = absurd (cc)
 
   -- what the operations of each call that has ended have seen
-  pub past-saw : (events : List Event) (c : ℕ) → IsAdmitted env.config.kind events
-      → AllByRecursion (λ (past : Past). SawOf env past.done.call past.done.reply past.steps) ((traced_of {M = M} mix env events).traces c).past
-  past-saw events c admitted =
-      (jobs_keep M mix env (JobSaw env) EndsSeen record { begins = first_job-saw; goes = job-leads } events c admitted).past
+  pub past-saw : (c : ℕ) → IsAdmitted env.config.kind events
+      → AllByRecursion (λ (past : Past). SawOf env words_at past.done.call past.done.reply past.steps) ((traced_of {M = M} mix env events).traces c).past
+  past-saw c admitted =
+      (jobs_keep_in M mix env (JobSaw env words_at) EndsSeen events record { begins = first_job-saw; goes = job-leads } c
+      admitted).past
 
   -- ---- the causes
 
-  module _ (events : List Event) (c : ℕ) (admitted : IsAdmitted env.config.kind events) where
+  module _ (c : ℕ) (admitted : IsAdmitted env.config.kind events) where
     abbrev IsRecordedHere : Did → Type 0
     IsRecordedHere did = IsRecorded M mix env events c did
 
     -- how the run stood at the event is known of each operation
     full-saw : (count : ℕ) (steps : List Did) → AllByRecursion IsRecordedHere steps
-        → Any (LoadedFull env count) steps → Any (SawFull M mix env events c count) steps
+        → Any (LoadedFull env words_at count) steps → Any (SawFull M mix env events c count) steps
     full-saw count steps recorded (k, did, within, is, full) =
         let was = subst IsRecordedHere is (All-from_recursion IsRecordedHere steps recorded k did within) in (
           k,
@@ -958,7 +1018,7 @@ module _ (M : Type 0) (mix : ℕ → ℕ → ℕ → ℕ) (env : Env) where
         )
 
     counted-saw : (count : ℕ) (steps : List Did) → AllByRecursion IsRecordedHere steps
-        → Any (LoadedCount env count) steps → Any (SawCount M mix env events c count) steps
+        → Any (LoadedCount env words_at count) steps → Any (SawCount M mix env events c count) steps
     counted-saw count steps recorded (k, did, within, is, saw) =
         let was = subst IsRecordedHere is (All-from_recursion IsRecordedHere steps recorded k did within) in (
           k,
@@ -973,7 +1033,7 @@ module _ (M : Type 0) (mix : ℕ → ℕ → ℕ → ℕ) (env : Env) where
         )
 
     -- no clamp of the count has changed whether the table is due
-    kicked : (kick : Bool) (steps : List Did) → AllByRecursion IsRecordedHere steps → Raised env kick steps
+    kicked : (kick : Bool) (steps : List Did) → AllByRecursion IsRecordedHere steps → Raised env words_at kick steps
         → KicksRightly env kick steps
     kicked kick steps recorded raised =
         let walked = raised.walked in
@@ -991,7 +1051,7 @@ module _ (M : Type 0) (mix : ℕ → ℕ → ℕ → ℕ) (env : Env) where
         }
       where
         unclamped : (shape : ℕ) (did : Did) → IsRecordedHere did → IsRaise env.geometry did
-            → due_by env shape did.old ≡ is_above_75 (did.old + 1) (size_of (unpacked shape)) env.config.max
+            → due_by env words_at shape did.old ≡ is_above_75 (did.old + 1) (size_of (unpacked shape)) env.config.max
         unclamped shape did was adds =
             let few = raise_few env mix M events c did admitted adds was in
             let most = env.geometry.within.nodes_within.1 in
@@ -999,14 +1059,14 @@ module _ (M : Type 0) (mix : ℕ → ℕ → ℕ → ℕ) (env : Env) where
             ap (λ count. is_above_75 (count + 1) (size_of (unpacked shape)) env.config.max) same
 
         due : (shape : ℕ) (steps : List Did) → AllByRecursion IsRecordedHere steps
-            → AllByRecursion (SaysOfRaise env false shape kick) steps → kick ≡ true
+            → AllByRecursion (SaysOfRaise env words_at false shape kick) steps → kick ≡ true
             → Any (IsRaise env.geometry) steps
             → Any (IsDueBy env shape) steps
         due shape steps recorded each is (k, did, within, at_k, adds) =
             let was = subst IsRecordedHere at_k (All-from_recursion IsRecordedHere steps recorded k did
             within) in
-            let says = subst (SaysOfRaise env false shape kick) at_k
-            (All-from_recursion (SaysOfRaise env false shape kick) steps each k did within) in (
+            let says = subst (SaysOfRaise env words_at false shape kick) at_k
+            (All-from_recursion (SaysOfRaise env words_at false shape kick) steps each k did within) in (
               k,
               did,
               within,
@@ -1019,20 +1079,20 @@ module _ (M : Type 0) (mix : ℕ → ℕ → ℕ → ℕ) (env : Env) where
             )
 
         by_due : (shape : ℕ) (steps : List Did) → AllByRecursion IsRecordedHere steps
-            → AllByRecursion (SaysOfRaise env false shape kick) steps → Any (IsDueBy env shape) steps → kick ≡ true
+            → AllByRecursion (SaysOfRaise env words_at false shape kick) steps → Any (IsDueBy env shape) steps → kick ≡ true
         by_due shape steps recorded each (k, did, within, at_k, by) =
             let was = subst IsRecordedHere at_k (All-from_recursion IsRecordedHere steps recorded k did
             within) in
-            let says = subst (SaysOfRaise env false shape kick) at_k
-            (All-from_recursion (SaysOfRaise env false shape kick) steps each k did within) in
+            let says = subst (SaysOfRaise env words_at false shape kick) at_k
+            (All-from_recursion (SaysOfRaise env words_at false shape kick) steps each k did within) in
             says by.raised ∙ unclamped shape did was by.raised ∙ by.due
 
         -- a bind that has attached a table says so, whatever it raises
-        by_raise : (shape : ℕ) (steps : List Did) → AllByRecursion (SaysOfRaise env true shape kick) steps
+        by_raise : (shape : ℕ) (steps : List Did) → AllByRecursion (SaysOfRaise env words_at true shape kick) steps
             → Any (IsRaise env.geometry) steps → kick ≡ true
         by_raise shape steps each (k, did, within, at_k, adds) =
-            subst (SaysOfRaise env true shape kick) at_k
-            (All-from_recursion (SaysOfRaise env true shape kick) steps each k did within) adds
+            subst (SaysOfRaise env words_at true shape kick) at_k
+            (All-from_recursion (SaysOfRaise env words_at true shape kick) steps each k did within) adds
 
         none_attached : AllByRecursion (IsNoAttach env.geometry) steps → Any (AttachesSome env.geometry) steps → ⊥
         none_attached none (k, did, within, at_k, attaches) =
@@ -1040,7 +1100,7 @@ module _ (M : Type 0) (mix : ℕ → ℕ → ℕ → ℕ) (env : Env) where
             (All-from_recursion (IsNoAttach env.geometry) steps none k did within) attaches
 
         so_kicks : (attached : Bool) → AttachedSo env.geometry attached steps → (shape : ℕ) (behind : List Did)
-            → AllByRecursion IsRecordedHere behind → AllByRecursion (SaysOfRaise env attached shape kick) behind
+            → AllByRecursion IsRecordedHere behind → AllByRecursion (SaysOfRaise env words_at attached shape kick) behind
             → (Any (IsRaise env.geometry) behind ⊎ ((kick ≡ attached) × (env.config.kind ≡ Listed)))
             → (kick ≡ true) ↔ (Any (AttachesSome env.geometry) steps ⊎ Any (IsDueBy env shape) behind)
         so_kicks true so shape behind were each some = (
@@ -1062,10 +1122,10 @@ module _ (M : Type 0) (mix : ℕ → ℕ → ℕ → ℕ) (env : Env) where
         )
 
     -- a table is full by the count that was loaded, or its bucket has too many nodes
-    crowded : (why : Full) (table shape : ℕ) (behind : List Did) → AllByRecursion IsRecordedHere behind
-        → SawWhy env why shape behind → SawCrowded M mix env events c table shape behind
-    crowded full.Chain table shape behind recorded saw = inl ?
-    crowded full.Table table shape behind recorded (k, did, within, is, above) =
+    crowded : (why : Full) (shape : ℕ) (behind : List Did) → AllByRecursion IsRecordedHere behind
+        → SawWhy env words_at why shape behind → SawCrowded M mix env events c shape behind
+    crowded full.Chain shape behind recorded saw = inl saw
+    crowded full.Table shape behind recorded (k, did, within, is, above) =
         let was = subst IsRecordedHere is (All-from_recursion IsRecordedHere behind recorded k did within) in
         inr (
           k,
@@ -1093,7 +1153,7 @@ module _ (M : Type 0) (mix : ℕ → ℕ → ℕ → ℕ) (env : Env) where
         let found = loaded.found in
         omega (arith, few, most, found)
 
-    bind-cause : (past : Past) (reply : Reply) → SawFor env reply past.steps → AllByRecursion IsRecordedHere past.steps
+    bind-cause : (past : Past) (reply : Reply) → SawFor env words_at reply past.steps → AllByRecursion IsRecordedHere past.steps
         → BindCause M mix env events c past reply
     bind-cause past (Bound kick) saw recorded = kicked kick past.steps recorded saw
     bind-cause past (Exists owner) saw recorded = saw
@@ -1108,7 +1168,7 @@ module _ (M : Type 0) (mix : ℕ → ℕ → ℕ → ℕ) (env : Env) where
           shape = saw.shape;
           walked = walked;
           other = saw.other;
-          crowded = crowded saw.why last saw.shape walked.behind parts.1.1 saw.is_full;
+          crowded = crowded saw.why saw.shape walked.behind parts.1.1 saw.is_full;
           current = saw.current;
           none = saw.none;
         }
@@ -1122,7 +1182,7 @@ module _ (M : Type 0) (mix : ℕ → ℕ → ℕ → ℕ) (env : Env) where
           table = saw.table;
           shape = saw.shape;
           walked = walked;
-          crowded = crowded saw.why saw.table saw.shape walked.behind parts.1.1 saw.is_full;
+          crowded = crowded saw.why saw.shape walked.behind parts.1.1 saw.is_full;
           before = saw.before;
           at = saw.at;
           rest = saw.rest;
@@ -1145,12 +1205,12 @@ module _ (M : Type 0) (mix : ℕ → ℕ → ℕ → ℕ) (env : Env) where
     release-cause past Absent saw is recorded = tt
     release-cause past _ saw is recorded = absurd is
 
-    count-cause : (past : Past) (reply : Reply) → SawForCount env reply past.steps → AllByRecursion IsRecordedHere past.steps
+    count-cause : (past : Past) (reply : Reply) → SawForCount env words_at reply past.steps → AllByRecursion IsRecordedHere past.steps
         → CountCause M mix env events c past reply
     count-cause past (Counted count) saw recorded = counted-saw count past.steps recorded saw
     count-cause past _ saw recorded = absurd saw
 
-    cause_of : (past : Past) (call : Call) (reply : Reply) → SawOf env call reply past.steps → IsReplyTo call reply
+    cause_of : (past : Past) (call : Call) (reply : Reply) → SawOf env words_at call reply past.steps → IsReplyTo call reply
         → AllByRecursion IsRecordedHere past.steps → CauseOf M mix env events c past call reply
     cause_of past (Bind port owner once) reply saw right recorded = bind-cause past reply saw recorded
     cause_of past (Find port) reply saw right recorded = find-cause env reply right
@@ -1162,7 +1222,7 @@ module _ (M : Type 0) (mix : ℕ → ℕ → ℕ → ℕ) (env : Env) where
     cause_of past _ reply saw right recorded = absurd saw
 
     all_caused : (calls : List Past)
-        → AllByRecursion (λ (past : Past). SawOf env past.done.call past.done.reply past.steps) calls
+        → AllByRecursion (λ (past : Past). SawOf env words_at past.done.call past.done.reply past.steps) calls
         → AllByRecursion (IsEndedSo M mix env (Holds M mix env) (Answered M mix env)) calls
         → AllByRecursion (IsPastCall M mix env events c) calls
         → AllByRecursion (HasCause M mix env events c) calls

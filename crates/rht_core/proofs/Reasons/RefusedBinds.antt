@@ -20,7 +20,7 @@ use Rattle.rht_words.specs.Links.{slot_of, table_of}
 use Rattle.rht_words.specs.Shapes.{unpacked, size_of}
 use Rattle.rht_words.proofs.EachElement.{Any-append_left}
 use Rattle.rht_policy.specs.Thresholds.{is_above_100, may_grow}
-use Rattle.rht_nest.specs.Make.{MakeModel, make_plan_at, make_after_at, IsMakeIn}
+use Rattle.rht_nest.specs.Make.{MakeModel, made_pages, make_plan_at, make_after_at, IsMakeIn}
 use Rattle.rht_nest.specs.Tables.{exponent_made}
 use Rattle.rht_nest.specs.declared.make.MakeAt.{MakeAt}
 use Rattle.rht_nest.specs.declared.make.MakeAt.TheVariants as makes
@@ -31,8 +31,10 @@ use Rattle.rht_bind.specs.declared.bind.growth.Refusal.{Refusal}
 use Rattle.rht_bind.specs.declared.bind.growth.Refusal.TheVariants as refusals
 use Rattle.rht_core.specs.Traces.{Did, performed_of}
 use Rattle.rht_core.specs.Seen.{IsNoShapeLoad, LastWalked}
-use Rattle.rht_core.specs.ResizeCauses.{LoadsWord, Loaded, wanted_size, SawNoRoom}
-use Rattle.rht_core.proofs.Reasons.TablesWalked.{LastWalked-push}
+use Rattle.rht_core.specs.ResizeCauses.{LoadsWord, Loaded, wanted_size, SawNoRoom, IsNoKeyLoad, SawLongChain}
+use Rattle.rht_core.proofs.Reasons.TablesWalked.{nodes_behind, LastWalked-push}
+use Rattle.rht_core.proofs.Reasons.KeyLoads.{no_key-before, no_key-make}
+use Rattle.rht_core.proofs.Reasons.ChainsCounted.{SawLongChain-push}
 use Rattle.rht_core.proofs.Reasons.MakesSeen.{SawMade, SawEachRun, saw_nothing, make-saw}
 use Rattle.rht_core.proofs.Theory.Steps.{by_test}
 
@@ -51,7 +53,8 @@ no_slot word few is =
         absurd (omega (arith, past, few)))
         (λ f other same. let low = leb-false 1 word f in omega (arith, low)) f refl
 
-module _ (env : Env) where
+-- where these are the words before the event with each number
+module _ (env : Env) (words_at : ℕ → List ℕ) where
   abbrev g : Geometry
   g = env.geometry
 
@@ -76,9 +79,9 @@ module _ (env : Env) where
     pub loaded : did.op ≡ Load (place_of g PortCount)
     pub above : size_of (unpacked shape) < did.old
 
-  -- the table is full by its count of ports
+  -- the table is full by a chain of its, or by its count of ports
   abbrev pub SawWhy : Full → ℕ → List Did → Type 0
-  SawWhy full.Chain shape behind = Unit {0}
+  SawWhy full.Chain shape behind = SawLongChain g words_at shape behind
   SawWhy full.Table shape behind = Any (LoadedAbove shape) behind
 
   -- the operation loaded the slot of the current table
@@ -145,10 +148,10 @@ module _ (env : Env) where
 
   -- ---- what was seen stays seen
 
-  pub SawWhy-push : (why : Full) (shape : ℕ) (behind : List Did) (did : Did) → SawWhy why shape behind
-      → SawWhy why shape (behind ++ did ∷ [])
-  SawWhy-push full.Chain shape behind did saw = tt
-  SawWhy-push full.Table shape behind did saw = Any-append_left (LoadedAbove shape) behind (did ∷ []) saw
+  pub SawWhy-push : (why : Full) (shape : ℕ) (behind : List Did) (did : Did) → IsNoKeyLoad g did
+      → SawWhy why shape behind → SawWhy why shape (behind ++ did ∷ [])
+  SawWhy-push full.Chain shape behind did no_key saw = SawLongChain-push g words_at shape behind did no_key saw
+  SawWhy-push full.Table shape behind did no_key saw = Any-append_left (LoadedAbove shape) behind (did ∷ []) saw
 
   SawWanted-push : (shape size : ℕ) (behind : List Did) (did : Did) → SawWanted shape size behind
       → SawWanted shape size (behind ++ did ∷ [])
@@ -158,28 +161,28 @@ module _ (env : Env) where
     wanted = saw.wanted;
   }
 
-  pub BusySeen-push : (root last : ℕ) (steps : List Did) (did : Did) → IsNoShapeLoad g did → BusySeen root last steps
-      → BusySeen root last (steps ++ did ∷ [])
+  pub BusySeen-push : (root last : ℕ) (steps : List Did) (did : Did) → IsNoShapeLoad g did → IsNoKeyLoad g did
+      → BusySeen root last steps → BusySeen root last (steps ++ did ∷ [])
   unfolding LastWalked-push
-  BusySeen-push root last steps did none saw = record {
+  BusySeen-push root last steps did none no_key saw = record {
     shape = saw.shape;
     why = saw.why;
     walked = LastWalked-push g last saw.shape steps did none saw.walked;
-    is_full = SawWhy-push saw.why saw.shape saw.walked.behind did saw.is_full;
+    is_full = SawWhy-push saw.why saw.shape saw.walked.behind did no_key saw.is_full;
     other = saw.other;
     current = Any-append_left (LoadedRoot root) saw.walked.behind (did ∷ []) saw.current;
     none = Any-append_left (Loaded g (Slot last FutureWord) 0) saw.walked.behind (did ∷ []) saw.none;
   }
 
-  pub NoTableSeen-push : (size : ℕ) (steps : List Did) (did : Did) → IsNoShapeLoad g did → NoTableSeen size steps
-      → NoTableSeen size (steps ++ did ∷ [])
+  pub NoTableSeen-push : (size : ℕ) (steps : List Did) (did : Did) → IsNoShapeLoad g did → IsNoKeyLoad g did
+      → NoTableSeen size steps → NoTableSeen size (steps ++ did ∷ [])
   unfolding LastWalked-push
-  NoTableSeen-push size steps did none saw = record {
+  NoTableSeen-push size steps did none no_key saw = record {
     table = saw.table;
     shape = saw.shape;
     why = saw.why;
     walked = LastWalked-push g saw.table saw.shape steps did none saw.walked;
-    is_full = SawWhy-push saw.why saw.shape saw.walked.behind did saw.is_full;
+    is_full = SawWhy-push saw.why saw.shape saw.walked.behind did no_key saw.is_full;
     before = saw.before;
     at = saw.at;
     rest = saw.rest ++ did ∷ [];
@@ -206,7 +209,7 @@ module _ (env : Env) where
   pub root-saw : (growing : Growing) (behind : List Did) (did : Did) → did.op ≡ Load (place_of g CurrentTable)
       → SawWhy growing.why growing.shape behind → SawRoot growing (table_of did.old) (behind ++ did ∷ [])
   root-saw growing behind did is why = record {
-    why = SawWhy-push growing.why growing.shape behind did why;
+    why = SawWhy-push growing.why growing.shape behind did (no_key-before g did 0 is (omega (arith, nodes_behind g))) why;
     current =
         Any-push (LoadedRoot (table_of did.old)) behind did (record { there = tt; loads = is }, refl);
   }
@@ -221,22 +224,27 @@ module _ (env : Env) where
     wanted = wanted;
   }
 
+  -- it loads no key
+  no_key-count : (did : Did) → did.op ≡ Load (place_of g PortCount) → IsNoKeyLoad g did
+  no_key-count did is = no_key-before g did 2 is (omega (arith, nodes_behind g))
+
   pub begins-making : (growing : Growing) (root size : ℕ) (behind : List Did) (did : Did)
       → did.op ≡ Load (place_of g PortCount) → size ≡ wanted_size env growing.shape (min did.old 65536)
       → SawRoot growing root behind
       → SawToMake growing size (exponent_made size) (makes.Slot 0, Go) (behind ++ did ∷ [])
   begins-making growing root size behind did is wanted saw = record {
-    why = SawWhy-push growing.why growing.shape behind did saw.why;
+    why = SawWhy-push growing.why growing.shape behind did (no_key-count did is) saw.why;
     wanted = wanted-saw growing.shape size behind did is wanted;
     exponent_is = refl;
     made = saw_nothing g (exponent_made size) (map performed_of (behind ++ did ∷ []));
   }
 
-  pub other-saw : (growing : Growing) (root : ℕ) (behind : List Did) (did : Did) → root ≢ growing.table
+  pub other-saw : (growing : Growing) (root : ℕ) (behind : List Did) (did : Did)
+      → did.op ≡ Load (place_of g PortCount) → root ≢ growing.table
       → SawRoot growing root behind → SawOther growing root (behind ++ did ∷ [])
-  other-saw growing root behind did other saw = record {
+  other-saw growing root behind did is other saw = record {
     root_saw = record {
-      why = SawWhy-push growing.why growing.shape behind did saw.why;
+      why = SawWhy-push growing.why growing.shape behind did (no_key-count did is) saw.why;
       current = Any-append_left (LoadedRoot root) behind (did ∷ []) saw.current;
     };
     other = other;
@@ -257,8 +265,9 @@ module _ (env : Env) where
       let all : map performed_of (behind ++ did ∷ []) ≡ before ++ step ∷ [] =
       map-append performed_of behind (did ∷ []) ∙ ap (λ (s : Performed). before ++ s ∷ []) same in
       let after = make-saw g make.exponent make.seed make.at before did.old within.at_in saw.made in
+      let no_key = no_key-make g make.geometry (made_pages make.exponent) make.exponent make.seed make.at did within.at_in is in
       record {
-        why = SawWhy-push growing.why growing.shape behind did saw.why;
+        why = SawWhy-push growing.why growing.shape behind did no_key saw.why;
         wanted = SawWanted-push growing.shape size behind did saw.wanted;
         exponent_is = saw.exponent_is;
         made =
@@ -279,6 +288,11 @@ module _ (env : Env) where
     ];
   }
 
+  -- the load of a future loads no key
+  pub no_key-future : (did : Did) (table : ℕ) → table < 8 → did.op ≡ Load (place_of g (Slot table FutureWord))
+      → IsNoKeyLoad g did
+  no_key-future did table within is = no_key-before g did _ is (omega (arith, within, nodes_behind g))
+
   -- the future is loaded as none
   pub busy-saw : (growing : Growing) (root : ℕ) (steps : List Did) (did : Did) → IsNoShapeLoad g did → growing.table < 8
       → did.op ≡ Load (place_of g (Slot growing.table FutureWord)) → did.old ≡ 0
@@ -292,7 +306,7 @@ module _ (env : Env) where
         shape = growing.shape;
         why = growing.why;
         walked = LastWalked-push g growing.table growing.shape steps did none saw.walked;
-        is_full = SawWhy-push growing.why growing.shape behind did here.root_saw.why;
+        is_full = SawWhy-push growing.why growing.shape behind did (no_key-future did growing.table within is) here.root_saw.why;
         other = here.other;
         current = Any-append_left (LoadedRoot root) behind (did ∷ []) here.root_saw.current;
         none = Any-push (Loaded g (Slot growing.table FutureWord) 0) behind did
@@ -313,7 +327,7 @@ module _ (env : Env) where
         shape = growing.shape;
         why = growing.why;
         walked = LastWalked-push g growing.table growing.shape steps did none saw.walked;
-        is_full = SawWhy-push growing.why growing.shape behind did here.why;
+        is_full = SawWhy-push growing.why growing.shape behind did (no_key-future did growing.table within is) here.why;
         before = behind;
         at = did;
         rest = [];

@@ -173,7 +173,7 @@ module _ (env : Env) where
       subst (λ t. WalkedAt env.geometry t locate.at all) (sym same) walked
   located-saw mix g port table locate (Done there) h all same walked =
       place-saw mix g port locate there.shape there.place h all
-      (subst (λ t. Walked env.geometry t there.shape all) (sym same) walked)
+      (subst (λ t. Walked env.geometry t there.shape all) (sym same) walked.walked)
 
   seen-saw : (table shape : ℕ) (probe : ProbeModel) (end : Probed) (found : Option ℕ) (h : Geometry) (all : List Did)
       → Walked env.geometry table shape all

@@ -31,6 +31,8 @@ use Rattle.rht_chain.specs.declared.relink.RelinkAt.TheVariants as relinks
 use Rattle.rht_core.specs.Traces.{Did}
 use Rattle.rht_core.specs.Seen.{IsNoShapeLoad, LastWalked}
 use Rattle.rht_core.specs.Causes.{IsRaise}
+use Rattle.rht_core.specs.ResizeCauses.{IsNoKeyLoad}
+use Rattle.rht_core.proofs.Reasons.KeyLoads.{no_key-before}
 
 module _ (g : Geometry) where
   -- ---- what loads no shape, and raises no count
@@ -71,7 +73,7 @@ module _ (g : Geometry) where
   behind_slots did place is high = elsewhere did place is (λ table below same. absurd (omega arith))
 
   -- nodes and buckets stand behind the slots
-  nodes_behind : (h : Geometry) → 280 ≤ nodes_at h
+  pub nodes_behind : (h : Geometry) → 280 ≤ nodes_at h
   nodes_behind h = let order = parts_in_order h in omega (arith, order.page_map, order.nodes)
 
   bucket_behind : (place : ℕ) → IsBucketPlace g place → 280 ≤ place
@@ -127,7 +129,7 @@ module _ (g : Geometry) where
     pub last : LastWalked g table shape steps
     pub unraised : AllByRecursion IsNoRaise last.behind
 
-  pub Walked-push : (table shape : ℕ) (steps : List Did) (did : Did) → IsAside did → Walked table shape steps
+  unfoldable pub Walked-push : (table shape : ℕ) (steps : List Did) (did : Did) → IsAside did → Walked table shape steps
       → Walked table shape (steps ++ did ∷ [])
   unfolding LastWalked-push
   Walked-push table shape steps did is walked = record {
@@ -152,14 +154,32 @@ module _ (g : Geometry) where
     unraised = tt;
   }
 
+  -- and the operations since then saw this
+  pub record WalkedSeeing (table shape : ℕ) (Saw : List Did → Type 0) (steps : List Did) : Type 0 where
+    pub walked : Walked table shape steps
+    pub saw : Saw walked.last.behind
+
+  pub WalkedSeeing-push : (table shape : ℕ) (Saw After : List Did → Type 0) (steps : List Did) (did : Did) → IsAside did
+      → ((behind : List Did) → Saw behind → After (behind ++ did ∷ []))
+      → WalkedSeeing table shape Saw steps → WalkedSeeing table shape After (steps ++ did ∷ [])
+  unfolding LastWalked-push Walked-push
+  WalkedSeeing-push table shape Saw After steps did is further seeing = record {
+    walked = Walked-push table shape steps did is seeing.walked;
+    saw = further seeing.walked.last.behind seeing.saw;
+  }
+
+  -- none of them loaded a key
+  abbrev pub LoadedNoKey : List Did → Type 0
+  LoadedNoKey behind = AllByRecursion (IsNoKeyLoad g) behind
+
   -- while it looks for the bucket: once it has the shape
   abbrev pub WalkedAt : ℕ → LocateAt → List Did → Type 0
   WalkedAt table locates.Shape steps = Unit {0}
-  WalkedAt table (locates.Seed shape) steps = Walked table shape steps
+  WalkedAt table (locates.Seed shape) steps = WalkedSeeing table shape LoadedNoKey steps
 
   abbrev pub WalkedNext : ℕ → LocateModel × Next Located → List Did → Type 0
   WalkedNext table (m, Go) steps = WalkedAt table m.at steps
-  WalkedNext table (m, Done there) steps = Walked table there.shape steps
+  WalkedNext table (m, Done there) steps = WalkedSeeing table there.shape LoadedNoKey steps
 
   -- it looks in one table
   pub same_table : (mix : ℕ → ℕ → ℕ → ℕ) (port : ℕ) (m : LocateModel) (state : LocateAt) (word : ℕ)
@@ -171,7 +191,12 @@ module _ (g : Geometry) where
       (steps : List Did) (did : Did)
       → m.table < 8 → did.op ≡ locate_plan_at m.geometry m.table state → WalkedAt m.table state steps
       → WalkedNext m.table (locate_after_at mix port m state did.old) (steps ++ did ∷ [])
-  locate-walked mix port m locates.Shape steps did below is walked = Walked-new m.table steps did below is
+  unfolding Walked-new
+  locate-walked mix port m locates.Shape steps did below is walked =
+      record { walked = Walked-new m.table steps did below is; saw = tt }
   locate-walked mix port m (locates.Seed shape) steps did below is walked =
-      Walked-push m.table shape steps did
-      (elsewhere did (place_of g (Slot m.table SeedWord)) is (λ table in_it same. absurd (omega arith))) walked
+      let place = place_of g (Slot m.table SeedWord) in
+      WalkedSeeing-push m.table shape LoadedNoKey LoadedNoKey steps did
+      (elsewhere did place is (λ table in_it same. absurd (omega arith)))
+      (λ behind none. AllByRecursion-push (IsNoKeyLoad g) behind did none
+      (no_key-before g did place is (omega (arith, below, nodes_behind g)))) walked

@@ -1,6 +1,6 @@
 -- What a caller knows in each state: what that means of the words and the ghost, and that it has nothing more.
 -- It speaks of words and ghosts on which the caller holds the right, or which nobody changes.
-use Rattle.std.proofs.Common.{◌≡◌, ◌≢◌, ◌⊎◌, ℕ, ◌+◌, ◌<◌, ◌≤◌, List, [], ◌∷◌, Option, Some, None, Bool, true, false}
+use Rattle.std.proofs.Common.{◌≡◌, ◌≢◌, ◌⊎◌, ℕ, ◌+◌, ◌<◌, ◌≤◌, List, [], ◌∷◌, length, Option, Some, None, Bool, true, false}
 use Rattle.std.specs.Prelude.{IfSome}
 use Rattle.rht_words.specs.declared.env.Env.{Env}
 use Rattle.rht_words.specs.Places.{Slot, ShapeWord, SeedWord, FutureWord, SerialWord, Node, ChainLink, KeyWord, OwnerWord, ListLink, IsBucketPlace}
@@ -100,10 +100,17 @@ module _ (env : Env) (mix : ℕ → ℕ → ℕ → ℕ) where
     pub lock : HoldsLock c G place word
     pub stands : StandsAt M (bucket_at G place).nodes key node before
 
-  pub record IsDiffering (c : ℕ) (M : Memory) (G : Ghost) (place word key node : ℕ) (before : Option ℕ) :
+  -- and as many keys were loaded as there are nodes before it; once its own key is loaded, one more
+  pub record IsReaching (c : ℕ) (M : Memory) (G : Ghost) (place word key node : ℕ) (before : Option ℕ) (count : ℕ) :
+      Type 0 where
+    pub standing : IsStanding c M G place word key node before
+    pub counted : count ≡ length standing.stands.front
+
+  pub record IsDiffering (c : ℕ) (M : Memory) (G : Ghost) (place word key node : ℕ) (before : Option ℕ) (count : ℕ) :
       Type 0 where
     pub standing : IsStanding c M G place word key node before
     pub differs : key_of M node ≢ key
+    pub counted : count ≡ length standing.stands.front + 1
 
   pub record IsMissed (c : ℕ) (M : Memory) (G : Ghost) (place word key : ℕ) : Type 0 where
     pub lock : HoldsLock c G place word
@@ -176,8 +183,8 @@ module _ (env : Env) (mix : ℕ → ℕ → ℕ → ℕ) where
   BucketMeans c M G (Unlocks place word) = HasLock c G place word
   BucketMeans c M G (Armed place word port) = IsArmed c G place word port
   BucketMeans c M G (Locks place word) = HoldsLock c G place word
-  BucketMeans c M G (Stands place word key node before) = IsStanding c M G place word key node before
-  BucketMeans c M G (Differs place word key node before) = IsDiffering c M G place word key node before
+  BucketMeans c M G (Stands place word key node before count) = IsReaching c M G place word key node before count
+  BucketMeans c M G (Differs place word key node before count) = IsDiffering c M G place word key node before count
   BucketMeans c M G (Missed place word key) = IsMissed c M G place word key
   BucketMeans c M G (Found place word key node before) = IsFound c M G place word key node before
   BucketMeans c M G (Member place word key node) = IsMember c M G place word key node
@@ -207,8 +214,8 @@ module _ (env : Env) (mix : ℕ → ℕ → ℕ → ℕ) where
   IsPlain (Unlocks place word) = Unit {0}
   IsPlain (Armed place word port) = Unit {0}
   IsPlain (Locks place word) = Unit {0}
-  IsPlain (Stands place word key node before) = Unit {0}
-  IsPlain (Differs place word key node before) = Unit {0}
+  IsPlain (Stands place word key node before count) = Unit {0}
+  IsPlain (Differs place word key node before count) = Unit {0}
   IsPlain (Missed place word key) = Unit {0}
   IsPlain (Found place word key node before) = Unit {0}
   IsPlain (Member place word key node) = Unit {0}

@@ -12,7 +12,7 @@ use Rattle.rht_core.proofs.Theory.Ghosts.{Held, Ghost, is_taken_by, has_table, i
 use Rattle.rht_core.proofs.Theory.Wholes.{chain_of, key_of, word_index, home}
 use Rattle.rht_core.proofs.Theory.Passed.{NoKey, NoKey-same, home-stays}
 use Rattle.rht_core.proofs.Theory.Knowns.{Armed, AtHome, AtNode, Collected, CollectedTo, CutsOut, Differing, Differs, FirstLink, Found, InList, InSlot, IsAmong, IsLeading, IsOwnersNode, KnownBucket, KnownList, KnownNode, KnownTable, Leads, LeadsTo, Listing, Locks, LocksTakenOut, Matching, Member, Missed, NoOwner, Nowhere, Passes, Promotes, Replaces, Shaped, Stands, StandsInList, Succeeds, TakenOut, Unlocked, Unlocks, WithShape, first_of_list, owners_of}
-use Rattle.rht_core.proofs.Theory.Knowledge.{ArmedFor, BucketMeans, HasLock, HasNode, HasTakenOut, HoldsLock, IsArmed, IsFound, IsInList, IsMember, IsPassing, IsPlain, IsPlainList, IsShaped, IsStanding, ListMeans, NodeMeans, TableMeans, bucket_at}
+use Rattle.rht_core.proofs.Theory.Knowledge.{ArmedFor, BucketMeans, HasLock, HasNode, HasTakenOut, HoldsLock, IsArmed, IsDiffering, IsFound, IsInList, IsMember, IsPassing, IsPlain, IsPlainList, IsReaching, IsShaped, IsStanding, ListMeans, NodeMeans, TableMeans, bucket_at}
 use Rattle.rht_core.proofs.Theory.Reliance.{ChainsStay, MembersUsed, TablesStay, WordStays}
 
 module _ (env : Env) (mix : ℕ → ℕ → ℕ → ℕ) where
@@ -165,12 +165,31 @@ module _ (env : Env) (mix : ℕ → ℕ → ℕ → ℕ) where
             };
           }
 
+      IsReaching-stay : (place word key node : ℕ) (before : Option ℕ) (count : ℕ)
+          → IsReaching env mix c M G place word key node before count
+          → IsReaching env mix c M' G' place word key node before count
+      unfolding IsStanding-stay
+      IsReaching-stay place word key node before count means = record {
+        standing = IsStanding-stay place word key node before means.standing;
+        counted = means.counted;
+      }
+
       -- the key of the node at which it stands stays
       key-stays : (place word key node : ℕ) (before : Option ℕ) → IsStanding env mix c M G place word key node before
           → key_of M' node ≡ key_of M node
       key-stays place word key node before means =
           let j = word_index env mix place in
           key-stays_in j node (rw means.stands.split (in-middle node means.stands.front means.stands.rear))
+
+      IsDiffering-stay : (place word key node : ℕ) (before : Option ℕ) (count : ℕ)
+          → IsDiffering env mix c M G place word key node before count
+          → IsDiffering env mix c M' G' place word key node before count
+      unfolding IsStanding-stay
+      IsDiffering-stay place word key node before count means = record {
+        standing = IsStanding-stay place word key node before means.standing;
+        differs = λ same. means.differs (sym (key-stays place word key node before means.standing) ∙ same);
+        counted = means.counted;
+      }
 
       IsMember-stay : (place word key node : ℕ) → IsMember env mix c M G place word key node
           → IsMember env mix c M' G' place word key node
@@ -393,12 +412,10 @@ module _ (env : Env) (mix : ℕ → ℕ → ℕ → ℕ) where
       BucketMeans-stay (Unlocks place word) plain means = HasLock-stay place word means
       BucketMeans-stay (Armed place word port) plain means = IsArmed-stay place word port means
       BucketMeans-stay (Locks place word) plain means = HoldsLock-stay place word means
-      BucketMeans-stay (Stands place word key node before) plain means = IsStanding-stay place word key
-          node before means
-      BucketMeans-stay (Differs place word key node before) plain means = record {
-        standing = IsStanding-stay place word key node before means.standing;
-        differs = λ same. means.differs (sym (key-stays place word key node before means.standing) ∙ same);
-      }
+      BucketMeans-stay (Stands place word key node before count) plain means = IsReaching-stay place word key
+          node before count means
+      BucketMeans-stay (Differs place word key node before count) plain means = IsDiffering-stay place word key
+          node before count means
       BucketMeans-stay (Missed place word key) plain means = record {
         lock = HoldsLock-stay place word means.lock;
         none = rw (nodes-stay place word means.lock)
@@ -435,10 +452,10 @@ module _ (env : Env) (mix : ℕ → ℕ → ℕ → ℕ) where
       BucketMeans-own (Unlocks place word) own means = BucketMeans-stay (Unlocks place word) tt means
       BucketMeans-own (Armed place word port) own means = BucketMeans-stay (Armed place word port) tt means
       BucketMeans-own (Locks place word) own means = BucketMeans-stay (Locks place word) tt means
-      BucketMeans-own (Stands place word key node before) own means = BucketMeans-stay
-          (Stands place word key node before) tt means
-      BucketMeans-own (Differs place word key node before) own means = BucketMeans-stay
-          (Differs place word key node before) tt means
+      BucketMeans-own (Stands place word key node before count) own means = BucketMeans-stay
+          (Stands place word key node before count) tt means
+      BucketMeans-own (Differs place word key node before count) own means = BucketMeans-stay
+          (Differs place word key node before count) tt means
       BucketMeans-own (Missed place word key) own means = BucketMeans-stay (Missed place word key) tt means
       BucketMeans-own (Found place word key node before) own means = BucketMeans-stay
           (Found place word key node before) tt means

@@ -50,11 +50,12 @@ module _ (M : Type 0) (mix : ℕ → ℕ → ℕ → ℕ) (env : Env) where
     pub step : StepOf env mix M core ghost c did.op
     pub found : did.old ≡ old_of core.words did.op
 
-  -- behind these events a caller that does this makes this operation, and the run remembers it
+  -- behind these events a caller that does this makes this operation, in the core of their run, and the run remembers it
   pub record IsMade (events : List Event) (c : ℕ) (local : Local M) (did : Did) : Type 0 where
     pub plan : plan_of local ≡ Some did.op
     pub table : IsLocalOf env local
     pub known : IsKnown c local did
+    pub now : ◌≡◌ {A = Core M} known.core (run_of {M = M} mix env events).core
     pub index : did.index ≡ length events
     pub recorded : IsRecorded M mix env (events ++ Step c ∷ []) c did
     pub reply :
@@ -105,6 +106,7 @@ module _ (M : Type 0) (mix : ℕ → ℕ → ℕ → ℕ) (env : Env) where
           step = step_of env mix M core has.ghost c op has.all has.inv is;
           found = refl;
         };
+        now = ap (λ (w : World M). w.core) (world-traced_of M mix env events);
         index = count-traced_of M mix env events;
         recorded = record {
           event =

@@ -4,9 +4,11 @@
 -- It is enough to look at jobs, one operation at a time. A call begins as its first job with no operations; an operation
 -- leads to one more of them, and where it ends the call, to what is kept of an ended one. What callers keep besides is
 -- shown here once for all: that the call of a book is that of the job, and what the rooms have.
-use Rattle.std.proofs.Common.{◌≡◌, ℕ, Bool, true, false, cond, List, [], ◌∷◌, ◌++◌, length, refl, sym, ap, ◌∙◌, subst}
+use Rattle.std.proofs.Common.{◌≡◌, ℕ, Bool, true, false, cond, List, [], ◌∷◌, ◌++◌, length, take, refl, sym, ap, ◌∙◌, subst, append_assoc}
 use Rattle.std.specs.Prelude.{Option, Some, None}
 use Rattle.std.specs.List.{AllByRecursion, last_or}
+use Rattle.std.proofs.Math.Seq.{take-append_seam}
+use Rattle.std.proofs.lemmas.List.{append-nil}
 use Rattle.rht_words.specs.declared.env.Env.{Env}
 use Rattle.rht_words.specs.declared.machine.Next.{Next}
 use Rattle.rht_words.specs.declared.machine.Next.TheVariants.{Go, Done}
@@ -19,13 +21,15 @@ use Rattle.rht_model.specs.declared.history.Reply.{Reply}
 use Rattle.rht_model.specs.Rooms.{Kept}
 use Rattle.rht_model.specs.Endings.{Ending, ended_with, ending_in}
 use Rattle.rht_core.specs.declared.event.Event.{Event}
+use Rattle.rht_core.specs.declared.event.Event.TheVariants.{Begin, Step as Steps}
 use Rattle.rht_core.specs.declared.book.Book.{Book}
 use Rattle.rht_core.specs.declared.local.Local.{Local}
 use Rattle.rht_core.specs.declared.local.Doing.{Doing}
 use Rattle.rht_core.specs.Locals.{is_idle, machine_of, local_after, ending_of}
 use Rattle.rht_core.specs.Jobs.{Job, call_of, first_job, job_plan, job_after, job_of, told, held_of, held_next}
-use Rattle.rht_core.specs.Runs.{View, IsAdmitted, view_of, book_begun, book_after, finished_with}
+use Rattle.rht_core.specs.Runs.{Core, View, IsAdmitted, view_of, run_of, book_begun, book_after, finished_with}
 use Rattle.rht_core.specs.Traces.{Did, Past, Trace, Traced, trace_begun, trace_did, traced_of}
+use Rattle.rht_core.specs.Seen.{words_before}
 use Rattle.rht_core.specs.Replies.{IsBookOfIdle, owners_with, pairs_with, HasLists}
 use Rattle.rht_core.specs.Laws.{view_begun, view_stepped}
 use Rattle.rht_core.proofs.Events.JobsOfCallers.{is_no_job, has_ended, HasNoLists, same_call, left-told, nothing-job, first_job-machine, local_after-job}
@@ -111,14 +115,16 @@ module _ (mix : ℕ → ℕ → ℕ → ℕ) (env : Env) where
         Step env mix caller (call_of job) words ghost did.op (held_of job) (held_next r)
         (JobNext env mix caller r)
 
-  -- the step of a caller is its job's
-  pub record PerformsAs (doing : Option Job) (did : Did) : Type 0 where
+  -- the step of a caller is its job's, in these words
+  pub record PerformsAs (doing : Option Job) (words : List ℕ) (did : Did) : Type 0 where
     pub job : Job
     pub does : doing ≡ Some job
     pub performs : Performs job did
+    pub here : performs.words ≡ words
 
   pub performs-made : (M : Type 0) (events : List Event) (c : ℕ) (local : Local M) (did : Did)
-      → IsMade M mix env events c local did → PerformsAs (job_of local.doing) did
+      → IsMade M mix env events c local did
+      → PerformsAs (job_of local.doing) (run_of {M = M} mix env events).core.words did
   performs-made M events c local did made =
       let known = made.known in
       let of = known.step in
@@ -140,6 +146,7 @@ module _ (mix : ℕ → ℕ → ℕ → ℕ) (env : Env) where
               (held_next r) (JobNext env mix c r))
               (sym known.found) of.step;
         };
+        here = ap (λ (core : Core M). core.words) made.now;
       }
 
 -- ---- what is kept of calls
@@ -157,6 +164,13 @@ module _ (M : Type 0) (mix : ℕ → ℕ → ℕ → ℕ) (env : Env) (Now : Job
     pub record JobsKeep : Type 0 where
       pub begins : (call : Call) (job : Job) → first_job env call ≡ Some job → Now job []
       pub goes : (job : Job) (steps : List Did) (did : Did) → Performs mix env job did → Now job steps
+          → LeadsOn job (steps ++ did ∷ []) (job_after mix env job did.old)
+
+    -- the same in the run of these events, where the words in which an operation is performed are those before its event
+    pub record JobsKeepIn (events : List Event) : Type 0 where
+      pub begins : (call : Call) (job : Job) → first_job env call ≡ Some job → Now job []
+      pub goes : (job : Job) (steps : List Did) (did : Did) (performs : Performs mix env job did)
+          → performs.words ≡ words_before M mix env events did.index → Now job steps
           → LeadsOn job (steps ++ did ∷ []) (job_after mix env job did.old)
 
     -- what holds of a call that has ended
@@ -181,7 +195,7 @@ module _ (M : Type 0) (mix : ℕ → ℕ → ℕ → ℕ) (env : Env) (Now : Job
 
     -- ---- the beginning of a call
 
-    module _ (keep : JobsKeep) where
+    module _ (events : List Event) (keep : JobsKeepIn events) where
       begins-keeping : (c : ℕ) (call : Call) (machine : Doing M) (index : ℕ) (here : View M) (trace : Trace)
           → machine_of env c call ≡ Some machine → IsKeeping here trace
           → IsKeeping (view_begun call machine here) (trace_begun index trace)
@@ -226,21 +240,30 @@ module _ (M : Type 0) (mix : ℕ → ℕ → ℕ → ℕ) (env : Env) (Now : Job
             now = record { call = refl; steps = refl };
           }
 
-      steps-keeping : (events : List Event) (c : ℕ) (did : Did) (here : View M) (trace : Trace)
-          → IsMade M mix env events c here.local did → IsKeeping here trace
+      -- the words behind the first of these events are those before the event with the next number
+      words_now : (past rest : List Event) (index : ℕ) → events ≡ past ++ rest → index ≡ length past
+          → (run_of {M = M} mix env past).core.words ≡ words_before M mix env events index
+      words_now past rest index all is =
+          ap (λ (first : List Event). (run_of {M = M} mix env first).core.words)
+          (sym (ap (λ n. take n events) is ∙ ap (take (length past)) all ∙ take-append_seam past rest))
+
+      steps-keeping : (past rest : List Event) (c : ℕ) (did : Did) (here : View M) (trace : Trace)
+          → events ≡ past ++ rest
+          → IsMade M mix env past c here.local did → IsKeeping here trace
           → let next = local_after mix here.local did.old in
           IsKeeping (view_stepped mix did.old here) (trace_did here.book.call did
           (ending_of next.0 next.1) trace)
-      steps-keeping events c did here trace made keeping =
+      steps-keeping past rest c did here trace all made keeping =
           let next = local_after mix here.local did.old in
-          let planning = performs-made mix env M events c here.local did made in
+          let planning = performs-made mix env M past c here.local did made in
           let job = planning.job in
           let busy = nothing-job here.local.doing ∙ ap is_no_job planning.does in
           let none = busy-none here.local here.book busy keeping.lists in
           let work : IsAtWork job here.book trace.steps =
           subst (λ (j : Option Job). IsAtJob j here.book trace.steps) planning.does keeping.now in
           let performs = planning.performs in
-          let leads = keep.goes job trace.steps did performs work.now in
+          let then = planning.here ∙ words_now past rest did.index all made.index in
+          let leads = keep.goes job trace.steps did performs then work.now in
           let after = job_after mix env job did.old in
           let left = local_after-job mix env here.local job did.old none made.table planning.does in
           let kept =
@@ -266,20 +289,41 @@ module _ (M : Type 0) (mix : ℕ → ℕ → ℕ → ℕ) (env : Env) (Now : Job
 
       -- ---- runs
 
-      keeps : IsKeptTraced M mix env (λ events c. IsKeeping)
+      -- what is kept where the events so far are the first of these
+      abbrev IsKeepingSoFar : List Event → ℕ → View M → Trace → Type 0
+      IsKeepingSoFar past c here trace = (rest : List Event) → events ≡ past ++ rest → IsKeeping here trace
+
+      -- an event more is the first of those behind
+      next_event : (past : List Event) (event : Event) (rest : List Event) → events ≡ (past ++ event ∷ []) ++ rest
+          → events ≡ past ++ event ∷ rest
+      next_event past event rest all = all ∙ append_assoc past (event ∷ []) rest
+
+      keeps : IsKeptTraced M mix env IsKeepingSoFar
       keeps = record {
-        opens = λ c. record {
+        opens = λ c rest all. record {
           past = tt;
           now = record { call = refl; steps = refl };
           lists = record { owners = refl; pairs = refl };
         };
-        stays = λ events event c here trace keeping. keeping;
-        begins = λ events c call machine index here trace now idle is. begins-keeping c call machine
-            index here trace is;
-        steps = steps-keeping;
+        stays = λ past event c here trace keeping rest all. keeping (event ∷ rest) (next_event past event rest all);
+        begins = λ past c call machine index here trace now idle is keeping rest all. begins-keeping c call machine
+            index here trace is (keeping (Begin c call ∷ rest) (next_event past (Begin c call) rest all));
+        steps = λ past c did here trace made keeping rest all.
+            let next = next_event past (Steps c) rest all in
+            steps-keeping past (Steps c ∷ rest) c did here trace next made (keeping (Steps c ∷ rest) next);
       }
 
-      -- so what jobs keep holds of the calls of every caller in every run
-      pub jobs_keep : (events : List Event) (c : ℕ) → IsAdmitted env.config.kind events
+      -- so what jobs keep holds of the calls of every caller
+      pub jobs_keep_in : (c : ℕ) → IsAdmitted env.config.kind events
           → let r : Traced M = traced_of mix env events in IsKeeping (view_of r.world c) (r.traces c)
-      jobs_keep = traced_callers_keep M mix env (λ events c. IsKeeping) keeps
+      jobs_keep_in c admitted =
+          traced_callers_keep M mix env IsKeepingSoFar keeps events c admitted [] (sym (append-nil events))
+
+    -- in every run, where it doesn't depend on the run
+    pub jobs_keep : JobsKeep → (events : List Event) (c : ℕ) → IsAdmitted env.config.kind events
+        → let r : Traced M = traced_of mix env events in IsKeeping (view_of r.world c) (r.traces c)
+    jobs_keep keep events c =
+        jobs_keep_in events record {
+          begins = keep.begins;
+          goes = λ job steps did performs here now. keep.goes job steps did performs now;
+        } c

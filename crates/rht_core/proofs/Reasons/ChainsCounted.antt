@@ -1,0 +1,241 @@
+-- What a bind has counted in a bucket that it has locked, operation by operation.
+--
+-- From the load of the table's shape on a bind loads no key but those of the nodes at which its walk stands. At the event of such
+-- a load the bucket is locked, so the nodes met from its word are the bucket's; the walk has as many of them behind it as it has
+-- counted, by what the bind knows; and each of them is what a port is bound to. So the operation counted its node. Any other
+-- operation leaves what was counted.
+use Rattle.std.proofs.Common.{◌≡◌, ◌⊎◌, ℕ, ◌+◌, ◌<◌, ◌≤◌, ◌%◌, ◌==◌, List, [], ◌∷◌, ◌++◌, length, cond, refl, sym, ap, ◌∙◌, subst, inl, inr, arith}
+use Rattle.std.specs.Prelude.{Option, Some, None}
+use Rattle.std.specs.List.{AllByRecursion}
+use Rattle.std.proofs.lemmas.List.{length-append, length_push}
+use Rattle.rht_words.specs.declared.env.Env.{Env}
+use Rattle.rht_words.specs.declared.op.Op.TheVariants.{Load}
+use Rattle.rht_words.specs.declared.geometry.Geometry.{Geometry}
+use Rattle.rht_words.specs.declared.machine.Next.{Next}
+use Rattle.rht_words.specs.declared.machine.Next.TheVariants.{Go, Done}
+use Rattle.rht_words.specs.Links.{node_of, head_of}
+use Rattle.rht_words.specs.Places.{Node, KeyWord, place_of}
+use Rattle.rht_words.specs.Shapes.{unpacked, size_of}
+use Rattle.rht_words.proofs.Memory.{Memory}
+use Rattle.rht_chain.specs.Lock.{LockModel, lock_after_at}
+use Rattle.rht_chain.specs.declared.lock.LockAt.{LockAt}
+use Rattle.rht_chain.specs.declared.lock.LockAt.TheVariants as locks
+use Rattle.rht_chain.specs.LockedWalk.{LockedWalkModel, walk_plan_at, walk_after_at, walk_from, followed, counted, found_at, one_more, IsWalkAtIn}
+use Rattle.rht_chain.specs.declared.locked.Locked.{Locked}
+use Rattle.rht_chain.specs.declared.locked_walk.Seen.{Seen}
+use Rattle.rht_chain.specs.declared.locked_walk.LockedWalkAt.{LockedWalkAt}
+use Rattle.rht_chain.specs.declared.locked_walk.LockedWalkAt.TheVariants as walks
+use Rattle.rht_chain.specs.Probe.{probe_plan_at, probe_after_at, walk_or_seen, lock_taken, walk_taken, IsProbeAtIn}
+use Rattle.rht_chain.specs.declared.probe.ProbeAt.{ProbeAt}
+use Rattle.rht_chain.specs.declared.probe.ProbeAt.TheVariants as probes
+use Rattle.rht_chain.specs.declared.probe.Probed.{Probed}
+use Rattle.rht_nest.specs.Place.{bucket_place}
+use Rattle.rht_core.specs.Traces.{Did}
+use Rattle.rht_core.specs.StandsFor.{bucket_nodes, stands_for, AreBound}
+use Rattle.rht_core.specs.ResizeCauses.{LoadsKey, IsNoKeyLoad, CountsNode, AreCounted, SawLongChain}
+use Rattle.rht_core.proofs.Theory.Ghosts.{Ghost, index_at}
+use Rattle.rht_core.proofs.Theory.Wholes.{word_index, hash_in, place_at, place_at-index, index-within, Whole}
+use Rattle.rht_core.proofs.Theory.Passed.{hash-below}
+use Rattle.rht_core.proofs.Theory.Knowledge.{IsAtHome, IsReaching, BucketMeans, bucket_at}
+use Rattle.rht_core.proofs.Theory.Steps.{mem, by_test}
+use Rattle.rht_core.proofs.Pieces.Probes.{known_walk, known_probe, one_more-counted}
+use Rattle.rht_core.proofs.Meaning.BoundPorts.{still_met, home_place}
+use Rattle.rht_core.proofs.Counting.CountedPorts.{members-AreBound}
+use Rattle.rht_core.proofs.Reasons.KeyLoads.{no_key-link, no_key-lock}
+
+module _ (g : Geometry) (words_at : ℕ → List ℕ) where
+  -- ---- further operations
+
+  -- where no key was loaded no node was counted
+  pub none-counted : (place number : ℕ) (steps : List Did) → AllByRecursion (IsNoKeyLoad g) steps
+      → AreCounted g words_at place number steps []
+  none-counted place number [] none = refl
+  none-counted place number (did ∷ steps) none = (none.0, none-counted place number steps none.1)
+
+  -- an operation that loads no key leaves what was counted
+  counted-still : (place number : ℕ) (steps : List Did) (nodes : List ℕ) (did : Did) → IsNoKeyLoad g did
+      → AreCounted g words_at place number steps nodes → AreCounted g words_at place number (steps ++ did ∷ []) nodes
+  counted-still place number [] [] did none counts = (none, refl)
+  counted-still place number [] (node ∷ nodes) did none counts = absurd (cc)
+  counted-still place number (step ∷ steps) [] did none counts =
+      (counts.0, counted-still place number steps [] did none counts.1)
+  counted-still place number (step ∷ steps) (node ∷ nodes) did none (inl counts) =
+      inl (counts.0, counted-still place (number + 1) steps nodes did none counts.1)
+  counted-still place number (step ∷ steps) (node ∷ nodes) did none (inr counts) =
+      inr (counts.0, counted-still place number steps (node ∷ nodes) did none counts.1)
+
+  -- and one that counts a node comes last
+  counted-more : (place number : ℕ) (steps : List Did) (nodes : List ℕ) (many node : ℕ) (did : Did)
+      → many ≡ number + length nodes → CountsNode g words_at place many node did
+      → AreCounted g words_at place number steps nodes
+      → AreCounted g words_at place number (steps ++ did ∷ []) (nodes ++ node ∷ [])
+  counted-more place number [] [] many node did is one counts =
+      inl (subst (λ n. CountsNode g words_at place n node did) (omega (arith, is)) one, refl)
+  counted-more place number [] (other ∷ nodes) many node did is one counts = absurd (cc)
+  counted-more place number (step ∷ steps) [] many node did is one counts =
+      inr (counts.0, counted-more place number steps [] many node did is one counts.1)
+  counted-more place number (step ∷ steps) (other ∷ nodes) many node did is one (inl counts) =
+      inl (counts.0, counted-more place (number + 1) steps nodes many node did (omega (arith, is)) one counts.1)
+  counted-more place number (step ∷ steps) (other ∷ nodes) many node did is one (inr counts) =
+      inr (counts.0, counted-more place number steps (other ∷ nodes) many node did is one counts.1)
+
+  pub SawLongChain-push : (shape : ℕ) (steps : List Did) (did : Did) → IsNoKeyLoad g did
+      → SawLongChain g words_at shape steps → SawLongChain g words_at shape (steps ++ did ∷ [])
+  SawLongChain-push shape steps did none saw = record {
+    bucket = saw.bucket;
+    bucket_in = saw.bucket_in;
+    place = saw.place;
+    place_is = saw.place_is;
+    nodes = saw.nodes;
+    counted = counted-still saw.place 0 steps saw.nodes did none saw.counted;
+    many = saw.many;
+  }
+
+  -- ---- a bind in a bucket
+
+  -- so many nodes were counted in the bucket at this place
+  pub record HasCounted (place count : ℕ) (steps : List Did) : Type 0 where
+    pub nodes : List ℕ
+    pub counted : AreCounted g words_at place 0 steps nodes
+    pub many : count ≡ length nodes
+
+  pub HasCounted-push : (place count : ℕ) (steps : List Did) (did : Did) → IsNoKeyLoad g did
+      → HasCounted place count steps → HasCounted place count (steps ++ did ∷ [])
+  HasCounted-push place count steps did none has = record {
+    nodes = has.nodes;
+    counted = counted-still place 0 steps has.nodes did none has.counted;
+    many = has.many;
+  }
+
+  -- while it takes the lock and walks the bucket
+  abbrev pub CountedAt : ProbeAt → List Did → Type 0
+  CountedAt (probes.Locking lock) steps = HasCounted lock.place 0 steps
+  CountedAt (probes.Walking bucket walk) steps = HasCounted bucket.place walk.length steps
+
+  -- after an operation of the walk, and of all of that
+  abbrev CountedWalk : ℕ → LockedWalkModel × Next Seen → List Did → Type 0
+  CountedWalk place (walk, Go) steps = HasCounted place walk.length steps
+  CountedWalk place (walk, Done seen) steps = HasCounted place seen.length steps
+
+  abbrev pub CountedNext : ProbeAt × Next Probed → List Did → Type 0
+  CountedNext (at, Go) steps = CountedAt at steps
+  CountedNext (at, Done probed) steps = HasCounted probed.bucket.place probed.seen.length steps
+
+  -- the walk begins with no node counted
+  began-counted : (h : Geometry) (key first : ℕ) (lock : LockModel) (bucket : Locked) (next : Option ℕ) (steps : List Did)
+      → HasCounted bucket.place 0 steps → CountedNext (walk_or_seen lock bucket (walk_from h key first next)) steps
+  began-counted h key first lock bucket None steps has = has
+  began-counted h key first lock bucket (Some node) steps has = has
+
+  -- once the lock is taken
+  lock-counted : (h : Geometry) (key : ℕ) (lock : LockModel) (state : LockAt) (word : ℕ) (steps : List Did)
+      → HasCounted lock.place 0 steps
+      → let r = lock_after_at lock state word in CountedNext (lock_taken h key r.0 r.1) steps
+  lock-counted h key lock locks.Word word steps has =
+      by_test (λ t. let r = cond {A = LockModel × Next ℕ} t (lock, Go) (record lock { at = locks.Exchange word }, Go) in
+      CountedNext (lock_taken h key r.0 r.1) steps) (word % 2 == 1) (λ t. has) (λ f. has)
+  lock-counted h key lock (locks.Exchange found) word steps has =
+      let first = head_of lock.place found in
+      by_test (λ t. let r = cond {A = LockModel × Next ℕ} t (lock, Done found) (record lock { at = locks.Word }, Go) in
+      CountedNext (lock_taken h key r.0 r.1) steps) (word == found)
+      (λ t. began-counted h key first lock (record { place = lock.place; word = found }) (node_of h.nodes first) steps has)
+      (λ f. has)
+
+  -- behind the link of a node as many nodes are counted as before
+  followed-counted : (place : ℕ) (walk : LockedWalkModel) (node link : ℕ) (next : Option ℕ) (steps : List Did)
+      → HasCounted place walk.length steps → CountedWalk place (followed walk node link next) steps
+  followed-counted place walk node link None steps has = has
+  followed-counted place walk node link (Some next) steps has = has
+
+  walk_taken-counted : (bucket : Locked) (r : LockedWalkModel × Next Seen) (steps : List Did)
+      → CountedWalk bucket.place r steps → CountedNext (walk_taken bucket r.0 r.1) steps
+  walk_taken-counted bucket (walk, Go) steps has = has
+  walk_taken-counted bucket (walk, Done seen) steps has = has
+
+-- ---- at the event of an operation, in these words
+
+module _ (env : Env) (mix : ℕ → ℕ → ℕ → ℕ) (words_at : ℕ → List ℕ) (c port : ℕ) (words : List ℕ) (G : Ghost)
+    (whole : Whole env mix (mem env mix words) G) where
+  abbrev g : Geometry
+  g = env.geometry
+
+  abbrev M : Memory
+  M = mem env mix words
+
+  -- the load of a node's key counts it
+  key-counts : (place word node : ℕ) (before : Option ℕ) (count : ℕ) (did : Did) → node < g.nodes
+      → IsReaching env mix c M G place word port node before count → did.op ≡ Load (place_of g (Node node KeyWord))
+      → words ≡ words_at did.index → CountsNode g words_at place count node did
+  key-counts place word node before count did within is loads now =
+      let j = word_index env mix place in
+      let lock = is.standing.lock in
+      let at = is.standing.stands in
+      let below = index-within env mix place lock.bucket in
+      let met = subst (λ p. bucket_nodes g words (Some p) ≡ (G.bucket j).nodes) (place_at-index env mix place lock.bucket)
+      (still_met env mix words G whole j below lock.still) in
+      let many = ap length at.split ∙ length-append at.front (node ∷ at.rear) in
+      let counted = is.counted in
+      let bound = members-AreBound env mix words G whole j (count + 1) below (omega (arith, many, counted)) in
+      record {
+        loads = record { node_in = within; loads = loads };
+        front = at.front;
+        rear = at.rear;
+        stands = subst (λ w. bucket_nodes g w (Some place) ≡ at.front ++ node ∷ at.rear) now (met ∙ at.split);
+        as_many = sym counted;
+        bound = subst (λ w. AreBound (stands_for g w) (count + 1)) now bound;
+      }
+
+  walk-counted : (place word : ℕ) (walk : LockedWalkModel) (state : LockedWalkAt) (steps : List Did) (did : Did)
+      → IsWalkAtIn g walk.before state
+      → BucketMeans env mix c M G (known_walk place word port walk.before walk.length state)
+      → did.op ≡ walk_plan_at g state → words ≡ words_at did.index → HasCounted g words_at place walk.length steps
+      → CountedWalk g words_at place (walk_after_at walk state did.old) (steps ++ did ∷ [])
+  walk-counted place word walk (walks.Key node) steps did within knows is now has =
+      let one = key-counts place word node walk.before walk.length did within.0 knows is now in
+      let further = one_more-counted env mix c port M G whole place word node walk.before walk.length knows in
+      let counted_so = knows.counted in
+      let many = has.many in
+      let longer = length_push has.nodes node in
+      let more : HasCounted g words_at place (one_more walk.length) (steps ++ did ∷ []) = record {
+        nodes = has.nodes ++ node ∷ [];
+        counted = counted-more g words_at place 0 steps has.nodes walk.length node did (omega (arith, many)) one has.counted;
+        many = omega (arith, further, counted_so, many, longer);
+      } in
+      by_test (λ t. CountedWalk g words_at place
+      (cond {A = LockedWalkModel × Next Seen} t (counted walk, Done (found_at (counted walk) node)) (record (counted walk) { at = walks.ChainLink node }, Go))
+      (steps ++ did ∷ [])) (did.old == walk.key) (λ t. more) (λ f. more)
+  walk-counted place word walk (walks.ChainLink node) steps did within knows is now has =
+      followed-counted g words_at place walk node did.old (node_of walk.geometry.nodes did.old) (steps ++ did ∷ [])
+      (HasCounted-push g words_at place walk.length steps did (no_key-link g did node is) has)
+
+  pub probe-counted : (h : Geometry) (key : ℕ) (state : ProbeAt) (steps : List Did) (did : Did) → IsProbeAtIn g state
+      → BucketMeans env mix c M G (known_probe port state) → did.op ≡ probe_plan_at state
+      → words ≡ words_at did.index → CountedAt g words_at state steps
+      → CountedNext g words_at (probe_after_at h key state did.old) (steps ++ did ∷ [])
+  probe-counted h key (probes.Locking lock) steps did within knows is now has =
+      lock-counted g words_at h key lock lock.at did.old (steps ++ did ∷ [])
+      (HasCounted-push g words_at lock.place 0 steps did (no_key-lock g did lock.place lock.at within.place_in is) has)
+  probe-counted h key (probes.Walking bucket walk) steps did within knows is now has =
+      let planned = is ∙ ap (λ (of : Geometry). walk_plan_at of walk.at) within.walk_in.geometry_same in
+      walk_taken-counted g words_at bucket (walk_after_at walk walk.at did.old) (steps ++ did ∷ [])
+      (walk-counted bucket.place bucket.word walk walk.at steps did within.walk_in.at_in knows planned now has)
+
+  -- 16 nodes that were counted in a port's bucket are a long chain
+  pub long-counted : (table shape place count : ℕ) (steps : List Did) → IsAtHome env mix G port table (Some shape) place
+      → 16 ≤ count → HasCounted g words_at place count steps → SawLongChain g words_at shape steps
+  long-counted table shape place count steps is enough has =
+      let τ = index_at G table in
+      let bucket = hash_in env mix G port τ in
+      let same : (G.table τ).shape ≡ shape = is.shape_is in
+      let many = has.many in
+      record {
+        bucket = bucket;
+        bucket_in = subst (λ s. bucket < size_of (unpacked s)) same (hash-below env mix M G whole port τ);
+        place = place;
+        place_is = subst (λ s. bucket_place g s bucket ≡ Some place) same
+            (home_place env mix words G whole port τ (word_index env mix place) is.passing.passed.attached is.here
+            ∙ ap Some (place_at-index env mix place is.bucket));
+        nodes = has.nodes;
+        counted = has.counted;
+        many = omega (arith, enough, many);
+      }
