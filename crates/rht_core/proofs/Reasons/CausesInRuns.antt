@@ -121,6 +121,7 @@ use Rattle.rht_core.proofs.Reasons.TablesWalked.{IsNoRaise, IsAside, no_load, as
 use Rattle.rht_core.proofs.Reasons.KeyLoads.{no_key}
 use Rattle.rht_core.proofs.Reasons.ChainsCounted.{none-counted, HasCounted, HasCounted-push, CountedAt, CountedNext, probe-counted, long-counted}
 use Rattle.rht_core.proofs.Reasons.AttachedTables.{IsNoFutureExchange, IsNoAttach, no_attach, AttachedSo, AttachedSo-push, SawAttached, attached-saw, relink-none, unmake-none}
+use Rattle.rht_core.proofs.Reasons.UnraisedBinds.{SawUnraised, unraised-saw}
 use Rattle.rht_core.proofs.Reasons.RefusedBinds.{no_slot, no_key-future, Behind, Behind-push, SawWhy, SawWhy-push, SawRoot, SawOther, SawRefusal, SawToMake, BusySeen, BusySeen-push, NoTableSeen, NoTableSeen-push, above-why, root-saw, begins-making, other-saw, making-saw, no_room-saw, busy-saw, no_table-saw}
 use Rattle.rht_core.proofs.Counting.CountedNodes.{raise_few, load_few, lower_few}
 use Rattle.rht_core.proofs.Reasons.ReleaseKicks.{SawRelease, SawForRelease, release-saw, kicks_right}
@@ -158,6 +159,7 @@ module _ (env : Env) (words_at : ℕ → List ℕ) where
     pub table : ℕ
     pub shape : ℕ
     pub walked : LastWalked env.geometry table shape steps
+    pub unraised : AllByRecursion (IsNoRaise env.geometry) walked.before
     pub each : AllByRecursion (SaysOfRaise attached shape kick) walked.behind
     pub some : Any (IsRaise env.geometry) walked.behind ⊎ ((kick ≡ attached) × (env.config.kind ≡ Listed))
 
@@ -247,7 +249,7 @@ module _ (env : Env) (words_at : ℕ → List ℕ) where
   -- of a look-up and a listing nothing is kept, nor of a reading of the count before it ends
   abbrev JobSaw : Job → List Did → Type 0
   JobSaw (finds port state) steps = Unit {0}
-  JobSaw (binds port owner once state) steps = SawAt state steps × SawAttached env state steps
+  JobSaw (binds port owner once state) steps = SawAt state steps × (SawAttached env state steps × SawUnraised env state steps)
   JobSaw (lists port room state) steps = Unit {0}
   JobSaw (releases port owner state) steps = SawRelease env state steps
   JobSaw (rebinds port owner new state) steps = SawAtRebind state steps
@@ -286,6 +288,7 @@ module _ (env : Env) (words_at : ℕ → List ℕ) where
     table = raised.table;
     shape = raised.shape;
     walked = LastWalked-push env.geometry raised.table raised.shape steps did none.aside.no_shape raised.walked;
+    unraised = raised.unraised;
     each = AllByRecursion-push (SaysOfRaise raised.attached raised.shape kick) raised.walked.behind did raised.each
         (λ adds. absurd (none.aside.no_raise adds));
     some = elim raised.some [
@@ -300,6 +303,14 @@ module _ (env : Env) (words_at : ℕ → List ℕ) where
   unraised-says attached shape kick [] none = tt
   unraised-says attached shape kick (did ∷ steps) none =
       ((λ adds. absurd (none.0 adds)), unraised-says attached shape kick steps none.1)
+
+  -- what raised no count raised none before the last table was walked, nor behind that
+  each_part : (steps : List Did) (table shape : ℕ) (walked : LastWalked env.geometry table shape steps)
+      → AllByRecursion (IsNoRaise env.geometry) steps
+      → AllByRecursion (IsNoRaise env.geometry) walked.before × AllByRecursion (IsNoRaise env.geometry) walked.behind
+  each_part steps table shape walked none =
+      let parts = AllByRecursion-cut (IsNoRaise env.geometry) walked.before (walked.at ∷ walked.behind)
+      (subst (AllByRecursion (IsNoRaise env.geometry)) walked.split none) in (parts.0, parts.1.1)
 
   -- the table that followed the last one is seen still
   HasFollowed-push : (table : ℕ) (steps : List Did) (did : Did) → IsAside env.geometry did
@@ -490,11 +501,12 @@ module _ (env : Env) (words_at : ℕ → List ℕ) where
   -- the count is raised behind the walk
   raise-saw : (claimed : Claimed) (steps : List Did) (did : Did) → did.op ≡ Add (place_of env.geometry PortCount) 1
       → Walked env.geometry claimed.table claimed.shape steps
-      → AttachedSo env.geometry claimed.attempt.attached steps
+      → AttachedSo env.geometry claimed.attempt.attached steps → AllByRecursion (IsNoRaise env.geometry) steps
       → Raised (kicks env claimed did.old) (steps ++ did ∷ [])
   unfolding LastWalked-push
-  raise-saw claimed steps did is walked so =
+  raise-saw claimed steps did is walked so none =
       let behind = walked.last.behind in
+      let parts = each_part steps claimed.table claimed.shape walked.last none in
       let kick = kicks env claimed did.old in
       let attached = claimed.attempt.attached in
       record {
@@ -506,9 +518,10 @@ module _ (env : Env) (words_at : ℕ → List ℕ) where
         walked =
             LastWalked-push env.geometry claimed.table claimed.shape steps did
             (no_load env.geometry did _ is (λ place load. cc)) walked.last;
+        unraised = parts.0;
         each =
             AllByRecursion-push (SaysOfRaise attached claimed.shape kick) behind did
-            (unraised-says attached claimed.shape kick behind walked.unraised)
+            (unraised-says attached claimed.shape kick behind parts.1)
             (λ adds. refl);
         some = inl (Any-push (IsRaise env.geometry) behind did is);
       }
@@ -517,18 +530,19 @@ module _ (env : Env) (words_at : ℕ → List ℕ) where
   replaced-saw : (list : FoundList) (relink : RelinkModel) (next : Next (Unit {0})) (steps : List Did)
       → env.config.kind ≡ Listed
       → Walked env.geometry list.claimed.table list.claimed.shape steps
-      → AttachedSo env.geometry list.claimed.attempt.attached steps
+      → AttachedSo env.geometry list.claimed.attempt.attached steps → AllByRecursion (IsNoRaise env.geometry) steps
       → SawNext steps (replaced list relink next)
-  replaced-saw list relink Go steps listed walked so = walked
-  replaced-saw list relink (Done done) steps listed walked so = record {
+  replaced-saw list relink Go steps listed walked so none = walked
+  replaced-saw list relink (Done done) steps listed walked so none = record {
     attached = list.claimed.attempt.attached;
     so = so;
     table = list.claimed.table;
     shape = list.claimed.shape;
     walked = walked.last;
+    unraised = (each_part steps list.claimed.table list.claimed.shape walked.last none).0;
     each =
         unraised-says list.claimed.attempt.attached list.claimed.shape list.claimed.attempt.attached walked.last.behind
-        walked.unraised;
+        (each_part steps list.claimed.table list.claimed.shape walked.last none).1;
     some = inr (refl, listed);
   }
 
@@ -779,14 +793,14 @@ module _ (env : Env) (words_at : ℕ → List ℕ) where
 
     bind-saw : (state : BindAt) (steps : List Did) (did : Did)
         → (does : Performs mix env (binds port owner once state) did) → does.words ≡ words_at did.index
-        → SawAt state steps → SawAttached env state steps
+        → SawAt state steps → SawAttached env state steps → SawUnraised env state steps
         → SawNext (steps ++ did ∷ []) (after_at mix env port once state did.old)
-    bind-saw (at.Filling new) steps did does now saw so =
+    bind-saw (at.Filling new) steps did does now saw so unraised =
         bind_made-saw new (new_node_after_at new.at did.old) (steps ++ did ∷ [])
         (new-saw new new.at steps did refl does.within.at_in does.planned saw)
-    bind-saw (at.CurrentTable attempt) steps did does now saw so = tt
-    bind-saw (at.Locating attempt locate) steps did does now saw so = locating-saw attempt locate steps did does saw
-    bind-saw (at.Probing attempt table shape probe) steps did does now saw so =
+    bind-saw (at.CurrentTable attempt) steps did does now saw so unraised = tt
+    bind-saw (at.Locating attempt locate) steps did does now saw so unraised = locating-saw attempt locate steps did does saw
+    bind-saw (at.Probing attempt table shape probe) steps did does now saw so unraised =
         let within = does.within.at_in.probe_in.at_in in
         let after = probe_after_at probe.geometry probe.key probe.at did.old in
         probed-saw env.config.kind attempt table shape probe after (steps ++ did ∷ [])
@@ -794,24 +808,26 @@ module _ (env : Env) (words_at : ℕ → List ℕ) where
         (CountedNext env.geometry words_at after) steps did (probe_loads env.geometry did probe.at within does.planned)
         (λ behind counted. probe-counted env mix words_at does.caller port does.words does.ghost does.whole probe.geometry
         probe.key probe.at behind did within does.knows.knowing.means.bucket does.planned now counted) saw)
-    bind-saw (at.FoundOwner claimed found) steps did does now saw so = tt
-    bind-saw (at.ListLink list) steps did does now saw so =
+    bind-saw (at.FoundOwner claimed found) steps did does now saw so unraised = tt
+    bind-saw (at.ListLink list) steps did does now saw so unraised =
         Walked-push env.geometry list.claimed.table list.claimed.shape steps did
         (aside env.geometry did _ does.planned (λ place load. cc) (λ place value adds. cc)) saw
-    bind-saw (at.ChainLink list) steps did does now saw so =
+    bind-saw (at.ChainLink list) steps did does now saw so unraised =
         Walked-push env.geometry list.claimed.table list.claimed.shape steps did
         (node_loads env.geometry did env.geometry list.first ChainLink does.planned) saw
-    bind-saw (at.LinkBehind list link) steps did does now saw so =
+    bind-saw (at.LinkBehind list link) steps did does now saw so unraised =
         Walked-push env.geometry list.claimed.table list.claimed.shape steps did
         (aside env.geometry did _ does.planned (λ place load. cc) (λ place value adds. cc)) saw
-    bind-saw (at.Replacing list relink) steps did does now saw so =
+    bind-saw (at.Replacing list relink) steps did does now saw so unraised =
         replaced-saw list (relink_after relink).0 (relink_after relink).1 (steps ++ did ∷ [])
         does.knows.fits.listed
         (Walked-push env.geometry list.claimed.table list.claimed.shape steps did
         (relink_stores env.geometry did relink relink.at does.planned) saw)
         (AttachedSo-push env.geometry list.claimed.attempt.attached steps did
         (no_attach env.geometry did _ does.planned (relink-none env.geometry relink relink.at)) so)
-    bind-saw (at.Future claimed length) steps did does now saw so =
+        (AllByRecursion-push (IsNoRaise env.geometry) steps did unraised
+        (relink_stores env.geometry did relink relink.at does.planned).no_raise)
+    bind-saw (at.Future claimed length) steps did does now saw so unraised =
         let place = claimed.bucket.place in
         let counted = HasCounted env.geometry words_at place length in
         future-saw claimed length (slot_of did.old) (steps ++ did ∷ [])
@@ -821,65 +837,67 @@ module _ (env : Env) (words_at : ℕ → List ℕ) where
         (elsewhere env.geometry did _ does.planned (λ table below same. absurd (omega arith)))
         (λ behind has. HasCounted-push env.geometry words_at place length behind did
         (no_key-future env words_at did claimed.table does.within.at_in.table_in does.planned) has) saw)
-    bind-saw (at.Count claimed) steps did does now saw so =
+    bind-saw (at.Count claimed) steps did does now saw so unraised =
         count-saw claimed steps did does.planned saw
-    bind-saw (at.Link claimed) steps did does now saw so =
+    bind-saw (at.Link claimed) steps did does now saw so unraised =
         Walked-push env.geometry claimed.table claimed.shape steps did
         (aside env.geometry did _ does.planned (λ place load. cc) (λ place value adds. cc)) saw
-    bind-saw (at.Raise claimed) steps did does now saw so = raise-saw claimed steps did does.planned saw so
-    bind-saw (at.Publish node table relink kick) steps did does now saw so =
+    bind-saw (at.Raise claimed) steps did does now saw so unraised = raise-saw claimed steps did does.planned saw so unraised
+    bind-saw (at.Publish node table relink kick) steps did does now saw so unraised =
         published-saw node table kick (relink_after relink).0 (relink_after relink).1 (steps ++ did ∷ [])
         (Raised-push kick steps did
         (still did _ does.planned (relink-no_load relink relink.at) (relink-no_add relink relink.at)
         (relink-none env.geometry relink relink.at)) saw)
-    bind-saw (at.Unlocking attempt table unlock next) steps did does now saw so =
+    bind-saw (at.Unlocking attempt table unlock next) steps did does now saw so unraised =
         unlocked-saw attempt next (steps ++ did ∷ [])
         (SawForReply-push (answer_behind next) steps did
         (still did _ does.planned (λ place load. cc) (λ place value adds. cc) (λ table old new l e. cc)) saw)
-    bind-saw (at.UnlockingFull growing unlock) steps did does now saw so =
+    bind-saw (at.UnlockingFull growing unlock) steps did does now saw so unraised =
         Behind-push env words_at growing.table growing.shape (SawWhy env words_at growing.why growing.shape)
         (SawWhy env words_at growing.why growing.shape) steps did
         (no_load env.geometry did _ does.planned (λ place load. cc))
         (λ behind why. SawWhy-push env words_at growing.why growing.shape behind did
         (no_key env.geometry did _ does.planned (λ place load. cc)) why) saw
-    bind-saw (at.Root growing) steps did does now saw so =
+    bind-saw (at.Root growing) steps did does now saw so unraised =
         Behind-push env words_at growing.table growing.shape (SawWhy env words_at growing.why growing.shape)
         (SawRoot env words_at growing (table_of did.old)) steps did
         (elsewhere env.geometry did _ does.planned (λ table below same. absurd (omega (arith, same)))).no_shape
         (λ behind why. root-saw env words_at growing behind did does.planned why) saw
-    bind-saw (at.GrowthCount growing root) steps did does now saw so =
+    bind-saw (at.GrowthCount growing root) steps did does now saw so unraised =
         want-saw growing root steps did does.planned
         (elsewhere env.geometry did _ does.planned (λ table below same. absurd (omega (arith, same)))).no_shape saw
-    bind-saw (at.Making growing size make) steps did does now saw so =
+    bind-saw (at.Making growing size make) steps did does now saw so unraised =
         let after = make_after_at make.geometry make.exponent make.at did.old in
         made-saw growing size make after (steps ++ did ∷ [])
         (Behind-push env words_at growing.table growing.shape (SawToMake env words_at growing size make.exponent (make.at, Go))
         (SawToMake env words_at growing size make.exponent after) steps did
         (make_loads make.geometry make.exponent make.seed make.at did does.planned)
         (λ behind so_far. making-saw env words_at growing size make behind did does.within.at_in.make_in does.planned so_far) saw)
-    bind-saw (at.FutureAgain growing refusal) steps did does now saw so =
+    bind-saw (at.FutureAgain growing refusal) steps did does now saw so unraised =
         again-saw growing refusal (slot_of did.old) steps did does.within.at_in.growing_in.table_in does.planned
         (again_few growing refusal did does) refl saw
-    bind-saw (at.Attaching growing slot shape) steps did does now saw so =
+    bind-saw (at.Attaching growing slot shape) steps did does now saw so unraised =
         attach-saw growing slot shape steps did does.within.at_in.growing_in.table_in does.within.at_in.slot_in
         does.planned (attaching_few growing slot shape did does) saw
-    bind-saw (at.Unmaking attempt unmake answer) steps did does now saw so =
+    bind-saw (at.Unmaking attempt unmake answer) steps did does now saw so unraised =
         unmade-saw attempt answer (unmake_after unmake did.old).0 (unmake_after unmake did.old).1 (steps ++ did ∷ [])
         (SawForReply-push answer steps did
         (still did _ does.planned (unmake-no_load unmake.geometry unmake.slot unmake.at)
         (unmake-no_add unmake.geometry unmake.slot unmake.at)
         (unmake-none env.geometry unmake.geometry unmake.slot unmake.at)) saw)
-    bind-saw (at.Giving give reply) steps did does now saw so =
+    bind-saw (at.Giving give reply) steps did does now saw so unraised =
         SawFor-push reply steps did
         (still did _ does.planned (λ place load. cc) (λ place value adds. cc) (λ table old new l e. cc)) saw
 
-    -- with whether it has attached a table
-    abbrev SawBoth : List Did → BindAt × Next Reply → Type 0
-    SawBoth all next = GoesOrEnds (λ state. SawAt state all × SawAttached env state all) (λ reply. SawFor reply all) next
+    -- with whether it has attached a table, and that it has raised no count
+    abbrev SawAll : List Did → BindAt × Next Reply → Type 0
+    SawAll all next =
+        GoesOrEnds (λ state. SawAt state all × (SawAttached env state all × SawUnraised env state all)) (λ reply. SawFor reply all) next
 
-    both-saw : (next : BindAt × Next Reply) (all : List Did) → SawNext all next → SawAttached env next.0 all → SawBoth all next
-    both-saw (state, Go) all saw so = (saw, so)
-    both-saw (state, Done reply) all saw so = saw
+    all-saw : (next : BindAt × Next Reply) (all : List Did) → SawNext all next → SawAttached env next.0 all
+        → SawUnraised env next.0 all → SawAll all next
+    all-saw (state, Go) all saw so none = (saw, (so, none))
+    all-saw (state, Done reply) all saw so none = saw
 
 -- ---- the other calls
 
@@ -941,9 +959,10 @@ module _ (M : Type 0) (mix : ℕ → ℕ → ℕ → ℕ) (env : Env) (events : 
   job-leads (binds port owner once state) steps did performs now saw =
       next-leads (binds port owner once state) (binds port owner once) plain_ending (steps ++ did ∷ [])
       (after_at mix env port once state did.old)
-      (both-saw env words_at mix port owner once (after_at mix env port once state did.old) (steps ++ did ∷ [])
-      (bind-saw env words_at mix port owner once state steps did performs now saw.0 saw.1)
-      (attached-saw env mix port once state steps did performs.within.at_in performs.planned saw.1))
+      (all-saw env words_at mix port owner once (after_at mix env port once state did.old) (steps ++ did ∷ [])
+      (bind-saw env words_at mix port owner once state steps did performs now saw.0 saw.1.0 saw.1.1)
+      (attached-saw env mix port once state steps did performs.within.at_in performs.planned saw.1.0)
+      (unraised-saw env mix port once state steps did performs.planned saw.1.1))
   job-leads (lists port room state) steps did performs now saw =
       let after = all.room_after state room did.old in
       let next = all.after_at mix env port state did.old in
@@ -975,7 +994,7 @@ module _ (M : Type 0) (mix : ℕ → ℕ → ℕ → ℕ) (env : Env) (events : 
   first_job-saw (Find port) job is = subst (λ j. JobSaw env words_at j []) (let here : finds port CurrentTable ≡ job = cc in here) tt
   first_job-saw (Bind port owner once) job is =
       let here : binds port owner once (first_state env port owner) ≡ job = cc in
-      subst (λ j. JobSaw env words_at j []) here (λ node l. absurd (omega arith), tt)
+      subst (λ j. JobSaw env words_at j []) here (λ node l. absurd (omega arith), (tt, tt))
   first_job-saw (All port) job is =
       subst (λ j. JobSaw env words_at j [])
       (let here : lists port (room_for_nodes env) (alls.Seeking (seek_new env.geometry)) ≡ job = cc in here) tt
@@ -1043,6 +1062,7 @@ module _ (M : Type 0) (mix : ℕ → ℕ → ℕ → ℕ) (env : Env) (events : 
           table = raised.table;
           shape = shape;
           walked = walked;
+          unraised = raised.unraised;
           kicks = so_kicks raised.attached raised.so shape walked.behind behind.1.1 raised.each raised.some;
           raised = λ single. elim raised.some [
             | inl any ↦ any
