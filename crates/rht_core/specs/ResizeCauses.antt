@@ -17,14 +17,9 @@ use Rattle.rht_nest.specs.MakeLaws.{pages_for, AreSlotsSeenTaken}
 use Rattle.rht_core.specs.declared.event.Event.{Event}
 use Rattle.rht_core.specs.StandsFor.{bucket_nodes, stands_for, AreBound}
 use Rattle.rht_core.specs.Traces.{Did, performed_of}
-use Rattle.rht_core.specs.Seen.{LastWalked, SawCount, words_before}
+use Rattle.rht_core.specs.Seen.{LoadsWord, LoadsCurrent, LastWalked, SawCount, words_before}
 
--- the operation loaded this word of the table
-pub record LoadsWord (g : Geometry) (address : Address) (did : Did) : Type 0 where
-  pub there : IsAddress g address
-  pub loads : did.op ≡ Load (place_of g address)
-
--- and found this value in it
+-- the operation loaded this word of the table, and found this value in it
 pub record Loaded (g : Geometry) (address : Address) (value : ℕ) (did : Did) : Type 0 where
   pub word : LoadsWord g address did
   pub found : did.old ≡ value
@@ -142,7 +137,7 @@ module _ (M : Type 0) (mix : ℕ → ℕ → ℕ → ℕ) (env : Env) (events : 
     pub walked : LastWalked env.geometry last shape steps
     pub other : root ≢ last
     pub crowded : SawCrowded shape walked.behind
-    pub current : Any (λ did. LoadsWord env.geometry CurrentTable did × (table_of did.old ≡ root)) walked.behind
+    pub current : Any (LoadsCurrent env.geometry root) walked.behind
     pub none : Any (Loaded env.geometry (Slot last FutureWord) 0) walked.behind
 
   -- A bind is refused for want of a table of this size: the last table that it walked is full, by a count of ports that it

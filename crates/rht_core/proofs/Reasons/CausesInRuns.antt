@@ -54,7 +54,6 @@ use Rattle.rht_nest.specs.declared.unmake.UnmakeAt.{UnmakeAt}
 use Rattle.rht_nest.specs.declared.unmake.UnmakeAt.TheVariants as unmakes
 use Rattle.rht_nest.specs.Locate.{LocateModel, locate_plan, locate_after}
 use Rattle.rht_nest.specs.declared.locate.Located.{Located}
-use Rattle.rht_chain.specs.Locked.{answer_behind}
 use Rattle.rht_chain.specs.Probe.{ProbeModel, probe_after_at}
 use Rattle.rht_chain.specs.declared.probe.ProbeAt.{ProbeAt}
 use Rattle.rht_chain.specs.declared.probe.Probed.{Probed}
@@ -93,7 +92,7 @@ use Rattle.rht_core.specs.Replies.{IsFindReply, IsReleaseReply, IsRebindReply, I
 use Rattle.rht_core.specs.Traces.{Did, Past, performed_of, traced_of}
 use Rattle.rht_core.specs.Runs.{IsAdmitted}
 use Rattle.rht_core.specs.Laws.{IsRecorded, IsPastCall}
-use Rattle.rht_core.specs.Seen.{IsNoShapeLoad, LastWalked, SawCount, words_before}
+use Rattle.rht_core.specs.Seen.{CameTo, IsNoShapeLoad, LastWalked, SawCount, words_before}
 use Rattle.rht_core.specs.ResizeCauses.{Loaded, Attaches, AttachesSome, FindsFuture, HasFollowed, wanted_size, IsNoKeyLoad, SawLongChain, SawCrowded}
 use Rattle.rht_core.specs.Causes.{FindCause, AllCause, IsRaise, IsDueBy, KicksRightly, SawFull, ReleaseCause, RebindCause, WorkCause, BindCause, CountCause, CauseOf, HasCause, Causes}
 use Rattle.rht_release.specs.declared.found_port.FoundPort.{FoundPort}
@@ -117,7 +116,7 @@ use Rattle.rht_move.specs.Work as work
 use Rattle.rht_move.specs.declared.work.WorkAt.TheVariants as works_at
 use Rattle.rht_core.proofs.Reasons.WorkChoices.{SawIdle-nothing, SawForWork, SawAtWork, work-saw}
 use Rattle.rht_core.proofs.Counting.FullTables.{counted_at}
-use Rattle.rht_core.proofs.Reasons.TablesWalked.{IsNoRaise, IsAside, no_load, aside, elsewhere, node_loads, probe_loads, relink_stores, LastWalked-push, Walked, Walked-push, WalkedSeeing, WalkedSeeing-push, WalkedAt, WalkedNext, same_table, locate-walked}
+use Rattle.rht_core.proofs.Reasons.TablesWalked.{IsNoRaise, IsAside, no_load, aside, elsewhere, node_loads, probe_loads, relink_stores, CameTo-append, came-current, came-future, walked-came, LastWalked-push, Walked, Walked-push, WalkedSeeing, WalkedSeeing-push, WalkedAt, WalkedNext, same_table, locate-walked}
 use Rattle.rht_core.proofs.Reasons.KeyLoads.{no_key}
 use Rattle.rht_core.proofs.Reasons.ChainsCounted.{none-counted, HasCounted, HasCounted-push, CountedAt, CountedNext, probe-counted, long-counted}
 use Rattle.rht_core.proofs.Reasons.AttachedTables.{IsNoFutureExchange, IsNoAttach, no_attach, AttachedSo, AttachedSo-push, SawAttached, attached-saw, relink-none, unmake-none}
@@ -205,6 +204,11 @@ module _ (env : Env) (words_at : ℕ → List ℕ) where
   SawNew (news.Owner node) steps = Unit {0}
   SawNew (news.ListLink node) steps = Unit {0}
 
+  -- behind an unlocking it goes on in a table that it came to, or gives its answer
+  abbrev SawThen : Then Reply → List Did → Type 0
+  SawThen (Table table) steps = CameTo env.geometry table steps
+  SawThen (Answer reply) steps = SawFor reply steps
+
   abbrev SawAt : BindAt → List Did → Type 0
   SawAt (at.Filling new) steps = SawNew new.at steps
   SawAt (at.CurrentTable attempt) steps = Unit {0}
@@ -222,7 +226,7 @@ module _ (env : Env) (words_at : ℕ → List ℕ) where
   SawAt (at.Link claimed) steps = Walked env.geometry claimed.table claimed.shape steps
   SawAt (at.Raise claimed) steps = Walked env.geometry claimed.table claimed.shape steps
   SawAt (at.Publish node table relink kick) steps = Raised kick steps
-  SawAt (at.Unlocking attempt table unlock next) steps = SawForReply (answer_behind next) steps
+  SawAt (at.Unlocking attempt table unlock next) steps = SawThen next steps
   SawAt (at.UnlockingFull growing unlock) steps =
       Behind env words_at growing.table growing.shape (SawWhy env words_at growing.why growing.shape) steps
   SawAt (at.Root growing) steps = Behind env words_at growing.table growing.shape (SawWhy env words_at growing.why growing.shape) steps
@@ -437,6 +441,11 @@ module _ (env : Env) (words_at : ℕ → List ℕ) where
   SawForReply-push None steps did none saw = tt
   SawForReply-push (Some reply) steps did none saw = SawFor-push reply steps did none saw
 
+  SawThen-push : (next : Then Reply) (steps : List Did) (did : Did) → IsStill did → SawThen next steps
+      → SawThen next (steps ++ did ∷ [])
+  SawThen-push (Table table) steps did none came = CameTo-append env.geometry table steps (did ∷ []) came
+  SawThen-push (Answer reply) steps did none saw = SawFor-push reply steps did none saw
+
   -- a walk that has ended in a bucket
   bound-saw : (kind : Kind) (claimed : Claimed) (first : ℕ) (before : Option ℕ) (steps : List Did)
       → Walked env.geometry claimed.table claimed.shape steps
@@ -464,13 +473,14 @@ module _ (env : Env) (words_at : ℕ → List ℕ) where
   future-saw : (claimed : Claimed) (length : ℕ) (future : Option ℕ) (steps : List Did)
       → ((behind : List Did) → 16 ≤ length → HasCounted env.geometry words_at claimed.bucket.place length behind
       → SawLongChain env.geometry words_at claimed.shape behind)
+      → ((table : ℕ) → future ≡ Some table → CameTo env.geometry table steps)
       → WalkedSeeing env.geometry claimed.table claimed.shape (HasCounted env.geometry words_at claimed.bucket.place length) steps
       → SawAt (future_or_count claimed length future) steps
-  future-saw claimed length None steps long seeing =
+  future-saw claimed length None steps long came seeing =
       by_test (λ t. SawAt (cond t (unlocking_full claimed full.Chain) (at.Count claimed)) steps) (nat_le 16 length)
       (λ t. record { walked = seeing.walked.last; saw = long seeing.walked.last.behind (leb-true 16 length t) seeing.saw })
       (λ f. seeing.walked)
-  future-saw claimed length (Some table) steps long seeing = tt
+  future-saw claimed length (Some table) steps long came seeing = came table refl
 
   -- a count that refuses the bind was loaded by this operation
   count-saw : (claimed : Claimed) (steps : List Did) (did : Did) → did.op ≡ Load (place_of env.geometry PortCount)
@@ -551,9 +561,9 @@ module _ (env : Env) (words_at : ℕ → List ℕ) where
   published-saw node table kick relink Go steps raised = raised
   published-saw node table kick relink (Done done) steps raised = raised
 
-  unlocked-saw : (attempt : Attempt) (next : Then Reply) (steps : List Did) → SawForReply (answer_behind next) steps
+  unlocked-saw : (attempt : Attempt) (next : Then Reply) (steps : List Did) → SawThen next steps
       → SawAt (unlocked env attempt next) steps
-  unlocked-saw attempt (Table table) steps saw = tt
+  unlocked-saw attempt (Table table) steps came = came
   unlocked-saw attempt (Answer reply) steps saw = saw
 
   -- the taking of a run of pages loads words of the map of pages
@@ -798,7 +808,7 @@ module _ (env : Env) (words_at : ℕ → List ℕ) where
     bind-saw (at.Filling new) steps did does now saw so unraised =
         bind_made-saw new (new_node_after_at new.at did.old) (steps ++ did ∷ [])
         (new-saw new new.at steps did refl does.within.at_in does.planned saw)
-    bind-saw (at.CurrentTable attempt) steps did does now saw so unraised = tt
+    bind-saw (at.CurrentTable attempt) steps did does now saw so unraised = came-current env.geometry steps did does.planned
     bind-saw (at.Locating attempt locate) steps did does now saw so unraised = locating-saw attempt locate steps did does saw
     bind-saw (at.Probing attempt table shape probe) steps did does now saw so unraised =
         let within = does.within.at_in.probe_in.at_in in
@@ -833,6 +843,8 @@ module _ (env : Env) (words_at : ℕ → List ℕ) where
         future-saw claimed length (slot_of did.old) (steps ++ did ∷ [])
         (λ behind enough has. long-counted env mix words_at does.caller port does.words does.ghost does.whole claimed.table
         claimed.shape place length behind does.knows.knowing.means.table enough has)
+        (λ table named. came-future env.geometry claimed.table table steps did does.within.at_in.table_in does.planned named
+        (walked-came env.geometry claimed.table claimed.shape steps saw.walked.last))
         (WalkedSeeing-push env.geometry claimed.table claimed.shape counted counted steps did
         (elsewhere env.geometry did _ does.planned (λ table below same. absurd (omega arith)))
         (λ behind has. HasCounted-push env.geometry words_at place length behind did
@@ -850,7 +862,7 @@ module _ (env : Env) (words_at : ℕ → List ℕ) where
         (relink-none env.geometry relink relink.at)) saw)
     bind-saw (at.Unlocking attempt table unlock next) steps did does now saw so unraised =
         unlocked-saw attempt next (steps ++ did ∷ [])
-        (SawForReply-push (answer_behind next) steps did
+        (SawThen-push next steps did
         (still did _ does.planned (λ place load. cc) (λ place value adds. cc) (λ table old new l e. cc)) saw)
     bind-saw (at.UnlockingFull growing unlock) steps did does now saw so unraised =
         Behind-push env words_at growing.table growing.shape (SawWhy env words_at growing.why growing.shape)

@@ -30,8 +30,8 @@ use Rattle.rht_bind.specs.declared.bind.growth.Growing.{Growing}
 use Rattle.rht_bind.specs.declared.bind.growth.Refusal.{Refusal}
 use Rattle.rht_bind.specs.declared.bind.growth.Refusal.TheVariants as refusals
 use Rattle.rht_core.specs.Traces.{Did, performed_of}
-use Rattle.rht_core.specs.Seen.{IsNoShapeLoad, LastWalked}
-use Rattle.rht_core.specs.ResizeCauses.{LoadsWord, Loaded, wanted_size, SawNoRoom, IsNoKeyLoad, SawLongChain}
+use Rattle.rht_core.specs.Seen.{LoadsCurrent, IsNoShapeLoad, LastWalked}
+use Rattle.rht_core.specs.ResizeCauses.{Loaded, wanted_size, SawNoRoom, IsNoKeyLoad, SawLongChain}
 use Rattle.rht_core.proofs.Reasons.TablesWalked.{nodes_behind, LastWalked-push}
 use Rattle.rht_core.proofs.Reasons.KeyLoads.{no_key-before, no_key-make}
 use Rattle.rht_core.proofs.Reasons.ChainsCounted.{SawLongChain-push}
@@ -84,10 +84,6 @@ module _ (env : Env) (words_at : ℕ → List ℕ) where
   SawWhy full.Chain shape behind = SawLongChain g words_at shape behind
   SawWhy full.Table shape behind = Any (LoadedAbove shape) behind
 
-  -- the operation loaded the slot of the current table
-  abbrev pub LoadedRoot : ℕ → Did → Type 0
-  LoadedRoot root did = LoadsWord g CurrentTable did × (table_of did.old ≡ root)
-
   -- a count was loaded by which a table of this size is wanted
   pub record SawWanted (shape size : ℕ) (behind : List Did) : Type 0 where
     pub count : ℕ
@@ -97,7 +93,7 @@ module _ (env : Env) (words_at : ℕ → List ℕ) where
   -- before the count is loaded
   pub record SawRoot (growing : Growing) (root : ℕ) (behind : List Did) : Type 0 where
     pub why : SawWhy growing.why growing.shape behind
-    pub current : Any (LoadedRoot root) behind
+    pub current : Any (LoadsCurrent g root) behind
 
   -- what a refusal says while it may be that the table has a future
   pub record SawOther (growing : Growing) (root : ℕ) (behind : List Did) : Type 0 where
@@ -128,7 +124,7 @@ module _ (env : Env) (words_at : ℕ → List ℕ) where
     pub walked : LastWalked g last shape steps
     pub is_full : SawWhy why shape walked.behind
     pub other : root ≢ last
-    pub current : Any (LoadedRoot root) walked.behind
+    pub current : Any (LoadsCurrent g root) walked.behind
     pub none : Any (Loaded g (Slot last FutureWord) 0) walked.behind
 
   -- and of one that was refused for want of a table
@@ -170,7 +166,7 @@ module _ (env : Env) (words_at : ℕ → List ℕ) where
     walked = LastWalked-push g last saw.shape steps did none saw.walked;
     is_full = SawWhy-push saw.why saw.shape saw.walked.behind did no_key saw.is_full;
     other = saw.other;
-    current = Any-append_left (LoadedRoot root) saw.walked.behind (did ∷ []) saw.current;
+    current = Any-append_left (LoadsCurrent g root) saw.walked.behind (did ∷ []) saw.current;
     none = Any-append_left (Loaded g (Slot last FutureWord) 0) saw.walked.behind (did ∷ []) saw.none;
   }
 
@@ -211,7 +207,7 @@ module _ (env : Env) (words_at : ℕ → List ℕ) where
   root-saw growing behind did is why = record {
     why = SawWhy-push growing.why growing.shape behind did (no_key-before g did 0 is (omega (arith, nodes_behind g))) why;
     current =
-        Any-push (LoadedRoot (table_of did.old)) behind did (record { there = tt; loads = is }, refl);
+        Any-push (LoadsCurrent g (table_of did.old)) behind did (record { there = tt; loads = is }, refl);
   }
 
   -- the load of the count
@@ -245,7 +241,7 @@ module _ (env : Env) (words_at : ℕ → List ℕ) where
   other-saw growing root behind did is other saw = record {
     root_saw = record {
       why = SawWhy-push growing.why growing.shape behind did (no_key-count did is) saw.why;
-      current = Any-append_left (LoadedRoot root) behind (did ∷ []) saw.current;
+      current = Any-append_left (LoadsCurrent g root) behind (did ∷ []) saw.current;
     };
     other = other;
   }
@@ -308,7 +304,7 @@ module _ (env : Env) (words_at : ℕ → List ℕ) where
         walked = LastWalked-push g growing.table growing.shape steps did none saw.walked;
         is_full = SawWhy-push growing.why growing.shape behind did (no_key-future did growing.table within is) here.root_saw.why;
         other = here.other;
-        current = Any-append_left (LoadedRoot root) behind (did ∷ []) here.root_saw.current;
+        current = Any-append_left (LoadsCurrent g root) behind (did ∷ []) here.root_saw.current;
         none = Any-push (Loaded g (Slot growing.table FutureWord) 0) behind did
             (record { word = record { there = (within, tt); loads = is }; found = zero });
       }
