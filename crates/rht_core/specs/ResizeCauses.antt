@@ -1,6 +1,6 @@
 -- Why a bind that found the last table full was refused or has to be made again: what its operations show of that.
 -- Every address that a row names is one of the table's words, since places alone don't tell it from a word that isn't there.
-use Rattle.std.specs.Prelude.{◌≡◌, ◌≢◌, ℕ, Some, ◌*◌, ◌+◌, ◌<◌, ◌≤◌, ◌⊎◌, List, [], ◌∷◌, ◌++◌, length, map, if◌then◌else◌}
+use Rattle.std.specs.Prelude.{◌≡◌, ◌≢◌, ℕ, true, Some, ◌*◌, ◌+◌, ◌<◌, ◌≤◌, ◌⊎◌, List, [], ◌∷◌, ◌++◌, length, map, if◌then◌else◌}
 use Rattle.std.specs.List.{AllByRecursion, Any}
 use Rattle.rht_words.specs.declared.op.Op.{Op}
 use Rattle.rht_words.specs.declared.op.Op.TheVariants.{Load, Exchange}
@@ -9,7 +9,7 @@ use Rattle.rht_words.specs.declared.geometry.Geometry.{Geometry}
 use Rattle.rht_words.specs.Links.{table_of, future_of}
 use Rattle.rht_words.specs.Places.{Address, CurrentTable, PortCount, Slot, FutureWord, Node, KeyWord, IsAddress, place_of}
 use Rattle.rht_words.specs.Shapes.{unpacked, size_of}
-use Rattle.rht_policy.specs.Thresholds.{is_above_75}
+use Rattle.rht_policy.specs.Thresholds.{is_above_75, is_above_100}
 use Rattle.rht_arena.specs.Runs.{IsRunIn}
 use Rattle.rht_arena.specs.RunLaws.{SeesRunTaken}
 use Rattle.rht_nest.specs.Place.{bucket_place}
@@ -119,13 +119,14 @@ abbrev pub SawNoRoom : Geometry → ℕ → List Did → Type 0
 SawNoRoom g size steps = AreSlotsSeenTaken g (map performed_of steps) ⊎ AreRunsSeenTaken g (pages_for size) steps
 
 module _ (M : Type 0) (mix : ℕ → ℕ → ℕ → ℕ) (env : Env) (events : List Event) (c : ℕ) where
-  -- a count above the size of a table of this shape was loaded
+  -- a count was loaded that is above the size of a table of this shape, which may grow
   pub record SawManyPorts (shape : ℕ) (did : Did) : Type 0 where
     pub count : ℕ
     pub saw : SawCount M mix env events c count did
-    pub above : size_of (unpacked shape) < count
+    pub above : is_above_100 count (size_of (unpacked shape)) env.config.max ≡ true
 
-  -- the table that was walked last is full: its bucket has 16 nodes or more, or it has fewer buckets than there are ports
+  -- the table that was walked last is full: a bucket of it has 16 nodes or more, or it has fewer buckets than there are ports and
+  -- may grow
   abbrev pub SawCrowded : ℕ → List Did → Type 0
   SawCrowded shape behind =
       SawLongChain env.geometry (words_before M mix env events) shape behind ⊎ Any (SawManyPorts shape) behind

@@ -1153,6 +1153,19 @@ module _ (M : Type 0) (mix : ℕ → ℕ → ℕ → ℕ) (env : Env) (events : 
           ],
         )
 
+    -- no clamp has changed a count that was loaded
+    unclamped : (did : Did) → IsRecordedHere did → did.op ≡ Load (place_of env.geometry PortCount) → min did.old 65536 ≡ did.old
+    unclamped did was loads =
+        let few = load_few env mix M events c did admitted loads was in
+        let most = env.geometry.within.nodes_within.1 in
+        omega (arith, few, most)
+
+    unclamped_some : (count : ℕ) (steps : List Did) → AllByRecursion IsRecordedHere steps
+        → Any (Loaded env.geometry PortCount count) steps → min count 65536 ≡ count
+    unclamped_some count steps recorded (k, did, within, is, loaded) =
+        let was = subst IsRecordedHere is (All-from_recursion IsRecordedHere steps recorded k did within) in
+        subst (λ n. min n 65536 ≡ n) loaded.found (unclamped did was loaded.word.loads)
+
     -- a table is full by the count that was loaded, or its bucket has too many nodes
     crowded : (why : Full) (shape : ℕ) (behind : List Did) → AllByRecursion IsRecordedHere behind
         → SawWhy env words_at why shape behind → SawCrowded M mix env events c shape behind
@@ -1171,19 +1184,10 @@ module _ (M : Type 0) (mix : ℕ → ℕ → ℕ → ℕ) (env : Env) (events : 
               found = refl;
               counted = counted_at M mix env events c did.old did admitted above.loaded refl was;
             };
-            above = above.above;
+            above = subst (λ n. is_above_100 n (size_of (unpacked shape)) env.config.max ≡ true)
+                (unclamped did was above.loaded) above.above;
           },
         )
-
-    -- no clamp has changed a count that was loaded
-    unclamped : (count : ℕ) (steps : List Did) → AllByRecursion IsRecordedHere steps
-        → Any (Loaded env.geometry PortCount count) steps → min count 65536 ≡ count
-    unclamped count steps recorded (k, did, within, is, loaded) =
-        let was = subst IsRecordedHere is (All-from_recursion IsRecordedHere steps recorded k did within) in
-        let few = load_few env mix M events c did admitted loaded.word.loads was in
-        let most = env.geometry.within.nodes_within.1 in
-        let found = loaded.found in
-        omega (arith, few, most, found)
 
     bind-cause : (past : Past) (reply : Reply) → SawFor env words_at reply past.steps → AllByRecursion IsRecordedHere past.steps
         → BindCause M mix env events c past reply
@@ -1222,7 +1226,7 @@ module _ (M : Type 0) (mix : ℕ → ℕ → ℕ → ℕ) (env : Env) (events : 
           count = saw.wanted.count;
           counted = saw.wanted.counted;
           wanted = saw.wanted.wanted
-              ∙ ap (wanted_size env saw.shape) (unclamped saw.wanted.count saw.before behind.0 saw.wanted.counted);
+              ∙ ap (wanted_size env saw.shape) (unclamped_some saw.wanted.count saw.before behind.0 saw.wanted.counted);
           room = saw.room;
           none = saw.none;
         }

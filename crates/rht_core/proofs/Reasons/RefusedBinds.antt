@@ -3,9 +3,9 @@
 -- All of it lies behind the load of that table's shape: that the table is full, the load of the current table, that of the
 -- count of ports, what the making of a table has seen, and the load of the future that comes last.
 use Rattle.std.proofs.Common.{◌≡◌, ◌≢◌, ◌⊎◌, ℕ, ◌≤◌, ◌<◌, ◌*◌, ◌-◌, true, false, cond, nat_le, List, [], ◌∷◌, ◌++◌, map, min, refl, sym, ap, ◌∙◌, subst, inl, inr, append_assoc, arith}
-use Rattle.std.specs.Prelude.{Option, Some, None, ◌&&◌, nat_lt}
+use Rattle.std.specs.Prelude.{Option, Some, None, ◌&&◌}
 use Rattle.std.specs.List.{Any}
-use Rattle.std.proofs.lemmas.Bool.{and_parts, ltb-true, eqb-false, leb-false}
+use Rattle.std.proofs.lemmas.Bool.{eqb-false, leb-false}
 use Rattle.std.proofs.lemmas.List.{map-append}
 use Rattle.std.proofs.lemmas.List.Quantifiers.{Any-push}
 use Rattle.rht_words.specs.Machines.{Performed}
@@ -19,7 +19,7 @@ use Rattle.rht_words.specs.Places.{CurrentTable, PortCount, Slot, FutureWord, pl
 use Rattle.rht_words.specs.Links.{slot_of, table_of}
 use Rattle.rht_words.specs.Shapes.{unpacked, size_of}
 use Rattle.rht_words.proofs.EachElement.{Any-append_left}
-use Rattle.rht_policy.specs.Thresholds.{is_above_100, may_grow}
+use Rattle.rht_policy.specs.Thresholds.{is_above_100}
 use Rattle.rht_nest.specs.Make.{MakeModel, made_pages, make_plan_at, make_after_at, IsMakeIn}
 use Rattle.rht_nest.specs.Tables.{exponent_made}
 use Rattle.rht_nest.specs.declared.make.MakeAt.{MakeAt}
@@ -74,10 +74,10 @@ module _ (env : Env) (words_at : ℕ → List ℕ) where
 
   -- ---- what is seen
 
-  -- the operation loaded a count of ports above the size of a table of this shape
+  -- the operation loaded a count of ports above the size of a table of this shape, which may grow
   pub record LoadedAbove (shape : ℕ) (did : Did) : Type 0 where
     pub loaded : did.op ≡ Load (place_of g PortCount)
-    pub above : size_of (unpacked shape) < did.old
+    pub above : is_above_100 (min did.old 65536) (size_of (unpacked shape)) env.config.max ≡ true
 
   -- the table is full by a chain of its, or by its count of ports
   abbrev pub SawWhy : Full → ℕ → List Did → Type 0
@@ -195,11 +195,7 @@ module _ (env : Env) (words_at : ℕ → List ℕ) where
       → is_above_100 (min did.old 65536) (size_of (unpacked shape)) env.config.max ≡ true
       → SawWhy full.Table shape (behind ++ did ∷ [])
   above-why shape behind did is above =
-      let size = size_of (unpacked shape) in
-      let clamped = min did.old 65536 in
-      let parts = and_parts (nat_lt size clamped) (may_grow size env.config.max) above in
-      let more : size < clamped = ltb-true size clamped parts.0 in
-      Any-push (LoadedAbove shape) behind did (record { loaded = is; above = omega (arith, more) })
+      Any-push (LoadedAbove shape) behind did (record { loaded = is; above = above })
 
   -- the load of the current table
   pub root-saw : (growing : Growing) (behind : List Did) (did : Did) → did.op ≡ Load (place_of g CurrentTable)
