@@ -220,7 +220,7 @@ module _ (M : Type 0) (mix : ℕ → ℕ → ℕ → ℕ) where
   BindCause env events c past (Exists owner) = Unit {0}
   BindCause env events c past NoNode = SawNoNode env past
   BindCause env events c past (TooBig count) = Any (SawFull env events c count) past.steps
-  BindCause env events c past (Again table) = HasFollowed env.geometry table past.steps
+  BindCause env events c past (Again table) = HasFollowed M mix env events c table past.steps
   BindCause env events c past (Busy root last) = SawBusy M mix env events c root last past.steps
   BindCause env events c past (NoTable size) = SawNoTable M mix env events c size past.steps
   BindCause env events c past (Found owner) = ⊥

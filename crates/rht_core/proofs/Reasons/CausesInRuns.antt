@@ -93,7 +93,7 @@ use Rattle.rht_core.specs.Traces.{Did, Past, performed_of, traced_of}
 use Rattle.rht_core.specs.Runs.{IsAdmitted}
 use Rattle.rht_core.specs.Laws.{IsRecorded, IsPastCall}
 use Rattle.rht_core.specs.Seen.{CameTo, IsNoShapeLoad, LastWalked, SawCount, words_before}
-use Rattle.rht_core.specs.ResizeCauses.{Loaded, Attaches, AttachesSome, FindsFuture, HasFollowed, wanted_size, IsNoKeyLoad, SawLongChain, SawCrowded}
+use Rattle.rht_core.specs.ResizeCauses.{Loaded, AttachesSome, wanted_size, SawLongChain, SawCrowded, WalkedFull}
 use Rattle.rht_core.specs.Causes.{FindCause, AllCause, IsRaise, IsDueBy, KicksRightly, SawFull, ReleaseCause, RebindCause, WorkCause, BindCause, CountCause, CauseOf, HasCause, Causes}
 use Rattle.rht_release.specs.declared.found_port.FoundPort.{FoundPort}
 use Rattle.rht_release.specs.Release as release
@@ -121,7 +121,7 @@ use Rattle.rht_core.proofs.Reasons.KeyLoads.{no_key}
 use Rattle.rht_core.proofs.Reasons.ChainsCounted.{none-counted, HasCounted, HasCounted-push, CountedAt, CountedNext, probe-counted, long-counted}
 use Rattle.rht_core.proofs.Reasons.AttachedTables.{IsNoFutureExchange, IsNoAttach, no_attach, AttachedSo, AttachedSo-push, SawAttached, attached-saw, relink-none, unmake-none}
 use Rattle.rht_core.proofs.Reasons.UnraisedBinds.{SawUnraised, unraised-saw}
-use Rattle.rht_core.proofs.Reasons.RefusedBinds.{no_slot, no_key-future, Behind, Behind-push, SawWhy, SawWhy-push, SawRoot, SawOther, SawRefusal, SawToMake, BusySeen, BusySeen-push, NoTableSeen, NoTableSeen-push, above-why, root-saw, begins-making, other-saw, making-saw, no_room-saw, busy-saw, no_table-saw}
+use Rattle.rht_core.proofs.Reasons.RefusedBinds.{no_slot, no_key-future, Behind, Behind-push, SawWhy, SawWhy-push, SawRoot, SawOther, SawRefusal, SawToMake, SawFullUp, refusal-why, Settled, IsFollowing, FollowedSeen, FollowedSeen-push, BusySeen, BusySeen-push, NoTableSeen, NoTableSeen-push, above-why, root-saw, begins-making, other-saw, making-saw, no_room-saw, busy-saw, no_table-saw, followed-saw}
 use Rattle.rht_core.proofs.Counting.CountedNodes.{raise_few, load_few, lower_few}
 use Rattle.rht_core.proofs.Reasons.ReleaseKicks.{SawRelease, SawForRelease, release-saw, kicks_right}
 use Rattle.rht_core.proofs.Theory.Steps.{mem, by_test}
@@ -168,7 +168,7 @@ module _ (env : Env) (words_at : ℕ → List ℕ) where
   SawFor (TooBig count) steps = Any (LoadedFull count) steps
   SawFor (Bound kick) steps = Raised kick steps
   SawFor (Exists owner) steps = Unit {0}
-  SawFor (Again table) steps = HasFollowed env.geometry table steps
+  SawFor (Again table) steps = FollowedSeen env words_at table steps
   SawFor (Busy root last) steps = BusySeen env words_at root last steps
   SawFor (NoTable size) steps = NoTableSeen env words_at size steps
   SawFor _ steps = ⊥
@@ -235,7 +235,8 @@ module _ (env : Env) (words_at : ℕ → List ℕ) where
       Behind env words_at growing.table growing.shape (SawToMake env words_at growing size make.exponent (make.at, Go)) steps
   SawAt (at.FutureAgain growing refusal) steps =
       Behind env words_at growing.table growing.shape (SawRefusal env words_at growing refusal) steps
-  SawAt (at.Attaching growing slot shape) steps = LastWalked env.geometry growing.table growing.shape steps
+  SawAt (at.Attaching growing slot shape) steps =
+      Behind env words_at growing.table growing.shape (SawWhy env words_at growing.why growing.shape) steps
   SawAt (at.Unmaking attempt unmake answer) steps = SawForReply answer steps
   SawAt (at.Giving give reply) steps = SawFor reply steps
 
@@ -264,10 +265,9 @@ module _ (env : Env) (words_at : ℕ → List ℕ) where
   abbrev SawNext : List Did → BindAt × Next Reply → Type 0
   SawNext steps next = GoesOrEnds (λ state. SawAt state steps) (λ reply. SawFor reply steps) next
 
-  -- the operation tells nothing of the last table that was walked, nor loads a key in it, raises no count, and attaches no table
+  -- the operation tells nothing of the last table that was walked, raises no count, and attaches no table
   record IsStill (did : Did) : Type 0 where
     aside : IsAside env.geometry did
-    no_key : IsNoKeyLoad env.geometry did
     no_attach : IsNoAttach env.geometry did
 
   -- such are operations that load nothing, add nothing and attach no table
@@ -275,13 +275,8 @@ module _ (env : Env) (words_at : ℕ → List ℕ) where
       → IsNoFutureExchange env.geometry op → IsStill did
   still did op is none no_add apart = record {
     aside = aside env.geometry did op is none no_add;
-    no_key = no_key env.geometry did op is none;
     no_attach = no_attach env.geometry did op is apart;
   }
-
-  -- the operation attached the table of this slot behind that of another, or found it there
-  abbrev IsFollowing : ℕ → ℕ → Did → Type 0
-  IsFollowing last table did = Attaches env.geometry last table did ⊎ FindsFuture env.geometry last table did
 
   Raised-push : (kick : Bool) (steps : List Did) (did : Did) → IsStill did → Raised kick steps
       → Raised kick (steps ++ did ∷ [])
@@ -316,29 +311,6 @@ module _ (env : Env) (words_at : ℕ → List ℕ) where
       let parts = AllByRecursion-cut (IsNoRaise env.geometry) walked.before (walked.at ∷ walked.behind)
       (subst (AllByRecursion (IsNoRaise env.geometry)) walked.split none) in (parts.0, parts.1.1)
 
-  -- the table that followed the last one is seen still
-  HasFollowed-push : (table : ℕ) (steps : List Did) (did : Did) → IsAside env.geometry did
-      → HasFollowed env.geometry table steps → HasFollowed env.geometry table (steps ++ did ∷ [])
-  unfolding LastWalked-push
-  HasFollowed-push table steps did none is = record {
-    table = is.table;
-    shape = is.shape;
-    walked = LastWalked-push env.geometry is.table is.shape steps did none.no_shape is.walked;
-    seen = Any-append_left (IsFollowing is.table table) is.walked.behind (did ∷ []) is.seen;
-  }
-
-  -- and it was seen by this operation
-  HasFollowed-new : (last shape table : ℕ) (steps : List Did) (did : Did) → IsNoShapeLoad env.geometry did
-      → LastWalked env.geometry last shape steps → IsFollowing last table did
-      → HasFollowed env.geometry table (steps ++ did ∷ [])
-  unfolding LastWalked-push
-  HasFollowed-new last shape table steps did none walked is = record {
-    table = last;
-    shape = shape;
-    walked = LastWalked-push env.geometry last shape steps did none walked;
-    seen = Any-push (IsFollowing last table) walked.behind did is;
-  }
-
   SawFor-push : (reply : Reply) (steps : List Did) (did : Did) → IsStill did → SawFor reply steps
       → SawFor reply (steps ++ did ∷ [])
   SawFor-push NoNode steps did none saw =
@@ -348,9 +320,9 @@ module _ (env : Env) (words_at : ℕ → List ℕ) where
   SawFor-push (TooBig count) steps did none saw = Any-append_left (LoadedFull count) steps (did ∷ []) saw
   SawFor-push (Bound kick) steps did none saw = Raised-push kick steps did none saw
   SawFor-push (Exists owner) steps did none saw = saw
-  SawFor-push (Again table) steps did none saw = HasFollowed-push table steps did none.aside saw
-  SawFor-push (Busy root last) steps did none saw = BusySeen-push env words_at root last steps did none.aside.no_shape none.no_key saw
-  SawFor-push (NoTable size) steps did none saw = NoTableSeen-push env words_at size steps did none.aside.no_shape none.no_key saw
+  SawFor-push (Again table) steps did none saw = FollowedSeen-push env words_at table steps did none.aside.no_shape saw
+  SawFor-push (Busy root last) steps did none saw = BusySeen-push env words_at root last steps did none.aside.no_shape saw
+  SawFor-push (NoTable size) steps did none saw = NoTableSeen-push env words_at size steps did none.aside.no_shape saw
   SawFor-push _ steps did none saw = absurd saw
 
   -- ---- an operation of a bind
@@ -661,7 +633,7 @@ module _ (env : Env) (words_at : ℕ → List ℕ) where
         (subst (λ old. WalkedNext env.geometry locate.table (locate_after mix port locate old) all) is walked))
 
     -- an attempt has ended for a table that was seen behind the last one
-    ended-saw : (table : ℕ) (all : List Did) → HasFollowed env.geometry table all → SawForReply (ended_attempt once table) all
+    ended-saw : (table : ℕ) (all : List Did) → FollowedSeen env words_at table all → SawForReply (ended_attempt once table) all
     ended-saw table all followed =
         by_test (λ t. SawForReply (cond t (Some (Again table)) None) all) once (λ t. followed) (λ f. tt)
 
@@ -691,7 +663,7 @@ module _ (env : Env) (words_at : ℕ → List ℕ) where
         Behind-push env words_at growing.table growing.shape (SawRoot env words_at growing root)
         (SawToMake env words_at growing (2 * size) (exponent_made (2 * size)) (makes.Slot 0, Go)) steps did none
         (λ behind so.
-        begins-making env words_at growing root (2 * size) behind did is (sym (ap (λ b. cond b (2 * size) size) above)) so)
+        begins-making env words_at growing root (2 * size) behind did is (sym (ap (λ b. cond b (2 * size) size) above)) (inl above) so)
         saw)
         (λ below.
         by_test (λ t. SawAt (cond t (making env growing size) busy) all) same
@@ -699,11 +671,13 @@ module _ (env : Env) (words_at : ℕ → List ℕ) where
         Behind-push env words_at growing.table growing.shape (SawRoot env words_at growing root)
         (SawToMake env words_at growing size (exponent_made size) (makes.Slot 0, Go)) steps did none
         (λ behind so.
-        begins-making env words_at growing root size behind did is (sym (ap (λ b. cond b (2 * size) size) below)) so)
+        begins-making env words_at growing root size behind did is (sym (ap (λ b. cond b (2 * size) size) below))
+        (inr (eqb-true root growing.table t)) so)
         saw)
         (λ other.
-        Behind-push env words_at growing.table growing.shape (SawRoot env words_at growing root) (SawOther env words_at growing root) steps did none
-        (λ behind so. other-saw env words_at growing root behind did is (eqb-false root growing.table other) so) saw))
+        Behind-push env words_at growing.table growing.shape (SawRoot env words_at growing root)
+        (SawOther env words_at growing.table root growing.why growing.shape) steps did none
+        (λ behind so. other-saw env words_at growing root behind did is (eqb-false root growing.table other) below so) saw))
 
     made-saw : (growing : Growing) (size : ℕ) (make : MakeModel) (r : MakeAt × Next (Option (ℕ × ℕ))) (all : List Did)
         → Behind env words_at growing.table growing.shape (SawToMake env words_at growing size make.exponent r) all
@@ -713,7 +687,7 @@ module _ (env : Env) (words_at : ℕ → List ℕ) where
       walked = saw.walked;
       saw = no_room-saw env words_at growing size make.exponent state saw.walked.behind saw.saw;
     }
-    made-saw growing size make (state, Done (Some table)) all saw = saw.walked
+    made-saw growing size make (state, Done (Some table)) all saw = record { walked = saw.walked; saw = saw.saw.why }
 
     -- a future that was loaded again
     again-saw : (growing : Growing) (refusal : Refusal) (future : Option ℕ) (steps : List Did) (did : Did)
@@ -732,9 +706,10 @@ module _ (env : Env) (words_at : ℕ → List ℕ) where
         let named = slot_named did.old table reads in
         behind-saw growing.attempt (ended_attempt once table) (steps ++ did ∷ [])
         (ended-saw table (steps ++ did ∷ [])
-        (HasFollowed-new growing.table growing.shape table steps did
-        (elsewhere env.geometry did _ is (λ other below same. absurd (omega (arith, same)))).no_shape saw.walked
-        (inr (record { table_in = within; slot_in = named.0; tells = inl is; found = named.1 }))))
+        (followed-saw env words_at growing table steps did
+        (elsewhere env.geometry did _ is (λ other below same. absurd (omega (arith, same)))).no_shape
+        (inr (record { table_in = within; slot_in = named.0; tells = inl is; found = named.1 }))
+        (record { walked = saw.walked; saw = refusal-why env words_at growing refusal saw.walked.behind saw.saw })))
 
     -- a table's future is none, or one of the slots
     future_few : (words : List ℕ) (G : Ghost) (slot : ℕ) → Whole env mix (mem env mix words) G
@@ -775,9 +750,9 @@ module _ (env : Env) (words_at : ℕ → List ℕ) where
     -- the exchange that attaches
     attach-saw : (growing : Growing) (slot shape : ℕ) (steps : List Did) (did : Did) → growing.table < 8 → slot < 8
         → did.op ≡ plan_at env (at.Attaching growing slot shape) → did.old ≤ 8
-        → LastWalked env.geometry growing.table growing.shape steps
+        → Behind env words_at growing.table growing.shape (SawWhy env words_at growing.why growing.shape) steps
         → SawAt (checked_attach env once growing slot shape did.old) (steps ++ did ∷ [])
-    attach-saw growing slot shape steps did within slot_in is few walked =
+    attach-saw growing slot shape steps did within slot_in is few saw =
         let all = steps ++ did ∷ [] in
         let none = no_load env.geometry did _ is (λ place load. cc) in
         let won = behind_attempt env (has_attached growing.attempt) (ended_attempt once slot) in
@@ -787,19 +762,19 @@ module _ (env : Env) (words_at : ℕ → List ℕ) where
         (λ t.
         behind-saw (has_attached growing.attempt) (ended_attempt once slot) all
         (ended-saw slot all
-        (HasFollowed-new growing.table growing.shape slot steps did none walked
-        (inl (record { table_in = within; slot_in = slot_in; exchanges = is; found = eqb-true did.old 0 t })))))
+        (followed-saw env words_at growing slot steps did none
+        (inl (record { table_in = within; slot_in = slot_in; exchanges = is; found = eqb-true did.old 0 t })) saw)))
         (λ f.
         let some = eqb-false did.old 0 f in
         let named : did.old ≡ future_of other = nonzero_named did.old few some in
         ended-saw other all
-        (HasFollowed-new growing.table growing.shape other steps did none walked
+        (followed-saw env words_at growing other steps did none
         (inr (record {
           table_in = within;
           slot_in = omega arith;
           tells = inr (0, future_of slot, is);
           found = named;
-        }))))
+        })) saw))
 
     bind-saw : (state : BindAt) (steps : List Did) (did : Did)
         → (does : Performs mix env (binds port owner once state) did) → does.words ≡ words_at did.index
@@ -1189,46 +1164,77 @@ module _ (M : Type 0) (mix : ℕ → ℕ → ℕ → ℕ) (env : Env) (events : 
           },
         )
 
+    -- the operations before the one that settled a reply were recorded too, and so the table was full
+    recorded_before : (table : ℕ) (Saw : Full → ℕ → List Did → Type 0) (Last : Did → Type 0) (steps : List Did)
+        → AllByRecursion IsRecordedHere steps → (settled : Settled env words_at table Saw Last steps)
+        → AllByRecursion IsRecordedHere settled.before
+    recorded_before table Saw Last steps recorded settled =
+        let walked = settled.walked in
+        let parts = AllByRecursion-cut IsRecordedHere walked.before (walked.at ∷ walked.behind)
+        (subst (AllByRecursion IsRecordedHere) walked.split recorded) in
+        (AllByRecursion-cut IsRecordedHere settled.before (settled.at ∷ settled.rest)
+        (subst (AllByRecursion IsRecordedHere) settled.split parts.1.1)).0
+
+    abbrev walked_full : (table : ℕ) (Saw : Full → ℕ → List Did → Type 0) (Last : Did → Type 0) (steps : List Did)
+        → AllByRecursion IsRecordedHere steps → (settled : Settled env words_at table Saw Last steps)
+        → SawWhy env words_at settled.why settled.shape settled.before → WalkedFull M mix env events c table steps
+    walked_full table Saw Last steps recorded settled is_full = record {
+      shape = settled.shape;
+      walked = settled.walked;
+      before = settled.before;
+      at = settled.at;
+      rest = settled.rest;
+      split = settled.split;
+      crowded = crowded settled.why settled.shape settled.before (recorded_before table Saw Last steps recorded settled) is_full;
+    }
+
     bind-cause : (past : Past) (reply : Reply) → SawFor env words_at reply past.steps → AllByRecursion IsRecordedHere past.steps
         → BindCause M mix env events c past reply
     bind-cause past (Bound kick) saw recorded = kicked kick past.steps recorded saw
     bind-cause past (Exists owner) saw recorded = saw
     bind-cause past NoNode saw recorded = saw
     bind-cause past (TooBig count) saw recorded = full-saw count past.steps recorded saw
-    bind-cause past (Again table) saw recorded = saw
-    bind-cause past (Busy root last) saw recorded =
-        let walked = saw.walked in
-        let parts = AllByRecursion-cut IsRecordedHere walked.before (walked.at ∷ walked.behind)
-        (subst (AllByRecursion IsRecordedHere) walked.split recorded) in
+    bind-cause past (Again table) saw recorded = record {
+      table = saw.table;
+      full = walked_full saw.table (SawWhy env words_at) (IsFollowing env words_at saw.table table) past.steps recorded saw.settled
+          saw.settled.saw;
+      seen = saw.settled.last;
+    }
+    bind-cause past (Busy root last) settled recorded =
+        let none = Loaded env.geometry (Slot last FutureWord) 0 in
+        let saw = settled.saw in
+        let same =
+        unclamped_some saw.count settled.before (recorded_before last (SawOther env words_at last root) none past.steps recorded settled) saw.counted in
         record {
-          shape = saw.shape;
-          walked = walked;
+          full = walked_full last (SawOther env words_at last root) none past.steps recorded settled saw.is_full;
           other = saw.other;
-          crowded = crowded saw.why saw.shape walked.behind parts.1.1 saw.is_full;
           current = saw.current;
-          none = saw.none;
+          count = saw.count;
+          counted = saw.counted;
+          not_due = subst (λ n. is_above_75 n (size_of (unpacked settled.shape)) env.config.max ≡ false) same saw.not_due;
+          none = settled.last;
         }
-    bind-cause past (NoTable size) saw recorded =
-        let walked = saw.walked in
-        let parts = AllByRecursion-cut IsRecordedHere walked.before (walked.at ∷ walked.behind)
-        (subst (AllByRecursion IsRecordedHere) walked.split recorded) in
-        let behind = AllByRecursion-cut IsRecordedHere saw.before (saw.at ∷ saw.rest)
-        (subst (AllByRecursion IsRecordedHere) saw.split parts.1.1) in
+    bind-cause past (NoTable size) seen recorded =
+        let table = seen.table in
+        let none = Loaded env.geometry (Slot table FutureWord) 0 in
+        let settled = seen.settled in
+        let saw = settled.saw in
+        let wanted = saw.wanted in
+        let same =
+        unclamped_some wanted.count settled.before (recorded_before table (SawFullUp env words_at table size) none past.steps recorded settled)
+        wanted.counted in
         record {
-          table = saw.table;
-          shape = saw.shape;
-          walked = walked;
-          crowded = crowded saw.why saw.shape walked.behind parts.1.1 saw.is_full;
-          before = saw.before;
-          at = saw.at;
-          rest = saw.rest;
-          split = saw.split;
-          count = saw.wanted.count;
-          counted = saw.wanted.counted;
-          wanted = saw.wanted.wanted
-              ∙ ap (wanted_size env saw.shape) (unclamped_some saw.wanted.count saw.before behind.0 saw.wanted.counted);
+          table = table;
+          full = walked_full table (SawFullUp env words_at table size) none past.steps recorded settled saw.is_full;
+          count = wanted.count;
+          counted = wanted.counted;
+          wanted = wanted.wanted ∙ ap (wanted_size env settled.shape) same;
+          grows = elim wanted.grows [
+            | inl due ↦ inl (subst (λ n. is_above_75 n (size_of (unpacked settled.shape)) env.config.max ≡ true) same due)
+            | inr current ↦ inr current
+          ];
           room = saw.room;
-          none = saw.none;
+          none = settled.last;
         }
     bind-cause past _ saw recorded = absurd saw
 
