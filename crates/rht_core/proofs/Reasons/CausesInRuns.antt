@@ -1,12 +1,12 @@
 -- In every run each call that has ended has a reply with its cause in the call's own operations.
 --
 -- A bind keeps of itself what its operations so far saw: while it takes a node, that each node below
--- the one at which it stands was taken; from the load of a table's shape on, that this is the last
--- table that it walked, while it wants a further table too; behind the raise of the count, that too; while
--- its state holds a refusal, what the refusal says; and all the way, whether it has attached a table. So
--- when it answers all of that was seen. A rebind keeps the first of these
--- alone, a release and a look-up nothing; and a reading of the count loads what it answers by its one
--- operation. How the run stood at the event of the operation that loaded or raised the count of ports
+-- the one at which it stands was taken; before the load of a table's shape, that it has come to that table,
+-- and from there on that this is the last table that it walked, while it wants a further table too; behind
+-- the raise of the count, that too; while its state holds a refusal, what the refusal says; and all the way,
+-- whether it has attached a table, and that it has raised no count. So when it answers all of that was
+-- seen. A rebind keeps the first of these alone, a release and a look-up nothing; and a reading of the count
+-- loads what it answers by its one operation. How the run stood at the event of the operation that loaded or raised the count of ports
 -- follows from the law that each recorded operation stands in the run at its event; and since the count
 -- is at most the nodes there, the clamp under which a bind looks at it has changed nothing.
 use Rattle.std.proofs.Common.{◌≡◌, ◌⊎◌, ℕ, ◌≤◌, ◌+◌, Bool, true, false, cond, ◌↔◌, ◌≢◌, ◌<◌, ◌*◌, ◌-◌, nat_le, nat_eq, List, [], ◌∷◌, ◌++◌, map, min, refl, sym, ap, ◌∙◌, subst, inl, inr, arith}

@@ -1,7 +1,9 @@
--- What a bind that finds the last table full has seen for a refusal, while it makes up its mind and once it is refused.
+-- What a bind that finds the last table full has seen for a refusal or for another attempt, while it makes up its mind and once
+-- it is answered.
 --
 -- All of it lies behind the load of that table's shape: that the table is full, the load of the current table, that of the
--- count of ports, what the making of a table has seen, and the load of the future that comes last.
+-- count of ports, what the making of a table has seen, and the operation that comes last, the load of the future or the exchange
+-- that attaches a table.
 use Rattle.std.proofs.Common.{◌≡◌, ◌≢◌, ◌⊎◌, ℕ, ◌≤◌, ◌<◌, ◌*◌, ◌-◌, Bool, true, false, cond, nat_le, List, [], ◌∷◌, ◌++◌, map, min, refl, sym, ap, ◌∙◌, subst, inl, inr, append_assoc, arith}
 use Rattle.std.specs.Prelude.{Option, Some, None, ◌&&◌}
 use Rattle.std.specs.List.{Any}
