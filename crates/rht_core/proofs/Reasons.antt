@@ -22,5 +22,7 @@ pub mod ListingsKept
 pub mod ReleaseKicks
 -- by which loads a resizing chose what is due, and which table it made the current one
 pub mod WorkChoices
+-- when a bind hasn't found the last table full
+pub mod CalmBinds
 -- what calls come to while no table was made and few ports are bound
 pub mod CalmCalls

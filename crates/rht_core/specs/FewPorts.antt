@@ -15,6 +15,8 @@ use Rattle.rht_model.specs.declared.history.Reply.TheVariants.{NoNode, Elsewhere
 use Rattle.rht_core.specs.declared.book.Book.{Book}
 use Rattle.rht_core.specs.declared.event.Event.{Event}
 use Rattle.rht_core.specs.Runs.{World, run_of, IsAdmitted}
+use Rattle.rht_core.specs.StandsFor.{AreBound}
+use Rattle.rht_core.specs.RunHistories.{bindings_behind}
 
 -- a bind binds one of these ports; any other call binds none that isn't bound
 abbrev pub BindsAmong : List ℕ → Call → Type 0
@@ -50,7 +52,19 @@ pub record IsNoTableMade (env : Env) (words : List ℕ) : Type 0 where
   pub slots : (slot : ℕ) (word : SlotWord) → slot < 8 → IsSlotWord word
       → word_at env.geometry words (Slot slot word) ≡ opening_word env (Slot slot word)
 
--- a bind was refused for want of a node alone, and a resizing because another caller was at work alone
+-- a bind was refused for want of a node alone
+abbrev pub IsBindTaken : Call → Reply → Type 0
+IsBindTaken (Bind port owner once) reply = is_refusal reply ≡ true → reply ≡ NoNode
+IsBindTaken (Find port) reply = Unit {0}
+IsBindTaken (All port) reply = Unit {0}
+IsBindTaken (Release port owner) reply = Unit {0}
+IsBindTaken (Rebind port owner new) reply = Unit {0}
+IsBindTaken (Walk from limit) reply = Unit {0}
+IsBindTaken Work reply = Unit {0}
+IsBindTaken Tidy reply = Unit {0}
+IsBindTaken Count reply = Unit {0}
+
+-- and a resizing because another caller was at work alone
 abbrev pub IsCallTaken : Call → Reply → Type 0
 IsCallTaken (Bind port owner once) reply = is_refusal reply ≡ true → reply ≡ NoNode
 IsCallTaken Work reply = is_refusal reply ≡ true → reply ≡ Elsewhere
@@ -73,3 +87,17 @@ module _ (M : Type 0) (mix : ℕ → ℕ → ℕ → ℕ) where
   FewPorts =
       (env : Env) (events : List Event) → IsAdmitted env.config.kind events
       → let w : World M = run_of mix env events in HasFewPorts env w → StaysWithFirst env w
+
+  -- The table has one caller, begins with 16 buckets or more and doesn't shrink, and fewer than 16 ports are bound after each event.
+  pub record IsForOne (env : Env) (events : List Event) : Type 0 where
+    pub one : env.config.callers ≡ 1
+    pub first : 16 ≤ first_size env.config
+    pub keeps_size : env.config.shrink ≡ false
+    pub few : (i : ℕ) → AreBound (bindings_behind M mix env events i) 16 → ⊥
+
+  -- in every such run no bind was refused but for want of a node
+  abbrev pub OneCaller : Type 0
+  OneCaller =
+      (env : Env) (events : List Event) (c : ℕ) → IsAdmitted env.config.kind events → IsForOne env events
+      → let w : World M = run_of mix env events in
+      AllByRecursion (λ (done : Finished). IsBindTaken done.call done.reply) (w.books c).finished

@@ -3,7 +3,7 @@
 ghost use Rattle.rht_core.specs.Alone.{Alone};
 ghost use Rattle.rht_core.specs.Causes.{Causes};
 ghost use Rattle.rht_core.specs.Counts.{Counted, AtRest};
-ghost use Rattle.rht_core.specs.FewPorts.{FewPorts};
+ghost use Rattle.rht_core.specs.FewPorts.{FewPorts, OneCaller};
 ghost use Rattle.rht_core.specs.Kicks.{Kicks};
 ghost use Rattle.rht_core.specs.ListedOwners.{ListedOwners};
 ghost use Rattle.rht_core.specs.NodesUsed.{Nodes};
@@ -212,6 +212,15 @@ pub fn nodes<M: Mix>()
 /// are bound one after another, even if they are never bound at one time.
 pub fn few_ports<M: Mix>()
     ensures { FewPorts M M.mix_of }
+{}
+
+/// In a run of a table that has one caller, begins with 16 buckets or more and doesn't shrink, and in
+/// which fewer than 16 ports are bound after each event, no bind is refused but for want of a node. The
+/// ports may be any, bound and released one after another, and a `Work` may make tables. It says nothing
+/// of how a `Work` is answered, and nothing of a table with more callers, of whom others may be about to
+/// bind a port.
+pub fn one_caller<M: Mix>()
+    ensures { OneCaller M M.mix_of }
 {}
 
 /// Where a run serves the commands of workers, each worker's caller in no call at the end, there is a

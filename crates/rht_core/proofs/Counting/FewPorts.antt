@@ -16,13 +16,11 @@ use Rattle.rht_words.specs.declared.machine.Next.TheVariants.{Go, Done}
 use Rattle.rht_words.specs.Machines.{GoesOrEnds}
 use Rattle.rht_words.specs.Opening.{opening_words}
 use Rattle.rht_words.specs.Operations.{applied}
-use Rattle.rht_words.specs.Places.{CurrentTable, NextSerial, Slot, SlotWord, ShapeWord, SeedWord, FutureWord, SerialWord, StateWord, LoadedSection, ChainLink, ListLink, IsSlotWord, place_of}
+use Rattle.rht_words.specs.Places.{CurrentTable, NextSerial, Slot, SlotWord, ShapeWord, SeedWord, FutureWord, SerialWord, StateWord, LoadedSection, IsSlotWord, place_of}
 use Rattle.rht_words.proofs.EachElement.{AllByRecursion-cut}
 use Rattle.rht_words.proofs.OpeningLaws.{stand_in_place}
 use Rattle.rht_words.proofs.WordChanges.{applied-other}
-use Rattle.rht_bind.specs.Bind.{plan_at, IsBindAtIn, after_at as bind_after_at}
-use Rattle.rht_bind.specs.declared.bind.BindAt.{BindAt}
-use Rattle.rht_bind.specs.declared.bind.BindAt.TheVariants as at
+use Rattle.rht_bind.specs.Bind.{after_at as bind_after_at}
 use Rattle.rht_find.specs.Find.{after_at as find_after_at}
 use Rattle.rht_release.specs.All as all
 use Rattle.rht_release.specs.Release as release
@@ -52,9 +50,10 @@ use Rattle.rht_core.proofs.Tracing.TracedJobs.{Performs, LeadsOn, IsKeeping, IsA
 use Rattle.rht_core.proofs.Tracing.TracedRuns.{world-traced_of}
 use Rattle.rht_core.proofs.Tracing.TracesInRuns.{remembers}
 use Rattle.rht_core.proofs.Reasons.CausesInRuns.{JobSaw, EndsSeen, job-leads, first_job-saw}
-use Rattle.rht_core.proofs.Reasons.CalmCalls.{HasFew, IsRoomy, CalmBind, CalmWork, CalmJob, CalmEnd, calm-bind, calm-work}
+use Rattle.rht_core.proofs.Reasons.CalmBinds.{calm-bind, bind-spares}
+use Rattle.rht_core.proofs.Reasons.CalmCalls.{HasFew, IsRoomy, IsFirst, IsZero, CalmWork, CalmJob, CalmEnd, few-calm, calm-work}
 use Rattle.rht_core.proofs.Counting.FullTables.{taken}
-use Rattle.rht_core.proofs.Counting.SparedSlots.{IsBesideSlots, SparesSlots, spared_slots, by_load, at_node, new_node-spares, give_node-spares, locate-spares, probe-spares, relink-spares, unlock-spares, find-spares, all-spares, release-spares, rebind-spares}
+use Rattle.rht_core.proofs.Counting.SparedSlots.{IsBesideSlots, SparesSlots, spared_slots, by_load, find-spares, all-spares, release-spares, rebind-spares}
 use Rattle.rht_core.proofs.Histories.BoundAmong.{few-bound, count-few}
 
 -- ---- the words of slots
@@ -99,31 +98,6 @@ no_table-opening env =
 -- ---- what calm calls write
 
 module _ (env : Env) (mix : ℕ → ℕ → ℕ → ℕ) where
-  bind-spares : (state : BindAt) → IsBindAtIn env state → CalmBind env state → SparesSlots (plan_at env state)
-  bind-spares (at.Filling new) within calm = new_node-spares new.geometry new.key new.owner new.at
-  bind-spares (at.CurrentTable attempt) within calm = by_load _ _ refl
-  bind-spares (at.Locating attempt locate) within calm = locate-spares locate.geometry locate.table locate.at
-  bind-spares (at.Probing attempt table shape probe) within calm = probe-spares env.geometry probe.at within.probe_in.at_in
-  bind-spares (at.FoundOwner claimed found) within calm = by_load _ _ refl
-  bind-spares (at.ListLink list) within calm = at_node env.geometry list.claimed.attempt.node ListLink _ refl
-  bind-spares (at.ChainLink list) within calm = by_load _ _ refl
-  bind-spares (at.LinkBehind list link) within calm = at_node env.geometry list.claimed.attempt.node ChainLink _ refl
-  bind-spares (at.Replacing list relink) within calm = relink-spares env.geometry relink relink.at within.relink_in.place_in
-  bind-spares (at.Future claimed length) within calm = by_load _ _ refl
-  bind-spares (at.Count claimed) within calm = by_load _ _ refl
-  bind-spares (at.Link claimed) within calm = at_node env.geometry claimed.attempt.node ChainLink _ refl
-  bind-spares (at.Raise claimed) within calm = inr (inr (inl refl))
-  bind-spares (at.Publish node table relink kick) within calm = relink-spares env.geometry relink relink.at within.relink_in.place_in
-  bind-spares (at.Unlocking attempt table unlock next) within calm = unlock-spares env.geometry unlock within.unlock_in
-  bind-spares (at.Giving give reply) within calm = give_node-spares give
-  bind-spares (at.UnlockingFull growing unlock) within calm = absurd calm
-  bind-spares (at.Root growing) within calm = absurd calm
-  bind-spares (at.GrowthCount growing root) within calm = absurd calm
-  bind-spares (at.Making growing size make) within calm = absurd calm
-  bind-spares (at.FutureAgain growing refusal) within calm = absurd calm
-  bind-spares (at.Attaching growing slot shape) within calm = absurd calm
-  bind-spares (at.Unmaking attempt unmake answer) within calm = absurd calm
-
   last-spares : (state : LastTableAt) → SparesSlots (last_table_plan_at env.geometry state)
   last-spares (last_tables.Future table) = by_load _ _ refl
   last-spares (last_tables.Shape table) = by_load _ _ refl
@@ -157,12 +131,38 @@ module _ (env : Env) (mix : ℕ → ℕ → ℕ → ℕ) where
 
   job-spares : (c : ℕ) (job : Job) → JobIn env mix c job → CalmJob env job → SparesSlots (job_plan env job)
   job-spares c (finds port state) within calm = find-spares env state within
-  job-spares c (binds port owner once state) within calm = bind-spares state within.at_in calm
+  job-spares c (binds port owner once state) within calm = bind-spares env (IsFirst env) (IsZero env) state within.at_in calm
   job-spares c (lists port room state) within calm = all-spares env state within.at_in
   job-spares c (releases port owner state) within calm = release-spares env state within
   job-spares c (rebinds port owner new state) within calm = rebind-spares env state within.at_in
   job-spares c (works state) within calm = work-spares state within calm
   job-spares c counts within calm = by_load _ _ refl
+
+-- ---- the words before each event
+
+module _ (M : Type 0) (mix : ℕ → ℕ → ℕ → ℕ) (env : Env) where
+  -- before each event of one more it is as it was, or all of the others are past
+  pub before-push : (events : List Event) (event : Event) (P : List ℕ → Type 0)
+      → ((i : ℕ) → P (words_before M mix env (events ++ event ∷ []) i)) → (i : ℕ) → P (words_before M mix env events i)
+  before-push events event P all i =
+      let Q : List Event → Type 0 = λ first. P (run_of {M = M} mix env first).core.words in
+      elim (cases_lt (length events) i) [
+        | inl past ↦
+            subst Q (take-push_all events event ∙ sym (take_all i events (omega (arith, past)))) (all (length events))
+        | inr within ↦ subst Q (take-push events event i (omega (arith, within))) (all i)
+      ]
+
+  pub before-more : (events : List Event) (event : Event) (P : List ℕ → Type 0)
+      → ((i : ℕ) → P (words_before M mix env events i)) → P (world_step mix (run_of {M = M} mix env events) event).core.words
+      → (i : ℕ) → P (words_before M mix env (events ++ event ∷ []) i)
+  before-more events event P all last i =
+      let Q : List Event → Type 0 = λ first. P (run_of {M = M} mix env first).core.words in
+      elim (cases_lt (length events) i) [
+        | inl past ↦
+            subst Q (sym (take_all i (events ++ event ∷ []) (omega (arith, past, length_push events event))))
+            (subst (λ (w : World M). P w.core.words) (sym (run_of-push M mix env events event)) last)
+        | inr within ↦ subst Q (sym (take-push events event i (omega (arith, within)))) (all i)
+      ]
 
 -- ---- runs
 
@@ -211,8 +211,8 @@ module _ (M : Type 0) (mix : ℕ → ℕ → ℕ → ℕ) (env : Env) (roomy : I
         next-calm (finds port state) (finds port) plain_ending next (nothing-calm next)
     job-calm (binds port owner once state) steps did does now kept =
         next-calm (binds port owner once state) (binds port owner once) plain_ending (bind_after_at mix env port once state did.old)
-        (calm-bind env words_at (λ i. (few i).bound) mix roomy did (words_at did.index) (unmade did.index) (few did.index)
-        port owner once state steps does now kept.0.0 kept.1)
+        (calm-bind env (IsFirst env) (IsZero env) words_at (λ i. (few i).bound) mix port owner once state steps did does kept.0.0 kept.1
+        (few-calm env mix roomy did (words_at did.index) (unmade did.index) (few did.index) port owner once state does now))
     job-calm (lists port room state) steps did does now kept =
         let after = all.room_after state room did.old in
         let next = all.after_at mix env port state did.old in
@@ -225,7 +225,7 @@ module _ (M : Type 0) (mix : ℕ → ℕ → ℕ → ℕ) (env : Env) (roomy : I
         next-calm (rebinds port owner new state) (rebinds port owner new) node_ending next (nothing-calm next)
     job-calm (works state) steps did does now kept =
         next-calm (works state) works plain_ending (work.after_at mix env state did.old)
-        (calm-work env words_at (λ i. (few i).bound) mix roomy did (words_at did.index) (unmade did.index) (few did.index)
+        (calm-work env mix roomy did (words_at did.index) (unmade did.index) (few did.index)
         state does now kept.1)
     job-calm counts steps did does now kept = tt
 
@@ -300,38 +300,15 @@ module _ (M : Type 0) (mix : ℕ → ℕ → ℕ → ℕ) (env : Env) (roomy : I
 
   -- ---- all events
 
-  -- before each event of one more it is as it was, or all of the others are past
-  before-push : (events : List Event) (event : Event) (P : List ℕ → Type 0)
-      → ((i : ℕ) → P (words_before M mix env (events ++ event ∷ []) i)) → (i : ℕ) → P (words_before M mix env events i)
-  before-push events event P all i =
-      let Q : List Event → Type 0 = λ first. P (run_of {M = M} mix env first).core.words in
-      elim (cases_lt (length events) i) [
-        | inl past ↦
-            subst Q (take-push_all events event ∙ sym (take_all i events (omega (arith, past)))) (all (length events))
-        | inr within ↦ subst Q (take-push events event i (omega (arith, within))) (all i)
-      ]
-
-  before-more : (events : List Event) (event : Event) (P : List ℕ → Type 0)
-      → ((i : ℕ) → P (words_before M mix env events i)) → P (world_step mix (run_of {M = M} mix env events) event).core.words
-      → (i : ℕ) → P (words_before M mix env (events ++ event ∷ []) i)
-  before-more events event P all last i =
-      let Q : List Event → Type 0 = λ first. P (run_of {M = M} mix env first).core.words in
-      elim (cases_lt (length events) i) [
-        | inl past ↦
-            subst Q (sym (take_all i (events ++ event ∷ []) (omega (arith, past, length_push events event))))
-            (subst (λ (w : World M). P w.core.words) (sym (run_of-push M mix env events event)) last)
-        | inr within ↦ subst Q (sym (take-push events event i (omega (arith, within)))) (all i)
-      ]
-
   pub runs-unmade : (events : List Event) → IsAdmitted env.config.kind events → AreFew events → AreUnmade events
   runs-unmade =
       induct_by_last (λ events. IsAdmitted env.config.kind events → AreFew events → AreUnmade events)
       (λ none few i. opened i)
       (λ events event each all few.
       let admitted = (AllByRecursion-cut (IsAdmittedEvent env.config.kind) events (event ∷ []) all).0 in
-      let before = before-push events event (HasFew env) few in
+      let before = before-push M mix env events event (HasFew env) few in
       let unmade = each admitted before in
-      before-more events event (IsNoTableMade env) unmade (event-unmade events admitted before unmade event))
+      before-more M mix env events event (IsNoTableMade env) unmade (event-unmade events admitted before unmade event))
     where
       opened : (i : ℕ) → IsNoTableMade env (words_before M mix env [] i)
       opened zero = no_table-opening env

@@ -177,11 +177,23 @@ module _ (env : Env) (mix : ℕ → ℕ → ℕ → ℕ) where
     OutsKept core G G' (Begin c call) = (k : ℕ) → outs env mix G' k ≡ outs env mix G k
     OutsKept core G G' (events.Step c) = StepOuts core G G' c
 
+    -- the ghost stays, but for the move of a caller that makes an operation
+    pub record StepMoves (core : Core L) (G G' : Ghost) (c : ℕ) : Type 0 where
+      pub none : planned_in core c ≡ None → G' ≡ G
+      pub some : (op : Op) → planned_in core c ≡ Some op
+          → (of : StepOf core G c op) × (G' ≡ ghost_after env mix c of.step.move G)
+
+    abbrev pub GhostKept : Core L → Ghost → Ghost → Event → Type 0
+    GhostKept core G G' Enroll = G' ≡ G
+    GhostKept core G G' (Begin c call) = G' ≡ G
+    GhostKept core G G' (events.Step c) = StepMoves core G G' c
+
     -- the invariant again, with some ghost
     pub record Kept (core : Core L) (G : Ghost) (event : Event) : Type 0 where
       pub ghost : Ghost
       pub inv : Inv (core_step mix core event).0 ghost
       pub outs_kept : OutsKept core G ghost event
+      pub ghost_kept : GhostKept core G ghost event
 
     -- others see no node taken out
     others_outs : (k : ℕ) (M M' : Memory) (G G' : Ghost) → Rely env mix k M G M' G'
@@ -196,6 +208,7 @@ module _ (env : Env) (mix : ℕ → ℕ → ℕ → ℕ) where
       ghost = G;
       inv = rw is (record { same_env = inv.same_env; whole = inv.whole; each = inv.each });
       outs_kept = λ k. refl;
+      ghost_kept = refl;
     }
     begin_kept core G c call (Some machine) sound inv is =
         let can = beginning-some core.env core.enrolled core.locals c call machine is in
@@ -213,6 +226,7 @@ module _ (env : Env) (mix : ℕ → ℕ → ℕ → ℕ) where
                 (begin_with (local_of core c) machine) place knows inv.each;
           });
           outs_kept = λ k. refl;
+          ghost_kept = refl;
         }
 
     step_kept : (core : Core L) (G : Ghost) (c : ℕ) (plan : Option Op) → AllIn L mix env core → Inv core G
@@ -225,6 +239,7 @@ module _ (env : Env) (mix : ℕ → ℕ → ℕ → ℕ) where
         none = λ none. refl;
         mine = λ op job plans of. absurd (let both = sym is ∙ plans in cc);
       };
+      ghost_kept = record { none = λ none. refl; some = λ op plans. absurd (let both = sym is ∙ plans in cc) };
     }
     step_kept core G c (Some op) sound inv is =
         let can = planned-some core.env core.enrolled core.locals c op is in
@@ -263,6 +278,12 @@ module _ (env : Env) (mix : ℕ → ℕ → ℕ → ℕ) where
                 c + outs_of (held_next (job_after mix env of.job (old_of core.words o))).answer)
                 same_op step.outs);
           };
+          ghost_kept = record {
+            none = λ none. absurd (let both = sym is ∙ none in cc);
+            some = λ other plans.
+                let same_op : op ≡ other = (let both = sym is ∙ plans in cc) in
+                subst (λ o. (of : StepOf core G c o) × (G' ≡ ghost_after env mix c of.step.move G)) same_op (of, refl);
+          };
         }
 
     enroll_kept : (core : Core L) (G : Ghost) → AllIn L mix env core → Inv core G → Kept core G Enroll
@@ -284,6 +305,7 @@ module _ (env : Env) (mix : ℕ → ℕ → ℕ → ℕ) where
                 inv.whole (kept.1 k) (inv.each k);
           };
           outs_kept = λ k. refl;
+          ghost_kept = refl;
         }
 
     -- each event keeps the invariant

@@ -3,13 +3,11 @@
 -- A call is calm while it has met none but the first table, and nothing that leads to another one. By induction over the operations of a
 -- call it stays so: which table is the current one and its future are as at opening, and so is its shape; a count that is loaded is below
 -- its size; and in its chains no 16 nodes are counted, since as many ports would be bound.
-use Rattle.std.proofs.Common.{◌≡◌, ℕ, ◌+◌, ◌*◌, ◌/◌, ◌^◌, ◌<◌, ◌≤◌, Bool, true, false, cond, min, max, nat_le, nat_lt, List, [], ◌∷◌, length, refl, sym, ap, ◌∙◌, subst, inl, inr, arith}
+use Rattle.std.proofs.Common.{◌≡◌, ℕ, ◌*◌, ◌/◌, ◌^◌, ◌<◌, ◌≤◌, Bool, true, false, cond, min, max, nat_lt, List, refl, sym, ap, ◌∙◌, subst, arith}
 use Rattle.std.specs.Prelude.{Option, Some, None, ◌==◌, ◌&&◌}
-use Rattle.std.proofs.lemmas.Bool.{cases_eq, and_parts, ltb-true, leb-true}
+use Rattle.std.proofs.lemmas.Bool.{and_parts, ltb-true, leb-true}
 use Rattle.rht_words.specs.declared.env.Env.{Env}
 use Rattle.rht_words.specs.declared.geometry.Geometry.{Geometry}
-use Rattle.rht_words.specs.declared.config.Kind.{Kind}
-use Rattle.rht_words.specs.declared.config.Kind.TheVariants.{Single, Listed}
 use Rattle.rht_words.specs.declared.machine.Next.{Next}
 use Rattle.rht_words.specs.declared.machine.Next.TheVariants.{Go, Done}
 use Rattle.rht_words.specs.Links.{slot_of, table_of}
@@ -19,7 +17,6 @@ use Rattle.rht_words.specs.Operations.{old_of}
 use Rattle.rht_words.specs.Places.{CurrentTable, PortCount, Slot, ShapeWord, FutureWord, word_at}
 use Rattle.rht_words.specs.Shapes.{unpacked, size_of}
 use Rattle.rht_words.specs.Sizes.{first_size, wished_size}
-use Rattle.rht_words.proofs.Memory.{Memory}
 use Rattle.rht_words.proofs.OpeningLaws.{opens_flat}
 use Rattle.rht_policy.specs.Sizes.{most_ports}
 use Rattle.rht_policy.specs.Thresholds.{is_above_75, is_above_100, is_above_max, is_below_30, may_grow}
@@ -27,24 +24,10 @@ use Rattle.rht_model.specs.Answers.{is_refusal}
 use Rattle.rht_model.specs.Endings.{Ending}
 use Rattle.rht_model.specs.declared.history.Call.{Call}
 use Rattle.rht_model.specs.declared.history.Reply.{Reply}
-use Rattle.rht_model.specs.declared.history.Reply.TheVariants.{NoNode, Elsewhere}
-use Rattle.rht_arena.specs.NewNode.{NewNodeModel, new_node_after}
-use Rattle.rht_nest.specs.Locate.{LocateModel, locate_plan, locate_after, locate_after_at}
-use Rattle.rht_nest.specs.declared.locate.LocateAt.{LocateAt}
+use Rattle.rht_model.specs.declared.history.Reply.TheVariants.{Elsewhere}
+use Rattle.rht_nest.specs.Locate.{LocateModel, locate_plan}
 use Rattle.rht_nest.specs.declared.locate.LocateAt.TheVariants as locates
-use Rattle.rht_nest.specs.declared.locate.Located.{Located}
-use Rattle.rht_chain.specs.Probe.{ProbeModel, probe_after}
-use Rattle.rht_chain.specs.Relink.{RelinkModel, relink_after}
-use Rattle.rht_chain.specs.declared.probe.Probed.{Probed}
-use Rattle.rht_chain.specs.declared.locked.Then.{Then}
-use Rattle.rht_chain.specs.declared.locked.Then.TheVariants.{Table, Answer}
-use Rattle.rht_bind.specs.BindHeld.{holds_node}
-use Rattle.rht_bind.specs.Bind.{after_at, filled, located, bound_already, found_or_future, probed, replaced, future_or_count, checked_count, published, unlocked}
-use Rattle.rht_bind.specs.Growing.{unlocking_full}
-use Rattle.rht_bind.specs.declared.bind.Attempt.{Attempt}
 use Rattle.rht_bind.specs.declared.bind.Claimed.{Claimed}
-use Rattle.rht_bind.specs.declared.bind.FoundList.{FoundList}
-use Rattle.rht_bind.specs.declared.bind.growth.Full.TheVariants as full
 use Rattle.rht_bind.specs.declared.bind.BindAt.{BindAt}
 use Rattle.rht_bind.specs.declared.bind.BindAt.TheVariants as at
 use Rattle.rht_move.specs.declared.last_table.Last.{Last}
@@ -61,16 +44,12 @@ use Rattle.rht_move.specs.declared.work.WorkAt.TheVariants as work_at
 use Rattle.rht_move.specs.Work as work
 use Rattle.rht_core.specs.Jobs.{Job, binds, works}
 use Rattle.rht_core.specs.FewPorts.{IsNoTableMade, IsCallTaken}
-use Rattle.rht_core.specs.ResizeCauses.{AreCounted}
 use Rattle.rht_core.specs.StandsFor.{stands_for, AreBound}
 use Rattle.rht_core.specs.Traces.{Did}
-use Rattle.rht_core.proofs.Theory.Ghosts.{Ghost}
-use Rattle.rht_core.proofs.Theory.Knowns.{Unlocked}
 use Rattle.rht_core.proofs.Theory.Steps.{by_test}
-use Rattle.rht_core.proofs.Pieces.Locates.{LocateKnows, locate_step}
-use Rattle.rht_core.proofs.Pieces.NewNodes.{filled as filled_node}
 use Rattle.rht_core.proofs.Tracing.TracedJobs.{Performs}
-use Rattle.rht_core.proofs.Reasons.CausesInRuns.{SawAt}
+use Rattle.rht_core.proofs.Reasons.CalmBinds.{CalmBind, IsCalmAt}
+use Rattle.rht_bind.specs.Bind.{plan_at, IsBindAtIn}
 
 -- ---- few ports in a table that begins with 64 buckets or more
 
@@ -102,11 +81,11 @@ module _ (env : Env) where
       by_test (λ t. cond t (first_slot env FutureWord) 0 ≡ 0) (slot == 0) (λ t. refl) (λ f. refl)
 
   -- a table may hold twice as many ports as the first one has buckets, or more
-  pub most-many : 64 ≤ first_size env.config → 128 ≤ most_ports env.config.max
+  pub most-many : 16 ≤ first_size env.config → 32 ≤ most_ports env.config.max
   most-many first =
-      by_test (λ t. 64 ≤ cond t uncut (min uncut most) → 128 ≤ cond t (2 ^ 31) twice) (most == 0)
+      by_test (λ t. 16 ≤ cond t uncut (min uncut most) → 32 ≤ cond t (2 ^ 31) twice) (most == 0)
       (λ t l. omega arith)
-      (λ f l. by_test (λ t. 128 ≤ cond t (2 * most) (2 ^ 31)) (nat_lt most (2 ^ 30)) (λ t. omega (arith, l)) (λ f. omega arith)) first
+      (λ f l. by_test (λ t. 32 ≤ cond t (2 * most) (2 ^ 31)) (nat_lt most (2 ^ 30)) (λ t. omega (arith, l)) (λ f. omega arith)) first
     where
       most : ℕ
       most = env.config.max
@@ -126,7 +105,7 @@ module _ (env : Env) where
         go false is = refl
         go true is =
             let above = leb-true (most_ports env.config.max) (min count 65536) is in
-            absurd (omega (arith, above, few, most-many roomy.first))
+            absurd (omega (arith, above, few, most-many (omega (arith, roomy.first))))
 
     below-size : (count shape : ℕ) → count ≤ 31 → IsFirst shape
         → is_above_100 (min count 65536) (size_of (unpacked shape)) env.config.max ≡ false
@@ -161,45 +140,10 @@ module _ (env : Env) where
         let sparse : is_sparse env ports size ≡ false =
         ap (λ b. b && is_below_30 ports size env.config.min) roomy.keeps_size in
         rw (below-growth count shape few first, sparse, first-flat shape first) refl
+    -- ---- calm calls
 
-  -- ---- calm calls
-
-  -- the reply is no refusal but for want of a node
-  abbrev CalmReply : Reply → Type 0
-  CalmReply reply = is_refusal reply ≡ true → reply ≡ NoNode
-
-  abbrev CalmThen : Then Reply → Type 0
-  CalmThen (Table table) = ⊥
-  CalmThen (Answer reply) = CalmReply reply
-
-  abbrev CalmLocate : LocateAt → Type 0
-  CalmLocate locates.Shape = Unit {0}
-  CalmLocate (locates.Seed shape) = IsFirst shape
-
-  abbrev pub CalmBind : BindAt → Type 0
-  CalmBind (at.Filling new) = Unit {0}
-  CalmBind (at.CurrentTable attempt) = Unit {0}
-  CalmBind (at.Locating attempt locate) = (locate.table ≡ 0) × CalmLocate locate.at
-  CalmBind (at.Probing attempt table shape probe) = IsFirst shape
-  CalmBind (at.FoundOwner claimed found) = Unit {0}
-  CalmBind (at.ListLink list) = Unit {0}
-  CalmBind (at.ChainLink list) = Unit {0}
-  CalmBind (at.LinkBehind list link) = Unit {0}
-  CalmBind (at.Replacing list relink) = Unit {0}
-  CalmBind (at.Future claimed length) = IsFirst claimed.shape
-  CalmBind (at.Count claimed) = IsFirst claimed.shape
-  CalmBind (at.Link claimed) = Unit {0}
-  CalmBind (at.Raise claimed) = Unit {0}
-  CalmBind (at.Publish node table relink kick) = Unit {0}
-  CalmBind (at.Unlocking attempt table unlock next) = CalmThen next
-  CalmBind (at.UnlockingFull growing unlock) = ⊥
-  CalmBind (at.Root growing) = ⊥
-  CalmBind (at.GrowthCount growing root) = ⊥
-  CalmBind (at.Making growing size make) = ⊥
-  CalmBind (at.FutureAgain growing refusal) = ⊥
-  CalmBind (at.Attaching growing slot shape) = ⊥
-  CalmBind (at.Unmaking attempt unmake answer) = ⊥
-  CalmBind (at.Giving give reply) = CalmReply reply
+  abbrev pub IsZero : ℕ → Type 0
+  IsZero table = table ≡ 0
 
   abbrev CalmSeek : LastTableAt → Type 0
   CalmSeek (last_tables.Future table) = table ≡ 0
@@ -216,87 +160,17 @@ module _ (env : Env) where
 
   -- of the other calls nothing is said
   abbrev pub CalmJob : Job → Type 0
-  CalmJob (binds port owner once state) = CalmBind state
+  CalmJob (binds port owner once state) = CalmBind env IsFirst IsZero state
   CalmJob (works state) = CalmWork state
   CalmJob _ = Unit {0}
 
   abbrev pub CalmEnd : Call → Ending → Type 0
   CalmEnd call ending = IsCallTaken call ending.answer.reply
 
-  abbrev CalmNext : BindAt × Next Reply → Type 0
-  CalmNext next = GoesOrEnds CalmBind CalmReply next
+  -- ---- an operation, in words in which no table was made and few ports are bound
 
-  -- ---- an operation of a bind
-
-  calm-filled : (new : NewNodeModel) (next : Next (Option ℕ)) → CalmNext (filled new next)
-  calm-filled new Go = tt
-  calm-filled new (Done None) = λ is. refl
-  calm-filled new (Done (Some node)) = tt
-
-  calm-bound : (kind : Kind) (claimed : Claimed) (first : ℕ) (before : Option ℕ) → CalmBind (bound_already kind claimed first before)
-  calm-bound Single claimed first before = tt
-  calm-bound Listed claimed first before = tt
-
-  calm-found : (kind : Kind) (claimed : Claimed) (found before : Option ℕ) (length : ℕ) → IsFirst claimed.shape
-      → CalmBind (found_or_future kind claimed found before length)
-  calm-found kind claimed None before length first = first
-  calm-found kind claimed (Some node) before length first = calm-bound kind claimed node before
-
-  calm-probed : (kind : Kind) (attempt : Attempt) (table shape : ℕ) (probe : ProbeModel) (next : Next Probed) → IsFirst shape
-      → CalmBind (probed kind attempt table shape probe next)
-  calm-probed kind attempt table shape probe Go first = first
-  calm-probed kind attempt table shape probe (Done end) first =
-      let claimed : Claimed = record { attempt = attempt; table = table; shape = shape; bucket = end.bucket } in
-      calm-found kind claimed end.seen.found end.seen.before end.seen.length first
-
-  calm-replaced : (list : FoundList) (relink : RelinkModel) (next : Next (Unit {0})) → CalmNext (replaced list relink next)
-  calm-replaced list relink Go = tt
-  calm-replaced list relink (Done done) = λ is. absurd (cc)
-
-  calm-published : (node table : ℕ) (kick : Bool) (relink : RelinkModel) (next : Next (Unit {0}))
-      → CalmNext (published node table kick relink next)
-  calm-published node table kick relink Go = tt
-  calm-published node table kick relink (Done done) = λ is. absurd (cc)
-
-  calm-unlocked : (attempt : Attempt) (next : Then Reply) → CalmThen next → CalmBind (unlocked env attempt next)
-  calm-unlocked attempt (Table table) calm = absurd calm
-  calm-unlocked attempt (Answer reply) calm = calm
-
-  -- a chain of 16 nodes would bind as many ports
-  module _ (words_at : ℕ → List ℕ) (few : (i : ℕ) → AreBound (stands_for env.geometry (words_at i)) 16 → ⊥) where
-    none-counted : (place number : ℕ) (steps : List Did) (nodes : List ℕ) → number ≤ 15 → 16 ≤ number + length nodes
-        → AreCounted env.geometry words_at place number steps nodes → ⊥
-    none-counted place number [] [] low many counts = omega (arith, low, many)
-    none-counted place number [] (node ∷ nodes) low many counts = absurd (cc)
-    none-counted place number (did ∷ steps) [] low many counts = omega (arith, low, many)
-    none-counted place number (did ∷ steps) (node ∷ nodes) low many (inr counts) =
-        none-counted place number steps (node ∷ nodes) low many counts.1
-    none-counted place number (did ∷ steps) (node ∷ nodes) low many (inl counts) = elim (cases_eq number 15) [
-      | inl last ↦
-          few did.index (subst (λ n. AreBound (stands_for env.geometry (words_at did.index)) (n + 1)) last counts.0.bound)
-      | inr other ↦
-          none-counted place (number + 1) steps nodes (omega (arith, low, other)) (omega (arith, many)) counts.1
-    ]
-
-    calm-future : (claimed : Claimed) (length : ℕ) (steps : List Did) → SawAt env words_at (at.Future claimed length) steps
-        → IsFirst claimed.shape → CalmBind (future_or_count claimed length None)
-    calm-future claimed length steps saw first =
-        by_test (λ t. CalmBind (cond t (unlocking_full claimed full.Chain) (at.Count claimed))) (nat_le 16 length)
-        (λ t.
-        let counted = saw.saw in
-        let many = counted.many in
-        let enough = leb-true 16 length t in
-        none-counted claimed.bucket.place 0 saw.walked.last.behind counted.nodes (omega arith) (omega (arith, many, enough))
-        counted.counted)
-        (λ f. first)
-
-    calm-count : IsRoomy → (claimed : Claimed) (count : ℕ) → count ≤ 31 → IsFirst claimed.shape
-        → CalmBind (checked_count env claimed count)
-    calm-count roomy claimed count low first =
-        rw (below-max roomy count low, below-size roomy count claimed.shape low first) tt
-
-    module _ (mix : ℕ → ℕ → ℕ → ℕ) (roomy : IsRoomy) (did : Did) (words : List ℕ) (opened : IsNoTableMade env words)
-        (has : HasFew words) where
+  module _ (mix : ℕ → ℕ → ℕ → ℕ) (roomy : IsRoomy) (did : Did) (words : List ℕ) (opened : IsNoTableMade env words) (has : HasFew words)
+    where
       -- what is loaded of the words
       future-none : (slot : ℕ) → slot < 8 → slot_of (word_at env.geometry words (Slot slot FutureWord)) ≡ None
       future-none slot l = ap slot_of (opened.slots slot FutureWord l tt ∙ opening-future slot)
@@ -308,76 +182,31 @@ module _ (env : Env) where
       current-first : table_of (word_at env.geometry words CurrentTable) ≡ 0
       current-first = ap table_of opened.current
 
-      module _ (port owner : ℕ) (once : Bool) where
-        abbrev CalmLocated : LocateModel × Next Located → Type 0
-        CalmLocated (m, Go) = (m.table ≡ 0) × CalmLocate m.at
-        CalmLocated (m, Done there) = IsFirst there.shape
-
-        locate-calm : (m : LocateModel) (state : LocateAt) (word : ℕ) → m.table ≡ 0 → CalmLocate state
-            → (state ≡ locates.Shape → IsFirst word) → CalmLocated (locate_after_at mix port m state word)
-        locate-calm m locates.Shape word is calm first = (is, first refl)
-        locate-calm m (locates.Seed shape) word is calm first = calm
-
-        calm-located : (c : ℕ) (attempt : Attempt) (next : LocateModel × Next Located) (memory : Memory) (ghost : Ghost)
-            → LocateKnows env mix c (holds_node (Some attempt.node) None) (Some (filled_node attempt.node port owner)) Unlocked port next memory ghost
-            → CalmLocated next → CalmBind (located env port attempt next.0 next.1)
-        calm-located c attempt (after, Go) memory ghost knows calm = calm
-        calm-located c attempt (after, Done there) memory ghost knows calm = rw knows.there calm
-
-      pub calm-bind : (port owner : ℕ) (once : Bool) (state : BindAt) (steps : List Did)
+      -- so a bind stays calm
+      pub few-calm : (port owner : ℕ) (once : Bool) (state : BindAt)
           → (does : Performs mix env (binds port owner once state) did) → does.words ≡ words
-          → SawAt env words_at state steps → CalmBind state → CalmNext (after_at mix env port once state did.old)
-      calm-bind port owner once (at.Filling new) steps does now saw calm =
-          calm-filled (new_node_after new did.old).0 (new_node_after new did.old).1
-      calm-bind port owner once (at.CurrentTable attempt) steps does now saw calm = (
-        ap table_of (does.found ∙ ap (old_of does.words) does.planned) ∙ ap (λ w. table_of (word_at env.geometry w CurrentTable)) now
-            ∙ current-first,
-        tt,
-      )
-      calm-bind port owner once (at.Locating attempt locate) steps does now saw calm =
-          let is : did.old ≡ old_of does.words (locate_plan locate) = does.found ∙ ap (old_of does.words) does.planned in
-          let step = locate_step env mix does.caller (holds_node (Some attempt.node) None) (Some (filled_node attempt.node port owner))
-          Unlocked does.words does.ghost does.whole port locate does.within.at_in.locate_in does.knows.knowing in
-          subst (λ old. let next = locate_after mix port locate old in CalmBind (located env port attempt next.0 next.1)) (sym is)
-          (calm-located port owner once does.caller attempt (locate_after mix port locate (old_of does.words (locate_plan locate))) _ _
-          step.knows
-          (locate-calm port owner once locate locate.at (old_of does.words (locate_plan locate)) calm.0 calm.1
-          (λ shape. subst IsFirst (ap (λ w. word_at env.geometry w (Slot locate.table ShapeWord)) (sym now) ∙ loads locate shape does.words)
-          (shape-first locate.table calm.0))))
+          → IsCalmAt env IsFirst IsZero state did.old
+      few-calm port owner once state does now = record {
+        current = λ attempt is. ap table_of (found ∙ ap (λ s. old_of words (plan_at env s)) is) ∙ current-first;
+        shape = λ attempt locate is shape zero.
+            found ∙ ap (λ s. old_of words (plan_at env s)) is ∙ loads locate shape ∙ shape-first locate.table zero;
+        further = λ claimed length next is further.
+            let within = subst (IsBindAtIn env) is does.within.at_in in
+            let none = ap slot_of (found ∙ ap (λ s. old_of words (plan_at env s)) is) ∙ future-none claimed.table within.table_in in
+            let both : ◌≡◌ {A = Option ℕ} None (Some next) = sym none ∙ further in
+            absurd (cc);
+        few = λ claimed is. below-max roomy did.old (low claimed is);
+        below = λ claimed is first. below-size roomy did.old claimed.shape (low claimed is) first;
+      }
         where
-          loads : (m : LocateModel) → m.at ≡ locates.Shape → (w : List ℕ)
-              → word_at env.geometry w (Slot m.table ShapeWord) ≡ old_of w (locate_plan m)
-          loads m shape w = rw shape refl
-      calm-bind port owner once (at.Probing attempt table shape probe) steps does now saw calm =
-          calm-probed env.config.kind attempt table shape (probe_after probe did.old).0 (probe_after probe did.old).1 calm
-      calm-bind port owner once (at.FoundOwner claimed found) steps does now saw calm = λ is. absurd (cc)
-      calm-bind port owner once (at.ListLink list) steps does now saw calm = tt
-      calm-bind port owner once (at.ChainLink list) steps does now saw calm = tt
-      calm-bind port owner once (at.LinkBehind list link) steps does now saw calm = tt
-      calm-bind port owner once (at.Replacing list relink) steps does now saw calm =
-          calm-replaced list (relink_after relink).0 (relink_after relink).1
-      calm-bind port owner once (at.Future claimed length) steps does now saw calm =
-          let found : did.old ≡ word_at env.geometry words (Slot claimed.table FutureWord) =
-          does.found ∙ ap (old_of does.words) does.planned ∙ ap (λ w. word_at env.geometry w (Slot claimed.table FutureWord)) now in
-          let none = ap slot_of found ∙ future-none claimed.table does.within.at_in.table_in in
-          subst (λ f. CalmBind (future_or_count claimed length f)) (sym none) (calm-future claimed length steps saw calm)
-      calm-bind port owner once (at.Count claimed) steps does now saw calm =
-          let found : did.old ≡ word_at env.geometry words PortCount =
-          does.found ∙ ap (old_of does.words) does.planned ∙ ap (λ w. word_at env.geometry w PortCount) now in
-          calm-count roomy claimed did.old (omega (arith, found, has.count)) calm
-      calm-bind port owner once (at.Link claimed) steps does now saw calm = tt
-      calm-bind port owner once (at.Raise claimed) steps does now saw calm = tt
-      calm-bind port owner once (at.Publish node table relink kick) steps does now saw calm =
-          calm-published node table kick (relink_after relink).0 (relink_after relink).1
-      calm-bind port owner once (at.Unlocking attempt table unlock next) steps does now saw calm = calm-unlocked attempt next calm
-      calm-bind port owner once (at.UnlockingFull growing unlock) steps does now saw calm = absurd calm
-      calm-bind port owner once (at.Root growing) steps does now saw calm = absurd calm
-      calm-bind port owner once (at.GrowthCount growing root) steps does now saw calm = absurd calm
-      calm-bind port owner once (at.Making growing size make) steps does now saw calm = absurd calm
-      calm-bind port owner once (at.FutureAgain growing refusal) steps does now saw calm = absurd calm
-      calm-bind port owner once (at.Attaching growing slot shape) steps does now saw calm = absurd calm
-      calm-bind port owner once (at.Unmaking attempt unmake answer) steps does now saw calm = absurd calm
-      calm-bind port owner once (at.Giving give reply) steps does now saw calm = calm
+          found : did.old ≡ old_of words (plan_at env state)
+          found = does.found ∙ ap (old_of does.words) does.planned ∙ ap (λ w. old_of w (plan_at env state)) now
+
+          loads : (m : LocateModel) → m.at ≡ locates.Shape → old_of words (locate_plan m) ≡ word_at env.geometry words (Slot m.table ShapeWord)
+          loads m shape = rw shape refl
+
+          low : (claimed : Claimed) → state ≡ at.Count claimed → did.old ≤ 31
+          low claimed is = omega (arith, found ∙ ap (λ s. old_of words (plan_at env s)) is, has.count)
 
       -- ---- an operation of a resizing
 

@@ -1,0 +1,561 @@
+-- In a run of one caller in which fewer than 16 ports are bound no bind is refused but for want of a node.
+--
+-- By induction over the events, with the ghost: each table that was attached has 16 buckets or more, and each call is one of a bind that
+-- hasn't found a table full, or of another kind. A bind that loads the count knows the table in which it is, which has 16 buckets or more; and the
+-- count is at most the 15 ports and the one caller. So it finds no table full and attaches none; and a resizing attaches none that is smaller.
+use Rattle.std.proofs.Common.{◌≡◌, ℕ, ◌<◌, ◌≤◌, Bool, true, false, min, nat_lt, List, [], ◌∷◌, ◌++◌, length, take, refl, sym, ap, ◌∙◌, subst, inl, inr, arith}
+use Rattle.std.specs.Prelude.{Option, Some, None, IfSome, option_map}
+use Rattle.std.specs.List.{AllByRecursion}
+use Rattle.std.proofs.lemmas.Bool.{cases_lt, cases_eq, and_parts, ltb-true, leb-true}
+use Rattle.std.proofs.lemmas.List.{take_all}
+use Rattle.rht_words.specs.declared.op.Op.{Op}
+use Rattle.rht_words.specs.declared.op.Op.TheVariants.{Exchange}
+use Rattle.rht_words.specs.declared.env.Env.{Env}
+use Rattle.rht_words.specs.declared.config.Kind.{Kind}
+use Rattle.rht_words.specs.declared.config.Kind.TheVariants.{Single, Listed}
+use Rattle.rht_words.specs.declared.machine.Next.{Next}
+use Rattle.rht_words.specs.declared.machine.Next.TheVariants.{Go, Done}
+use Rattle.rht_words.specs.Links.{future_of}
+use Rattle.rht_words.specs.Machines.{GoesOrEnds}
+use Rattle.rht_words.specs.Operations.{op_place, old_of}
+use Rattle.rht_words.specs.Places.{PortCount, Slot, ShapeWord, FutureWord, place_of, word_at}
+use Rattle.rht_words.specs.Shapes.{unpacked, size_of}
+use Rattle.rht_words.specs.Sizes.{first_size}
+use Rattle.rht_words.proofs.EachElement.{AllByRecursion-cut, AllByRecursion-push}
+use Rattle.rht_words.proofs.Memory.{Memory}
+use Rattle.rht_words.proofs.OpeningLaws.{opens_flat}
+use Rattle.rht_policy.specs.Sizes.{most_ports}
+use Rattle.rht_policy.specs.Thresholds.{is_above_100, is_above_max, may_grow}
+use Rattle.rht_model.specs.Endings.{Ending, ended_with, plain_ending}
+use Rattle.rht_model.specs.declared.finished.Finished.{Finished}
+use Rattle.rht_model.specs.declared.history.Call.{Call}
+use Rattle.rht_model.specs.declared.history.Call.TheVariants.{Bind, Find, All, Release, Rebind, Walk, Work, Tidy, Count}
+use Rattle.rht_model.specs.declared.history.Reply.{Reply}
+use Rattle.rht_find.specs.Find.{after_at as find_after_at}
+use Rattle.rht_bind.specs.Bind.{after_at as bind_after_at}
+use Rattle.rht_bind.specs.declared.bind.Claimed.{Claimed}
+use Rattle.rht_bind.specs.declared.bind.BindAt.{BindAt}
+use Rattle.rht_bind.specs.declared.bind.BindAt.TheVariants as at
+use Rattle.rht_release.specs.All as all
+use Rattle.rht_release.specs.Release as release
+use Rattle.rht_release.specs.Rebind as rebind
+use Rattle.rht_move.specs.LastTable.{LastTableModel, last_table_plan_at}
+use Rattle.rht_move.specs.declared.last_table.LastTableAt.{LastTableAt}
+use Rattle.rht_move.specs.declared.last_table.LastTableAt.TheVariants as last_tables
+use Rattle.rht_move.specs.Work as work
+use Rattle.rht_move.specs.declared.work.WorkAt.{WorkAt}
+use Rattle.rht_move.specs.declared.work.WorkAt.TheVariants as work_at
+use Rattle.rht_core.specs.declared.book.Book.{Book}
+use Rattle.rht_core.specs.declared.event.Event.{Event}
+use Rattle.rht_core.specs.declared.event.Event.TheVariants.{Enroll, Begin, Step}
+use Rattle.rht_core.specs.declared.local.Local.{Local}
+use Rattle.rht_core.specs.declared.local.Doing.{Doing}
+use Rattle.rht_core.specs.FewPorts.{IsBindTaken, OneCaller}
+use Rattle.rht_core.specs.Jobs.{Job, finds, binds, releases, rebinds, lists, works, counts, first_job, first_rebind, call_of, job_of, job_plan, job_next, job_after, told, held_of, held_next, listing_ending, node_ending}
+use Rattle.rht_core.specs.Laws.{view_stepped}
+use Rattle.rht_core.specs.Locals.{local_after, ending_of}
+use Rattle.rht_core.specs.Runs.{World, View, opening, local_of, planned_in, beginning_in, view_of, world_step, run_of, book_after, finished_with, IsAdmitted, IsAdmittedEvent}
+use Rattle.rht_core.specs.Seen.{words_before}
+use Rattle.rht_core.specs.StandsFor.{stands_for, AreBound}
+use Rattle.rht_core.specs.Traces.{Did, Traced, traced_of}
+use Rattle.rht_core.proofs.Theory.Ghosts.{Ghost}
+use Rattle.rht_core.proofs.Theory.Knowledge.{AimMeans}
+use Rattle.rht_core.proofs.Theory.Wholes.{outs}
+use Rattle.rht_core.proofs.Theory.Steps.{ReadyFor, Does, ghost_after, mem}
+use Rattle.rht_core.proofs.Machines.JobSteps.{JobIn, JobKnows}
+use Rattle.rht_core.proofs.Machines.WorkMachine.{last_aim}
+use Rattle.rht_core.proofs.Events.BooksInRuns.{BookSays, has_books}
+use Rattle.rht_core.proofs.Events.Invariants.{Inv, StepOf, step_of, kept}
+use Rattle.rht_core.proofs.Events.InvariantRuns.{opening_ghost, opening_inv, idle_at_opening}
+use Rattle.rht_core.proofs.Events.JobsOfCallers.{first_job-machine, left-job, doing_after-reply}
+use Rattle.rht_core.proofs.Events.RangesInRuns.{AllIn, opens-all, event-all}
+use Rattle.rht_core.proofs.Events.SoundRuns.{has_place, made_in}
+use Rattle.rht_core.proofs.Events.Worlds.{induct_by_last, beginning-some, planned-some, run_of-push, begin_none, begin_self, begin_other, step_none, step_self, step_other}
+use Rattle.rht_core.proofs.Tracing.TracedJobs.{Performs, IsAtJob, jobs_keep_in}
+use Rattle.rht_core.proofs.Tracing.TracedRuns.{world-traced_of}
+use Rattle.rht_core.proofs.Reasons.AttachedTables.{lock-none, make-none, unmake-none}
+use Rattle.rht_core.proofs.Reasons.CausesInRuns.{JobSaw, EndsSeen, job-leads, first_job-saw}
+use Rattle.rht_core.proofs.Reasons.CalmCalls.{most-many}
+use Rattle.rht_core.proofs.Reasons.CalmBinds.{CalmBind, IsCalmAt, calm-bind, bind-spares}
+use Rattle.rht_core.proofs.Counting.CountedPorts.{fewer-AreBound}
+use Rattle.rht_core.proofs.Counting.FewPorts.{before-push}
+use Rattle.rht_core.proofs.Counting.FullTables.{taken}
+use Rattle.rht_core.proofs.Counting.SizedTables.{IsSized, AreSized, SizedWork, sized-work, moved-sized, slot-sized}
+use Rattle.rht_core.proofs.Counting.SparedSlots.{IsBesideSlots, SparesSlots, find-spares, all-spares, release-spares, rebind-spares, by_load}
+use Rattle.rht_core.proofs.Histories.BoundAmong.{count-few}
+
+-- what is said of every number
+abbrev pub Any : ℕ → Type 0
+Any n = Unit {0}
+
+-- the count is at most 15 ports and a caller, and no 16 ports are bound
+pub record HasFew (env : Env) (words : List ℕ) : Type 0 where
+  pub count : word_at env.geometry words PortCount ≤ 16
+  pub bound : AreBound (stands_for env.geometry words) 16 → ⊥
+
+-- ---- which operations attach a table
+
+module _ (env : Env) where
+  -- one that leaves the words of slots doesn't
+  spares-none : (op : Op) (last old new : ℕ) → SparesSlots op → last < 8
+      → op ≡ Exchange (place_of env.geometry (Slot last FutureWord)) old new → ⊥
+  spares-none op last old new (inl (place, load)) l is = cc
+  spares-none op last old new (inr beside) l is = go (subst IsBesideSlots (ap op_place is) beside)
+    where
+      go : IsBesideSlots (place_of env.geometry (Slot last FutureWord)) → ⊥
+      go (inl same) = omega (arith, same)
+      go (inr (inl same)) = omega (arith, same)
+      go (inr (inr high)) = omega (arith, high, l)
+
+  -- and of a resizing one does
+  record IsAttachingAt (state : WorkAt) (slot : ℕ) : Type 0 where
+    root : ℕ
+    last : ℕ
+    shape : ℕ
+    is : state ≡ work_at.Attaching root last slot shape
+
+  work-attaches : (state : WorkAt) → work.IsWorkAtIn env state → (table slot : ℕ) → table < 8
+      → work.plan_at env state ≡ Exchange (place_of env.geometry (Slot table FutureWord)) 0 (future_of slot) → IsAttachingAt state slot
+  work-attaches (work_at.Attaching root last slot' shape) within table slot l e =
+      let next : future_of slot' ≡ future_of slot = cc in
+      let same : slot' ≡ slot = omega (arith, next) in
+      record { root = root; last = last; shape = shape; is = ap (λ s. work_at.Attaching root last s shape) same }
+  work-attaches work_at.WorkLock within table slot l e =
+      let same : 1 ≡ place_of env.geometry (Slot table FutureWord) = cc in absurd (omega (arith, same))
+  work-attaches (work_at.Making wanted make) within table slot l e =
+      absurd (make-none env.geometry make.geometry make.exponent make.seed make.at table 0 (future_of slot) l e)
+  work-attaches (work_at.Unmaking root unmake) within table slot l e =
+      absurd (unmake-none env.geometry unmake.geometry unmake.slot unmake.at table 0 (future_of slot) l e)
+  work-attaches (work_at.Locking rehash number lock) within table slot l e =
+      absurd (lock-none env.geometry lock.place lock.at within.lock_in.place_in table 0 (future_of slot) l e)
+  work-attaches (work_at.LockingSecond emptying entry second lock) within table slot l e =
+      absurd (lock-none env.geometry lock.place lock.at within.lock_in.place_in table 0 (future_of slot) l e)
+  work-attaches (work_at.LastTable root seek) within table slot l e = absurd (last-none seek.at e)
+    where
+      last-none : (state : LastTableAt)
+          → last_table_plan_at seek.geometry state ≡ Exchange (place_of env.geometry (Slot table FutureWord)) 0 (future_of slot) → ⊥
+      last-none (last_tables.Future t) e = cc
+      last-none (last_tables.Shape t) e = cc
+  work-attaches (work_at.EntryTable emptying seek) within table slot l e = absurd (last-none seek.at e)
+    where
+      last-none : (state : LastTableAt)
+          → last_table_plan_at seek.geometry state ≡ Exchange (place_of env.geometry (Slot table FutureWord)) 0 (future_of slot) → ⊥
+      last-none (last_tables.Future t) e = cc
+      last-none (last_tables.Shape t) e = cc
+  work-attaches (work_at.Walking emptying target walk) within table slot l e = absurd (cc)
+  work-attaches (work_at.CuttingOff emptying entry) within table slot l e = absurd (cut-none entry.before e)
+    where
+      cut-none : (before : Option ℕ)
+          → work.cut_plan env.geometry emptying.bucket.place before ≡ Exchange (place_of env.geometry (Slot table FutureWord)) 0 (future_of slot)
+          → ⊥
+      cut-none None e = cc
+      cut-none (Some node) e = cc
+  work-attaches work_at.CurrentTable within table slot l e = absurd (cc)
+  work-attaches (work_at.Count root last) within table slot l e = absurd (cc)
+  work-attaches (work_at.RootFuture root due) within table slot l e = absurd (cc)
+  work-attaches (work_at.RootShape root future again) within table slot l e = absurd (cc)
+  work-attaches (work_at.Seed emptying last) within table slot l e = absurd (cc)
+  work-attaches (work_at.BucketWord emptying target) within table slot l e = absurd (cc)
+  work-attaches (work_at.Key emptying target entry) within table slot l e = absurd (cc)
+  work-attaches (work_at.EntryLink emptying entry second) within table slot l e = absurd (cc)
+  work-attaches (work_at.Linking emptying entry second) within table slot l e = absurd (cc)
+  work-attaches (work_at.Unlocking rehash number unlock stop) within table slot l e = absurd (cc)
+  work-attaches (work_at.Publishing rehash) within table slot l e = absurd (cc)
+  work-attaches (work_at.NewFuture rehash) within table slot l e = absurd (cc)
+  work-attaches (work_at.Retiring root again) within table slot l e = absurd (cc)
+  work-attaches (work_at.LettingGo outcome) within table slot l e = absurd (cc)
+
+  -- ---- calls
+
+  module _ (keeps : env.config.shrink ≡ false) where
+    -- a bind that hasn't found a table full, a resizing that makes none that is too small, or another call
+    abbrev OneJob : Job → Type 0
+    OneJob (binds port owner once state) = CalmBind env Any Any state
+    OneJob (works state) = SizedWork env keeps state
+    OneJob _ = Unit {0}
+
+    abbrev OneOn : Job → Job × Next Ending → Type 0
+    OneOn job next = GoesOrEnds OneJob (λ ending. IsBindTaken (call_of job) ending.answer.reply) next
+
+    next-one : {S A : Type 0} (start : Job) (job : S → Job) (ending : A → Ending) (next : S × Next A)
+        → GoesOrEnds (λ state. OneJob (job state)) (λ end. IsBindTaken (call_of start) (ending end).answer.reply) next
+        → OneOn start (job_next job ending next)
+    next-one start job ending (state, Go) one = one
+    next-one start job ending (state, Done end) one = one
+
+    nothing-one : {S A : Type 0} (next : S × Next A) → GoesOrEnds (λ (state : S). Unit {0}) (λ (end : A). Unit {0}) next
+    nothing-one (state, Go) = tt
+    nothing-one (state, Done end) = tt
+
+    work-one : (next : WorkAt × Next Reply) → SizedWork env keeps next.0
+        → GoesOrEnds (λ state. SizedWork env keeps state) (λ (reply : Reply). Unit {0}) next
+    work-one (state, Go) sized = sized
+    work-one (state, Done reply) sized = tt
+
+    first-so : (first : Option Job) (job : Job) → IfSome first OneJob → first ≡ Some job → OneJob job
+    first-so None job one is = absurd (cc)
+    first-so (Some first) job one is = let same : first ≡ job = cc in subst OneJob same one
+
+    first_rebind-one : (port owner new : ℕ) (kind : Kind) → IfSome (first_rebind env port owner new kind) OneJob
+    first_rebind-one port owner new Single = tt
+    first_rebind-one port owner new Listed = tt
+
+    first-one : (call : Call) → IfSome (first_job env call) OneJob
+    first-one (Find port) = tt
+    first-one (Bind port owner once) = tt
+    first-one (All port) = tt
+    first-one (Release port owner) = tt
+    first-one (Rebind port owner new) = first_rebind-one port owner new env.config.kind
+    first-one (Walk from limit) = tt
+    first-one Work = tt
+    first-one Tidy = tt
+    first-one Count = tt
+
+    -- 16 are below what a table may hold, and no more than 16 buckets
+    below-max : (count : ℕ) → 16 ≤ first_size env.config → count ≤ 16 → is_above_max (min count 65536) env.config.max ≡ false
+    below-max count first few = go (is_above_max (min count 65536) env.config.max) refl
+      where
+        go : (b : Bool) → is_above_max (min count 65536) env.config.max ≡ b → b ≡ false
+        go false is = refl
+        go true is =
+            let above = leb-true (most_ports env.config.max) (min count 65536) is in
+            absurd (omega (arith, above, few, most-many env first))
+
+    below-size : (count shape : ℕ) → count ≤ 16 → IsSized shape
+        → is_above_100 (min count 65536) (size_of (unpacked shape)) env.config.max ≡ false
+    below-size count shape few sized = go (is_above_100 (min count 65536) (size_of (unpacked shape)) env.config.max) refl
+      where
+        go : (b : Bool) → is_above_100 (min count 65536) (size_of (unpacked shape)) env.config.max ≡ b → b ≡ false
+        go false is = refl
+        go true is =
+            let size = size_of (unpacked shape) in
+            let parts = and_parts (nat_lt size (min count 65536)) (may_grow size env.config.max) is in
+            let above = ltb-true size (min count 65536) parts.0 in
+            absurd (omega (arith, above, few, sized))
+
+    module _ (first : 16 ≤ first_size env.config) (mix : ℕ → ℕ → ℕ → ℕ) (words_at : ℕ → List ℕ)
+        (few : (i : ℕ) → HasFew env (words_at i)) (did : Did) where
+      -- what a bind finds
+      module _ (port owner : ℕ) (once : Bool) where
+        record AtSized (state : BindAt) : Type 0 where
+          does : Performs mix env (binds port owner once state) did
+          sized : AreSized does.ghost
+          low : word_at env.geometry does.words PortCount ≤ 16
+
+        bind-low : (state : BindAt) → AtSized state → (claimed : Claimed) → state ≡ at.Count claimed → did.old ≤ 16
+        bind-low state of claimed is =
+            let here = subst AtSized is of in
+            omega (arith, here.does.found ∙ ap (old_of here.does.words) here.does.planned, here.low)
+
+        bind-sized : (state : BindAt) → AtSized state → (claimed : Claimed) → state ≡ at.Count claimed → IsSized claimed.shape
+        bind-sized state of claimed is =
+            let here = subst AtSized is of in
+            let G = here.does.ghost in
+            let table = here.does.knows.knowing.means.table in
+            let slot = here.does.whole.tables.slots claimed.table table.passing.table in
+            subst IsSized table.shape_is (here.sized _ slot.attached)
+
+        bind-sees : (state : BindAt) → AtSized state → IsCalmAt env Any Any state did.old
+        bind-sees state of = record {
+          current = λ attempt is. tt;
+          shape = λ attempt locate is shape come. tt;
+          further = λ claimed length next is further. tt;
+          few = λ claimed is. below-max did.old first (bind-low state of claimed is);
+          below = λ claimed is good. below-size did.old claimed.shape (bind-low state of claimed is) (bind-sized state of claimed is);
+        }
+
+      -- and a resizing
+      record WorkSized (state : WorkAt) : Type 0 where
+        does : Performs mix env (works state) did
+        sized : AreSized does.ghost
+
+      work-sees : (state : WorkAt) → WorkSized state → (root : ℕ) (seek : LastTableModel) (slot : ℕ)
+          → state ≡ work_at.LastTable root seek → seek.at ≡ last_tables.Shape slot → IsSized did.old
+      work-sees state of root seek slot is shape =
+          let here = subst WorkSized is of in
+          let does = here.does in
+          let aim = subst (λ s. AimMeans env mix does.ghost (last_aim s)) shape does.knows.knowing.means.work.more.aim_is in
+          let found : did.old ≡ old_of does.words (last_table_plan_at seek.geometry seek.at) =
+          does.found ∙ ap (old_of does.words) does.planned in
+          subst IsSized (sym (found ∙ ap (λ s. old_of does.words (last_table_plan_at seek.geometry s)) shape))
+          (slot-sized env mix does.words does.ghost does.whole here.sized slot aim.table)
+
+      -- so each call goes on so, or ends so
+      one-leads : (job : Job) (steps : List Did) → (does : Performs mix env job did) → AreSized does.ghost
+          → word_at env.geometry does.words PortCount ≤ 16 → JobSaw env words_at job steps → OneJob job
+          → OneOn job (job_after mix env job did.old)
+      one-leads (finds port state) steps does sized low saw one =
+          let next = find_after_at mix env port state did.old in
+          next-one (finds port state) (finds port) plain_ending next (nothing-one next)
+      one-leads (binds port owner once state) steps does sized low saw one =
+          next-one (binds port owner once state) (binds port owner once) plain_ending (bind_after_at mix env port once state did.old)
+          (calm-bind env Any Any words_at (λ i. (few i).bound) mix port owner once state steps did does saw.0 one
+          (bind-sees port owner once state (record { does = does; sized = sized; low = low })))
+      one-leads (lists port room state) steps does sized low saw one =
+          let after = all.room_after state room did.old in
+          let next = all.after_at mix env port state did.old in
+          next-one (lists port room state) (lists port after) (listing_ending after) next (nothing-one next)
+      one-leads (releases port owner state) steps does sized low saw one =
+          let next = release.after_at mix env port owner state did.old in
+          next-one (releases port owner state) (releases port owner) node_ending next (nothing-one next)
+      one-leads (rebinds port owner new state) steps does sized low saw one =
+          let next = rebind.after_at mix env port owner state did.old in
+          next-one (rebinds port owner new state) (rebinds port owner new) node_ending next (nothing-one next)
+      one-leads (works state) steps does sized low saw one =
+          next-one (works state) works plain_ending (work.after_at mix env state did.old)
+          (work-one (work.after_at mix env state did.old)
+          (sized-work env keeps mix state did.old does.within one (work-sees state (record { does = does; sized = sized }))))
+      one-leads counts steps does sized low saw one = tt
+
+    -- ---- a table that is attached
+
+    module _ (mix : ℕ → ℕ → ℕ → ℕ) (c : ℕ) (M : Memory) (G : Ghost) where
+      attach-sized : (job : Job) → JobIn env mix c job → JobKnows env mix c job M G → OneJob job → (last slot shape : ℕ) → last < 8
+          → job_plan env job ≡ Exchange (place_of env.geometry (Slot last FutureWord)) 0 (future_of slot)
+          → M (Slot slot ShapeWord) ≡ shape → IsSized shape
+      attach-sized (finds port state) within knows one last slot shape l e is =
+          absurd (spares-none _ last 0 (future_of slot) (find-spares env state within) l e)
+      attach-sized (binds port owner once state) within knows one last slot shape l e is =
+          absurd (spares-none _ last 0 (future_of slot) (bind-spares env Any Any state within.at_in one) l e)
+      attach-sized (lists port room state) within knows one last slot shape l e is =
+          absurd (spares-none _ last 0 (future_of slot) (all-spares env state within.at_in) l e)
+      attach-sized (releases port owner state) within knows one last slot shape l e is =
+          absurd (spares-none _ last 0 (future_of slot) (release-spares env state within) l e)
+      attach-sized (rebinds port owner new state) within knows one last slot shape l e is =
+          absurd (spares-none _ last 0 (future_of slot) (rebind-spares env state within.at_in) l e)
+      attach-sized (works state) within knows one last slot shape l e is =
+          let at = work-attaches state within last slot l e in
+          let known = subst (λ s. JobKnows env mix c (works s) M G) at.is knows in
+          let sized : IsSized at.shape = subst (SizedWork env keeps) at.is one in
+          subst IsSized (sym known.knowing.means.making.shape_is ∙ is) sized
+      attach-sized counts within knows one last slot shape l e is =
+          absurd (spares-none _ last 0 (future_of slot) (by_load _ _ refl) l e)
+
+-- ---- runs
+
+module _ (L : Type 0) (mix : ℕ → ℕ → ℕ → ℕ) (env : Env) (keeps : env.config.shrink ≡ false) (first : 16 ≤ first_size env.config) where
+  abbrev Taken : Finished → Type 0
+  Taken done = IsBindTaken done.call done.reply
+
+  -- what a caller works at is so, and no bind of its was refused but for want of a node
+  abbrev ViewOne : View L → Type 0
+  ViewOne view = IfSome (job_of view.local.doing) (OneJob env keeps) × AllByRecursion Taken view.book.finished
+
+  -- the invariant with a ghost whose tables have 16 buckets or more, and each caller is so
+  record HasOne (w : World L) : Type 0 where
+    ghost : Ghost
+    inv : Inv env mix L w.core ghost
+    all : AllIn L mix env w.core
+    sized : AreSized ghost
+    ones : (c : ℕ) → ViewOne (view_of w c)
+
+  -- ---- one operation
+
+  after-one : (job : Job) (book : Book) (next : Job × Next Ending) (local : Local L) (reply : Option Reply)
+      → reply ≡ option_map (λ (e : Ending). e.answer.reply) (told next).1
+      → book.call ≡ Some (call_of job) → AllByRecursion Taken book.finished → OneOn env keeps job next
+      → IfSome (told next).0 (OneJob env keeps) × AllByRecursion Taken (book_after (ending_of local reply) book).finished
+  after-one job book (after, Go) local reply replied asked taken one =
+      subst (λ (r : Option Reply). OneJob env keeps after × AllByRecursion Taken (book_after (ending_of local r) book).finished)
+      (sym replied) (one, taken)
+  after-one job book (after, Done ending) local reply replied asked taken one =
+      subst (λ (r : Option Reply). Unit {0} × AllByRecursion Taken (book_after (ending_of local r) book).finished) (sym replied) (
+        tt,
+        subst (λ (o : Option Call). AllByRecursion Taken (book.finished ++ finished_with o kept_as)) (sym asked)
+            (AllByRecursion-push Taken book.finished (ended_with (call_of job) kept_as) taken one),
+      )
+    where
+      kept_as : Ending
+      kept_as = record {
+        answer = record { reply = ending.answer.reply; owners = local.owners.items };
+        pairs = local.pairs.items;
+      }
+
+  module _ (events : List Event) (admitted : IsAdmitted env.config.kind events)
+      (few : (i : ℕ) → HasFew env (words_before L mix env events i)) (has : HasOne (run_of mix env events)) where
+    abbrev w : World L
+    w = run_of mix env events
+
+    few-now : HasFew env w.core.words
+    few-now =
+        subst (λ (first : List Event). HasFew env (run_of {M = L} mix env first).core.words)
+        (take_all (length events) events (omega arith)) (few (length events))
+
+    -- an operation of a caller
+    module _ (c : ℕ) (op : Op) (is : planned_in w.core c ≡ Some op) where
+      abbrev of : StepOf env mix L w.core has.ghost c op
+      of = step_of env mix L w.core has.ghost c op has.all has.inv is
+
+      abbrev did : Did
+      did = record { index = length events; op = op; old = old_of w.core.words op }
+
+      performs : Performs mix env of.job did
+      performs = record {
+        planned = of.plan;
+        caller = c;
+        words = w.core.words;
+        ghost = has.ghost;
+        all = of.all;
+        whole = has.inv.whole;
+        within = of.within;
+        knows = of.knows;
+        found = refl;
+        step = of.step;
+      }
+
+      one : OneJob env keeps of.job
+      one = subst (λ (j : Option Job). IfSome j (OneJob env keeps)) of.is (has.ones c).0
+
+      -- what the call has seen so far
+      saw : JobSaw env (words_before L mix env events) of.job ((traced_of {M = L} mix env events).traces c).steps
+      saw =
+          let r : Traced L = traced_of mix env events in
+          let Now = JobSaw env (words_before L mix env events) in
+          let Ended = EndsSeen L mix env events in
+          let now = (jobs_keep_in L mix env Now Ended events
+          record { begins = first_job-saw L mix env events; goes = job-leads L mix env events } c admitted).now in
+          let local = ap (λ (v : World L). job_of (local_of v.core c).doing) (world-traced_of L mix env events) ∙ of.is in
+          (subst (λ (j : Option Job). IsAtJob L mix env Now Ended j (r.world.books c) (r.traces c).steps) local now).now
+
+      leads : OneOn env keeps of.job (job_after mix env of.job did.old)
+      unfolding performs
+      leads =
+          one-leads env keeps first mix (words_before L mix env events) few did of.job
+          ((traced_of {M = L} mix env events).traces c).steps performs has.sized few-now.count saw one
+
+      -- the caller afterwards
+      step-one : ViewOne (view_stepped mix (old_of w.core.words op) (view_of w c))
+      step-one =
+          let old = old_of w.core.words op in
+          let local = local_of w.core c in
+          let next = local_after mix local old in
+          let r = job_after mix env of.job old in
+          let table = (has.all.stays.locals_of c).doing in
+          let left : job_of next.0.doing ≡ (told r).0 = left-job L mix env local.doing of.job old table of.is in
+          let books = has_books env mix L events admitted in
+          let asked = (subst (λ (job : Option Job). BookSays job (w.books c) (outs env mix books.ghost c)) of.is (books.says c)).0 in
+          let after = after-one of.job (w.books c) r next.0 next.1
+          (doing_after-reply mix env local.doing of.job old table of.is) asked (has.ones c).1 leads in
+          (subst (λ (job : Option Job). IfSome job (OneJob env keeps)) (sym left) after.0, after.1)
+
+    -- and the tables
+    step-sized : (c : ℕ) (op : Op) → (of : StepOf env mix L w.core has.ghost c op)
+        → AreSized (ghost_after env mix c of.step.move has.ghost)
+    step-sized c op of =
+        let one = subst (λ (j : Option Job). IfSome j (OneJob env keeps)) of.is (has.ones c).0 in
+        moved-sized env mix c of.step.move has.ghost has.sized
+        (λ slot shape seed serial at.
+        let does = subst (λ m. Does env mix m op (old_of w.core.words op) (held_of of.job)
+        (held_next (job_after mix env of.job (old_of w.core.words op)))) at of.step.does in
+        let ready = subst (ReadyFor env mix c (mem env mix w.core.words) has.ghost) at of.step.ready in
+        attach-sized env keeps mix c (mem env mix w.core.words) has.ghost of.job of.within of.knows one does.last slot shape does.within
+        (sym of.plan ∙ does.attaching) ready.made.shape_is)
+
+    -- ---- one event
+
+    abbrev after_event : (event : Event) → Ghost
+    after_event event = (kept env mix L w.core has.ghost event has.all has.inv).ghost
+
+    event-sized : (event : Event) → AreSized (after_event event)
+    event-sized Enroll = subst AreSized (sym (kept env mix L w.core has.ghost Enroll has.all has.inv).ghost_kept) has.sized
+    event-sized (Begin c call) =
+        subst AreSized (sym (kept env mix L w.core has.ghost (Begin c call) has.all has.inv).ghost_kept) has.sized
+    event-sized (Step c) = go (planned_in w.core c) refl
+      where
+        go : (plan : Option Op) → planned_in w.core c ≡ plan → AreSized (after_event (Step c))
+        go None is =
+            subst AreSized (sym ((kept env mix L w.core has.ghost (Step c) has.all has.inv).ghost_kept.none is)) has.sized
+        go (Some op) is =
+            let moves = (kept env mix L w.core has.ghost (Step c) has.all has.inv).ghost_kept.some op is in
+            subst AreSized (sym moves.1) (step-sized c op moves.0)
+
+    begun-one : (c : ℕ) (call : Call) (machine : Option (Doing L)) → beginning_in w.core c call ≡ machine
+        → ViewOne (view_of (world_step mix w (Begin c call)) c)
+    begun-one c call None is = subst (λ (v : World L). ViewOne (view_of v c)) (sym (begin_none L mix w c call is)) (has.ones c)
+    begun-one c call (Some machine) is =
+        let can = beginning-some w.core.env w.core.enrolled w.core.locals c call machine is in
+        let place = has_place L mix env w.core c has.all.stays can.below in
+        let first = first_job-machine env c call machine (made_in L mix env w.core c call machine has.all.stays can) in
+        subst ViewOne (sym (begin_self L mix w c call machine is place)) (
+          subst (λ (j : Option Job). IfSome j (OneJob env keeps)) (sym first.does)
+              (first-so env keeps (first_job env call) first.job (first-one env keeps call) first.first),
+          (has.ones c).1,
+        )
+
+    stepped-one : (c : ℕ) (plan : Option Op) → planned_in w.core c ≡ plan → ViewOne (view_of (world_step mix w (Step c)) c)
+    stepped-one c None is = subst (λ (v : World L). ViewOne (view_of v c)) (sym (step_none L mix w c is)) (has.ones c)
+    stepped-one c (Some op) is =
+        let can = planned-some w.core.env w.core.enrolled w.core.locals c op is in
+        let place = has_place L mix env w.core c has.all.stays can.below in
+        subst ViewOne (sym (step_self L mix w c op is place)) (step-one c op is)
+
+    event-ones : (event : Event) (k : ℕ) → ViewOne (view_of (world_step mix w event) k)
+    event-ones Enroll k = has.ones k
+    event-ones (Begin c call) k = elim (cases_eq k c) [
+      | inl e ↦
+          subst (λ d. ViewOne (view_of (world_step mix w (Begin c call)) d)) (sym e) (begun-one c call (beginning_in w.core c call) refl)
+      | inr ne ↦ subst ViewOne (sym (begin_other L mix w c call k ne)) (has.ones k)
+    ]
+    event-ones (Step c) k = elim (cases_eq k c) [
+      | inl e ↦ subst (λ d. ViewOne (view_of (world_step mix w (Step c)) d)) (sym e) (stepped-one c (planned_in w.core c) refl)
+      | inr ne ↦ subst ViewOne (sym (step_other L mix w c k ne)) (has.ones k)
+    ]
+
+    event-has : (event : Event) → IsAdmittedEvent env.config.kind event → HasOne (world_step mix w event)
+    event-has event may =
+        let k = kept env mix L w.core has.ghost event has.all has.inv in
+        record {
+          ghost = k.ghost;
+          inv = k.inv;
+          all = event-all L mix env w event may has.all;
+          sized = event-sized event;
+          ones = event-ones event;
+        }
+
+  -- ---- all events
+
+  opening-one : HasOne (opening env)
+  opening-one =
+      let flat = opens_flat env in
+      record {
+        ghost = opening_ghost env;
+        inv = opening_inv env mix L;
+        all = opens-all L mix env;
+        sized = λ τ l. omega (arith, ap size_of flat.shape ∙ flat.size, first);
+        ones = λ c. rw (idle_at_opening env mix L c) (tt, tt);
+      }
+
+  runs-one : (events : List Event) → IsAdmitted env.config.kind events
+      → ((i : ℕ) → HasFew env (words_before L mix env events i)) → HasOne (run_of mix env events)
+  runs-one =
+      induct_by_last
+      (λ events. IsAdmitted env.config.kind events → ((i : ℕ) → HasFew env (words_before L mix env events i)) → HasOne (run_of mix env events))
+      (λ none few. opening-one)
+      (λ events event each all few.
+      let parts = AllByRecursion-cut (IsAdmittedEvent env.config.kind) events (event ∷ []) all in
+      let before = before-push L mix env events event (HasFew env) few in
+      subst HasOne (sym (run_of-push L mix env events event))
+      (event-has events parts.0 before (each parts.0 before) event parts.1.0))
+
+  pub runs-taken : (events : List Event) (c : ℕ) → IsAdmitted env.config.kind events
+      → ((i : ℕ) → HasFew env (words_before L mix env events i))
+      → AllByRecursion Taken ((run_of {M = L} mix env events).books c).finished
+  runs-taken events c admitted few = ((runs-one events admitted few).ones c).1
+
+pub one_caller : (M : Type 0) (mix : ℕ → ℕ → ℕ → ℕ) → OneCaller M mix
+one_caller M mix env events c admitted is =
+    runs-taken M mix env is.keeps_size is.first events c admitted
+    (λ i.
+    let first = taken (IsAdmittedEvent env.config.kind) i events admitted in
+    let words = words_before M mix env events i in
+    let count = count-few M mix env (take i events) 15 first (below words (is.few i)) in
+    let callers = env.agrees.callers_same in
+    let one = is.one in
+    record { count = omega (arith, count, callers, one); bound = is.few i })
+  where
+    below : (words : List ℕ) → (AreBound (stands_for env.geometry words) 16 → ⊥) → (many : ℕ)
+        → AreBound (stands_for env.geometry words) many → many ≤ 15
+    below words none many are = elim (cases_lt 15 many) [
+      | inl more ↦ absurd (none (fewer-AreBound (stands_for env.geometry words) many 16 (omega (arith, more)) are))
+      | inr fewer ↦ omega (arith, fewer)
+    ]
