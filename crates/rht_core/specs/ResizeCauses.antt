@@ -1,7 +1,7 @@
 -- Why a bind that found the last table full was refused or has to be made again: what its operations show of that.
 -- Every address that a row names is one of the table's words, since places alone don't tell it from a word that isn't there.
 use Rattle.std.specs.Prelude.{◌≡◌, ◌≢◌, ℕ, Some, ◌*◌, ◌+◌, ◌<◌, ◌≤◌, ◌⊎◌, List, [], ◌∷◌, ◌++◌, length, map, if◌then◌else◌}
-use Rattle.std.specs.List.{AllByRecursion, Any}
+use Rattle.std.specs.List.{Any}
 use Rattle.rht_words.specs.declared.op.Op.{Op}
 use Rattle.rht_words.specs.declared.op.Op.TheVariants.{Load, Exchange}
 use Rattle.rht_words.specs.declared.env.Env.{Env}

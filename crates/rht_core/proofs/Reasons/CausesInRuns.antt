@@ -2,7 +2,8 @@
 --
 -- A bind keeps of itself what its operations so far saw: while it takes a node, that each node below
 -- the one at which it stands was taken; from the load of a table's shape on, that this is the last
--- table that it walked, while it wants a further table too; behind the raise of the count, that too; while
+-- table that it walked, while it wants a further table too, and in its bucket which nodes it counted;
+-- behind the raise of the count, that too; while
 -- its state holds a refusal, what the refusal says; and all the way, whether it has attached a table. So
 -- when it answers all of that was seen. A rebind keeps the first of these
 -- alone, a release and a look-up nothing; and a reading of the count loads what it answers by its one
@@ -203,6 +204,12 @@ module _ (env : Env) (words_at : ℕ → List ℕ) where
   SawNew (news.Owner node) steps = Unit {0}
   SawNew (news.ListLink node) steps = Unit {0}
 
+  -- once the walk has ended: how many nodes it counted in the bucket
+  abbrev SawCounted : Claimed → ℕ → List Did → Type 0
+  SawCounted claimed length steps =
+      let counted = HasCounted env.geometry words_at claimed.bucket.place length in
+      WalkedSeeing env.geometry claimed.table claimed.shape counted steps
+
   abbrev SawAt : BindAt → List Did → Type 0
   SawAt (at.Filling new) steps = SawNew new.at steps
   SawAt (at.CurrentTable attempt) steps = Unit {0}
@@ -214,8 +221,7 @@ module _ (env : Env) (words_at : ℕ → List ℕ) where
   SawAt (at.ChainLink list) steps = Walked env.geometry list.claimed.table list.claimed.shape steps
   SawAt (at.LinkBehind list link) steps = Walked env.geometry list.claimed.table list.claimed.shape steps
   SawAt (at.Replacing list relink) steps = Walked env.geometry list.claimed.table list.claimed.shape steps
-  SawAt (at.Future claimed length) steps =
-      WalkedSeeing env.geometry claimed.table claimed.shape (HasCounted env.geometry words_at claimed.bucket.place length) steps
+  SawAt (at.Future claimed length) steps = SawCounted claimed length steps
   SawAt (at.Count claimed) steps = Walked env.geometry claimed.table claimed.shape steps
   SawAt (at.Link claimed) steps = Walked env.geometry claimed.table claimed.shape steps
   SawAt (at.Raise claimed) steps = Walked env.geometry claimed.table claimed.shape steps
@@ -223,8 +229,10 @@ module _ (env : Env) (words_at : ℕ → List ℕ) where
   SawAt (at.Unlocking attempt table unlock next) steps = SawForReply (answer_behind next) steps
   SawAt (at.UnlockingFull growing unlock) steps =
       Behind env words_at growing.table growing.shape (SawWhy env words_at growing.why growing.shape) steps
-  SawAt (at.Root growing) steps = Behind env words_at growing.table growing.shape (SawWhy env words_at growing.why growing.shape) steps
-  SawAt (at.GrowthCount growing root) steps = Behind env words_at growing.table growing.shape (SawRoot env words_at growing root) steps
+  SawAt (at.Root growing) steps =
+      Behind env words_at growing.table growing.shape (SawWhy env words_at growing.why growing.shape) steps
+  SawAt (at.GrowthCount growing root) steps =
+      Behind env words_at growing.table growing.shape (SawRoot env words_at growing root) steps
   SawAt (at.Making growing size make) steps =
       Behind env words_at growing.table growing.shape (SawToMake env words_at growing size make.exponent (make.at, Go)) steps
   SawAt (at.FutureAgain growing refusal) steps =
@@ -265,8 +273,8 @@ module _ (env : Env) (words_at : ℕ → List ℕ) where
     no_attach : IsNoAttach env.geometry did
 
   -- such are operations that load nothing, add nothing and attach no table
-  still : (did : Did) (op : Op) → did.op ≡ op → ((place : ℕ) → op ≢ Load place) → ((place value : ℕ) → op ≢ Add place value)
-      → IsNoFutureExchange env.geometry op → IsStill did
+  still : (did : Did) (op : Op) → did.op ≡ op → ((place : ℕ) → op ≢ Load place)
+      → ((place value : ℕ) → op ≢ Add place value) → IsNoFutureExchange env.geometry op → IsStill did
   still did op is none no_add apart = record {
     aside = aside env.geometry did op is none no_add;
     no_key = no_key env.geometry did op is none;
@@ -334,8 +342,10 @@ module _ (env : Env) (words_at : ℕ → List ℕ) where
   SawFor-push (Bound kick) steps did none saw = Raised-push kick steps did none saw
   SawFor-push (Exists owner) steps did none saw = saw
   SawFor-push (Again table) steps did none saw = HasFollowed-push table steps did none.aside saw
-  SawFor-push (Busy root last) steps did none saw = BusySeen-push env words_at root last steps did none.aside.no_shape none.no_key saw
-  SawFor-push (NoTable size) steps did none saw = NoTableSeen-push env words_at size steps did none.aside.no_shape none.no_key saw
+  SawFor-push (Busy root last) steps did none saw =
+      BusySeen-push env words_at root last steps did none.aside.no_shape none.no_key saw
+  SawFor-push (NoTable size) steps did none saw =
+      NoTableSeen-push env words_at size steps did none.aside.no_shape none.no_key saw
   SawFor-push _ steps did none saw = absurd saw
 
   -- ---- an operation of a bind
@@ -434,7 +444,7 @@ module _ (env : Env) (words_at : ℕ → List ℕ) where
   bound-saw Listed claimed first before steps walked = walked
 
   seen-saw : (kind : Kind) (claimed : Claimed) (found before : Option ℕ) (length : ℕ) (steps : List Did)
-      → WalkedSeeing env.geometry claimed.table claimed.shape (HasCounted env.geometry words_at claimed.bucket.place length) steps
+      → SawCounted claimed length steps
       → SawAt (found_or_future kind claimed found before length) steps
   seen-saw kind claimed None before length steps seeing = seeing
   seen-saw kind claimed (Some first) before length steps seeing =
@@ -453,7 +463,7 @@ module _ (env : Env) (words_at : ℕ → List ℕ) where
   future-saw : (claimed : Claimed) (length : ℕ) (future : Option ℕ) (steps : List Did)
       → ((behind : List Did) → 16 ≤ length → HasCounted env.geometry words_at claimed.bucket.place length behind
       → SawLongChain env.geometry words_at claimed.shape behind)
-      → WalkedSeeing env.geometry claimed.table claimed.shape (HasCounted env.geometry words_at claimed.bucket.place length) steps
+      → SawCounted claimed length steps
       → SawAt (future_or_count claimed length future) steps
   future-saw claimed length None steps long seeing =
       by_test (λ t. SawAt (cond t (unlocking_full claimed full.Chain) (at.Count claimed)) steps) (nat_le 16 length)
@@ -609,8 +619,8 @@ module _ (env : Env) (words_at : ℕ → List ℕ) where
         subst (λ table. WalkedAt env.geometry table after.at steps) (sym same) walked
     found-saw c attempt locate (after, Done there) memory ghost steps knows same walked =
         let place = knows.place in
-        rw knows.there (subst (λ table. WalkedSeeing env.geometry table there.shape (HasCounted env.geometry words_at place 0) steps)
-        (sym same)
+        let counted = HasCounted env.geometry words_at place 0 in
+        rw knows.there (subst (λ table. WalkedSeeing env.geometry table there.shape counted steps) (sym same)
         (record {
           walked = walked.walked;
           saw = record {
@@ -678,7 +688,8 @@ module _ (env : Env) (words_at : ℕ → List ℕ) where
         begins-making env words_at growing root size behind did is (sym (ap (λ b. cond b (2 * size) size) below)) so)
         saw)
         (λ other.
-        Behind-push env words_at growing.table growing.shape (SawRoot env words_at growing root) (SawOther env words_at growing root) steps did none
+        Behind-push env words_at growing.table growing.shape (SawRoot env words_at growing root)
+        (SawOther env words_at growing root) steps did none
         (λ behind so. other-saw env words_at growing root behind did is (eqb-false root growing.table other) so) saw))
 
     made-saw : (growing : Growing) (size : ℕ) (make : MakeModel) (r : MakeAt × Next (Option (ℕ × ℕ))) (all : List Did)
@@ -694,7 +705,8 @@ module _ (env : Env) (words_at : ℕ → List ℕ) where
     -- a future that was loaded again
     again-saw : (growing : Growing) (refusal : Refusal) (future : Option ℕ) (steps : List Did) (did : Did)
         → growing.table < 8 → did.op ≡ Load (place_of env.geometry (Slot growing.table FutureWord)) → did.old ≤ 8
-        → slot_of did.old ≡ future → Behind env words_at growing.table growing.shape (SawRefusal env words_at growing refusal) steps
+        → slot_of did.old ≡ future
+        → Behind env words_at growing.table growing.shape (SawRefusal env words_at growing refusal) steps
         → SawAt (refused_or_found env once growing refusal future) (steps ++ did ∷ [])
     again-saw growing (refusals.Busy root) None steps did within is few reads saw =
         busy-saw env words_at growing root steps did
@@ -856,7 +868,8 @@ module _ (env : Env) (words_at : ℕ → List ℕ) where
         (Behind-push env words_at growing.table growing.shape (SawToMake env words_at growing size make.exponent (make.at, Go))
         (SawToMake env words_at growing size make.exponent after) steps did
         (make_loads make.geometry make.exponent make.seed make.at did does.planned)
-        (λ behind so_far. making-saw env words_at growing size make behind did does.within.at_in.make_in does.planned so_far) saw)
+        (λ behind so_far. making-saw env words_at growing size make behind did does.within.at_in.make_in does.planned
+        so_far) saw)
     bind-saw (at.FutureAgain growing refusal) steps did does now saw so =
         again-saw growing refusal (slot_of did.old) steps did does.within.at_in.growing_in.table_in does.planned
         (again_few growing refusal did does) refl saw
