@@ -12,5 +12,5 @@ pub mod RefusedBinds
 pub mod CausesInRuns
 -- in every run a listing lists each owner that its operations loaded
 pub mod ListingsKept
--- by which loads a resizing chose what is due
+-- by which loads a resizing chose what is due, and which table it made the current one
 pub mod WorkChoices

@@ -1,6 +1,6 @@
 -- Why a resizing was answered as it was: what its operations show of that.
 -- Every address that a row names is one of the table's words, since places alone don't tell it from a word that isn't there.
-use Rattle.std.specs.Prelude.{◌≡◌, ◌≢◌, ◌↔◌, ℕ, ◌*◌, ◌+◌, ◌<◌, ◌==◌, ◌⊎◌, Bool, true, List, [], ◌∷◌, ◌++◌, map, Some, None}
+use Rattle.std.specs.Prelude.{◌≡◌, ◌≢◌, ◌↔◌, ℕ, ◌+◌, ◌<◌, ◌==◌, ◌⊎◌, Bool, true, List, [], ◌∷◌, ◌++◌, map, Option, Some, None}
 use Rattle.std.specs.List.{AllByRecursion, Any}
 use Rattle.rht_words.specs.declared.op.Op.TheVariants.{Store, Exchange}
 use Rattle.rht_words.specs.declared.env.Env.{Env}
@@ -33,14 +33,16 @@ pub record TakesWorkLock (g : Geometry) (did : Did) : Type 0 where
 
 -- ---- what was chosen
 
+-- the operation loaded the future of the table of this slot, and found that of this one in it, or none
+abbrev pub ReadsFuture : Geometry → ℕ → Option ℕ → Did → Type 0
+ReadsFuture g table next did = Loaded g (Slot table FutureWord) did.old did × (slot_of did.old ≡ next)
+
 -- the operations loaded one future after another from the table of this slot on, up to that of the last one, which has none
 abbrev pub AreFuturesRead : Geometry → ℕ → ℕ → List Did → Type 0
 AreFuturesRead g root last [] = ⊥
-AreFuturesRead g root last (did ∷ []) =
-    Loaded g (Slot root FutureWord) did.old did × (slot_of did.old ≡ None) × (root ≡ last)
+AreFuturesRead g root last (did ∷ []) = ReadsFuture g root None did × (root ≡ last)
 AreFuturesRead g root last (did ∷ next ∷ dids) =
-    (slot : ℕ) × Loaded g (Slot root FutureWord) did.old did × (slot_of did.old ≡ Some slot)
-    × AreFuturesRead g slot last (next ∷ dids)
+    (slot : ℕ) × ReadsFuture g root (Some slot) did × AreFuturesRead g slot last (next ∷ dids)
 
 -- A resizing took the work lock, loaded which table is the current one, looked for the last table behind it, loaded that one's shape
 -- and the count of ports, and by these chose what is due.
@@ -76,7 +78,7 @@ pub record SawNoTableDue (env : Env) (size : ℕ) (steps : List Did) : Type 0 wh
 -- no table was due, and behind this the current table was found to have no future
 pub record SawNothingDue (env : Env) (steps : List Did) : Type 0 where
   pub chose : HasChosen env choices.Nothing steps
-  pub none : Any (λ did. Loaded env.geometry (Slot chose.root FutureWord) did.old did × (slot_of did.old ≡ None)) chose.behind
+  pub none : Any (ReadsFuture env.geometry chose.root None) chose.behind
 
 -- ---- what was moved
 
@@ -122,19 +124,18 @@ abbrev pub IsUnattached : Geometry → ℕ → Choice → List Did → Type 0
 IsUnattached g last choice steps =
     (choice ≢ choices.Nothing) × AllByRecursion (λ did. (slot : ℕ) → Attaches g last slot did → ⊥) steps
 
--- A resizing made the table the current one that it had loaded as the future of the one which was current. It says that there is more
--- to do exactly where it then found that the new current table has a future, or where a table that was due wasn't attached.
+-- A resizing made the table the current one that it had loaded as the future of the one which was current. It says that there is
+-- more to do exactly where it then found that the new current table has a future, or where a table that was due wasn't attached.
 pub record SawPublished (env : Env) (again : Bool) (steps : List Did) : Type 0 where
   pub choice : Choice
   pub chose : HasChosen env choice steps
   pub table : ℕ
   pub behind : List Did
   pub published : HasPublished env.geometry table behind chose.behind
-  pub followed :
-      Any (λ did. Loaded env.geometry (Slot chose.root FutureWord) did.old did × (slot_of did.old ≡ Some table)) published.before
+  pub followed : Any (ReadsFuture env.geometry chose.root (Some table)) published.before
   pub again_right :
       (again ≡ true)
-      ↔ (Any (λ did. Loaded env.geometry (Slot table FutureWord) did.old did × (slot_of did.old ≢ None)) behind
+      ↔ (Any (λ did. (next : ℕ) × ReadsFuture env.geometry table (Some next) did) behind
       ⊎ IsUnattached env.geometry chose.last choice chose.behind)
 
 -- or it stopped, and then there is more to do

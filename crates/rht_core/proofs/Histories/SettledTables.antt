@@ -70,9 +70,9 @@ module _ (env : Env) where
   futures-load : (root last : ℕ) (futures : List Did) → AreFuturesRead env.geometry root last futures
       → AllByRecursion IsLoad futures
   futures-load root last [] read = absurd read
-  futures-load root last (did ∷ []) read = ((_, read.0.word.loads), tt)
-  futures-load root last (did ∷ next ∷ dids) (slot, read, leads, rest) =
-      ((_, read.word.loads), futures-load slot last (next ∷ dids) rest)
+  futures-load root last (did ∷ []) read = ((_, read.0.0.word.loads), tt)
+  futures-load root last (did ∷ next ∷ dids) (slot, read, rest) =
+      ((_, read.0.word.loads), futures-load slot last (next ∷ dids) rest)
 
   module _ (steps : List Did) (saw : SawIdle env steps) where
     abbrev chose : HasChosen env choices.Nothing steps
@@ -97,7 +97,7 @@ module _ (env : Env) where
           inr (ap (word_after chose.shape.old) chose.shape_read.word.loads),
           (
             inr (ap (word_after chose.count.old) chose.count_read.word.loads),
-            (inr (ap (word_after saw.future.old) saw.future_read.word.loads), rest),
+            (inr (ap (word_after saw.future.old) saw.none.0.word.loads), rest),
           ),
         ) in
         let futures = AllByRecursion-append (Spares place) chose.futures (chose.shape ∷ chose.count ∷ saw.future ∷ saw.rest)
@@ -159,17 +159,17 @@ module _ (M : Type 0) (mix : ℕ → ℕ → ℕ → ℕ) (env : Env) (events : 
     no_future =
         ap slot_of
         (stands (Slot root FutureWord) saw.future.old saw.future
-        (behind_there env past.steps saw saw.future (2, omega arith, refl)) saw.future_read (λ e. cc) (λ e. cc))
-        ∙ saw.none
+        (behind_there env past.steps saw saw.future (2, omega arith, refl)) saw.none.0 (λ e. cc) (λ e. cc))
+        ∙ saw.none.1
 
     -- so the search for the last table ended at the current one
     ends_there : (last : ℕ) (futures : List Did) → AreFuturesRead env.geometry root last futures
         → ((did : Did) → Contains futures did → Contains past.steps did) → root ≡ last
     ends_there last [] read among = absurd read
-    ends_there last (did ∷ []) read among = read.2
-    ends_there last (did ∷ next ∷ dids) (slot, read, leads, rest) among =
-        let same = stands (Slot root FutureWord) did.old did (among did (0, omega arith, refl)) read (λ e. cc) (λ e. cc) in
-        let both : ◌≡◌ {A = Option ℕ} None (Some slot) = sym no_future ∙ ap slot_of same ∙ leads in
+    ends_there last (did ∷ []) read among = read.1
+    ends_there last (did ∷ next ∷ dids) (slot, read, rest) among =
+        let same = stands (Slot root FutureWord) did.old did (among did (0, omega arith, refl)) read.0 (λ e. cc) (λ e. cc) in
+        let both : ◌≡◌ {A = Option ℕ} None (Some slot) = sym no_future ∙ ap slot_of same ∙ read.1 in
         absurd (cc)
 
     last_is : root ≡ saw.chose.last

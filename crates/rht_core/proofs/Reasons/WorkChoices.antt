@@ -1,9 +1,9 @@
--- By which loads a resizing chose what is due, and that a table which it couldn't make had no slot or no run of pages; that one which found
--- no future had chosen nothing; and which table it made the current one, and whether it said rightly that there is more to do.
+-- By which loads a resizing chose what is due, and that a table which it couldn't make had no slot or no run of pages; that one
+-- which found no future had nothing due; and which table it made the current one, and when it said that there is more to do.
 --
--- What was chosen is kept behind the choice, with whether a table was attached since. Where one was due there is a future to be found, by
--- what the caller knows then; and a move never stops, since no table is nested.
-use Rattle.std.proofs.Common.{◌≡◌, ◌≢◌, ◌⊎◌, ◌↔◌, ℕ, ◌<◌, ◌≤◌, ◌+◌, Bool, true, false, cond, nat_lt, List, [], ◌∷◌, ◌++◌, length, length-append, get_or, map, append_assoc, refl, sym, ap, ◌∙◌, subst, inl, inr, arith}
+-- What was chosen is kept behind the choice, with whether a table was attached since. Where one was due the current table has a
+-- future, by what the caller knows then; and a move never stops, since no table is nested.
+use Rattle.std.proofs.Common.{◌≡◌, ◌≢◌, ◌⊎◌, ◌↔◌, ℕ, ◌<◌, ◌+◌, Bool, true, false, cond, nat_lt, List, [], ◌∷◌, ◌++◌, length, length-append, get_or, map, append_assoc, refl, sym, ap, ◌∙◌, subst, inl, inr, arith}
 use Rattle.std.specs.Prelude.{Option, Some, None, ◌==◌, ◌||◌}
 use Rattle.std.specs.List.{AllByRecursion, Any}
 use Rattle.std.proofs.Math.Seq.{get_or-append_seam}
@@ -58,7 +58,7 @@ use Rattle.rht_move.specs.Work.{plan_at, cut_plan, after_at, lock_seen, seeking,
 use Rattle.rht_core.specs.Jobs.{works}
 use Rattle.rht_core.specs.Traces.{Did, performed_of}
 use Rattle.rht_core.specs.ResizeCauses.{Loaded, Attaches}
-use Rattle.rht_core.specs.WorkCauses.{TakesWorkLock, FindsWorkLocked, AreFuturesRead, HasChosen, HasPublished, IsUnattached, SawNoTableDue, SawNothingDue, SawPublished}
+use Rattle.rht_core.specs.WorkCauses.{TakesWorkLock, FindsWorkLocked, ReadsFuture, AreFuturesRead, HasChosen, HasPublished, IsUnattached, SawNoTableDue, SawNothingDue, SawPublished}
 use Rattle.rht_core.proofs.Theory.Ghosts.{index_at}
 use Rattle.rht_core.proofs.Theory.Steps.{mem, by_test}
 use Rattle.rht_core.proofs.Theory.Knowns.{Onward, Rooted}
@@ -83,28 +83,22 @@ module _ (g : Geometry) where
   -- the futures that were loaded lead from one table to another
   abbrev pub AreFuturesTo : ℕ → ℕ → List Did → Type 0
   AreFuturesTo root slot [] = root ≡ slot
-  AreFuturesTo root slot (did ∷ dids) =
-      (next : ℕ) × Loaded g (Slot root FutureWord) did.old did × (slot_of did.old ≡ Some next) × AreFuturesTo next slot dids
+  AreFuturesTo root slot (did ∷ dids) = (next : ℕ) × ReadsFuture g root (Some next) did × AreFuturesTo next slot dids
 
   -- and to the next one
   pub futures_more : (root slot next : ℕ) (futures : List Did) (did : Did) → AreFuturesTo root slot futures
-      → Loaded g (Slot slot FutureWord) did.old did → slot_of did.old ≡ Some next
-      → AreFuturesTo root next (futures ++ did ∷ [])
-  futures_more root slot next [] did same reads is =
-      (next, subst (λ s. Loaded g (Slot s FutureWord) did.old did) (sym same) reads, is, refl)
-  futures_more root slot next (f ∷ futures) did (after, read, leads, rest) reads is =
-      (after, read, leads, futures_more after slot next futures did rest reads is)
+      → ReadsFuture g slot (Some next) did → AreFuturesTo root next (futures ++ did ∷ [])
+  futures_more root slot next [] did same reads = (next, subst (λ s. ReadsFuture g s (Some next) did) (sym same) reads, refl)
+  futures_more root slot next (f ∷ futures) did (after, read, rest) reads =
+      (after, read, futures_more after slot next futures did rest reads)
 
   -- or the table to which they lead is the last one
   pub futures_end : (root slot : ℕ) (futures : List Did) (did : Did) → AreFuturesTo root slot futures
-      → Loaded g (Slot slot FutureWord) did.old did → slot_of did.old ≡ None
-      → AreFuturesRead g root slot (futures ++ did ∷ [])
-  futures_end root slot [] did same reads none =
-      (subst (λ s. Loaded g (Slot s FutureWord) did.old did) (sym same) reads, none, same)
-  futures_end root slot (f ∷ []) did (after, read, leads, rest) reads none =
-      (after, read, leads, futures_end after slot [] did rest reads none)
-  futures_end root slot (f ∷ h ∷ futures) did (after, read, leads, rest) reads none =
-      (after, read, leads, futures_end after slot (h ∷ futures) did rest reads none)
+      → ReadsFuture g slot None did → AreFuturesRead g root slot (futures ++ did ∷ [])
+  futures_end root slot [] did same reads = (subst (λ s. ReadsFuture g s None did) (sym same) reads, same)
+  futures_end root slot (f ∷ []) did (after, read, rest) reads = (after, read, futures_end after slot [] did rest reads)
+  futures_end root slot (f ∷ h ∷ futures) did (after, read, rest) reads =
+      (after, read, futures_end after slot (h ∷ futures) did rest reads)
 
   -- runs that were seen taken in their turn have been, whatever comes behind
   pub turn_more : (pages next : ℕ) (steps more : List Performed) → AreRunsSeenInTurn g pages next steps
@@ -250,8 +244,7 @@ module _ (env : Env) where
   pub record Moves (future : ℕ) (again : Bool) (steps : List Did) : Type 0 where
     pub choice : Choice
     pub chose : HasChosen env choice steps
-    pub followed :
-        Any (λ did. Loaded env.geometry (Slot chose.root FutureWord) did.old did × (slot_of did.old ≡ Some future)) chose.behind
+    pub followed : Any (ReadsFuture env.geometry chose.root (Some future)) chose.behind
     pub apart : chose.root ≢ future
     pub again_right : (again ≡ true) ↔ IsUnattached env.geometry chose.last choice chose.behind
 
@@ -271,8 +264,7 @@ module _ (env : Env) where
     pub future : Did
     pub rest : List Did
     pub behind_is : chose.behind ≡ future ∷ rest
-    pub future_read : Loaded env.geometry (Slot chose.root FutureWord) future.old future
-    pub none : slot_of future.old ≡ None
+    pub none : ReadsFuture env.geometry chose.root None future
     pub on_lock : AllByRecursion (λ did. op_place did.op ≡ place_of env.geometry WorkLock) rest
 
   -- so it saw that nothing was due
@@ -280,9 +272,8 @@ module _ (env : Env) where
   SawIdle-nothing steps saw = record {
     chose = saw.chose;
     none =
-        subst
-        (Any (λ did. Loaded env.geometry (Slot saw.chose.root FutureWord) did.old did × (slot_of did.old ≡ None)))
-        (sym saw.behind_is) (0, saw.future, omega arith, refl, (saw.future_read, saw.none));
+        subst (Any (ReadsFuture env.geometry saw.chose.root None)) (sym saw.behind_is)
+        (0, saw.future, omega arith, refl, saw.none);
   }
 
   abbrev pub RehashSaw : Rehash → List Did → Type 0
@@ -336,6 +327,10 @@ module _ (env : Env) where
       → did.op ≡ Load (place_of env.geometry address) → Loaded env.geometry address did.old did
   reads address did there is = record { word = record { there = there; loads = is }; found = refl }
 
+  reads_future : (slot : ℕ) (did : Did) → slot < 8 → did.op ≡ Load (place_of env.geometry (Slot slot FutureWord))
+      → ReadsFuture env.geometry slot (slot_of did.old) did
+  reads_future slot did l is = (reads (Slot slot FutureWord) did (l, tt) is, refl)
+
   lock-saw : (steps : List Did) (did : Did) → did.op ≡ plan_at env at.WorkLock → steps ≡ []
       → SawNextWork (steps ++ did ∷ []) (lock_seen did.old)
   lock-saw steps did is none =
@@ -363,20 +358,17 @@ module _ (env : Env) where
     to = refl;
   }
 
-  seek-saw : (root slot : ℕ) (steps : List Did) (did : Did) (next : Option ℕ) → slot < 8
-      → did.op ≡ Load (place_of env.geometry (Slot slot FutureWord)) → slot_of did.old ≡ next → Seeks root slot steps
-      → SeekSaw root (next_or_shape slot next) (steps ++ did ∷ [])
-  seek-saw root slot steps did None l is none seek = record {
+  seek-saw : (root slot : ℕ) (steps : List Did) (did : Did) (next : Option ℕ) → ReadsFuture env.geometry slot next did
+      → Seeks root slot steps → SeekSaw root (next_or_shape slot next) (steps ++ did ∷ [])
+  seek-saw root slot steps did None reads seek = record {
     futures = seek.futures ++ did ∷ [];
     began = Began-push root seek.futures steps did seek.began;
-    read = futures_end env.geometry root slot seek.futures did seek.to (reads (Slot slot FutureWord) did (l, tt) is) none;
+    read = futures_end env.geometry root slot seek.futures did seek.to reads;
   }
-  seek-saw root slot steps did (Some next) l is leads seek = record {
+  seek-saw root slot steps did (Some next) reads seek = record {
     futures = seek.futures ++ did ∷ [];
     began = Began-push root seek.futures steps did seek.began;
-    to =
-        futures_more env.geometry root slot next seek.futures did seek.to
-        (reads (Slot slot FutureWord) did (l, tt) is) leads;
+    to = futures_more env.geometry root slot next seek.futures did seek.to reads;
   }
 
   last-saw : (root : ℕ) (h : Geometry) (state : LastTableAt) (steps : List Did) (did : Did) → IsLastTableAtIn state
@@ -384,7 +376,7 @@ module _ (env : Env) where
       → let next = last_table_after (record { geometry = h; at = state }) did.old in
       SawAtWork (last_seen root next.0 next.1) (steps ++ did ∷ [])
   last-saw root h (seeks.Future slot) steps did l is seek =
-      seek-saw root slot steps did (slot_of did.old) l is refl seek
+      seek-saw root slot steps did (slot_of did.old) (reads_future slot did l is) seek
   last-saw root h (seeks.Shape slot) steps did l is found = record {
     futures = found.futures;
     shape = did;
@@ -533,9 +525,9 @@ module _ (env : Env) where
         );
       }
 
-  -- the operation finds that the table of this slot has a future
+  -- the operation found that the table of this slot has a future
   abbrev FindsFurther : ℕ → Did → Type 0
-  FindsFurther table did = Loaded env.geometry (Slot table FutureWord) did.old did × (slot_of did.old ≢ None)
+  FindsFurther table did = (next : ℕ) × ReadsFuture env.geometry table (Some next) did
 
   -- an operation of the making among what it performed
   performed-push : (make : MakeModel) (behind : List Did) (did : Did) → did.op ≡ make_plan make
@@ -642,14 +634,13 @@ module _ (env : Env) where
 
   -- there is none only where nothing was due
   nothing-due : (choice : Choice) (steps : List Did) (chose : HasChosen env choice steps) (future : Did) → choice ≡ Nothing
-      → chose.behind ≡ future ∷ [] → Loaded env.geometry (Slot chose.root FutureWord) future.old future
-      → slot_of future.old ≡ None → SawIdle steps
-  nothing-due Nothing steps chose future is behind read none =
-      record { chose = chose; future = future; rest = []; behind_is = behind; future_read = read; none = none; on_lock = tt }
-  nothing-due (Attach size) steps chose future is behind read none = absurd (cc)
-  nothing-due Later steps chose future is behind read none = absurd (cc)
+      → chose.behind ≡ future ∷ [] → ReadsFuture env.geometry chose.root None future → SawIdle steps
+  nothing-due Nothing steps chose future is behind read =
+      record { chose = chose; future = future; rest = []; behind_is = behind; none = read; on_lock = tt }
+  nothing-due (Attach size) steps chose future is behind read = absurd (cc)
+  nothing-due Later steps chose future is behind read = absurd (cc)
 
-  -- whether a further call has something to do is whether the table that was due isn't attached
+  -- a further call has something to do where the table that was due isn't attached
   later-right : (due : Due) (last : ℕ) (choice : Choice) (behind : List Did) → DueSaw due last choice behind
       → (is_later due ≡ true) ↔ IsUnattached env.geometry last choice behind
   later-right dues.Nothing last choice behind saw = (λ is. absurd (cc), λ so. absurd (so.0 saw))
@@ -661,37 +652,34 @@ module _ (env : Env) where
   )
   later-right dues.Later last choice behind saw = (λ is. saw, λ so. refl)
 
-  future-saw : (root : ℕ) (due : Due) (next : Option ℕ) (steps : List Did) (did : Did) → root < 8
-      → did.op ≡ plan_at env (at.RootFuture root due) → slot_of did.old ≡ next → (next ≡ None → due ≡ dues.Nothing)
-      → ((future : ℕ) → slot_of did.old ≡ Some future → root ≢ future)
-      → HasDue root due steps → SawAtWork (future_or_idle root due next) (steps ++ did ∷ [])
+  future-saw : (root : ℕ) (due : Due) (next : Option ℕ) (steps : List Did) (did : Did)
+      → did.op ≡ plan_at env (at.RootFuture root due) → ReadsFuture env.geometry root next did
+      → (next ≡ None → due ≡ dues.Nothing) → ((future : ℕ) → next ≡ Some future → root ≢ future) → HasDue root due steps
+      → SawAtWork (future_or_idle root due next) (steps ++ did ∷ [])
   unfolding HasChosen-push
-  future-saw root due next steps did l is finds none apart has = go due next finds none has
+  future-saw root due next steps did is read none apart has = go due next read none apart has
     where
       quiet : IsNoAttach env.geometry did
       quiet = no_attach env.geometry did _ is (λ table old new l e. cc)
 
-      loaded : (slot : ℕ) → slot ≡ root → Loaded env.geometry (Slot slot FutureWord) did.old did
-      loaded slot same =
-          subst (λ s. Loaded env.geometry (Slot s FutureWord) did.old did) (sym same) (reads (Slot root FutureWord) did (l, tt) is)
-
-      go : (due : Due) (next : Option ℕ) → slot_of did.old ≡ next → (next ≡ None → due ≡ dues.Nothing) → HasDue root due steps
+      go : (due : Due) (next : Option ℕ) → ReadsFuture env.geometry root next did → (next ≡ None → due ≡ dues.Nothing)
+          → ((future : ℕ) → next ≡ Some future → root ≢ future) → HasDue root due steps
           → SawAtWork (future_or_idle root due next) (steps ++ did ∷ [])
-      go dues.Nothing None finds none has =
+      go dues.Nothing None read none apart has =
           nothing-due has.choice (steps ++ did ∷ []) (HasChosen-push has.choice steps did has.chose) did has.saw
-          (ap (λ behind. behind ++ did ∷ []) (has.at_once refl)) (loaded has.chose.root has.root_same) finds
-      go dues.Attached None finds none has = absurd (let e = none refl in cc)
-      go dues.Later None finds none has = absurd (let e = none refl in cc)
-      go due (Some next) finds none has =
+          (ap (λ behind. behind ++ did ∷ []) (has.at_once refl))
+          (subst (λ s. ReadsFuture env.geometry s None did) (sym has.root_same) read)
+      go dues.Attached None read none apart has = absurd (let e = none refl in cc)
+      go dues.Later None read none apart has = absurd (let e = none refl in cc)
+      go due (Some next) read none apart has =
           let behind = has.chose.behind in
           let pushed = DueSaw-push due has.chose.last has.choice behind did quiet has.saw in
+          let here = subst (λ s. ReadsFuture env.geometry s (Some next) did) (sym has.root_same) read in
           record {
             choice = has.choice;
             chose = HasChosen-push has.choice steps did has.chose;
-            followed =
-                Any-push (λ did. Loaded env.geometry (Slot has.chose.root FutureWord) did.old did × (slot_of did.old ≡ Some next))
-                behind did (loaded has.chose.root has.root_same, finds);
-            apart = λ same. apart next finds (sym has.root_same ∙ same);
+            followed = Any-push (ReadsFuture env.geometry has.chose.root (Some next)) behind did here;
+            apart = λ same. apart next refl (sym has.root_same ∙ same);
             again_right = later-right due has.chose.last has.choice (behind ++ did ∷ []) pushed;
           }
 
@@ -828,18 +816,18 @@ module _ (env : Env) where
   stored-saw again address value steps did there other is saw = record {
     published =
         SawPublished-push again steps did (no_attach env.geometry did _ is (λ table old new l e. cc)) saw.published
-        (λ finds. let loads = finds.0.word.loads in cc);
+        (λ finds. let loads = finds.1.0.word.loads in cc);
     another = saw.another;
     leave =
         AllByRecursion-push (Spares (place_of env.geometry CurrentTable)) saw.published.behind did saw.leave
         (inl (λ same. other (place_of-apart env.geometry address CurrentTable there tt (sym (ap op_place is) ∙ same))));
   }
 
-  retiring-saw : (rehash : Rehash) (next : Option ℕ) (steps : List Did) (did : Did) → rehash.future < 8
-      → did.op ≡ plan_at env (at.NewFuture rehash) → slot_of did.old ≡ next → HasMoved rehash steps
+  retiring-saw : (rehash : Rehash) (next : Option ℕ) (steps : List Did) (did : Did)
+      → did.op ≡ plan_at env (at.NewFuture rehash) → ReadsFuture env.geometry rehash.future next did → HasMoved rehash steps
       → SawAtWork (retiring rehash next) (steps ++ did ∷ [])
   unfolding HasChosen-push HasPublished-push SawPublished-push
-  retiring-saw rehash next steps did l is finds moved = go next finds
+  retiring-saw rehash next steps did is read moved = go next read
     where
       saw : SawPublished env rehash.again steps
       saw = moved.saw.published
@@ -848,18 +836,17 @@ module _ (env : Env) where
       leave = AllByRecursion-push (Spares (place_of env.geometry CurrentTable)) saw.behind did moved.saw.leave
           (inr (ap (word_after did.old) is))
 
-      go : (next : Option ℕ) → slot_of did.old ≡ next → SawAtWork (retiring rehash next) (steps ++ did ∷ [])
-      go None finds = record {
+      go : (next : Option ℕ) → ReadsFuture env.geometry rehash.future next did
+          → SawAtWork (retiring rehash next) (steps ++ did ∷ [])
+      go None read = record {
         published =
             SawPublished-push rehash.again steps did (no_attach env.geometry did _ is (λ table old new l e. cc)) saw
-            (λ further. further.1 finds);
+            (λ further. let one = further.1.1 in let none = read.1 in cc);
         another = moved.saw.another;
         leave = leave;
       }
-      go (Some next) finds =
-          let loaded =
-          subst (λ s. Loaded env.geometry (Slot s FutureWord) did.old did) (sym moved.same)
-          (reads (Slot rehash.future FutureWord) did (l, tt) is) in
+      go (Some next) read =
+          let here = subst (λ s. ReadsFuture env.geometry s (Some next) did) (sym moved.same) read in
           record {
             published = record {
               choice = saw.choice;
@@ -868,8 +855,7 @@ module _ (env : Env) where
               behind = saw.behind ++ did ∷ [];
               published = HasPublished-push saw.table saw.behind saw.chose.behind did saw.published;
               followed = saw.followed;
-              again_right =
-                  ((λ e. inl (Any-push (FindsFurther saw.table) saw.behind did (loaded, λ none. absurd (cc)))), λ either. refl);
+              again_right = ((λ e. inl (Any-push (FindsFurther saw.table) saw.behind did (next, here))), λ either. refl);
             };
             another = moved.saw.another;
             leave = leave;
@@ -878,7 +864,7 @@ module _ (env : Env) where
   -- ---- what the caller knows
 
   module _ (mix : ℕ → ℕ → ℕ → ℕ) where
-    -- what the future of the current table is, of which it knows that it has one
+    -- a current table of which it knows that one is behind it isn't found to have no future
     found_none : (root : ℕ) (due : Due) (did : Did) → (does : Performs mix env (works (at.RootFuture root due)) did)
         → slot_of did.old ≡ None → WorkMeans env mix does.caller (mem env mix does.words) does.ghost (Rooted root Onward) → ⊥
     found_none root due did does none knows =
@@ -887,7 +873,7 @@ module _ (env : Env) where
         has_future env mix does.caller (mem env mix does.words) does.ghost does.whole root knows
         (sym (ap slot_of found) ∙ none)
 
-    -- and its shape, where it is the last one
+    -- the shape of the last table, which isn't nested
     flat_shape : (emptying : Emptying) (h : Geometry) (slot : ℕ) (did : Did)
         → Performs mix env (works (at.EntryTable emptying (record { geometry = h; at = seeks.Shape slot }))) did
         → is_nested did.old ≡ false
@@ -921,7 +907,7 @@ module _ (env : Env) where
     nothing-found root dues.Attached did does none = absurd (found_none root dues.Attached did does none does.knows.knowing.means.work)
     nothing-found root dues.Later did does none = absurd (found_none root dues.Later did does none does.knows.knowing.means.work)
 
-    -- no table is nested
+    -- so the move doesn't stop before the last table
     table-saw : (emptying : Emptying) (h : Geometry) (state : LastTableAt) (steps : List Did) (did : Did)
         → let seek : LastTableModel = record { geometry = h; at = state } in
         Performs mix env (works (at.EntryTable emptying seek)) did → RehashSaw emptying.rehash steps
@@ -935,7 +921,7 @@ module _ (env : Env) where
         subst (λ t. SawAtWork (cond t (unlocking emptying true) (at.Seed emptying last)) (steps ++ did ∷ [])) (sym flat)
         (goes emptying.rehash _ steps did does.planned (λ table old new l e. cc) saw)
 
-    -- and each bucket of one is there
+    -- nor for want of a bucket there
     key-saw : (emptying : Emptying) (target : Target) (entry : Entry) (steps : List Did) (did : Did)
         → Performs mix env (works (at.Key emptying target entry)) did → RehashSaw emptying.rehash steps
         → SawAtWork (keyed mix env.geometry emptying target entry did.old) (steps ++ did ∷ [])
@@ -976,7 +962,6 @@ module _ (env : Env) where
     future = saw.future;
     rest = saw.rest ++ did ∷ [];
     behind_is = ap (λ behind. behind ++ did ∷ []) saw.behind_is;
-    future_read = saw.future_read;
     none = saw.none;
     on_lock =
         AllByRecursion-push (λ did. op_place did.op ≡ place_of env.geometry WorkLock) saw.rest did saw.on_lock (ap op_place is);
@@ -1007,8 +992,8 @@ module _ (env : Env) where
       (HasDue-push root steps did
       (no_attach env.geometry did _ does.planned (unmake-none env.geometry unmake.geometry unmake.slot unmake.at)) saw)
   work-saw mix (at.RootFuture root due) steps did does saw =
-      future-saw root due (slot_of did.old) steps did does.within does.planned refl (nothing-found mix root due did does)
-      (other_future mix root due did does) saw
+      future-saw root due (slot_of did.old) steps did does.planned (reads_future root did does.within does.planned)
+      (nothing-found mix root due did does) (other_future mix root due did does) saw
   work-saw mix (at.RootShape root future again) steps did does saw =
       let rehash : Rehash = record { root = root; future = future; shape = did.old; again = again } in
       locking-saw rehash 0 (bucket_place env.geometry did.old 0) (steps ++ did ∷ [])
@@ -1043,7 +1028,8 @@ module _ (env : Env) where
   work-saw mix (at.Publishing rehash) steps did does saw =
       publish-saw rehash steps did does.within.tables_in.future_in does.planned saw
   work-saw mix (at.NewFuture rehash) steps did does saw =
-      retiring-saw rehash (slot_of did.old) steps did does.within.tables_in.future_in does.planned refl saw
+      retiring-saw rehash (slot_of did.old) steps did does.planned
+      (reads_future rehash.future did does.within.tables_in.future_in does.planned) saw
   work-saw mix (at.Retiring root again) steps did does saw =
       stored-saw again (Slot root StateWord) 2 steps did (does.within, tt) (λ e. cc) does.planned saw
   work-saw mix (at.LettingGo outcome) steps did does saw = ended-saw outcome steps did does.planned saw

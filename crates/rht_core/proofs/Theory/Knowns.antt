@@ -83,8 +83,8 @@ pub data KnownMaking : Type 0 where
   HasTaken : KnownSlot → List ℕ → KnownMaking
   HasMade : ℕ → ℕ → KnownMaking
 
--- Of the table to which the work brings entries: nothing; that there is one behind the current one; the slot of one that isn't before the
--- current one; or that of one behind it, and its shape and seed, where they are known.
+-- Of the table to which the work brings entries: nothing; that there is one behind the current one; the slot of one that isn't
+-- before the current one; or that of one behind it, and its shape and seed, where they are known.
 pub data KnownAim : Type 0 where
   NoAim : KnownAim
   Onward : KnownAim
