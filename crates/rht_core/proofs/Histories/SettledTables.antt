@@ -1,7 +1,8 @@
--- A resizing that no other caller disturbed and that found nothing due leaves a table in which nothing is due.
--- Its operations are loads, but for the two on the work lock. So all words by which it chose are at its end as it loaded them: the
--- current table, which has no future and so is the only one in force and the last; its shape; and the count, which is that of the ports
--- bound, since nobody is in a call then.
+-- A resizing that no other caller disturbed leaves nothing due where it found nothing due, and otherwise another current table.
+-- Where it found nothing its operations are loads, but for those on the work lock. So the words by which it chose are at its end
+-- as it loaded them: the current table, which has no future and so is the only one in force, and the last; its shape; and the
+-- count, which is that of the ports bound, since nobody is in a call then. Where it moved tables it loaded which one is the
+-- current one before any store, and nothing behind the store of another one is on that word.
 use Rattle.std.proofs.Common.{◌≡◌, ◌≢◌, ℕ, suc, ◌+◌, ◌<◌, ◌≤◌, ◌==◌, Bool, true, false, min, List, [], ◌∷◌, ◌++◌, take, append_assoc, refl, sym, ap, ◌∙◌, subst, inl, inr, arith}
 use Rattle.std.specs.Prelude.{Option, Some, None}
 use Rattle.std.specs.List.{AllByRecursion, Contains}
@@ -78,10 +79,15 @@ module _ (env : Env) where
     abbrev chose : HasChosen env choices.Nothing steps
     chose = saw.chose
 
-    -- those of the call, one after another
-    all_steps : steps ≡ (chose.lock ∷ chose.current ∷ chose.futures) ++ chose.shape ∷ chose.count ∷ saw.future ∷ saw.rest
-    all_steps = chose.split
-        ∙ ap (λ behind. (chose.lock ∷ chose.current ∷ chose.futures) ++ chose.shape ∷ chose.count ∷ behind) saw.behind_is
+    -- those of the call, up to the last future and from the shape on
+    abbrev front : List Did
+    front = chose.lock ∷ chose.current ∷ chose.futures
+
+    abbrev back : List Did
+    back = chose.shape ∷ chose.count ∷ saw.future ∷ saw.rest
+
+    all_steps : steps ≡ front ++ back
+    all_steps = chose.split ∙ ap (λ behind. front ++ chose.shape ∷ chose.count ∷ behind) saw.behind_is
 
     -- they leave each word but that of the work lock
     all_spare : (address : Address) → IsAddress env.geometry address → address ≢ WorkLock
@@ -93,14 +99,14 @@ module _ (env : Env) where
         let rest : AllByRecursion (Spares place) saw.rest =
         AllByRecursion-weaker (λ (did : Did). op_place did.op ≡ place_of env.geometry WorkLock) (Spares place)
         (λ did on. inl (λ same. apart (sym on ∙ same))) saw.rest saw.on_lock in
-        let end : AllByRecursion (Spares place) (chose.shape ∷ chose.count ∷ saw.future ∷ saw.rest) = (
+        let end : AllByRecursion (Spares place) back = (
           inr (ap (word_after chose.shape.old) chose.shape_read.word.loads),
           (
             inr (ap (word_after chose.count.old) chose.count_read.word.loads),
             (inr (ap (word_after saw.future.old) saw.none.0.word.loads), rest),
           ),
         ) in
-        let futures = AllByRecursion-append (Spares place) chose.futures (chose.shape ∷ chose.count ∷ saw.future ∷ saw.rest)
+        let futures = AllByRecursion-append (Spares place) chose.futures back
         (loads-spare place chose.futures (futures-load chose.root chose.last chose.futures chose.futures_read)) end in
         subst (AllByRecursion (Spares place)) (sym all_steps) (
           inl (λ same. apart (sym (ap op_place chose.took.tries) ∙ same)),
@@ -111,17 +117,14 @@ module _ (env : Env) where
     current_there : Contains steps chose.current
     current_there = subst (λ s. Contains s chose.current) (sym all_steps) (1, omega arith, refl)
 
-    behind_there : (did : Did) → Contains (chose.shape ∷ chose.count ∷ saw.future ∷ saw.rest) did → Contains steps did
+    behind_there : (did : Did) → Contains back did → Contains steps did
     behind_there did there =
-        subst (λ s. Contains s did) (sym all_steps)
-        (Contains-append_right (chose.lock ∷ chose.current ∷ chose.futures) (chose.shape ∷ chose.count ∷ saw.future ∷ saw.rest)
-        did there)
+        subst (λ s. Contains s did) (sym all_steps) (Contains-append_right front back did there)
 
     future_there : (did : Did) → Contains chose.futures did → Contains steps did
     future_there did (number, within, is) =
         subst (λ s. Contains s did) (sym all_steps)
-        (Contains-append_left (chose.lock ∷ chose.current ∷ chose.futures)
-        (chose.shape ∷ chose.count ∷ saw.future ∷ saw.rest) did (suc (suc number), omega (arith, within), is))
+        (Contains-append_left front back did (suc (suc number), omega (arith, within), is))
 
 module _ (M : Type 0) (mix : ℕ → ℕ → ℕ → ℕ) (env : Env) (events : List Event) (c : ℕ) (past : Past)
     (admitted : IsAdmitted env.config.kind events)
@@ -203,11 +206,12 @@ module _ (M : Type 0) (mix : ℕ → ℕ → ℕ → ℕ) (env : Env) (events : 
         ∙ stands (Slot chose.last ShapeWord) chose.shape.old chose.shape
         (behind_there env past.steps saw chose.shape (0, omega arith, refl)) chose.shape_read (λ e. cc) (λ e. cc) in
         let size = size_of (unpacked (shape_of g after root)) in
-        let none : IsNoneDue (is_above_75 ports size env.config.max) (is_sparse env ports size) (is_nested (shape_of g after root)) =
-        chosen-none size (shrunk_size ports env.config.min) (is_above_75 ports size env.config.max) (is_sparse env ports size)
-        (root == chose.last) (is_nested (shape_of g after root))
-        (ap (λ s. choice_with s ports) shape
-        ∙ ap (choice_with chose.shape.old) (sym clamp) ∙ chose.chosen) in
+        let full = is_above_75 ports size env.config.max in
+        let sparse = is_sparse env ports size in
+        let nested = is_nested (shape_of g after root) in
+        let none : IsNoneDue full sparse nested =
+        chosen-none size (shrunk_size ports env.config.min) full sparse (root == chose.last) nested
+        (ap (λ s. choice_with s ports) shape ∙ ap (choice_with chose.shape.old) (sym clamp) ∙ chose.chosen) in
         record {
           ports = ports;
           bound = rest.counted;
@@ -241,7 +245,9 @@ module _ (M : Type 0) (mix : ℕ → ℕ → ℕ → ℕ) (env : Env) (events : 
     rest = published.chose.futures ++ published.chose.shape ∷ published.chose.count ∷ published.chose.behind
 
     abbrev before : List Did
-    before = (lock ∷ current ∷ published.chose.futures) ++ published.chose.shape ∷ published.chose.count ∷ published.published.before
+    before =
+        let chose = published.chose in
+        (lock ∷ current ∷ chose.futures) ++ chose.shape ∷ chose.count ∷ published.published.before
 
     from_load : past.steps ≡ lock ∷ current ∷ rest
     from_load = published.chose.split
