@@ -7,7 +7,7 @@ use Rattle.std.proofs.Common.{◌≡◌, ◌≢◌, ℕ, suc, ◌+◌, ◌<◌, 
 use Rattle.std.specs.Prelude.{Option, Some, None}
 use Rattle.std.specs.List.{AllByRecursion, Contains}
 use Rattle.std.proofs.lemmas.Bool.{cases_eq}
-use Rattle.std.proofs.lemmas.List.Elements.{All-contains, All-from_recursion, Contains-append_left, Contains-append_right}
+use Rattle.std.proofs.lemmas.List.Elements.{Contains-append_left, Contains-append_right}
 use Rattle.rht_words.specs.declared.op.Op.TheVariants.{Load}
 use Rattle.rht_words.specs.declared.env.Env.{Env}
 use Rattle.rht_words.specs.Links.{table_of, slot_of}
@@ -18,7 +18,6 @@ use Rattle.rht_words.proofs.EachElement.{AllByRecursion-append, AllByRecursion-w
 use Rattle.rht_words.proofs.PlacesApart.{place_of-apart}
 use Rattle.rht_policy.specs.Sizes.{shrunk_size}
 use Rattle.rht_policy.specs.Thresholds.{is_above_75}
-use Rattle.rht_model.specs.declared.history.Call.TheVariants.{Work}
 use Rattle.rht_move.specs.Choice.{chosen, is_nested, is_sparse}
 use Rattle.rht_move.specs.declared.work.choice.Choice.{Choice}
 use Rattle.rht_move.specs.declared.work.choice.Choice.TheVariants as choices
@@ -33,7 +32,7 @@ use Rattle.rht_core.specs.WorkCauses.{AreFuturesRead, HasChosen, SawPublished}
 use Rattle.rht_core.specs.Worked.{IsSettled, HasReplaced, IsAloneDuring, words_behind, Worked}
 use Rattle.rht_core.proofs.Tracing.StepsInTraces.{rising_around}
 use Rattle.rht_core.proofs.Reasons.WorkChoices.{SawIdle, SawReplaced, SawForWork}
-use Rattle.rht_core.proofs.Reasons.CausesInRuns.{SawOf, past-saw}
+use Rattle.rht_core.proofs.Reasons.CausesInRuns.{resizing-saw}
 use Rattle.rht_core.proofs.Counting.CountedRuns.{counted, at_rest}
 use Rattle.rht_core.proofs.Counting.FullTables.{taken}
 use Rattle.rht_core.proofs.Tracing.LoneCalls.{Spares, SparesWithin, steps_rising, begins_before, idle_at_end, loaded_at_end, loaded_at_begin, stored_at_end}
@@ -317,17 +316,9 @@ module _ (M : Type 0) (mix : ℕ → ℕ → ℕ → ℕ) (env : Env) (events : 
           another = λ same. saw.another (sym published.chose.root_is ∙ sym (ap table_of was) ∙ same);
         }
 
-  -- what the operations of the call show
-  saw_work : past.done.call ≡ Work → SawForWork env past.done.reply past.steps
-  saw_work is =
-      let calls = ((traced_of {M = M} mix env events).traces c).past in
-      let P = λ (p : Past). SawOf env p.done.call p.done.reply p.steps in
-      subst (λ call. SawOf env call past.done.reply past.steps) is
-      (All-contains P calls past (All-from_recursion P calls (past-saw M mix env events c admitted)) ended)
-
 pub worked : (M : Type 0) (mix : ℕ → ℕ → ℕ → ℕ) → Worked M mix
 worked M mix env events c past admitted ended work alone =
-    let saw = saw_work M mix env events c past admitted ended alone work in
+    let saw = resizing-saw M mix env events c admitted past ended work in
     record {
       idle = λ is. settled M mix env events c past admitted ended alone
           (subst (λ reply. SawForWork env reply past.steps) is saw);

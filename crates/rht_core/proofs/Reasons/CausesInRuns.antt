@@ -11,10 +11,10 @@
 -- is at most the nodes there, the clamp under which a bind looks at it has changed nothing.
 use Rattle.std.proofs.Common.{◌≡◌, ◌⊎◌, ℕ, ◌≤◌, ◌+◌, Bool, true, false, cond, ◌↔◌, ◌≢◌, ◌<◌, ◌*◌, ◌-◌, nat_le, nat_eq, List, [], ◌∷◌, ◌++◌, map, min, refl, sym, ap, ◌∙◌, subst, inl, inr, arith}
 use Rattle.std.specs.Prelude.{Option, Some, None, IfSome, ◌==◌, ◌||◌, ◌&&◌}
-use Rattle.std.specs.List.{AllByRecursion, Any}
+use Rattle.std.specs.List.{AllByRecursion, Any, Contains}
 use Rattle.std.proofs.lemmas.Bool.{cases_lt, lt-ltb, le-ltb, leb-true, and_parts, eqb-true, eqb-false}
 use Rattle.std.proofs.lemmas.List.{map-append}
-use Rattle.std.proofs.lemmas.List.Elements.{All-from_recursion}
+use Rattle.std.proofs.lemmas.List.Elements.{All-contains, All-from_recursion}
 use Rattle.std.proofs.lemmas.List.Quantifiers.{Any-push}
 use Rattle.rht_words.specs.Machines.{Performed}
 use Rattle.rht_words.specs.declared.op.Op.{Op}
@@ -934,10 +934,20 @@ module _ (M : Type 0) (mix : ℕ → ℕ → ℕ → ℕ) (env : Env) where
   first_job-saw _ job is = absurd (cc)
 
   -- what the operations of each call that has ended have seen
-  pub past-saw : (events : List Event) (c : ℕ) → IsAdmitted env.config.kind events
+  past-saw : (events : List Event) (c : ℕ) → IsAdmitted env.config.kind events
       → AllByRecursion (λ (past : Past). SawOf env past.done.call past.done.reply past.steps) ((traced_of {M = M} mix env events).traces c).past
   past-saw events c admitted =
       (jobs_keep M mix env (JobSaw env) EndsSeen record { begins = first_job-saw; goes = job-leads } events c admitted).past
+
+  -- and those of a resizing
+  pub resizing-saw : (events : List Event) (c : ℕ) → IsAdmitted env.config.kind events → (past : Past)
+      → Contains ((traced_of {M = M} mix env events).traces c).past past → past.done.call ≡ Work
+      → SawForWork env past.done.reply past.steps
+  resizing-saw events c admitted past there is =
+      let P = λ (p : Past). SawOf env p.done.call p.done.reply p.steps in
+      let calls = ((traced_of {M = M} mix env events).traces c).past in
+      subst (λ call. SawOf env call past.done.reply past.steps) is
+      (All-contains P calls past (All-from_recursion P calls (past-saw events c admitted)) there)
 
   -- ---- the causes
 
