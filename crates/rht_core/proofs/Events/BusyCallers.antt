@@ -13,10 +13,11 @@ use Rattle.rht_bind.specs.Bind.{bind_after}
 use Rattle.rht_release.specs.All.{all_after}
 use Rattle.rht_release.specs.Release.{release_after}
 use Rattle.rht_release.specs.Rebind.{rebind_after}
+use Rattle.rht_move.specs.Work.{work_after}
 use Rattle.rht_core.specs.PortCounts.{count_after}
 use Rattle.rht_core.specs.declared.local.Local.{Local}
 use Rattle.rht_core.specs.declared.local.Doing.{Doing}
-use Rattle.rht_core.specs.declared.local.Doing.TheVariants.{Idle, Finding, Binding, Releasing, Rebinding, Listing, Counting}
+use Rattle.rht_core.specs.declared.local.Doing.TheVariants.{Idle, Finding, Binding, Releasing, Rebinding, Listing, Working, Counting}
 use Rattle.rht_core.specs.Locals.{does_nothing, is_idle, machine_of, doing_plan, plan_of, doing_next, doing_after, local_after, without_node}
 use Rattle.rht_core.proofs.Events.CallBeginnings.{begins_so}
 
@@ -29,6 +30,7 @@ module _ (M : Type 0) where
   doing_plans (Listing m) busy none = absurd (cc)
   doing_plans (Releasing m) busy none = absurd (cc)
   doing_plans (Rebinding m) busy none = absurd (cc)
+  doing_plans (Working m) busy none = absurd (cc)
   doing_plans (Counting m) busy none = absurd (cc)
 
   pub busy_plans : (local : Local M) → is_idle local ≡ false → plan_of local ≡ None → ⊥
@@ -39,7 +41,7 @@ module _ (M : Type 0) where
       → does_nothing machine ≡ false
   begun_busy env c =
       begins_so M env c (λ call machine. does_nothing machine ≡ false) (λ port. refl) (λ port owner once. refl)
-      (λ port. refl) (λ port owner. refl) (λ port owner new single. refl) refl
+      (λ port. refl) (λ port owner. refl) (λ port owner new single. refl) refl refl
 
   -- it goes on without a reply, or has one and is idle
   abbrev pub Ends : Doing M × Option Reply → Type 0
@@ -60,6 +62,7 @@ module _ (M : Type 0) where
       let next = release_after mix m old in next_ends Releasing (λ n. refl) (next.0, without_node next.1)
   doing_ends mix (Rebinding m) old busy =
       let next = rebind_after mix m old in next_ends Rebinding (λ n. refl) (next.0, without_node next.1)
+  doing_ends mix (Working m) old busy = next_ends Working (λ n. refl) (work_after mix m old)
   doing_ends mix (Counting m) old busy = next_ends Counting (λ n. refl) (count_after m old)
 
   -- an operation that gives no reply leaves its caller in the call
