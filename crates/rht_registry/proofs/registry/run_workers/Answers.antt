@@ -119,8 +119,8 @@ loop-i-preserved g c =
       items = c.loop-i.invariant.items;
     }
 
-pub closed-requires-clause-idle : goal.closed-requires-clause-idle
-closed-requires-clause-idle g c caller below =
+pub closed-requires : goal.closed-requires
+closed-requires g c caller below =
     let state = c.loop-i.state in
     let served = c.loop-i.invariant.served in
     let one = one-caller state.env c.args.script.now.config c.loop-i.invariant.config c.requires.alone in
