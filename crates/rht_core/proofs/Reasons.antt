@@ -6,6 +6,8 @@ pub mod TablesWalked
 pub mod ChainsCounted
 -- whether a bind has attached a table
 pub mod AttachedTables
+-- and that it has raised no count until it publishes its node
+pub mod UnraisedBinds
 -- what the making of a table has seen so far
 pub mod MakesSeen
 -- what a bind that finds the last table full has seen for a refusal

@@ -132,12 +132,13 @@ pub record IsDueBy (env : Env) (shape : ℕ) (did : Did) : Type 0 where
   pub due : is_above_75 (did.old + 1) (size_of (unpacked shape)) env.config.max ≡ true
 
 -- A bind says that there is something to do for `work` exactly where it attached a table, or, behind the last table that
--- it walked, raised the count and that table is due to grow by this. In a table of one owner each it did raise the count; in
--- one of lists a port that is bound already raises none.
+-- it walked, raised the count and that table is due to grow by this. It has raised none before. In a table of one owner each it
+-- did raise the count; in one of lists a port that is bound already raises none.
 pub record KicksRightly (env : Env) (kick : Bool) (steps : List Did) : Type 0 where
   pub table : ℕ
   pub shape : ℕ
   pub walked : LastWalked env.geometry table shape steps
+  pub unraised : AllByRecursion (λ did. IsRaise env.geometry did → ⊥) walked.before
   pub kicks : (kick ≡ true) ↔ (Any (AttachesSome env.geometry) steps ⊎ Any (IsDueBy env shape) walked.behind)
   pub raised : env.config.kind ≡ Single → Any (IsRaise env.geometry) walked.behind
 
@@ -219,7 +220,7 @@ module _ (M : Type 0) (mix : ℕ → ℕ → ℕ → ℕ) where
   BindCause env events c past (Exists owner) = Unit {0}
   BindCause env events c past NoNode = SawNoNode env past
   BindCause env events c past (TooBig count) = Any (SawFull env events c count) past.steps
-  BindCause env events c past (Again table) = HasFollowed env.geometry table past.steps
+  BindCause env events c past (Again table) = HasFollowed M mix env events c table past.steps
   BindCause env events c past (Busy root last) = SawBusy M mix env events c root last past.steps
   BindCause env events c past (NoTable size) = SawNoTable M mix env events c size past.steps
   BindCause env events c past (Found owner) = ⊥

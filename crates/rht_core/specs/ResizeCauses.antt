@@ -1,7 +1,7 @@
 -- Why a bind that found the last table full was refused or has to be made again: what its operations show of that.
 -- Every address that a row names is one of the table's words, since places alone don't tell it from a word that isn't there.
-use Rattle.std.specs.Prelude.{◌≡◌, ◌≢◌, ℕ, Some, ◌*◌, ◌+◌, ◌<◌, ◌≤◌, ◌⊎◌, List, [], ◌∷◌, ◌++◌, length, map, if◌then◌else◌}
-use Rattle.std.specs.List.{Any}
+use Rattle.std.specs.Prelude.{◌≡◌, ◌≢◌, ℕ, true, false, Some, ◌*◌, ◌+◌, ◌<◌, ◌≤◌, ◌⊎◌, List, [], ◌∷◌, ◌++◌, length, map, if◌then◌else◌}
+use Rattle.std.specs.List.{AllByRecursion, Any}
 use Rattle.rht_words.specs.declared.op.Op.{Op}
 use Rattle.rht_words.specs.declared.op.Op.TheVariants.{Load, Exchange}
 use Rattle.rht_words.specs.declared.env.Env.{Env}
@@ -9,7 +9,7 @@ use Rattle.rht_words.specs.declared.geometry.Geometry.{Geometry}
 use Rattle.rht_words.specs.Links.{table_of, future_of}
 use Rattle.rht_words.specs.Places.{Address, CurrentTable, PortCount, Slot, FutureWord, Node, KeyWord, IsAddress, place_of}
 use Rattle.rht_words.specs.Shapes.{unpacked, size_of}
-use Rattle.rht_policy.specs.Thresholds.{is_above_75}
+use Rattle.rht_policy.specs.Thresholds.{is_above_75, is_above_100}
 use Rattle.rht_arena.specs.Runs.{IsRunIn}
 use Rattle.rht_arena.specs.RunLaws.{SeesRunTaken}
 use Rattle.rht_nest.specs.Place.{bucket_place}
@@ -17,14 +17,9 @@ use Rattle.rht_nest.specs.MakeLaws.{pages_for, AreSlotsSeenTaken}
 use Rattle.rht_core.specs.declared.event.Event.{Event}
 use Rattle.rht_core.specs.StandsFor.{bucket_nodes, stands_for, AreBound}
 use Rattle.rht_core.specs.Traces.{Did, performed_of}
-use Rattle.rht_core.specs.Seen.{LastWalked, SawCount, words_before}
+use Rattle.rht_core.specs.Seen.{LoadsWord, LoadsCurrent, LastWalked, SawCount, words_before}
 
--- the operation loaded this word of the table
-pub record LoadsWord (g : Geometry) (address : Address) (did : Did) : Type 0 where
-  pub there : IsAddress g address
-  pub loads : did.op ≡ Load (place_of g address)
-
--- and found this value in it
+-- the operation loaded this word of the table, and found this value in it
 pub record Loaded (g : Geometry) (address : Address) (value : ℕ) (did : Did) : Type 0 where
   pub word : LoadsWord g address did
   pub found : did.old ≡ value
@@ -55,14 +50,6 @@ pub record FindsFuture (g : Geometry) (table slot : ℕ) (did : Did) : Type 0 wh
   pub slot_in : slot < 8
   pub tells : TellsWord g (Slot table FutureWord) did.op
   pub found : did.old ≡ future_of slot
-
--- A bind has to be made again for the table of this slot: it attached that table behind the last one that it walked, or
--- found it there.
-pub record HasFollowed (g : Geometry) (slot : ℕ) (steps : List Did) : Type 0 where
-  pub table : ℕ
-  pub shape : ℕ
-  pub walked : LastWalked g table shape steps
-  pub seen : Any (λ did. Attaches g table slot did ⊎ FindsFuture g table slot did) walked.behind
 
 -- ---- what wants a further table
 
@@ -124,40 +111,58 @@ abbrev pub SawNoRoom : Geometry → ℕ → List Did → Type 0
 SawNoRoom g size steps = AreSlotsSeenTaken g (map performed_of steps) ⊎ AreRunsSeenTaken g (pages_for size) steps
 
 module _ (M : Type 0) (mix : ℕ → ℕ → ℕ → ℕ) (env : Env) (events : List Event) (c : ℕ) where
-  -- a count above the size of a table of this shape was loaded
+  -- a count was loaded that is above the size of a table of this shape, which may grow
   pub record SawManyPorts (shape : ℕ) (did : Did) : Type 0 where
     pub count : ℕ
     pub saw : SawCount M mix env events c count did
-    pub above : size_of (unpacked shape) < count
+    pub above : is_above_100 count (size_of (unpacked shape)) env.config.max ≡ true
 
-  -- the table that was walked last is full: its bucket has 16 nodes or more, or it has fewer buckets than there are ports
+  -- the table that was walked last is full: a bucket of it has 16 nodes or more, or it has fewer buckets than there are ports and
+  -- may grow
   abbrev pub SawCrowded : ℕ → List Did → Type 0
   SawCrowded shape behind =
       SawLongChain env.geometry (words_before M mix env events) shape behind ⊎ Any (SawManyPorts shape) behind
 
-  -- A bind is refused while tables are moved: the last table that it walked is full and wasn't the current one, and it
-  -- loaded its future as none.
-  pub record SawBusy (root last : ℕ) (steps : List Did) : Type 0 where
-    pub shape : ℕ
-    pub walked : LastWalked env.geometry last shape steps
-    pub other : root ≢ last
-    pub crowded : SawCrowded shape walked.behind
-    pub current : Any (λ did. LoadsWord env.geometry CurrentTable did × (table_of did.old ≡ root)) walked.behind
-    pub none : Any (Loaded env.geometry (Slot last FutureWord) 0) walked.behind
-
-  -- A bind is refused for want of a table of this size: the last table that it walked is full, by a count of ports that it
-  -- loaded a table of this size is to come behind it, there was no room for one, and then it loaded its future as none.
-  pub record SawNoTable (size : ℕ) (steps : List Did) : Type 0 where
-    pub table : ℕ
+  -- The table of this slot is the last one that the call walked, and is full: some operations behind the load of its shape show
+  -- that, and one comes behind these.
+  pub record WalkedFull (table : ℕ) (steps : List Did) : Type 0 where
     pub shape : ℕ
     pub walked : LastWalked env.geometry table shape steps
-    pub crowded : SawCrowded shape walked.behind
     pub before : List Did
     pub at : Did
     pub rest : List Did
     pub split : walked.behind ≡ before ++ at ∷ rest
+    pub crowded : SawCrowded shape before
+
+  -- A bind has to be made again for the table of this slot: the last table that it walked is full, and then it attached that
+  -- table behind this one, or found it there.
+  pub record HasFollowed (slot : ℕ) (steps : List Did) : Type 0 where
+    pub table : ℕ
+    pub full : WalkedFull table steps
+    pub seen : Attaches env.geometry table slot full.at ⊎ FindsFuture env.geometry table slot full.at
+
+  -- A bind is refused while tables are moved: the last table that it walked is full and wasn't the current one, by a count of
+  -- ports that it loaded that table isn't due to grow, and then it loaded its future as none.
+  pub record SawBusy (root last : ℕ) (steps : List Did) : Type 0 where
+    pub full : WalkedFull last steps
+    pub other : root ≢ last
+    pub current : Any (LoadsCurrent env.geometry root) full.before
     pub count : ℕ
-    pub counted : Any (Loaded env.geometry PortCount count) before
-    pub wanted : size ≡ wanted_size env shape count
-    pub room : SawNoRoom env.geometry size before
-    pub none : Loaded env.geometry (Slot table FutureWord) 0 at
+    pub counted : Any (Loaded env.geometry PortCount count) full.before
+    pub not_due : is_above_75 count (size_of (unpacked full.shape)) env.config.max ≡ false
+    pub none : Loaded env.geometry (Slot last FutureWord) 0 full.at
+
+  -- A bind is refused for want of a table of this size: the last table that it walked is full, by a count of ports that it
+  -- loaded a table of this size is to come behind it, of twice its own or since it is the current one, there was no room for one,
+  -- and then it loaded its future as none.
+  pub record SawNoTable (size : ℕ) (steps : List Did) : Type 0 where
+    pub table : ℕ
+    pub full : WalkedFull table steps
+    pub count : ℕ
+    pub counted : Any (Loaded env.geometry PortCount count) full.before
+    pub wanted : size ≡ wanted_size env full.shape count
+    pub grows :
+        (is_above_75 count (size_of (unpacked full.shape)) env.config.max ≡ true)
+        ⊎ Any (LoadsCurrent env.geometry table) full.before
+    pub room : SawNoRoom env.geometry size full.before
+    pub none : Loaded env.geometry (Slot table FutureWord) 0 full.at

@@ -1,10 +1,11 @@
 -- What the operations of a call show of tables and of the count of ports.
-use Rattle.std.specs.Prelude.{◌≡◌, ◌≢◌, ℕ, ◌+◌, ◌<◌, ◌≤◌, ◌==◌, ◌&&◌, not, List, ◌∷◌, ◌++◌, take, count_by}
-use Rattle.std.specs.List.{AllByRecursion, range_with_len}
+use Rattle.std.specs.Prelude.{◌≡◌, ◌≢◌, ℕ, Some, ◌+◌, ◌<◌, ◌≤◌, ◌==◌, ◌&&◌, not, List, ◌∷◌, ◌++◌, take, count_by}
+use Rattle.std.specs.List.{AllByRecursion, Any, range_with_len}
 use Rattle.rht_words.specs.declared.op.Op.TheVariants.{Load}
 use Rattle.rht_words.specs.declared.env.Env.{Env}
 use Rattle.rht_words.specs.declared.geometry.Geometry.{Geometry}
-use Rattle.rht_words.specs.Places.{PortCount, Slot, ShapeWord, place_of}
+use Rattle.rht_words.specs.Links.{table_of, slot_of}
+use Rattle.rht_words.specs.Places.{Address, CurrentTable, PortCount, Slot, ShapeWord, FutureWord, IsAddress, place_of}
 use Rattle.rht_core.specs.declared.event.Event.{Event}
 use Rattle.rht_core.specs.Locals.{is_idle}
 use Rattle.rht_core.specs.Runs.{Core, local_of, run_of}
@@ -16,16 +17,39 @@ abbrev pub others_in_call : {M : Type 0} → Core M → ℕ → ℕ
 others_in_call core c =
     count_by (λ other. not (other == c) && not (is_idle (local_of core other))) (range_with_len 0 core.env.geometry.callers)
 
+-- the operation loads this word of the table
+pub record LoadsWord (g : Geometry) (address : Address) (did : Did) : Type 0 where
+  pub there : IsAddress g address
+  pub loads : did.op ≡ Load (place_of g address)
+
+-- and that is the current table's, which is in this slot
+abbrev pub LoadsCurrent : Geometry → ℕ → Did → Type 0
+LoadsCurrent g table did = LoadsWord g CurrentTable did × (table_of did.old ≡ table)
+
+-- The operations came to the table of this slot: they loaded it as the current one, or they came to another one first, and then
+-- loaded it as that one's future.
+pub data CameTo (g : Geometry) : ℕ → List Did → Type 0 where
+  as_current : (table : ℕ) (steps : List Did) → Any (LoadsCurrent g table) steps → CameTo g table steps
+  as_future :
+      (front table : ℕ) (before : List Did) (at : Did) (behind steps : List Did)
+      → CameTo g front before
+      → LoadsWord g (Slot front FutureWord) at
+      → slot_of at.old ≡ Some table
+      → steps ≡ before ++ at ∷ behind
+      → CameTo g table steps
+
 -- the operation doesn't load the shape of a table
 abbrev pub IsNoShapeLoad : Geometry → Did → Type 0
 IsNoShapeLoad g did = (table : ℕ) → table < 8 → did.op ≢ Load (place_of g (Slot table ShapeWord))
 
--- the last table of which these operations loaded the shape is that of this slot, and this shape was found
+-- The last table of which these operations loaded the shape is that of this slot, and this shape was found. They had come to
+-- that table before.
 pub record LastWalked (g : Geometry) (table shape : ℕ) (steps : List Did) : Type 0 where
   pub before : List Did
   pub at : Did
   pub behind : List Did
   pub split : steps ≡ before ++ at ∷ behind
+  pub reached : CameTo g table before
   pub table_in : table < 8
   pub loaded : at.op ≡ Load (place_of g (Slot table ShapeWord))
   pub found : at.old ≡ shape

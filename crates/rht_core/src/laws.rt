@@ -95,13 +95,17 @@ pub fn taken_alone<M: Mix>()
 /// A bind or a rebind that was answered `NoNode` found the bit of each node clear, each at some event of
 /// its own. A reading that was answered `Counted` loaded that count, and there the ports bound were at
 /// most so many, and with the other callers in mid-call at least. The same is so of a bind that was
-/// answered `TooBig`, and the count is as many ports as the table may hold or more. `Again` of a bind
-/// names the table that it attached behind the last one that it walked, or found as that one's future.
-/// `Busy` and `NoTable` have as their cause that the last table that it walked is full: it counted 16
-/// nodes or more in a bucket, with so many ports bound at the last one, or loaded a count above the
-/// table's size; `Busy`, that this table wasn't the current one; `NoTable`, that each slot was found
-/// taken, or each run of pages, for the size that is wanted; and then the table's future was loaded as
-/// none. The kick of a `Bound` or a `Released` is as `kicks` says.
+/// answered `TooBig`, and the count is as many ports as the table may hold or more. The kick of a `Bound`
+/// or a `Released` is as `kicks` says.
+///
+/// `Again`, `Busy` and `NoTable` of a bind have as their cause first that the last table that it walked is
+/// full. It came to that table from the current one on along the futures, and counted 16 nodes or more in
+/// a bucket of it, with so many ports bound at the last one, or loaded a count above the table's size, and
+/// the table may grow. `Again` names the table that the bind then attached behind that one, or found there
+/// as its future. For `Busy` and `NoTable` it then loaded that future as none. Before, for `Busy`, it had
+/// found that another table is the current one, and that by the count the full one isn't due to grow; for
+/// `NoTable`, that each slot is taken, or each run of pages, for the size that is wanted: twice the full
+/// table's where that is due to grow by the count, and else its own, where it is the current one.
 ///
 /// A `Work` that was answered `Elsewhere` found the work lock taken. Any other one took it, looked for
 /// the last table from the current one on and chose by its shape and by the count what is due:
@@ -120,10 +124,14 @@ pub fn causes<M: Mix>()
 
 /// In every run a bind that has ended says that there is something to do for `work` exactly where it
 /// attached a table, or, behind the last table that it walked, raised the count of ports and by this has
-/// that table more ports than three quarters of its buckets, and may grow; in a table of one owner each it did
-/// raise the count. A release says so exactly where, behind the last table that it walked, it lowered the
-/// count, shrinking is on, and by this that table has fewer ports than three tenths of its buckets, and
-/// more buckets than the least size. It doesn't say that `work` is then made, or finds anything to do.
+/// that table more ports than three quarters of its buckets, and may grow. It has raised none before, and
+/// in a table of one owner each it did raise the count. A release says so exactly where, behind the last
+/// table that it walked, it lowered the count, shrinking is on, and by this that table has fewer ports
+/// than three tenths of its buckets, and more buckets than the least size. It has lowered none before.
+///
+/// The last table that a call walked is the one whose shape it loaded last, and to which it had come: it
+/// loaded it as the current one, or as the future of one to which it had come. It doesn't say that `work`
+/// is then made, or finds anything to do.
 pub fn kicks<M: Mix>()
     ensures { Kicks M M.mix_of }
 {}

@@ -1,13 +1,12 @@
 -- In every run each call that has ended has a reply with its cause in the call's own operations.
 --
 -- A bind keeps of itself what its operations so far saw: while it takes a node, that each node below
--- the one at which it stands was taken; from the load of a table's shape on, that this is the last
--- table that it walked, while it wants a further table too, and in its bucket which nodes it counted;
--- behind the raise of the count, that too; while
--- its state holds a refusal, what the refusal says; and all the way, whether it has attached a table. So
--- when it answers all of that was seen. A rebind keeps the first of these
--- alone, a release and a look-up nothing; and a reading of the count loads what it answers by its one
--- operation. How the run stood at the event of the operation that loaded or raised the count of ports
+-- the one at which it stands was taken; before the load of a table's shape, that it has come to that table,
+-- and from there on that this is the last table that it walked, while it wants a further table too; behind
+-- the raise of the count, that too; while its state holds a refusal, what the refusal says; and all the way,
+-- whether it has attached a table, and that it has raised no count. So when it answers all of that was
+-- seen. A rebind keeps the first of these alone, a release and a look-up nothing; and a reading of the count
+-- loads what it answers by its one operation. How the run stood at the event of the operation that loaded or raised the count of ports
 -- follows from the law that each recorded operation stands in the run at its event; and since the count
 -- is at most the nodes there, the clamp under which a bind looks at it has changed nothing.
 use Rattle.std.proofs.Common.{◌≡◌, ◌⊎◌, ℕ, ◌≤◌, ◌+◌, Bool, true, false, cond, ◌↔◌, ◌≢◌, ◌<◌, ◌*◌, ◌-◌, nat_le, nat_eq, List, [], ◌∷◌, ◌++◌, map, min, refl, sym, ap, ◌∙◌, subst, inl, inr, arith}
@@ -55,7 +54,6 @@ use Rattle.rht_nest.specs.declared.unmake.UnmakeAt.{UnmakeAt}
 use Rattle.rht_nest.specs.declared.unmake.UnmakeAt.TheVariants as unmakes
 use Rattle.rht_nest.specs.Locate.{LocateModel, locate_plan, locate_after}
 use Rattle.rht_nest.specs.declared.locate.Located.{Located}
-use Rattle.rht_chain.specs.Locked.{answer_behind}
 use Rattle.rht_chain.specs.Probe.{ProbeModel, probe_after_at}
 use Rattle.rht_chain.specs.declared.probe.ProbeAt.{ProbeAt}
 use Rattle.rht_chain.specs.declared.probe.Probed.{Probed}
@@ -94,8 +92,8 @@ use Rattle.rht_core.specs.Replies.{IsFindReply, IsReleaseReply, IsRebindReply, I
 use Rattle.rht_core.specs.Traces.{Did, Past, performed_of, traced_of}
 use Rattle.rht_core.specs.Runs.{IsAdmitted}
 use Rattle.rht_core.specs.Laws.{IsRecorded, IsPastCall}
-use Rattle.rht_core.specs.Seen.{IsNoShapeLoad, LastWalked, SawCount, words_before}
-use Rattle.rht_core.specs.ResizeCauses.{Loaded, Attaches, AttachesSome, FindsFuture, HasFollowed, wanted_size, IsNoKeyLoad, SawLongChain, SawCrowded}
+use Rattle.rht_core.specs.Seen.{CameTo, IsNoShapeLoad, LastWalked, SawCount, words_before}
+use Rattle.rht_core.specs.ResizeCauses.{Loaded, AttachesSome, wanted_size, SawLongChain, SawCrowded, WalkedFull}
 use Rattle.rht_core.specs.Causes.{FindCause, AllCause, IsRaise, IsDueBy, KicksRightly, SawFull, ReleaseCause, RebindCause, WorkCause, BindCause, CountCause, CauseOf, HasCause, Causes}
 use Rattle.rht_release.specs.declared.found_port.FoundPort.{FoundPort}
 use Rattle.rht_release.specs.Release as release
@@ -118,11 +116,12 @@ use Rattle.rht_move.specs.Work as work
 use Rattle.rht_move.specs.declared.work.WorkAt.TheVariants as works_at
 use Rattle.rht_core.proofs.Reasons.WorkChoices.{SawIdle-nothing, SawForWork, SawAtWork, work-saw}
 use Rattle.rht_core.proofs.Counting.FullTables.{counted_at}
-use Rattle.rht_core.proofs.Reasons.TablesWalked.{IsNoRaise, IsAside, no_load, aside, elsewhere, node_loads, probe_loads, relink_stores, LastWalked-push, Walked, Walked-push, WalkedSeeing, WalkedSeeing-push, WalkedAt, WalkedNext, same_table, locate-walked}
+use Rattle.rht_core.proofs.Reasons.TablesWalked.{IsNoRaise, IsAside, no_load, aside, elsewhere, node_loads, probe_loads, relink_stores, CameTo-append, came-current, came-future, walked-came, LastWalked-push, Walked, Walked-push, WalkedSeeing, WalkedSeeing-push, WalkedAt, WalkedNext, same_table, locate-walked}
 use Rattle.rht_core.proofs.Reasons.KeyLoads.{no_key}
 use Rattle.rht_core.proofs.Reasons.ChainsCounted.{none-counted, HasCounted, HasCounted-push, CountedAt, CountedNext, probe-counted, long-counted}
 use Rattle.rht_core.proofs.Reasons.AttachedTables.{IsNoFutureExchange, IsNoAttach, no_attach, AttachedSo, AttachedSo-push, SawAttached, attached-saw, relink-none, unmake-none}
-use Rattle.rht_core.proofs.Reasons.RefusedBinds.{no_slot, no_key-future, Behind, Behind-push, SawWhy, SawWhy-push, SawRoot, SawOther, SawRefusal, SawToMake, BusySeen, BusySeen-push, NoTableSeen, NoTableSeen-push, above-why, root-saw, begins-making, other-saw, making-saw, no_room-saw, busy-saw, no_table-saw}
+use Rattle.rht_core.proofs.Reasons.UnraisedBinds.{SawUnraised, unraised-saw}
+use Rattle.rht_core.proofs.Reasons.RefusedBinds.{no_slot, no_key-future, Behind, Behind-push, SawWhy, SawWhy-push, SawRoot, SawOther, SawRefusal, SawToMake, SawFullUp, refusal-why, Settled, IsFollowing, FollowedSeen, FollowedSeen-push, BusySeen, BusySeen-push, NoTableSeen, NoTableSeen-push, above-why, root-saw, begins-making, other-saw, making-saw, no_room-saw, busy-saw, no_table-saw, followed-saw}
 use Rattle.rht_core.proofs.Counting.CountedNodes.{raise_few, load_few, lower_few}
 use Rattle.rht_core.proofs.Reasons.ReleaseKicks.{SawRelease, SawForRelease, release-saw, kicks_right}
 use Rattle.rht_core.proofs.Theory.Steps.{mem, by_test}
@@ -159,6 +158,7 @@ module _ (env : Env) (words_at : ℕ → List ℕ) where
     pub table : ℕ
     pub shape : ℕ
     pub walked : LastWalked env.geometry table shape steps
+    pub unraised : AllByRecursion (IsNoRaise env.geometry) walked.before
     pub each : AllByRecursion (SaysOfRaise attached shape kick) walked.behind
     pub some : Any (IsRaise env.geometry) walked.behind ⊎ ((kick ≡ attached) × (env.config.kind ≡ Listed))
 
@@ -168,7 +168,7 @@ module _ (env : Env) (words_at : ℕ → List ℕ) where
   SawFor (TooBig count) steps = Any (LoadedFull count) steps
   SawFor (Bound kick) steps = Raised kick steps
   SawFor (Exists owner) steps = Unit {0}
-  SawFor (Again table) steps = HasFollowed env.geometry table steps
+  SawFor (Again table) steps = FollowedSeen env words_at table steps
   SawFor (Busy root last) steps = BusySeen env words_at root last steps
   SawFor (NoTable size) steps = NoTableSeen env words_at size steps
   SawFor _ steps = ⊥
@@ -210,6 +210,11 @@ module _ (env : Env) (words_at : ℕ → List ℕ) where
       let counted = HasCounted env.geometry words_at claimed.bucket.place length in
       WalkedSeeing env.geometry claimed.table claimed.shape counted steps
 
+  -- behind an unlocking it goes on in a table that it came to, or gives its answer
+  abbrev SawThen : Then Reply → List Did → Type 0
+  SawThen (Table table) steps = CameTo env.geometry table steps
+  SawThen (Answer reply) steps = SawFor reply steps
+
   abbrev SawAt : BindAt → List Did → Type 0
   SawAt (at.Filling new) steps = SawNew new.at steps
   SawAt (at.CurrentTable attempt) steps = Unit {0}
@@ -226,7 +231,7 @@ module _ (env : Env) (words_at : ℕ → List ℕ) where
   SawAt (at.Link claimed) steps = Walked env.geometry claimed.table claimed.shape steps
   SawAt (at.Raise claimed) steps = Walked env.geometry claimed.table claimed.shape steps
   SawAt (at.Publish node table relink kick) steps = Raised kick steps
-  SawAt (at.Unlocking attempt table unlock next) steps = SawForReply (answer_behind next) steps
+  SawAt (at.Unlocking attempt table unlock next) steps = SawThen next steps
   SawAt (at.UnlockingFull growing unlock) steps =
       Behind env words_at growing.table growing.shape (SawWhy env words_at growing.why growing.shape) steps
   SawAt (at.Root growing) steps =
@@ -237,7 +242,8 @@ module _ (env : Env) (words_at : ℕ → List ℕ) where
       Behind env words_at growing.table growing.shape (SawToMake env words_at growing size make.exponent (make.at, Go)) steps
   SawAt (at.FutureAgain growing refusal) steps =
       Behind env words_at growing.table growing.shape (SawRefusal env words_at growing refusal) steps
-  SawAt (at.Attaching growing slot shape) steps = LastWalked env.geometry growing.table growing.shape steps
+  SawAt (at.Attaching growing slot shape) steps =
+      Behind env words_at growing.table growing.shape (SawWhy env words_at growing.why growing.shape) steps
   SawAt (at.Unmaking attempt unmake answer) steps = SawForReply answer steps
   SawAt (at.Giving give reply) steps = SawFor reply steps
 
@@ -255,7 +261,7 @@ module _ (env : Env) (words_at : ℕ → List ℕ) where
   -- of a look-up and a listing nothing is kept, nor of a reading of the count before it ends
   abbrev JobSaw : Job → List Did → Type 0
   JobSaw (finds port state) steps = Unit {0}
-  JobSaw (binds port owner once state) steps = SawAt state steps × SawAttached env state steps
+  JobSaw (binds port owner once state) steps = SawAt state steps × (SawAttached env state steps × SawUnraised env state steps)
   JobSaw (lists port room state) steps = Unit {0}
   JobSaw (releases port owner state) steps = SawRelease env state steps
   JobSaw (rebinds port owner new state) steps = SawAtRebind state steps
@@ -266,10 +272,9 @@ module _ (env : Env) (words_at : ℕ → List ℕ) where
   abbrev SawNext : List Did → BindAt × Next Reply → Type 0
   SawNext steps next = GoesOrEnds (λ state. SawAt state steps) (λ reply. SawFor reply steps) next
 
-  -- the operation tells nothing of the last table that was walked, nor loads a key in it, raises no count, and attaches no table
+  -- the operation tells nothing of the last table that was walked, raises no count, and attaches no table
   record IsStill (did : Did) : Type 0 where
     aside : IsAside env.geometry did
-    no_key : IsNoKeyLoad env.geometry did
     no_attach : IsNoAttach env.geometry did
 
   -- such are operations that load nothing, add nothing and attach no table
@@ -277,13 +282,8 @@ module _ (env : Env) (words_at : ℕ → List ℕ) where
       → ((place value : ℕ) → op ≢ Add place value) → IsNoFutureExchange env.geometry op → IsStill did
   still did op is none no_add apart = record {
     aside = aside env.geometry did op is none no_add;
-    no_key = no_key env.geometry did op is none;
     no_attach = no_attach env.geometry did op is apart;
   }
-
-  -- the operation attached the table of this slot behind that of another, or found it there
-  abbrev IsFollowing : ℕ → ℕ → Did → Type 0
-  IsFollowing last table did = Attaches env.geometry last table did ⊎ FindsFuture env.geometry last table did
 
   Raised-push : (kick : Bool) (steps : List Did) (did : Did) → IsStill did → Raised kick steps
       → Raised kick (steps ++ did ∷ [])
@@ -294,6 +294,7 @@ module _ (env : Env) (words_at : ℕ → List ℕ) where
     table = raised.table;
     shape = raised.shape;
     walked = LastWalked-push env.geometry raised.table raised.shape steps did none.aside.no_shape raised.walked;
+    unraised = raised.unraised;
     each = AllByRecursion-push (SaysOfRaise raised.attached raised.shape kick) raised.walked.behind did raised.each
         (λ adds. absurd (none.aside.no_raise adds));
     some = elim raised.some [
@@ -309,28 +310,13 @@ module _ (env : Env) (words_at : ℕ → List ℕ) where
   unraised-says attached shape kick (did ∷ steps) none =
       ((λ adds. absurd (none.0 adds)), unraised-says attached shape kick steps none.1)
 
-  -- the table that followed the last one is seen still
-  HasFollowed-push : (table : ℕ) (steps : List Did) (did : Did) → IsAside env.geometry did
-      → HasFollowed env.geometry table steps → HasFollowed env.geometry table (steps ++ did ∷ [])
-  unfolding LastWalked-push
-  HasFollowed-push table steps did none is = record {
-    table = is.table;
-    shape = is.shape;
-    walked = LastWalked-push env.geometry is.table is.shape steps did none.no_shape is.walked;
-    seen = Any-append_left (IsFollowing is.table table) is.walked.behind (did ∷ []) is.seen;
-  }
-
-  -- and it was seen by this operation
-  HasFollowed-new : (last shape table : ℕ) (steps : List Did) (did : Did) → IsNoShapeLoad env.geometry did
-      → LastWalked env.geometry last shape steps → IsFollowing last table did
-      → HasFollowed env.geometry table (steps ++ did ∷ [])
-  unfolding LastWalked-push
-  HasFollowed-new last shape table steps did none walked is = record {
-    table = last;
-    shape = shape;
-    walked = LastWalked-push env.geometry last shape steps did none walked;
-    seen = Any-push (IsFollowing last table) walked.behind did is;
-  }
+  -- what raised no count raised none before the last table was walked, nor behind that
+  each_part : (steps : List Did) (table shape : ℕ) (walked : LastWalked env.geometry table shape steps)
+      → AllByRecursion (IsNoRaise env.geometry) steps
+      → AllByRecursion (IsNoRaise env.geometry) walked.before × AllByRecursion (IsNoRaise env.geometry) walked.behind
+  each_part steps table shape walked none =
+      let parts = AllByRecursion-cut (IsNoRaise env.geometry) walked.before (walked.at ∷ walked.behind)
+      (subst (AllByRecursion (IsNoRaise env.geometry)) walked.split none) in (parts.0, parts.1.1)
 
   SawFor-push : (reply : Reply) (steps : List Did) (did : Did) → IsStill did → SawFor reply steps
       → SawFor reply (steps ++ did ∷ [])
@@ -341,11 +327,9 @@ module _ (env : Env) (words_at : ℕ → List ℕ) where
   SawFor-push (TooBig count) steps did none saw = Any-append_left (LoadedFull count) steps (did ∷ []) saw
   SawFor-push (Bound kick) steps did none saw = Raised-push kick steps did none saw
   SawFor-push (Exists owner) steps did none saw = saw
-  SawFor-push (Again table) steps did none saw = HasFollowed-push table steps did none.aside saw
-  SawFor-push (Busy root last) steps did none saw =
-      BusySeen-push env words_at root last steps did none.aside.no_shape none.no_key saw
-  SawFor-push (NoTable size) steps did none saw =
-      NoTableSeen-push env words_at size steps did none.aside.no_shape none.no_key saw
+  SawFor-push (Again table) steps did none saw = FollowedSeen-push env words_at table steps did none.aside.no_shape saw
+  SawFor-push (Busy root last) steps did none saw = BusySeen-push env words_at root last steps did none.aside.no_shape saw
+  SawFor-push (NoTable size) steps did none saw = NoTableSeen-push env words_at size steps did none.aside.no_shape saw
   SawFor-push _ steps did none saw = absurd saw
 
   -- ---- an operation of a bind
@@ -436,6 +420,11 @@ module _ (env : Env) (words_at : ℕ → List ℕ) where
   SawForReply-push None steps did none saw = tt
   SawForReply-push (Some reply) steps did none saw = SawFor-push reply steps did none saw
 
+  SawThen-push : (next : Then Reply) (steps : List Did) (did : Did) → IsStill did → SawThen next steps
+      → SawThen next (steps ++ did ∷ [])
+  SawThen-push (Table table) steps did none came = CameTo-append env.geometry table steps (did ∷ []) came
+  SawThen-push (Answer reply) steps did none saw = SawFor-push reply steps did none saw
+
   -- a walk that has ended in a bucket
   bound-saw : (kind : Kind) (claimed : Claimed) (first : ℕ) (before : Option ℕ) (steps : List Did)
       → Walked env.geometry claimed.table claimed.shape steps
@@ -463,13 +452,14 @@ module _ (env : Env) (words_at : ℕ → List ℕ) where
   future-saw : (claimed : Claimed) (length : ℕ) (future : Option ℕ) (steps : List Did)
       → ((behind : List Did) → 16 ≤ length → HasCounted env.geometry words_at claimed.bucket.place length behind
       → SawLongChain env.geometry words_at claimed.shape behind)
-      → SawCounted claimed length steps
+      → ((table : ℕ) → future ≡ Some table → CameTo env.geometry table steps)
+      → WalkedSeeing env.geometry claimed.table claimed.shape (HasCounted env.geometry words_at claimed.bucket.place length) steps
       → SawAt (future_or_count claimed length future) steps
-  future-saw claimed length None steps long seeing =
+  future-saw claimed length None steps long came seeing =
       by_test (λ t. SawAt (cond t (unlocking_full claimed full.Chain) (at.Count claimed)) steps) (nat_le 16 length)
       (λ t. record { walked = seeing.walked.last; saw = long seeing.walked.last.behind (leb-true 16 length t) seeing.saw })
       (λ f. seeing.walked)
-  future-saw claimed length (Some table) steps long seeing = tt
+  future-saw claimed length (Some table) steps long came seeing = came table refl
 
   -- a count that refuses the bind was loaded by this operation
   count-saw : (claimed : Claimed) (steps : List Did) (did : Did) → did.op ≡ Load (place_of env.geometry PortCount)
@@ -500,11 +490,12 @@ module _ (env : Env) (words_at : ℕ → List ℕ) where
   -- the count is raised behind the walk
   raise-saw : (claimed : Claimed) (steps : List Did) (did : Did) → did.op ≡ Add (place_of env.geometry PortCount) 1
       → Walked env.geometry claimed.table claimed.shape steps
-      → AttachedSo env.geometry claimed.attempt.attached steps
+      → AttachedSo env.geometry claimed.attempt.attached steps → AllByRecursion (IsNoRaise env.geometry) steps
       → Raised (kicks env claimed did.old) (steps ++ did ∷ [])
   unfolding LastWalked-push
-  raise-saw claimed steps did is walked so =
+  raise-saw claimed steps did is walked so none =
       let behind = walked.last.behind in
+      let parts = each_part steps claimed.table claimed.shape walked.last none in
       let kick = kicks env claimed did.old in
       let attached = claimed.attempt.attached in
       record {
@@ -516,9 +507,10 @@ module _ (env : Env) (words_at : ℕ → List ℕ) where
         walked =
             LastWalked-push env.geometry claimed.table claimed.shape steps did
             (no_load env.geometry did _ is (λ place load. cc)) walked.last;
+        unraised = parts.0;
         each =
             AllByRecursion-push (SaysOfRaise attached claimed.shape kick) behind did
-            (unraised-says attached claimed.shape kick behind walked.unraised)
+            (unraised-says attached claimed.shape kick behind parts.1)
             (λ adds. refl);
         some = inl (Any-push (IsRaise env.geometry) behind did is);
       }
@@ -527,18 +519,19 @@ module _ (env : Env) (words_at : ℕ → List ℕ) where
   replaced-saw : (list : FoundList) (relink : RelinkModel) (next : Next (Unit {0})) (steps : List Did)
       → env.config.kind ≡ Listed
       → Walked env.geometry list.claimed.table list.claimed.shape steps
-      → AttachedSo env.geometry list.claimed.attempt.attached steps
+      → AttachedSo env.geometry list.claimed.attempt.attached steps → AllByRecursion (IsNoRaise env.geometry) steps
       → SawNext steps (replaced list relink next)
-  replaced-saw list relink Go steps listed walked so = walked
-  replaced-saw list relink (Done done) steps listed walked so = record {
+  replaced-saw list relink Go steps listed walked so none = walked
+  replaced-saw list relink (Done done) steps listed walked so none = record {
     attached = list.claimed.attempt.attached;
     so = so;
     table = list.claimed.table;
     shape = list.claimed.shape;
     walked = walked.last;
+    unraised = (each_part steps list.claimed.table list.claimed.shape walked.last none).0;
     each =
         unraised-says list.claimed.attempt.attached list.claimed.shape list.claimed.attempt.attached walked.last.behind
-        walked.unraised;
+        (each_part steps list.claimed.table list.claimed.shape walked.last none).1;
     some = inr (refl, listed);
   }
 
@@ -547,9 +540,9 @@ module _ (env : Env) (words_at : ℕ → List ℕ) where
   published-saw node table kick relink Go steps raised = raised
   published-saw node table kick relink (Done done) steps raised = raised
 
-  unlocked-saw : (attempt : Attempt) (next : Then Reply) (steps : List Did) → SawForReply (answer_behind next) steps
+  unlocked-saw : (attempt : Attempt) (next : Then Reply) (steps : List Did) → SawThen next steps
       → SawAt (unlocked env attempt next) steps
-  unlocked-saw attempt (Table table) steps saw = tt
+  unlocked-saw attempt (Table table) steps came = came
   unlocked-saw attempt (Answer reply) steps saw = saw
 
   -- the taking of a run of pages loads words of the map of pages
@@ -647,7 +640,7 @@ module _ (env : Env) (words_at : ℕ → List ℕ) where
         (subst (λ old. WalkedNext env.geometry locate.table (locate_after mix port locate old) all) is walked))
 
     -- an attempt has ended for a table that was seen behind the last one
-    ended-saw : (table : ℕ) (all : List Did) → HasFollowed env.geometry table all → SawForReply (ended_attempt once table) all
+    ended-saw : (table : ℕ) (all : List Did) → FollowedSeen env words_at table all → SawForReply (ended_attempt once table) all
     ended-saw table all followed =
         by_test (λ t. SawForReply (cond t (Some (Again table)) None) all) once (λ t. followed) (λ f. tt)
 
@@ -677,7 +670,7 @@ module _ (env : Env) (words_at : ℕ → List ℕ) where
         Behind-push env words_at growing.table growing.shape (SawRoot env words_at growing root)
         (SawToMake env words_at growing (2 * size) (exponent_made (2 * size)) (makes.Slot 0, Go)) steps did none
         (λ behind so.
-        begins-making env words_at growing root (2 * size) behind did is (sym (ap (λ b. cond b (2 * size) size) above)) so)
+        begins-making env words_at growing root (2 * size) behind did is (sym (ap (λ b. cond b (2 * size) size) above)) (inl above) so)
         saw)
         (λ below.
         by_test (λ t. SawAt (cond t (making env growing size) busy) all) same
@@ -685,12 +678,13 @@ module _ (env : Env) (words_at : ℕ → List ℕ) where
         Behind-push env words_at growing.table growing.shape (SawRoot env words_at growing root)
         (SawToMake env words_at growing size (exponent_made size) (makes.Slot 0, Go)) steps did none
         (λ behind so.
-        begins-making env words_at growing root size behind did is (sym (ap (λ b. cond b (2 * size) size) below)) so)
+        begins-making env words_at growing root size behind did is (sym (ap (λ b. cond b (2 * size) size) below))
+        (inr (eqb-true root growing.table t)) so)
         saw)
         (λ other.
         Behind-push env words_at growing.table growing.shape (SawRoot env words_at growing root)
-        (SawOther env words_at growing root) steps did none
-        (λ behind so. other-saw env words_at growing root behind did is (eqb-false root growing.table other) so) saw))
+        (SawOther env words_at growing.table root growing.why growing.shape) steps did none
+        (λ behind so. other-saw env words_at growing root behind did is (eqb-false root growing.table other) below so) saw))
 
     made-saw : (growing : Growing) (size : ℕ) (make : MakeModel) (r : MakeAt × Next (Option (ℕ × ℕ))) (all : List Did)
         → Behind env words_at growing.table growing.shape (SawToMake env words_at growing size make.exponent r) all
@@ -700,7 +694,7 @@ module _ (env : Env) (words_at : ℕ → List ℕ) where
       walked = saw.walked;
       saw = no_room-saw env words_at growing size make.exponent state saw.walked.behind saw.saw;
     }
-    made-saw growing size make (state, Done (Some table)) all saw = saw.walked
+    made-saw growing size make (state, Done (Some table)) all saw = record { walked = saw.walked; saw = saw.saw.why }
 
     -- a future that was loaded again
     again-saw : (growing : Growing) (refusal : Refusal) (future : Option ℕ) (steps : List Did) (did : Did)
@@ -720,9 +714,10 @@ module _ (env : Env) (words_at : ℕ → List ℕ) where
         let named = slot_named did.old table reads in
         behind-saw growing.attempt (ended_attempt once table) (steps ++ did ∷ [])
         (ended-saw table (steps ++ did ∷ [])
-        (HasFollowed-new growing.table growing.shape table steps did
-        (elsewhere env.geometry did _ is (λ other below same. absurd (omega (arith, same)))).no_shape saw.walked
-        (inr (record { table_in = within; slot_in = named.0; tells = inl is; found = named.1 }))))
+        (followed-saw env words_at growing table steps did
+        (elsewhere env.geometry did _ is (λ other below same. absurd (omega (arith, same)))).no_shape
+        (inr (record { table_in = within; slot_in = named.0; tells = inl is; found = named.1 }))
+        (record { walked = saw.walked; saw = refusal-why env words_at growing refusal saw.walked.behind saw.saw })))
 
     -- a table's future is none, or one of the slots
     future_few : (words : List ℕ) (G : Ghost) (slot : ℕ) → Whole env mix (mem env mix words) G
@@ -763,9 +758,9 @@ module _ (env : Env) (words_at : ℕ → List ℕ) where
     -- the exchange that attaches
     attach-saw : (growing : Growing) (slot shape : ℕ) (steps : List Did) (did : Did) → growing.table < 8 → slot < 8
         → did.op ≡ plan_at env (at.Attaching growing slot shape) → did.old ≤ 8
-        → LastWalked env.geometry growing.table growing.shape steps
+        → Behind env words_at growing.table growing.shape (SawWhy env words_at growing.why growing.shape) steps
         → SawAt (checked_attach env once growing slot shape did.old) (steps ++ did ∷ [])
-    attach-saw growing slot shape steps did within slot_in is few walked =
+    attach-saw growing slot shape steps did within slot_in is few saw =
         let all = steps ++ did ∷ [] in
         let none = no_load env.geometry did _ is (λ place load. cc) in
         let won = behind_attempt env (has_attached growing.attempt) (ended_attempt once slot) in
@@ -775,30 +770,30 @@ module _ (env : Env) (words_at : ℕ → List ℕ) where
         (λ t.
         behind-saw (has_attached growing.attempt) (ended_attempt once slot) all
         (ended-saw slot all
-        (HasFollowed-new growing.table growing.shape slot steps did none walked
-        (inl (record { table_in = within; slot_in = slot_in; exchanges = is; found = eqb-true did.old 0 t })))))
+        (followed-saw env words_at growing slot steps did none
+        (inl (record { table_in = within; slot_in = slot_in; exchanges = is; found = eqb-true did.old 0 t })) saw)))
         (λ f.
         let some = eqb-false did.old 0 f in
         let named : did.old ≡ future_of other = nonzero_named did.old few some in
         ended-saw other all
-        (HasFollowed-new growing.table growing.shape other steps did none walked
+        (followed-saw env words_at growing other steps did none
         (inr (record {
           table_in = within;
           slot_in = omega arith;
           tells = inr (0, future_of slot, is);
           found = named;
-        }))))
+        })) saw))
 
     bind-saw : (state : BindAt) (steps : List Did) (did : Did)
         → (does : Performs mix env (binds port owner once state) did) → does.words ≡ words_at did.index
-        → SawAt state steps → SawAttached env state steps
+        → SawAt state steps → SawAttached env state steps → SawUnraised env state steps
         → SawNext (steps ++ did ∷ []) (after_at mix env port once state did.old)
-    bind-saw (at.Filling new) steps did does now saw so =
+    bind-saw (at.Filling new) steps did does now saw so unraised =
         bind_made-saw new (new_node_after_at new.at did.old) (steps ++ did ∷ [])
         (new-saw new new.at steps did refl does.within.at_in does.planned saw)
-    bind-saw (at.CurrentTable attempt) steps did does now saw so = tt
-    bind-saw (at.Locating attempt locate) steps did does now saw so = locating-saw attempt locate steps did does saw
-    bind-saw (at.Probing attempt table shape probe) steps did does now saw so =
+    bind-saw (at.CurrentTable attempt) steps did does now saw so unraised = came-current env.geometry steps did does.planned
+    bind-saw (at.Locating attempt locate) steps did does now saw so unraised = locating-saw attempt locate steps did does saw
+    bind-saw (at.Probing attempt table shape probe) steps did does now saw so unraised =
         let within = does.within.at_in.probe_in.at_in in
         let after = probe_after_at probe.geometry probe.key probe.at did.old in
         probed-saw env.config.kind attempt table shape probe after (steps ++ did ∷ [])
@@ -806,93 +801,98 @@ module _ (env : Env) (words_at : ℕ → List ℕ) where
         (CountedNext env.geometry words_at after) steps did (probe_loads env.geometry did probe.at within does.planned)
         (λ behind counted. probe-counted env mix words_at does.caller port does.words does.ghost does.whole probe.geometry
         probe.key probe.at behind did within does.knows.knowing.means.bucket does.planned now counted) saw)
-    bind-saw (at.FoundOwner claimed found) steps did does now saw so = tt
-    bind-saw (at.ListLink list) steps did does now saw so =
+    bind-saw (at.FoundOwner claimed found) steps did does now saw so unraised = tt
+    bind-saw (at.ListLink list) steps did does now saw so unraised =
         Walked-push env.geometry list.claimed.table list.claimed.shape steps did
         (aside env.geometry did _ does.planned (λ place load. cc) (λ place value adds. cc)) saw
-    bind-saw (at.ChainLink list) steps did does now saw so =
+    bind-saw (at.ChainLink list) steps did does now saw so unraised =
         Walked-push env.geometry list.claimed.table list.claimed.shape steps did
         (node_loads env.geometry did env.geometry list.first ChainLink does.planned) saw
-    bind-saw (at.LinkBehind list link) steps did does now saw so =
+    bind-saw (at.LinkBehind list link) steps did does now saw so unraised =
         Walked-push env.geometry list.claimed.table list.claimed.shape steps did
         (aside env.geometry did _ does.planned (λ place load. cc) (λ place value adds. cc)) saw
-    bind-saw (at.Replacing list relink) steps did does now saw so =
+    bind-saw (at.Replacing list relink) steps did does now saw so unraised =
         replaced-saw list (relink_after relink).0 (relink_after relink).1 (steps ++ did ∷ [])
         does.knows.fits.listed
         (Walked-push env.geometry list.claimed.table list.claimed.shape steps did
         (relink_stores env.geometry did relink relink.at does.planned) saw)
         (AttachedSo-push env.geometry list.claimed.attempt.attached steps did
         (no_attach env.geometry did _ does.planned (relink-none env.geometry relink relink.at)) so)
-    bind-saw (at.Future claimed length) steps did does now saw so =
+        (AllByRecursion-push (IsNoRaise env.geometry) steps did unraised
+        (relink_stores env.geometry did relink relink.at does.planned).no_raise)
+    bind-saw (at.Future claimed length) steps did does now saw so unraised =
         let place = claimed.bucket.place in
         let counted = HasCounted env.geometry words_at place length in
         future-saw claimed length (slot_of did.old) (steps ++ did ∷ [])
         (λ behind enough has. long-counted env mix words_at does.caller port does.words does.ghost does.whole claimed.table
         claimed.shape place length behind does.knows.knowing.means.table enough has)
+        (λ table named. came-future env.geometry claimed.table table steps did does.within.at_in.table_in does.planned named
+        (walked-came env.geometry claimed.table claimed.shape steps saw.walked.last))
         (WalkedSeeing-push env.geometry claimed.table claimed.shape counted counted steps did
         (elsewhere env.geometry did _ does.planned (λ table below same. absurd (omega arith)))
         (λ behind has. HasCounted-push env.geometry words_at place length behind did
         (no_key-future env words_at did claimed.table does.within.at_in.table_in does.planned) has) saw)
-    bind-saw (at.Count claimed) steps did does now saw so =
+    bind-saw (at.Count claimed) steps did does now saw so unraised =
         count-saw claimed steps did does.planned saw
-    bind-saw (at.Link claimed) steps did does now saw so =
+    bind-saw (at.Link claimed) steps did does now saw so unraised =
         Walked-push env.geometry claimed.table claimed.shape steps did
         (aside env.geometry did _ does.planned (λ place load. cc) (λ place value adds. cc)) saw
-    bind-saw (at.Raise claimed) steps did does now saw so = raise-saw claimed steps did does.planned saw so
-    bind-saw (at.Publish node table relink kick) steps did does now saw so =
+    bind-saw (at.Raise claimed) steps did does now saw so unraised = raise-saw claimed steps did does.planned saw so unraised
+    bind-saw (at.Publish node table relink kick) steps did does now saw so unraised =
         published-saw node table kick (relink_after relink).0 (relink_after relink).1 (steps ++ did ∷ [])
         (Raised-push kick steps did
         (still did _ does.planned (relink-no_load relink relink.at) (relink-no_add relink relink.at)
         (relink-none env.geometry relink relink.at)) saw)
-    bind-saw (at.Unlocking attempt table unlock next) steps did does now saw so =
+    bind-saw (at.Unlocking attempt table unlock next) steps did does now saw so unraised =
         unlocked-saw attempt next (steps ++ did ∷ [])
-        (SawForReply-push (answer_behind next) steps did
+        (SawThen-push next steps did
         (still did _ does.planned (λ place load. cc) (λ place value adds. cc) (λ table old new l e. cc)) saw)
-    bind-saw (at.UnlockingFull growing unlock) steps did does now saw so =
+    bind-saw (at.UnlockingFull growing unlock) steps did does now saw so unraised =
         Behind-push env words_at growing.table growing.shape (SawWhy env words_at growing.why growing.shape)
         (SawWhy env words_at growing.why growing.shape) steps did
         (no_load env.geometry did _ does.planned (λ place load. cc))
         (λ behind why. SawWhy-push env words_at growing.why growing.shape behind did
         (no_key env.geometry did _ does.planned (λ place load. cc)) why) saw
-    bind-saw (at.Root growing) steps did does now saw so =
+    bind-saw (at.Root growing) steps did does now saw so unraised =
         Behind-push env words_at growing.table growing.shape (SawWhy env words_at growing.why growing.shape)
         (SawRoot env words_at growing (table_of did.old)) steps did
         (elsewhere env.geometry did _ does.planned (λ table below same. absurd (omega (arith, same)))).no_shape
         (λ behind why. root-saw env words_at growing behind did does.planned why) saw
-    bind-saw (at.GrowthCount growing root) steps did does now saw so =
+    bind-saw (at.GrowthCount growing root) steps did does now saw so unraised =
         want-saw growing root steps did does.planned
         (elsewhere env.geometry did _ does.planned (λ table below same. absurd (omega (arith, same)))).no_shape saw
-    bind-saw (at.Making growing size make) steps did does now saw so =
+    bind-saw (at.Making growing size make) steps did does now saw so unraised =
         let after = make_after_at make.geometry make.exponent make.at did.old in
         made-saw growing size make after (steps ++ did ∷ [])
         (Behind-push env words_at growing.table growing.shape (SawToMake env words_at growing size make.exponent (make.at, Go))
         (SawToMake env words_at growing size make.exponent after) steps did
         (make_loads make.geometry make.exponent make.seed make.at did does.planned)
-        (λ behind so_far. making-saw env words_at growing size make behind did does.within.at_in.make_in does.planned
-        so_far) saw)
-    bind-saw (at.FutureAgain growing refusal) steps did does now saw so =
+        (λ behind so_far. making-saw env words_at growing size make behind did does.within.at_in.make_in does.planned so_far) saw)
+    bind-saw (at.FutureAgain growing refusal) steps did does now saw so unraised =
         again-saw growing refusal (slot_of did.old) steps did does.within.at_in.growing_in.table_in does.planned
         (again_few growing refusal did does) refl saw
-    bind-saw (at.Attaching growing slot shape) steps did does now saw so =
+    bind-saw (at.Attaching growing slot shape) steps did does now saw so unraised =
         attach-saw growing slot shape steps did does.within.at_in.growing_in.table_in does.within.at_in.slot_in
         does.planned (attaching_few growing slot shape did does) saw
-    bind-saw (at.Unmaking attempt unmake answer) steps did does now saw so =
+    bind-saw (at.Unmaking attempt unmake answer) steps did does now saw so unraised =
         unmade-saw attempt answer (unmake_after unmake did.old).0 (unmake_after unmake did.old).1 (steps ++ did ∷ [])
         (SawForReply-push answer steps did
         (still did _ does.planned (unmake-no_load unmake.geometry unmake.slot unmake.at)
         (unmake-no_add unmake.geometry unmake.slot unmake.at)
         (unmake-none env.geometry unmake.geometry unmake.slot unmake.at)) saw)
-    bind-saw (at.Giving give reply) steps did does now saw so =
+    bind-saw (at.Giving give reply) steps did does now saw so unraised =
         SawFor-push reply steps did
         (still did _ does.planned (λ place load. cc) (λ place value adds. cc) (λ table old new l e. cc)) saw
 
-    -- with whether it has attached a table
-    abbrev SawBoth : List Did → BindAt × Next Reply → Type 0
-    SawBoth all next = GoesOrEnds (λ state. SawAt state all × SawAttached env state all) (λ reply. SawFor reply all) next
+    -- with whether it has attached a table, and that it has raised no count
+    abbrev SawAll : List Did → BindAt × Next Reply → Type 0
+    SawAll all next =
+        GoesOrEnds (λ state. SawAt state all × (SawAttached env state all × SawUnraised env state all)) (λ reply. SawFor reply all) next
 
-    both-saw : (next : BindAt × Next Reply) (all : List Did) → SawNext all next → SawAttached env next.0 all → SawBoth all next
-    both-saw (state, Go) all saw so = (saw, so)
-    both-saw (state, Done reply) all saw so = saw
+    all-saw : (next : BindAt × Next Reply) (all : List Did) → SawNext all next → SawAttached env next.0 all
+        → SawUnraised env next.0 all → SawAll all next
+    all-saw (state, Go) all saw so none = (saw, (so, none))
+    all-saw (state, Done reply) all saw so none = saw
 
 -- ---- the other calls
 
@@ -954,9 +954,10 @@ module _ (M : Type 0) (mix : ℕ → ℕ → ℕ → ℕ) (env : Env) (events : 
   job-leads (binds port owner once state) steps did performs now saw =
       next-leads (binds port owner once state) (binds port owner once) plain_ending (steps ++ did ∷ [])
       (after_at mix env port once state did.old)
-      (both-saw env words_at mix port owner once (after_at mix env port once state did.old) (steps ++ did ∷ [])
-      (bind-saw env words_at mix port owner once state steps did performs now saw.0 saw.1)
-      (attached-saw env mix port once state steps did performs.within.at_in performs.planned saw.1))
+      (all-saw env words_at mix port owner once (after_at mix env port once state did.old) (steps ++ did ∷ [])
+      (bind-saw env words_at mix port owner once state steps did performs now saw.0 saw.1.0 saw.1.1)
+      (attached-saw env mix port once state steps did performs.within.at_in performs.planned saw.1.0)
+      (unraised-saw env mix port once state steps did performs.planned saw.1.1))
   job-leads (lists port room state) steps did performs now saw =
       let after = all.room_after state room did.old in
       let next = all.after_at mix env port state did.old in
@@ -988,7 +989,7 @@ module _ (M : Type 0) (mix : ℕ → ℕ → ℕ → ℕ) (env : Env) (events : 
   first_job-saw (Find port) job is = subst (λ j. JobSaw env words_at j []) (let here : finds port CurrentTable ≡ job = cc in here) tt
   first_job-saw (Bind port owner once) job is =
       let here : binds port owner once (first_state env port owner) ≡ job = cc in
-      subst (λ j. JobSaw env words_at j []) here (λ node l. absurd (omega arith), tt)
+      subst (λ j. JobSaw env words_at j []) here (λ node l. absurd (omega arith), (tt, tt))
   first_job-saw (All port) job is =
       subst (λ j. JobSaw env words_at j [])
       (let here : lists port (room_for_nodes env) (alls.Seeking (seek_new env.geometry)) ≡ job = cc in here) tt
@@ -1056,6 +1057,7 @@ module _ (M : Type 0) (mix : ℕ → ℕ → ℕ → ℕ) (env : Env) (events : 
           table = raised.table;
           shape = shape;
           walked = walked;
+          unraised = raised.unraised;
           kicks = so_kicks raised.attached raised.so shape walked.behind behind.1.1 raised.each raised.some;
           raised = λ single. elim raised.some [
             | inl any ↦ any
@@ -1134,6 +1136,19 @@ module _ (M : Type 0) (mix : ℕ → ℕ → ℕ → ℕ) (env : Env) (events : 
           ],
         )
 
+    -- no clamp has changed a count that was loaded
+    unclamped : (did : Did) → IsRecordedHere did → did.op ≡ Load (place_of env.geometry PortCount) → min did.old 65536 ≡ did.old
+    unclamped did was loads =
+        let few = load_few env mix M events c did admitted loads was in
+        let most = env.geometry.within.nodes_within.1 in
+        omega (arith, few, most)
+
+    unclamped_some : (count : ℕ) (steps : List Did) → AllByRecursion IsRecordedHere steps
+        → Any (Loaded env.geometry PortCount count) steps → min count 65536 ≡ count
+    unclamped_some count steps recorded (k, did, within, is, loaded) =
+        let was = subst IsRecordedHere is (All-from_recursion IsRecordedHere steps recorded k did within) in
+        subst (λ n. min n 65536 ≡ n) loaded.found (unclamped did was loaded.word.loads)
+
     -- a table is full by the count that was loaded, or its bucket has too many nodes
     crowded : (why : Full) (shape : ℕ) (behind : List Did) → AllByRecursion IsRecordedHere behind
         → SawWhy env words_at why shape behind → SawCrowded M mix env events c shape behind
@@ -1152,19 +1167,34 @@ module _ (M : Type 0) (mix : ℕ → ℕ → ℕ → ℕ) (env : Env) (events : 
               found = refl;
               counted = counted_at M mix env events c did.old did admitted above.loaded refl was;
             };
-            above = above.above;
+            above = subst (λ n. is_above_100 n (size_of (unpacked shape)) env.config.max ≡ true)
+                (unclamped did was above.loaded) above.above;
           },
         )
 
-    -- no clamp has changed a count that was loaded
-    unclamped : (count : ℕ) (steps : List Did) → AllByRecursion IsRecordedHere steps
-        → Any (Loaded env.geometry PortCount count) steps → min count 65536 ≡ count
-    unclamped count steps recorded (k, did, within, is, loaded) =
-        let was = subst IsRecordedHere is (All-from_recursion IsRecordedHere steps recorded k did within) in
-        let few = load_few env mix M events c did admitted loaded.word.loads was in
-        let most = env.geometry.within.nodes_within.1 in
-        let found = loaded.found in
-        omega (arith, few, most, found)
+    -- the operations before the one that settled a reply were recorded too, and so the table was full
+    recorded_before : (table : ℕ) (Saw : Full → ℕ → List Did → Type 0) (Last : Did → Type 0) (steps : List Did)
+        → AllByRecursion IsRecordedHere steps → (settled : Settled env words_at table Saw Last steps)
+        → AllByRecursion IsRecordedHere settled.before
+    recorded_before table Saw Last steps recorded settled =
+        let walked = settled.walked in
+        let parts = AllByRecursion-cut IsRecordedHere walked.before (walked.at ∷ walked.behind)
+        (subst (AllByRecursion IsRecordedHere) walked.split recorded) in
+        (AllByRecursion-cut IsRecordedHere settled.before (settled.at ∷ settled.rest)
+        (subst (AllByRecursion IsRecordedHere) settled.split parts.1.1)).0
+
+    abbrev walked_full : (table : ℕ) (Saw : Full → ℕ → List Did → Type 0) (Last : Did → Type 0) (steps : List Did)
+        → AllByRecursion IsRecordedHere steps → (settled : Settled env words_at table Saw Last steps)
+        → SawWhy env words_at settled.why settled.shape settled.before → WalkedFull M mix env events c table steps
+    walked_full table Saw Last steps recorded settled is_full = record {
+      shape = settled.shape;
+      walked = settled.walked;
+      before = settled.before;
+      at = settled.at;
+      rest = settled.rest;
+      split = settled.split;
+      crowded = crowded settled.why settled.shape settled.before (recorded_before table Saw Last steps recorded settled) is_full;
+    }
 
     bind-cause : (past : Past) (reply : Reply) → SawFor env words_at reply past.steps → AllByRecursion IsRecordedHere past.steps
         → BindCause M mix env events c past reply
@@ -1172,40 +1202,47 @@ module _ (M : Type 0) (mix : ℕ → ℕ → ℕ → ℕ) (env : Env) (events : 
     bind-cause past (Exists owner) saw recorded = saw
     bind-cause past NoNode saw recorded = saw
     bind-cause past (TooBig count) saw recorded = full-saw count past.steps recorded saw
-    bind-cause past (Again table) saw recorded = saw
-    bind-cause past (Busy root last) saw recorded =
-        let walked = saw.walked in
-        let parts = AllByRecursion-cut IsRecordedHere walked.before (walked.at ∷ walked.behind)
-        (subst (AllByRecursion IsRecordedHere) walked.split recorded) in
+    bind-cause past (Again table) saw recorded = record {
+      table = saw.table;
+      full = walked_full saw.table (SawWhy env words_at) (IsFollowing env words_at saw.table table) past.steps recorded saw.settled
+          saw.settled.saw;
+      seen = saw.settled.last;
+    }
+    bind-cause past (Busy root last) settled recorded =
+        let none = Loaded env.geometry (Slot last FutureWord) 0 in
+        let saw = settled.saw in
+        let same =
+        unclamped_some saw.count settled.before (recorded_before last (SawOther env words_at last root) none past.steps recorded settled) saw.counted in
         record {
-          shape = saw.shape;
-          walked = walked;
+          full = walked_full last (SawOther env words_at last root) none past.steps recorded settled saw.is_full;
           other = saw.other;
-          crowded = crowded saw.why saw.shape walked.behind parts.1.1 saw.is_full;
           current = saw.current;
-          none = saw.none;
+          count = saw.count;
+          counted = saw.counted;
+          not_due = subst (λ n. is_above_75 n (size_of (unpacked settled.shape)) env.config.max ≡ false) same saw.not_due;
+          none = settled.last;
         }
-    bind-cause past (NoTable size) saw recorded =
-        let walked = saw.walked in
-        let parts = AllByRecursion-cut IsRecordedHere walked.before (walked.at ∷ walked.behind)
-        (subst (AllByRecursion IsRecordedHere) walked.split recorded) in
-        let behind = AllByRecursion-cut IsRecordedHere saw.before (saw.at ∷ saw.rest)
-        (subst (AllByRecursion IsRecordedHere) saw.split parts.1.1) in
+    bind-cause past (NoTable size) seen recorded =
+        let table = seen.table in
+        let none = Loaded env.geometry (Slot table FutureWord) 0 in
+        let settled = seen.settled in
+        let saw = settled.saw in
+        let wanted = saw.wanted in
+        let same =
+        unclamped_some wanted.count settled.before (recorded_before table (SawFullUp env words_at table size) none past.steps recorded settled)
+        wanted.counted in
         record {
-          table = saw.table;
-          shape = saw.shape;
-          walked = walked;
-          crowded = crowded saw.why saw.shape walked.behind parts.1.1 saw.is_full;
-          before = saw.before;
-          at = saw.at;
-          rest = saw.rest;
-          split = saw.split;
-          count = saw.wanted.count;
-          counted = saw.wanted.counted;
-          wanted = saw.wanted.wanted
-              ∙ ap (wanted_size env saw.shape) (unclamped saw.wanted.count saw.before behind.0 saw.wanted.counted);
+          table = table;
+          full = walked_full table (SawFullUp env words_at table size) none past.steps recorded settled saw.is_full;
+          count = wanted.count;
+          counted = wanted.counted;
+          wanted = wanted.wanted ∙ ap (wanted_size env settled.shape) same;
+          grows = elim wanted.grows [
+            | inl due ↦ inl (subst (λ n. is_above_75 n (size_of (unpacked settled.shape)) env.config.max ≡ true) same due)
+            | inr current ↦ inr current
+          ];
           room = saw.room;
-          none = saw.none;
+          none = settled.last;
         }
     bind-cause past _ saw recorded = absurd saw
 

@@ -1,11 +1,13 @@
--- What a bind that finds the last table full has seen for a refusal, while it makes up its mind and once it is refused.
+-- What a bind that finds the last table full has seen for a refusal or for another attempt, while it makes up its mind and once
+-- it is answered.
 --
 -- All of it lies behind the load of that table's shape: that the table is full, the load of the current table, that of the
--- count of ports, what the making of a table has seen, and the load of the future that comes last.
-use Rattle.std.proofs.Common.{◌≡◌, ◌≢◌, ◌⊎◌, ℕ, ◌≤◌, ◌<◌, ◌*◌, ◌-◌, true, false, cond, nat_le, List, [], ◌∷◌, ◌++◌, map, min, refl, sym, ap, ◌∙◌, subst, inl, inr, append_assoc, arith}
-use Rattle.std.specs.Prelude.{Option, Some, None, ◌&&◌, nat_lt}
+-- count of ports, what the making of a table has seen, and the operation that comes last, the load of the future or the exchange
+-- that attaches a table.
+use Rattle.std.proofs.Common.{◌≡◌, ◌≢◌, ◌⊎◌, ℕ, ◌≤◌, ◌<◌, ◌*◌, ◌-◌, Bool, true, false, cond, nat_le, List, [], ◌∷◌, ◌++◌, map, min, refl, sym, ap, ◌∙◌, subst, inl, inr, append_assoc, arith}
+use Rattle.std.specs.Prelude.{Option, Some, None, ◌&&◌}
 use Rattle.std.specs.List.{Any}
-use Rattle.std.proofs.lemmas.Bool.{and_parts, ltb-true, eqb-false, leb-false}
+use Rattle.std.proofs.lemmas.Bool.{eqb-false, leb-false}
 use Rattle.std.proofs.lemmas.List.{map-append}
 use Rattle.std.proofs.lemmas.List.Quantifiers.{Any-push}
 use Rattle.rht_words.specs.Machines.{Performed}
@@ -19,7 +21,7 @@ use Rattle.rht_words.specs.Places.{CurrentTable, PortCount, Slot, FutureWord, pl
 use Rattle.rht_words.specs.Links.{slot_of, table_of}
 use Rattle.rht_words.specs.Shapes.{unpacked, size_of}
 use Rattle.rht_words.proofs.EachElement.{Any-append_left}
-use Rattle.rht_policy.specs.Thresholds.{is_above_100, may_grow}
+use Rattle.rht_policy.specs.Thresholds.{is_above_75, is_above_100}
 use Rattle.rht_nest.specs.Make.{MakeModel, made_pages, make_plan_at, make_after_at, IsMakeIn}
 use Rattle.rht_nest.specs.Tables.{exponent_made}
 use Rattle.rht_nest.specs.declared.make.MakeAt.{MakeAt}
@@ -30,8 +32,8 @@ use Rattle.rht_bind.specs.declared.bind.growth.Growing.{Growing}
 use Rattle.rht_bind.specs.declared.bind.growth.Refusal.{Refusal}
 use Rattle.rht_bind.specs.declared.bind.growth.Refusal.TheVariants as refusals
 use Rattle.rht_core.specs.Traces.{Did, performed_of}
-use Rattle.rht_core.specs.Seen.{IsNoShapeLoad, LastWalked}
-use Rattle.rht_core.specs.ResizeCauses.{LoadsWord, Loaded, wanted_size, SawNoRoom, IsNoKeyLoad, SawLongChain}
+use Rattle.rht_core.specs.Seen.{LoadsCurrent, IsNoShapeLoad, LastWalked}
+use Rattle.rht_core.specs.ResizeCauses.{Loaded, Attaches, FindsFuture, wanted_size, SawNoRoom, IsNoKeyLoad, SawLongChain}
 use Rattle.rht_core.proofs.Reasons.TablesWalked.{nodes_behind, LastWalked-push}
 use Rattle.rht_core.proofs.Reasons.KeyLoads.{no_key-before, no_key-make}
 use Rattle.rht_core.proofs.Reasons.ChainsCounted.{SawLongChain-push}
@@ -74,77 +76,94 @@ module _ (env : Env) (words_at : ℕ → List ℕ) where
 
   -- ---- what is seen
 
-  -- the operation loaded a count of ports above the size of a table of this shape
+  -- the operation loaded a count of ports above the size of a table of this shape, which may grow
   pub record LoadedAbove (shape : ℕ) (did : Did) : Type 0 where
     pub loaded : did.op ≡ Load (place_of g PortCount)
-    pub above : size_of (unpacked shape) < did.old
+    pub above : is_above_100 (min did.old 65536) (size_of (unpacked shape)) env.config.max ≡ true
 
   -- the table is full by a chain of its, or by its count of ports
   abbrev pub SawWhy : Full → ℕ → List Did → Type 0
   SawWhy full.Chain shape behind = SawLongChain g words_at shape behind
   SawWhy full.Table shape behind = Any (LoadedAbove shape) behind
 
-  -- the operation loaded the slot of the current table
-  abbrev pub LoadedRoot : ℕ → Did → Type 0
-  LoadedRoot root did = LoadsWord g CurrentTable did × (table_of did.old ≡ root)
+  -- with this count a table of this shape is due to grow
+  abbrev pub is_due : ℕ → ℕ → Bool
+  is_due shape count = is_above_75 (min count 65536) (size_of (unpacked shape)) env.config.max
 
-  -- a count was loaded by which a table of this size is wanted
-  pub record SawWanted (shape size : ℕ) (behind : List Did) : Type 0 where
+  -- a count was loaded by which a table of this size is wanted behind that of this slot
+  pub record SawWanted (shape table size : ℕ) (behind : List Did) : Type 0 where
     pub count : ℕ
     pub counted : Any (Loaded g PortCount count) behind
     pub wanted : size ≡ wanted_size env shape (min count 65536)
+    pub grows : (is_due shape count ≡ true) ⊎ Any (LoadsCurrent g table) behind
 
   -- before the count is loaded
   pub record SawRoot (growing : Growing) (root : ℕ) (behind : List Did) : Type 0 where
     pub why : SawWhy growing.why growing.shape behind
-    pub current : Any (LoadedRoot root) behind
+    pub current : Any (LoadsCurrent g root) behind
 
   -- what a refusal says while it may be that the table has a future
-  pub record SawOther (growing : Growing) (root : ℕ) (behind : List Did) : Type 0 where
-    pub root_saw : SawRoot growing root behind
-    pub other : root ≢ growing.table
+  pub record SawOther (table root : ℕ) (why : Full) (shape : ℕ) (behind : List Did) : Type 0 where
+    pub is_full : SawWhy why shape behind
+    pub current : Any (LoadsCurrent g root) behind
+    pub other : root ≢ table
+    pub count : ℕ
+    pub counted : Any (Loaded g PortCount count) behind
+    pub not_due : is_due shape count ≡ false
 
-  pub record SawFullUp (growing : Growing) (size : ℕ) (behind : List Did) : Type 0 where
-    pub why : SawWhy growing.why growing.shape behind
-    pub wanted : SawWanted growing.shape size behind
+  pub record SawFullUp (table size : ℕ) (why : Full) (shape : ℕ) (behind : List Did) : Type 0 where
+    pub is_full : SawWhy why shape behind
+    pub wanted : SawWanted shape table size behind
     pub room : SawNoRoom g size behind
 
   abbrev pub SawRefusal : Growing → Refusal → List Did → Type 0
-  SawRefusal growing (refusals.Busy root) behind = SawOther growing root behind
-  SawRefusal growing (refusals.NoTable size) behind = SawFullUp growing size behind
+  SawRefusal growing (refusals.Busy root) behind = SawOther growing.table root growing.why growing.shape behind
+  SawRefusal growing (refusals.NoTable size) behind = SawFullUp growing.table size growing.why growing.shape behind
+
+  -- each says that the table is full
+  pub refusal-why : (growing : Growing) (refusal : Refusal) (behind : List Did) → SawRefusal growing refusal behind
+      → SawWhy growing.why growing.shape behind
+  refusal-why growing (refusals.Busy root) behind saw = saw.is_full
+  refusal-why growing (refusals.NoTable size) behind saw = saw.is_full
 
   -- while a table is made
   pub record SawToMake (growing : Growing) (size exponent : ℕ) (next : MakeAt × Next (Option (ℕ × ℕ))) (behind : List Did) :
       Type 0 where
     pub why : SawWhy growing.why growing.shape behind
-    pub wanted : SawWanted growing.shape size behind
+    pub wanted : SawWanted growing.shape growing.table size behind
     pub exponent_is : exponent ≡ exponent_made size
     pub made : SawMade g exponent next (map performed_of behind)
 
-  -- what the operations of a bind show that was refused while tables are moved
-  pub record BusySeen (root last : ℕ) (steps : List Did) : Type 0 where
-    pub shape : ℕ
+  -- The operations behind the load of the last table's shape saw this first, and that the table is full; and one comes behind
+  -- these of which the rest is so. This settles the reply.
+  pub record Settled (table : ℕ) (Saw : Full → ℕ → List Did → Type 0) (Last : Did → Type 0) (steps : List Did) : Type 0 where
     pub why : Full
-    pub walked : LastWalked g last shape steps
-    pub is_full : SawWhy why shape walked.behind
-    pub other : root ≢ last
-    pub current : Any (LoadedRoot root) walked.behind
-    pub none : Any (Loaded g (Slot last FutureWord) 0) walked.behind
-
-  -- and of one that was refused for want of a table
-  pub record NoTableSeen (size : ℕ) (steps : List Did) : Type 0 where
-    pub table : ℕ
     pub shape : ℕ
-    pub why : Full
     pub walked : LastWalked g table shape steps
-    pub is_full : SawWhy why shape walked.behind
     pub before : List Did
     pub at : Did
     pub rest : List Did
     pub split : walked.behind ≡ before ++ at ∷ rest
-    pub wanted : SawWanted shape size before
-    pub room : SawNoRoom g size before
-    pub none : Loaded g (Slot table FutureWord) 0 at
+    pub saw : Saw why shape before
+    pub last : Last at
+
+  -- the operation attached the table of this slot behind that of another, or found it there
+  abbrev pub IsFollowing : ℕ → ℕ → Did → Type 0
+  IsFollowing table slot did = Attaches g table slot did ⊎ FindsFuture g table slot did
+
+  -- what the operations of a bind show that has to be made again
+  pub record FollowedSeen (slot : ℕ) (steps : List Did) : Type 0 where
+    pub table : ℕ
+    pub settled : Settled table SawWhy (IsFollowing table slot) steps
+
+  -- of one that was refused while tables are moved
+  abbrev pub BusySeen : ℕ → ℕ → List Did → Type 0
+  BusySeen root last steps = Settled last (SawOther last root) (Loaded g (Slot last FutureWord) 0) steps
+
+  -- and of one that was refused for want of a table
+  pub record NoTableSeen (size : ℕ) (steps : List Did) : Type 0 where
+    pub table : ℕ
+    pub settled : Settled table (SawFullUp table size) (Loaded g (Slot table FutureWord) 0) steps
 
   -- ---- what was seen stays seen
 
@@ -153,43 +172,69 @@ module _ (env : Env) (words_at : ℕ → List ℕ) where
   SawWhy-push full.Chain shape behind did no_key saw = SawLongChain-push g words_at shape behind did no_key saw
   SawWhy-push full.Table shape behind did no_key saw = Any-append_left (LoadedAbove shape) behind (did ∷ []) saw
 
-  SawWanted-push : (shape size : ℕ) (behind : List Did) (did : Did) → SawWanted shape size behind
-      → SawWanted shape size (behind ++ did ∷ [])
-  SawWanted-push shape size behind did saw = record {
+  SawWanted-push : (shape table size : ℕ) (behind : List Did) (did : Did) → SawWanted shape table size behind
+      → SawWanted shape table size (behind ++ did ∷ [])
+  SawWanted-push shape table size behind did saw = record {
     count = saw.count;
     counted = Any-append_left (Loaded g PortCount saw.count) behind (did ∷ []) saw.counted;
     wanted = saw.wanted;
+    grows = elim saw.grows [
+      | inl due ↦ inl due
+      | inr current ↦ inr (Any-append_left (LoadsCurrent g table) behind (did ∷ []) current)
+    ];
   }
 
-  pub BusySeen-push : (root last : ℕ) (steps : List Did) (did : Did) → IsNoShapeLoad g did → IsNoKeyLoad g did
-      → BusySeen root last steps → BusySeen root last (steps ++ did ∷ [])
+  -- whatever follows
+  Settled-push : (table : ℕ) (Saw : Full → ℕ → List Did → Type 0) (Last : Did → Type 0) (steps : List Did) (did : Did)
+      → IsNoShapeLoad g did → Settled table Saw Last steps → Settled table Saw Last (steps ++ did ∷ [])
   unfolding LastWalked-push
-  BusySeen-push root last steps did none no_key saw = record {
-    shape = saw.shape;
+  Settled-push table Saw Last steps did none saw = record {
     why = saw.why;
-    walked = LastWalked-push g last saw.shape steps did none saw.walked;
-    is_full = SawWhy-push saw.why saw.shape saw.walked.behind did no_key saw.is_full;
-    other = saw.other;
-    current = Any-append_left (LoadedRoot root) saw.walked.behind (did ∷ []) saw.current;
-    none = Any-append_left (Loaded g (Slot last FutureWord) 0) saw.walked.behind (did ∷ []) saw.none;
-  }
-
-  pub NoTableSeen-push : (size : ℕ) (steps : List Did) (did : Did) → IsNoShapeLoad g did → IsNoKeyLoad g did
-      → NoTableSeen size steps → NoTableSeen size (steps ++ did ∷ [])
-  unfolding LastWalked-push
-  NoTableSeen-push size steps did none no_key saw = record {
-    table = saw.table;
     shape = saw.shape;
-    why = saw.why;
-    walked = LastWalked-push g saw.table saw.shape steps did none saw.walked;
-    is_full = SawWhy-push saw.why saw.shape saw.walked.behind did no_key saw.is_full;
+    walked = LastWalked-push g table saw.shape steps did none saw.walked;
     before = saw.before;
     at = saw.at;
     rest = saw.rest ++ did ∷ [];
     split = ap (λ l. l ++ did ∷ []) saw.split ∙ append_assoc saw.before (saw.at ∷ saw.rest) (did ∷ []);
-    wanted = saw.wanted;
-    room = saw.room;
-    none = saw.none;
+    saw = saw.saw;
+    last = saw.last;
+  }
+
+  pub FollowedSeen-push : (slot : ℕ) (steps : List Did) (did : Did) → IsNoShapeLoad g did → FollowedSeen slot steps
+      → FollowedSeen slot (steps ++ did ∷ [])
+  FollowedSeen-push slot steps did none saw = record {
+    table = saw.table;
+    settled = Settled-push saw.table SawWhy (IsFollowing saw.table slot) steps did none saw.settled;
+  }
+
+  pub BusySeen-push : (root last : ℕ) (steps : List Did) (did : Did) → IsNoShapeLoad g did → BusySeen root last steps
+      → BusySeen root last (steps ++ did ∷ [])
+  BusySeen-push root last steps did none saw =
+      Settled-push last (SawOther last root) (Loaded g (Slot last FutureWord) 0) steps did none saw
+
+  pub NoTableSeen-push : (size : ℕ) (steps : List Did) (did : Did) → IsNoShapeLoad g did → NoTableSeen size steps
+      → NoTableSeen size (steps ++ did ∷ [])
+  NoTableSeen-push size steps did none saw = record {
+    table = saw.table;
+    settled =
+        Settled-push saw.table (SawFullUp saw.table size) (Loaded g (Slot saw.table FutureWord) 0) steps did none saw.settled;
+  }
+
+  -- the operation that comes now settles it
+  settled-saw : (growing : Growing) (Saw : Full → ℕ → List Did → Type 0) (Last : Did → Type 0) (steps : List Did) (did : Did)
+      → IsNoShapeLoad g did → Last did → Behind growing.table growing.shape (Saw growing.why growing.shape) steps
+      → Settled growing.table Saw Last (steps ++ did ∷ [])
+  unfolding LastWalked-push
+  settled-saw growing Saw Last steps did none last saw = record {
+    why = growing.why;
+    shape = growing.shape;
+    walked = LastWalked-push g growing.table growing.shape steps did none saw.walked;
+    before = saw.walked.behind;
+    at = did;
+    rest = [];
+    split = refl;
+    saw = saw.saw;
+    last = last;
   }
 
   -- ---- operations
@@ -199,11 +244,7 @@ module _ (env : Env) (words_at : ℕ → List ℕ) where
       → is_above_100 (min did.old 65536) (size_of (unpacked shape)) env.config.max ≡ true
       → SawWhy full.Table shape (behind ++ did ∷ [])
   above-why shape behind did is above =
-      let size = size_of (unpacked shape) in
-      let clamped = min did.old 65536 in
-      let parts = and_parts (nat_lt size clamped) (may_grow size env.config.max) above in
-      let more : size < clamped = ltb-true size clamped parts.0 in
-      Any-push (LoadedAbove shape) behind did (record { loaded = is; above = omega (arith, more) })
+      Any-push (LoadedAbove shape) behind did (record { loaded = is; above = above })
 
   -- the load of the current table
   pub root-saw : (growing : Growing) (behind : List Did) (did : Did) → did.op ≡ Load (place_of g CurrentTable)
@@ -211,17 +252,23 @@ module _ (env : Env) (words_at : ℕ → List ℕ) where
   root-saw growing behind did is why = record {
     why = SawWhy-push growing.why growing.shape behind did (no_key-before g did 0 is (omega (arith, nodes_behind g))) why;
     current =
-        Any-push (LoadedRoot (table_of did.old)) behind did (record { there = tt; loads = is }, refl);
+        Any-push (LoadsCurrent g (table_of did.old)) behind did (record { there = tt; loads = is }, refl);
   }
 
   -- the load of the count
-  pub wanted-saw : (shape size : ℕ) (behind : List Did) (did : Did) → did.op ≡ Load (place_of g PortCount)
-      → size ≡ wanted_size env shape (min did.old 65536) → SawWanted shape size (behind ++ did ∷ [])
-  wanted-saw shape size behind did is wanted = record {
+  wanted-saw : (shape table root size : ℕ) (behind : List Did) (did : Did) → did.op ≡ Load (place_of g PortCount)
+      → size ≡ wanted_size env shape (min did.old 65536) → (is_due shape did.old ≡ true) ⊎ (root ≡ table)
+      → Any (LoadsCurrent g root) behind → SawWanted shape table size (behind ++ did ∷ [])
+  wanted-saw shape table root size behind did is wanted grows current = record {
     count = did.old;
     counted = Any-push (Loaded g PortCount did.old) behind did
         (record { word = record { there = tt; loads = is }; found = refl });
     wanted = wanted;
+    grows = elim grows [
+      | inl due ↦ inl due
+      | inr same ↦
+          inr (Any-append_left (LoadsCurrent g table) behind (did ∷ []) (subst (λ slot. Any (LoadsCurrent g slot) behind) same current))
+    ];
   }
 
   -- it loads no key
@@ -230,24 +277,26 @@ module _ (env : Env) (words_at : ℕ → List ℕ) where
 
   pub begins-making : (growing : Growing) (root size : ℕ) (behind : List Did) (did : Did)
       → did.op ≡ Load (place_of g PortCount) → size ≡ wanted_size env growing.shape (min did.old 65536)
-      → SawRoot growing root behind
+      → (is_due growing.shape did.old ≡ true) ⊎ (root ≡ growing.table) → SawRoot growing root behind
       → SawToMake growing size (exponent_made size) (makes.Slot 0, Go) (behind ++ did ∷ [])
-  begins-making growing root size behind did is wanted saw = record {
+  begins-making growing root size behind did is wanted grows saw = record {
     why = SawWhy-push growing.why growing.shape behind did (no_key-count did is) saw.why;
-    wanted = wanted-saw growing.shape size behind did is wanted;
+    wanted = wanted-saw growing.shape growing.table root size behind did is wanted grows saw.current;
     exponent_is = refl;
     made = saw_nothing g (exponent_made size) (map performed_of (behind ++ did ∷ []));
   }
 
   pub other-saw : (growing : Growing) (root : ℕ) (behind : List Did) (did : Did)
-      → did.op ≡ Load (place_of g PortCount) → root ≢ growing.table
-      → SawRoot growing root behind → SawOther growing root (behind ++ did ∷ [])
-  other-saw growing root behind did is other saw = record {
-    root_saw = record {
-      why = SawWhy-push growing.why growing.shape behind did (no_key-count did is) saw.why;
-      current = Any-append_left (LoadedRoot root) behind (did ∷ []) saw.current;
-    };
+      → did.op ≡ Load (place_of g PortCount) → root ≢ growing.table → is_due growing.shape did.old ≡ false
+      → SawRoot growing root behind → SawOther growing.table root growing.why growing.shape (behind ++ did ∷ [])
+  other-saw growing root behind did is other not_due saw = record {
+    is_full = SawWhy-push growing.why growing.shape behind did (no_key-count did is) saw.why;
+    current = Any-append_left (LoadsCurrent g root) behind (did ∷ []) saw.current;
     other = other;
+    count = did.old;
+    counted = Any-push (Loaded g PortCount did.old) behind did
+        (record { word = record { there = tt; loads = is }; found = refl });
+    not_due = not_due;
   }
 
   -- an operation of the making of a table
@@ -268,7 +317,7 @@ module _ (env : Env) (words_at : ℕ → List ℕ) where
       let no_key = no_key-make g make.geometry (made_pages make.exponent) make.exponent make.seed make.at did within.at_in is in
       record {
         why = SawWhy-push growing.why growing.shape behind did no_key saw.why;
-        wanted = SawWanted-push growing.shape size behind did saw.wanted;
+        wanted = SawWanted-push growing.shape growing.table size behind did saw.wanted;
         exponent_is = saw.exponent_is;
         made =
             subst (λ (h : Geometry). SawMade g make.exponent (make_after_at h make.exponent make.at did.old)
@@ -278,9 +327,10 @@ module _ (env : Env) (words_at : ℕ → List ℕ) where
 
   -- no table was made
   pub no_room-saw : (growing : Growing) (size exponent : ℕ) (state : MakeAt) (behind : List Did)
-      → SawToMake growing size exponent (state, Done None) behind → SawFullUp growing size behind
+      → SawToMake growing size exponent (state, Done None) behind
+      → SawFullUp growing.table size growing.why growing.shape behind
   no_room-saw growing size exponent state behind saw = record {
-    why = saw.why;
+    is_full = saw.why;
     wanted = saw.wanted;
     room = elim saw.made [
       | inl slots ↦ inl slots
@@ -296,43 +346,30 @@ module _ (env : Env) (words_at : ℕ → List ℕ) where
   -- the future is loaded as none
   pub busy-saw : (growing : Growing) (root : ℕ) (steps : List Did) (did : Did) → IsNoShapeLoad g did → growing.table < 8
       → did.op ≡ Load (place_of g (Slot growing.table FutureWord)) → did.old ≡ 0
-      → Behind growing.table growing.shape (SawOther growing root) steps
+      → Behind growing.table growing.shape (SawOther growing.table root growing.why growing.shape) steps
       → BusySeen root growing.table (steps ++ did ∷ [])
-  unfolding LastWalked-push
   busy-saw growing root steps did none within is zero saw =
-      let behind = saw.walked.behind in
-      let here = saw.saw in
-      record {
-        shape = growing.shape;
-        why = growing.why;
-        walked = LastWalked-push g growing.table growing.shape steps did none saw.walked;
-        is_full = SawWhy-push growing.why growing.shape behind did (no_key-future did growing.table within is) here.root_saw.why;
-        other = here.other;
-        current = Any-append_left (LoadedRoot root) behind (did ∷ []) here.root_saw.current;
-        none = Any-push (Loaded g (Slot growing.table FutureWord) 0) behind did
-            (record { word = record { there = (within, tt); loads = is }; found = zero });
-      }
+      settled-saw growing (SawOther growing.table root) (Loaded g (Slot growing.table FutureWord) 0) steps did none
+      (record { word = record { there = (within, tt); loads = is }; found = zero }) saw
 
   pub no_table-saw : (growing : Growing) (size : ℕ) (steps : List Did) (did : Did) → IsNoShapeLoad g did
       → growing.table < 8
       → did.op ≡ Load (place_of g (Slot growing.table FutureWord)) → did.old ≡ 0
-      → Behind growing.table growing.shape (SawFullUp growing size) steps
+      → Behind growing.table growing.shape (SawFullUp growing.table size growing.why growing.shape) steps
       → NoTableSeen size (steps ++ did ∷ [])
-  unfolding LastWalked-push
-  no_table-saw growing size steps did none within is zero saw =
-      let behind = saw.walked.behind in
-      let here = saw.saw in
-      record {
-        table = growing.table;
-        shape = growing.shape;
-        why = growing.why;
-        walked = LastWalked-push g growing.table growing.shape steps did none saw.walked;
-        is_full = SawWhy-push growing.why growing.shape behind did (no_key-future did growing.table within is) here.why;
-        before = behind;
-        at = did;
-        rest = [];
-        split = refl;
-        wanted = here.wanted;
-        room = here.room;
-        none = record { word = record { there = (within, tt); loads = is }; found = zero };
-      }
+  no_table-saw growing size steps did none within is zero saw = record {
+    table = growing.table;
+    settled =
+        settled-saw growing (SawFullUp growing.table size) (Loaded g (Slot growing.table FutureWord) 0) steps did none
+        (record { word = record { there = (within, tt); loads = is }; found = zero }) saw;
+  }
+
+  -- another table follows
+  pub followed-saw : (growing : Growing) (slot : ℕ) (steps : List Did) (did : Did) → IsNoShapeLoad g did
+      → IsFollowing growing.table slot did
+      → Behind growing.table growing.shape (SawWhy growing.why growing.shape) steps
+      → FollowedSeen slot (steps ++ did ∷ [])
+  followed-saw growing slot steps did none is saw = record {
+    table = growing.table;
+    settled = settled-saw growing SawWhy (IsFollowing growing.table slot) steps did none is saw;
+  }

@@ -1,19 +1,19 @@
 -- A release says that there is something to do for `work` by the one operation that lowers the count, for the table that it walked
 -- last, in which it found the port.
 use Rattle.std.proofs.Common.{◌≡◌, ◌≢◌, ◌⊎◌, ℕ, ◌<◌, ◌≤◌, ◌==◌, Bool, true, false, List, [], ◌∷◌, ◌++◌, min, append_assoc, refl, sym, ap, ◌∙◌, subst, inl, inr, arith}
-use Rattle.std.specs.Prelude.{Option, Some, None, ◌-◌}
+use Rattle.std.specs.Prelude.{Option, Some, None, IfSome, ◌-◌}
 use Rattle.std.specs.List.{AllByRecursion, Any}
 use Rattle.std.proofs.lemmas.List.Elements.{All-from_recursion}
 use Rattle.std.proofs.lemmas.List.Quantifiers.{Any-push}
 use Rattle.rht_words.specs.declared.op.Op.{Op}
-use Rattle.rht_words.specs.declared.op.Op.TheVariants.{Store, Sub}
+use Rattle.rht_words.specs.declared.op.Op.TheVariants.{Load, Store, Sub}
 use Rattle.rht_words.specs.declared.env.Env.{Env}
 use Rattle.rht_words.specs.declared.geometry.Geometry.{Geometry}
 use Rattle.rht_words.specs.declared.machine.Next.{Next}
 use Rattle.rht_words.specs.declared.machine.Next.TheVariants.{Go, Done}
-use Rattle.rht_words.specs.Links.{node_of}
+use Rattle.rht_words.specs.Links.{node_of, slot_of}
 use Rattle.rht_words.specs.Machines.{GoesOrEnds}
-use Rattle.rht_words.specs.Places.{PortCount, ChainLink, ListLink, OwnerWord, place_of}
+use Rattle.rht_words.specs.Places.{PortCount, Slot, FutureWord, ChainLink, ListLink, OwnerWord, place_of}
 use Rattle.rht_words.specs.Ports.{owner_of}
 use Rattle.rht_words.specs.Shapes.{unpacked, size_of}
 use Rattle.rht_words.proofs.EachElement.{AllByRecursion-push, AllByRecursion-cut}
@@ -46,9 +46,9 @@ use Rattle.rht_release.specs.declared.release.ReleaseAt.TheVariants as at
 use Rattle.rht_release.specs.Release.{plan_at, after_at, sought, owner_compared, list_followed, cut_or_chain, unlink_or_promote, promoted, unlinked, removed_reply, kicks, IsReleaseAtIn}
 use Rattle.rht_move.specs.Choice.{is_sparse}
 use Rattle.rht_core.specs.Traces.{Did}
-use Rattle.rht_core.specs.Seen.{IsNoShapeLoad, LastWalked}
+use Rattle.rht_core.specs.Seen.{CameTo, IsNoShapeLoad, LastWalked}
 use Rattle.rht_core.specs.Causes.{IsLowering, IsSparseBy, KicksOnRelease}
-use Rattle.rht_core.proofs.Reasons.TablesWalked.{IsAside, aside, elsewhere, node_loads, probe_loads, relink_stores, Walked, Walked-push, WalkedAt, WalkedNext, same_table, locate-walked}
+use Rattle.rht_core.proofs.Reasons.TablesWalked.{IsAside, aside, node_loads, probe_loads, relink_stores, CameTo-append, came-current, came-future, walked-came, Walked, Walked-push, WalkedAt, WalkedNext, same_table, locate-walked}
 
 -- ---- which operations lower a count
 
@@ -103,8 +103,8 @@ module _ (env : Env) where
   SawSeek seeks.CurrentTable steps = Unit {0}
   SawSeek (seeks.Locating locate) steps = WalkedAt env.geometry locate.table locate.at steps
   SawSeek (seeks.Probing table shape probe) steps = Walked env.geometry table shape steps
-  SawSeek (seeks.Future table bucket) steps = Unit {0}
-  SawSeek (seeks.Leaving table unlock future) steps = Unit {0}
+  SawSeek (seeks.Future table bucket) steps = CameTo env.geometry table steps
+  SawSeek (seeks.Leaving table unlock future) steps = IfSome future (λ next. CameTo env.geometry next steps)
 
   abbrev InFound : FoundPort → List Did → Type 0
   InFound found steps = Walked env.geometry found.table found.shape steps
@@ -179,7 +179,7 @@ module _ (env : Env) where
       → Walked env.geometry table shape all
       → let next = found_or_future table shape probe end found in
       SawNextRelease all (sought (record { geometry = h; at = next.0 }) next.1)
-  seen-saw table shape probe end None h all walked = tt
+  seen-saw table shape probe end None h all walked = walked-came env.geometry table shape all walked.last
   seen-saw table shape probe end (Some node) h all walked = walked
 
   probed-saw : (table shape : ℕ) (probe : ProbeModel) (end : Next Probed) (h : Geometry) (all : List Did)
@@ -189,17 +189,26 @@ module _ (env : Env) where
   probed-saw table shape probe Go h all walked = walked
   probed-saw table shape probe (Done end) h all walked = seen-saw table shape probe end end.seen.found h all walked
 
-  left-saw : (g : Geometry) (table : ℕ) (unlock : Unlock) (future : Option ℕ) (h : Geometry) (all : List Did)
+  -- a future that was loaded is come to
+  led-saw : (table : ℕ) (future : Option ℕ) (steps : List Did) (did : Did) → table < 8
+      → did.op ≡ Load (place_of env.geometry (Slot table FutureWord)) → slot_of did.old ≡ future
+      → CameTo env.geometry table steps → IfSome future (λ next. CameTo env.geometry next (steps ++ did ∷ []))
+  led-saw table None steps did within is named came = tt
+  led-saw table (Some next) steps did within is named came =
+      came-future env.geometry table next steps did within is named came
+
+  left-saw : (g : Geometry) (table : ℕ) (unlock : Unlock) (future : Option ℕ) (h : Geometry) (steps : List Did) (did : Did)
+      → IfSome future (λ next. CameTo env.geometry next steps)
       → let next = left g table unlock future in
-      SawNextRelease all (sought (record { geometry = h; at = next.0 }) next.1)
-  left-saw g table unlock None h all = tt
-  left-saw g table unlock (Some future) h all = tt
+      SawNextRelease (steps ++ did ∷ []) (sought (record { geometry = h; at = next.0 }) next.1)
+  left-saw g table unlock None h steps did came = tt
+  left-saw g table unlock (Some next) h steps did came = CameTo-append env.geometry next steps (did ∷ []) came
 
   seek-saw : (mix : ℕ → ℕ → ℕ → ℕ) (port : ℕ) (h : Geometry) (state : SeekAt) (steps : List Did) (did : Did)
       → IsSeekAtIn env.geometry state → did.op ≡ seek_plan_at h state → SawSeek state steps
       → let next = seek_after mix port (record { geometry = h; at = state }) did.old in
       SawNextRelease (steps ++ did ∷ []) (sought next.0 next.1)
-  seek-saw mix port h seeks.CurrentTable steps did within is saw = tt
+  seek-saw mix port h seeks.CurrentTable steps did within is saw = came-current env.geometry steps did is
   seek-saw mix port h (seeks.Locating locate) steps did within is saw =
       let next = locate_after mix port locate did.old in
       located-saw mix h port locate.table next.0 next.1 h (steps ++ did ∷ [])
@@ -209,9 +218,10 @@ module _ (env : Env) where
       probed-saw table shape (probe_after probe did.old).0 (probe_after probe did.old).1 h (steps ++ did ∷ [])
       (Walked-push env.geometry table shape steps did
       (probe_loads env.geometry did probe.at within.probe_in.at_in is) saw)
-  seek-saw mix port h (seeks.Future table bucket) steps did within is saw = tt
+  seek-saw mix port h (seeks.Future table bucket) steps did within is saw =
+      led-saw table (slot_of did.old) steps did within.table_in is refl saw
   seek-saw mix port h (seeks.Leaving table unlock future) steps did within is saw =
-      left-saw h table unlock future h (steps ++ did ∷ [])
+      left-saw h table unlock future h steps did saw
 
   -- ---- in the port's list
 
@@ -377,6 +387,7 @@ module _ (env : Env) where
           at = was.at;
           behind = was.behind ++ last ∷ [];
           split = saw.split ∙ ap (λ l. l ++ last ∷ []) was.split ∙ append_assoc was.before (was.at ∷ was.behind) (last ∷ []);
+          reached = was.reached;
           table_in = was.table_in;
           loaded = was.loaded;
           found = was.found;

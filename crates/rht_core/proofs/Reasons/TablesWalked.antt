@@ -1,14 +1,16 @@
--- The last table that a call walked is the one whose shape it loaded last.
+-- The last table that a call walked is the one whose shape it loaded last, and it had come to it before, from the current table on.
 -- It stays so while the call loads no other shape; and neither what it does in a bucket nor what it stores
 -- loads one. Nor does any
 -- of that raise the count of ports.
-use Rattle.std.proofs.Common.{◌≡◌, ◌≢◌, ℕ, ◌<◌, ◌≤◌, List, [], ◌∷◌, ◌++◌, refl, sym, ap, ◌∙◌, append_assoc, arith}
+use Rattle.std.proofs.Common.{◌≡◌, ◌≢◌, ℕ, ◌<◌, ◌≤◌, Some, List, [], ◌∷◌, ◌++◌, refl, sym, ap, ◌∙◌, subst, append_assoc, arith}
 use Rattle.std.specs.List.{AllByRecursion}
+use Rattle.std.proofs.lemmas.List.Quantifiers.{Any-push}
 use Rattle.rht_words.specs.declared.op.Op.{Op}
 use Rattle.rht_words.specs.declared.op.Op.TheVariants.{Load, Add}
 use Rattle.rht_words.specs.declared.geometry.Geometry.{Geometry}
-use Rattle.rht_words.specs.Places.{PortCount, Node, NodeWord, ChainLink, KeyWord, Slot, ShapeWord, SeedWord, IsBucketPlace, nodes_at, place_of}
-use Rattle.rht_words.proofs.EachElement.{AllByRecursion-push}
+use Rattle.rht_words.specs.Links.{table_of, slot_of}
+use Rattle.rht_words.specs.Places.{CurrentTable, PortCount, Node, NodeWord, ChainLink, KeyWord, Slot, ShapeWord, SeedWord, FutureWord, IsBucketPlace, nodes_at, place_of}
+use Rattle.rht_words.proofs.EachElement.{Any-append_left, AllByRecursion-push}
 use Rattle.rht_words.proofs.PlacesApart.{parts_in_order}
 use Rattle.rht_nest.specs.Locate.{LocateModel, locate_plan_at, locate_after_at}
 use Rattle.rht_nest.specs.declared.locate.LocateAt.{LocateAt}
@@ -29,7 +31,7 @@ use Rattle.rht_chain.specs.Relink.{RelinkModel, relink_plan_at}
 use Rattle.rht_chain.specs.declared.relink.RelinkAt.{RelinkAt}
 use Rattle.rht_chain.specs.declared.relink.RelinkAt.TheVariants as relinks
 use Rattle.rht_core.specs.Traces.{Did}
-use Rattle.rht_core.specs.Seen.{IsNoShapeLoad, LastWalked}
+use Rattle.rht_core.specs.Seen.{LoadsCurrent, CameTo, as_current, as_future, IsNoShapeLoad, LastWalked}
 use Rattle.rht_core.specs.Causes.{IsRaise}
 use Rattle.rht_core.specs.ResizeCauses.{IsNoKeyLoad}
 use Rattle.rht_core.proofs.Reasons.KeyLoads.{no_key-before}
@@ -108,6 +110,37 @@ module _ (g : Geometry) where
       (λ place value adds. cc)
   relink_stores did m (relinks.Word word) is = aside did _ is (λ place load. cc) (λ place value adds. cc)
 
+  -- ---- the way to a table
+
+  -- what came to a table has come to it whatever follows
+  pub CameTo-append : (table : ℕ) (steps more : List Did) → CameTo g table steps → CameTo g table (steps ++ more)
+  CameTo-append table steps more (as_current _ _ any) =
+      as_current table (steps ++ more) (Any-append_left (LoadsCurrent g table) steps more any)
+  CameTo-append table steps more (as_future front _ before at behind _ came loads named split) =
+      as_future front table before at (behind ++ more) (steps ++ more) came loads named
+      (ap (λ l. l ++ more) split ∙ append_assoc before (at ∷ behind) more)
+
+  -- by the load of the current table
+  pub came-current : (steps : List Did) (did : Did) → did.op ≡ Load (place_of g CurrentTable)
+      → CameTo g (table_of did.old) (steps ++ did ∷ [])
+  came-current steps did is =
+      let table = table_of did.old in
+      as_current table (steps ++ did ∷ [])
+      (Any-push (LoadsCurrent g table) steps did (record { there = tt; loads = is }, refl))
+
+  -- and by that of a future
+  pub came-future : (front table : ℕ) (steps : List Did) (did : Did) → front < 8
+      → did.op ≡ Load (place_of g (Slot front FutureWord)) → slot_of did.old ≡ Some table → CameTo g front steps
+      → CameTo g table (steps ++ did ∷ [])
+  came-future front table steps did within is named came =
+      as_future front table steps did [] (steps ++ did ∷ []) came (record { there = (within, tt); loads = is }) named refl
+
+  -- a table that was walked was come to
+  pub walked-came : (table shape : ℕ) (steps : List Did) → LastWalked g table shape steps → CameTo g table steps
+  walked-came table shape steps walked =
+      subst (CameTo g table) (sym walked.split)
+      (CameTo-append table walked.before (walked.at ∷ walked.behind) walked.reached)
+
   -- ---- the last table
 
   unfoldable pub LastWalked-push : (table shape : ℕ) (steps : List Did) (did : Did) → IsNoShapeLoad g did
@@ -118,6 +151,7 @@ module _ (g : Geometry) where
     behind = walked.behind ++ did ∷ [];
     split = ap (λ l. l ++ did ∷ []) walked.split ∙ append_assoc walked.before (walked.at ∷ walked.behind)
         (did ∷ []);
+    reached = walked.reached;
     table_in = walked.table_in;
     loaded = walked.loaded;
     found = walked.found;
@@ -139,13 +173,14 @@ module _ (g : Geometry) where
 
   -- it begins with the load of the shape
   Walked-new : (table : ℕ) (steps : List Did) (did : Did) → table < 8
-      → did.op ≡ Load (place_of g (Slot table ShapeWord)) → Walked table did.old (steps ++ did ∷ [])
-  Walked-new table steps did below is = record {
+      → did.op ≡ Load (place_of g (Slot table ShapeWord)) → CameTo g table steps → Walked table did.old (steps ++ did ∷ [])
+  Walked-new table steps did below is came = record {
     last = record {
       before = steps;
       at = did;
       behind = [];
       split = refl;
+      reached = came;
       table_in = below;
       loaded = is;
       found = refl;
@@ -172,9 +207,9 @@ module _ (g : Geometry) where
   abbrev pub LoadedNoKey : List Did → Type 0
   LoadedNoKey behind = AllByRecursion (IsNoKeyLoad g) behind
 
-  -- while it looks for the bucket: once it has the shape
+  -- while it looks for the bucket: it came to the table, and once it has the shape it walks it
   abbrev pub WalkedAt : ℕ → LocateAt → List Did → Type 0
-  WalkedAt table locates.Shape steps = Unit {0}
+  WalkedAt table locates.Shape steps = CameTo g table steps
   WalkedAt table (locates.Seed shape) steps = WalkedSeeing table shape LoadedNoKey steps
 
   abbrev pub WalkedNext : ℕ → LocateModel × Next Located → List Did → Type 0
@@ -193,7 +228,7 @@ module _ (g : Geometry) where
       → WalkedNext m.table (locate_after_at mix port m state did.old) (steps ++ did ∷ [])
   unfolding Walked-new
   locate-walked mix port m locates.Shape steps did below is walked =
-      record { walked = Walked-new m.table steps did below is; saw = tt }
+      record { walked = Walked-new m.table steps did below is walked; saw = tt }
   locate-walked mix port m (locates.Seed shape) steps did below is walked =
       let place = place_of g (Slot m.table SeedWord) in
       WalkedSeeing-push m.table shape LoadedNoKey LoadedNoKey steps did

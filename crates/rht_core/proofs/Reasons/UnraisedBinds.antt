@@ -1,0 +1,162 @@
+-- A bind raises the count of ports with one operation, and behind that it publishes its node and ends: until then it has
+-- raised none, in none of its attempts.
+use Rattle.std.proofs.Common.{◌≡◌, ◌≢◌, ℕ, Bool, List, [], ◌∷◌, ◌++◌, refl, sym, ◌∙◌}
+use Rattle.std.specs.Prelude.{Option, Some, None, IfSome}
+use Rattle.std.specs.List.{AllByRecursion}
+use Rattle.rht_words.specs.declared.op.Op.{Op}
+use Rattle.rht_words.specs.declared.op.Op.TheVariants.{Add}
+use Rattle.rht_words.specs.declared.env.Env.{Env}
+use Rattle.rht_words.specs.declared.geometry.Geometry.{Geometry}
+use Rattle.rht_words.specs.declared.machine.Next.{Next}
+use Rattle.rht_words.specs.declared.machine.Next.TheVariants.{Go, Done}
+use Rattle.rht_words.specs.Places.{PortCount, place_of}
+use Rattle.rht_words.proofs.EachElement.{AllByRecursion-push}
+use Rattle.rht_arena.specs.TakeNode.{plan_at as take_node_plan_at}
+use Rattle.rht_arena.specs.declared.take_node.TakeNodeAt.{TakeNodeAt}
+use Rattle.rht_arena.specs.declared.take_node.TakeNodeAt.TheVariants as takes
+use Rattle.rht_arena.specs.NewNode.{new_node_plan_at}
+use Rattle.rht_arena.specs.declared.new_node.NewNodeAt.{NewNodeAt}
+use Rattle.rht_arena.specs.declared.new_node.NewNodeAt.TheVariants as news
+use Rattle.rht_arena.specs.TakeRun.{take_run_plan_at}
+use Rattle.rht_arena.specs.declared.take_run.TakeRunAt.{TakeRunAt}
+use Rattle.rht_arena.specs.declared.take_run.TakeRunAt.TheVariants as runs
+use Rattle.rht_nest.specs.Locate.{locate_plan_at}
+use Rattle.rht_nest.specs.declared.locate.LocateAt.{LocateAt}
+use Rattle.rht_nest.specs.declared.locate.LocateAt.TheVariants as locates
+use Rattle.rht_nest.specs.Make.{make_plan_at}
+use Rattle.rht_nest.specs.declared.make.MakeAt.{MakeAt}
+use Rattle.rht_nest.specs.declared.make.MakeAt.TheVariants as makes
+use Rattle.rht_nest.specs.Unmake.{unmake_plan_at}
+use Rattle.rht_nest.specs.declared.unmake.UnmakeAt.{UnmakeAt}
+use Rattle.rht_nest.specs.declared.unmake.UnmakeAt.TheVariants as unmakes
+use Rattle.rht_chain.specs.Lock.{lock_plan_at}
+use Rattle.rht_chain.specs.declared.lock.LockAt.{LockAt}
+use Rattle.rht_chain.specs.declared.lock.LockAt.TheVariants as locks
+use Rattle.rht_chain.specs.LockedWalk.{walk_plan_at}
+use Rattle.rht_chain.specs.declared.locked_walk.LockedWalkAt.{LockedWalkAt}
+use Rattle.rht_chain.specs.declared.locked_walk.LockedWalkAt.TheVariants as walks
+use Rattle.rht_chain.specs.Probe.{probe_plan_at}
+use Rattle.rht_chain.specs.declared.probe.ProbeAt.{ProbeAt}
+use Rattle.rht_chain.specs.declared.probe.ProbeAt.TheVariants as probes
+use Rattle.rht_chain.specs.Relink.{RelinkModel, relink_plan_at, relink_after}
+use Rattle.rht_chain.specs.declared.relink.RelinkAt.{RelinkAt}
+use Rattle.rht_chain.specs.declared.relink.RelinkAt.TheVariants as relinks
+use Rattle.rht_bind.specs.Bind.{plan_at, after_at, published}
+use Rattle.rht_bind.specs.declared.bind.Claimed.{Claimed}
+use Rattle.rht_bind.specs.declared.bind.BindAt.{BindAt}
+use Rattle.rht_bind.specs.declared.bind.BindAt.TheVariants as at
+use Rattle.rht_core.specs.Traces.{Did}
+use Rattle.rht_core.proofs.Reasons.AttachedTables.{attached_at}
+use Rattle.rht_core.proofs.Reasons.TablesWalked.{IsNoRaise}
+
+module _ (g : Geometry) where
+  -- the operation adds 1 to another word than the count of ports, or nothing
+  abbrev IsNoCountAdd : Op → Type 0
+  IsNoCountAdd op = op ≢ Add (place_of g PortCount) 1
+
+  -- ---- the pieces
+
+  take_node-none : (h : Geometry) (state : TakeNodeAt) → IsNoCountAdd (take_node_plan_at h state)
+  take_node-none h (takes.MapWord index) is = cc
+  take_node-none h (takes.Claim index bit) is = cc
+
+  new_node-none : (h : Geometry) (key owner : ℕ) (state : NewNodeAt) → IsNoCountAdd (new_node_plan_at h key owner state)
+  new_node-none h key owner (news.Taking take) is = take_node-none take.geometry take.at is
+  new_node-none h key owner (news.Key node) is = cc
+  new_node-none h key owner (news.Owner node) is = cc
+  new_node-none h key owner (news.ListLink node) is = cc
+
+  locate-none : (h : Geometry) (slot : ℕ) (state : LocateAt) → IsNoCountAdd (locate_plan_at h slot state)
+  locate-none h slot locates.Shape is = cc
+  locate-none h slot (locates.Seed shape) is = cc
+
+  lock-none : (place : ℕ) (state : LockAt) → IsNoCountAdd (lock_plan_at place state)
+  lock-none place locks.Word is = cc
+  lock-none place (locks.Exchange word) is = cc
+
+  walk-none : (h : Geometry) (state : LockedWalkAt) → IsNoCountAdd (walk_plan_at h state)
+  walk-none h (walks.Key node) is = cc
+  walk-none h (walks.ChainLink node) is = cc
+
+  probe-none : (state : ProbeAt) → IsNoCountAdd (probe_plan_at state)
+  probe-none (probes.Locking lock) = lock-none lock.place lock.at
+  probe-none (probes.Walking bucket walk) = walk-none walk.geometry walk.at
+
+  relink-none : (m : RelinkModel) (state : RelinkAt) → IsNoCountAdd (relink_plan_at m state)
+  relink-none m (relinks.ChainLink before) is = cc
+  relink-none m (relinks.Word word) is = cc
+
+  run-none : (h : Geometry) (pages : ℕ) (state : TakeRunAt) → IsNoCountAdd (take_run_plan_at h pages state)
+  run-none h pages (runs.MapWord first index) is = cc
+  run-none h pages (runs.Claim first index) is = cc
+  run-none h pages (runs.GiveBack first index bits) is = cc
+
+  -- the number of the next table is another word
+  make-none : (h : Geometry) (exponent seed : ℕ) (state : MakeAt) → IsNoCountAdd (make_plan_at h exponent seed state)
+  make-none h exponent seed (makes.Slot slot) is = cc
+  make-none h exponent seed (makes.Taking slot take) is = run-none take.geometry take.pages take.at is
+  make-none h exponent seed (makes.SlotBack slot) is = cc
+  make-none h exponent seed (makes.NextSerial slot page) is = cc
+  make-none h exponent seed (makes.Shape slot page serial) is = cc
+  make-none h exponent seed (makes.Seed slot page serial) is = cc
+  make-none h exponent seed (makes.Future slot page serial) is = cc
+  make-none h exponent seed (makes.Serial slot page serial) is = cc
+
+  unmake-none : (h : Geometry) (slot : ℕ) (state : UnmakeAt) → IsNoCountAdd (unmake_plan_at h slot state)
+  unmake-none h slot (unmakes.Giving give) is = cc
+  unmake-none h slot unmakes.SlotBack is = cc
+
+-- ---- an operation of a bind
+
+module _ (env : Env) where
+  abbrev g : Geometry
+  g = env.geometry
+
+  -- while the bind is still to say whether it has attached a table, it has raised no count
+  abbrev pub SawUnraised : BindAt → List Did → Type 0
+  SawUnraised state steps = IfSome (attached_at state) (λ a. AllByRecursion (IsNoRaise g) steps)
+
+  kept-saw : (all : List Did) (next : Option Bool) → AllByRecursion (IsNoRaise g) all
+      → IfSome next (λ a. AllByRecursion (IsNoRaise g) all)
+  kept-saw all None none = tt
+  kept-saw all (Some a) none = none
+
+  -- behind an operation that isn't the raise
+  goes : (next : BindAt) (op : Op) (steps : List Did) (did : Did) → did.op ≡ op → IsNoCountAdd g op
+      → AllByRecursion (IsNoRaise g) steps → SawUnraised next (steps ++ did ∷ [])
+  goes next op steps did is none unraised =
+      kept-saw (steps ++ did ∷ []) (attached_at next)
+      (AllByRecursion-push (IsNoRaise g) steps did unraised (λ adds. none (sym is ∙ adds)))
+
+  published-saw : (node table : ℕ) (kick : Bool) (relink : RelinkModel) (next : Next (Unit {0})) (all : List Did)
+      → SawUnraised (published node table kick relink next).0 all
+  published-saw node table kick relink Go all = tt
+  published-saw node table kick relink (Done done) all = tt
+
+  pub unraised-saw : (mix : ℕ → ℕ → ℕ → ℕ) (port : ℕ) (once : Bool) (state : BindAt) (steps : List Did) (did : Did)
+      → did.op ≡ plan_at env state → SawUnraised state steps
+      → SawUnraised (after_at mix env port once state did.old).0 (steps ++ did ∷ [])
+  unraised-saw mix port once (at.Filling new) steps did is saw =
+      goes (after_at mix env port once (at.Filling new) did.old).0 _ steps did is
+      (new_node-none g new.geometry new.key new.owner new.at) saw
+  unraised-saw mix port once (at.Locating attempt locate) steps did is saw =
+      goes (after_at mix env port once (at.Locating attempt locate) did.old).0 _ steps did is
+      (locate-none g locate.geometry locate.table locate.at) saw
+  unraised-saw mix port once (at.Probing attempt table shape probe) steps did is saw =
+      goes (after_at mix env port once (at.Probing attempt table shape probe) did.old).0 _ steps did is
+      (probe-none g probe.at) saw
+  unraised-saw mix port once (at.Replacing list relink) steps did is saw =
+      goes (after_at mix env port once (at.Replacing list relink) did.old).0 _ steps did is
+      (relink-none g relink relink.at) saw
+  unraised-saw mix port once (at.Making growing size make) steps did is saw =
+      goes (after_at mix env port once (at.Making growing size make) did.old).0 _ steps did is
+      (make-none g make.geometry make.exponent make.seed make.at) saw
+  unraised-saw mix port once (at.Unmaking attempt unmake answer) steps did is saw =
+      goes (after_at mix env port once (at.Unmaking attempt unmake answer) did.old).0 _ steps did is
+      (unmake-none g unmake.geometry unmake.slot unmake.at) saw
+  unraised-saw mix port once (at.Raise claimed) steps did is saw = tt
+  unraised-saw mix port once (at.Publish node table relink kick) steps did is saw =
+      published-saw node table kick (relink_after relink).0 (relink_after relink).1 (steps ++ did ∷ [])
+  unraised-saw mix port once (at.Giving give reply) steps did is saw = tt
+  unraised-saw mix port once state steps did is saw =
+      goes (after_at mix env port once state did.old).0 _ steps did is (λ adds. cc) saw
