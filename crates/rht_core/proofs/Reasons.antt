@@ -20,5 +20,7 @@ pub mod KicksInRuns
 pub mod ListingsKept
 -- by which operation a release says that there is something to do for `work`
 pub mod ReleaseKicks
+-- the table that a resizing makes has the size that is due
+pub mod MadeSizes
 -- by which loads a resizing chose what is due, and which table it made the current one
 pub mod WorkChoices

@@ -10,8 +10,7 @@ use Rattle.rht_words.specs.Links.{table_of, future_of}
 use Rattle.rht_words.specs.Places.{Address, CurrentTable, PortCount, Slot, FutureWord, Node, KeyWord, IsAddress, place_of}
 use Rattle.rht_words.specs.Shapes.{unpacked, size_of}
 use Rattle.rht_policy.specs.Thresholds.{is_above_75, is_above_100}
-use Rattle.rht_arena.specs.Runs.{IsRunIn}
-use Rattle.rht_arena.specs.RunLaws.{SeesRunTaken}
+use Rattle.rht_arena.specs.RunLaws.{AreRunsSeenInTurn}
 use Rattle.rht_nest.specs.Place.{bucket_place}
 use Rattle.rht_nest.specs.MakeLaws.{pages_for, AreSlotsSeenTaken}
 use Rattle.rht_core.specs.declared.event.Event.{Event}
@@ -100,15 +99,10 @@ wanted_size env shape count =
     let size = size_of (unpacked shape) in
     if is_above_75 count size env.config.max then 2 * size else size
 
--- the operations saw for each run of so many pages, of those that begin at a multiple of that number, a page taken
-abbrev pub AreRunsSeenTaken : Geometry → ℕ → List Did → Type 0
-AreRunsSeenTaken g pages steps =
-    (multiple : ℕ) → IsRunIn g (multiple * pages) pages
-    → Any (SeesRunTaken g pages (multiple * pages)) (map performed_of steps)
-
--- no slot was to be had for a table of this size, or no run of pages
+-- no slot was to be had for a table of this size, or no run of pages: each was found taken, the runs in their turn
 abbrev pub SawNoRoom : Geometry → ℕ → List Did → Type 0
-SawNoRoom g size steps = AreSlotsSeenTaken g (map performed_of steps) ⊎ AreRunsSeenTaken g (pages_for size) steps
+SawNoRoom g size steps =
+    AreSlotsSeenTaken g (map performed_of steps) ⊎ AreRunsSeenInTurn g (pages_for size) 0 (map performed_of steps)
 
 module _ (M : Type 0) (mix : ℕ → ℕ → ℕ → ℕ) (env : Env) (events : List Event) (c : ℕ) where
   -- a count was loaded that is above the size of a table of this shape, which may grow
