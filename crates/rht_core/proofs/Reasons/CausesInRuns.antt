@@ -121,6 +121,7 @@ use Rattle.rht_core.proofs.Reasons.TablesWalked.{IsNoRaise, IsAside, no_load, as
 use Rattle.rht_core.proofs.Reasons.KeyLoads.{no_key}
 use Rattle.rht_core.proofs.Reasons.ChainsCounted.{none-counted, HasCounted, HasCounted-push, CountedAt, CountedNext, probe-counted, long-counted}
 use Rattle.rht_core.proofs.Reasons.AttachedTables.{IsNoFutureExchange, IsNoAttach, no_attach, AttachedSo, AttachedSo-push, SawAttached, attached-saw, relink-none, unmake-none}
+use Rattle.rht_core.proofs.Reasons.UntriedSlots.{IsUntried, UntriedSince, untried-walked, SawUntried, untried-saw}
 use Rattle.rht_core.proofs.Reasons.RefusedBinds.{no_slot, no_key-future, Behind, Behind-push, SawWhy, SawWhy-push, SawRoot, SawOther, SawRefusal, SawToMake, BusySeen, BusySeen-push, NoTableSeen, NoTableSeen-push, above-why, root-saw, begins-making, other-saw, making-saw, no_room-saw, busy-saw, no_table-saw}
 use Rattle.rht_core.proofs.Counting.CountedNodes.{raise_few, load_few, lower_few}
 use Rattle.rht_core.proofs.Reasons.ReleaseKicks.{SawRelease, SawForRelease, release-saw, kicks_right}
@@ -247,7 +248,7 @@ module _ (env : Env) (words_at : ℕ → List ℕ) where
   -- of a look-up and a listing nothing is kept, nor of a reading of the count before it ends
   abbrev JobSaw : Job → List Did → Type 0
   JobSaw (finds port state) steps = Unit {0}
-  JobSaw (binds port owner once state) steps = SawAt state steps × SawAttached env state steps
+  JobSaw (binds port owner once state) steps = SawAt state steps × (SawAttached env state steps × SawUntried env state steps)
   JobSaw (lists port room state) steps = Unit {0}
   JobSaw (releases port owner state) steps = SawRelease env state steps
   JobSaw (rebinds port owner new state) steps = SawAtRebind state steps
@@ -654,9 +655,15 @@ module _ (env : Env) (words_at : ℕ → List ℕ) where
     -- the load of the count leads to a table of the size that it wants, or to a refusal
     want-saw : (growing : Growing) (root : ℕ) (steps : List Did) (did : Did)
         → did.op ≡ Load (place_of env.geometry PortCount) → IsNoShapeLoad env.geometry did
-        → Behind env words_at growing.table growing.shape (SawRoot env words_at growing root) steps
+        → UntriedSince env.geometry steps → Behind env words_at growing.table growing.shape (SawRoot env words_at growing root) steps
         → SawAt (want_or_busy env growing root did.old) (steps ++ did ∷ [])
-    want-saw growing root steps did is none saw =
+    want-saw growing root steps did is none since saw =
+        let Saw : List Did → Type 0 = λ behind. AllByRecursion (IsUntried env.geometry) behind × SawRoot env words_at growing root behind in
+        let both : Behind env words_at growing.table growing.shape Saw steps =
+        record {
+          walked = saw.walked;
+          saw = (untried-walked env.geometry growing.table growing.shape steps saw.walked since, saw.saw);
+        } in
         let size = size_grown growing in
         let busy = at.FutureAgain growing (refusals.Busy root) in
         let same = nat_eq root growing.table in
@@ -664,19 +671,19 @@ module _ (env : Env) (words_at : ℕ → List ℕ) where
         by_test (λ t. SawAt (cond t (making env growing (2 * size)) (cond same (making env growing size) busy)) all)
         (is_above_75 (min did.old 65536) size env.config.max)
         (λ above.
-        Behind-push env words_at growing.table growing.shape (SawRoot env words_at growing root)
+        Behind-push env words_at growing.table growing.shape Saw
         (SawToMake env words_at growing (2 * size) (exponent_made (2 * size)) (makes.Slot 0, Go)) steps did none
         (λ behind so.
         begins-making env words_at growing root (2 * size) behind did is (sym (ap (λ b. cond b (2 * size) size) above)) so)
-        saw)
+        both)
         (λ below.
         by_test (λ t. SawAt (cond t (making env growing size) busy) all) same
         (λ t.
-        Behind-push env words_at growing.table growing.shape (SawRoot env words_at growing root)
+        Behind-push env words_at growing.table growing.shape Saw
         (SawToMake env words_at growing size (exponent_made size) (makes.Slot 0, Go)) steps did none
         (λ behind so.
         begins-making env words_at growing root size behind did is (sym (ap (λ b. cond b (2 * size) size) below)) so)
-        saw)
+        both)
         (λ other.
         Behind-push env words_at growing.table growing.shape (SawRoot env words_at growing root) (SawOther env words_at growing root) steps did none
         (λ behind so. other-saw env words_at growing root behind did is (eqb-false root growing.table other) so) saw))
@@ -779,7 +786,7 @@ module _ (env : Env) (words_at : ℕ → List ℕ) where
 
     bind-saw : (state : BindAt) (steps : List Did) (did : Did)
         → (does : Performs mix env (binds port owner once state) did) → does.words ≡ words_at did.index
-        → SawAt state steps → SawAttached env state steps
+        → SawAt state steps → SawAttached env state steps × SawUntried env state steps
         → SawNext (steps ++ did ∷ []) (after_at mix env port once state did.old)
     bind-saw (at.Filling new) steps did does now saw so =
         bind_made-saw new (new_node_after_at new.at did.old) (steps ++ did ∷ [])
@@ -810,7 +817,7 @@ module _ (env : Env) (words_at : ℕ → List ℕ) where
         (Walked-push env.geometry list.claimed.table list.claimed.shape steps did
         (relink_stores env.geometry did relink relink.at does.planned) saw)
         (AttachedSo-push env.geometry list.claimed.attempt.attached steps did
-        (no_attach env.geometry did _ does.planned (relink-none env.geometry relink relink.at)) so)
+        (no_attach env.geometry did _ does.planned (relink-none env.geometry relink relink.at)) so.0)
     bind-saw (at.Future claimed length) steps did does now saw so =
         let place = claimed.bucket.place in
         let counted = HasCounted env.geometry words_at place length in
@@ -826,7 +833,7 @@ module _ (env : Env) (words_at : ℕ → List ℕ) where
     bind-saw (at.Link claimed) steps did does now saw so =
         Walked-push env.geometry claimed.table claimed.shape steps did
         (aside env.geometry did _ does.planned (λ place load. cc) (λ place value adds. cc)) saw
-    bind-saw (at.Raise claimed) steps did does now saw so = raise-saw claimed steps did does.planned saw so
+    bind-saw (at.Raise claimed) steps did does now saw so = raise-saw claimed steps did does.planned saw so.0
     bind-saw (at.Publish node table relink kick) steps did does now saw so =
         published-saw node table kick (relink_after relink).0 (relink_after relink).1 (steps ++ did ∷ [])
         (Raised-push kick steps did
@@ -849,7 +856,7 @@ module _ (env : Env) (words_at : ℕ → List ℕ) where
         (λ behind why. root-saw env words_at growing behind did does.planned why) saw
     bind-saw (at.GrowthCount growing root) steps did does now saw so =
         want-saw growing root steps did does.planned
-        (elsewhere env.geometry did _ does.planned (λ table below same. absurd (omega (arith, same)))).no_shape saw
+        (elsewhere env.geometry did _ does.planned (λ table below same. absurd (omega (arith, same)))).no_shape so.1 saw
     bind-saw (at.Making growing size make) steps did does now saw so =
         let after = make_after_at make.geometry make.exponent make.at did.old in
         made-saw growing size make after (steps ++ did ∷ [])
@@ -873,11 +880,13 @@ module _ (env : Env) (words_at : ℕ → List ℕ) where
         SawFor-push reply steps did
         (still did _ does.planned (λ place load. cc) (λ place value adds. cc) (λ table old new l e. cc)) saw
 
-    -- with whether it has attached a table
+    -- with whether it has attached a table, and where it has done nothing to the state of a slot
     abbrev SawBoth : List Did → BindAt × Next Reply → Type 0
-    SawBoth all next = GoesOrEnds (λ state. SawAt state all × SawAttached env state all) (λ reply. SawFor reply all) next
+    SawBoth all next =
+        GoesOrEnds (λ state. SawAt state all × (SawAttached env state all × SawUntried env state all)) (λ reply. SawFor reply all) next
 
-    both-saw : (next : BindAt × Next Reply) (all : List Did) → SawNext all next → SawAttached env next.0 all → SawBoth all next
+    both-saw : (next : BindAt × Next Reply) (all : List Did) → SawNext all next
+        → SawAttached env next.0 all × SawUntried env next.0 all → SawBoth all next
     both-saw (state, Go) all saw so = (saw, so)
     both-saw (state, Done reply) all saw so = saw
 
@@ -942,8 +951,10 @@ module _ (M : Type 0) (mix : ℕ → ℕ → ℕ → ℕ) (env : Env) (events : 
       next-leads (binds port owner once state) (binds port owner once) plain_ending (steps ++ did ∷ [])
       (after_at mix env port once state did.old)
       (both-saw env words_at mix port owner once (after_at mix env port once state did.old) (steps ++ did ∷ [])
-      (bind-saw env words_at mix port owner once state steps did performs now saw.0 saw.1)
-      (attached-saw env mix port once state steps did performs.within.at_in performs.planned saw.1))
+      (bind-saw env words_at mix port owner once state steps did performs now saw.0 saw.1) (
+        attached-saw env mix port once state steps did performs.within.at_in performs.planned saw.1.0,
+        untried-saw env mix port once state steps did performs.within.at_in performs.planned saw.1.1,
+      ))
   job-leads (lists port room state) steps did performs now saw =
       let after = all.room_after state room did.old in
       let next = all.after_at mix env port state did.old in
@@ -975,7 +986,7 @@ module _ (M : Type 0) (mix : ℕ → ℕ → ℕ → ℕ) (env : Env) (events : 
   first_job-saw (Find port) job is = subst (λ j. JobSaw env words_at j []) (let here : finds port CurrentTable ≡ job = cc in here) tt
   first_job-saw (Bind port owner once) job is =
       let here : binds port owner once (first_state env port owner) ≡ job = cc in
-      subst (λ j. JobSaw env words_at j []) here (λ node l. absurd (omega arith), tt)
+      subst (λ j. JobSaw env words_at j []) here (λ node l. absurd (omega arith), (tt, tt))
   first_job-saw (All port) job is =
       subst (λ j. JobSaw env words_at j [])
       (let here : lists port (room_for_nodes env) (alls.Seeking (seek_new env.geometry)) ≡ job = cc in here) tt

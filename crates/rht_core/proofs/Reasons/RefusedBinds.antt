@@ -4,7 +4,7 @@
 -- count of ports, what the making of a table has seen, and the load of the future that comes last.
 use Rattle.std.proofs.Common.{◌≡◌, ◌≢◌, ◌⊎◌, ℕ, ◌≤◌, ◌<◌, ◌*◌, ◌-◌, true, false, cond, nat_le, List, [], ◌∷◌, ◌++◌, map, min, refl, sym, ap, ◌∙◌, subst, inl, inr, append_assoc, arith}
 use Rattle.std.specs.Prelude.{Option, Some, None, ◌&&◌, nat_lt}
-use Rattle.std.specs.List.{Any}
+use Rattle.std.specs.List.{AllByRecursion, Any}
 use Rattle.std.proofs.lemmas.Bool.{and_parts, ltb-true, eqb-false, leb-false}
 use Rattle.std.proofs.lemmas.List.{map-append}
 use Rattle.std.proofs.lemmas.List.Quantifiers.{Any-push}
@@ -18,7 +18,8 @@ use Rattle.rht_words.specs.declared.machine.Next.TheVariants.{Go, Done}
 use Rattle.rht_words.specs.Places.{CurrentTable, PortCount, Slot, FutureWord, place_of}
 use Rattle.rht_words.specs.Links.{slot_of, table_of}
 use Rattle.rht_words.specs.Shapes.{unpacked, size_of}
-use Rattle.rht_words.proofs.EachElement.{Any-append_left}
+use Rattle.rht_words.specs.Operations.{op_place}
+use Rattle.rht_words.proofs.EachElement.{Any-append_left, AllByRecursion-push}
 use Rattle.rht_policy.specs.Thresholds.{is_above_100, may_grow}
 use Rattle.rht_nest.specs.Make.{MakeModel, made_pages, make_plan_at, make_after_at, IsMakeIn}
 use Rattle.rht_nest.specs.Tables.{exponent_made}
@@ -35,6 +36,7 @@ use Rattle.rht_core.specs.ResizeCauses.{LoadsWord, Loaded, wanted_size, SawNoRoo
 use Rattle.rht_core.proofs.Reasons.TablesWalked.{nodes_behind, LastWalked-push}
 use Rattle.rht_core.proofs.Reasons.KeyLoads.{no_key-before, no_key-make}
 use Rattle.rht_core.proofs.Reasons.ChainsCounted.{SawLongChain-push}
+use Rattle.rht_core.proofs.Reasons.UntriedSlots.{IsUntried, untried-finds}
 use Rattle.rht_core.proofs.Reasons.MakesSeen.{SawMade, SawEachRun, saw_nothing, make-saw}
 use Rattle.rht_core.proofs.Theory.Steps.{by_test}
 
@@ -230,13 +232,16 @@ module _ (env : Env) (words_at : ℕ → List ℕ) where
 
   pub begins-making : (growing : Growing) (root size : ℕ) (behind : List Did) (did : Did)
       → did.op ≡ Load (place_of g PortCount) → size ≡ wanted_size env growing.shape (min did.old 65536)
-      → SawRoot growing root behind
+      → AllByRecursion (IsUntried g) behind × SawRoot growing root behind
       → SawToMake growing size (exponent_made size) (makes.Slot 0, Go) (behind ++ did ∷ [])
-  begins-making growing root size behind did is wanted saw = record {
+  begins-making growing root size behind did is wanted (untried, saw) = record {
     why = SawWhy-push growing.why growing.shape behind did (no_key-count did is) saw.why;
     wanted = wanted-saw growing.shape size behind did is wanted;
     exponent_is = refl;
-    made = saw_nothing g (exponent_made size) (map performed_of (behind ++ did ∷ []));
+    made =
+        saw_nothing g (exponent_made size) (map performed_of (behind ++ did ∷ []))
+        (untried-finds g (behind ++ did ∷ []) (AllByRecursion-push (IsUntried g) behind did untried
+        (λ slot l same. let here = sym (ap op_place is) ∙ same in absurd (omega (arith, here)))));
   }
 
   pub other-saw : (growing : Growing) (root : ℕ) (behind : List Did) (did : Did)
