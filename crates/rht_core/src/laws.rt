@@ -100,15 +100,16 @@ pub fn taken_alone<M: Mix>()
 /// `Busy` and `NoTable` have as their cause that the last table that it walked is full: it counted 16
 /// nodes or more in a bucket, with so many ports bound at the last one, or loaded a count above the
 /// table's size; `Busy`, that this table wasn't the current one; `NoTable`, that each slot was found
-/// taken, or each run of pages, for the size that is wanted; and then the table's future was loaded as
-/// none. The kick of a `Bound` or a `Released` is as `kicks` says.
+/// taken, by each operation on its state, or each run of pages in its turn, for the size that is
+/// wanted; and then the table's future was loaded as none. The kick of a `Bound` or a `Released` is as
+/// `kicks` says.
 ///
 /// A `Work` that was answered `Elsewhere` found the work lock taken. Any other one took it, looked for
 /// the last table from the current one on and chose by its shape and by the count what is due:
 /// for `NoTable` a table that wasn't to be had, while the last one is the current one or nested; for
-/// `Idle` nothing, and the current table had no future. `Moved` stored another current table, or stopped
-/// before a nested one; there is more to do exactly where it stopped, or the new current table was found
-/// to have a future, or a table that was due wasn't attached.
+/// `Idle` nothing, and the current table had no future. `Moved` stored another current table and then
+/// loaded its future; there is more to do exactly where it found one, or attached no table of the size
+/// that was due.
 ///
 /// `Exists` of a bind, `Found` and `Missing` of a look-up, `Listed` of a listing, `Absent` of a release,
 /// `Rebound` and `Absent` of a rebind have nothing to show here. No other reply of these calls comes,
