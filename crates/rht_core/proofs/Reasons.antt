@@ -10,6 +10,8 @@ pub mod AttachedTables
 pub mod UnraisedBinds
 -- what the making of a table has seen so far
 pub mod MakesSeen
+-- where a bind does nothing to the state of a slot
+pub mod UntriedSlots
 -- what a bind that finds the last table full has seen for a refusal
 pub mod RefusedBinds
 -- in every run each call that has ended has a reply with its cause

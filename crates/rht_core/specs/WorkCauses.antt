@@ -14,7 +14,8 @@ use Rattle.rht_nest.specs.MakeLaws.{StoresInSlot}
 use Rattle.rht_move.specs.Choice.{choice_of, is_nested}
 use Rattle.rht_move.specs.declared.work.choice.Choice.{Choice}
 use Rattle.rht_move.specs.declared.work.choice.Choice.TheVariants as choices
-use Rattle.rht_core.specs.ResizeCauses.{LoadsWord, Loaded, Attaches, SawNoRoom}
+use Rattle.rht_core.specs.Seen.{LoadsWord}
+use Rattle.rht_core.specs.ResizeCauses.{Loaded, Attaches, SawNoRoom}
 use Rattle.rht_core.specs.Traces.{Did, performed_of}
 
 -- ---- the work lock

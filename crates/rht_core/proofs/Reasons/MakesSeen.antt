@@ -12,16 +12,17 @@ use Rattle.rht_words.specs.declared.machine.Start.TheVariants as starts
 use Rattle.rht_words.specs.declared.geometry.Geometry.{Geometry}
 use Rattle.rht_words.specs.Machines.{Performed}
 use Rattle.rht_words.specs.Operations.{op_place}
-use Rattle.rht_words.specs.Places.{Slot, ShapeWord, place_of}
+use Rattle.rht_words.specs.Places.{Slot, ShapeWord, StateWord, place_of}
 use Rattle.rht_words.proofs.EachElement.{Any-append_left, AllByRecursion-push}
 use Rattle.rht_arena.specs.RunLaws.{SeesRunTaken, SeesNextRun, AreRunsSeenInTurn}
 use Rattle.rht_arena.specs.TakeRun.{TakeRunModel, take_run_new, take_run_after, run_length, first_run, IsTakeRunAtIn}
 use Rattle.rht_arena.proofs.RunsSeen.{next_unseen, GoesOn, Went, goes_on_in}
 use Rattle.rht_nest.specs.Make.{make_plan_at, make_after_at, made_pages, made_shape, run_taken, run_started, slot_seen, IsMakeAtIn}
-use Rattle.rht_nest.specs.MakeLaws.{StoresInSlot, SeesSlotTaken, AreSlotsSeenTaken}
+use Rattle.rht_nest.specs.MakeLaws.{StoresInSlot, SeesSlotTaken}
 use Rattle.rht_nest.specs.declared.make.MakeAt.{MakeAt}
 use Rattle.rht_nest.specs.declared.make.MakeAt.TheVariants as at
 use Rattle.rht_nest.proofs.MakesStay.{made_pages-some}
+use Rattle.rht_core.specs.ResizeCauses.{FindsSlotsTaken, AreSlotsTaken}
 
 module _ (g : Geometry) (exponent : ℕ) where
   abbrev pages : ℕ
@@ -103,7 +104,7 @@ module _ (g : Geometry) (exponent : ℕ) where
 
   -- what the making has seen in a state
   abbrev pub SawMaking : MakeAt → List Performed → Type 0
-  SawMaking (at.Slot slot) steps = SawSlotsBelow slot steps
+  SawMaking (at.Slot slot) steps = SawSlotsBelow slot steps × AllByRecursion (FindsSlotsTaken g) steps
   SawMaking (at.Taking slot take) steps = AreRunsSeenTo (next_unseen pages take.at) 0 steps
   SawMaking (at.SlotBack slot) steps = SawEachRun steps
   SawMaking (at.NextSerial slot page) steps = Unit {0}
@@ -115,12 +116,12 @@ module _ (g : Geometry) (exponent : ℕ) where
   -- and once it has ended
   abbrev pub SawMade : MakeAt × Next (Option (ℕ × ℕ)) → List Performed → Type 0
   SawMade (state, Go) steps = SawMaking state steps
-  SawMade (state, Done None) steps = AreSlotsSeenTaken g steps ⊎ SawEachRun steps
+  SawMade (state, Done None) steps = AreSlotsTaken g steps ⊎ SawEachRun steps
   SawMade (state, Done (Some made)) steps = (page : ℕ) × IsShaped made.0 (made_shape exponent page) steps
 
   -- it begins with nothing seen
-  pub saw_nothing : (steps : List Performed) → SawMaking (at.Slot 0) steps
-  saw_nothing steps = λ other low. absurd (omega (arith, low))
+  pub saw_nothing : (steps : List Performed) → AllByRecursion (FindsSlotsTaken g) steps → SawMaking (at.Slot 0) steps
+  saw_nothing steps none = (λ other low. absurd (omega (arith, low)), none)
 
   -- an operation sees the next run or stays at it
   went-to : (stand end : ℕ) (steps : List Performed) (step : Performed) → Went g pages stand end step
@@ -142,22 +143,27 @@ module _ (g : Geometry) (exponent : ℕ) where
       seen_to-each 0 0 steps (omega (arith, few, some)) (seen_to-begins steps))
 
   slot-saw : (slot : ℕ) (steps : List Performed) (step : Performed) → step.op ≡ make_plan_at g exponent 0 (at.Slot slot)
-      → slot < 8 → SawSlotsBelow slot steps → SawMade (slot_seen g exponent slot step.old) (steps ++ step ∷ [])
+      → slot < 8 → SawMaking (at.Slot slot) steps → SawMade (slot_seen g exponent slot step.old) (steps ++ step ∷ [])
   slot-saw slot steps step is slot_in saw =
       let all = steps ++ step ∷ [] in
       cond_both (step.old == 0) _ _ (λ next. SawMade next all) (λ t. started-saw slot all)
       (λ f.
       let here : SeesSlotTaken g slot step = record { looks = is; taken = eqb-false step.old 0 f } in
       let further : SawSlotsBelow (slot + 1) all = λ other low. elim (cases_lt other slot) [
-        | inl before ↦ Any-append_left (SeesSlotTaken g other) steps (step ∷ []) (saw other before)
+        | inl before ↦ Any-append_left (SeesSlotTaken g other) steps (step ∷ []) (saw.0 other before)
         | inr not_before ↦
             let same : slot ≡ other = omega (arith, low, not_before) in
             Any-push (SeesSlotTaken g other) steps step (subst (λ s. SeesSlotTaken g s step) same here)
       ] in
-      cond_both (nat_lt (slot + 1) 8) _ _ (λ next. SawMade next all) (λ t. further)
+      let finds : FindsSlotsTaken g step = λ other low place.
+      let places : place_of g (Slot slot StateWord) ≡ place_of g (Slot other StateWord) = sym (ap op_place is) ∙ place in
+      let same : slot ≡ other = omega (arith, places) in
+      subst (λ s. SeesSlotTaken g s step) same here in
+      let only = AllByRecursion-push (FindsSlotsTaken g) steps step saw.1 finds in
+      cond_both (nat_lt (slot + 1) 8) _ _ (λ next. SawMade next all) (λ t. (further, only))
       (λ last.
       let end : 8 ≤ slot + 1 = ltb-false (slot + 1) 8 last in
-      inl (λ other high. further other (omega (arith, high, end)))))
+      inl (record { seen = λ other high. further other (omega (arith, high, end)); only = only })))
 
   module _ (slot stand : ℕ) (steps : List Performed) (step : Performed) (left : TakeRunModel) where
     taken-saw : (next : Next (Option ℕ)) → GoesOn g pages stand step (left, next) → AreRunsSeenTo stand 0 steps

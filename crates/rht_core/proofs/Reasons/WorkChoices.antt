@@ -34,7 +34,7 @@ use Rattle.rht_nest.specs.Make.{MakeModel, make_plan, make_plan_at, make_after, 
 use Rattle.rht_nest.specs.Tables.{exponent_made}
 use Rattle.rht_nest.specs.declared.make.MakeAt.{MakeAt}
 use Rattle.rht_nest.specs.Unmake.{UnmakeModel, unmake_new, unmake_after}
-use Rattle.rht_nest.specs.MakeLaws.{SeesSlotTaken, AreSlotsSeenTaken}
+use Rattle.rht_nest.specs.MakeLaws.{SeesSlotTaken}
 use Rattle.rht_move.specs.declared.last_table.Last.{Last}
 use Rattle.rht_move.specs.declared.last_table.LastTableAt.{LastTableAt}
 use Rattle.rht_move.specs.declared.last_table.LastTableAt.TheVariants as seeks
@@ -58,7 +58,8 @@ use Rattle.rht_move.specs.LastEntry.{LastEntryModel, last_entry_after}
 use Rattle.rht_move.specs.Work.{plan_at, cut_plan, after_at, lock_seen, seeking, last_seen, begun, made, not_made, attached, unmade, is_later, future_or_idle, locking_or_publish, bucket_or_publish, locked, unlocking, entry_table_seen, with_word, entry_or_empty, walked, keyed, second_or_stop, second_locked, cut_off, unlocked_bucket, retiring, reply_of, IsMakingIn}
 use Rattle.rht_core.specs.Jobs.{works}
 use Rattle.rht_core.specs.Traces.{Did, performed_of}
-use Rattle.rht_core.specs.ResizeCauses.{LoadsWord, Loaded, Attaches, SawNoRoom}
+use Rattle.rht_core.specs.Seen.{LoadsWord}
+use Rattle.rht_core.specs.ResizeCauses.{Loaded, Attaches, FindsSlotsTaken, AreSlotsTaken, SawNoRoom}
 use Rattle.rht_core.specs.WorkCauses.{TakesWorkLock, SawElsewhere, ReadsFuture, AreFuturesRead, HasChosen, HasPublished, IsSized, HasAttached, IsUnattached, SawNoTableDue, SawNothingDue, SawMoved}
 use Rattle.rht_core.proofs.Theory.Ghosts.{index_at}
 use Rattle.rht_core.proofs.Theory.Steps.{mem, by_test}
@@ -426,7 +427,7 @@ module _ (env : Env) where
       size_in = subst IsOfASize chosen (due_size env did.old last.shape (root == last.table) saw.flat);
       none = tt;
     };
-    seen = saw_nothing env.geometry (exponent_made size) [];
+    seen = saw_nothing env.geometry (exponent_made size) [] tt;
   }
   begun-saw root last Later steps did is chosen saw = record {
     choice = Later;
@@ -624,7 +625,7 @@ module _ (env : Env) where
       go (state, Go) seen = record { wants = wants; seen = seen }
       go (state, Done None) seen =
           refused-saw wanted (steps ++ did ∷ []) wants
-          (subst (λ e. AreSlotsSeenTaken env.geometry (map performed_of (behind ++ did ∷ []))
+          (subst (λ e. AreSlotsTaken env.geometry (map performed_of (behind ++ did ∷ []))
           ⊎ SawEachRun env.geometry e (map performed_of (behind ++ did ∷ []))) within.size_same seen)
       go (state, Done (Some table)) seen = record {
         size = wanted.size;
@@ -1031,18 +1032,28 @@ module _ (env : Env) where
 
   -- ---- all states
 
-  no_table-push : (size : ℕ) (steps : List Did) (did : Did) → SawNoTableDue env size steps
-      → SawNoTableDue env size (steps ++ did ∷ [])
+  -- an operation on the work lock finds nothing of slots
+  slots_taken-stay : (steps : List Performed) (step : Performed) → op_place step.op ≡ place_of env.geometry WorkLock
+      → AreSlotsTaken env.geometry steps → AreSlotsTaken env.geometry (steps ++ step ∷ [])
+  slots_taken-stay steps step on_lock slots = record {
+    seen = λ slot l. Any-append_left (SeesSlotTaken env.geometry slot) steps (step ∷ []) (slots.seen slot l);
+    only =
+        AllByRecursion-push (FindsSlotsTaken env.geometry) steps step slots.only
+        (λ slot l place. let same = sym on_lock ∙ place in absurd (omega (arith, same)));
+  }
+
+  no_table-push : (size : ℕ) (steps : List Did) (did : Did) → did.op ≡ plan_at env (at.LettingGo (outcomes.NoTable size))
+      → SawNoTableDue env size steps → SawNoTableDue env size (steps ++ did ∷ [])
   unfolding HasChosen-push
-  no_table-push size steps did saw =
+  no_table-push size steps did is saw =
       let behind = saw.chose.behind in
       let more = map-append performed_of behind (did ∷ []) in
       record {
         chose = HasChosen-push (Attach size) steps did saw.chose;
         stays = saw.stays;
         room = elim saw.room [
-          | inl slots ↦ inl (λ slot l. subst (Any (SeesSlotTaken env.geometry slot)) (sym more)
-              (Any-append_left (SeesSlotTaken env.geometry slot) (map performed_of behind) (performed_of did ∷ []) (slots slot l)))
+          | inl slots ↦ inl (subst (AreSlotsTaken env.geometry) (sym more)
+              (slots_taken-stay (map performed_of behind) (performed_of did) (ap op_place is) slots))
           | inr runs ↦ inr (subst (SawEachRun env.geometry (exponent_made size)) (sym more)
               (in_turn-stays env.geometry (exponent_made size) 0 (map performed_of behind) (performed_of did) runs))
         ];
@@ -1065,7 +1076,7 @@ module _ (env : Env) where
   ended-saw : (outcome : Outcome) (steps : List Did) (did : Did) → did.op ≡ plan_at env (at.LettingGo outcome)
       → SawForWork (reply_of outcome) steps → SawForWork (reply_of outcome) (steps ++ did ∷ [])
   ended-saw outcomes.Idle steps did is saw = idle-push steps did is saw
-  ended-saw (outcomes.NoTable size) steps did is saw = no_table-push size steps did saw
+  ended-saw (outcomes.NoTable size) steps did is saw = no_table-push size steps did is saw
   ended-saw (outcomes.Moved again) steps did is saw = stored-saw again WorkLock 0 steps did tt (λ e. cc) is saw
 
   pub work-saw : (mix : ℕ → ℕ → ℕ → ℕ) (state : WorkAt) (steps : List Did) (did : Did)
