@@ -26,3 +26,5 @@ pub mod ReleaseKicks
 pub mod MadeSizes
 -- by which loads a resizing chose what is due, and which table it made the current one
 pub mod WorkChoices
+-- what calls come to while no table was made and few ports are bound
+pub mod CalmCalls

@@ -43,3 +43,5 @@ pub mod ToldHistories
 pub mod WorkCauses
 -- what a resizing leaves that is alone
 pub mod Worked
+-- runs with so few ports that no table is full
+pub mod FewPorts

@@ -3,6 +3,7 @@
 ghost use Rattle.rht_core.specs.Alone.{Alone};
 ghost use Rattle.rht_core.specs.Causes.{Causes};
 ghost use Rattle.rht_core.specs.Counts.{Counted, AtRest};
+ghost use Rattle.rht_core.specs.FewPorts.{FewPorts};
 ghost use Rattle.rht_core.specs.Kicks.{Kicks};
 ghost use Rattle.rht_core.specs.ListedOwners.{ListedOwners};
 ghost use Rattle.rht_core.specs.NodesUsed.{Nodes};
@@ -201,6 +202,16 @@ pub fn at_rest<M: Mix>()
 /// that no node is free when the reply comes: some may have been given back.
 pub fn nodes<M: Mix>()
     ensures { Nodes M M.mix_of }
+{}
+
+/// In a run of a table that begins with 64 buckets or more and doesn't shrink, and whose binds, those that
+/// have ended and those in progress, have 15 ports at most, no table is made: the first one stays the
+/// current one, no serial is given to another, and each word of each slot is as it was at opening. No bind
+/// is refused but for want of a node, and no `Work` but because another caller is at work. It holds after
+/// each event, since the first events of such a run are one. It says nothing of runs in which more ports
+/// are bound one after another, even if they are never bound at one time.
+pub fn few_ports<M: Mix>()
+    ensures { FewPorts M M.mix_of }
 {}
 
 /// Where a run serves the commands of workers, each worker's caller in no call at the end, there is a

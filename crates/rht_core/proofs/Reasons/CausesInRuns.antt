@@ -216,7 +216,7 @@ module _ (env : Env) (words_at : ℕ → List ℕ) where
   SawThen (Table table) steps = CameTo env.geometry table steps
   SawThen (Answer reply) steps = SawFor reply steps
 
-  abbrev SawAt : BindAt → List Did → Type 0
+  abbrev pub SawAt : BindAt → List Did → Type 0
   SawAt (at.Filling new) steps = SawNew new.at steps
   SawAt (at.CurrentTable attempt) steps = Unit {0}
   SawAt (at.Locating attempt locate) steps = WalkedAt env.geometry locate.table locate.at steps
@@ -260,7 +260,7 @@ module _ (env : Env) (words_at : ℕ → List ℕ) where
   SawAtRebind (rebinds_at.Giving give) steps = Unit {0}
 
   -- of a look-up and a listing nothing is kept, nor of a reading of the count before it ends
-  abbrev JobSaw : Job → List Did → Type 0
+  abbrev pub JobSaw : Job → List Did → Type 0
   JobSaw (finds port state) steps = Unit {0}
   JobSaw (binds port owner once state) steps =
       SawAt state steps × (SawAttached env state steps × (SawUnraised env state steps × SawUntried env state steps))
@@ -939,7 +939,7 @@ module _ (M : Type 0) (mix : ℕ → ℕ → ℕ → ℕ) (env : Env) (events : 
   abbrev words_at : ℕ → List ℕ
   words_at = words_before M mix env events
 
-  abbrev EndsSeen : Call → Ending → List Did → Type 0
+  abbrev pub EndsSeen : Call → Ending → List Did → Type 0
   EndsSeen call ending steps = SawOf env words_at call ending.answer.reply steps
 
   -- an operation leads on where what is seen behind it is enough for the next state, or for the end
@@ -955,7 +955,7 @@ module _ (M : Type 0) (mix : ℕ → ℕ → ℕ → ℕ) (env : Env) (events : 
   nothing-saw (state, Go) = tt
   nothing-saw (state, Done end) = tt
 
-  job-leads : (job : Job) (steps : List Did) (did : Did)
+  pub job-leads : (job : Job) (steps : List Did) (did : Did)
       → (performs : Performs mix env job did) → performs.words ≡ words_at did.index → JobSaw env words_at job steps
       → LeadsOn M mix env (JobSaw env words_at) EndsSeen job (steps ++ did ∷ []) (job_after mix env job did.old)
   job-leads (finds port state) steps did performs now saw =
@@ -996,7 +996,7 @@ module _ (M : Type 0) (mix : ℕ → ℕ → ℕ → ℕ) (env : Env) (events : 
       subst (λ j. JobSaw env words_at j []) here (λ node l. absurd (omega arith))
   first_rebind-saw port owner new Listed job is = absurd (cc)
 
-  first_job-saw : (call : Call) (job : Job) → first_job env call ≡ Some job → JobSaw env words_at job []
+  pub first_job-saw : (call : Call) (job : Job) → first_job env call ≡ Some job → JobSaw env words_at job []
   first_job-saw (Find port) job is = subst (λ j. JobSaw env words_at j []) (let here : finds port CurrentTable ≡ job = cc in here) tt
   first_job-saw (Bind port owner once) job is =
       let here : binds port owner once (first_state env port owner) ≡ job = cc in
