@@ -1,6 +1,6 @@
 -- What a run leaves that serves a script is printed as a text of the form `run`. The laws of every run say what that means: the history of
 -- the replies. No case is taken but that of the hash, which names the run's mix.
-use Rattle.std.proofs.Common.{◌≡◌, ℕ, List, length, refl, sym, ◌∙◌, ap}
+use Rattle.std.proofs.Common.{◌≡◌, ℕ, Bool, List, length, refl, sym, ◌∙◌, ap}
 use Rattle.std.specs.List.{AllByRecursion}
 use Rattle.rht_words.specs.declared.config.Config.{Config}
 use Rattle.rht_words.specs.declared.config.Hash.{Hash}
@@ -23,34 +23,34 @@ use Rattle.rht_cli.specs.Forms.{IsTextOf}
 use Rattle.rht_cli.specs.RunText.{IsServedBy}
 
 -- what is so of each run that serves commands is so by any hash
-by_hash : (config : Config) (commands : List (ℕ × Call)) (endings : List (List Ending)) (closed : Closed) (Holds : Type 0)
-    → ((M : Type 0) (mix : ℕ → ℕ → ℕ → ℕ) → IsServedRun M mix config commands endings closed → Holds)
-    → (hash : Hash) → IsServedBy hash config commands endings closed → Holds
-by_hash config commands endings closed Holds each hashes.Mix served = each Lookup3 (mix_of_hash hashes.Mix) served
-by_hash config commands endings closed Holds each hashes.Low served = each Low (mix_of_hash hashes.Low) served
+by_hash : (config : Config) (auto : Bool) (commands : List (ℕ × Call)) (endings : List (List Ending)) (closed : Closed) (Holds : Type 0)
+    → ((M : Type 0) (mix : ℕ → ℕ → ℕ → ℕ) → IsServedRun M mix config auto commands endings closed → Holds)
+    → (hash : Hash) → IsServedBy hash config auto commands endings closed → Holds
+by_hash config auto commands endings closed Holds each hashes.Mix served = each Lookup3 (mix_of_hash hashes.Mix) served
+by_hash config auto commands endings closed Holds each hashes.Low served = each Low (mix_of_hash hashes.Low) served
 
-module _ (config : Config) (commands : List (ℕ × Call)) (endings : List (List Ending)) (closed : Closed)
-    (served : IsServedBy config.hash config commands endings closed) where
+module _ (config : Config) (auto : Bool) (commands : List (ℕ × Call)) (endings : List (List Ending)) (closed : Closed)
+    (served : IsServedBy config.hash config auto commands endings closed) where
   -- as many ports are closed as are listed
   pub closed-keys : closed.keys ≡ length closed.bindings.pairs
   closed-keys =
-      by_hash config commands endings closed (closed.keys ≡ length closed.bindings.pairs) (λ M mix run. run.closed_is.keys)
+      by_hash config auto commands endings closed (closed.keys ≡ length closed.bindings.pairs) (λ M mix run. run.closed_is.keys)
       config.hash served
 
   -- there is a history that tells of the commands
   has_told : (history : List Entry) × IsTold config commands endings closed history
   has_told =
-      by_hash config commands endings closed ((history : List Entry) × IsTold config commands endings closed history)
-      (λ M mix run. told M mix config commands endings closed run) config.hash served
+      by_hash config auto commands endings closed ((history : List Entry) × IsTold config commands endings closed history)
+      (λ M mix run. told M mix config auto commands endings closed run) config.hash served
 
 -- so what was served is printed as one of the form's texts
 pub IsTextOf-served : (said : Said) (endings : List (List Ending)) (closed : Closed)
     → AllByRecursion (IsCommandFor said.config) said.commands
-    → IsServedBy said.config.hash said.config said.commands endings closed
+    → IsServedBy said.config.hash said.config said.auto said.commands endings closed
     → IsTextOf Run said (run_text endings closed.bindings.pairs closed.size)
 unfolding IsTextOf
 IsTextOf-served said endings closed all served =
-    let has = has_told said.config said.commands endings closed served in
+    let has = has_told said.config said.auto said.commands endings closed served in
     record {
       endings = endings;
       closed = closed;

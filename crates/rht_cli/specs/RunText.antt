@@ -1,7 +1,8 @@
 -- The text that `run` prints for what a script says: that of a run of a table which serves the script's commands.
 -- Beside the run stands what it means for who knows ports and owners alone: a history of the replies. The size is that of the
--- current table in the last words of the run (`IsClosedOf`); which one that is, callers that grow or shrink the table decide.
-use Rattle.std.specs.Prelude.{◌≡◌, ℕ, List, map}
+-- current table in the last words of the run (`IsClosedOf`): growing and shrinking decide which one that is, and where the script
+-- doesn't say manual, workers do that by themselves.
+use Rattle.std.specs.Prelude.{◌≡◌, ℕ, Bool, List, map}
 use Rattle.rht_words.specs.declared.config.Config.{Config}
 use Rattle.rht_words.specs.declared.config.Hash.{Hash}
 use Rattle.rht_words.specs.declared.config.Hash.TheVariants as hashes
@@ -18,10 +19,11 @@ use Rattle.rht_script.specs.Grammar.{Said}
 use Rattle.rht_script.specs.Text.{run_text}
 
 -- A run of a table of this config, whose ports are hashed so, serves the commands with these endings, and what was closed is what its
--- last words stand for. The types name what the callers of a table with such a hash do.
-abbrev pub IsServedBy : Hash → Config → List (ℕ × Call) → List (List Ending) → Closed → Type 0
-IsServedBy hashes.Mix config commands endings closed = IsServedRun Lookup3 (mix_of_hash hashes.Mix) config commands endings closed
-IsServedBy hashes.Low config commands endings closed = IsServedRun Low (mix_of_hash hashes.Low) config commands endings closed
+-- last words stand for; the third says whether workers run `work` by themselves. The types name what the callers of a table with such
+-- a hash do.
+abbrev pub IsServedBy : Hash → Config → Bool → List (ℕ × Call) → List (List Ending) → Closed → Type 0
+IsServedBy hashes.Mix config auto commands endings closed = IsServedRun Lookup3 (mix_of_hash hashes.Mix) config auto commands endings closed
+IsServedBy hashes.Low config auto commands endings closed = IsServedRun Low (mix_of_hash hashes.Low) config auto commands endings closed
 
 -- The text is that of a run which serves what the script says.
 pub record IsRunText (said : Said) (text : List ℕ) : Type 0 where
@@ -29,7 +31,7 @@ pub record IsRunText (said : Said) (text : List ℕ) : Type 0 where
   pub endings : List (List Ending)
   pub closed : Closed
   -- they are those of a run, by the hash that the script names
-  pub served : IsServedBy said.config.hash said.config said.commands endings closed
+  pub served : IsServedBy said.config.hash said.config said.auto said.commands endings closed
   -- and they are what is printed
   pub written : text ≡ run_text endings closed.bindings.pairs closed.size
   -- the replies are those of a legal history of the commands, which leaves what is printed as bound; where a command is refused

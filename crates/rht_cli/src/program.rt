@@ -150,7 +150,7 @@ fn run_hashed<R: Threads + Wait + Sync, G: Gate + Sync>(
     requires sound { IsSoundScript script.now }
     requires alone { script.now.config.callers ≡ 1 }
     requires asked { AllByRecursion (λ command. IsCommandCall command.1) script.now.commands.items }
-    ensures { IfOk result (λ outcome. IsServedBy script.now.config.hash script.now.config
+    ensures { IfOk result (λ outcome. IsServedBy script.now.config.hash script.now.config script.now.auto
         script.now.commands.items outcome.replies.items outcome.closed) }
 {
     match script.config.hash {

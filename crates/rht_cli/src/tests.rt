@@ -214,6 +214,203 @@ fn scripts_are_served_and_others_refused(rt: HostRuntime) -> Result<(), Fail> {
     Ok(())
 }
 
+/// A part of a text: lines so many times, or a line for each of so many ports.
+#[derive(Clone, Copy)]
+enum Part {
+    Lines(u32, &'static str),
+    Each(&'static str, Row, &'static str),
+}
+
+/// So many ports from the first one on, each so much greater than the one before.
+#[derive(Clone, Copy)]
+struct Row {
+    first: u32,
+    step: u32,
+    count: u32,
+}
+
+const fn ports(first: u32, step: u32, count: u32) -> Row {
+    Row { first, step, count }
+}
+
+/// The text of these parts.
+fn written(alloc: Global, parts: &[Part]) -> Result<String, Fail> {
+    let mut text = String::new(alloc);
+    for part in parts {
+        match *part {
+            Part::Lines(count, lines) => for _ in 0..count {
+                text.push_str(lines)?;
+            },
+            Part::Each(before, ports, after) => {
+                let mut port = ports.first;
+                for _ in 0..ports.count {
+                    text.push_str(&format!(in alloc; "{before}{port}{after}")?)?;
+                    port = port.wrapping_add(ports.step);
+                }
+            }
+        }
+    }
+    Ok(text)
+}
+
+#[test]
+fn tables_grow_and_shrink(rt: HostRuntime) -> Result<(), Fail> {
+    use Part::{Each, Lines};
+    // Each script, and its text.
+    let cases: [(&[Part], &[Part]); 8] = [
+        // Of 64 buckets 48 are three quarters, and 49 are more.
+        (
+            &[
+                Lines(1, "table single hash low work manual\n"),
+                Each("1 bind ", ports(0, 1, 48), " 1\n"),
+                Lines(1, "1 work\n1 bind 48 1\n1 work\n"),
+            ],
+            &[
+                Lines(48, "1: bound\n"),
+                Lines(1, "1: idle\n1: bound\n1: moved\n"),
+                Each("port ", ports(0, 1, 49), ": 1\n"),
+                Lines(1, "size 128 keys 49\n"),
+            ],
+        ),
+        // A worker does that by itself, but where the script says manual.
+        (
+            &[
+                Lines(1, "table single hash low\n"),
+                Each("1 bind ", ports(0, 1, 49), " 1\n"),
+                Lines(1, "1 work\n"),
+            ],
+            &[
+                Lines(49, "1: bound\n"),
+                Lines(1, "1: idle\n"),
+                Each("port ", ports(0, 1, 49), ": 1\n"),
+                Lines(1, "size 128 keys 49\n"),
+            ],
+        ),
+        // Of 128 buckets 38 are three tenths, and 37 are fewer: 37 * 3 / 2 = 55, which takes 64.
+        (
+            &[
+                Lines(1, "table single hint 96 shrink on hash low work manual\n"),
+                Each("1 bind ", ports(0, 1, 38), " 1\n"),
+                Lines(1, "1 work\n1 release 37 1\n1 work\n"),
+            ],
+            &[
+                Lines(38, "1: bound\n"),
+                Lines(1, "1: idle\n1: released\n1: moved\n"),
+                Each("port ", ports(0, 1, 37), ": 1\n"),
+                Lines(1, "size 64 keys 37\n"),
+            ],
+        ),
+        // By itself too, and not at all where shrinking is off.
+        (
+            &[
+                Lines(1, "table listed work auto hint 96 hash low shrink on\n"),
+                Each("1 bind ", ports(0, 1, 38), " 1\n"),
+                Lines(1, "1 release 37 1\n1 work\n"),
+            ],
+            &[
+                Lines(38, "1: bound\n"),
+                Lines(1, "1: released\n1: idle\n"),
+                Each("port ", ports(0, 1, 37), ": 1\n"),
+                Lines(1, "size 64 keys 37\n"),
+            ],
+        ),
+        (
+            &[
+                Lines(1, "table single hint 96 shrink off hash low\n"),
+                Each("1 bind ", ports(0, 1, 38), " 1\n"),
+                Lines(1, "1 release 37 1\n1 work\n"),
+            ],
+            &[
+                Lines(38, "1: bound\n"),
+                Lines(1, "1: released\n1: idle\n"),
+                Each("port ", ports(0, 1, 37), ": 1\n"),
+                Lines(1, "size 128 keys 37\n"),
+            ],
+        ),
+        // Ports of one chain: the seventeenth finds 16 there and attaches a table, and the thirty-third
+        // finds 16 there too, while the first table is still the current one.
+        (
+            &[
+                Lines(1, "table single hash low work manual\n"),
+                Each("1 bind ", ports(0, 64, 32), " 1\n"),
+                Lines(1, "1 bind 2048 1\n1 work\n1 find 2048\n"),
+            ],
+            &[
+                Lines(32, "1: bound\n"),
+                Lines(1, "1: busy 0 1\n1: moved\n1: missing\n"),
+                Each("port ", ports(0, 64, 32), ": 1\n"),
+                Lines(1, "size 64 keys 32\n"),
+            ],
+        ),
+        // By itself the worker moves all of them behind each bind from the seventeenth on, through seven
+        // tables; the eighth can't be had.
+        (
+            &[
+                Lines(1, "table single hash low\n"),
+                Each("1 bind ", ports(0, 64, 25), " 1\n"),
+                Lines(1, "1 count\n"),
+            ],
+            &[
+                Lines(23, "1: bound\n"),
+                Lines(2, "1: notable 64\n"),
+                Lines(1, "1: count 23\n"),
+                Each("port ", ports(0, 64, 23), ": 1\n"),
+                Lines(1, "size 64 keys 23\n"),
+            ],
+        ),
+        // There are seven tables besides the first one.
+        (
+            &[
+                Lines(
+                    1,
+                    "table single hint 1 shrink on hash low work manual\n1 bind 0 10\n",
+                ),
+                Each("1 bind ", ports(1, 1, 3), " 10\n"),
+                Lines(1, "1 work\n"),
+                Each("1 release ", ports(1, 1, 3), " 10\n"),
+                Lines(1, "1 work\n"),
+                Each("1 bind ", ports(1, 1, 3), " 10\n"),
+                Lines(1, "1 work\n"),
+                Each("1 release ", ports(1, 1, 3), " 10\n"),
+                Lines(1, "1 work\n"),
+                Each("1 bind ", ports(1, 1, 3), " 10\n"),
+                Lines(1, "1 work\n"),
+                Each("1 release ", ports(1, 1, 3), " 10\n"),
+                Lines(1, "1 work\n"),
+                Each("1 bind ", ports(1, 1, 3), " 10\n"),
+                Lines(1, "1 work\n"),
+                Each("1 release ", ports(1, 1, 3), " 10\n"),
+                Lines(1, "1 work\n"),
+            ],
+            &[
+                Lines(1, "1: bound\n"),
+                Lines(
+                    3,
+                    "1: bound\n1: bound\n1: bound\n1: moved\n1: released\n1: released\n1: released\n1: moved\n",
+                ),
+                Lines(
+                    1,
+                    "1: bound\n1: bound\n1: bound\n1: moved\n1: released\n1: released\n1: released\n1: notable 4\n",
+                ),
+                Lines(1, "port 0: 10\nsize 8 keys 1\n"),
+            ],
+        ),
+    ];
+    for (script, text) in cases {
+        let script = written(rt.alloc(), script)?;
+        let text = written(rt.alloc(), text)?;
+        let outside = Outside {
+            piece: 4096,
+            take: 0,
+            put: 0,
+            err: 0,
+        };
+        let left = run_on(&rt, rt.alloc(), "run", &script, outside)?;
+        assert_left(&rt, &left, 0, &text, "", &script);
+    }
+    Ok(())
+}
+
 #[test]
 fn a_failed_take_leaves_nothing_written(rt: HostRuntime) -> Result<(), Fail> {
     // Four takes of 16 bytes and one that finds the end.

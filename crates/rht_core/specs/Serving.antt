@@ -1,10 +1,13 @@
 -- When the calls that a caller has finished serve the commands of a worker with replies, and what of a run is printed: the replies,
 -- and what is bound at the end.
-use Rattle.std.specs.Prelude.{◌≡◌, ℕ, ◌+◌, ◌<◌, ◌==◌, if◌then◌else◌, true, List, [], ◌∷◌, ◌++◌, length, slice_index_or}
+use Rattle.std.specs.Prelude.{◌≡◌, ◌≢◌, ℕ, ◌+◌, ◌<◌, ◌==◌, ◌&&◌, if◌then◌else◌, Bool, true, false, List, [], ◌∷◌, ◌++◌, length, slice_index_or}
 use Rattle.rht_words.specs.declared.config.Config.{Config}
 use Rattle.rht_words.specs.declared.env.Env.{Env}
 use Rattle.rht_model.specs.declared.bindings.Closed.{Closed}
 use Rattle.rht_model.specs.declared.history.Call.{Call}
+use Rattle.rht_model.specs.declared.history.Call.TheVariants.{Bind, Find, All, Release, Rebind, Walk, Work, Tidy, Count}
+use Rattle.rht_model.specs.declared.history.Reply.{Reply}
+use Rattle.rht_model.specs.declared.history.Reply.TheVariants.{Bound, Exists, Found, Missing, Listed, Released, Absent, Rebound, TooBig, Again, Busy, NoTable, NoNode, Pending, Elsewhere, Walked, Moved, Idle, Clear, Counted}
 use Rattle.rht_model.specs.declared.finished.Finished.{Finished}
 use Rattle.rht_model.specs.Endings.{Ending, ended_with}
 use Rattle.rht_core.specs.declared.event.Event.{Event}
@@ -14,10 +17,59 @@ use Rattle.rht_core.specs.Closing.{IsClosedOf}
 
 -- ---- one worker
 
--- These calls are made for a command, which ends so: the command's own. So far a worker makes none by itself behind it, since a
--- node that is taken out doesn't come back, and no table is moved.
-abbrev pub AreForCommand : Call → Ending → List Finished → Type 0
-AreForCommand call ending done = done ≡ ended_with call ending ∷ []
+-- the call is a bind
+abbrev pub is_bind : Call → Bool
+is_bind (Bind port owner once) = true
+is_bind (Find port) = false
+is_bind (All port) = false
+is_bind (Release port owner) = false
+is_bind (Rebind port owner new) = false
+is_bind (Walk from limit) = false
+is_bind Work = false
+is_bind Tidy = false
+is_bind Count = false
+
+-- The reply to this call asks for `work`: it says that there is something to do, or it refuses a bind until tables have been
+-- moved, or for want of a further table.
+abbrev pub asks_for_work : Call → Reply → Bool
+asks_for_work call (Bound kick) = kick
+asks_for_work call (Released kick) = kick
+asks_for_work call (Busy root last) = true
+asks_for_work call (NoTable size) = is_bind call
+asks_for_work call (Exists owner) = false
+asks_for_work call (Found owner) = false
+asks_for_work call Missing = false
+asks_for_work call (Listed len) = false
+asks_for_work call Absent = false
+asks_for_work call Rebound = false
+asks_for_work call (TooBig count) = false
+asks_for_work call (Again table) = false
+asks_for_work call NoNode = false
+asks_for_work call (Pending caller section) = false
+asks_for_work call Elsewhere = false
+asks_for_work call (Walked len next) = false
+asks_for_work call (Moved again) = false
+asks_for_work call Idle = false
+asks_for_work call (Clear returned) = false
+asks_for_work call (Counted count) = false
+
+-- these calls are `work`, at least once: each answered that it moved and is to be made again, but the last one, which answered otherwise
+abbrev pub AreWorks : List Finished → Type 0
+AreWorks [] = ⊥
+AreWorks (done ∷ []) = (done.call ≡ Work) × (done.reply ≢ Moved true)
+AreWorks (done ∷ next ∷ dones) = (done.call ≡ Work) × (done.reply ≡ Moved true) × AreWorks (next ∷ dones)
+
+-- the calls that a worker makes by itself behind a command: `work` where that is asked for, and otherwise none
+abbrev pub AreBehind : Bool → List Finished → Type 0
+AreBehind true done = AreWorks done
+AreBehind false done = done ≡ []
+
+-- These calls are made for a command, which ends so: the command's own, and then `work` where its reply asks for that, and the script
+-- leaves the work to its workers. So far a worker makes no others, since a node that is taken out doesn't come back.
+pub record AreForCommand (auto : Bool) (call : Call) (ending : Ending) (done : List Finished) : Type 0 where
+  pub behind : List Finished
+  pub whole : done ≡ ended_with call ending ∷ behind
+  pub works : AreBehind (auto && asks_for_work call ending.answer.reply) behind
 
 -- the list is two, one behind the other
 pub record IsCut (First Rest : List Finished → Type 0) (done : List Finished) : Type 0 where
@@ -28,11 +80,11 @@ pub record IsCut (First Rest : List Finished → Type 0) (done : List Finished) 
   pub rest_is : Rest rest
 
 -- the finished calls are those made for each command in turn, which ends so; nothing is left over
-abbrev pub Serves : List Call → List Ending → List Finished → Type 0
-Serves [] [] done = done ≡ []
-Serves [] (ending ∷ endings) done = ⊥
-Serves (call ∷ calls) [] done = ⊥
-Serves (call ∷ calls) (ending ∷ endings) done = IsCut (AreForCommand call ending) (Serves calls endings) done
+abbrev pub Serves : Bool → List Call → List Ending → List Finished → Type 0
+Serves auto [] [] done = done ≡ []
+Serves auto [] (ending ∷ endings) done = ⊥
+Serves auto (call ∷ calls) [] done = ⊥
+Serves auto (call ∷ calls) (ending ∷ endings) done = IsCut (AreForCommand auto call ending) (Serves auto calls endings) done
 
 -- ---- all workers
 
@@ -43,13 +95,14 @@ calls_of worker (command ∷ commands) =
     if command.0 == worker then command.1 ∷ calls_of worker commands else calls_of worker commands
 
 -- a caller is in no call, and the calls that it has finished serve these with these endings
-pub record IsServing {M : Type 0} (world : World M) (caller : ℕ) (calls : List Call) (endings : List Ending) : Type 0 where
+pub record IsServing {M : Type 0} (world : World M) (auto : Bool) (caller : ℕ) (calls : List Call) (endings : List Ending) : Type 0 where
   pub idle : is_idle (local_of world.core caller) ≡ true
-  pub serves : Serves calls endings (world.books caller).finished
+  pub serves : Serves auto calls endings (world.books caller).finished
 
 -- A run of a table of this config in which each worker, counted from 1, is the caller of the number below: it is idle at the end,
--- and its finished calls serve its commands with these endings. What was closed is what the last words stand for.
-pub record IsServedRun (M : Type 0) (mix : ℕ → ℕ → ℕ → ℕ) (config : Config) (commands : List (ℕ × Call))
+-- and its finished calls serve its commands with these endings, where `auto` says whether it runs `work` by itself. What was closed
+-- is what the last words stand for.
+pub record IsServedRun (M : Type 0) (mix : ℕ → ℕ → ℕ → ℕ) (config : Config) (auto : Bool) (commands : List (ℕ × Call))
     (endings : List (List Ending)) (closed : Closed) : Type 0 where
   pub env : Env
   pub config_same : env.config ≡ config
@@ -57,5 +110,5 @@ pub record IsServedRun (M : Type 0) (mix : ℕ → ℕ → ℕ → ℕ) (config 
   pub admitted : IsAdmitted config.kind events
   pub workers : length endings ≡ config.callers
   pub each : (caller : ℕ) → caller < config.callers
-      → IsServing {M = M} (run_of mix env events) caller (calls_of (caller + 1) commands) (slice_index_or endings caller [])
+      → IsServing {M = M} (run_of mix env events) auto caller (calls_of (caller + 1) commands) (slice_index_or endings caller [])
   pub closed_is : IsClosedOf env.geometry (run_of {M = M} mix env events).core.words closed

@@ -1,6 +1,6 @@
 -- What a run tells that serves the commands of workers, in the words of ports and owners: the history of their replies, what it leaves
 -- bound, and where a command may be refused. No word of a table and no event of the run is spoken of.
-use Rattle.std.specs.Prelude.{◌≡◌, ℕ, ◌+◌, ◌-◌, ◌<◌, ◌≤◌, ◌==◌, if◌then◌else◌, is_some, List, [], ◌∷◌, ◌++◌, count_by, filter, slice_index_or}
+use Rattle.std.specs.Prelude.{◌≡◌, ℕ, ◌+◌, ◌-◌, ◌<◌, ◌≤◌, ◌==◌, if◌then◌else◌, is_some, Bool, List, [], ◌∷◌, ◌++◌, count_by, filter, slice_index_or}
 use Rattle.std.specs.List.{AllByRecursion}
 use Rattle.rht_words.specs.declared.config.Config.{Config}
 use Rattle.rht_policy.specs.Sizes.{most_ports}
@@ -74,6 +74,6 @@ module _ (M : Type 0) (mix : ℕ → ℕ → ℕ → ℕ) where
   -- of every run that serves commands there is a history that tells so
   abbrev pub HasToldHistory : Type 0
   HasToldHistory =
-      (config : Config) (commands : List (ℕ × Call)) (endings : List (List Ending)) (closed : Closed)
-      → IsServedRun M mix config commands endings closed
+      (config : Config) (auto : Bool) (commands : List (ℕ × Call)) (endings : List (List Ending)) (closed : Closed)
+      → IsServedRun M mix config auto commands endings closed
       → (history : List Entry) × IsTold config commands endings closed history

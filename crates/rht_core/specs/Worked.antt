@@ -17,8 +17,8 @@ use Rattle.rht_core.specs.Traces.{Did, Past, traced_of, behind_call}
 use Rattle.rht_core.specs.StandsFor.{in_force, shape_of, stands_for, AreAllBound}
 use Rattle.rht_core.specs.WorkCauses.{StoresCurrent}
 
--- Nothing is due: one table is in force, and it is flat; the ports bound are neither too many for its size, where it may grow, nor too
--- few, where shrinking is on; and nobody has the work lock.
+-- Nothing is due: one table is in force, and it is flat; the ports bound are neither too many for its size, where it may grow,
+-- nor too few, where shrinking is on; and nobody has the work lock.
 pub record IsSettled (env : Env) (words : List ℕ) : Type 0 where
   pub ports : ℕ
   pub bound : AreAllBound (stands_for env.geometry words) ports
@@ -47,8 +47,8 @@ module _ (M : Type 0) (mix : ℕ → ℕ → ℕ → ℕ) where
   abbrev pub words_behind : Env → List Event → ℕ → List ℕ
   words_behind env events n = (run_of {M = M} mix env (take n events)).core.words
 
-  -- A resizing that was alone and answered that nothing was due left nothing due; one that answered that it moved made another table
-  -- the current one.
+  -- A resizing that was alone and answered that nothing was due left nothing due; one that answered that it moved made another
+  -- table the current one.
   pub record HasWorked (env : Env) (events : List Event) (past : Past) : Type 0 where
     pub idle : past.done.reply ≡ Idle → IsSettled env (words_behind env events (behind_call past))
     pub moved : (again : Bool) → past.done.reply ≡ Moved again

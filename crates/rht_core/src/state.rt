@@ -103,7 +103,7 @@ impl<M: Mix> State<M> {
     /// bound. The one refusal is want of memory. It is no function of the kernel, where a table
     /// goes with all that is in it.
     pub fn closed(&self) -> Result<Closed, AllocError>
-        requires idle { (caller : ℕ) → caller < self.now.env.geometry.callers
+        requires { (caller : ℕ) → caller < self.now.env.geometry.callers
             → is_idle (local_of self.now caller) ≡ true }
         ensures { IfOk result (IsClosedOf self.now.env.geometry self.now.words) }
     {

@@ -1,14 +1,18 @@
 -- A call of the one caller: it begins where the caller is in none, each operation leaves it in progress or ends it with the reply,
 -- and then it is the last of those that have ended. A caller with no call in its book is idle.
-use Rattle.std.proofs.Common.{◌≡◌, ℕ, ◌<◌, ◌≤◌, true, List, [], ◌∷◌, ◌++◌, length, refl, sym, ◌∙◌, ap, subst, append_assoc, cond, arith}
+use Rattle.std.proofs.Common.{◌≡◌, ◌≢◌, ◌⊎◌, inl, inr, ℕ, ◌<◌, ◌≤◌, Bool, true, false, List, [], ◌∷◌, ◌++◌, length, refl, sym, ◌∙◌, ap, subst, append_assoc, cond, arith}
 use Rattle.std.specs.Prelude.{Option, Some, None, is_some, nat_lt, ◌&&◌}
+use Rattle.std.specs.List.{AllByRecursion}
 use Rattle.std.proofs.lemmas.Bool.{lt-ltb}
+use Rattle.std.proofs.lemmas.List.{append-nil}
 use Rattle.rht_words.specs.declared.op.Op.{Op}
 use Rattle.rht_words.specs.declared.env.Env.{Env}
 use Rattle.rht_words.specs.Operations.{old_of}
 use Rattle.rht_words.proofs.EachElement.{AllByRecursion-append}
 use Rattle.rht_model.specs.declared.history.Call.{Call}
+use Rattle.rht_model.specs.declared.history.Call.TheVariants.{Work}
 use Rattle.rht_model.specs.declared.history.Reply.{Reply}
+use Rattle.rht_model.specs.declared.history.Reply.TheVariants.{Moved}
 use Rattle.rht_model.specs.declared.finished.Finished.{Finished}
 use Rattle.rht_model.specs.Endings.{Ending, ended_with, replied}
 use Rattle.rht_core.specs.declared.event.Event.{Event}
@@ -21,7 +25,7 @@ use Rattle.rht_core.specs.Jobs.{Job, job_of}
 use Rattle.rht_core.specs.Locals.{is_idle, machine_of, local_after, ending_of}
 use Rattle.rht_core.specs.Runs.{Core, World, View, local_of, beginning_in, planned_in, with_step, core_step, world_step, run_of, view_of, book_after, finished_with, IsAdmitted, IsAdmittedEvent}
 use Rattle.rht_core.specs.Traces.{Did, Traced, traced_of}
-use Rattle.rht_core.specs.Serving.{Serves}
+use Rattle.rht_core.specs.Serving.{asks_for_work, AreWorks, AreBehind, AreForCommand, Serves}
 use Rattle.rht_core.proofs.Events.Worlds.{run_of-push, begin_self, step_none, step_self}
 use Rattle.rht_core.proofs.Events.SoundRuns.{has_place, runs-in, step-count}
 use Rattle.rht_core.proofs.Events.ReachedStates.{event-env}
@@ -29,23 +33,53 @@ use Rattle.rht_core.proofs.Events.JobsOfCallers.{is_no_job, nothing-job}
 use Rattle.rht_core.proofs.Tracing.TracedRuns.{world-traced_of}
 use Rattle.rht_core.proofs.Tracing.TracedJobs.{IsAtJob}
 use Rattle.rht_core.proofs.Tracing.RepliesInRuns.{Holds, Answered, runs-right}
-use Rattle.rht_registry.specs.Served.{IsRunTo}
+use Rattle.rht_registry.specs.Served.{IsRunTo, HasServed}
 
--- one command more, behind the others
-pub Serves-push : (calls : List Call) (endings : List Ending) (done : List Finished) (call : Call) (ending : Ending)
-    → Serves calls endings done
-    → Serves (calls ++ call ∷ []) (endings ++ ending ∷ []) (done ++ ended_with call ending ∷ [])
-Serves-push [] [] done call ending serves =
-    rw serves (record { first = ended_with call ending ∷ []; rest = []; whole = refl; first_is = refl; rest_is = refl })
-Serves-push [] (e ∷ endings) done call ending serves = absurd serves
-Serves-push (own ∷ calls) [] done call ending serves = absurd serves
-Serves-push (own ∷ calls) (e ∷ endings) done call ending serves = record {
+-- one command more, behind the others, with its calls
+pub Serves-push : (auto : Bool) (calls : List Call) (endings : List Ending) (done : List Finished) (call : Call) (ending : Ending)
+    (more : List Finished) → AreForCommand auto call ending more → Serves auto calls endings done
+    → Serves auto (calls ++ call ∷ []) (endings ++ ending ∷ []) (done ++ more)
+Serves-push auto [] [] done call ending more for serves =
+    rw serves (record { first = more; rest = []; whole = sym (append-nil more); first_is = for; rest_is = refl })
+Serves-push auto [] (e ∷ endings) done call ending more for serves = absurd serves
+Serves-push auto (own ∷ calls) [] done call ending more for serves = absurd serves
+Serves-push auto (own ∷ calls) (e ∷ endings) done call ending more for serves = record {
   first = serves.first;
-  rest = serves.rest ++ ended_with call ending ∷ [];
-  whole = ap (λ l. l ++ ended_with call ending ∷ []) serves.whole ∙ append_assoc serves.first serves.rest (ended_with call ending ∷ []);
+  rest = serves.rest ++ more;
+  whole = ap (λ l. l ++ more) serves.whole ∙ append_assoc serves.first serves.rest more;
   first_is = serves.first_is;
-  rest_is = Serves-push calls endings serves.rest call ending serves.rest_is;
+  rest_is = Serves-push auto calls endings serves.rest call ending more for serves.rest_is;
 }
+
+-- a command's calls: its own, and then `work` where that was asked for
+pub for-works : (auto : Bool) (call : Call) (ending : Ending) (works : List Finished) → auto ≡ true
+    → asks_for_work call ending.answer.reply ≡ true → AreWorks works
+    → AreForCommand auto call ending (ended_with call ending ∷ works)
+for-works auto call ending works own asks are = record { behind = works; whole = refl; works = rw (own, asks) are }
+
+-- or its own alone
+pub for-alone : (auto : Bool) (call : Call) (ending : Ending)
+    → (auto ≡ false) ⊎ (asks_for_work call ending.answer.reply ≡ false)
+    → AreForCommand auto call ending (ended_with call ending ∷ [])
+for-alone auto call ending (inl manual) = record { behind = []; whole = refl; works = rw manual refl }
+for-alone auto call ending (inr asks) = record { behind = []; whole = refl; works = rw asks (none auto) }
+  where
+    none : (auto : Bool) → AreBehind (auto && false) []
+    none true = refl
+    none false = refl
+
+-- the call has been made, and answered that it is to be made again
+pub record IsAgain (done : Finished) : Type 0 where
+  pub call : done.call ≡ Work
+  pub reply : done.reply ≡ Moved true
+
+-- by induction: one that answers otherwise ends it
+pub AreWorks-last : (works : List Finished) (last : Finished) → AllByRecursion IsAgain works → last.call ≡ Work
+    → last.reply ≢ Moved true → AreWorks (works ++ last ∷ [])
+AreWorks-last [] last again call other = (call, other)
+AreWorks-last (d ∷ []) last again call other = (again.0.call, again.0.reply, (call, other))
+AreWorks-last (d ∷ next ∷ works) last again call other =
+    (again.0.call, again.0.reply, AreWorks-last (next ∷ works) last again.1 call other)
 
 module _ (M : Type 0) (mix : ℕ → ℕ → ℕ → ℕ) where
   -- ---- a caller with no call
@@ -68,6 +102,15 @@ module _ (M : Type 0) (mix : ℕ → ℕ → ℕ → ℕ) where
   pub idle-none : (core : Core M) (done : List Finished) → IsRunTo M mix core None done → is_idle (local_of core 0) ≡ true
   idle-none core done run =
       subst (λ (k : Core M). is_idle (local_of k 0) ≡ true) run.same (idle-world run.env run.events run.admitted run.call_is)
+
+  -- one command more has been served, once its calls have been made
+  pub HasServed-more : (core after : Core M) (auto : Bool) (calls : List Call) (endings : List Ending) (call : Call) (ending : Ending)
+      (more : List Finished)
+      → (served : HasServed M mix core auto calls endings) → AreForCommand auto call ending more
+      → IsRunTo M mix after None (served.done ++ more)
+      → HasServed M mix after auto (calls ++ call ∷ []) (endings ++ ending ∷ [])
+  HasServed-more core after auto calls endings call ending more served for run =
+      record { done = served.done ++ more; run = run; serves = Serves-push auto calls endings served.done call ending more for served.serves }
 
   -- ---- one more event
 

@@ -74,7 +74,7 @@ machine-asked M config (Rebind port owner new) sound asked env same =
     rebinding-single M env port owner new env.config.kind
     (subst (λ (c : Config). is_single c.kind ≡ true) (sym same) sound)
 machine-asked M config (Walk from limit) sound asked env same = absurd asked
-machine-asked M config Work sound asked env same = absurd asked
+machine-asked M config Work sound asked env same = refl
 machine-asked M config Tidy sound asked env same = absurd asked
 machine-asked M config Count sound asked env same = refl
 

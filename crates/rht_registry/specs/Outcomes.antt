@@ -13,7 +13,8 @@ use Rattle.rht_registry.specs.declared.registry.Outcome.{Outcome}
 abbrev pub IsBuiltCommand : Type 0 → Config → ℕ × Call → Type 0
 IsBuiltCommand M config command = (env : Env) → env.config ≡ config → is_some (machine_of {M = M} env 0 command.1) ≡ true
 
--- the outcome is that of a run of the script's config, by the mix that its hash names, which serves the script's commands
+-- the outcome is that of a run of the script's config, by the mix that its hash names, which serves the script's commands; the worker
+-- runs `work` by itself where the script says so
 abbrev pub IsOutcome : Type 0 → Script → Outcome → Type 0
 IsOutcome M script outcome =
-    IsServedRun M (mix_named script.config) script.config script.commands.items outcome.replies.items outcome.closed
+    IsServedRun M (mix_named script.config) script.config script.auto script.commands.items outcome.replies.items outcome.closed

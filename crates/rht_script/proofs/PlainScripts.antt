@@ -22,13 +22,13 @@ use Rattle.rht_model.specs.declared.history.Call.{Call}
 use Rattle.rht_model.specs.declared.history.Call.TheVariants.{Bind, Find, All as ListAll, Release, Rebind, Walk, Work, Tidy, Count}
 use Rattle.rht_script.specs.declared.script.TableLine.{TableLine}
 use Rattle.rht_script.specs.declared.options.Setting.{Setting}
-use Rattle.rht_script.specs.declared.options.Setting.TheVariants.{Nodes, Hint, Min, Max, Pages, Seed, Rewalks, Hashing}
+use Rattle.rht_script.specs.declared.options.Setting.TheVariants.{Nodes, Hint, Min, Max, Pages, Seed, Rewalks, Hashing, Shrink, Auto}
 use Rattle.rht_script.specs.declared.options.Options.{Options}
 use Rattle.rht_script.specs.Spelling.{◌>>=◌, lines_of, is_skipped, number_of}
 use Rattle.rht_script.specs.Grammar.{most_lines, words_at, commands_from, said_from}
 use Rattle.rht_script.specs.TableLines.{no_options, kind_of, with_setting, setting_of, options_from, configured, sizes_agree, has_room, rounded_min, config_of, table_of}
-use Rattle.rht_script.specs.CommandLines.{port_limits, owner_limits, worker_limits, bind_of, find_of, all_of, release_of, of_single, rebind_of, count_of, call_of, command_of}
-use Rattle.rht_script.specs.Plain.{IsSayableConfig, IsSayableCall, IsSayableCommand, number_or_none, kind_word, hash_word, table_words, call_words, command_words, plain_line, plain_script}
+use Rattle.rht_script.specs.CommandLines.{port_limits, owner_limits, worker_limits, bind_of, find_of, all_of, release_of, of_single, rebind_of, bare_of, call_of, command_of}
+use Rattle.rht_script.specs.Plain.{IsSayableConfig, IsSayableCall, IsSayableCommand, number_or_none, kind_word, hash_word, switch_word, auto_word, table_words, call_words, command_words, plain_line, plain_script}
 use Rattle.rht_script.specs.Laws.{ReadsBack}
 use Rattle.rht_script.proofs.LineLemmas.{words_at-right}
 use Rattle.rht_script.proofs.PiecesLemmas.{lines_of-empty}
@@ -40,7 +40,7 @@ use Rattle.rht_script.proofs.PlainWords.{number_of-decimal, IsPlainWord, plain_n
 module _ (kind : Kind) where
   -- by cases: of each call for which there is a verb
   call_of-plain : (call : Call) → IsSayableCall kind call → call_of kind (call_words call) ≡ Ok call
-  unfolding call_of bind_of find_of all_of release_of rebind_of count_of
+  unfolding call_of bind_of find_of all_of release_of rebind_of bare_of
   call_of-plain (Bind port owner once) sayable =
       let port_is = number_of-decimal port (omega (arith, sayable.0)) port_limits sayable.0 in
       let owner_is = number_of-decimal owner (omega (arith, sayable.1)) owner_limits sayable.1 in
@@ -59,7 +59,7 @@ module _ (kind : Kind) where
       let new_is = number_of-decimal new (omega (arith, sayable.2)) owner_limits sayable.2 in
       rw (port_is, owner_is, new_is) (ap (λ (k : Kind). of_single k (Rebind port owner new)) sayable.3)
   call_of-plain (Walk from limit) sayable = absurd sayable
-  call_of-plain Work sayable = absurd sayable
+  call_of-plain Work sayable = refl
   call_of-plain Tidy sayable = absurd sayable
   call_of-plain Count sayable = refl
 
@@ -86,7 +86,7 @@ module _ (kind : Kind) where
       let new_is = IsPlainWord-decimal new (omega (arith, sayable.2)) in
       ((plain_name refl, (port_is, (owner_is, (new_is, tt)))), omega arith)
   call_words-plain (Walk from limit) sayable = absurd sayable
-  call_words-plain Work sayable = absurd sayable
+  call_words-plain Work sayable = ((plain_name refl, tt), omega arith)
   call_words-plain Tidy sayable = absurd sayable
   call_words-plain Count sayable = ((plain_name refl, tt), omega arith)
 
@@ -189,6 +189,16 @@ unfolding setting_of
 set_hash Mix = refl
 set_hash Low = refl
 
+set_shrink : (shrink : Bool) → setting_of (codes "shrink") (switch_word shrink) ≡ Ok (Shrink shrink)
+unfolding setting_of
+set_shrink true = refl
+set_shrink false = refl
+
+set_auto : (auto : Bool) → setting_of (codes "work") (auto_word auto) ≡ Ok (Auto auto)
+unfolding setting_of
+set_auto true = refl
+set_auto false = refl
+
 -- one option further
 options_from-step : (options : Options) (setting : Setting) (name value : List ℕ) (words : List (List ℕ))
     → setting_of name value ≡ Ok setting
@@ -196,24 +206,23 @@ options_from-step : (options : Options) (setting : Setting) (name value : List �
 options_from-step options setting name value words is = rw is refl
 
 -- a config of these numbers
-made : Config → ℕ → ℕ → ℕ → ℕ → Bool → Config
-made config callers hint min max shrink = record config {
+made : Config → ℕ → ℕ → ℕ → ℕ → Config
+made config callers hint min max = record config {
   callers = callers;
   hint = hint;
   min = min;
   max = max;
-  shrink = shrink;
 }
 
 -- a config is made of its own numbers
 made-same : (config : Config)
-    → made config config.callers config.hint config.min config.max config.shrink ≡ config
+    → made config config.callers config.hint config.min config.max ≡ config
 unfolding made
 made-same config = refl
 
--- the options that the config's line sets
-abbrev options_said : Config → Option ℕ → Option ℕ → Options
-options_said config hint most = record {
+-- the options that the line of a config and of whether workers run `work` by themselves sets
+abbrev options_said : Config → Bool → Option ℕ → Option ℕ → Options
+options_said config auto hint most = record {
   nodes = Some config.nodes;
   hint = hint;
   min = Some config.min;
@@ -222,6 +231,8 @@ options_said config hint most = record {
   seed = Some config.seed;
   rewalks = Some config.rewalks;
   hash = Some config.hash;
+  shrink = Some config.shrink;
+  auto = Some auto;
   twice = false;
 }
 
@@ -230,7 +241,7 @@ kind_of-plain : (kind : Kind) → kind_of (kind_word kind) ≡ Ok kind
 kind_of-plain Single = refl
 kind_of-plain Listed = refl
 
--- the words for a kind and for a hash are plain
+-- the words for a kind, a hash and a switch are plain
 kind_word-plain : (kind : Kind) → IsPlainWord (kind_word kind)
 kind_word-plain Single = plain_name refl
 kind_word-plain Listed = plain_name refl
@@ -238,6 +249,14 @@ kind_word-plain Listed = plain_name refl
 hash_word-plain : (hash : Hash) → IsPlainWord (hash_word hash)
 hash_word-plain Mix = plain_name refl
 hash_word-plain Low = plain_name refl
+
+switch_word-plain : (on : Bool) → IsPlainWord (switch_word on)
+switch_word-plain true = plain_name refl
+switch_word-plain false = plain_name refl
+
+auto_word-plain : (auto : Bool) → IsPlainWord (auto_word auto)
+auto_word-plain true = plain_name refl
+auto_word-plain false = plain_name refl
 
 -- so is a name with its number, or without one
 number_or_none-plain : (name : List ℕ) → IsPlainWord name → (number : ℕ) → number < 2 ^ 32
@@ -247,7 +266,7 @@ number_or_none-plain name plain number small = elim (cases_Bool (number == 0)) [
   | inr some ↦ rw some ((plain, (IsPlainWord-decimal number small, tt)), omega arith)
 ]
 
-module _ (config : Config) (sayable : IsSayableConfig config) where
+module _ (config : Config) (auto : Bool) (sayable : IsSayableConfig config) where
   -- the hint and the greatest size, where there is one
   abbrev hint_said : Option ℕ
   hint_said = cond (config.hint == 0) None (Some config.hint)
@@ -256,44 +275,47 @@ module _ (config : Config) (sayable : IsSayableConfig config) where
   max_said = cond (config.max == 0) None (Some config.max)
 
   options_from-max : (hint : Option ℕ)
-      → options_from (options_said config hint None) (number_or_none (codes "max") config.max) ≡ Ok
-      (options_said config hint max_said)
+      → options_from (options_said config auto hint None) (number_or_none (codes "max") config.max) ≡ Ok
+      (options_said config auto hint max_said)
   options_from-max hint = elim (cases_Bool (config.max == 0)) [
     | inl none ↦ rw none refl
     | inr some ↦
         rw some
-        (options_from-step (options_said config hint None) (Max config.max) (codes "max")
+        (options_from-step (options_said config auto hint None) (Max config.max) (codes "max")
         (decimal config.max) []
         (set_max config.max (sayable.settled.greatest.within (eqb-false config.max 0 some))))
   ]
 
-  options_from-hint : options_from (options_said config None None) (number_or_none (codes "hint") config.hint
-      ++ number_or_none (codes "max") config.max) ≡ Ok (options_said config hint_said max_said)
+  options_from-hint : options_from (options_said config auto None None) (number_or_none (codes "hint") config.hint
+      ++ number_or_none (codes "max") config.max) ≡ Ok (options_said config auto hint_said max_said)
   options_from-hint = elim (cases_Bool (config.hint == 0)) [
     | inl none ↦ rw none (options_from-max None)
     | inr some ↦
         let positive : 1 ≤ config.hint = omega (arith, eqb-false config.hint 0 some) in
         rw some
-        (options_from-step (options_said config None None) (Hint config.hint) (codes "hint")
+        (options_from-step (options_said config auto None None) (Hint config.hint) (codes "hint")
         (decimal config.hint) (number_or_none (codes "max") config.max)
         (set_hint config.hint (positive, sayable.settled.hint))
         ∙ options_from-max (Some config.hint))
   ]
 
   options_from-plain : options_from no_options (codes "hash" ∷ hash_word config.hash
+      ∷ codes "shrink" ∷ switch_word config.shrink ∷ codes "work" ∷ auto_word auto
       ∷ codes "nodes" ∷ decimal config.nodes ∷ codes "min" ∷ decimal config.min
       ∷ codes "pages" ∷ decimal config.pages ∷ codes "seed" ∷ decimal config.seed
       ∷ codes "rewalks" ∷ decimal config.rewalks
       ∷ (number_or_none (codes "hint") config.hint ++ number_or_none (codes "max") config.max)) ≡ Ok
-      (options_said config hint_said max_said)
+      (options_said config auto hint_said max_said)
   options_from-plain =
       let s = sayable.settled in
       rw set_hash
+      (rw (set_shrink config.shrink)
+      (rw (set_auto auto)
       (rw (set_nodes config.nodes s.geometry.nodes_within)
       (rw (set_min config.min (omega (arith, s.least.within), s.least.within.1))
       (rw (set_pages config.pages s.geometry.pages_within)
       (rw (set_seed config.seed (omega arith, s.seed))
-      (rw (set_rewalks config.rewalks (omega arith, s.rewalks)) options_from-hint)))))
+      (rw (set_rewalks config.rewalks (omega arith, s.rewalks)) options_from-hint)))))))
 
   hint_same : unwrap_or hint_said plain_config.hint ≡ config.hint
   hint_same = elim (cases_Bool (config.hint == 0)) [
@@ -313,14 +335,14 @@ module _ (config : Config) (sayable : IsSayableConfig config) where
   ]
 
   -- the options stand for the config
-  configured-said : configured config.kind (options_said config hint_said max_said) ≡ config
+  configured-said : configured config.kind (options_said config auto hint_said max_said) ≡ config
   unfolding configured made
   configured-said =
       let hint = unwrap_or hint_said plain_config.hint in
       let most = rounded_down (unwrap_or max_said plain_config.max) in
-      let same : made config plain_config.callers hint (rounded_min config.min) most plain_config.shrink
-      ≡ made config config.callers config.hint config.min config.max config.shrink =
-      rw (hint_same, min_same, max_same, sayable.callers, sayable.shrink) refl in
+      let same : made config plain_config.callers hint (rounded_min config.min) most
+      ≡ made config config.callers config.hint config.min config.max =
+      rw (hint_same, min_same, max_same, sayable.callers) refl in
       same ∙ made-same config
 
   sizes_agree-settled : sizes_agree config ≡ true
@@ -331,14 +353,14 @@ module _ (config : Config) (sayable : IsSayableConfig config) where
         (le-leb config.min config.max (sayable.settled.agree (eqb-false config.max 0 some)))
   ]
 
-  config_of-plain : config_of config.kind (options_said config hint_said max_said) ≡ Ok config
+  config_of-plain : config_of config.kind (options_said config auto hint_said max_said) ≡ Ok config
   unfolding config_of
   config_of-plain =
       let room : has_room config ≡ true = le-leb (first_size config) (page_words * config.pages)
       sayable.settled.starts in
       rw (configured-said, sizes_agree-settled, room) refl
 
-  table_of-plain : table_of (table_words config) ≡ Ok (record { config = config; auto = true })
+  table_of-plain : table_of (table_words config auto) ≡ Ok (record { config = config; auto = auto })
   unfolding table_of
   table_of-plain = rw (kind_of-plain config.kind, options_from-plain, config_of-plain) refl
 
@@ -349,8 +371,8 @@ module _ (config : Config) (sayable : IsSayableConfig config) where
     | inr some ↦ omega (arith, sayable.settled.greatest.within (eqb-false config.max 0 some))
   ]
 
-  -- the words of the table line are plain, and at most eighteen
-  table_words-plain : AllByRecursion IsPlainWord (table_words config) × (length (table_words config) ≤ 18)
+  -- the words of the table line are plain, and at most twenty-two
+  table_words-plain : AllByRecursion IsPlainWord (table_words config auto) × (length (table_words config auto) ≤ 22)
   table_words-plain =
       let s = sayable.settled in
       let number = IsPlainWord-decimal in
@@ -359,7 +381,30 @@ module _ (config : Config) (sayable : IsSayableConfig config) where
       let behind = AllByRecursion-append IsPlainWord (number_or_none (codes "hint") config.hint)
       (number_or_none (codes "max") config.max) hint.0 max.0 in
       let few = length-append (number_or_none (codes "hint") config.hint)
-      (number_or_none (codes "max") config.max) in (
+      (number_or_none (codes "max") config.max) in
+      let last : AllByRecursion IsPlainWord (codes "seed" ∷ decimal config.seed ∷ codes "rewalks" ∷ decimal config.rewalks
+      ∷ (number_or_none (codes "hint") config.hint ++ number_or_none (codes "max") config.max)) = (
+        plain_name refl,
+        (
+          number config.seed (omega (arith, s.seed)),
+          (plain_name refl, (number config.rewalks (omega (arith, s.rewalks)), behind)),
+        ),
+      ) in
+      let numbers : AllByRecursion IsPlainWord (codes "nodes" ∷ decimal config.nodes ∷ codes "min" ∷ decimal config.min
+      ∷ codes "pages" ∷ decimal config.pages ∷ codes "seed" ∷ decimal config.seed ∷ codes "rewalks" ∷ decimal config.rewalks
+      ∷ (number_or_none (codes "hint") config.hint ++ number_or_none (codes "max") config.max)) = (
+        plain_name refl,
+        (
+          number config.nodes (omega (arith, s.geometry.nodes_within)),
+          (
+            plain_name refl,
+            (
+              number config.min (omega (arith, s.least.within)),
+              (plain_name refl, (number config.pages (omega (arith, s.geometry.pages_within)), last)),
+            ),
+          ),
+        ),
+      ) in (
         (
           plain_name refl,
           (
@@ -368,37 +413,7 @@ module _ (config : Config) (sayable : IsSayableConfig config) where
               plain_name refl,
               (
                 hash_word-plain config.hash,
-                (
-                  plain_name refl,
-                  (
-                    number config.nodes (omega (arith, s.geometry.nodes_within)),
-                    (
-                      plain_name refl,
-                      (
-                        number config.min (omega (arith, s.least.within)),
-                        (
-                          plain_name refl,
-                          (
-                            number config.pages (omega (arith, s.geometry.pages_within)),
-                            (
-                              plain_name refl,
-                              (
-                                number config.seed (omega (arith, s.seed)),
-                                (
-                                  plain_name refl,
-                                  (
-                                    number config.rewalks (omega (arith, s.rewalks)),
-                                    behind,
-                                  ),
-                                ),
-                              ),
-                            ),
-                          ),
-                        ),
-                      ),
-                    ),
-                  ),
-                ),
+                (plain_name refl, (switch_word-plain config.shrink, (plain_name refl, (auto_word-plain auto, numbers)))),
               ),
             ),
           ),
@@ -414,9 +429,10 @@ reads_back said can short =
     let config = said.config in
     let commands = said.commands in
     let sayable = can.config in
-    let table : TableLine = record { config = config; auto = true } in
-    let words = table_words config in
-    let plain = table_words-plain config sayable in
+    let auto = said.auto in
+    let table : TableLine = record { config = config; auto = auto } in
+    let words = table_words config auto in
+    let plain = table_words-plain config auto sayable in
     let behind = flat_map (λ command. plain_line (command_words command)) commands in
     let callers : config.callers < 2 ^ 32 = omega (arith, sayable.settled.geometry.callers_within) in
     let read : words_at 1 (spaced_words words) ≡ Ok words =
@@ -426,6 +442,6 @@ reads_back said can short =
     let commands_read = commands_from-plain table callers 2 commands each (omega (arith, can.few)) in
     reading_of-lines (plain_line words ++ behind) short
     ∙ ap (said_from 1) (lines_of-plain words behind plain.0)
-    ∙ rw (read, table_of-plain config sayable)
+    ∙ rw (read, table_of-plain config auto sayable)
     (said_with-commands table 2 (lines_of behind) commands commands_read
-    ∙ rw (← can.auto, ← can.schedule) refl)
+    ∙ rw (← can.schedule) refl)

@@ -10,14 +10,14 @@ use Rattle.rht_words.specs.declared.config.Kind.{Kind}
 use Rattle.rht_words.specs.declared.config.Kind.TheVariants.{Single, Listed}
 use Rattle.rht_words.specs.declared.limits.Limits.{Limits}
 use Rattle.rht_model.specs.declared.history.Call.{Call}
-use Rattle.rht_model.specs.declared.history.Call.TheVariants.{Bind, Find, All, Release, Rebind, Count}
+use Rattle.rht_model.specs.declared.history.Call.TheVariants.{Bind, Find, All, Release, Rebind, Work, Count}
 use Rattle.rht_script.specs.declared.script.TableLine.{TableLine}
 use Rattle.rht_script.specs.declared.script.ScriptFault.{ScriptFault}
 use Rattle.rht_script.specs.declared.cause.Cause.{Cause}
 use Rattle.rht_script.specs.declared.cause.Cause.TheVariants.{BadNumber, OutOfRange, UnknownWord, TooManyLines, LineTooLong}
 use Rattle.rht_script.specs.Grammar.{most_bytes, most_lines, most_in_line, at_line, words_at, commands_from, Said, said_from, reading_of}
 use Rattle.rht_script.specs.TableLines.{table_of}
-use Rattle.rht_script.specs.CommandLines.{port_limits, owner_limits, worker_limits, number_first, end_of, bind_of, find_of, all_of, release_of, of_single, rebind_of, count_of, call_of, is_schedule, command_of}
+use Rattle.rht_script.specs.CommandLines.{port_limits, owner_limits, worker_limits, number_first, end_of, bind_of, find_of, all_of, release_of, of_single, rebind_of, bare_of, call_of, is_schedule, command_of}
 use Rattle.rht_script.specs.Spelling.{◌>>=◌, is_word, is_number, value_of, is_within, number_of, lines_of, words_of, is_skipped}
 
 -- ---- what holds of a value holds on the way to it
@@ -105,6 +105,7 @@ pub record HoldsOfCalls (kind : Kind) (Q : Call → Type 0) : Type 0 where
   pub release : (port owner : ℕ) → IsPort port → IsOwner owner → Q (Release port owner)
   pub rebind : (port owner new : ℕ) → IsPort port → IsOwner owner → IsOwner new → kind ≡ Single
       → Q (Rebind port owner new)
+  pub work : Q Work
   pub count : Q Count
 
 module _ (kind : Kind) (Q : Call → Type 0) (holds : HoldsOfCalls kind Q) where
@@ -144,9 +145,9 @@ module _ (kind : Kind) (Q : Call → Type 0) (holds : HoldsOfCalls kind Q) where
       of_single_holds Q kind (Rebind port.0 owner.0 new.0)
       (holds.rebind port.0 owner.0 new.0 is_port is_owner is_new)))))
 
-  count_holds : (words : List (List ℕ)) → IfOk (count_of words) Q
-  unfolding count_of
-  count_holds words = IfOk-after Q (end_of words) _ (λ end. holds.count)
+  bare_holds : (call : Call) → Q call → (words : List (List ℕ)) → IfOk (bare_of call words) Q
+  unfolding bare_of
+  bare_holds call so words = IfOk-after Q (end_of words) _ (λ end. so)
 
   -- what holds of each call that can be written holds of what a verb asks
   pub call_holds : (words : List (List ℕ)) → IfOk (call_of kind words) Q
@@ -158,7 +159,8 @@ module _ (kind : Kind) (Q : Call → Type 0) (holds : HoldsOfCalls kind Q) where
       (IfOk-cond Q (is_word verb (codes "all")) _ _ (all_holds words)
       (IfOk-cond Q (is_word verb (codes "release")) _ _ (release_holds words)
       (IfOk-cond Q (is_word verb (codes "rebind")) _ _ (rebind_holds words)
-      (IfOk-cond Q (is_word verb (codes "count")) _ (Err UnknownWord) (count_holds words) tt)))))
+      (IfOk-cond Q (is_word verb (codes "work")) _ _ (bare_holds Work holds.work words)
+      (IfOk-cond Q (is_word verb (codes "count")) _ (Err UnknownWord) (bare_holds Count holds.count words) tt))))))
 
 module _ (P : ℕ × Call → Type 0) (Q : Call → Type 0) (table : TableLine)
     (both : (worker : ℕ) (call : Call) → is_within (worker_limits table.config) worker ≡ true → Q call

@@ -19,10 +19,10 @@ use Rattle.rht_script.specs.declared.script.Script.{Script}
 use Rattle.rht_script.specs.declared.script.TableLine.{TableLine}
 use Rattle.rht_script.specs.declared.cause.Cause.TheVariants.{NoTableLine, UnknownWord, OptionsDisagree}
 use Rattle.rht_script.specs.declared.options.Setting.{Setting}
-use Rattle.rht_script.specs.declared.options.Setting.TheVariants.{Nodes, Hint, Min, Max, Pages, Seed, Rewalks, Hashing}
+use Rattle.rht_script.specs.declared.options.Setting.TheVariants.{Nodes, Hint, Min, Max, Pages, Seed, Rewalks, Hashing, Shrink, Auto}
 use Rattle.rht_script.specs.declared.options.Options.{Options}
 use Rattle.rht_script.specs.Spelling.{is_word, is_within, number_of, lines_of, is_skipped}
-use Rattle.rht_script.specs.TableLines.{numbered, kind_of, hash_of, setting_of, no_options, with_setting, options_from, configured, sizes_agree, has_room, config_of, table_of}
+use Rattle.rht_script.specs.TableLines.{numbered, kind_of, hash_of, switch_of, auto_of, setting_of, no_options, with_setting, options_from, configured, sizes_agree, has_room, config_of, table_of}
 use Rattle.rht_script.specs.CommandLines.{port_limits, owner_limits, worker_limits, command_of}
 use Rattle.rht_script.specs.Grammar.{most_bytes, at_line, words_at, Said, commands_from, said_from, reading_of}
 use Rattle.rht_script.specs.Allowed.{IsAllowed, AreAllowed}
@@ -70,8 +70,12 @@ module _ (value : List ℕ) where
       (numbered_allowed Seed seed_limits (λ number within. within))
       (IfOk-cond IsAllowed (is_word name (codes "rewalks")) _ _
       (numbered_allowed Rewalks rewalk_limits (λ number within. within))
-      (IfOk-cond IsAllowed (is_word name (codes "hash")) _ (Err UnknownWord)
-      (IfOk-after IsAllowed (hash_of value) _ (λ hash. tt)) tt)))))))
+      (IfOk-cond IsAllowed (is_word name (codes "hash")) _ _
+      (IfOk-after IsAllowed (hash_of value) _ (λ hash. tt))
+      (IfOk-cond IsAllowed (is_word name (codes "shrink")) _ _
+      (IfOk-after IsAllowed (switch_of value) _ (λ shrink. tt))
+      (IfOk-cond IsAllowed (is_word name (codes "work")) _ (Err UnknownWord)
+      (IfOk-after IsAllowed (auto_of value) _ (λ auto. tt)) tt)))))))))
 
 -- by cases of the setting
 AreAllowed-with : (options : Options) (setting : Setting) → AreAllowed options → IsAllowed setting
@@ -91,6 +95,10 @@ AreAllowed-with options (Seed number) are is =
 AreAllowed-with options (Rewalks number) are is =
     record { nodes = are.nodes; hint = are.hint; min = are.min; max = are.max; pages = are.pages; seed = are.seed; rewalks = is }
 AreAllowed-with options (Hashing hash) are is =
+    record { nodes = are.nodes; hint = are.hint; min = are.min; max = are.max; pages = are.pages; seed = are.seed; rewalks = are.rewalks }
+AreAllowed-with options (Shrink shrink) are is =
+    record { nodes = are.nodes; hint = are.hint; min = are.min; max = are.max; pages = are.pages; seed = are.seed; rewalks = are.rewalks }
+AreAllowed-with options (Auto auto) are is =
     record { nodes = are.nodes; hint = are.hint; min = are.min; max = are.max; pages = are.pages; seed = are.seed; rewalks = are.rewalks }
 
 -- by induction over the words, two at a time
@@ -119,7 +127,7 @@ module _ (kind : Kind) (options : Options) (are : AreAllowed options) where
   where_agreed true is =
       let parts = and_parts (sizes_agree config) (has_room config) is in
       let room = leb-true (first_size config) (page_words * config.pages) parts.1 in
-      record { settled = IsSettled-configured kind options are parts.0 room; callers = refl; shrink = refl }
+      record { settled = IsSettled-configured kind options are parts.0 room; callers = refl }
   where_agreed false is = tt
 
   config_sayable : IfOk (config_of kind options) IsSayableConfig
@@ -128,10 +136,9 @@ module _ (kind : Kind) (options : Options) (are : AreAllowed options) where
       IfOk-cond IsSayableConfig options.twice (Err OptionsDisagree) _ tt
       (where_agreed (sizes_agree config && has_room config) refl)
 
--- what a table line says: a config that can be said, and that workers run `work` by themselves
-record IsSayableTable (table : TableLine) : Type 0 where
-  config : IsSayableConfig table.config
-  auto : table.auto ≡ true
+-- what a table line says: a config that can be said
+abbrev IsSayableTable : TableLine → Type 0
+IsSayableTable table = IsSayableConfig table.config
 
 table_sayable : (words : List (List ℕ)) → IfOk (table_of words) IsSayableTable
 unfolding table_of
@@ -144,8 +151,7 @@ table_sayable (table ∷ kind ∷ words) =
     IfOk-then AreAllowed IsSayableTable (options_from no_options words) _
     (options_allowed no_options words no_options_allowed) (λ options are.
     IfOk-then IsSayableConfig IsSayableTable (config_of kind options) _ (config_sayable kind options are)
-    (λ config is.
-    record { config = is; auto = refl }))))
+    (λ config is. is))))
     tt
 
 -- ---- the whole script
@@ -153,7 +159,6 @@ table_sayable (table ∷ kind ∷ words) =
 -- of what is said, what the table line decides
 record IsSayableAbove (said : Said) : Type 0 where
   config : IsSayableConfig said.config
-  auto : said.auto ≡ true
   schedule : said.schedule ≡ []
 
 -- By induction over the lines up to the table line.
@@ -166,7 +171,7 @@ said_sayable number (line ∷ lines) =
     (IfOk-then IsSayableTable IsSayableAbove (at_line number (table_of words)) _
     (IfOk-at_line IsSayableTable number (table_of words) (table_sayable words)) (λ table is.
     IfOk-after IsSayableAbove (commands_from (number + 1) table lines) _ (λ commands.
-    record { config = is.config; auto = is.auto; schedule = refl }))))
+    record { config = is; schedule = refl }))))
 
 -- each command is one of a worker, and its call has a verb
 command_sayable : (table : TableLine) (words : List (List ℕ))
@@ -184,6 +189,7 @@ command_sayable table =
       release = λ port owner is_port is_owner. (port_is port is_port, owner_is owner is_owner);
       rebind = λ port owner new is_port is_owner is_new single.
           (port_is port is_port, owner_is owner is_owner, owner_is new is_new, single);
+      work = tt;
       count = tt;
     })
 
@@ -197,7 +203,6 @@ says_sayable bytes said read =
     let are = reading_holds IsSayableCommand command_sayable bytes said read in
     record {
       config = above.config;
-      auto = above.auto;
       commands = All-from_recursion (IsSayableCommand said.config) said.commands are.each;
       few = (let few = are.few in omega arith);
       schedule = above.schedule;
@@ -214,7 +219,7 @@ is_sound_call-sayable config (ListAll port) sayable = refl
 is_sound_call-sayable config (Release port owner) sayable = refl
 is_sound_call-sayable config (Rebind port owner new) sayable = ap is_single sayable.3
 is_sound_call-sayable config (Walk from limit) sayable = absurd sayable
-is_sound_call-sayable config Work sayable = absurd sayable
+is_sound_call-sayable config Work sayable = refl
 is_sound_call-sayable config Tidy sayable = absurd sayable
 is_sound_call-sayable config Count sayable = refl
 
@@ -259,6 +264,7 @@ commands_asked bytes said read =
       list = λ port is_port. tt;
       release = λ port owner is_port is_owner. tt;
       rebind = λ port owner new is_port is_owner is_new single. tt;
+      work = tt;
       count = tt;
     }))
     bytes said read).each

@@ -2,35 +2,39 @@
 -- causes of which one has to come first, and scripts. What is wanted was worked out by hand from the rules of scripts.
 -- The tests of `read` have what would take too long here: too many lines, too many bytes, and what competes with these.
 -- They are examples to read beside the definitions; nothing cites them.
-use Rattle.std.proofs.Common.{◌≡◌, ℕ, ◌+◌, true, false, Ok, Err, List, [], ◌∷◌, ◌++◌, map, replicate, codes, refl}
+use Rattle.std.proofs.Common.{◌≡◌, ℕ, ◌+◌, Bool, true, false, Ok, Err, List, [], ◌∷◌, ◌++◌, map, replicate, codes, refl}
 use Rattle.rht_words.specs.Settled.{plain_config}
 use Rattle.rht_words.specs.Sizes.{powers, rounded_up}
 use Rattle.rht_words.specs.declared.config.Kind.TheVariants.{Listed}
 use Rattle.rht_words.specs.declared.config.Config.{Config}
 use Rattle.rht_words.specs.declared.config.Hash.TheVariants.{Low}
 use Rattle.rht_model.specs.declared.history.Call.{Call}
-use Rattle.rht_model.specs.declared.history.Call.TheVariants.{Bind, Find, All, Release, Rebind, Count}
+use Rattle.rht_model.specs.declared.history.Call.TheVariants.{Bind, Find, All, Release, Rebind, Work, Count}
 use Rattle.rht_script.specs.declared.cause.Cause.{Cause}
 use Rattle.rht_script.specs.declared.cause.Cause.TheVariants.{NoTableLine, UnknownWord, BadNumber, OutOfRange, LineTooLong, WrongKind, OptionsDisagree}
 use Rattle.rht_script.specs.Spelling.{lines_of, words_of, number_of}
 use Rattle.rht_script.specs.TableLines.{setting_of, configured, config_of, table_of}
-use Rattle.rht_script.specs.CommandLines.{bind_of, find_of, all_of, release_of, rebind_of, count_of, call_of, command_of}
+use Rattle.rht_script.specs.CommandLines.{bind_of, find_of, all_of, release_of, rebind_of, bare_of, call_of, command_of}
 use Rattle.rht_script.specs.Grammar.{most_in_line, fault_at, reading_of}
 
 -- the definitions that reading a text computes
 whole_reading : Unit {0}
 unfolding reading_of lines_of words_of number_of table_of setting_of config_of configured rounded_up powers
-    command_of call_of bind_of find_of all_of release_of rebind_of count_of
+    command_of call_of bind_of find_of all_of release_of rebind_of bare_of
 whole_reading = tt
 
 -- each of these texts has its first fault at this line, of this cause
 abbrev HaveFault : ℕ → Cause → List (List ℕ) → Type 0
 HaveFault line cause texts = map reading_of texts ≡ map (λ text. Err (fault_at line cause)) texts
 
--- the text says this config and these commands
+-- the text says this config, whether workers run `work` by themselves, and these commands
+abbrev SaysOf : Bool → List ℕ → Config → List (ℕ × Call) → Type 0
+SaysOf auto text config commands =
+    reading_of text ≡ Ok (record { config = config; auto = auto; commands = commands; schedule = [] })
+
+-- they do, where nothing is said of that
 abbrev Says : List ℕ → Config → List (ℕ × Call) → Type 0
-Says text config commands =
-    reading_of text ≡ Ok (record { config = config; auto = true; commands = commands; schedule = [] })
+Says = SaysOf true
 
 -- the lines below a plain table line
 abbrev below_table : List (List ℕ) → List (List ℕ)
@@ -58,7 +62,9 @@ ends_without_table_line = refl
 -- a word of the table line can't stand there, or is missing
 unknown_words_of_tables : HaveFault 1 UnknownWord (
     codes "table\n" ∷ codes "table double\n" ∷ codes "table single single\n"
-    ∷ codes "table single listed\n" ∷ codes "table single workers 2\n" ∷ codes "table single work auto\n"
+    ∷ codes "table single listed\n" ∷ codes "table single workers 2\n" ∷ codes "table single work on\n"
+    ∷ codes "table single work\n" ∷ codes "table single shrink auto\n" ∷ codes "table single shrink 1\n"
+    ∷ codes "table single shrinks on\n" ∷ codes "table single Work auto\n"
     ∷ codes "table single hint\n" ∷ codes "table listed nodes\n" ∷ codes "table single max\n"
     ∷ codes "table single hint 96 97\n" ∷ codes "table single hash 1\n" ∷ [])
 unfolding whole_reading
@@ -70,7 +76,7 @@ unknown_words_of_commands : HaveFault 2 UnknownWord (below_table (
     ∷ codes "1 find\n" ∷ codes "1 release 80\n" ∷ codes "1 bind 80 100 7\n"
     ∷ codes "1 find 80 100\n" ∷ codes "1 find 80 # who?\n" ∷ codes "1 release 80 100 7\n"
     ∷ codes "1 all\n" ∷ codes "1 all 80 100\n" ∷ codes "1 rebind 80\n" ∷ codes "1 rebind 80 1\n"
-    ∷ codes "1 rebind 80 1 2 3\n" ∷ codes "1 count 80\n" ∷ codes "1 work\n" ∷ codes "1 walk\n"
+    ∷ codes "1 rebind 80 1 2 3\n" ∷ codes "1 count 80\n" ∷ codes "1 work 1\n" ∷ codes "1 work auto\n" ∷ codes "1 walk\n"
     ∷ codes "step 1 5\n" ∷ codes "skip x\n" ∷ codes "finish\n" ∷ []))
 unfolding whole_reading
 unknown_words_of_commands = refl
@@ -90,7 +96,7 @@ bad_numbers_of_commands : HaveFault 2 BadNumber (below_table (
     ∷ codes "1 bind x 100\n" ∷ codes "1 bind 80 x\n" ∷ codes "1 release x 100\n"
     ∷ codes "1 release 80 x\n" ∷ codes "1 find 000000000000000000080\n" ∷ codes "1 all x\n"
     ∷ codes "1 rebind x 1 2\n" ∷ codes "1 rebind 80 x 2\n" ∷ codes "1 rebind 80 1 x\n"
-    ∷ codes "x count\n" ∷ []))
+    ∷ codes "x count\n" ∷ codes "x work\n" ∷ codes "work\n" ∷ []))
 unfolding whole_reading
 bad_numbers_of_commands = refl
 
@@ -112,7 +118,7 @@ numbers_out_of_range_of_commands : HaveFault 2 OutOfRange (below_table (
     ∷ codes "1 release 4294967296 100\n" ∷ codes "1 release 80 4294967296\n"
     ∷ codes "1 find 18446744073709551696\n" ∷ codes "1 all 4294967296\n"
     ∷ codes "1 rebind 4294967296 1 2\n" ∷ codes "1 rebind 80 4294967296 2\n"
-    ∷ codes "1 rebind 80 1 4294967296\n" ∷ []))
+    ∷ codes "1 rebind 80 1 4294967296\n" ∷ codes "2 work\n" ∷ []))
 unfolding whole_reading
 numbers_out_of_range_of_commands = refl
 
@@ -131,7 +137,8 @@ options_twice : HaveFault 1 OptionsDisagree (
     codes "table single hint 96 hint 96\n" ∷ codes "table single min 4 seed 1 min 4\n"
     ∷ codes "table single pages 4 pages 4\n" ∷ codes "table single seed 1 seed 2 seed 3\n"
     ∷ codes "table single rewalks 8 rewalks 8\n" ∷ codes "table single hash low hash low\n"
-    ∷ codes "table listed nodes 16 nodes 16\n" ∷ codes "table single max 4 max 4\n" ∷ [])
+    ∷ codes "table listed nodes 16 nodes 16\n" ∷ codes "table single max 4 max 4\n"
+    ∷ codes "table single shrink off shrink off\n" ∷ codes "table single work auto shrink on work auto\n" ∷ [])
 unfolding whole_reading
 options_twice = refl
 
@@ -311,9 +318,9 @@ unknown_word_before_too_long = refl
 
 -- a table line without options, and a command of each verb
 verbs : Says (codes
-    "table single\n1 bind 80 100\n1 find 80\n1 all 80\n1 rebind 80 100 7\n1 count\n1 release 80 7")
+    "table single\n1 bind 80 100\n1 find 80\n1 all 80\n1 rebind 80 100 7\n1 work\n1 count\n1 release 80 7")
     plain_config
-    ((1, Bind 80 100 false) ∷ (1, Find 80) ∷ (1, All 80) ∷ (1, Rebind 80 100 7) ∷ (1, Count)
+    ((1, Bind 80 100 false) ∷ (1, Find 80) ∷ (1, All 80) ∷ (1, Rebind 80 100 7) ∷ (1, Work) ∷ (1, Count)
     ∷ (1, Release 80 7) ∷ [])
 unfolding whole_reading
 verbs = refl
@@ -342,6 +349,17 @@ options : Says (codes "table single hash low rewalks 0 seed 7 pages 4 min 5 hint
     (record plain_config { hash = Low; rewalks = 0; seed = 7; pages = 4; min = 8; hint = 192 }) []
 unfolding whole_reading
 options = refl
+
+-- a table that shrinks, in which only commands run the work
+shrinking : SaysOf false (codes "table single shrink on work manual\n1 work\n") (record plain_config { shrink = true })
+    ((1, Work) ∷ [])
+unfolding whole_reading
+shrinking = refl
+
+-- both options, as they are where they aren't named
+named_defaults : Says (codes "table listed work auto shrink off\n") (record plain_config { kind = Listed }) []
+unfolding whole_reading
+named_defaults = refl
 
 -- blank lines, comments and blanks, and numbers with leading zeros
 blanks : Says (codes "\n# a\n \t\r\n\ttable  single \r\n#b\n\n\t01 find\t00000000004294967295 \r\n")

@@ -2,10 +2,10 @@
 use Rattle.std.specs.Prelude.{IfSome}
 use Rattle.rht_words.specs.Limits.{IsWithinLimits, node_limits, hint_limits, min_limits, max_limits, page_limits, seed_limits, rewalk_limits}
 use Rattle.rht_script.specs.declared.options.Setting.{Setting}
-use Rattle.rht_script.specs.declared.options.Setting.TheVariants.{Nodes, Hint, Min, Max, Pages, Seed, Rewalks, Hashing}
+use Rattle.rht_script.specs.declared.options.Setting.TheVariants.{Nodes, Hint, Min, Max, Pages, Seed, Rewalks, Hashing, Shrink, Auto}
 use Rattle.rht_script.specs.declared.options.Options.{Options}
 
--- the setting's number is within its limits
+-- the setting's number, where it has one, is within its limits
 abbrev pub IsAllowed : Setting → Type 0
 IsAllowed (Nodes number) = IsWithinLimits node_limits number
 IsAllowed (Hint number) = IsWithinLimits hint_limits number
@@ -15,6 +15,8 @@ IsAllowed (Pages number) = IsWithinLimits page_limits number
 IsAllowed (Seed number) = IsWithinLimits seed_limits number
 IsAllowed (Rewalks number) = IsWithinLimits rewalk_limits number
 IsAllowed (Hashing hash) = Unit {0}
+IsAllowed (Shrink shrink) = Unit {0}
+IsAllowed (Auto auto) = Unit {0}
 
 -- Each number that is set is within its limits.
 pub record AreAllowed (options : Options) : Type 0 where

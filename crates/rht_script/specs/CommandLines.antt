@@ -5,7 +5,7 @@ use Rattle.rht_words.specs.declared.config.Kind.{Kind}
 use Rattle.rht_words.specs.declared.config.Kind.TheVariants.{Single, Listed}
 use Rattle.rht_words.specs.declared.limits.Limits.{Limits}
 use Rattle.rht_model.specs.declared.history.Call.{Call}
-use Rattle.rht_model.specs.declared.history.Call.TheVariants.{Bind, Find, All, Release, Rebind, Count}
+use Rattle.rht_model.specs.declared.history.Call.TheVariants.{Bind, Find, All, Release, Rebind, Work, Count}
 use Rattle.rht_script.specs.declared.script.TableLine.{TableLine}
 use Rattle.rht_script.specs.declared.cause.Cause.{Cause}
 use Rattle.rht_script.specs.declared.cause.Cause.TheVariants.{UnknownWord, WrongKind}
@@ -71,10 +71,11 @@ rebind_of kind words = do
   end ← end_of new.1
   of_single kind (Rebind port.0 owner.0 new.0)
 
-unfoldable pub count_of : List (List ℕ) → Result Call Cause
-count_of words = do
+-- a call that its verb says alone: no word stands behind it
+unfoldable pub bare_of : Call → List (List ℕ) → Result Call Cause
+bare_of call words = do
   end ← end_of words
-  Ok Count
+  Ok call
 
 -- what a verb asks of a table of this kind with the words behind it
 unfoldable pub call_of : Kind → List (List ℕ) → Result Call Cause
@@ -85,7 +86,8 @@ call_of kind (verb ∷ words) =
     else if is_word verb (codes "all") then all_of words
     else if is_word verb (codes "release") then release_of words
     else if is_word verb (codes "rebind") then rebind_of kind words
-    else if is_word verb (codes "count") then count_of words
+    else if is_word verb (codes "work") then bare_of Work words
+    else if is_word verb (codes "count") then bare_of Count words
     else Err UnknownWord
 
 -- the word begins a line of a schedule, of which there are none yet

@@ -1,6 +1,6 @@
 -- What today's words can say, and how that is spelled plainly: one table line, one line a command, numbers in decimal,
 -- one space between two words, and a line feed behind each line.
-use Rattle.std.specs.Prelude.{◌≡◌, ℕ, ◌<◌, ◌==◌, true, false, if◌then◌else◌, All, List, [], ◌∷◌, ◌++◌, length, codes, decimal}
+use Rattle.std.specs.Prelude.{◌≡◌, ℕ, ◌<◌, ◌==◌, Bool, false, if◌then◌else◌, All, List, [], ◌∷◌, ◌++◌, length, codes, decimal}
 use Rattle.std.specs.List.{flat_map, join_with_byte}
 use Rattle.rht_words.specs.declared.config.Config.{Config}
 use Rattle.rht_words.specs.declared.config.Kind.{Kind}
@@ -20,10 +20,9 @@ use Rattle.rht_script.specs.CommandLines.{port_limits, owner_limits, worker_limi
 pub record IsSayableConfig (config : Config) : Type 0 where
   pub settled : IsSettled config
   pub callers : config.callers ≡ plain_config.callers
-  pub shrink : config.shrink ≡ plain_config.shrink
 
 -- There is a verb for the call in a table of this kind: a bind that is tried until it ends, a look-up, a listing, a release
--- and a rebind, each of any port and owners, and a reading of the count. A rebind is in a table of one owner each.
+-- and a rebind, each of any port and owners, the work, and a reading of the count. A rebind is in a table of one owner each.
 abbrev pub IsSayableCall : Kind → Call → Type 0
 IsSayableCall kind (Bind port owner once) =
     IsWithinLimits port_limits port × IsWithinLimits owner_limits owner × (once ≡ false)
@@ -34,7 +33,7 @@ IsSayableCall kind (Rebind port owner new) =
     IsWithinLimits port_limits port × IsWithinLimits owner_limits owner × IsWithinLimits owner_limits new
     × (kind ≡ Single)
 IsSayableCall kind (Walk from limit) = ⊥
-IsSayableCall kind Work = ⊥
+IsSayableCall kind Work = Unit {0}
 IsSayableCall kind Tidy = ⊥
 IsSayableCall kind Count = Unit {0}
 
@@ -43,10 +42,10 @@ abbrev pub IsSayableCommand : Config → ℕ × Call → Type 0
 IsSayableCommand config command =
     IsWithinLimits (worker_limits config) command.0 × IsSayableCall config.kind command.1
 
--- today's words can say this: a config and commands that they can say, one line each, and nothing else
+-- today's words can say this: a config and commands that they can say, one line each, whether workers run `work` by themselves,
+-- and nothing else
 pub record IsSayable (said : Said) : Type 0 where
   pub config : IsSayableConfig said.config
-  pub auto : said.auto ≡ true
   pub commands : All (IsSayableCommand said.config) said.commands
   pub few : length said.commands < most_lines
   pub schedule : said.schedule ≡ []
@@ -67,10 +66,19 @@ abbrev pub hash_word : Hash → List ℕ
 hash_word Mix = codes "mix"
 hash_word Low = codes "low"
 
--- the words of the table line of a config: every option
-abbrev pub table_words : Config → List (List ℕ)
-table_words config =
+-- the word for whether something is on
+abbrev pub switch_word : Bool → List ℕ
+switch_word on = if on then codes "on" else codes "off"
+
+-- the word for whether a worker runs `work` by itself
+abbrev pub auto_word : Bool → List ℕ
+auto_word auto = if auto then codes "auto" else codes "manual"
+
+-- the words of the table line of a config, and of whether workers run `work` by themselves: every option
+abbrev pub table_words : Config → Bool → List (List ℕ)
+table_words config auto =
     codes "table" ∷ kind_word config.kind ∷ codes "hash" ∷ hash_word config.hash
+    ∷ codes "shrink" ∷ switch_word config.shrink ∷ codes "work" ∷ auto_word auto
     ∷ codes "nodes" ∷ decimal config.nodes ∷ codes "min" ∷ decimal config.min
     ∷ codes "pages" ∷ decimal config.pages ∷ codes "seed" ∷ decimal config.seed
     ∷ codes "rewalks" ∷ decimal config.rewalks
@@ -85,7 +93,7 @@ call_words (Release port owner) = codes "release" ∷ decimal port ∷ decimal o
 call_words (Rebind port owner new) =
     codes "rebind" ∷ decimal port ∷ decimal owner ∷ decimal new ∷ []
 call_words (Walk from limit) = []
-call_words Work = []
+call_words Work = codes "work" ∷ []
 call_words Tidy = []
 call_words Count = codes "count" ∷ []
 
@@ -100,5 +108,5 @@ plain_line words = join_with_byte 32 words ++ codes "\n"
 -- a script that says this
 unfoldable pub plain_script : Said → List ℕ
 plain_script said =
-    plain_line (table_words said.config) ++ flat_map (λ command. plain_line (command_words command))
+    plain_line (table_words said.config said.auto) ++ flat_map (λ command. plain_line (command_words command))
     said.commands

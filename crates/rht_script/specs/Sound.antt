@@ -31,7 +31,8 @@ is_sound_call config _ = true
 abbrev pub is_sound_command : Config → ℕ × Call → Bool
 is_sound_command config command = is_within (worker_limits config) command.0 && is_sound_call config command.1
 
--- a command can ask for the call: for any that is about bindings, where a bind is tried until it ends, and for the count
+-- a command can ask for the call: for any that is about bindings, where a bind is tried until it ends, for the work, and for the
+-- count
 abbrev pub IsCommandCall : Call → Type 0
 IsCommandCall (Bind port owner once) = once ≡ false
 IsCommandCall (Find port) = Unit {0}
@@ -39,7 +40,7 @@ IsCommandCall (All port) = Unit {0}
 IsCommandCall (Release port owner) = Unit {0}
 IsCommandCall (Rebind port owner new) = Unit {0}
 IsCommandCall (Walk from limit) = ⊥
-IsCommandCall Work = ⊥
+IsCommandCall Work = Unit {0}
 IsCommandCall Tidy = ⊥
 IsCommandCall Count = Unit {0}
 

@@ -14,7 +14,7 @@ use Rattle.rht_script.specs.declared.script.TableLine.{TableLine}
 use Rattle.rht_script.specs.declared.cause.Cause.{Cause}
 use Rattle.rht_script.specs.declared.cause.Cause.TheVariants.{NoTableLine, UnknownWord, OptionsDisagree}
 use Rattle.rht_script.specs.declared.options.Setting.{Setting}
-use Rattle.rht_script.specs.declared.options.Setting.TheVariants.{Nodes, Hint, Min, Max, Pages, Seed, Rewalks, Hashing}
+use Rattle.rht_script.specs.declared.options.Setting.TheVariants.{Nodes, Hint, Min, Max, Pages, Seed, Rewalks, Hashing, Shrink, Auto}
 use Rattle.rht_script.specs.declared.options.Options.{Options}
 use Rattle.rht_script.specs.Spelling.{◌>>=◌, is_word, number_of}
 
@@ -38,6 +38,20 @@ hash_of value =
     else if is_word value (codes "low") then Ok Low
     else Err UnknownWord
 
+-- whether something is on
+abbrev pub switch_of : List ℕ → Result Bool Cause
+switch_of value =
+    if is_word value (codes "on") then Ok true
+    else if is_word value (codes "off") then Ok false
+    else Err UnknownWord
+
+-- whether a worker runs `work` by itself
+abbrev pub auto_of : List ℕ → Result Bool Cause
+auto_of value =
+    if is_word value (codes "auto") then Ok true
+    else if is_word value (codes "manual") then Ok false
+    else Err UnknownWord
+
 -- what an option of this name is set to by its value
 unfoldable pub setting_of : List ℕ → List ℕ → Result Setting Cause
 setting_of name value =
@@ -49,6 +63,8 @@ setting_of name value =
     else if is_word name (codes "seed") then numbered Seed seed_limits value
     else if is_word name (codes "rewalks") then numbered Rewalks rewalk_limits value
     else if is_word name (codes "hash") then (hash_of value >>= (λ hash. Ok (Hashing hash)))
+    else if is_word name (codes "shrink") then (switch_of value >>= (λ shrink. Ok (Shrink shrink)))
+    else if is_word name (codes "work") then (auto_of value >>= (λ auto. Ok (Auto auto)))
     else Err UnknownWord
 
 -- nothing is set
@@ -62,6 +78,8 @@ no_options = record {
   seed = None;
   rewalks = None;
   hash = None;
+  shrink = None;
+  auto = None;
   twice = false;
 }
 
@@ -83,6 +101,10 @@ with_setting options (Rewalks number) =
     record options { rewalks = Some number; twice = options.twice || is_some options.rewalks }
 with_setting options (Hashing hash) =
     record options { hash = Some hash; twice = options.twice || is_some options.hash }
+with_setting options (Shrink shrink) =
+    record options { shrink = Some shrink; twice = options.twice || is_some options.shrink }
+with_setting options (Auto auto) =
+    record options { auto = Some auto; twice = options.twice || is_some options.auto }
 
 -- the options of these words, which are names each with its value
 abbrev pub options_from : Options → List (List ℕ) → Result Options Cause
@@ -108,6 +130,7 @@ configured kind options = record plain_config {
   seed = unwrap_or options.seed plain_config.seed;
   rewalks = unwrap_or options.rewalks plain_config.rewalks;
   hash = unwrap_or options.hash plain_config.hash;
+  shrink = unwrap_or options.shrink plain_config.shrink;
 }
 
 -- the least size isn't above the greatest, where there is one
@@ -126,12 +149,12 @@ config_of kind options =
     then Ok (configured kind options)
     else Err OptionsDisagree
 
--- what the words of a table line behind its kind say; no word says yet that a worker doesn't run `work` by itself
+-- what the words of a table line behind its kind say; a worker runs `work` by itself where they don't say otherwise
 abbrev pub table_with : Kind → List (List ℕ) → Result TableLine Cause
 table_with kind words = do
   options ← options_from no_options words
   config ← config_of kind options
-  Ok (record { config = config; auto = true })
+  Ok (record { config = config; auto = unwrap_or options.auto true })
 
 -- what the words of a table line behind `table` say: the kind, and the options
 abbrev pub table_below : List (List ℕ) → Result TableLine Cause

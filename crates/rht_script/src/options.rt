@@ -21,6 +21,8 @@ pub(crate) enum Setting {
     Seed(u32),
     Rewalks(u32),
     Hashing(Hash),
+    Shrink(bool),
+    Auto(bool),
 }
 
 /// What is set so far, and whether an option was set twice.
@@ -34,6 +36,8 @@ pub(crate) struct Options {
     pub(crate) seed: Option<u32>,
     pub(crate) rewalks: Option<u32>,
     pub(crate) hash: Option<Hash>,
+    pub(crate) shrink: Option<bool>,
+    pub(crate) auto: Option<bool>,
     pub(crate) twice: bool,
 }
 
@@ -52,6 +56,8 @@ impl Options {
             seed: None,
             rewalks: None,
             hash: None,
+            shrink: None,
+            auto: None,
             twice: false,
         }
     }
@@ -104,6 +110,16 @@ impl Options {
                 twice: self.twice || self.hash.is_some(),
                 ..self
             },
+            Setting::Shrink(shrink) => Options {
+                shrink: Some(shrink),
+                twice: self.twice || self.shrink.is_some(),
+                ..self
+            },
+            Setting::Auto(auto) => Options {
+                auto: Some(auto),
+                twice: self.twice || self.auto.is_some(),
+                ..self
+            },
         }
     }
 
@@ -140,6 +156,7 @@ impl Options {
             seed: self.seed.unwrap_or(plain.seed),
             rewalks: self.rewalks.unwrap_or(plain.rewalks),
             hash: self.hash.unwrap_or(plain.hash),
+            shrink: self.shrink.unwrap_or(plain.shrink),
             ..plain
         }
     }

@@ -6,8 +6,8 @@
 ghost use Rattle.std.specs.Prelude.{◌≡◌, ◌+◌, ◌<◌, ◌≤◌, ◌==◌, Ok, Err, IfOk, IfErr, MatchResult, MatchOption, count_by, length, take, fold};
 ghost use Rattle.std.specs.List.{AllByRecursion};
 ghost use Rattle.rht_script.specs.Grammar.{fault_at, commands_from, said_with, said_from};
-ghost use Rattle.rht_script.specs.TableLines.{no_options, table_of, kind_of, hash_of, setting_of, options_from};
-ghost use Rattle.rht_script.specs.CommandLines.{command_of, call_of, bind_of, find_of, all_of, release_of, rebind_of, count_of, is_schedule};
+ghost use Rattle.rht_script.specs.TableLines.{no_options, table_of, kind_of, hash_of, switch_of, auto_of, setting_of, options_from};
+ghost use Rattle.rht_script.specs.CommandLines.{command_of, call_of, bind_of, find_of, all_of, release_of, rebind_of, bare_of, is_schedule};
 ghost use Rattle.rht_script.specs.Reading.{IsScript, IsReason, IsReasonFor};
 ghost use Rattle.rht_script.specs.Allowed.{IsAllowed, AreAllowed};
 ghost use Rattle.rht_script.specs.Sound.{IsSoundScript, IsCommandCall};
@@ -24,8 +24,8 @@ use crate::options::{Options, Setting};
 use crate::script::{ReadError, Script, ScriptFault, TableLine, worker_limits};
 use cursors::{Lines, Words};
 use names::{
-    ALL, BIND, COUNT, FIND, FINISH, HASH, HINT, LISTED, LOW, MAX, MIN, MIX, NODES, PAGES, REBIND,
-    RELEASE, REWALKS, SEED, SINGLE, SKIP, STEP, TABLE,
+    ALL, AUTO, BIND, COUNT, FIND, FINISH, HASH, HINT, LISTED, LOW, MANUAL, MAX, MIN, MIX, NODES,
+    OFF, ON, PAGES, REBIND, RELEASE, REWALKS, SEED, SHRINK, SINGLE, SKIP, STEP, TABLE, WORK,
 };
 use numbers::{OWNER, PORT, number_within};
 use rht_model::Call;
@@ -123,9 +123,10 @@ fn table(mut words: Words) -> Result<TableLine, Cause>
         return Err(Cause::NoTableLine);
     }
     let kind = kind(words.next().ok_or(Cause::UnknownWord)?)?;
+    let options = options(words)?;
     Ok(TableLine {
-        config: options(words)?.config(kind)?,
-        auto: true,
+        config: options.config(kind)?,
+        auto: options.auto.unwrap_or(true),
     })
 }
 
@@ -179,6 +180,10 @@ fn setting(name: &[u8], value: &[u8]) -> Result<Setting, Cause>
         Ok(Setting::Rewalks(number_within(limits::REWALKS, value)?))
     } else if name == HASH {
         Ok(Setting::Hashing(hash(value)?))
+    } else if name == SHRINK {
+        Ok(Setting::Shrink(switch(value)?))
+    } else if name == WORK {
+        Ok(Setting::Auto(auto(value)?))
     } else {
         Err(Cause::UnknownWord)
     }
@@ -192,6 +197,32 @@ fn hash(value: &[u8]) -> Result<Hash, Cause>
         Ok(Hash::Mix)
     } else if value == LOW {
         Ok(Hash::Low)
+    } else {
+        Err(Cause::UnknownWord)
+    }
+}
+
+/// Whether something is on.
+fn switch(value: &[u8]) -> Result<bool, Cause>
+    ensures { result ≡ switch_of value.now }
+{
+    if value == ON {
+        Ok(true)
+    } else if value == OFF {
+        Ok(false)
+    } else {
+        Err(Cause::UnknownWord)
+    }
+}
+
+/// Whether a worker runs `work` by itself.
+fn auto(value: &[u8]) -> Result<bool, Cause>
+    ensures { result ≡ auto_of value.now }
+{
+    if value == AUTO {
+        Ok(true)
+    } else if value == MANUAL {
+        Ok(false)
     } else {
         Err(Cause::UnknownWord)
     }
@@ -233,8 +264,10 @@ fn call(kind: Kind, mut words: Words) -> Result<Call, Cause>
         release(words)
     } else if verb == REBIND {
         rebind(kind, words)
+    } else if verb == WORK {
+        bare(Call::Work, words)
     } else if verb == COUNT {
-        count(words)
+        bare(Call::Count, words)
     } else {
         Err(Cause::UnknownWord)
     }
@@ -301,11 +334,11 @@ fn rebind(kind: Kind, mut words: Words) -> Result<Call, Cause>
     }
 }
 
-/// A reading of the count, behind which no word stands.
-#[tactic(auto, unfolding(crate::specs::CommandLines::count_of))]
-fn count(mut words: Words) -> Result<Call, Cause>
-    ensures { result ≡ count_of words.entry }
+/// A call that its verb says alone: no word stands behind it.
+#[tactic(auto, unfolding(crate::specs::CommandLines::bare_of))]
+fn bare(call: Call, mut words: Words) -> Result<Call, Cause>
+    ensures { result ≡ bare_of call words.entry }
 {
     words.end()?;
-    Ok(Call::Count)
+    Ok(call)
 }

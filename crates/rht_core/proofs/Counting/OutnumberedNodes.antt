@@ -130,7 +130,7 @@ and_none false = refl
 took-cons : (d : Finished) (done : List Finished) → count_by took_node (d ∷ done) ≡ one_if (took_node d) + count_by took_node done
 took-cons d done = sum_by-cons (λ (k : Finished). one_if (took_node k)) d done
 
-needs-cons : (d : Finished) (done : List Finished)
+pub needs-cons : (d : Finished) (done : List Finished)
     → count_by needs_node (calls_made (d ∷ done)) ≡ one_if (needs_node d.call) + count_by needs_node (calls_made done)
 needs-cons d done = sum_by-cons (λ k. one_if (needs_node k)) d.call (calls_made done)
 

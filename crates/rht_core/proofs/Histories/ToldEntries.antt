@@ -1,9 +1,12 @@
 -- The entries of callers in a history, and those of calls that have ended: lists alone, with no run.
 use Rattle.std.proofs.Common.{◌≡◌, ◌≢◌, ℕ, ◌<◌, ◌==◌, Bool, true, false, cond, List, [], ◌∷◌, ◌++◌, map, refl, sym, ◌∙◌, ap, subst, inl, inr, arith}
-use Rattle.std.specs.Prelude.{is_some}
+use Rattle.std.specs.Prelude.{is_some, count_by, ◌&&◌}
 use Rattle.std.specs.List.{AllByRecursion}
+use Rattle.std.proofs.lemmas.List.Sums.{sum_by-cons}
 use Rattle.std.proofs.lemmas.Bool.{cases_eq, cases_lt, eq-eqb, ne_eqb, eqb-true}
+use Rattle.rht_words.proofs.Members.{one_if}
 use Rattle.rht_model.specs.declared.history.Call.{Call}
+use Rattle.rht_model.specs.declared.history.Call.TheVariants.{Work}
 use Rattle.rht_model.specs.declared.history.Entry.{Entry}
 use Rattle.rht_model.specs.declared.history.Reply.{Reply}
 use Rattle.rht_model.specs.declared.finished.Finished.{Finished}
@@ -11,13 +14,14 @@ use Rattle.rht_model.specs.Answers.{port_of}
 use Rattle.rht_model.specs.Endings.{Ending, ended_with}
 use Rattle.rht_core.specs.Alone.{entry_done}
 use Rattle.rht_core.specs.Numbered.{Numbered, history_of, NeverFalls, entries_of}
-use Rattle.rht_core.specs.Serving.{Serves}
+use Rattle.rht_core.specs.NodesUsed.{needs_node}
+use Rattle.rht_core.specs.Serving.{asks_for_work, AreBehind, AreForCommand, IsCut, Serves}
 use Rattle.rht_core.specs.Traces.{Past}
 use Rattle.rht_core.specs.RunHistories.{about_bindings}
 use Rattle.rht_core.specs.ToldHistories.{entries_told, entries_by}
 use Rattle.rht_core.proofs.Histories.NumberedEntries.{AllBelow}
 use Rattle.rht_core.proofs.Histories.CallEnds.{AreEnded}
-use Rattle.rht_core.proofs.Counting.OutnumberedNodes.{calls_made}
+use Rattle.rht_core.proofs.Counting.OutnumberedNodes.{calls_made, needs-cons}
 
 -- ---- the entries of one caller
 
@@ -82,39 +86,87 @@ entries_by-ended c calls history ended =
 
 -- ---- calls that serve commands
 
--- they are the commands' calls
-pub calls_made-serves : (calls : List Call) (endings : List Ending) (done : List Finished) → Serves calls endings done
-    → calls_made done ≡ calls
-calls_made-serves [] [] done serves = ap calls_made serves
-calls_made-serves [] (ending ∷ endings) done serves = absurd serves
-calls_made-serves (call ∷ calls) [] done serves = absurd serves
-calls_made-serves (call ∷ calls) (ending ∷ endings) done serves =
-    ap calls_made (serves.whole ∙ ap (λ front. front ++ serves.rest) serves.first_is)
-    ∙ ap (λ rest. call ∷ rest) (calls_made-serves calls endings serves.rest serves.rest_is)
+-- a command's calls come first: its own, those behind it, and then those of the other commands
+command_first : (auto : Bool) (call : Call) (ending : Ending) (Others : List Finished → Type 0) (done : List Finished)
+    → (cut : IsCut (AreForCommand auto call ending) Others done)
+    → done ≡ ended_with call ending ∷ cut.first_is.behind ++ cut.rest
+command_first auto call ending Others done cut = cut.whole ∙ ap (λ front. front ++ cut.rest) cut.first_is.whole
 
--- their entries are those that the commands tell
-pub entries_done-serves : (c : ℕ) (calls : List Call) (endings : List Ending) (done : List Finished) → Serves calls endings done
-    → entries_done c done ≡ entries_told c calls endings
-entries_done-serves c [] [] done serves = ap (entries_done c) serves
-entries_done-serves c [] (ending ∷ endings) done serves = absurd serves
-entries_done-serves c (call ∷ calls) [] done serves = absurd serves
-entries_done-serves c (call ∷ calls) (ending ∷ endings) done serves =
-    ap (entries_done c) (serves.whole ∙ ap (λ front. front ++ serves.rest) serves.first_is)
-    ∙ ap (λ rest. cond (is_some (port_of call)) (entry_done c (ended_with call ending) ∷ rest) rest)
-    (entries_done-serves c calls endings serves.rest serves.rest_is)
+-- what skips each `work` skips all that a worker makes by itself
+behind_skipped : {A : Type 0} (f : List Finished → A)
+    → ((d : Finished) (rest : List Finished) → d.call ≡ Work → f (d ∷ rest) ≡ f rest)
+    → (asked : Bool) (behind rest : List Finished) → AreBehind asked behind → f (behind ++ rest) ≡ f rest
+behind_skipped f skips true [] rest works = absurd works
+behind_skipped f skips true (d ∷ []) rest works = skips d rest works.0
+behind_skipped f skips true (d ∷ next ∷ behind) rest works =
+    skips d (next ∷ behind ++ rest) works.0 ∙ behind_skipped f skips true (next ∷ behind) rest works.2
+behind_skipped f skips false behind rest none = ap (λ front. f (front ++ rest)) none
 
--- and what is so of all their replies is so of the replies to the commands
-pub replies-serves : (P : Reply → Type 0) (calls : List Call) (endings : List Ending) (done : List Finished)
-    → Serves calls endings done → AllByRecursion (λ (d : Finished). P d.reply) done
-    → AllByRecursion (λ (e : Ending). P e.answer.reply) endings
-replies-serves P [] [] done serves all = tt
-replies-serves P [] (ending ∷ endings) done serves all = absurd serves
-replies-serves P (call ∷ calls) [] done serves all = absurd serves
-replies-serves P (call ∷ calls) (ending ∷ endings) done serves all =
-    let is = serves.whole ∙ ap (λ front. front ++ serves.rest) serves.first_is in
-    let each : AllByRecursion (λ (d : Finished). P d.reply) (ended_with call ending ∷ serves.rest) =
-    subst (AllByRecursion (λ (d : Finished). P d.reply)) is all in
-    (each.0, replies-serves P calls endings serves.rest serves.rest_is each.1)
+-- what is so of a list is so of its end
+AllByRecursion-behind : {X : Type 0} (P : X → Type 0) (front rest : List X) → AllByRecursion P (front ++ rest)
+    → AllByRecursion P rest
+AllByRecursion-behind P [] rest all = all
+AllByRecursion-behind P (x ∷ front) rest all = AllByRecursion-behind P front rest all.1
+
+-- no `work` needs a node
+needs-work : (d : Finished) (rest : List Finished) → d.call ≡ Work
+    → count_by needs_node (calls_made (d ∷ rest)) ≡ count_by needs_node (calls_made rest)
+needs-work d rest is =
+    let none : one_if (needs_node d.call) ≡ 0 = ap (λ call. one_if (needs_node call)) is in
+    let needed = needs-cons d rest in
+    omega (arith, none, needed)
+
+-- and none has an entry
+entries_done-work : (c : ℕ) (d : Finished) (rest : List Finished) → d.call ≡ Work → entries_done c (d ∷ rest) ≡ entries_done c rest
+entries_done-work c d rest is =
+    ap (λ call. cond (is_some (port_of call)) (entry_done c d ∷ entries_done c rest) (entries_done c rest)) is
+
+module _ (auto : Bool) where
+  -- so as many need a node as commands do
+  pub needs-serves : (calls : List Call) (endings : List Ending) (done : List Finished) → Serves auto calls endings done
+      → count_by needs_node (calls_made done) ≡ count_by needs_node calls
+  needs-serves [] [] done serves = ap (λ dones. count_by needs_node (calls_made dones)) serves
+  needs-serves [] (ending ∷ endings) done serves = absurd serves
+  needs-serves (call ∷ calls) [] done serves = absurd serves
+  needs-serves (call ∷ calls) (ending ∷ endings) done serves =
+      let behind = serves.first_is.behind in
+      let first = ap (λ dones. count_by needs_node (calls_made dones))
+      (command_first auto call ending (Serves auto calls endings) done serves) in
+      let here = needs-cons (ended_with call ending) (behind ++ serves.rest) in
+      let skips = behind_skipped (λ dones. count_by needs_node (calls_made dones)) needs-work
+      (auto && asks_for_work call ending.answer.reply) behind serves.rest serves.first_is.works in
+      let others = needs-serves calls endings serves.rest serves.rest_is in
+      let commands = sum_by-cons (λ (k : Call). one_if (needs_node k)) call calls in
+      omega (arith, first, here, skips, others, commands)
+
+  -- their entries are those that the commands tell
+  pub entries_done-serves : (c : ℕ) (calls : List Call) (endings : List Ending) (done : List Finished)
+      → Serves auto calls endings done → entries_done c done ≡ entries_told c calls endings
+  entries_done-serves c [] [] done serves = ap (entries_done c) serves
+  entries_done-serves c [] (ending ∷ endings) done serves = absurd serves
+  entries_done-serves c (call ∷ calls) [] done serves = absurd serves
+  entries_done-serves c (call ∷ calls) (ending ∷ endings) done serves =
+      let skips = behind_skipped (entries_done c) (entries_done-work c) (auto && asks_for_work call ending.answer.reply)
+      serves.first_is.behind serves.rest serves.first_is.works in
+      ap (entries_done c) (command_first auto call ending (Serves auto calls endings) done serves)
+      ∙ ap (λ rest. cond (is_some (port_of call)) (entry_done c (ended_with call ending) ∷ rest) rest)
+      (skips ∙ entries_done-serves c calls endings serves.rest serves.rest_is)
+
+  -- and what is so of all their replies is so of the replies to the commands
+  pub replies-serves : (P : Reply → Type 0) (calls : List Call) (endings : List Ending) (done : List Finished)
+      → Serves auto calls endings done → AllByRecursion (λ (d : Finished). P d.reply) done
+      → AllByRecursion (λ (e : Ending). P e.answer.reply) endings
+  replies-serves P [] [] done serves all = tt
+  replies-serves P [] (ending ∷ endings) done serves all = absurd serves
+  replies-serves P (call ∷ calls) [] done serves all = absurd serves
+  replies-serves P (call ∷ calls) (ending ∷ endings) done serves all =
+      let behind = serves.first_is.behind in
+      let each : AllByRecursion (λ (d : Finished). P d.reply) (ended_with call ending ∷ behind ++ serves.rest) =
+      subst (AllByRecursion (λ (d : Finished). P d.reply)) (command_first auto call ending (Serves auto calls endings) done serves) all in (
+        each.0,
+        replies-serves P calls endings serves.rest serves.rest_is
+            (AllByRecursion-behind (λ (d : Finished). P d.reply) behind serves.rest each.1),
+      )
 
 -- no commands have no entries
 pub entries_told-none : (c : ℕ) (calls : List Call) → entries_told c calls [] ≡ []

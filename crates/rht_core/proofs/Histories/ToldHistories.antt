@@ -51,7 +51,7 @@ use Rattle.rht_core.proofs.Histories.CallEnds.{AreEnded}
 use Rattle.rht_core.proofs.Histories.AloneCalls.{none-progress, about-ended, ended-below}
 use Rattle.rht_core.proofs.Histories.AloneLaw.{left-behind}
 use Rattle.rht_core.proofs.Histories.FittingRuns.{fits}
-use Rattle.rht_core.proofs.Histories.ToldEntries.{entries_by-ended, entries_done, entries_done-serves, calls_made-serves, replies-serves, entries_told-none, AllByRecursion-of_map, all_first, AllBelow-callers, split_at}
+use Rattle.rht_core.proofs.Histories.ToldEntries.{entries_by-ended, entries_done, entries_done-serves, needs-serves, replies-serves, entries_told-none, AllByRecursion-of_map, all_first, AllBelow-callers, split_at}
 
 -- ---- calls that were refused
 
@@ -110,10 +110,11 @@ fewer-below has c n low is =
 
 -- ---- a run that serves commands
 
-module _ (M : Type 0) (mix : ℕ → ℕ → ℕ → ℕ) (env : Env) (commands : List (ℕ × Call)) (endings : List (List Ending)) (events : List Event)
+module _ (M : Type 0) (mix : ℕ → ℕ → ℕ → ℕ) (env : Env) (auto : Bool) (commands : List (ℕ × Call)) (endings : List (List Ending))
+    (events : List Event)
     (admitted : IsAdmitted env.config.kind events) (workers : length endings ≡ env.config.callers)
     (each : (c : ℕ) → c < env.config.callers
-    → IsServing {M = M} (run_of mix env events) c (calls_of (c + 1) commands) (endings_by c endings)) where
+    → IsServing {M = M} (run_of mix env events) auto c (calls_of (c + 1) commands) (endings_by c endings)) where
   abbrev w : World M
   w = run_of mix env events
 
@@ -137,7 +138,7 @@ module _ (M : Type 0) (mix : ℕ → ℕ → ℕ → ℕ) (env : Env) (commands 
   -- each caller's finished calls serve its commands, or it has none
   abbrev IsServed : ℕ → Type 0
   IsServed c =
-      Serves (calls_of (c + 1) commands) (endings_by c endings) (w.books c).finished
+      Serves auto (calls_of (c + 1) commands) (endings_by c endings) (w.books c).finished
       ⊎ (((w.books c).finished ≡ []) × (endings_by c endings ≡ []))
 
   serving : (c : ℕ) → IsServed c
@@ -178,7 +179,7 @@ module _ (M : Type 0) (mix : ℕ → ℕ → ℕ → ℕ) (env : Env) (commands 
       ∙ told_by (serving c)
     where
       told_by : IsServed c → entries_done c (w.books c).finished ≡ entries_told c (calls_of (c + 1) commands) (endings_by c endings)
-      told_by (inl serves) = entries_done-serves c (calls_of (c + 1) commands) (endings_by c endings) (w.books c).finished serves
+      told_by (inl serves) = entries_done-serves auto c (calls_of (c + 1) commands) (endings_by c endings) (w.books c).finished serves
       told_by (inr none) =
           ap (entries_done c) none.0 ∙ sym (entries_told-none c (calls_of (c + 1) commands))
           ∙ ap (entries_told c (calls_of (c + 1) commands)) (sym none.1)
@@ -233,7 +234,7 @@ module _ (M : Type 0) (mix : ℕ → ℕ → ℕ → ℕ) (env : Env) (commands 
     where
       most : IsServed c → took c ≤ need c
       most (inl serves) =
-          let made = ap (count_by needs_node) (calls_made-serves (calls_of (c + 1) commands) (endings_by c endings) (w.books c).finished serves) in
+          let made = needs-serves auto (calls_of (c + 1) commands) (endings_by c endings) (w.books c).finished serves in
           let none = took-none c (no_call_there c) in
           let few = took-needs (w.books c).finished in
           omega (arith, made, none, few)
@@ -272,10 +273,10 @@ module _ (M : Type 0) (mix : ℕ → ℕ → ℕ → ℕ) (env : Env) (commands 
         let calls = calls_of (c + 1) commands in
         let done = (w.books c).finished in
         let serves = (each c low).serves in
-        replies-serves (λ reply. reply ≡ NoNode → IsOutnumbered env.config commands) calls (endings_by c endings) done serves
+        replies-serves auto (λ reply. reply ≡ NoNode → IsOutnumbered env.config commands) calls (endings_by c endings) done serves
         (elim (fewer-took done (need_nodes c)) [
           | inl less ↦
-              let made = ap (count_by needs_node) (calls_made-serves calls (endings_by c endings) done serves) in
+              let made = needs-serves auto calls (endings_by c endings) done serves in
               let none = took-none c (no_call_there c) in
               AllByRecursion-weaker (IsForWant env w) (λ (d : Finished). d.reply ≡ NoNode → IsOutnumbered env.config commands)
               (λ d want is. outnumbered c low (omega (arith, less, made, none)) (want is)) done (nodes M mix env events c admitted)
@@ -361,7 +362,7 @@ module _ (M : Type 0) (mix : ℕ → ℕ → ℕ → ℕ) (env : Env) (commands 
         (endings_by c endings)
     full_told c count = elim (cases_lt c env.config.callers) [
       | inl low ↦
-          replies-serves (λ reply. reply ≡ TooBig count → WasFull env.config (history_of history) count) (calls_of (c + 1) commands)
+          replies-serves auto (λ reply. reply ≡ TooBig count → WasFull env.config (history_of history) count) (calls_of (c + 1) commands)
           (endings_by c endings) (w.books c).finished (each c low).serves
           (subst (AllByRecursion (λ (d : Finished). d.reply ≡ TooBig count → WasFull env.config (history_of history) count)) (past_done c)
           (AllByRecursion-of_map (λ (d : Finished). d.reply ≡ TooBig count → WasFull env.config (history_of history) count)
@@ -395,11 +396,11 @@ module _ (M : Type 0) (mix : ℕ → ℕ → ℕ → ℕ) (env : Env) (commands 
       )
 
 pub told : (M : Type 0) (mix : ℕ → ℕ → ℕ → ℕ) → HasToldHistory M mix
-told M mix config commands endings closed served =
+told M mix config auto commands endings closed served =
     let env = served.env in
     let same = served.config_same in
     subst (λ (k : Config). (history : List Entry) × IsTold k commands endings closed history) same
-    (told_of M mix env commands endings served.events
+    (told_of M mix env auto commands endings served.events
     (subst (λ (k : Config). IsAdmitted k.kind served.events) (sym same) served.admitted)
     (served.workers ∙ ap (λ (k : Config). k.callers) (sym same))
     (λ c low. served.each c (subst (λ (k : Config). c < k.callers) same low))

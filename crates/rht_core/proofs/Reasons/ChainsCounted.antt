@@ -4,7 +4,7 @@
 -- a load the bucket is locked, so the nodes met from its word are the bucket's; the walk has as many of them behind it as it has
 -- counted, by what the bind knows; and each of them is what a port is bound to. So the operation counted its node. Any other
 -- operation leaves what was counted.
-use Rattle.std.proofs.Common.{◌≡◌, ◌⊎◌, ℕ, ◌+◌, ◌<◌, ◌≤◌, ◌%◌, ◌==◌, List, [], ◌∷◌, ◌++◌, length, cond, refl, sym, ap, ◌∙◌, subst, inl, inr, arith}
+use Rattle.std.proofs.Common.{◌≡◌, ℕ, ◌+◌, ◌<◌, ◌≤◌, ◌%◌, ◌==◌, List, [], ◌∷◌, ◌++◌, length, cond, refl, sym, ap, ◌∙◌, subst, inl, inr, arith}
 use Rattle.std.specs.Prelude.{Option, Some, None}
 use Rattle.std.specs.List.{AllByRecursion}
 use Rattle.std.proofs.lemmas.List.{length-append, length_push}
@@ -32,11 +32,11 @@ use Rattle.rht_chain.specs.declared.probe.Probed.{Probed}
 use Rattle.rht_nest.specs.Place.{bucket_place}
 use Rattle.rht_core.specs.Traces.{Did}
 use Rattle.rht_core.specs.StandsFor.{bucket_nodes, stands_for, AreBound}
-use Rattle.rht_core.specs.ResizeCauses.{LoadsKey, IsNoKeyLoad, CountsNode, AreCounted, SawLongChain}
+use Rattle.rht_core.specs.ResizeCauses.{IsNoKeyLoad, CountsNode, AreCounted, SawLongChain}
 use Rattle.rht_core.proofs.Theory.Ghosts.{Ghost, index_at}
-use Rattle.rht_core.proofs.Theory.Wholes.{word_index, hash_in, place_at, place_at-index, index-within, Whole}
+use Rattle.rht_core.proofs.Theory.Wholes.{word_index, hash_in, place_at-index, index-within, Whole}
 use Rattle.rht_core.proofs.Theory.Passed.{hash-below}
-use Rattle.rht_core.proofs.Theory.Knowledge.{IsAtHome, IsReaching, BucketMeans, bucket_at}
+use Rattle.rht_core.proofs.Theory.Knowledge.{IsAtHome, IsReaching, BucketMeans}
 use Rattle.rht_core.proofs.Theory.Steps.{mem, by_test}
 use Rattle.rht_core.proofs.Pieces.Probes.{known_walk, known_probe, one_more-counted}
 use Rattle.rht_core.proofs.Meaning.BoundPorts.{still_met, home_place}
@@ -201,9 +201,10 @@ module _ (env : Env) (mix : ℕ → ℕ → ℕ → ℕ) (words_at : ℕ → Lis
         counted = counted-more g words_at place 0 steps has.nodes walk.length node did (omega (arith, many)) one has.counted;
         many = omega (arith, further, counted_so, many, longer);
       } in
-      by_test (λ t. CountedWalk g words_at place
-      (cond {A = LockedWalkModel × Next Seen} t (counted walk, Done (found_at (counted walk) node)) (record (counted walk) { at = walks.ChainLink node }, Go))
-      (steps ++ did ∷ [])) (did.old == walk.key) (λ t. more) (λ f. more)
+      let found : LockedWalkModel × Next Seen = (counted walk, Done (found_at (counted walk) node)) in
+      let other : LockedWalkModel × Next Seen = (record (counted walk) { at = walks.ChainLink node }, Go) in
+      by_test (λ t. CountedWalk g words_at place (cond t found other) (steps ++ did ∷ [])) (did.old == walk.key)
+      (λ t. more) (λ f. more)
   walk-counted place word walk (walks.ChainLink node) steps did within knows is now has =
       followed-counted g words_at place walk node did.old (node_of walk.geometry.nodes did.old) (steps ++ did ∷ [])
       (HasCounted-push g words_at place walk.length steps did (no_key-link g did node is) has)

@@ -1,5 +1,5 @@
 -- Which operations load the key of no node: those that are no loads, and the loads of other places.
-use Rattle.std.proofs.Common.{◌≡◌, ◌≢◌, ℕ, ◌<◌, ◌≤◌, sym, ap, ◌∙◌, arith}
+use Rattle.std.proofs.Common.{◌≡◌, ◌≢◌, ℕ, ◌<◌, sym, ap, ◌∙◌, arith}
 use Rattle.rht_words.specs.declared.op.Op.{Op}
 use Rattle.rht_words.specs.declared.op.Op.TheVariants.{Load}
 use Rattle.rht_words.specs.declared.geometry.Geometry.{Geometry}
@@ -15,7 +15,7 @@ use Rattle.rht_chain.specs.Lock.{lock_plan_at}
 use Rattle.rht_chain.specs.declared.lock.LockAt.{LockAt}
 use Rattle.rht_chain.specs.declared.lock.LockAt.TheVariants as locks
 use Rattle.rht_core.specs.Traces.{Did}
-use Rattle.rht_core.specs.ResizeCauses.{LoadsKey, IsNoKeyLoad}
+use Rattle.rht_core.specs.ResizeCauses.{IsNoKeyLoad}
 
 module _ (g : Geometry) where
   -- an operation that is no load

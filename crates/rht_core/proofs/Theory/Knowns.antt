@@ -50,7 +50,8 @@ pub data KnownList : Type 0 where
 
 -- Of a bucket that it has locked, whose word was this before: nothing more, not even whether a bind is armed there; that none is; that the
 -- caller is armed there for this port; at which node of it a walk for a key stands, before or
--- behind the load of the node's key, and how many keys it has loaded; that none of its nodes has the key; its first node that has it; a node that has it; or one of
+-- behind the load of the node's key, and how many keys it has loaded; that none of its nodes has the key; its first node that
+-- has it; a node that has it; or one of
 -- the nodes to which the key's port is bound, with the owner of the first of them; or what is known of the list of that port. A node that the caller has taken out, with or
 -- without a bucket locked. Beside the node at which a walk stands is the one before it.
 pub data KnownBucket : Type 0 where

@@ -1,7 +1,7 @@
 -- While no other caller is in a call, nothing but this one's own operations and the enrolling of callers changes words. So a word
--- that the operations of one of its calls leave from one event of the call up to another is behind these events what it was before.
--- By induction over the events from the last one back: an enrolling changes the word of the enrolled callers alone, a beginning none, a
--- step of a caller in no call none, and one of the caller itself is one of the call.
+-- that the operations of one of its calls leave from one event up to another is behind these events what it was before.
+-- By induction over the events from the last one back: an enrolling changes the word of the enrolled callers alone, a beginning
+-- none, a step of a caller in no call none, and one of the caller itself is one of the call.
 use Rattle.std.proofs.Common.{◌≡◌, ◌≢◌, ◌⊎◌, ℕ, zero, suc, ◌+◌, ◌-◌, ◌<◌, ◌≤◌, Bool, true, false, cond, nat_lt, List, [], ◌∷◌, ◌++◌, length, take, get_or, refl, sym, ap, ◌∙◌, subst, inl, inr, arith}
 use Rattle.std.specs.Prelude.{Option, Some, None}
 use Rattle.std.specs.List.{AllByRecursion, Contains, slice_get}
@@ -31,7 +31,7 @@ use Rattle.rht_core.proofs.Events.CallBeginnings.{idle_plans}
 use Rattle.rht_core.proofs.Events.BusyCallers.{ends}
 use Rattle.rht_core.proofs.Events.SoundRuns.{runs-in, has_place}
 use Rattle.rht_core.proofs.Tracing.TracesAtEvents.{behind_steps-push, at_events, past-ends}
-use Rattle.rht_core.proofs.Tracing.StepsInTraces.{stands_within, call_in_order, rising-within}
+use Rattle.rht_core.proofs.Tracing.StepsInTraces.{stands_within, call_in_order, LiesWithin, rising-within}
 
 -- the operation leaves the word at this place
 abbrev pub Spares : ℕ → Did → Type 0
@@ -73,10 +73,9 @@ module _ (M : Type 0) (mix : ℕ → ℕ → ℕ → ℕ) (env : Env) (events : 
       (call_in_order 0 calls number past order.in_order (slice_get-get_or calls number past within ∙ ap Some is)).rising
 
   -- and lie between its beginning and its end
-  steps_within : (did : Did) → Contains past.steps did
-      → (past.begin + 1 ≤ did.index) × (did.index < behind_call past)
+  steps_within : (did : Did) → Contains past.steps did → LiesWithin (past.begin + 1) past.steps did
   steps_within did there =
-      let P = λ (d : Did). (past.begin + 1 ≤ d.index) × (d.index < behind_call past) in
+      let P = LiesWithin (past.begin + 1) past.steps in
       All-contains P past.steps did
       (All-from_recursion P past.steps (rising-within (past.begin + 1) past.steps steps_rising)) there
 
@@ -125,7 +124,8 @@ module _ (M : Type 0) (mix : ℕ → ℕ → ℕ → ℕ) (env : Env) (events : 
       let now = ap (λ (v : View M). v.local) (step_self M mix w c last.op recorded.plan place) in
       let reply : (local_after mix (local_of w.core c) found).1 ≡ Some past.done.reply =
       sym (ap (λ (o : Option Op). (with_step mix w.core c o).1.reply) recorded.plan) ∙ answered.reply in
-      let ended = ends M mix (local_of w.core c) found past.done.reply (busy_planned (local_of w.core c) last.op can.plan) reply in
+      let local = local_of w.core c in
+      let ended = ends M mix local found past.done.reply (busy_planned local last.op can.plan) reply in
       let next : suc last.index ≡ behind_call past = omega (arith, ends_at) in
       subst (λ n. is_idle (local_of (behind n).core c) ≡ true) next
       (ap (λ (v : World M). is_idle (local_of v.core c)) (behind-suc last.index (Step c) recorded.event)
@@ -150,7 +150,8 @@ module _ (M : Type 0) (mix : ℕ → ℕ → ℕ → ℕ) (env : Env) (events : 
         ap (λ (w : World M). get_or w.core.words place 0) (step_none M mix (behind n) c none)
     step_own n (Some op) is first last plan = elim (cases_eq n past.begin) [
       | inl same ↦
-          let both : Some (Step c) ≡ Some (Begin c past.done.call) = sym is ∙ ap (slice_get events) same ∙ past_call.began in
+          let both : Some (Step c) ≡ Some (Begin c past.done.call) =
+          sym is ∙ ap (slice_get events) same ∙ past_call.began in
           absurd (cc)
       | inr later ↦
           let did : Did = record { index = n; op = op; old = old_of (behind n).core.words op } in
@@ -190,7 +191,8 @@ module _ (M : Type 0) (mix : ℕ → ℕ → ℕ → ℕ) (env : Env) (events : 
     same_between : (left n : ℕ) → n + left ≡ to → from ≤ n → word place n ≡ word place to
     same_between zero n is first = ap (word place) (omega (arith, is))
     same_between (suc left) n is first =
-        let within : n < length events = let ends = past-ends M mix env events c past past_call in omega (arith, is, high, ends) in
+        let ends = past-ends M mix env events c past past_call in
+        let within : n < length events = omega (arith, is, high, ends) in
         let event = get_or events n Enroll in
         let there = slice_get-get_or events n Enroll within in
         sym (event_leaves n event there first (omega (arith, is)))
@@ -201,8 +203,8 @@ module _ (M : Type 0) (mix : ℕ → ℕ → ℕ → ℕ) (env : Env) (events : 
     same_over within = same_between (to - from) from (omega (arith, within)) (omega arith)
 
   -- what an operation loaded is what stood there
-  loaded_there : (address : Address) (value : ℕ) (did : Did) → Contains past.steps did → Loaded env.geometry address value did
-      → word (place_of env.geometry address) did.index ≡ value
+  loaded_there : (address : Address) (value : ℕ) (did : Did) → Contains past.steps did
+      → Loaded env.geometry address value did → word (place_of env.geometry address) did.index ≡ value
   loaded_there address value did there loaded =
       sym (ap (old_of (behind did.index).core.words) loaded.word.loads) ∙ (recorded_in did there).found ∙ loaded.found
 
@@ -210,8 +212,7 @@ module _ (M : Type 0) (mix : ℕ → ℕ → ℕ → ℕ) (env : Env) (events : 
       → place_of env.geometry address ≢ place_of env.geometry EnrolledCallers
   not_enrolled address there other same = other (place_of-apart env.geometry address EnrolledCallers there tt same)
 
-  -- a word that one of the call's operations loaded, and that none leaves otherwise from there on, is at the end of the call what was
-  -- loaded
+  -- a word that an operation of the call loaded, and that all leave from there on, is at the end of the call what was loaded
   pub loaded_at_end : (address : Address) (value : ℕ) (did : Did) → Contains past.steps did
       → Loaded env.geometry address value did → address ≢ EnrolledCallers
       → AllByRecursion (SparesWithin (place_of env.geometry address) did.index (behind_call past)) past.steps
@@ -222,7 +223,7 @@ module _ (M : Type 0) (mix : ℕ → ℕ → ℕ → ℕ) (env : Env) (events : 
       (not_enrolled address loaded.word.there other) (omega (arith, within.1)))
       ∙ loaded_there address value did there loaded
 
-  -- and one that none leaves otherwise before is at the beginning what was loaded
+  -- one that all leave before is at the beginning what was loaded
   pub loaded_at_begin : (address : Address) (value : ℕ) (did : Did) → Contains past.steps did
       → Loaded env.geometry address value did → address ≢ EnrolledCallers
       → AllByRecursion (SparesWithin (place_of env.geometry address) past.begin did.index) past.steps
@@ -233,7 +234,7 @@ module _ (M : Type 0) (mix : ℕ → ℕ → ℕ → ℕ) (env : Env) (events : 
       (not_enrolled address loaded.word.there other) (omega (arith, within.0))
       ∙ loaded_there address value did there loaded
 
-  -- one that an operation stored, and that none leaves otherwise behind it, is at the end what was stored
+  -- and one that an operation stored, and that all leave behind it, is at the end what was stored
   pub stored_at_end : (address : Address) (value : ℕ) (did : Did) → Contains past.steps did → IsAddress env.geometry address
       → did.op ≡ Store (place_of env.geometry address) value → address ≢ EnrolledCallers
       → AllByRecursion (SparesWithin (place_of env.geometry address) (did.index + 1) (behind_call past)) past.steps

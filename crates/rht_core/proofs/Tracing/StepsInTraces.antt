@@ -350,15 +350,16 @@ from-behind : (from : ℕ) (steps : List Did) → IsRising from steps → from �
 from-behind from [] rising = omega arith
 from-behind from (did ∷ steps) rising = omega (arith, rising.0, from-behind (did.index + 1) steps rising.1)
 
-pub rising-within : (from : ℕ) (steps : List Did) → IsRising from steps
-    → AllByRecursion (λ did. (from ≤ did.index) × (did.index < behind_steps from steps)) steps
+-- an operation lies there, where these begin from this event on
+abbrev pub LiesWithin : ℕ → List Did → Did → Type 0
+LiesWithin from steps did = (from ≤ did.index) × (did.index < behind_steps from steps)
+
+pub rising-within : (from : ℕ) (steps : List Did) → IsRising from steps → AllByRecursion (LiesWithin from steps) steps
 rising-within from [] rising = tt
 rising-within from (did ∷ steps) rising =
-    let behind = behind_steps (did.index + 1) steps in
     let here = from-behind (did.index + 1) steps rising.1 in (
       (rising.0, omega (arith, here)),
-      AllByRecursion-weaker (λ (d : Did). (did.index + 1 ≤ d.index) × (d.index < behind))
-          (λ (d : Did). (from ≤ d.index) × (d.index < behind))
+      AllByRecursion-weaker (LiesWithin (did.index + 1) steps) (LiesWithin from (did ∷ steps))
           (λ d within. (omega (arith, rising.0, within.0), within.1)) steps
           (rising-within (did.index + 1) steps rising.1),
     )
@@ -366,15 +367,17 @@ rising-within from (did ∷ steps) rising =
 -- those before one of them have smaller numbers, and those behind it greater ones
 pub rising_around : (from : ℕ) (before : List Did) (at : Did) (behind : List Did) → IsRising from (before ++ at ∷ behind)
     → AllByRecursion (λ did. did.index < at.index) before × AllByRecursion (λ did. at.index < did.index) behind
-rising_around from [] at behind rising = (
-  tt,
-  AllByRecursion-weaker (λ (d : Did). (at.index + 1 ≤ d.index) × (d.index < behind_steps (at.index + 1) behind))
-      (λ (d : Did). at.index < d.index) (λ d within. omega (arith, within.0)) behind (rising-within (at.index + 1) behind rising.1),
-)
+rising_around from [] at behind rising =
+    let next = at.index + 1 in
+    let Later : Did → Type 0 = λ did. at.index < did.index in (
+      tt,
+      AllByRecursion-weaker (LiesWithin next behind) Later (λ did within. omega (arith, within.0)) behind
+          (rising-within next behind rising.1),
+    )
 rising_around from (did ∷ before) at behind rising =
     let all = before ++ at ∷ behind in
-    let later = AllByRecursion-cut (λ (d : Did). (did.index + 1 ≤ d.index) × (d.index < behind_steps (did.index + 1) all)) before
-    (at ∷ behind) (rising-within (did.index + 1) all rising.1) in
+    let next = did.index + 1 in
+    let later = AllByRecursion-cut (LiesWithin next all) before (at ∷ behind) (rising-within next all rising.1) in
     let rest = rising_around (did.index + 1) before at behind rising.1 in
     ((omega (arith, later.1.0.0), rest.0), rest.1)
 
@@ -398,7 +401,7 @@ in_first : (from : ℕ) (steps : List Did) (lists : List (List Did)) (did : Did)
     → (from ≤ did.index) × (did.index < behind_steps from steps)
 in_first from steps lists did rising is =
     let same : is.steps ≡ steps = sym (cc) in
-    let P = λ (d : Did). (from ≤ d.index) × (d.index < behind_steps from steps) in
+    let P = LiesWithin from steps in
     All-contains P steps did (All-from_recursion P steps (rising-within from steps rising))
     (subst (λ (s : List Did). Contains s did) same is.stands)
 

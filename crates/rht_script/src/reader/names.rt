@@ -39,6 +39,24 @@ pub const MIX: &[u8] = b"mix";
 /// The hash that is the port itself.
 pub const LOW: &[u8] = b"low";
 
+/// Whether the table shrinks.
+pub const SHRINK: &[u8] = b"shrink";
+
+/// It does.
+pub const ON: &[u8] = b"on";
+
+/// It doesn't.
+pub const OFF: &[u8] = b"off";
+
+/// Who runs the work: as an option, and as a verb, the work itself.
+pub const WORK: &[u8] = b"work";
+
+/// A worker does by itself, where a reply asks for it.
+pub const AUTO: &[u8] = b"auto";
+
+/// Only a command does.
+pub const MANUAL: &[u8] = b"manual";
+
 /// The verb that binds a port to an owner.
 pub const BIND: &[u8] = b"bind";
 

@@ -31,8 +31,13 @@ const FAULTS: &[(&str, u32, u8)] = &[
     ("table single nodes\n", 1, 2),
     ("table listed max\n", 1, 2),
     ("table single workers 2\n", 1, 2),
-    ("table single shrink on\n", 1, 2),
-    ("table single work auto\n", 1, 2),
+    ("table single shrink\n", 1, 2),
+    ("table single shrink 1\n", 1, 2),
+    ("table single shrink auto\n", 1, 2),
+    ("table single shrink On\n", 1, 2),
+    ("table single work\n", 1, 2),
+    ("table single work on\n", 1, 2),
+    ("table single work manually\n", 1, 2),
     ("table single form 2\n", 1, 2),
     ("table single hint\n", 1, 2),
     ("table single hint 96 seed\n", 1, 2),
@@ -72,6 +77,8 @@ const FAULTS: &[(&str, u32, u8)] = &[
     ("table single hash low hash low\n", 1, 8),
     ("table listed nodes 16 nodes 16\n", 1, 8),
     ("table single max 4 hash low max 8\n", 1, 8),
+    ("table single shrink on shrink on\n", 1, 8),
+    ("table single work auto work manual\n", 1, 8),
     // The least size is rounded up, to 8 and 128, and the greatest down, to 4 and 64.
     ("table single min 5 max 4\n", 1, 8),
     ("table single max 7 min 5\n", 1, 8),
@@ -104,7 +111,10 @@ const FAULTS: &[(&str, u32, u8)] = &[
     ("table single\n1 lookup 80\n", 2, 2),
     ("table single\n1 Find 80\n", 2, 2),
     ("table single\n1 80 find\n", 2, 2),
-    ("table single\n1 work\n", 2, 2),
+    ("table single\n1 work 1\n", 2, 2),
+    ("table single\n1 work manual\n", 2, 2),
+    ("table single\n1 Work\n", 2, 2),
+    ("table single\n1 shrink\n", 2, 2),
     ("table single\n1 walk\n", 2, 2),
     ("table single\n1 tidy\n", 2, 2),
     ("table single\n1 bind\n", 2, 2),
@@ -217,7 +227,7 @@ fn finds_the_first_fault(rt: HostRuntime) {
 fn reads_scripts(rt: HostRuntime) -> Result<(), Fail> {
     let plain = Config::plain();
     // the input, the config that it stands for, and its commands
-    let scripts: [(&str, Config, &[(u32, Call)]); 25] = [
+    let scripts: [(&str, Config, &[(u32, Call)]); 28] = [
         ("table single", plain, &[]),
         ("table single\n", plain, &[]),
         ("\n# a\n \t\r\n\ttable  single \r\n#b\n\n", plain, &[]),
@@ -260,6 +270,20 @@ fn reads_scripts(rt: HostRuntime) -> Result<(), Fail> {
                 ..plain
             },
             &[],
+        ),
+        (
+            "table single shrink on\n",
+            Config {
+                shrink: true,
+                ..plain
+            },
+            &[],
+        ),
+        ("table single shrink off\n", plain, &[]),
+        (
+            "table single work auto\n1 work\n",
+            plain,
+            &[(1, Call::Work)],
         ),
         ("table single nodes 1\n", Config { nodes: 1, ..plain }, &[]),
         (
@@ -361,6 +385,22 @@ fn reads_scripts(rt: HostRuntime) -> Result<(), Fail> {
         assert_eq!(rt; script.config, config, "at {text:?}");
         assert_eq!(rt; script.commands.as_slice(), commands, "at {text:?}");
         assert!(rt; script.auto && script.schedule.is_empty());
+        assert!(rt; script.is_sound(), "at {text:?}");
+    }
+    Ok(())
+}
+
+#[test]
+fn reads_who_runs_the_work(rt: HostRuntime) -> Result<(), Fail> {
+    let scripts = [
+        ("table single\n", true),
+        ("table single work auto\n", true),
+        ("table listed work manual\n1 work\n", false),
+        ("table single shrink on work manual hash low\n", false),
+    ];
+    for (text, auto) in scripts {
+        let script = read(rt.alloc(), text.as_bytes())?;
+        assert_eq!(rt; script.auto, auto, "at {text:?}");
         assert!(rt; script.is_sound(), "at {text:?}");
     }
     Ok(())

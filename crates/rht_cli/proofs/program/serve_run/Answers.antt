@@ -34,7 +34,7 @@ pub write_run-requires : goal.write_run-requires
 write_run-requires g c =
     let script = c.in_ok-script.script in
     let outcome = c.in_ok-outcome.outcome in
-    closed-keys script.config script.commands.items outcome.replies.items outcome.closed c.in_ok-outcome.ensures
+    closed-keys script.config script.auto script.commands.items outcome.replies.items outcome.closed c.in_ok-outcome.ensures
 
 pub returns : goal.returns
 returns g c =

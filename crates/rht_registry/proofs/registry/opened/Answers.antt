@@ -21,7 +21,7 @@ one-enrolled M mix env =
     subst (λ old. 0 < enrolled_after env 0 old) (sym (none-enrolled env)) (rw low (omega arith))
 
 pub returns-clause-served : goal.returns-clause-served
-returns-clause-served g c =
+returns-clause-served g c auto =
     let mix = g.M.Mix.mix_of in
     let core = c.in_ok-state.state in
     let opened : core ≡ opening_core core.env = c.in_ok-state.ensures.core_same in

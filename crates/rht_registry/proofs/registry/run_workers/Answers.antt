@@ -1,4 +1,4 @@
-use Rattle.std.proofs.Common.{◌≡◌, ℕ, ◌+◌, ◌<◌, ◌≤◌, true, false, List, [], ◌∷◌, ◌++◌, length, map, take, get_or, refl, sym, ◌∙◌, ap, subst, arith}
+use Rattle.std.proofs.Common.{◌≡◌, ℕ, ◌+◌, ◌<◌, ◌≤◌, Bool, true, false, List, [], ◌∷◌, ◌++◌, length, map, take, get_or, refl, sym, ◌∙◌, ap, subst, arith}
 use Rattle.std.specs.List.{AllByRecursion}
 use Rattle.std.proofs.lemmas.List.{take_all, take_more, map-append}
 use Rattle.std.proofs.lemmas.List.Elements.{All-from_recursion}
@@ -19,19 +19,19 @@ use Rattle.rht_registry.proofs.SoundCommands.{IsCommandFor, sound-commands, call
 use Rattle.rht_registry.proofs.registry.run_workers.Goals as goal
 
 -- what one caller has served, with its closing, is a run of the script's commands
-served-run : (M : Type 0) (mix : ℕ → ℕ → ℕ → ℕ) (config : Config) (commands : List (ℕ × Call)) (core : Core M) (endings : List Ending) (closed : Closed)
+served-run : (M : Type 0) (mix : ℕ → ℕ → ℕ → ℕ) (config : Config) (auto : Bool) (commands : List (ℕ × Call)) (core : Core M) (endings : List Ending) (closed : Closed)
     → config.callers ≡ 1 → AllByRecursion (IsCommandFor config) commands → core.env.config ≡ config
-    → HasServed M mix core (map (λ command. command.1) commands) endings → IsClosedOf core.env.geometry core.words closed
-    → IsServedRun M mix config commands (endings ∷ []) closed
-served-run M mix config commands core endings closed one all same served is_closed =
+    → HasServed M mix core auto (map (λ command. command.1) commands) endings → IsClosedOf core.env.geometry core.words closed
+    → IsServedRun M mix config auto commands (endings ∷ []) closed
+served-run M mix config auto commands core endings closed one all same served is_closed =
     let run = served.run in
     let w : World M = run_of mix run.env run.events in
     let config_same = ap (λ (e : Env). e.config) (sym run.same_env) ∙ same in
-    let serving : IsServing w 0 (calls_of 1 commands) endings = record {
+    let serving : IsServing w auto 0 (calls_of 1 commands) endings = record {
       idle = subst (λ (k : Core M). is_idle (local_of k 0) ≡ true) (sym run.same) (idle-none M mix core served.done run);
       serves =
-          subst (λ calls. Serves calls endings (w.books 0).finished) (calls_of-one config commands one all)
-          (subst (Serves (map (λ command. command.1) commands) endings) (sym run.done_is) served.serves);
+          subst (λ calls. Serves auto calls endings (w.books 0).finished) (calls_of-one config commands one all)
+          (subst (Serves auto (map (λ command. command.1) commands) endings) (sym run.done_is) served.serves);
     } in
     record {
       env = run.env;
@@ -114,13 +114,13 @@ loop-i-preserved g c =
       config =
           config-stays c.loop-i.state.env c.serve.new.state.env c.args.script.now.config c.serve.ensures.env c.loop-i.invariant.config;
       served =
-          subst (λ l. HasServed g.row.M.Denot g.M.Mix.mix_of c.serve.new.state l c.serve.new.replies) (sym more)
+          subst (λ l. HasServed g.row.M.Denot g.M.Mix.mix_of c.serve.new.state c.args.script.now.auto l c.serve.new.replies) (sym more)
           (c.in_ok-serve.ensures.served calls c.loop-i.invariant.served);
       items = c.loop-i.invariant.items;
     }
 
-pub closed-requires-clause-idle : goal.closed-requires-clause-idle
-closed-requires-clause-idle g c caller below =
+pub closed-requires : goal.closed-requires
+closed-requires g c caller below =
     let state = c.loop-i.state in
     let served = c.loop-i.invariant.served in
     let one = one-caller state.env c.args.script.now.config c.loop-i.invariant.config c.requires.alone in
@@ -135,8 +135,8 @@ returns g c =
     let state = c.loop-i.state in
     let over : length items ≤ c.loop-i.i = omega arith in
     let whole = calls-all items commands c.loop-i.i over c.loop-i.invariant.items in
-    let served = subst (λ l. HasServed g.row.M.Denot g.M.Mix.mix_of state l c.loop-i.replies) whole c.loop-i.invariant.served in
+    let served = subst (λ l. HasServed g.row.M.Denot g.M.Mix.mix_of state script.auto l c.loop-i.replies) whole c.loop-i.invariant.served in
     let all = one-list c.in_ok-all.all.items c.push.new.self.items c.loop-i.replies c.in_ok-all.ensures.items c.in_ok-push.ensures.items in
-    subst (λ mix. IsServedRun g.row.M.Denot mix script.config commands c.push.new.self.items c.in_ok-closed.field-0) c.requires.mix
-    (rw all (served-run g.row.M.Denot g.M.Mix.mix_of script.config commands state c.loop-i.replies c.in_ok-closed.field-0 c.requires.alone
+    subst (λ mix. IsServedRun g.row.M.Denot mix script.config script.auto commands c.push.new.self.items c.in_ok-closed.field-0) c.requires.mix
+    (rw all (served-run g.row.M.Denot g.M.Mix.mix_of script.config script.auto commands state c.loop-i.replies c.in_ok-closed.field-0 c.requires.alone
     (sound-commands script.config commands c.requires.sound.commands) c.loop-i.invariant.config served c.in_ok-closed.ensures))

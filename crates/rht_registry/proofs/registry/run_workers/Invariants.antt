@@ -6,6 +6,6 @@ use Rattle.rht_registry.proofs.registry.run_workers.Given as goal
 abbrev pub invariant-loop-i : goal.invariant-loop-i
 invariant-loop-i g l = record {
   config : l.state.env.config ≡ l.script.config;
-  served : HasServed g.row.M.Denot g.M.Mix.mix_of l.state (map (λ command. command.1) (take l.i l.command-items)) l.replies;
+  served : HasServed g.row.M.Denot g.M.Mix.mix_of l.state l.script.auto (map (λ command. command.1) (take l.i l.command-items)) l.replies;
   items : l.command-items ≡ l.script.commands.items;
 }
