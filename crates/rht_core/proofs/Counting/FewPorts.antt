@@ -138,6 +138,29 @@ module _ (env : Env) (mix : ℕ → ℕ → ℕ → ℕ) where
   job-spares c (works state) within calm = work-spares state within calm
   job-spares c counts within calm = by_load _ _ refl
 
+-- ---- what is kept of jobs
+
+module _ (Now : Job → Type 0) (Ended : Call → Ending → Type 0) where
+  -- a job goes on so, or its call ends so
+  abbrev pub GoesOn : Job → Job × Next Ending → Type 0
+  GoesOn job next = GoesOrEnds Now (Ended (call_of job)) next
+
+  pub next-goes : {S A : Type 0} (start : Job) (job : S → Job) (ending : A → Ending) (next : S × Next A)
+      → GoesOrEnds (λ state. Now (job state)) (λ end. Ended (call_of start) (ending end)) next
+      → GoesOn start (job_next job ending next)
+  next-goes start job ending (state, Go) kept = kept
+  next-goes start job ending (state, Done end) kept = kept
+
+-- where there is nothing to say
+pub nothing-goes : {S A : Type 0} (next : S × Next A) → GoesOrEnds (λ (state : S). Unit {0}) (λ (end : A). Unit {0}) next
+nothing-goes (state, Go) = tt
+nothing-goes (state, Done end) = tt
+
+-- what is so of the first job of a call
+pub first-so : (Now : Job → Type 0) (first : Option Job) (job : Job) → IfSome first Now → first ≡ Some job → Now job
+first-so Now None job kept is = absurd (cc)
+first-so Now (Some first) job kept is = let same : first ≡ job = cc in subst Now same kept
+
 -- ---- the words before each event
 
 module _ (M : Type 0) (mix : ℕ → ℕ → ℕ → ℕ) (env : Env) where
@@ -186,7 +209,7 @@ module _ (M : Type 0) (mix : ℕ → ℕ → ℕ → ℕ) (env : Env) (roomy : I
     Ended call ending steps = EndsSeen M mix env events call ending steps × CalmEnd env call ending
 
     abbrev CalmOn : Job → Job × Next Ending → Type 0
-    CalmOn job next = GoesOrEnds (CalmJob env) (CalmEnd env (call_of job)) next
+    CalmOn job next = GoesOn (CalmJob env) (CalmEnd env) job next
 
     both-lead : (job : Job) (all : List Did) (next : Job × Next Ending)
         → LeadsOn M mix env (JobSaw env words_at) (EndsSeen M mix env events) job all next → CalmOn job next
@@ -194,44 +217,30 @@ module _ (M : Type 0) (mix : ℕ → ℕ → ℕ → ℕ) (env : Env) (roomy : I
     both-lead job all (after, Go) saw calm = (saw, calm)
     both-lead job all (after, Done ending) saw calm = (saw, calm)
 
-    next-calm : {S A : Type 0} (start : Job) (job : S → Job) (ending : A → Ending) (next : S × Next A)
-        → GoesOrEnds (λ state. CalmJob env (job state)) (λ end. CalmEnd env (call_of start) (ending end)) next
-        → CalmOn start (job_next job ending next)
-    next-calm start job ending (state, Go) calm = calm
-    next-calm start job ending (state, Done end) calm = calm
-
-    nothing-calm : {S A : Type 0} (next : S × Next A) → GoesOrEnds (λ (state : S). Unit {0}) (λ (end : A). Unit {0}) next
-    nothing-calm (state, Go) = tt
-    nothing-calm (state, Done end) = tt
-
     job-calm : (job : Job) (steps : List Did) (did : Did) → (does : Performs mix env job did) → does.words ≡ words_at did.index
         → Now job steps → CalmOn job (job_after mix env job did.old)
     job-calm (finds port state) steps did does now kept =
         let next = find_after_at mix env port state did.old in
-        next-calm (finds port state) (finds port) plain_ending next (nothing-calm next)
+        next-goes (CalmJob env) (CalmEnd env) (finds port state) (finds port) plain_ending next (nothing-goes next)
     job-calm (binds port owner once state) steps did does now kept =
-        next-calm (binds port owner once state) (binds port owner once) plain_ending (bind_after_at mix env port once state did.old)
+        next-goes (CalmJob env) (CalmEnd env) (binds port owner once state) (binds port owner once) plain_ending (bind_after_at mix env port once state did.old)
         (calm-bind env (IsFirst env) (IsZero env) words_at (λ i. (few i).bound) mix port owner once state steps did does kept.0.0 kept.1
         (few-calm env mix roomy did (words_at did.index) (unmade did.index) (few did.index) port owner once state does now))
     job-calm (lists port room state) steps did does now kept =
         let after = all.room_after state room did.old in
         let next = all.after_at mix env port state did.old in
-        next-calm (lists port room state) (lists port after) (listing_ending after) next (nothing-calm next)
+        next-goes (CalmJob env) (CalmEnd env) (lists port room state) (lists port after) (listing_ending after) next (nothing-goes next)
     job-calm (releases port owner state) steps did does now kept =
         let next = release.after_at mix env port owner state did.old in
-        next-calm (releases port owner state) (releases port owner) node_ending next (nothing-calm next)
+        next-goes (CalmJob env) (CalmEnd env) (releases port owner state) (releases port owner) node_ending next (nothing-goes next)
     job-calm (rebinds port owner new state) steps did does now kept =
         let next = rebind.after_at mix env port owner state did.old in
-        next-calm (rebinds port owner new state) (rebinds port owner new) node_ending next (nothing-calm next)
+        next-goes (CalmJob env) (CalmEnd env) (rebinds port owner new state) (rebinds port owner new) node_ending next (nothing-goes next)
     job-calm (works state) steps did does now kept =
-        next-calm (works state) works plain_ending (work.after_at mix env state did.old)
+        next-goes (CalmJob env) (CalmEnd env) (works state) works plain_ending (work.after_at mix env state did.old)
         (calm-work env mix roomy did (words_at did.index) (unmade did.index) (few did.index)
         state does now kept.1)
     job-calm counts steps did does now kept = tt
-
-    first-so : (first : Option Job) (job : Job) → IfSome first (CalmJob env) → first ≡ Some job → CalmJob env job
-    first-so None job calm is = absurd (cc)
-    first-so (Some first) job calm is = let same : first ≡ job = cc in subst (CalmJob env) same calm
 
     first_rebind-calm : (port owner new : ℕ) (kind : Kind) → IfSome (first_rebind env port owner new kind) (CalmJob env)
     first_rebind-calm port owner new Single = tt
@@ -252,7 +261,7 @@ module _ (M : Type 0) (mix : ℕ → ℕ → ℕ → ℕ) (env : Env) (roomy : I
         → let r : Traced M = traced_of mix env events in IsKeeping M mix env Now Ended (view_of r.world c) (r.traces c)
     calls-calm c admitted =
         jobs_keep_in M mix env Now Ended events record {
-          begins = λ call job is. (first_job-saw M mix env events call job is, first-so (first_job env call) job (first-calm call) is);
+          begins = λ call job is. (first_job-saw M mix env events call job is, first-so (CalmJob env) (first_job env call) job (first-calm call) is);
           goes = λ job steps did performs now kept.
               both-lead job (steps ++ did ∷ []) (job_after mix env job did.old)
               (job-leads M mix env events job steps did performs now kept.0) (job-calm job steps did performs now kept);

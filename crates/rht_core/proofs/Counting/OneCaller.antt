@@ -3,10 +3,10 @@
 -- By induction over the events, with the ghost: each table that was attached has 16 buckets or more, and each call is one of a bind that
 -- hasn't found a table full, or of another kind. A bind that loads the count knows the table in which it is, which has 16 buckets or more; and the
 -- count is at most the 15 ports and the one caller. So it finds no table full and attaches none; and a resizing attaches none that is smaller.
-use Rattle.std.proofs.Common.{◌≡◌, ℕ, ◌<◌, ◌≤◌, Bool, true, false, min, nat_lt, List, [], ◌∷◌, ◌++◌, length, take, refl, sym, ap, ◌∙◌, subst, inl, inr, arith}
+use Rattle.std.proofs.Common.{◌≡◌, ℕ, ◌<◌, ◌≤◌, Bool, false, List, [], ◌∷◌, ◌++◌, length, take, refl, sym, ap, ◌∙◌, subst, inl, inr, arith}
 use Rattle.std.specs.Prelude.{Option, Some, None, IfSome, option_map}
 use Rattle.std.specs.List.{AllByRecursion}
-use Rattle.std.proofs.lemmas.Bool.{cases_lt, cases_eq, and_parts, ltb-true, leb-true}
+use Rattle.std.proofs.lemmas.Bool.{cases_lt, cases_eq}
 use Rattle.std.proofs.lemmas.List.{take_all}
 use Rattle.rht_words.specs.declared.op.Op.{Op}
 use Rattle.rht_words.specs.declared.op.Op.TheVariants.{Exchange}
@@ -19,13 +19,11 @@ use Rattle.rht_words.specs.Links.{future_of}
 use Rattle.rht_words.specs.Machines.{GoesOrEnds}
 use Rattle.rht_words.specs.Operations.{op_place, old_of}
 use Rattle.rht_words.specs.Places.{PortCount, Slot, ShapeWord, FutureWord, place_of, word_at}
-use Rattle.rht_words.specs.Shapes.{unpacked, size_of}
+use Rattle.rht_words.specs.Shapes.{size_of}
 use Rattle.rht_words.specs.Sizes.{first_size}
 use Rattle.rht_words.proofs.EachElement.{AllByRecursion-cut, AllByRecursion-push}
 use Rattle.rht_words.proofs.Memory.{Memory}
 use Rattle.rht_words.proofs.OpeningLaws.{opens_flat}
-use Rattle.rht_policy.specs.Sizes.{most_ports}
-use Rattle.rht_policy.specs.Thresholds.{is_above_100, is_above_max, may_grow}
 use Rattle.rht_model.specs.Endings.{Ending, ended_with, plain_ending}
 use Rattle.rht_model.specs.declared.finished.Finished.{Finished}
 use Rattle.rht_model.specs.declared.history.Call.{Call}
@@ -51,7 +49,7 @@ use Rattle.rht_core.specs.declared.event.Event.TheVariants.{Enroll, Begin, Step}
 use Rattle.rht_core.specs.declared.local.Local.{Local}
 use Rattle.rht_core.specs.declared.local.Doing.{Doing}
 use Rattle.rht_core.specs.FewPorts.{IsBindTaken, OneCaller}
-use Rattle.rht_core.specs.Jobs.{Job, finds, binds, releases, rebinds, lists, works, counts, first_job, first_rebind, call_of, job_of, job_plan, job_next, job_after, told, held_of, held_next, listing_ending, node_ending}
+use Rattle.rht_core.specs.Jobs.{Job, finds, binds, releases, rebinds, lists, works, counts, first_job, first_rebind, call_of, job_of, job_plan, job_after, told, held_of, held_next, listing_ending, node_ending}
 use Rattle.rht_core.specs.Laws.{view_stepped}
 use Rattle.rht_core.specs.Locals.{local_after, ending_of}
 use Rattle.rht_core.specs.Runs.{World, View, opening, local_of, planned_in, beginning_in, view_of, world_step, run_of, book_after, finished_with, IsAdmitted, IsAdmittedEvent}
@@ -75,10 +73,10 @@ use Rattle.rht_core.proofs.Tracing.TracedJobs.{Performs, IsAtJob, jobs_keep_in}
 use Rattle.rht_core.proofs.Tracing.TracedRuns.{world-traced_of}
 use Rattle.rht_core.proofs.Reasons.AttachedTables.{lock-none, make-none, unmake-none}
 use Rattle.rht_core.proofs.Reasons.CausesInRuns.{JobSaw, EndsSeen, job-leads, first_job-saw}
-use Rattle.rht_core.proofs.Reasons.CalmCalls.{most-many}
+use Rattle.rht_core.proofs.Reasons.CalmCalls.{below-max, below-size}
 use Rattle.rht_core.proofs.Reasons.CalmBinds.{CalmBind, IsCalmAt, calm-bind, bind-spares}
 use Rattle.rht_core.proofs.Counting.CountedPorts.{fewer-AreBound}
-use Rattle.rht_core.proofs.Counting.FewPorts.{before-push}
+use Rattle.rht_core.proofs.Counting.FewPorts.{before-push, GoesOn, next-goes, nothing-goes, first-so}
 use Rattle.rht_core.proofs.Counting.FullTables.{taken}
 use Rattle.rht_core.proofs.Counting.SizedTables.{IsSized, AreSized, SizedWork, sized-work, moved-sized, slot-sized}
 use Rattle.rht_core.proofs.Counting.SparedSlots.{IsBesideSlots, SparesSlots, find-spares, all-spares, release-spares, rebind-spares, by_load}
@@ -174,27 +172,16 @@ module _ (env : Env) where
     OneJob (works state) = SizedWork env keeps state
     OneJob _ = Unit {0}
 
+    abbrev OneEnd : Call → Ending → Type 0
+    OneEnd call ending = IsBindTaken call ending.answer.reply
+
     abbrev OneOn : Job → Job × Next Ending → Type 0
-    OneOn job next = GoesOrEnds OneJob (λ ending. IsBindTaken (call_of job) ending.answer.reply) next
-
-    next-one : {S A : Type 0} (start : Job) (job : S → Job) (ending : A → Ending) (next : S × Next A)
-        → GoesOrEnds (λ state. OneJob (job state)) (λ end. IsBindTaken (call_of start) (ending end).answer.reply) next
-        → OneOn start (job_next job ending next)
-    next-one start job ending (state, Go) one = one
-    next-one start job ending (state, Done end) one = one
-
-    nothing-one : {S A : Type 0} (next : S × Next A) → GoesOrEnds (λ (state : S). Unit {0}) (λ (end : A). Unit {0}) next
-    nothing-one (state, Go) = tt
-    nothing-one (state, Done end) = tt
+    OneOn job next = GoesOn OneJob OneEnd job next
 
     work-one : (next : WorkAt × Next Reply) → SizedWork env keeps next.0
         → GoesOrEnds (λ state. SizedWork env keeps state) (λ (reply : Reply). Unit {0}) next
     work-one (state, Go) sized = sized
     work-one (state, Done reply) sized = tt
-
-    first-so : (first : Option Job) (job : Job) → IfSome first OneJob → first ≡ Some job → OneJob job
-    first-so None job one is = absurd (cc)
-    first-so (Some first) job one is = let same : first ≡ job = cc in subst OneJob same one
 
     first_rebind-one : (port owner new : ℕ) (kind : Kind) → IfSome (first_rebind env port owner new kind) OneJob
     first_rebind-one port owner new Single = tt
@@ -210,28 +197,6 @@ module _ (env : Env) where
     first-one Work = tt
     first-one Tidy = tt
     first-one Count = tt
-
-    -- 16 are below what a table may hold, and no more than 16 buckets
-    below-max : (count : ℕ) → 16 ≤ first_size env.config → count ≤ 16 → is_above_max (min count 65536) env.config.max ≡ false
-    below-max count first few = go (is_above_max (min count 65536) env.config.max) refl
-      where
-        go : (b : Bool) → is_above_max (min count 65536) env.config.max ≡ b → b ≡ false
-        go false is = refl
-        go true is =
-            let above = leb-true (most_ports env.config.max) (min count 65536) is in
-            absurd (omega (arith, above, few, most-many env first))
-
-    below-size : (count shape : ℕ) → count ≤ 16 → IsSized shape
-        → is_above_100 (min count 65536) (size_of (unpacked shape)) env.config.max ≡ false
-    below-size count shape few sized = go (is_above_100 (min count 65536) (size_of (unpacked shape)) env.config.max) refl
-      where
-        go : (b : Bool) → is_above_100 (min count 65536) (size_of (unpacked shape)) env.config.max ≡ b → b ≡ false
-        go false is = refl
-        go true is =
-            let size = size_of (unpacked shape) in
-            let parts = and_parts (nat_lt size (min count 65536)) (may_grow size env.config.max) is in
-            let above = ltb-true size (min count 65536) parts.0 in
-            absurd (omega (arith, above, few, sized))
 
     module _ (first : 16 ≤ first_size env.config) (mix : ℕ → ℕ → ℕ → ℕ) (words_at : ℕ → List ℕ)
         (few : (i : ℕ) → HasFew env (words_at i)) (did : Did) where
@@ -260,8 +225,9 @@ module _ (env : Env) where
           current = λ attempt is. tt;
           shape = λ attempt locate is shape come. tt;
           further = λ claimed length next is further. tt;
-          few = λ claimed is. below-max did.old first (bind-low state of claimed is);
-          below = λ claimed is good. below-size did.old claimed.shape (bind-low state of claimed is) (bind-sized state of claimed is);
+          few = λ claimed is. below-max env did.old first (omega (arith, bind-low state of claimed is));
+          below = λ claimed is good. below-size env did.old claimed.shape
+              (omega (arith, bind-low state of claimed is, bind-sized state of claimed is));
         }
 
       -- and a resizing
@@ -286,23 +252,23 @@ module _ (env : Env) where
           → OneOn job (job_after mix env job did.old)
       one-leads (finds port state) steps does sized low saw one =
           let next = find_after_at mix env port state did.old in
-          next-one (finds port state) (finds port) plain_ending next (nothing-one next)
+          next-goes OneJob OneEnd (finds port state) (finds port) plain_ending next (nothing-goes next)
       one-leads (binds port owner once state) steps does sized low saw one =
-          next-one (binds port owner once state) (binds port owner once) plain_ending (bind_after_at mix env port once state did.old)
+          next-goes OneJob OneEnd (binds port owner once state) (binds port owner once) plain_ending (bind_after_at mix env port once state did.old)
           (calm-bind env Any Any words_at (λ i. (few i).bound) mix port owner once state steps did does saw.0 one
           (bind-sees port owner once state (record { does = does; sized = sized; low = low })))
       one-leads (lists port room state) steps does sized low saw one =
           let after = all.room_after state room did.old in
           let next = all.after_at mix env port state did.old in
-          next-one (lists port room state) (lists port after) (listing_ending after) next (nothing-one next)
+          next-goes OneJob OneEnd (lists port room state) (lists port after) (listing_ending after) next (nothing-goes next)
       one-leads (releases port owner state) steps does sized low saw one =
           let next = release.after_at mix env port owner state did.old in
-          next-one (releases port owner state) (releases port owner) node_ending next (nothing-one next)
+          next-goes OneJob OneEnd (releases port owner state) (releases port owner) node_ending next (nothing-goes next)
       one-leads (rebinds port owner new state) steps does sized low saw one =
           let next = rebind.after_at mix env port owner state did.old in
-          next-one (rebinds port owner new state) (rebinds port owner new) node_ending next (nothing-one next)
+          next-goes OneJob OneEnd (rebinds port owner new state) (rebinds port owner new) node_ending next (nothing-goes next)
       one-leads (works state) steps does sized low saw one =
-          next-one (works state) works plain_ending (work.after_at mix env state did.old)
+          next-goes OneJob OneEnd (works state) works plain_ending (work.after_at mix env state did.old)
           (work-one (work.after_at mix env state did.old)
           (sized-work env keeps mix state did.old does.within one (work-sees state (record { does = does; sized = sized }))))
       one-leads counts steps does sized low saw one = tt
@@ -478,7 +444,7 @@ module _ (L : Type 0) (mix : ℕ → ℕ → ℕ → ℕ) (env : Env) (keeps : e
         let first = first_job-machine env c call machine (made_in L mix env w.core c call machine has.all.stays can) in
         subst ViewOne (sym (begin_self L mix w c call machine is place)) (
           subst (λ (j : Option Job). IfSome j (OneJob env keeps)) (sym first.does)
-              (first-so env keeps (first_job env call) first.job (first-one env keeps call) first.first),
+              (first-so (OneJob env keeps) (first_job env call) first.job (first-one env keeps call) first.first),
           (has.ones c).1,
         )
 

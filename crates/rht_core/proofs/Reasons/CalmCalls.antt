@@ -96,29 +96,31 @@ module _ (env : Env) where
       uncut : ℕ
       uncut = max (wished_size env.config.hint) env.config.min
 
+  -- so few are fewer than it may hold
+  pub below-max : (count : ℕ) → 16 ≤ first_size env.config → count ≤ 31 → is_above_max (min count 65536) env.config.max ≡ false
+  below-max count first few = go (is_above_max (min count 65536) env.config.max) refl
+    where
+      go : (b : Bool) → is_above_max (min count 65536) env.config.max ≡ b → b ≡ false
+      go false is = refl
+      go true is =
+          let above = leb-true (most_ports env.config.max) (min count 65536) is in
+          absurd (omega (arith, above, few, most-many first))
+
+  -- and a table isn't full by no more ports than it has buckets
+  pub below-size : (count shape : ℕ) → count ≤ size_of (unpacked shape)
+      → is_above_100 (min count 65536) (size_of (unpacked shape)) env.config.max ≡ false
+  below-size count shape few = go (is_above_100 (min count 65536) (size_of (unpacked shape)) env.config.max) refl
+    where
+      go : (b : Bool) → is_above_100 (min count 65536) (size_of (unpacked shape)) env.config.max ≡ b → b ≡ false
+      go false is = refl
+      go true is =
+          let size = size_of (unpacked shape) in
+          let parts = and_parts (nat_lt size (min count 65536)) (may_grow size env.config.max) is in
+          let above = ltb-true size (min count 65536) parts.0 in
+          absurd (omega (arith, above, few))
+
   module _ (roomy : IsRoomy) where
-    -- so few are below the first table's size, and no table is due to grow by them
-    below-max : (count : ℕ) → count ≤ 31 → is_above_max (min count 65536) env.config.max ≡ false
-    below-max count few = go (is_above_max (min count 65536) env.config.max) refl
-      where
-        go : (b : Bool) → is_above_max (min count 65536) env.config.max ≡ b → b ≡ false
-        go false is = refl
-        go true is =
-            let above = leb-true (most_ports env.config.max) (min count 65536) is in
-            absurd (omega (arith, above, few, most-many (omega (arith, roomy.first))))
-
-    below-size : (count shape : ℕ) → count ≤ 31 → IsFirst shape
-        → is_above_100 (min count 65536) (size_of (unpacked shape)) env.config.max ≡ false
-    below-size count shape few first = go (is_above_100 (min count 65536) (size_of (unpacked shape)) env.config.max) refl
-      where
-        go : (b : Bool) → is_above_100 (min count 65536) (size_of (unpacked shape)) env.config.max ≡ b → b ≡ false
-        go false is = refl
-        go true is =
-            let size = size_of (unpacked shape) in
-            let parts = and_parts (nat_lt size (min count 65536)) (may_grow size env.config.max) is in
-            let above = ltb-true size (min count 65536) parts.0 in
-            absurd (omega (arith, above, few, first-size shape first, roomy.first))
-
+    -- nor is the first table due to grow by them
     below-growth : (count shape : ℕ) → count ≤ 31 → IsFirst shape
         → is_above_75 (min count 65536) (size_of (unpacked shape)) env.config.max ≡ false
     below-growth count shape few first = go (is_above_75 (min count 65536) (size_of (unpacked shape)) env.config.max) refl
@@ -195,8 +197,9 @@ module _ (env : Env) where
             let none = ap slot_of (found ∙ ap (λ s. old_of words (plan_at env s)) is) ∙ future-none claimed.table within.table_in in
             let both : ◌≡◌ {A = Option ℕ} None (Some next) = sym none ∙ further in
             absurd (cc);
-        few = λ claimed is. below-max roomy did.old (low claimed is);
-        below = λ claimed is first. below-size roomy did.old claimed.shape (low claimed is) first;
+        few = λ claimed is. below-max did.old (omega (arith, roomy.first)) (low claimed is);
+        below = λ claimed is first. below-size did.old claimed.shape
+            (omega (arith, low claimed is, first-size claimed.shape first, roomy.first));
       }
         where
           found : did.old ≡ old_of words (plan_at env state)
