@@ -37,7 +37,7 @@ stand_in_place env =
 -- ---- the first table
 
 -- the lowest set bit of a power of two is its exponent
-pub trailing_zeros-pow : (e : ℕ) → e < 32 → trailing_zeros w32 (2 ^ e) ≡ e
+trailing_zeros-pow : (e : ℕ) → e < 32 → trailing_zeros w32 (2 ^ e) ≡ e
 trailing_zeros-pow e l =
     let lowest = bit_at-trailing_zeros w32 (2 ^ e) (pow_pos e) (pow-lt l) in
     elim (cases_eq (trailing_zeros w32 (2 ^ e)) e) [

@@ -12,7 +12,7 @@ use Rattle.rht_words.specs.Links.{slot_of, node_of, head_of, unlocked}
 use Rattle.rht_words.specs.Machines.{GoesOrEnds}
 use Rattle.rht_words.specs.Places.{Slot, ShapeWord}
 use Rattle.rht_words.specs.Shapes.{unpacked, size_of}
-use Rattle.rht_words.proofs.OpeningLaws.{trailing_zeros-pow}
+use Rattle.rht_core.proofs.Reasons.MadeSizes.{exponent_of-pow}
 use Rattle.rht_words.proofs.Rounding.{powers-rise, powers-fall}
 use Rattle.std.proofs.lemmas.Nat.{pow-add}
 use Rattle.rht_policy.specs.Sizes.{shrunk_size}
@@ -66,7 +66,7 @@ AreSized G = (τ : ℕ) → τ < G.attached → IsSized (G.table τ).shape
 sized-exponent : (e : ℕ) → 16 ≤ 2 ^ e → e < 32 → 4 ≤ exponent_made (2 ^ e)
 sized-exponent e many low =
     let four : 3 < e = powers-fall 3 e (omega (arith, many)) in
-    omega (arith, four, trailing_zeros-pow e low)
+    omega (arith, four, exponent_of-pow e low)
 
 -- a choice by a table of 16 buckets or more is of one of them
 sized-choice : (env : Env) (count shape size : ℕ) (alone : Bool) → env.config.shrink ≡ false → IsSized shape

@@ -44,7 +44,7 @@ due_size env count shape alone flat =
     ]
 
 -- the exponent of a power of two
-exponent_of-pow : (e : ℕ) → e < 32 → exponent_of (2 ^ e) ≡ e
+pub exponent_of-pow : (e : ℕ) → e < 32 → exponent_of (2 ^ e) ≡ e
 exponent_of-pow e l =
     let lowest = bit_at-trailing_zeros w32 (2 ^ e) (pow_pos e) (pow-lt l) in
     elim (cases_eq (trailing_zeros w32 (2 ^ e)) e) [
