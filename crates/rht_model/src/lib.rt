@@ -24,4 +24,4 @@ pub use history::{Call, Cursor, Entry, Reply};
 pub use legal::is_legal;
 pub use owners::Owners;
 pub use replies::Replies;
-pub use room::Room;
+pub use room::{Room, push_within};

@@ -92,7 +92,7 @@ impl<T: Drop> Room<T> {
 }
 
 /// Appends within the capacity, so that no memory is taken.
-pub(crate) fn push_within<T: Drop>(items: &mut Vec<T>, item: T)
+pub fn push_within<T: Drop>(items: &mut Vec<T>, item: T)
     requires { vec_len items.old < vec_capacity items.old }
     ensures items { items.new.items ≡ items.old.items ++ item ∷ [] }
     ensures len { vec_len items.new ≡ vec_len items.old + 1 }
