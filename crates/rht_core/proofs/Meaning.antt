@@ -2,5 +2,7 @@
 pub mod BoundPorts
 -- going along links finds what the whole chain holds
 pub mod FirstNodes
--- what belongs to each node along links, or to each bucket, gathered
-pub mod GatheredNodes
+-- going along links marks the nodes that are met
+pub mod MarkedNodes
+-- each node that is met is the first one of a port, and ports' lists have no node in common
+pub mod ListableWords

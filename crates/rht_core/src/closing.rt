@@ -1,16 +1,17 @@
-//! The bindings that the words of a table stand for, as a list, for its closing: all buckets of all
-//! tables are read once, as if nobody else were about.
+//! What the words of a table say at its closing: all buckets of all tables are read once, as if
+//! nobody else were about. All memory is taken beforehand, so that nothing is refused behind that.
 
-ghost use Rattle.std.specs.Prelude.{◌≡◌, ◌^◌, ◌<◌, [], ◌++◌, map, length, Some, IfOk, OnOk};
+ghost use Rattle.std.specs.Prelude.{◌≡◌, ◌+◌, ◌^◌, ◌<◌, ◌≤◌, [], ◌∷◌, ◌++◌, map, length, vec_len, vec_capacity, replicate, Bool, false, Some, IfOk};
 ghost use Rattle.rht_words.specs.Places.{words_in};
 ghost use Rattle.rht_nest.specs.Locate.{IsBucketOrNone};
 ghost use Rattle.rht_model.specs.Listing.{Lists};
 ghost use Rattle.rht_core.specs.StandsFor.{bucket_nodes, table_nodes, stands_for};
 ghost use Rattle.rht_core.specs.Closing.{current_size, nodes_met, with_port, owned, all_added};
-ghost use Rattle.rht_core.specs.Closing.{HavePorts, AreFirsts};
+ghost use Rattle.rht_core.specs.Closing.{marked, marked_below, IsListable, IsRoomFor, AreFirsts};
+ghost use Rattle.rht_core.specs.Closing.{IsClosedOf};
 
 use crate::bound::SLOTS;
-use rht_model::Bindings;
+use rht_model::{Bindings, Closed};
 use rht_nest::place_of;
 use rht_words::{
     Geometry, Port, Shape, head_of, node_of, owner_of, places, port_of, slot_of, table_of,
@@ -26,157 +27,182 @@ pub(crate) fn current_size(geometry: Geometry, words: &[u64]) -> u32
     Shape::from(words[places::shape(table)]).size()
 }
 
-/// The bindings that the words stand for, in rising order of ports. The one refusal is want of
-/// memory; more owners than 32 bits can count are that too.
-pub(crate) fn listing(
-    alloc: Global,
-    geometry: Geometry,
-    words: &[u64],
-) -> Result<Bindings, AllocError>
-    requires words { length words.now ≡ words_in geometry }
-    requires ports { HavePorts geometry words.now }
-    ensures listed { IfOk result (λ bindings. Lists bindings.pairs (stands_for geometry words.now)) }
-    ensures few { IfOk result (λ bindings. length bindings.pairs < 2 ^ 32) }
-{
-    let firsts = first_nodes(alloc, geometry, words)?;
-    let mut owners = Vec::with_capacity(alloc, geometry.nodes as usize)?;
-    for first in &firsts {
-        push_owners(&mut owners, geometry, words, *first)?;
+/// The room that a closing needs. All its memory is taken at once, in `new`.
+#[derive(Drop)]
+pub struct ClosingRoom {
+    /// Which nodes were met.
+    met: Vec<bool>,
+    /// The first node of each port, behind the port.
+    firsts: Vec<(Port, u32)>,
+    bindings: Bindings,
+}
+
+impl ClosingRoom {
+    /// Room for the closing of a table with so many nodes. The one refusal is want of memory.
+    pub fn new(alloc: Global, geometry: Geometry) -> Result<ClosingRoom, AllocError>
+        ensures { IfOk result (IsRoomFor geometry) }
+    {
+        let nodes = geometry.nodes as usize;
+        Ok(ClosingRoom {
+            met: vec![in alloc; false; nodes]?,
+            firsts: Vec::with_capacity(alloc, nodes)?,
+            bindings: Bindings::with_room(alloc, geometry.nodes)?,
+        })
     }
-    bindings_of(alloc, &owners)
+
+    /// What is bound, in rising order of ports, the size of the current table, and how many ports
+    /// are bound. It takes no memory and refuses nothing.
+    pub fn closed(self, geometry: Geometry, words: &[u64]) -> Closed
+        requires room { IsRoomFor geometry self }
+        requires words { length words.now ≡ words_in geometry }
+        requires listable { IsListable geometry words.now }
+        ensures { IsClosedOf geometry words.now result }
+    {
+        let bindings = listing(self, geometry, words);
+        let keys = bindings.len() as u32;
+        Closed {
+            bindings,
+            size: current_size(geometry, words),
+            keys,
+        }
+    }
+}
+
+/// The bindings that the words stand for, in rising order of ports.
+fn listing(room: ClosingRoom, geometry: Geometry, words: &[u64]) -> Bindings
+    requires room { IsRoomFor geometry room }
+    requires words { length words.now ≡ words_in geometry }
+    requires listable { IsListable geometry words.now }
+    ensures listed { Lists result.pairs (stands_for geometry words.now) }
+    ensures few { length result.pairs < 2 ^ 32 }
+{
+    let ClosingRoom {
+        met,
+        firsts,
+        mut bindings,
+    } = room;
+    let firsts = first_nodes(met, firsts, geometry, words);
+    for first in &firsts {
+        add_owners(&mut bindings, geometry, words, *first);
+    }
+    bindings
 }
 
 /// The first node of each port that is bound, behind its port, in rising order of ports.
 fn first_nodes(
-    alloc: Global,
+    mut met: Vec<bool>,
+    mut firsts: Vec<(Port, u32)>,
     geometry: Geometry,
     words: &[u64],
-) -> Result<Vec<(Port, u32)>, AllocError>
+) -> Vec<(Port, u32)>
+    requires met { met.items ≡ replicate geometry.nodes false }
+    requires firsts { (firsts.items ≡ []) × (geometry.nodes ≤ vec_capacity firsts) }
     requires words { length words.now ≡ words_in geometry }
-    requires ports { HavePorts geometry words.now }
-    ensures { IfOk result (λ firsts. AreFirsts geometry words.now firsts.items) }
+    requires listable { IsListable geometry words.now }
+    ensures { AreFirsts geometry words.now result.items }
 {
-    let mut met = nodes_met(alloc, geometry, words)?;
-    met.sort_by_key(|node| node.0)?;
-    met.dedup_by_key(|node| node.0);
-    Ok(met)
+    mark_all(met.as_mut_slice(), geometry, words);
+    put_marked(&mut firsts, met.as_slice(), geometry, words);
+    firsts.sort_unstable_by_key(|first| first.0);
+    firsts
 }
 
-/// The nodes met in the tables in force, each behind its port, in the order in which they are met.
-fn nodes_met(
-    alloc: Global,
-    geometry: Geometry,
-    words: &[u64],
-) -> Result<Vec<(Port, u32)>, AllocError>
-    requires { length words.now ≡ words_in geometry }
-    ensures { IfOk result (λ met.
-        met.items ≡ map (with_port geometry words.now) (nodes_met geometry words.now)) }
+/// Marks the nodes met in the tables in force.
+fn mark_all(met: &mut [bool], geometry: Geometry, words: &[u64])
+    requires words { length words.now ≡ words_in geometry }
+    requires met { length met.old ≡ geometry.nodes }
+    ensures { met.new ≡ marked met.old (nodes_met geometry words.now) }
 {
-    let mut met = Vec::with_capacity(alloc, geometry.nodes as usize)?;
     let mut next = Some(table_of(words[places::current_table()]));
     for _ in 0..SLOTS {
         let Some(table) = next else {
-            return Ok(met);
+            return;
         };
-        push_table(&mut met, geometry, words, table)?;
+        mark_table(met, geometry, words, table);
         next = slot_of(words[places::future(table)]);
     }
-    Ok(met)
 }
 
-/// Puts the nodes in the table of a slot behind those that were met.
-fn push_table(
-    met: &mut Vec<(Port, u32)>,
-    geometry: Geometry,
-    words: &[u64],
-    table: u32,
-) -> Result<(), AllocError>
+/// Marks the nodes in the table of a slot.
+fn mark_table(met: &mut [bool], geometry: Geometry, words: &[u64], table: u32)
     requires words { length words.now ≡ words_in geometry }
+    requires met { length met.old ≡ geometry.nodes }
     requires table { table < 8 }
-    ensures { OnOk result (met.new.items
-        ≡ met.old.items ++ map (with_port geometry words.now) (table_nodes geometry words.now table)) }
+    ensures { met.new ≡ marked met.old (table_nodes geometry words.now table) }
 {
     let shape = words[places::shape(table)];
     for bucket in 0..Shape::from(shape).size() {
-        push_bucket(met, geometry, words, place_of(geometry, shape, bucket))?;
+        mark_bucket(met, geometry, words, place_of(geometry, shape, bucket));
     }
-    Ok(())
 }
 
-/// Puts the nodes of the bucket at a place, where it has one, behind those that were met.
-fn push_bucket(
-    met: &mut Vec<(Port, u32)>,
-    geometry: Geometry,
-    words: &[u64],
-    bucket: Option<usize>,
-) -> Result<(), AllocError>
+/// Marks the nodes of the bucket at a place, where it has one.
+fn mark_bucket(met: &mut [bool], geometry: Geometry, words: &[u64], bucket: Option<usize>)
     requires words { length words.now ≡ words_in geometry }
+    requires met { length met.old ≡ geometry.nodes }
     requires bucket { IsBucketOrNone geometry bucket }
-    ensures { OnOk result (met.new.items
-        ≡ met.old.items ++ map (with_port geometry words.now) (bucket_nodes geometry words.now bucket)) }
+    ensures { met.new ≡ marked met.old (bucket_nodes geometry words.now bucket) }
 {
-    match bucket {
-        Some(place) => push_chain(met, geometry, words, place),
-        None => Ok(()),
+    if let Some(place) = bucket {
+        mark_chain(met, geometry, words, place);
     }
 }
 
-/// Puts the nodes in the chain of the bucket at a place behind those that were met.
-fn push_chain(
-    met: &mut Vec<(Port, u32)>,
-    geometry: Geometry,
-    words: &[u64],
-    place: usize,
-) -> Result<(), AllocError>
+/// Marks the nodes in the chain of the bucket at a place.
+fn mark_chain(met: &mut [bool], geometry: Geometry, words: &[u64], place: usize)
     requires words { length words.now ≡ words_in geometry }
+    requires met { length met.old ≡ geometry.nodes }
     requires place { place < words_in geometry }
-    ensures { OnOk result (met.new.items
-        ≡ met.old.items ++ map (with_port geometry words.now) (bucket_nodes geometry words.now (Some place))) }
+    ensures { met.new ≡ marked met.old (bucket_nodes geometry words.now (Some place)) }
 {
     let mut next = node_of(geometry.nodes, head_of(place, words[place]));
     for _ in 0..geometry.nodes {
         let Some(node) = next else {
-            return Ok(());
+            return;
         };
-        met.push((port_of(words[geometry.key(node)]), node))?;
+        met[node as usize] = true;
         next = node_of(geometry.nodes, words[geometry.chain_link(node)]);
     }
-    Ok(())
 }
 
-/// Puts the owners of a port with this first node, each behind the port, behind the others.
-fn push_owners(
-    owners: &mut Vec<(Port, u32)>,
-    geometry: Geometry,
-    words: &[u64],
-    first: (Port, u32),
-) -> Result<(), AllocError>
+/// Puts down the nodes that are marked, each behind its port.
+fn put_marked(firsts: &mut Vec<(Port, u32)>, met: &[bool], geometry: Geometry, words: &[u64])
+    requires firsts { (firsts.old.items ≡ []) × (geometry.nodes ≤ vec_capacity firsts.old) }
+    requires met { length met.now ≡ geometry.nodes }
+    requires words { length words.now ≡ words_in geometry }
+    ensures { firsts.new.items ≡ map (with_port geometry words.now) (marked_below met.now geometry.nodes) }
+{
+    for node in 0..geometry.nodes {
+        if met[node as usize] {
+            push_within(firsts, (port_of(words[geometry.key(node)]), node));
+        }
+    }
+}
+
+/// Appends within the capacity, so that no memory is taken.
+fn push_within(firsts: &mut Vec<(Port, u32)>, first: (Port, u32))
+    requires { vec_len firsts.old < vec_capacity firsts.old }
+    ensures items { firsts.new.items ≡ firsts.old.items ++ first ∷ [] }
+    ensures len { vec_len firsts.new ≡ vec_len firsts.old + 1 }
+    ensures capacity { vec_capacity firsts.old ≤ vec_capacity firsts.new }
+{
+    firsts.push(first).unwrap();
+}
+
+/// Adds the owners of a port with this first node to the bindings.
+fn add_owners(bindings: &mut Bindings, geometry: Geometry, words: &[u64], first: (Port, u32))
     requires words { length words.now ≡ words_in geometry }
     requires node { first.1 < geometry.nodes }
-    ensures { OnOk result (owners.new.items ≡ owners.old.items ++ owned geometry words.now first) }
+    requires room { length (owned geometry words.now first) ≤ bindings.old.room }
+    ensures pairs { bindings.new.pairs ≡ all_added bindings.old.pairs (owned geometry words.now first) }
+    ensures room { bindings.new.room + length (owned geometry words.now first) ≡ bindings.old.room }
 {
     let mut next = Some(first.1);
     for _ in 0..geometry.nodes {
         let Some(node) = next else {
-            return Ok(());
+            return;
         };
-        owners.push((first.0, owner_of(words[geometry.owner(node)])))?;
+        bindings.add(first.0, owner_of(words[geometry.owner(node)]));
         next = node_of(geometry.nodes, words[geometry.list_link(node)]);
     }
-    Ok(())
-}
-
-/// These owners as bindings, each behind its port. More than 32 bits can count are want of memory.
-fn bindings_of(alloc: Global, owners: &[(Port, u32)]) -> Result<Bindings, AllocError>
-    ensures pairs { IfOk result (λ bindings. bindings.pairs ≡ all_added [] owners.now) }
-    ensures few { IfOk result (λ bindings. length bindings.pairs < 2 ^ 32) }
-{
-    let Ok(room) = u32::try_from(owners.len()) else {
-        return Err(AllocError);
-    };
-    let mut bindings = Bindings::with_room(alloc, room)?;
-    for owner in owners {
-        bindings.add(owner.0, owner.1);
-    }
-    Ok(bindings)
 }

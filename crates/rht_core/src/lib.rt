@@ -16,6 +16,7 @@ mod state;
 
 pub use book::Book;
 pub use bound::owners_of;
+pub use closing::ClosingRoom;
 pub use count::PortCount;
 pub use event::{Event, Stepped};
 pub use local::{Doing, Local};

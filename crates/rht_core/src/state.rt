@@ -10,7 +10,7 @@ ghost use Rattle.rht_core.specs.Runs.{core_of, core_step, local_of, begun, plann
 ghost use Rattle.rht_core.specs.Locals.{fresh, is_idle, IsLocalOf};
 ghost use Rattle.rht_core.specs.Closing.{current_size, IsClosedOf};
 
-use crate::closing::{current_size, listing};
+use crate::closing::{ClosingRoom, current_size};
 use crate::event::{Event, Stepped};
 use crate::local::Local;
 use rht_model::{Call, Closed};
@@ -107,13 +107,9 @@ impl<M: Mix> State<M> {
             → is_idle (local_of self.now caller) ≡ true }
         ensures { IfOk result (IsClosedOf self.now.env.geometry self.now.words) }
     {
-        let bindings = listing(*self.words.allocator(), self.env.geometry, &self.words)?;
-        let keys = bindings.len() as u32;
-        Ok(Closed {
-            bindings,
-            size: self.size(),
-            keys,
-        })
+        let geometry = self.env.geometry;
+        let room = ClosingRoom::new(*self.words.allocator(), geometry)?;
+        Ok(room.closed(geometry, &self.words))
     }
 }
 

@@ -5,10 +5,12 @@ use Rattle.rht_words.specs.declared.op.Op.{Op}
 use Rattle.rht_words.specs.declared.env.Env.{Env}
 use Rattle.rht_words.specs.Places.{words_in}
 use Rattle.rht_words.specs.Planned.{IsPlannedIn}
+use Rattle.rht_model.specs.declared.bindings.Closed.{Closed}
 use Rattle.rht_model.specs.declared.history.Call.{Call}
 use Rattle.rht_model.specs.declared.history.Reply.{Reply}
 use Rattle.rht_core.specs.declared.event.Event.{Event}
 use Rattle.rht_core.specs.declared.book.Book.{Book}
+use Rattle.rht_core.specs.Closing.{IsClosedOf}
 use Rattle.rht_core.specs.Locals.{fresh, is_idle, plan_of, local_after}
 use Rattle.rht_core.specs.Runs.{View, new_book, run_of, IsAdmitted}
 use Rattle.rht_core.specs.Laws.{view_stepped}
@@ -155,3 +157,9 @@ module _ {M : Type 0} where
     pub lie : IsLaidOut laid words
     pub count : length words ≡ words_in env.geometry
     pub end : IsEnd mix env passes words
+
+  -- what was closed is what such words say
+  pub record IsClosedWith (mix : ℕ → ℕ → ℕ → ℕ) (env : Env) (passes : List (Pass M)) (closed : Closed) : Type 0 where
+    pub words : List ℕ
+    pub end : IsEnd mix env passes words
+    pub closed_of : IsClosedOf env.geometry words closed

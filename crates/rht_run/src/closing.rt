@@ -7,7 +7,8 @@ ghost use Rattle.rht_run.specs.declared.pass.Pass.{Pass as PassOf};
 ghost use Rattle.rht_run.specs.declared.seats.Held.{Held as HeldOf};
 ghost use Rattle.rht_run.specs.Layout.{gaps, IsLaidOut};
 ghost use Rattle.rht_run.specs.Rule.{In};
-ghost use Rattle.rht_run.specs.Passes.{IsPassOf, Among, HasTaken, IsEnd, IsLaidEnd};
+ghost use Rattle.rht_run.specs.Passes.{IsPassOf, Among, HasTaken, IsClosedWith, IsLaidEnd};
+ghost use Rattle.rht_core.specs.Closing.{IsRoomFor};
 
 use crate::layout::physical;
 use crate::pass::Pass;
@@ -15,9 +16,11 @@ use crate::plays::Hands;
 use crate::seats::SeatView;
 use crate::table::Table;
 use atomic_table::Seat;
-use rht_model::Room;
+use rht_core::ClosingRoom;
+use rht_model::{Closed, Room};
 use rht_policy::Mix;
-use std::alloc::Global;
+use rht_words::Geometry;
+use std::alloc::{AllocError, Global};
 
 /// A table that wasn't closed, for want of memory, with the passes that came with it.
 #[derive(Drop)]
@@ -29,29 +32,31 @@ pub struct NotClosed<M: Mix> {
 }
 
 impl<M: Mix> Table<M> {
-    /// The last words of a table, in the order of their places. They are those at the end of one run
-    /// with the table's config, in which the number of each of the passes has what the pass has. The
-    /// one refusal is want of memory: all is handed back as it was. The room for the words is taken
-    /// before the first pass is joined, and nothing is refused behind that.
-    pub fn last_words(
+    /// What is bound, in rising order of ports, the size of the current table, and how many ports are
+    /// bound, as the last words say it. These are the words at the end of one run with the table's
+    /// config, in which the number of each of the passes has what the pass has. The one refusal is
+    /// want of memory: all is handed back as it was. All memory is taken before the first pass is
+    /// joined, and nothing is refused behind that. It is no function of the kernel, where a table
+    /// goes with all that is in it.
+    pub fn close(
         alloc: Global,
         table: Table<M>,
         passes: Vec<Pass<M>>,
-    ) -> Result<Room<u64>, NotClosed<M>>
+    ) -> Result<Closed, NotClosed<M>>
         requires some { 0 < vec_len passes }
         requires passes { (p : PassOf M) → Among p passes.items → IsPassOf M.mix_of table p }
-        ensures end { IfOk result (λ words. IsEnd M.mix_of table.env passes.items words.items) }
+        ensures closed { IfOk result (IsClosedWith M.mix_of table.env passes.items) }
         ensures table { IfErr result (λ all. all.table ≡ table) }
         ensures passes { IfErr result (λ all. all.passes.items ≡ passes.items) }
     {
-        let count = table.env.geometry.words() as u32;
-        let Ok(mut words) = Room::with_limit(alloc, count) else {
+        let geometry = table.env.geometry;
+        let Ok((mut words, room)) = rooms(alloc, geometry) else {
             return Err(NotClosed { table, passes });
         };
-        let closed = table.end(passes);
-        read_words(&mut words, &closed, count);
-        closed.free();
-        Ok(words)
+        let laid = table.end(passes);
+        read_words(&mut words, &laid, geometry.words() as u32);
+        laid.free();
+        Ok(room.closed(geometry, words.as_slice()))
     }
 
     /// Joins all passes, and closes the words.
@@ -101,6 +106,16 @@ impl<M: Mix> Table<M> {
         } = pass;
         self.words.shared.join_seat::<Hands<M>>(seat, other);
     }
+}
+
+/// Room for all words, and for what they say.
+fn rooms(alloc: Global, geometry: Geometry) -> Result<(Room<u64>, ClosingRoom), AllocError>
+    ensures words { IfOk result (λ r. (r.0.items ≡ []) × (r.0.limit ≡ words_in geometry)) }
+    ensures room { IfOk result (λ r. IsRoomFor geometry r.1) }
+{
+    let words = Room::with_limit(alloc, geometry.words() as u32)?;
+    let room = ClosingRoom::new(alloc, geometry)?;
+    Ok((words, room))
 }
 
 /// Reads all words that lie in a closed table, in the order of their places.

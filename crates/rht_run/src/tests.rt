@@ -6,7 +6,7 @@ ghost use Rattle.rht_core.specs.Locals.{is_idle};
 ghost use Rattle.rht_run.specs.Passes.{IsPassOf, AreNew, IsNew};
 
 use super::{Pass, Table};
-use rht_model::Reply;
+use rht_model::{Closed, Reply};
 use rht_policy::{Low, Mix};
 use rht_words::{Config, Hash, Kind, Port};
 use std::alloc::{AllocError, Global};
@@ -60,20 +60,13 @@ fn each_call<M: Mix, R: Wait>(rt: &R, table: &Table<M>, pass: &mut Pass<M>) -> [
     ]
 }
 
-/// How many words a table has at its end.
-fn words_at_end<M: Mix>(
-    alloc: Global,
-    table: Table<M>,
-    pass: Pass<M>,
-) -> Result<Option<usize>, AllocError>
+/// Closes a table of one pass.
+fn closed<M: Mix>(alloc: Global, table: Table<M>, pass: Pass<M>) -> Result<Closed, AllocError>
     requires { IsPassOf M.mix_of table pass }
 {
     let mut passes = Vec::new(alloc);
     passes.push(pass)?;
-    match Table::last_words(alloc, table, passes) {
-        Ok(words) => Ok(Some(words.as_slice().len())),
-        Err(_) => Ok(None),
-    }
+    Table::close(alloc, table, passes).map_err(|_| AllocError)
 }
 
 #[test]
@@ -94,8 +87,50 @@ fn makes_each_call(rt: HostRuntime) -> Result<(), Fail> {
     ];
     assert_eq!(rt; each_call(&rt, &table, &mut pass), want);
     assert_eq!(rt; pass.owners(), [4].as_slice());
-    // 280 words, one word of each map, 8 nodes of 4 words, and 4 pages of 64.
-    assert_eq!(rt; words_at_end(rt.alloc(), table, pass)?, Some(570));
+    let closed = closed(rt.alloc(), table, pass)?;
+    assert_eq!(rt; (closed.size, closed.keys), (64, 1));
+    assert_eq!(rt; closed.bindings.len(), 1);
+    assert_eq!(rt; closed.bindings.port(0), 5);
+    assert_eq!(rt; closed.bindings.owners(0), [4].as_slice());
+    Ok(())
+}
+
+/// Binds four ports in a table of four buckets, and lets it grow.
+fn grow<M: Mix, R: Wait>(rt: &R, table: &Table<M>, pass: &mut Pass<M>) -> [Reply; 5]
+    requires pass { IsPassOf M.mix_of table.now pass.old }
+    requires idle { is_idle pass.old.local ≡ true }
+    ensures pass { IsPassOf M.mix_of table.now pass.new }
+{
+    let first = table.bind(rt, pass, 7, 1);
+    let second = table.bind(rt, pass, 2, 2);
+    let third = table.bind(rt, pass, 11, 3);
+    let fourth = table.bind(rt, pass, 5, 4);
+    let worked = table.work(rt, pass);
+    [first, second, third, fourth, worked]
+}
+
+#[test]
+fn a_table_that_has_grown_is_closed(rt: HostRuntime) -> Result<(), Fail> {
+    let config = Config { hint: 3, ..SMALL };
+    assert!(rt; config.is_settled());
+    let (table, passes) = Table::<Low>::open(rt.alloc(), config)?;
+    let mut pass = only(&table, passes).ok_or("a pass")?;
+    let want = [
+        Reply::Bound { kick: false },
+        Reply::Bound { kick: false },
+        Reply::Bound { kick: false },
+        Reply::Bound { kick: true },
+        Reply::Moved { again: false },
+    ];
+    assert_eq!(rt; grow(&rt, &table, &mut pass), want);
+    let closed = closed(rt.alloc(), table, pass)?;
+    assert_eq!(rt; (closed.size, closed.keys), (8, 4));
+    assert_eq!(rt; closed.bindings.len(), 4);
+    assert_eq!(rt; closed.bindings.port(0), 2);
+    assert_eq!(rt; closed.bindings.port(1), 5);
+    assert_eq!(rt; closed.bindings.port(2), 7);
+    assert_eq!(rt; closed.bindings.port(3), 11);
+    assert_eq!(rt; closed.bindings.owners(1), [4].as_slice());
     Ok(())
 }
 

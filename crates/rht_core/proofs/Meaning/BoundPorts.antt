@@ -427,7 +427,7 @@ module _ (env : Env) (mix : ℕ → ℕ → ℕ → ℕ) (words : List ℕ) (G :
       (subst (λ place. In n (bucket_nodes g words place)) (place-index τ from.0 l below) from.2)
 
   -- a node that is met is the first of those to which its port is bound
-  met_bound : (n : ℕ) → In n all_nodes → (behind : List ℕ) × (G.bound (key_of M n) ≡ n ∷ behind)
+  pub met_bound : (n : ℕ) → In n all_nodes → (behind : List ℕ) × (G.bound (key_of M n) ≡ n ∷ behind)
   met_bound n i =
       let from = flat_map-In (table_nodes g words) n (in_force g words) i in
       let is = in_force_is from.0 from.1 in

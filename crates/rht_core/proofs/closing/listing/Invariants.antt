@@ -1,12 +1,13 @@
-use Rattle.std.proofs.Common.{◌≡◌, ◌++◌, drop}
+use Rattle.std.proofs.Common.{◌≡◌, ◌≤◌, [], length, drop}
 use Rattle.std.specs.List.{flat_map}
-use Rattle.rht_core.specs.Closing.{owned, AreFirsts}
+use Rattle.rht_core.specs.Closing.{owned, all_added, AreFirsts}
 use Rattle.rht_core.proofs.closing.listing.Given as goal
 
--- the owners so far, with those of the ports that are left, are all of them
+-- the bindings so far, with those of the ports that are left, are all of them, and there is room for these
 abbrev pub invariant-loop-first : goal.invariant-loop-first
 invariant-loop-first l = record {
-  all : l.owners.items ++ flat_map (owned l.geometry l.words) (drop l.first-index l.first-items)
-      ≡ flat_map (owned l.geometry l.words) l.first-items;
+  all : all_added l.bindings.pairs (flat_map (owned l.geometry l.words) (drop l.first-index l.first-items))
+      ≡ all_added [] (flat_map (owned l.geometry l.words) l.first-items);
+  room : length (flat_map (owned l.geometry l.words) (drop l.first-index l.first-items)) ≤ l.bindings.room;
   firsts : AreFirsts l.geometry l.words l.first-items;
 }

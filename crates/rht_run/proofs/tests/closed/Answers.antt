@@ -1,10 +1,10 @@
 use Rattle.std.proofs.Common.{◌≡◌, List, [], ◌∷◌, ◌++◌, ⊎_elim, ◌∙◌, ap, sym, subst}
 use Rattle.rht_run.specs.declared.pass.Pass.{Pass}
 use Rattle.rht_run.specs.Passes.{IsPassOf, Among}
-use Rattle.rht_run.proofs.tests.words_at_end.Goals as goal
+use Rattle.rht_run.proofs.tests.closed.Goals as goal
 
-pub last_words-requires-clause-passes : goal.last_words-requires-clause-passes
-last_words-requires-clause-passes g c p among =
+pub close-requires-clause-passes : goal.close-requires-clause-passes
+close-requires-clause-passes g c p among =
     let one : c.push.new.self.items ≡ c.args.pass ∷ [] =
     c.in_ok-push.ensures.items
     ∙ ap (λ (ps : List (Pass g.row.M.Denot)). ps ++ c.args.pass ∷ []) c.new-passes.ensures.items in
