@@ -43,3 +43,5 @@ pub mod ToldHistories
 pub mod WorkCauses
 -- what a resizing leaves that is alone
 pub mod Worked
+-- what a call leaves that was refused
+pub mod Refused

@@ -19,6 +19,7 @@ use Rattle.rht_model.specs.declared.history.Call.{Call}
 use Rattle.rht_model.specs.Multimap.{Multimap, Agree}
 use Rattle.rht_model.specs.Answers.{Answer, is_change}
 use Rattle.rht_arena.specs.Laws.{map_place, map_bit, IsTaking}
+use Rattle.rht_core.specs.Refused.{IsTableWord}
 use Rattle.rht_core.proofs.Theory.Ghosts.{put, put-all, Owner, Free, Held, First, Leaving, PageFree, PageHeld, SlotFree, SlotHeld, Ghost, is_taken_by, with_holder, with_armed, with_owner, with_raised, with_slot, has_bit, with_pages, flat_table, with_table}
 use Rattle.rht_core.proofs.Theory.Wholes.{place_at, outs, Whole}
 use Rattle.rht_core.proofs.Theory.Reliance.{bound_used}
@@ -99,15 +100,6 @@ SaysChange (Some answer) = is_change answer.reply ≡ true
 -- the operation leaves each bit of the word that it found
 abbrev pub LeavesBits : Op → ℕ → Type 0
 LeavesBits op old = (bit : ℕ) → bit < 64 → bit_at (word_after old op) bit ≡ bit_at old bit
-
--- the word is one of a slot's that say something of its table
-abbrev pub IsTableWord : SlotWord → Type 0
-IsTableWord ShapeWord = Unit {0}
-IsTableWord SeedWord = Unit {0}
-IsTableWord FutureWord = Unit {0}
-IsTableWord SerialWord = Unit {0}
-IsTableWord StateWord = ⊥
-IsTableWord (LoadedSection caller) = ⊥
 
 module _ (g : Geometry) where
   -- the operation is on a word of the node that the call has

@@ -1,0 +1,4 @@
+-- which bits operations turn, and which ones a call has turned by what it holds
+pub mod TurnedBits
+-- what each move makes of them
+pub mod UndoneMoves
