@@ -2,3 +2,5 @@
 pub mod TurnedBits
 -- what each move makes of them
 pub mod UndoneMoves
+-- the states behind which no refusal comes
+pub mod PastRefusal
