@@ -4,3 +4,5 @@ pub mod TurnedBits
 pub mod UndoneMoves
 -- the states behind which no refusal comes
 pub mod PastRefusal
+-- which shape a bind has stored for the table that it attaches
+pub mod StoredShapes
