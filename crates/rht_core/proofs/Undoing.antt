@@ -6,3 +6,7 @@ pub mod UndoneMoves
 pub mod PastRefusal
 -- which shape a bind has stored for the table that it attaches
 pub mod StoredShapes
+-- what a job holds and does that may still be refused
+pub mod RefusableJobs
+-- in every run a call that was refused has undone what it did
+pub mod RefusedCalls

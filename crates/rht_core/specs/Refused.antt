@@ -25,8 +25,8 @@ use Rattle.rht_core.specs.RunHistories.{ChangesBindings}
 
 -- a call that ends with this reply changes nothing: it was refused, or its port was bound, or it replaced no owner
 abbrev pub changes_nothing : Call → Reply → Bool
-changes_nothing (Rebind port owner new) Absent = true
 changes_nothing call (Exists owner) = true
+changes_nothing (Rebind port owner new) Absent = true
 changes_nothing call reply = is_refusal reply
 
 -- ---- bits that operations turn
@@ -43,13 +43,15 @@ turns place bit (did ∷ steps) = turned place bit did + turns place bit steps
 
 -- ---- what may be left otherwise
 
--- the operation gives this node back
-abbrev pub GivesBackNode : Geometry → ℕ → Did → Type 0
-GivesBackNode g node did = did.op ≡ Or (map_place g node) (bit_of (map_bit node))
+-- the operation gives this node back, which was taken until then
+pub record GivesBackNode (g : Geometry) (node : ℕ) (did : Did) : Type 0 where
+  pub gives : did.op ≡ Or (map_place g node) (bit_of (map_bit node))
+  pub taken : bit_at did.old (map_bit node) ≡ 0
 
--- the operation gives this slot back
-abbrev pub GivesBackSlot : Geometry → ℕ → Did → Type 0
-GivesBackSlot g slot did = did.op ≡ Store (place_of g (Slot slot StateWord)) 0
+-- the operation gives this slot back, which was taken until then
+pub record GivesBackSlot (g : Geometry) (slot : ℕ) (did : Did) : Type 0 where
+  pub gives : did.op ≡ Store (place_of g (Slot slot StateWord)) 0
+  pub taken : did.old ≡ 1
 
 -- the word is one of a slot's that say something of its table
 abbrev pub IsTableWord : SlotWord → Type 0

@@ -11,7 +11,7 @@ use Rattle.rht_words.specs.Links.{future_of}
 use Rattle.rht_words.specs.Maps.{bit_of}
 use Rattle.rht_words.specs.Ports.{owner_of}
 use Rattle.rht_words.specs.Operations.{op_place, old_of, word_after, applied}
-use Rattle.rht_words.specs.Places.{CurrentTable, WorkLock, PortCount, NextSerial, Slot, SlotWord, ShapeWord, SeedWord, FutureWord, SerialWord, StateWord, LoadedSection, PageMap, Node, NodeWord, ChainLink, OwnerWord, nodes_at, place_of, word_at}
+use Rattle.rht_words.specs.Places.{CurrentTable, WorkLock, PortCount, NextSerial, Slot, SlotWord, FutureWord, StateWord, PageMap, Node, NodeWord, ChainLink, OwnerWord, nodes_at, place_of, word_at}
 use Rattle.rht_words.specs.Members.{In}
 use Rattle.rht_words.proofs.Members.{count_below-same, in-middle}
 use Rattle.rht_words.proofs.Memory.{Memory}

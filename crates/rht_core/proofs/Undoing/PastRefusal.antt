@@ -1,7 +1,7 @@
 -- The states behind which a call ends with no refusal any more, nor with another reply that says that nothing was changed: a bind and a
 -- rebind that publish their node, and a resizing that has made its table or needed none. Look-ups, listings, releases and readings of the
 -- count are in such a state from the first.
-use Rattle.std.proofs.Common.{◌≡◌, ℕ, ◌+◌, ◌==◌, Bool, true, false, cond, Option, Some, None, refl, nat_lt}
+use Rattle.std.proofs.Common.{◌≡◌, ℕ, ◌+◌, ◌==◌, Bool, true, false, Option, Some, None, refl, nat_lt}
 use Rattle.std.proofs.lemmas.Bool.{cond_both}
 use Rattle.rht_words.specs.declared.env.Env.{Env}
 use Rattle.rht_words.specs.declared.geometry.Geometry.{Geometry}
@@ -29,7 +29,7 @@ use Rattle.rht_release.specs.declared.rebind.RebindAt.TheVariants as rebinding
 use Rattle.rht_move.specs.Choice.{is_nested}
 use Rattle.rht_move.specs.LastTable.{LastTableModel, last_table_after}
 use Rattle.rht_move.specs.LastEntry.{LastEntryModel, last_entry_after}
-use Rattle.rht_move.specs.Work.{after_at, locking_or_publish, bucket_or_publish, next_bucket, locked, unlocking, entry_table_seen, with_word, entry_or_empty, walked, second_or_stop, second_locked, cut_off, unlocked_bucket, retiring, attached, unmade, future_or_idle}
+use Rattle.rht_move.specs.Work.{after_at, locking_or_publish, bucket_or_publish, next_bucket, locked, unlocking, entry_table_seen, with_word, entry_or_empty, walked, second_or_stop, second_locked, cut_off, unlocked_bucket, retiring, unmade, future_or_idle}
 use Rattle.rht_move.specs.declared.last_table.Last.{Last}
 use Rattle.rht_move.specs.declared.last_entry.Entry.{Entry}
 use Rattle.rht_move.specs.declared.rehash.Rehash.{Rehash}

@@ -1,10 +1,8 @@
 -- A bind that attaches a table has stored the shape of that table last, of all shapes that it has stored in its slot: from the store of
 -- the shape on the making stores other words alone, and behind it comes the exchange that attaches the table.
-use Rattle.std.proofs.Common.{◌≡◌, ◌≢◌, ℕ, ◌+◌, ◌-◌, ◌*◌, ◌==◌, Bool, true, false, cond, List, [], ◌∷◌, ◌++◌, Option, Some, None, min, nat_le, nat_lt, nat_eq, refl, sym, ap, ◌∙◌, arith}
-use Rattle.std.specs.List.{AllByRecursion}
+use Rattle.std.proofs.Common.{◌≡◌, ◌≢◌, ℕ, ◌+◌, ◌==◌, Bool, List, [], ◌∷◌, ◌++◌, Option, Some, None, min, nat_le, nat_lt, nat_eq, refl, sym, ap, ◌∙◌, arith}
 use Rattle.std.proofs.lemmas.Bool.{cond_both}
 use Rattle.std.proofs.lemmas.List.{append_assoc}
-use Rattle.rht_words.specs.declared.op.Op.{Op}
 use Rattle.rht_words.specs.declared.op.Op.TheVariants.{Store}
 use Rattle.rht_words.specs.declared.env.Env.{Env}
 use Rattle.rht_words.specs.declared.config.Kind.{Kind}
@@ -14,7 +12,7 @@ use Rattle.rht_words.specs.declared.machine.Next.{Next}
 use Rattle.rht_words.specs.declared.machine.Next.TheVariants.{Go, Done}
 use Rattle.rht_words.specs.declared.machine.Start.{Start}
 use Rattle.rht_words.specs.declared.machine.Start.TheVariants as starts
-use Rattle.rht_words.specs.Links.{table_of, slot_of}
+use Rattle.rht_words.specs.Links.{slot_of}
 use Rattle.rht_words.specs.Shapes.{unpacked, size_of}
 use Rattle.rht_words.specs.Places.{Slot, ShapeWord, place_of}
 use Rattle.rht_words.proofs.EachElement.{AllByRecursion-push}
@@ -24,17 +22,17 @@ use Rattle.rht_arena.specs.NewNode.{NewNodeModel, new_node_after}
 use Rattle.rht_arena.specs.TakeRun.{TakeRunModel, take_run_new, take_run_after}
 use Rattle.rht_nest.specs.Locate.{LocateModel, locate_after}
 use Rattle.rht_nest.specs.declared.locate.Located.{Located}
-use Rattle.rht_nest.specs.Make.{MakeModel, make_plan_at, make_after, make_after_at, made_pages, made_shape, run_taken, run_started, slot_seen}
+use Rattle.rht_nest.specs.Make.{MakeModel, make_plan_at, make_after_at, made_pages, made_shape, run_taken, run_started, slot_seen}
 use Rattle.rht_nest.specs.declared.make.MakeAt.{MakeAt}
 use Rattle.rht_nest.specs.declared.make.MakeAt.TheVariants as makes
-use Rattle.rht_nest.specs.Unmake.{UnmakeModel, unmake_new, unmake_after}
+use Rattle.rht_nest.specs.Unmake.{UnmakeModel, unmake_after}
 use Rattle.rht_chain.specs.Probe.{ProbeModel, probe_after}
 use Rattle.rht_chain.specs.declared.probe.Probed.{Probed}
 use Rattle.rht_chain.specs.Relink.{RelinkModel, relink_after}
 use Rattle.rht_chain.specs.declared.locked.Then.{Then}
 use Rattle.rht_chain.specs.declared.locked.Then.TheVariants.{Table, Answer}
 use Rattle.rht_bind.specs.Bind.{plan_at, after_at, filled, bucket_or_no_table, located, bound_already, found_or_future, probed, replaced, future_or_count, checked_count, published, unlocked}
-use Rattle.rht_bind.specs.Growing.{making, size_grown, want_or_busy, made, ended_attempt, behind_attempt, refused_or_found, has_attached, checked_attach, unmade}
+use Rattle.rht_bind.specs.Growing.{size_grown, want_or_busy, made, ended_attempt, behind_attempt, refused_or_found, has_attached, checked_attach, unmade}
 use Rattle.rht_bind.specs.declared.bind.Attempt.{Attempt}
 use Rattle.rht_bind.specs.declared.bind.Claimed.{Claimed}
 use Rattle.rht_bind.specs.declared.bind.FoundList.{FoundList}

@@ -3,8 +3,7 @@
 --
 -- It is so of the moves of a call that may still be refused: it has raised no count and moved no entries. What an operation finds that
 -- gives something back is known from who has it.
-use Rattle.std.proofs.Common.{◌≡◌, ◌≢◌, ◌⊎◌, ◌↔◌, ℕ, ◌+◌, ◌-◌, ◌*◌, ◌/◌, ◌%◌, ◌<◌, ◌≤◌, ◌==◌, Bool, true, false, List, [], ◌∷◌, ◌++◌, Option, Some, None, refl, sym, ap, ◌∙◌, subst, inl, inr, arith}
-use Rattle.std.specs.List.{Any}
+use Rattle.std.proofs.Common.{◌≡◌, ◌≢◌, ◌⊎◌, ◌↔◌, ℕ, ◌+◌, ◌*◌, ◌/◌, ◌%◌, ◌<◌, ◌==◌, Bool, true, false, List, [], ◌∷◌, ◌++◌, Some, None, refl, sym, ap, ◌∙◌, subst, inl, inr, arith}
 use Rattle.std.specs.Int.{bit_at}
 use Rattle.std.proofs.lemmas.Bool.{cases_eq, cases_lt, eq-eqb, eqb-true, and_parts, and_from}
 use Rattle.std.proofs.lemmas.List.{append_assoc}
@@ -12,29 +11,26 @@ use Rattle.std.proofs.lemmas.List.Quantifiers.{Any-push}
 use Rattle.std.proofs.lemmas.Nat.Bits.{bit_at-lt}
 use Rattle.rht_words.specs.declared.env.Env.{Env}
 use Rattle.rht_words.specs.declared.geometry.Geometry.{Geometry}
-use Rattle.rht_words.specs.declared.op.Op.{Op}
 use Rattle.rht_words.specs.declared.op.Op.TheVariants.{Store, Exchange, Or}
 use Rattle.rht_words.specs.Links.{future_of}
 use Rattle.rht_words.specs.Maps.{bit_of}
 use Rattle.rht_words.specs.Members.{In}
 use Rattle.rht_words.specs.Operations.{op_place, old_of, word_after}
-use Rattle.rht_words.specs.Places.{WorkLock, NextSerial, Slot, SlotWord, FutureWord, StateWord, NodeMap, PageMap, Node, NodeWord, place_of}
+use Rattle.rht_words.specs.Places.{WorkLock, Slot, SlotWord, FutureWord, StateWord, NodeMap, PageMap, Node, NodeWord, place_of}
 use Rattle.rht_words.proofs.BitChanges.{bit_at-set, bit_at-set_other}
 use Rattle.rht_words.proofs.EachElement.{Any-append_left}
 use Rattle.rht_words.proofs.Members.{one_if}
-use Rattle.rht_words.proofs.Memory.{Memory}
 use Rattle.rht_model.specs.declared.history.Call.{Call}
 use Rattle.rht_arena.specs.Laws.{map_place, map_bit}
 use Rattle.rht_nest.specs.Tables.{pages_of_shape}
 use Rattle.rht_core.specs.Traces.{Did}
-use Rattle.rht_core.specs.ResizeCauses.{Attaches}
 use Rattle.rht_core.specs.Refused.{turned, turns, IsTableWord, GivesBackNode, GivesBackSlot, IsOfNodeGiven, IsOfSlotGiven, StoresLast, HasAttached, IsOfSlot, IsOfPages, IsOfAttached, MayAttach, IsExcepted}
-use Rattle.rht_core.proofs.Theory.Ghosts.{Ghost, Free, Held, SlotHeld, PageFree, PageHeld, lock_bit, state_word, has_bit}
+use Rattle.rht_core.proofs.Theory.Ghosts.{Ghost, Held, SlotHeld, PageFree, PageHeld, lock_bit, state_word, has_bit}
 use Rattle.rht_core.proofs.Theory.Wholes.{place_at, Whole}
 use Rattle.rht_core.proofs.Theory.Steps.{Holding, Move, Quiet, TakesNode, GivesNode, TakesLock, DropsLock, Raises, Links, Lowers, Rebinds, LinksBehind, Arms, TakesSlot, GivesSlot, TakesPages, GivesPages, TakesWork, GivesWork, BeginsMoving, TakesSecond, Leaves, Arrives, CutsOff, Publishes, Retires, mem, Does, ReadyFor, SaysChange, IsAside, DoesQuiet, DoesTakeNode, DoesGiveNode, DoesTakeLock, DoesDropLock, DoesTakeSlot, DoesGiveSlot, DoesTakePages, DoesGivePages, DoesAttach, DoesTakeWork, DoesGiveWork}
 use Rattle.rht_core.proofs.Theory.Steps as moves
 use Rattle.rht_core.proofs.Theory.Readiness.{ArePagesOf}
-use Rattle.rht_core.proofs.Undoing.TurnedBits.{one_bit, one_bit-there, turned-far, turned-here, turned-same, turned-none, TurnsOne, turned-one, sets_lowest, clears_lowest, turns-push, node_bit, locked_bit, work_bit, slot_bit, is_of_pages, pages_bit, held_bits, IsPageAt, page_or_none, page_at}
+use Rattle.rht_core.proofs.Undoing.TurnedBits.{one_bit, one_bit-there, turned-far, turned-here, turned-same, turned-none, TurnsOne, turned-one, sets_lowest, clears_lowest, turns-push, node_bit, locked_bit, work_bit, slot_bit, pages_bit, held_bits, IsPageAt, page_or_none, page_at}
 
 -- ---- sums of bits
 
@@ -350,7 +346,7 @@ module _ (env : Env) (mix : ℕ → ℕ → ℕ → ℕ) (call : Call) (steps : 
                 inl (inr (inl (record {
                   node = n;
                   among = among;
-                  given = Any-push (GivesBackNode g n) steps did does.giving;
+                  given = Any-push (GivesBackNode g n) steps did (record { gives = does.giving; taken = clear });
                   word = node.word;
                   there = node.there ∙ ap (λ m. place_of g (Node m node.word)) (sym same);
                 })))
@@ -453,7 +449,7 @@ module _ (env : Env) (mix : ℕ → ℕ → ℕ → ℕ) (call : Call) (steps : 
                 inl (inr (inr (inl (record {
                   slot = s;
                   within = does.within;
-                  given = Any-push (GivesBackSlot g s) steps did does.giving;
+                  given = Any-push (GivesBackSlot g s) steps did (record { gives = does.giving; taken = one });
                   word = slot.word;
                   of_table = slot.of_table;
                   there = slot.there ∙ ap (λ m. place_of g (Slot m slot.word)) (sym same);
