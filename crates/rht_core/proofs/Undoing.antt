@@ -10,3 +10,5 @@ pub mod StoredShapes
 pub mod RefusableJobs
 -- in every run a call that was refused has undone what it did
 pub mod RefusedCalls
+-- operations that leave something undone
+pub mod WorkedRefusals
