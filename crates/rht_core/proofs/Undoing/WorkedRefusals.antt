@@ -1,18 +1,18 @@
 -- Operations after which a refused call hasn't undone what it did, the fewest of each kind: a bind that never unlocks an empty bucket, one
 -- that leaks a slot which it had made a table in and given back before, and a resizing that leaves the work lock taken.
-use Rattle.std.proofs.Common.{◌≡◌, ◌⊎◌, ℕ, ◌+◌, ◌*◌, ◌%◌, ◌<◌, ◌≤◌, true, List, [], ◌∷◌, ◌++◌, refl, sym, ap, ◌∙◌, subst, inl, inr, arith}
+use Rattle.std.proofs.Common.{◌≡◌, ℕ, ◌+◌, ◌%◌, ◌<◌, true, List, [], ◌∷◌, refl, ap, subst, inl, inr, arith}
 use Rattle.std.specs.List.{AllByRecursion, Any}
 use Rattle.rht_words.specs.declared.geometry.Geometry.{Geometry}
 use Rattle.rht_words.specs.declared.op.Op.{Op}
 use Rattle.rht_words.specs.declared.op.Op.TheVariants.{Store, Exchange}
-use Rattle.rht_words.specs.Places.{WorkLock, Slot, SlotWord, ShapeWord, SeedWord, FutureWord, SerialWord, StateWord, LoadedSection, PageWord, slot_offset, words_in, place_of}
+use Rattle.rht_words.specs.Places.{WorkLock, Slot, SlotWord, ShapeWord, SeedWord, FutureWord, SerialWord, StateWord, LoadedSection, PageWord, words_in, place_of}
 use Rattle.rht_words.proofs.EachElement.{AllByRecursion-cut}
 use Rattle.rht_words.proofs.PlacesApart.{parts_in_order}
 use Rattle.rht_model.specs.declared.history.Call.{Call}
 use Rattle.rht_model.specs.declared.history.Call.TheVariants.{Bind, Work}
 use Rattle.rht_core.specs.Traces.{Did}
 use Rattle.rht_core.specs.ResizeCauses.{Attaches}
-use Rattle.rht_core.specs.Refused.{turns, IsTableWord, GivesBackNode, GivesBackSlot, IsOfSlotGiven, HasAttached, IsExcepted}
+use Rattle.rht_core.specs.Refused.{turns, IsTableWord, GivesBackNode, GivesBackSlot, HasAttached, IsExcepted}
 use Rattle.rht_core.proofs.Histories.Behind.{Any-push_cases, Any-none}
 use Rattle.rht_core.proofs.Undoing.TurnedBits.{turned-here}
 
