@@ -218,19 +218,19 @@ fn scripts_are_served_and_others_refused(rt: HostRuntime) -> Result<(), Fail> {
 #[derive(Clone, Copy)]
 enum Part {
     Lines(u32, &'static str),
-    Ports(&'static str, Ports, &'static str),
+    Each(&'static str, Row, &'static str),
 }
 
 /// So many ports from the first one on, each so much greater than the one before.
 #[derive(Clone, Copy)]
-struct Ports {
+struct Row {
     first: u32,
     step: u32,
     count: u32,
 }
 
-const fn ports(first: u32, step: u32, count: u32) -> Ports {
-    Ports { first, step, count }
+const fn ports(first: u32, step: u32, count: u32) -> Row {
+    Row { first, step, count }
 }
 
 /// The text of these parts.
@@ -241,7 +241,7 @@ fn written(alloc: Global, parts: &[Part]) -> Result<String, Fail> {
             Part::Lines(count, lines) => for _ in 0..count {
                 text.push_str(lines)?;
             },
-            Part::Ports(before, ports, after) => {
+            Part::Each(before, ports, after) => {
                 let mut port = ports.first;
                 for _ in 0..ports.count {
                     text.push_str(&format!(in alloc; "{before}{port}{after}")?)?;
@@ -255,20 +255,20 @@ fn written(alloc: Global, parts: &[Part]) -> Result<String, Fail> {
 
 #[test]
 fn tables_grow_and_shrink(rt: HostRuntime) -> Result<(), Fail> {
-    use Part::{Lines, Ports};
+    use Part::{Each, Lines};
     // Each script, and its text.
     let cases: [(&[Part], &[Part]); 8] = [
         // Of 64 buckets 48 are three quarters, and 49 are more.
         (
             &[
                 Lines(1, "table single hash low work manual\n"),
-                Ports("1 bind ", ports(0, 1, 48), " 1\n"),
+                Each("1 bind ", ports(0, 1, 48), " 1\n"),
                 Lines(1, "1 work\n1 bind 48 1\n1 work\n"),
             ],
             &[
                 Lines(48, "1: bound\n"),
                 Lines(1, "1: idle\n1: bound\n1: moved\n"),
-                Ports("port ", ports(0, 1, 49), ": 1\n"),
+                Each("port ", ports(0, 1, 49), ": 1\n"),
                 Lines(1, "size 128 keys 49\n"),
             ],
         ),
@@ -276,13 +276,13 @@ fn tables_grow_and_shrink(rt: HostRuntime) -> Result<(), Fail> {
         (
             &[
                 Lines(1, "table single hash low\n"),
-                Ports("1 bind ", ports(0, 1, 49), " 1\n"),
+                Each("1 bind ", ports(0, 1, 49), " 1\n"),
                 Lines(1, "1 work\n"),
             ],
             &[
                 Lines(49, "1: bound\n"),
                 Lines(1, "1: idle\n"),
-                Ports("port ", ports(0, 1, 49), ": 1\n"),
+                Each("port ", ports(0, 1, 49), ": 1\n"),
                 Lines(1, "size 128 keys 49\n"),
             ],
         ),
@@ -290,13 +290,13 @@ fn tables_grow_and_shrink(rt: HostRuntime) -> Result<(), Fail> {
         (
             &[
                 Lines(1, "table single hint 96 shrink on hash low work manual\n"),
-                Ports("1 bind ", ports(0, 1, 38), " 1\n"),
+                Each("1 bind ", ports(0, 1, 38), " 1\n"),
                 Lines(1, "1 work\n1 release 37 1\n1 work\n"),
             ],
             &[
                 Lines(38, "1: bound\n"),
                 Lines(1, "1: idle\n1: released\n1: moved\n"),
-                Ports("port ", ports(0, 1, 37), ": 1\n"),
+                Each("port ", ports(0, 1, 37), ": 1\n"),
                 Lines(1, "size 64 keys 37\n"),
             ],
         ),
@@ -304,26 +304,26 @@ fn tables_grow_and_shrink(rt: HostRuntime) -> Result<(), Fail> {
         (
             &[
                 Lines(1, "table listed work auto hint 96 hash low shrink on\n"),
-                Ports("1 bind ", ports(0, 1, 38), " 1\n"),
+                Each("1 bind ", ports(0, 1, 38), " 1\n"),
                 Lines(1, "1 release 37 1\n1 work\n"),
             ],
             &[
                 Lines(38, "1: bound\n"),
                 Lines(1, "1: released\n1: idle\n"),
-                Ports("port ", ports(0, 1, 37), ": 1\n"),
+                Each("port ", ports(0, 1, 37), ": 1\n"),
                 Lines(1, "size 64 keys 37\n"),
             ],
         ),
         (
             &[
                 Lines(1, "table single hint 96 shrink off hash low\n"),
-                Ports("1 bind ", ports(0, 1, 38), " 1\n"),
+                Each("1 bind ", ports(0, 1, 38), " 1\n"),
                 Lines(1, "1 release 37 1\n1 work\n"),
             ],
             &[
                 Lines(38, "1: bound\n"),
                 Lines(1, "1: released\n1: idle\n"),
-                Ports("port ", ports(0, 1, 37), ": 1\n"),
+                Each("port ", ports(0, 1, 37), ": 1\n"),
                 Lines(1, "size 128 keys 37\n"),
             ],
         ),
@@ -332,13 +332,13 @@ fn tables_grow_and_shrink(rt: HostRuntime) -> Result<(), Fail> {
         (
             &[
                 Lines(1, "table single hash low work manual\n"),
-                Ports("1 bind ", ports(0, 64, 32), " 1\n"),
+                Each("1 bind ", ports(0, 64, 32), " 1\n"),
                 Lines(1, "1 bind 2048 1\n1 work\n1 find 2048\n"),
             ],
             &[
                 Lines(32, "1: bound\n"),
                 Lines(1, "1: busy 0 1\n1: moved\n1: missing\n"),
-                Ports("port ", ports(0, 64, 32), ": 1\n"),
+                Each("port ", ports(0, 64, 32), ": 1\n"),
                 Lines(1, "size 64 keys 32\n"),
             ],
         ),
@@ -347,14 +347,14 @@ fn tables_grow_and_shrink(rt: HostRuntime) -> Result<(), Fail> {
         (
             &[
                 Lines(1, "table single hash low\n"),
-                Ports("1 bind ", ports(0, 64, 25), " 1\n"),
+                Each("1 bind ", ports(0, 64, 25), " 1\n"),
                 Lines(1, "1 count\n"),
             ],
             &[
                 Lines(23, "1: bound\n"),
                 Lines(2, "1: notable 64\n"),
                 Lines(1, "1: count 23\n"),
-                Ports("port ", ports(0, 64, 23), ": 1\n"),
+                Each("port ", ports(0, 64, 23), ": 1\n"),
                 Lines(1, "size 64 keys 23\n"),
             ],
         ),
@@ -365,21 +365,21 @@ fn tables_grow_and_shrink(rt: HostRuntime) -> Result<(), Fail> {
                     1,
                     "table single hint 1 shrink on hash low work manual\n1 bind 0 10\n",
                 ),
-                Ports("1 bind ", ports(1, 1, 3), " 10\n"),
+                Each("1 bind ", ports(1, 1, 3), " 10\n"),
                 Lines(1, "1 work\n"),
-                Ports("1 release ", ports(1, 1, 3), " 10\n"),
+                Each("1 release ", ports(1, 1, 3), " 10\n"),
                 Lines(1, "1 work\n"),
-                Ports("1 bind ", ports(1, 1, 3), " 10\n"),
+                Each("1 bind ", ports(1, 1, 3), " 10\n"),
                 Lines(1, "1 work\n"),
-                Ports("1 release ", ports(1, 1, 3), " 10\n"),
+                Each("1 release ", ports(1, 1, 3), " 10\n"),
                 Lines(1, "1 work\n"),
-                Ports("1 bind ", ports(1, 1, 3), " 10\n"),
+                Each("1 bind ", ports(1, 1, 3), " 10\n"),
                 Lines(1, "1 work\n"),
-                Ports("1 release ", ports(1, 1, 3), " 10\n"),
+                Each("1 release ", ports(1, 1, 3), " 10\n"),
                 Lines(1, "1 work\n"),
-                Ports("1 bind ", ports(1, 1, 3), " 10\n"),
+                Each("1 bind ", ports(1, 1, 3), " 10\n"),
                 Lines(1, "1 work\n"),
-                Ports("1 release ", ports(1, 1, 3), " 10\n"),
+                Each("1 release ", ports(1, 1, 3), " 10\n"),
                 Lines(1, "1 work\n"),
             ],
             &[

@@ -19,3 +19,7 @@ pub mod NodesUsed
 pub mod CountedRuns
 -- where one of the calls that serve commands found no node, more commands need one than there are nodes
 pub mod OutnumberedNodes
+-- which operations leave the words of all slots
+pub mod SparedSlots
+-- in a run with few ports no table is made
+pub mod FewPorts

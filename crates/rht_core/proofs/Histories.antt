@@ -20,3 +20,5 @@ pub mod ToldEntries
 pub mod ToldHistories
 -- a resizing that was alone and found nothing due leaves nothing due
 pub mod SettledTables
+-- where all binds of a run are of some ports, no other port is ever bound
+pub mod BoundAmong

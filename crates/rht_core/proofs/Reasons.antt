@@ -10,6 +10,8 @@ pub mod AttachedTables
 pub mod UnraisedBinds
 -- what the making of a table has seen so far
 pub mod MakesSeen
+-- where a bind does nothing to the state of a slot
+pub mod UntriedSlots
 -- what a bind that finds the last table full has seen for a refusal
 pub mod RefusedBinds
 -- in every run each call that has ended has a reply with its cause
@@ -20,5 +22,9 @@ pub mod KicksInRuns
 pub mod ListingsKept
 -- by which operation a release says that there is something to do for `work`
 pub mod ReleaseKicks
+-- the table that a resizing makes has the size that is due
+pub mod MadeSizes
 -- by which loads a resizing chose what is due, and which table it made the current one
 pub mod WorkChoices
+-- what calls come to while no table was made and few ports are bound
+pub mod CalmCalls

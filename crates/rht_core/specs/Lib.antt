@@ -43,5 +43,7 @@ pub mod ToldHistories
 pub mod WorkCauses
 -- what a resizing leaves that is alone
 pub mod Worked
+-- runs with so few ports that no table is full
+pub mod FewPorts
 -- what a call leaves that was refused
 pub mod Refused

@@ -93,7 +93,7 @@ pub record StoresLast (g : Geometry) (slot shape : ℕ) (steps : List Did) : Typ
   pub last : AllByRecursion (IsNoShapeStore g slot) behind
 
 -- one of these operations attached the table of this slot behind another one, when they had stored this shape for it
-pub record HasAttached (g : Geometry) (table slot shape : ℕ) (steps : List Did) : Type 0 where
+pub record AttachedWith (g : Geometry) (table slot shape : ℕ) (steps : List Did) : Type 0 where
   pub before : List Did
   pub at : Did
   pub behind : List Did
@@ -120,7 +120,7 @@ pub record IsOfAttached (g : Geometry) (steps : List Did) (place bit : ℕ) : Ty
   pub table : ℕ
   pub slot : ℕ
   pub shape : ℕ
-  pub attached : HasAttached g table slot shape steps
+  pub attached : AttachedWith g table slot shape steps
   pub of_it : (place ≡ place_of g (Slot table FutureWord)) ⊎ IsOfSlot g slot place ⊎ IsOfPages g shape place bit
 
 -- only a bind attaches tables and is refused then

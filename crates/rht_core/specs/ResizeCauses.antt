@@ -7,13 +7,14 @@ use Rattle.rht_words.specs.declared.op.Op.TheVariants.{Load, Exchange}
 use Rattle.rht_words.specs.declared.env.Env.{Env}
 use Rattle.rht_words.specs.declared.geometry.Geometry.{Geometry}
 use Rattle.rht_words.specs.Links.{table_of, future_of}
-use Rattle.rht_words.specs.Places.{Address, CurrentTable, PortCount, Slot, FutureWord, Node, KeyWord, IsAddress, place_of}
+use Rattle.rht_words.specs.Machines.{Performed}
+use Rattle.rht_words.specs.Operations.{op_place}
+use Rattle.rht_words.specs.Places.{Address, CurrentTable, PortCount, Slot, FutureWord, StateWord, Node, KeyWord, IsAddress, place_of}
 use Rattle.rht_words.specs.Shapes.{unpacked, size_of}
 use Rattle.rht_policy.specs.Thresholds.{is_above_75, is_above_100}
-use Rattle.rht_arena.specs.Runs.{IsRunIn}
-use Rattle.rht_arena.specs.RunLaws.{SeesRunTaken}
+use Rattle.rht_arena.specs.RunLaws.{AreRunsSeenInTurn}
 use Rattle.rht_nest.specs.Place.{bucket_place}
-use Rattle.rht_nest.specs.MakeLaws.{pages_for, AreSlotsSeenTaken}
+use Rattle.rht_nest.specs.MakeLaws.{pages_for, SeesSlotTaken, AreSlotsSeenTaken}
 use Rattle.rht_core.specs.declared.event.Event.{Event}
 use Rattle.rht_core.specs.StandsFor.{bucket_nodes, stands_for, AreBound}
 use Rattle.rht_core.specs.Traces.{Did, performed_of}
@@ -100,15 +101,20 @@ wanted_size env shape count =
     let size = size_of (unpacked shape) in
     if is_above_75 count size env.config.max then 2 * size else size
 
--- the operations saw for each run of so many pages, of those that begin at a multiple of that number, a page taken
-abbrev pub AreRunsSeenTaken : Geometry → ℕ → List Did → Type 0
-AreRunsSeenTaken g pages steps =
-    (multiple : ℕ) → IsRunIn g (multiple * pages) pages
-    → Any (SeesRunTaken g pages (multiple * pages)) (map performed_of steps)
+-- an operation on the state of a slot found that the slot isn't free
+abbrev pub FindsSlotsTaken : Geometry → Performed → Type 0
+FindsSlotsTaken g step =
+    (slot : ℕ) → slot < 8 → op_place step.op ≡ place_of g (Slot slot StateWord) → SeesSlotTaken g slot step
 
--- no slot was to be had for a table of this size, or no run of pages
+-- each slot was found not to be free, and no operation did anything else to the state of one
+pub record AreSlotsTaken (g : Geometry) (steps : List Performed) : Type 0 where
+  pub seen : AreSlotsSeenTaken g steps
+  pub only : AllByRecursion (FindsSlotsTaken g) steps
+
+-- no slot was to be had for a table of this size, or no run of pages: each was found taken, the runs in their turn
 abbrev pub SawNoRoom : Geometry → ℕ → List Did → Type 0
-SawNoRoom g size steps = AreSlotsSeenTaken g (map performed_of steps) ⊎ AreRunsSeenTaken g (pages_for size) steps
+SawNoRoom g size steps =
+    AreSlotsTaken g (map performed_of steps) ⊎ AreRunsSeenInTurn g (pages_for size) 0 (map performed_of steps)
 
 module _ (M : Type 0) (mix : ℕ → ℕ → ℕ → ℕ) (env : Env) (events : List Event) (c : ℕ) where
   -- a count was loaded that is above the size of a table of this shape, which may grow

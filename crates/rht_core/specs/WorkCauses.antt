@@ -6,13 +6,16 @@ use Rattle.rht_words.specs.declared.op.Op.TheVariants.{Store, Exchange}
 use Rattle.rht_words.specs.declared.env.Env.{Env}
 use Rattle.rht_words.specs.declared.geometry.Geometry.{Geometry}
 use Rattle.rht_words.specs.Links.{table_of, slot_of}
-use Rattle.rht_words.specs.Places.{CurrentTable, WorkLock, PortCount, Slot, ShapeWord, FutureWord, IsBucketPlace, place_of}
-use Rattle.rht_arena.specs.RunLaws.{AreRunsSeenInTurn}
-use Rattle.rht_nest.specs.MakeLaws.{pages_for, AreSlotsSeenTaken}
+use Rattle.rht_words.specs.Machines.{Performed}
+use Rattle.rht_words.specs.Operations.{op_place}
+use Rattle.rht_words.specs.Places.{CurrentTable, WorkLock, PortCount, Slot, ShapeWord, FutureWord, place_of}
+use Rattle.rht_words.specs.Shapes.{unpacked, size_of}
+use Rattle.rht_nest.specs.MakeLaws.{StoresInSlot}
 use Rattle.rht_move.specs.Choice.{choice_of, is_nested}
 use Rattle.rht_move.specs.declared.work.choice.Choice.{Choice}
 use Rattle.rht_move.specs.declared.work.choice.Choice.TheVariants as choices
-use Rattle.rht_core.specs.ResizeCauses.{Loaded, Attaches}
+use Rattle.rht_core.specs.Seen.{LoadsWord}
+use Rattle.rht_core.specs.ResizeCauses.{Loaded, Attaches, SawNoRoom}
 use Rattle.rht_core.specs.Traces.{Did, performed_of}
 
 -- ---- the work lock
@@ -77,9 +80,7 @@ pub record HasChosen (env : Env) (choice : Choice) (steps : List Did) : Type 0 w
 pub record SawNoTableDue (env : Env) (size : ℕ) (steps : List Did) : Type 0 where
   pub chose : HasChosen env (choices.Attach size) steps
   pub stays : (chose.root ≡ chose.last) ⊎ (is_nested chose.shape.old ≡ true)
-  pub room :
-      AreSlotsSeenTaken env.geometry (map performed_of chose.behind)
-      ⊎ AreRunsSeenInTurn env.geometry (pages_for size) 0 (map performed_of chose.behind)
+  pub room : SawNoRoom env.geometry size chose.behind
 
 -- no table was due, and behind this the current table was found to have no future
 pub record SawNothingDue (env : Env) (steps : List Did) : Type 0 where
@@ -93,31 +94,6 @@ pub record StoresCurrent (g : Geometry) (table : ℕ) (did : Did) : Type 0 where
   pub table_in : table < 8
   pub stores : did.op ≡ Store (place_of g CurrentTable) table
 
--- the operation locked the bucket whose word stands at a place of the pages
-pub record LocksBucket (g : Geometry) (did : Did) : Type 0 where
-  pub place : ℕ
-  pub word : ℕ
-  pub bucket : IsBucketPlace g place
-  pub exchanges : did.op ≡ Exchange place word (word + 1)
-  pub found : did.old ≡ word
-
--- A resizing stopped before a nested table: behind the locking of a bucket it looked for the last table from the current one on,
--- loaded its shape, which is nested, and made no table the current one, neither before nor behind.
-pub record HasStopped (g : Geometry) (root : ℕ) (steps : List Did) : Type 0 where
-  pub before : List Did
-  pub lock : Did
-  pub between : List Did
-  pub futures : List Did
-  pub shape : Did
-  pub behind : List Did
-  pub split : steps ≡ before ++ lock ∷ between ++ futures ++ shape ∷ behind
-  pub locked : LocksBucket g lock
-  pub last : ℕ
-  pub futures_read : AreFuturesRead g root last futures
-  pub shape_read : Loaded g (Slot last ShapeWord) shape.old shape
-  pub nested : is_nested shape.old ≡ true
-  pub unpublished : AllByRecursion (λ did. (table : ℕ) → StoresCurrent g table did → ⊥) steps
-
 -- A resizing made the table of this slot the current one, and these were its operations behind that.
 pub record HasPublished (g : Geometry) (table : ℕ) (behind steps : List Did) : Type 0 where
   pub before : List Did
@@ -125,31 +101,44 @@ pub record HasPublished (g : Geometry) (table : ℕ) (behind steps : List Did) :
   pub split : steps ≡ before ++ at ∷ behind
   pub stored : StoresCurrent g table at
 
--- a table was due, and none was attached behind the last one
-abbrev pub IsUnattached : Geometry → ℕ → Choice → List Did → Type 0
-IsUnattached g last choice steps =
-    (choice ≢ choices.Nothing) × AllByRecursion (λ did. (slot : ℕ) → Attaches g last slot did → ⊥) steps
+-- the last of the operations on the shape of this slot stored that of a table of this size
+pub record IsSized (g : Geometry) (slot size : ℕ) (steps : List Performed) : Type 0 where
+  pub before : List Performed
+  pub at : Performed
+  pub behind : List Performed
+  pub split : steps ≡ before ++ at ∷ behind
+  pub shape : ℕ
+  pub stored : StoresInSlot g slot ShapeWord shape at
+  pub sized : size_of (unpacked shape) ≡ size
+  pub left : AllByRecursion (λ step. op_place step.op ≢ place_of g (Slot slot ShapeWord)) behind
 
--- A resizing made the table the current one that it had loaded as the future of the one which was current. It says that there is
--- more to do exactly where it then found that the new current table has a future, or where a table that was due wasn't attached.
-pub record SawPublished (env : Env) (again : Bool) (steps : List Did) : Type 0 where
+-- the operations attached a table of this size behind the last one
+pub record HasAttached (g : Geometry) (last size : ℕ) (steps : List Did) : Type 0 where
+  pub slot : ℕ
+  pub before : List Did
+  pub at : Did
+  pub behind : List Did
+  pub split : steps ≡ before ++ at ∷ behind
+  pub attached : Attaches g last slot at
+  pub sized : IsSized g slot size (map performed_of before)
+
+-- a table was due, and none of its size was attached behind the last one; one that has to wait isn't attached
+abbrev pub IsUnattached : Geometry → ℕ → Choice → List Did → Type 0
+IsUnattached g last (choices.Attach size) steps = HasAttached g last size steps → ⊥
+IsUnattached g last choices.Later steps = Unit {0}
+IsUnattached g last choices.Nothing steps = ⊥
+
+-- A resizing made the table the current one that it had loaded as the future of the one which was current, and then looked for a
+-- further one behind that. It says that there is more to do exactly where it found one, or where a table that was due wasn't attached.
+pub record SawMoved (env : Env) (again : Bool) (steps : List Did) : Type 0 where
   pub choice : Choice
   pub chose : HasChosen env choice steps
   pub table : ℕ
   pub behind : List Did
   pub published : HasPublished env.geometry table behind chose.behind
   pub followed : Any (ReadsFuture env.geometry chose.root (Some table)) published.before
+  pub looked : Any (LoadsWord env.geometry (Slot table FutureWord)) behind
   pub again_right :
       (again ≡ true)
       ↔ (Any (λ did. (next : ℕ) × ReadsFuture env.geometry table (Some next) did) behind
       ⊎ IsUnattached env.geometry chose.last choice chose.behind)
-
--- or it stopped, and then there is more to do
-pub record SawStop (env : Env) (again : Bool) (steps : List Did) : Type 0 where
-  pub choice : Choice
-  pub chose : HasChosen env choice steps
-  pub stopped : HasStopped env.geometry chose.root chose.behind
-  pub again_so : again ≡ true
-
-abbrev pub SawMoved : Env → Bool → List Did → Type 0
-SawMoved env again steps = SawPublished env again steps ⊎ SawStop env again steps

@@ -3,6 +3,7 @@
 ghost use Rattle.rht_core.specs.Alone.{Alone};
 ghost use Rattle.rht_core.specs.Causes.{Causes};
 ghost use Rattle.rht_core.specs.Counts.{Counted, AtRest};
+ghost use Rattle.rht_core.specs.FewPorts.{FewPorts};
 ghost use Rattle.rht_core.specs.Kicks.{Kicks};
 ghost use Rattle.rht_core.specs.ListedOwners.{ListedOwners};
 ghost use Rattle.rht_core.specs.NodesUsed.{Nodes};
@@ -105,15 +106,15 @@ pub fn taken_alone<M: Mix>()
 /// the table may grow. `Again` names the table that the bind then attached behind that one, or found there
 /// as its future. For `Busy` and `NoTable` it then loaded that future as none. Before, for `Busy`, it had
 /// found that another table is the current one, and that by the count the full one isn't due to grow; for
-/// `NoTable`, that each slot is taken, or each run of pages, for the size that is wanted: twice the full
+/// `NoTable`, that each slot is taken, by each of its operations on the state of one, or each run of pages in its turn, for the size that is wanted: twice the full
 /// table's where that is due to grow by the count, and else its own, where it is the current one.
 ///
 /// A `Work` that was answered `Elsewhere` found the work lock taken. Any other one took it, looked for
 /// the last table from the current one on and chose by its shape and by the count what is due:
 /// for `NoTable` a table that wasn't to be had, while the last one is the current one or nested; for
-/// `Idle` nothing, and the current table had no future. `Moved` stored another current table, or stopped
-/// before a nested one; there is more to do exactly where it stopped, or the new current table was found
-/// to have a future, or a table that was due wasn't attached.
+/// `Idle` nothing, and the current table had no future. `Moved` stored another current table and then
+/// loaded its future; there is more to do exactly where it found one, or attached no table of the size
+/// that was due.
 ///
 /// `Exists` of a bind, `Found` and `Missing` of a look-up, `Listed` of a listing, `Absent` of a release,
 /// `Rebound` and `Absent` of a rebind have nothing to show here. No other reply of these calls comes,
@@ -216,6 +217,16 @@ pub fn refused<M: Mix>()
 /// that no node is free when the reply comes: some may have been given back.
 pub fn nodes<M: Mix>()
     ensures { Nodes M M.mix_of }
+{}
+
+/// In a run of a table that begins with 64 buckets or more and doesn't shrink, and whose binds, those that
+/// have ended and those in progress, have 15 ports at most, no table is made: the first one stays the
+/// current one, no serial is given to another, and each word of each slot is as it was at opening. No bind
+/// is refused but for want of a node, and no `Work` but because another caller is at work. It holds after
+/// each event, since the first events of such a run are one. It says nothing of runs in which more ports
+/// are bound one after another, even if they are never bound at one time.
+pub fn few_ports<M: Mix>()
+    ensures { FewPorts M M.mix_of }
 {}
 
 /// Where a run serves the commands of workers, each worker's caller in no call at the end, there is a

@@ -676,6 +676,7 @@ fn a_bind_that_tries_once_is_told_of_a_table(rt: HostRuntime) -> Result<(), Fail
         nodes: 32,
         ..small()
     };
+    assert!(rt; config.is_settled());
     let mut state = State::<Low>::open(rt.alloc(), config)?;
     state.step(Event::Enroll);
     for i in 0..16 {

@@ -29,10 +29,10 @@ use Rattle.rht_core.specs.Runs.{local_of, run_of, IsAdmitted, IsAdmittedEvent}
 use Rattle.rht_core.specs.Traces.{Did, Past, traced_of, IsRising, behind_call}
 use Rattle.rht_core.specs.Seen.{words_before}
 use Rattle.rht_core.specs.ResizeCauses.{Loaded}
-use Rattle.rht_core.specs.WorkCauses.{AreFuturesRead, HasChosen, SawPublished}
+use Rattle.rht_core.specs.WorkCauses.{AreFuturesRead, HasChosen}
 use Rattle.rht_core.specs.Worked.{IsSettled, HasReplaced, IsAloneDuring, words_behind, Worked}
 use Rattle.rht_core.proofs.Tracing.StepsInTraces.{rising_around}
-use Rattle.rht_core.proofs.Reasons.WorkChoices.{SawIdle, SawReplaced, SawForWork}
+use Rattle.rht_core.proofs.Reasons.WorkChoices.{SawIdle, Published, SawReplaced, SawForWork}
 use Rattle.rht_core.proofs.Reasons.CausesInRuns.{SawOf, past-saw}
 use Rattle.rht_core.proofs.Counting.CountedRuns.{counted, at_rest}
 use Rattle.rht_core.proofs.Counting.FullTables.{taken}
@@ -225,7 +225,7 @@ module _ (M : Type 0) (mix : ℕ → ℕ → ℕ → ℕ) (env : Env) (events : 
   -- ---- another table
 
   module _ (again : Bool) (saw : SawReplaced env again past.steps) where
-    abbrev published : SawPublished env again past.steps
+    abbrev published : Published env past.steps
     published = saw.published
 
     abbrev lock : Did
@@ -293,7 +293,7 @@ module _ (M : Type 0) (mix : ℕ → ℕ → ℕ → ℕ) (env : Env) (events : 
         before rising.0 in
         let here : P at = λ first last. absurd (omega (arith, first)) in
         let behind : AllByRecursion P published.behind =
-        AllByRecursion-weaker (Spares place) P (λ d spares first last. spares) published.behind saw.leave in
+        AllByRecursion-weaker (Spares place) P (λ d spares first last. spares) published.behind published.leave in
         subst (AllByRecursion P) (sym to_store) (AllByRecursion-append P before (at ∷ published.behind) earlier (here, behind))
 
     replaced : HasReplaced env.geometry past.steps (words_behind M mix env events past.begin) after
@@ -309,7 +309,7 @@ module _ (M : Type 0) (mix : ℕ → ℕ → ℕ → ℕ) (env : Env) (events : 
           table = published.table;
           stored = (number, at, within, is, stored);
           current = ap table_of now ∙ omega (arith, table_in);
-          another = λ same. saw.another (sym published.chose.root_is ∙ sym (ap table_of was) ∙ same);
+          another = λ same. published.another (sym published.chose.root_is ∙ sym (ap table_of was) ∙ same);
         }
 
   -- what the operations of the call show

@@ -114,13 +114,14 @@ use Rattle.rht_core.proofs.Tracing.TracesAtEvents.{at_events}
 use Rattle.rht_core.proofs.Tracing.TracedJobs.{Performs, LeadsOn, IsEndedSo, jobs_keep_in}
 use Rattle.rht_move.specs.Work as work
 use Rattle.rht_move.specs.declared.work.WorkAt.TheVariants as works_at
-use Rattle.rht_core.proofs.Reasons.WorkChoices.{SawIdle-nothing, SawForWork, SawAtWork, work-saw}
+use Rattle.rht_core.proofs.Reasons.WorkChoices.{SawIdle-nothing, SawReplaced-moved, SawForWork, SawAtWork, work-saw}
 use Rattle.rht_core.proofs.Counting.FullTables.{counted_at}
 use Rattle.rht_core.proofs.Reasons.TablesWalked.{IsNoRaise, IsAside, no_load, aside, elsewhere, node_loads, probe_loads, relink_stores, CameTo-append, came-current, came-future, walked-came, LastWalked-push, Walked, Walked-push, WalkedSeeing, WalkedSeeing-push, WalkedAt, WalkedNext, same_table, locate-walked}
 use Rattle.rht_core.proofs.Reasons.KeyLoads.{no_key}
 use Rattle.rht_core.proofs.Reasons.ChainsCounted.{none-counted, HasCounted, HasCounted-push, CountedAt, CountedNext, probe-counted, long-counted}
 use Rattle.rht_core.proofs.Reasons.AttachedTables.{IsNoFutureExchange, IsNoAttach, no_attach, AttachedSo, AttachedSo-push, SawAttached, attached-saw, relink-none, unmake-none}
 use Rattle.rht_core.proofs.Reasons.UnraisedBinds.{SawUnraised, unraised-saw}
+use Rattle.rht_core.proofs.Reasons.UntriedSlots.{IsUntried, UntriedSince, untried-walked, SawUntried, untried-saw}
 use Rattle.rht_core.proofs.Reasons.RefusedBinds.{no_slot, no_key-future, Behind, Behind-push, SawWhy, SawWhy-push, SawRoot, SawOther, SawRefusal, SawToMake, SawFullUp, refusal-why, Settled, IsFollowing, FollowedSeen, FollowedSeen-push, BusySeen, BusySeen-push, NoTableSeen, NoTableSeen-push, above-why, root-saw, begins-making, other-saw, making-saw, no_room-saw, busy-saw, no_table-saw, followed-saw}
 use Rattle.rht_core.proofs.Counting.CountedNodes.{raise_few, load_few, lower_few}
 use Rattle.rht_core.proofs.Reasons.ReleaseKicks.{SawRelease, SawForRelease, release-saw, kicks_right}
@@ -215,7 +216,7 @@ module _ (env : Env) (words_at : ℕ → List ℕ) where
   SawThen (Table table) steps = CameTo env.geometry table steps
   SawThen (Answer reply) steps = SawFor reply steps
 
-  abbrev SawAt : BindAt → List Did → Type 0
+  abbrev pub SawAt : BindAt → List Did → Type 0
   SawAt (at.Filling new) steps = SawNew new.at steps
   SawAt (at.CurrentTable attempt) steps = Unit {0}
   SawAt (at.Locating attempt locate) steps = WalkedAt env.geometry locate.table locate.at steps
@@ -259,9 +260,10 @@ module _ (env : Env) (words_at : ℕ → List ℕ) where
   SawAtRebind (rebinds_at.Giving give) steps = Unit {0}
 
   -- of a look-up and a listing nothing is kept, nor of a reading of the count before it ends
-  abbrev JobSaw : Job → List Did → Type 0
+  abbrev pub JobSaw : Job → List Did → Type 0
   JobSaw (finds port state) steps = Unit {0}
-  JobSaw (binds port owner once state) steps = SawAt state steps × (SawAttached env state steps × SawUnraised env state steps)
+  JobSaw (binds port owner once state) steps =
+      SawAt state steps × (SawAttached env state steps × (SawUnraised env state steps × SawUntried env state steps))
   JobSaw (lists port room state) steps = Unit {0}
   JobSaw (releases port owner state) steps = SawRelease env state steps
   JobSaw (rebinds port owner new state) steps = SawAtRebind state steps
@@ -657,9 +659,15 @@ module _ (env : Env) (words_at : ℕ → List ℕ) where
     -- the load of the count leads to a table of the size that it wants, or to a refusal
     want-saw : (growing : Growing) (root : ℕ) (steps : List Did) (did : Did)
         → did.op ≡ Load (place_of env.geometry PortCount) → IsNoShapeLoad env.geometry did
-        → Behind env words_at growing.table growing.shape (SawRoot env words_at growing root) steps
+        → UntriedSince env.geometry steps → Behind env words_at growing.table growing.shape (SawRoot env words_at growing root) steps
         → SawAt (want_or_busy env growing root did.old) (steps ++ did ∷ [])
-    want-saw growing root steps did is none saw =
+    want-saw growing root steps did is none since saw =
+        let Saw : List Did → Type 0 = λ behind. AllByRecursion (IsUntried env.geometry) behind × SawRoot env words_at growing root behind in
+        let both : Behind env words_at growing.table growing.shape Saw steps =
+        record {
+          walked = saw.walked;
+          saw = (untried-walked env.geometry growing.table growing.shape steps saw.walked since, saw.saw);
+        } in
         let size = size_grown growing in
         let busy = at.FutureAgain growing (refusals.Busy root) in
         let same = nat_eq root growing.table in
@@ -667,20 +675,20 @@ module _ (env : Env) (words_at : ℕ → List ℕ) where
         by_test (λ t. SawAt (cond t (making env growing (2 * size)) (cond same (making env growing size) busy)) all)
         (is_above_75 (min did.old 65536) size env.config.max)
         (λ above.
-        Behind-push env words_at growing.table growing.shape (SawRoot env words_at growing root)
+        Behind-push env words_at growing.table growing.shape Saw
         (SawToMake env words_at growing (2 * size) (exponent_made (2 * size)) (makes.Slot 0, Go)) steps did none
         (λ behind so.
         begins-making env words_at growing root (2 * size) behind did is (sym (ap (λ b. cond b (2 * size) size) above)) (inl above) so)
-        saw)
+        both)
         (λ below.
         by_test (λ t. SawAt (cond t (making env growing size) busy) all) same
         (λ t.
-        Behind-push env words_at growing.table growing.shape (SawRoot env words_at growing root)
+        Behind-push env words_at growing.table growing.shape Saw
         (SawToMake env words_at growing size (exponent_made size) (makes.Slot 0, Go)) steps did none
         (λ behind so.
         begins-making env words_at growing root size behind did is (sym (ap (λ b. cond b (2 * size) size) below))
         (inr (eqb-true root growing.table t)) so)
-        saw)
+        both)
         (λ other.
         Behind-push env words_at growing.table growing.shape (SawRoot env words_at growing root)
         (SawOther env words_at growing.table root growing.why growing.shape) steps did none
@@ -786,14 +794,14 @@ module _ (env : Env) (words_at : ℕ → List ℕ) where
 
     bind-saw : (state : BindAt) (steps : List Did) (did : Did)
         → (does : Performs mix env (binds port owner once state) did) → does.words ≡ words_at did.index
-        → SawAt state steps → SawAttached env state steps → SawUnraised env state steps
+        → SawAt state steps → SawAttached env state steps → SawUnraised env state steps → SawUntried env state steps
         → SawNext (steps ++ did ∷ []) (after_at mix env port once state did.old)
-    bind-saw (at.Filling new) steps did does now saw so unraised =
+    bind-saw (at.Filling new) steps did does now saw so unraised untried =
         bind_made-saw new (new_node_after_at new.at did.old) (steps ++ did ∷ [])
         (new-saw new new.at steps did refl does.within.at_in does.planned saw)
-    bind-saw (at.CurrentTable attempt) steps did does now saw so unraised = came-current env.geometry steps did does.planned
-    bind-saw (at.Locating attempt locate) steps did does now saw so unraised = locating-saw attempt locate steps did does saw
-    bind-saw (at.Probing attempt table shape probe) steps did does now saw so unraised =
+    bind-saw (at.CurrentTable attempt) steps did does now saw so unraised untried = came-current env.geometry steps did does.planned
+    bind-saw (at.Locating attempt locate) steps did does now saw so unraised untried = locating-saw attempt locate steps did does saw
+    bind-saw (at.Probing attempt table shape probe) steps did does now saw so unraised untried =
         let within = does.within.at_in.probe_in.at_in in
         let after = probe_after_at probe.geometry probe.key probe.at did.old in
         probed-saw env.config.kind attempt table shape probe after (steps ++ did ∷ [])
@@ -801,17 +809,17 @@ module _ (env : Env) (words_at : ℕ → List ℕ) where
         (CountedNext env.geometry words_at after) steps did (probe_loads env.geometry did probe.at within does.planned)
         (λ behind counted. probe-counted env mix words_at does.caller port does.words does.ghost does.whole probe.geometry
         probe.key probe.at behind did within does.knows.knowing.means.bucket does.planned now counted) saw)
-    bind-saw (at.FoundOwner claimed found) steps did does now saw so unraised = tt
-    bind-saw (at.ListLink list) steps did does now saw so unraised =
+    bind-saw (at.FoundOwner claimed found) steps did does now saw so unraised untried = tt
+    bind-saw (at.ListLink list) steps did does now saw so unraised untried =
         Walked-push env.geometry list.claimed.table list.claimed.shape steps did
         (aside env.geometry did _ does.planned (λ place load. cc) (λ place value adds. cc)) saw
-    bind-saw (at.ChainLink list) steps did does now saw so unraised =
+    bind-saw (at.ChainLink list) steps did does now saw so unraised untried =
         Walked-push env.geometry list.claimed.table list.claimed.shape steps did
         (node_loads env.geometry did env.geometry list.first ChainLink does.planned) saw
-    bind-saw (at.LinkBehind list link) steps did does now saw so unraised =
+    bind-saw (at.LinkBehind list link) steps did does now saw so unraised untried =
         Walked-push env.geometry list.claimed.table list.claimed.shape steps did
         (aside env.geometry did _ does.planned (λ place load. cc) (λ place value adds. cc)) saw
-    bind-saw (at.Replacing list relink) steps did does now saw so unraised =
+    bind-saw (at.Replacing list relink) steps did does now saw so unraised untried =
         replaced-saw list (relink_after relink).0 (relink_after relink).1 (steps ++ did ∷ [])
         does.knows.fits.listed
         (Walked-push env.geometry list.claimed.table list.claimed.shape steps did
@@ -820,7 +828,7 @@ module _ (env : Env) (words_at : ℕ → List ℕ) where
         (no_attach env.geometry did _ does.planned (relink-none env.geometry relink relink.at)) so)
         (AllByRecursion-push (IsNoRaise env.geometry) steps did unraised
         (relink_stores env.geometry did relink relink.at does.planned).no_raise)
-    bind-saw (at.Future claimed length) steps did does now saw so unraised =
+    bind-saw (at.Future claimed length) steps did does now saw so unraised untried =
         let place = claimed.bucket.place in
         let counted = HasCounted env.geometry words_at place length in
         future-saw claimed length (slot_of did.old) (steps ++ did ∷ [])
@@ -832,73 +840,75 @@ module _ (env : Env) (words_at : ℕ → List ℕ) where
         (elsewhere env.geometry did _ does.planned (λ table below same. absurd (omega arith)))
         (λ behind has. HasCounted-push env.geometry words_at place length behind did
         (no_key-future env words_at did claimed.table does.within.at_in.table_in does.planned) has) saw)
-    bind-saw (at.Count claimed) steps did does now saw so unraised =
+    bind-saw (at.Count claimed) steps did does now saw so unraised untried =
         count-saw claimed steps did does.planned saw
-    bind-saw (at.Link claimed) steps did does now saw so unraised =
+    bind-saw (at.Link claimed) steps did does now saw so unraised untried =
         Walked-push env.geometry claimed.table claimed.shape steps did
         (aside env.geometry did _ does.planned (λ place load. cc) (λ place value adds. cc)) saw
-    bind-saw (at.Raise claimed) steps did does now saw so unraised = raise-saw claimed steps did does.planned saw so unraised
-    bind-saw (at.Publish node table relink kick) steps did does now saw so unraised =
+    bind-saw (at.Raise claimed) steps did does now saw so unraised untried = raise-saw claimed steps did does.planned saw so unraised
+    bind-saw (at.Publish node table relink kick) steps did does now saw so unraised untried =
         published-saw node table kick (relink_after relink).0 (relink_after relink).1 (steps ++ did ∷ [])
         (Raised-push kick steps did
         (still did _ does.planned (relink-no_load relink relink.at) (relink-no_add relink relink.at)
         (relink-none env.geometry relink relink.at)) saw)
-    bind-saw (at.Unlocking attempt table unlock next) steps did does now saw so unraised =
+    bind-saw (at.Unlocking attempt table unlock next) steps did does now saw so unraised untried =
         unlocked-saw attempt next (steps ++ did ∷ [])
         (SawThen-push next steps did
         (still did _ does.planned (λ place load. cc) (λ place value adds. cc) (λ table old new l e. cc)) saw)
-    bind-saw (at.UnlockingFull growing unlock) steps did does now saw so unraised =
+    bind-saw (at.UnlockingFull growing unlock) steps did does now saw so unraised untried =
         Behind-push env words_at growing.table growing.shape (SawWhy env words_at growing.why growing.shape)
         (SawWhy env words_at growing.why growing.shape) steps did
         (no_load env.geometry did _ does.planned (λ place load. cc))
         (λ behind why. SawWhy-push env words_at growing.why growing.shape behind did
         (no_key env.geometry did _ does.planned (λ place load. cc)) why) saw
-    bind-saw (at.Root growing) steps did does now saw so unraised =
+    bind-saw (at.Root growing) steps did does now saw so unraised untried =
         Behind-push env words_at growing.table growing.shape (SawWhy env words_at growing.why growing.shape)
         (SawRoot env words_at growing (table_of did.old)) steps did
         (elsewhere env.geometry did _ does.planned (λ table below same. absurd (omega (arith, same)))).no_shape
         (λ behind why. root-saw env words_at growing behind did does.planned why) saw
-    bind-saw (at.GrowthCount growing root) steps did does now saw so unraised =
+    bind-saw (at.GrowthCount growing root) steps did does now saw so unraised untried =
         want-saw growing root steps did does.planned
-        (elsewhere env.geometry did _ does.planned (λ table below same. absurd (omega (arith, same)))).no_shape saw
-    bind-saw (at.Making growing size make) steps did does now saw so unraised =
+        (elsewhere env.geometry did _ does.planned (λ table below same. absurd (omega (arith, same)))).no_shape untried saw
+    bind-saw (at.Making growing size make) steps did does now saw so unraised untried =
         let after = make_after_at make.geometry make.exponent make.at did.old in
         made-saw growing size make after (steps ++ did ∷ [])
         (Behind-push env words_at growing.table growing.shape (SawToMake env words_at growing size make.exponent (make.at, Go))
         (SawToMake env words_at growing size make.exponent after) steps did
         (make_loads make.geometry make.exponent make.seed make.at did does.planned)
         (λ behind so_far. making-saw env words_at growing size make behind did does.within.at_in.make_in does.planned so_far) saw)
-    bind-saw (at.FutureAgain growing refusal) steps did does now saw so unraised =
+    bind-saw (at.FutureAgain growing refusal) steps did does now saw so unraised untried =
         again-saw growing refusal (slot_of did.old) steps did does.within.at_in.growing_in.table_in does.planned
         (again_few growing refusal did does) refl saw
-    bind-saw (at.Attaching growing slot shape) steps did does now saw so unraised =
+    bind-saw (at.Attaching growing slot shape) steps did does now saw so unraised untried =
         attach-saw growing slot shape steps did does.within.at_in.growing_in.table_in does.within.at_in.slot_in
         does.planned (attaching_few growing slot shape did does) saw
-    bind-saw (at.Unmaking attempt unmake answer) steps did does now saw so unraised =
+    bind-saw (at.Unmaking attempt unmake answer) steps did does now saw so unraised untried =
         unmade-saw attempt answer (unmake_after unmake did.old).0 (unmake_after unmake did.old).1 (steps ++ did ∷ [])
         (SawForReply-push answer steps did
         (still did _ does.planned (unmake-no_load unmake.geometry unmake.slot unmake.at)
         (unmake-no_add unmake.geometry unmake.slot unmake.at)
         (unmake-none env.geometry unmake.geometry unmake.slot unmake.at)) saw)
-    bind-saw (at.Giving give reply) steps did does now saw so unraised =
+    bind-saw (at.Giving give reply) steps did does now saw so unraised untried =
         SawFor-push reply steps did
         (still did _ does.planned (λ place load. cc) (λ place value adds. cc) (λ table old new l e. cc)) saw
 
-    -- with whether it has attached a table, and that it has raised no count
+    -- with whether it has attached a table, that it has raised no count, and where it has done nothing to the state of a slot
     abbrev SawAll : List Did → BindAt × Next Reply → Type 0
     SawAll all next =
-        GoesOrEnds (λ state. SawAt state all × (SawAttached env state all × SawUnraised env state all)) (λ reply. SawFor reply all) next
+        GoesOrEnds
+        (λ state. SawAt state all × (SawAttached env state all × (SawUnraised env state all × SawUntried env state all)))
+        (λ reply. SawFor reply all) next
 
     all-saw : (next : BindAt × Next Reply) (all : List Did) → SawNext all next → SawAttached env next.0 all
-        → SawUnraised env next.0 all → SawAll all next
-    all-saw (state, Go) all saw so none = (saw, (so, none))
-    all-saw (state, Done reply) all saw so none = saw
+        → SawUnraised env next.0 all → SawUntried env next.0 all → SawAll all next
+    all-saw (state, Go) all saw so none untried = (saw, (so, (none, untried)))
+    all-saw (state, Done reply) all saw so none untried = saw
 
 -- ---- the other calls
 
 module _ (env : Env) where
   work-cause : (past : Past) (reply : Reply) → SawForWork env reply past.steps → IsWorkReply reply → WorkCause env past reply
-  work-cause past (Moved again) saw is = inl saw.published
+  work-cause past (Moved again) saw is = SawReplaced-moved env again past.steps saw
   work-cause past Idle saw is = SawIdle-nothing env past.steps saw
   work-cause past (NoTable size) saw is = saw
   work-cause past Elsewhere saw is = saw
@@ -929,7 +939,7 @@ module _ (M : Type 0) (mix : ℕ → ℕ → ℕ → ℕ) (env : Env) (events : 
   abbrev words_at : ℕ → List ℕ
   words_at = words_before M mix env events
 
-  abbrev EndsSeen : Call → Ending → List Did → Type 0
+  abbrev pub EndsSeen : Call → Ending → List Did → Type 0
   EndsSeen call ending steps = SawOf env words_at call ending.answer.reply steps
 
   -- an operation leads on where what is seen behind it is enough for the next state, or for the end
@@ -945,7 +955,7 @@ module _ (M : Type 0) (mix : ℕ → ℕ → ℕ → ℕ) (env : Env) (events : 
   nothing-saw (state, Go) = tt
   nothing-saw (state, Done end) = tt
 
-  job-leads : (job : Job) (steps : List Did) (did : Did)
+  pub job-leads : (job : Job) (steps : List Did) (did : Did)
       → (performs : Performs mix env job did) → performs.words ≡ words_at did.index → JobSaw env words_at job steps
       → LeadsOn M mix env (JobSaw env words_at) EndsSeen job (steps ++ did ∷ []) (job_after mix env job did.old)
   job-leads (finds port state) steps did performs now saw =
@@ -955,9 +965,10 @@ module _ (M : Type 0) (mix : ℕ → ℕ → ℕ → ℕ) (env : Env) (events : 
       next-leads (binds port owner once state) (binds port owner once) plain_ending (steps ++ did ∷ [])
       (after_at mix env port once state did.old)
       (all-saw env words_at mix port owner once (after_at mix env port once state did.old) (steps ++ did ∷ [])
-      (bind-saw env words_at mix port owner once state steps did performs now saw.0 saw.1.0 saw.1.1)
+      (bind-saw env words_at mix port owner once state steps did performs now saw.0 saw.1.0 saw.1.1.0 saw.1.1.1)
       (attached-saw env mix port once state steps did performs.within.at_in performs.planned saw.1.0)
-      (unraised-saw env mix port once state steps did performs.planned saw.1.1))
+      (unraised-saw env mix port once state steps did performs.planned saw.1.1.0)
+      (untried-saw env mix port once state steps did performs.within.at_in performs.planned saw.1.1.1))
   job-leads (lists port room state) steps did performs now saw =
       let after = all.room_after state room did.old in
       let next = all.after_at mix env port state did.old in
@@ -985,11 +996,11 @@ module _ (M : Type 0) (mix : ℕ → ℕ → ℕ → ℕ) (env : Env) (events : 
       subst (λ j. JobSaw env words_at j []) here (λ node l. absurd (omega arith))
   first_rebind-saw port owner new Listed job is = absurd (cc)
 
-  first_job-saw : (call : Call) (job : Job) → first_job env call ≡ Some job → JobSaw env words_at job []
+  pub first_job-saw : (call : Call) (job : Job) → first_job env call ≡ Some job → JobSaw env words_at job []
   first_job-saw (Find port) job is = subst (λ j. JobSaw env words_at j []) (let here : finds port CurrentTable ≡ job = cc in here) tt
   first_job-saw (Bind port owner once) job is =
       let here : binds port owner once (first_state env port owner) ≡ job = cc in
-      subst (λ j. JobSaw env words_at j []) here (λ node l. absurd (omega arith), (tt, tt))
+      subst (λ j. JobSaw env words_at j []) here (λ node l. absurd (omega arith), (tt, (tt, tt)))
   first_job-saw (All port) job is =
       subst (λ j. JobSaw env words_at j [])
       (let here : lists port (room_for_nodes env) (alls.Seeking (seek_new env.geometry)) ≡ job = cc in here) tt

@@ -1,14 +1,13 @@
--- By which loads a resizing chose what is due, and that a table which it couldn't make had no slot or no run of pages; that one which found
--- no future had chosen nothing; and which table it made the current one, and whether it said rightly that there is more to do.
+-- By which loads a resizing chose what is due, and that a table which it couldn't make had no slot or no run of pages; that one which
+-- found no future had chosen nothing; and which table it made the current one, and whether it said rightly that there is more to do.
 --
--- What was chosen is kept behind the choice, with whether a table was attached since. Where one was due there is a future to be found, by
--- what the caller knows then; and a move never stops, since no table is nested.
-use Rattle.std.proofs.Common.{◌≡◌, ◌≢◌, ◌⊎◌, ◌↔◌, ℕ, ◌<◌, ◌≤◌, ◌+◌, Bool, true, false, cond, nat_lt, List, [], ◌∷◌, ◌++◌, length, length-append, get_or, map, append_assoc, refl, sym, ap, ◌∙◌, subst, inl, inr, arith}
+-- What was chosen is kept behind the choice, with whether a table of its size was attached since. Where one was due there is a future
+-- to be found, by what the caller knows then; and a move never stops, since no table is nested.
+use Rattle.std.proofs.Common.{◌≡◌, ◌≢◌, ◌⊎◌, ◌↔◌, ℕ, ◌<◌, ◌+◌, ◌^◌, Bool, true, false, cond, nat_lt, List, [], ◌∷◌, ◌++◌, map, append_assoc, refl, sym, ap, ◌∙◌, subst, inl, inr, arith}
 use Rattle.std.specs.Prelude.{Option, Some, None, ◌==◌, ◌||◌}
 use Rattle.std.specs.List.{AllByRecursion, Any}
-use Rattle.std.proofs.Math.Seq.{get_or-append_seam}
-use Rattle.std.proofs.lemmas.Bool.{cases_lt, eqb-true, eqb-false}
-use Rattle.std.proofs.lemmas.List.{map-append, get_or_append_left}
+use Rattle.std.proofs.lemmas.Bool.{eqb-true, eqb-false}
+use Rattle.std.proofs.lemmas.List.{map-append}
 use Rattle.std.proofs.lemmas.List.Elements.{All-from_recursion}
 use Rattle.std.proofs.lemmas.List.Quantifiers.{Any-push}
 use Rattle.rht_words.specs.declared.op.Op.{Op}
@@ -18,23 +17,24 @@ use Rattle.rht_words.specs.declared.geometry.Geometry.{Geometry}
 use Rattle.rht_words.specs.declared.machine.Next.{Next}
 use Rattle.rht_words.specs.declared.machine.Next.TheVariants.{Go, Done}
 use Rattle.rht_words.specs.Links.{table_of, slot_of, node_of, head_of, unlocked}
-use Rattle.rht_words.specs.Machines.{GoesOrEnds, Performed, Ran, went_on, ran}
+use Rattle.rht_words.specs.Machines.{GoesOrEnds, Performed}
 use Rattle.rht_words.specs.Operations.{op_place, old_of, word_after}
 use Rattle.rht_words.specs.Places.{Address, CurrentTable, WorkLock, PortCount, Slot, ShapeWord, FutureWord, StateWord, Node, KeyWord, IsAddress, place_of}
 use Rattle.rht_words.specs.Ports.{port_of}
 use Rattle.rht_words.specs.Shapes.{unpacked, size_of}
+use Rattle.rht_words.specs.Sizes.{IsSizeUpTo}
 use Rattle.rht_words.proofs.EachElement.{Any-append_left, AllByRecursion-cut, AllByRecursion-push}
 use Rattle.rht_words.proofs.PlacesApart.{place_of-apart}
 use Rattle.rht_policy.specs.Mix.{bucket_of}
 use Rattle.rht_model.specs.declared.history.Reply.{Reply}
 use Rattle.rht_model.specs.declared.history.Reply.TheVariants.{NoTable, Elsewhere, Idle, Moved}
-use Rattle.rht_arena.specs.RunLaws.{AreRunsSeenInTurn}
 use Rattle.rht_chain.specs.Lock.{LockModel, lock_after}
 use Rattle.rht_nest.specs.Place.{bucket_place}
-use Rattle.rht_nest.specs.Make.{MakeModel, make_new, make_plan, make_after}
+use Rattle.rht_nest.specs.Make.{MakeModel, make_plan, make_plan_at, make_after, make_after_at, made_shape}
+use Rattle.rht_nest.specs.Tables.{exponent_made}
+use Rattle.rht_nest.specs.declared.make.MakeAt.{MakeAt}
 use Rattle.rht_nest.specs.Unmake.{UnmakeModel, unmake_new, unmake_after}
-use Rattle.rht_nest.specs.MakeLaws.{pages_for, SeesSlotTaken, AreSlotsSeenTaken}
-use Rattle.rht_nest.proofs.MakesInTurn.{none_where_slots_or_runs_taken}
+use Rattle.rht_nest.specs.MakeLaws.{SeesSlotTaken}
 use Rattle.rht_move.specs.declared.last_table.Last.{Last}
 use Rattle.rht_move.specs.declared.last_table.LastTableAt.{LastTableAt}
 use Rattle.rht_move.specs.declared.last_table.LastTableAt.TheVariants as seeks
@@ -52,13 +52,15 @@ use Rattle.rht_move.specs.declared.work.Outcome.TheVariants as outcomes
 use Rattle.rht_move.specs.declared.work.WorkAt.{WorkAt}
 use Rattle.rht_move.specs.declared.work.WorkAt.TheVariants as at
 use Rattle.rht_move.specs.Choice.{choice_of, is_nested}
+use Rattle.rht_move.specs.Laws.{IsOfASize}
 use Rattle.rht_move.specs.LastTable.{LastTableModel, last_table_plan_at, last_table_after, next_or_shape, IsLastTableAtIn}
 use Rattle.rht_move.specs.LastEntry.{LastEntryModel, last_entry_after}
-use Rattle.rht_move.specs.Work.{plan_at, cut_plan, after_at, lock_seen, seeking, last_seen, begun, made, not_made, attached, unmade, is_later, future_or_idle, locking_or_publish, bucket_or_publish, locked, unlocking, entry_table_seen, with_word, entry_or_empty, walked, keyed, second_or_stop, second_locked, cut_off, unlocked_bucket, retiring, reply_of}
+use Rattle.rht_move.specs.Work.{plan_at, cut_plan, after_at, lock_seen, seeking, last_seen, begun, made, not_made, attached, unmade, is_later, future_or_idle, locking_or_publish, bucket_or_publish, locked, unlocking, entry_table_seen, with_word, entry_or_empty, walked, keyed, second_or_stop, second_locked, cut_off, unlocked_bucket, retiring, reply_of, IsMakingIn}
 use Rattle.rht_core.specs.Jobs.{works}
 use Rattle.rht_core.specs.Traces.{Did, performed_of}
-use Rattle.rht_core.specs.ResizeCauses.{Loaded, Attaches}
-use Rattle.rht_core.specs.WorkCauses.{TakesWorkLock, SawElsewhere, ReadsFuture, AreFuturesRead, HasChosen, HasPublished, IsUnattached, SawNoTableDue, SawNothingDue, SawPublished}
+use Rattle.rht_core.specs.Seen.{LoadsWord}
+use Rattle.rht_core.specs.ResizeCauses.{Loaded, Attaches, FindsSlotsTaken, AreSlotsTaken, SawNoRoom}
+use Rattle.rht_core.specs.WorkCauses.{TakesWorkLock, SawElsewhere, ReadsFuture, AreFuturesRead, HasChosen, HasPublished, IsSized, HasAttached, IsUnattached, SawNoTableDue, SawNothingDue, SawMoved}
 use Rattle.rht_core.proofs.Theory.Ghosts.{index_at}
 use Rattle.rht_core.proofs.Theory.Steps.{mem, by_test}
 use Rattle.rht_core.proofs.Theory.Knowns.{Onward, Rooted}
@@ -68,16 +70,8 @@ use Rattle.rht_core.proofs.Machines.WorkMachine.{known_rehash, known_place, know
 use Rattle.rht_core.proofs.Tracing.TracedJobs.{Performs}
 use Rattle.rht_core.proofs.Tracing.LoneCalls.{Spares}
 use Rattle.rht_core.proofs.Reasons.AttachedTables.{IsNoFutureExchange, IsNoAttach, no_attach, lock-none, make-none, unmake-none}
-
--- what is so of one of the elements is so of one before the last, or of that one
-Any-last : {X : Type 0} (P : X → Type 0) (xs : List X) (x : X) → Any P (xs ++ x ∷ []) → Any P xs ⊎ P x
-Any-last P xs x (k, y, within, is, holds) = elim (cases_lt k (length xs)) [
-  | inl low ↦ inl (k, y, low, sym (get_or_append_left xs (x ∷ []) y k low) ∙ is, holds)
-  | inr high ↦
-      let at : k ≡ length xs = omega (arith, within, high, length-append xs (x ∷ [])) in
-      let here : x ≡ y = sym (get_or-append_seam xs x [] y) ∙ sym (ap (λ i. get_or (xs ++ x ∷ []) i y) at) ∙ is in
-      inr (subst P (sym here) holds)
-]
+use Rattle.rht_core.proofs.Reasons.MakesSeen.{SawMaking, SawMade, SawEachRun, IsShaped, saw_nothing, in_turn-stays, make-saw}
+use Rattle.rht_core.proofs.Reasons.MadeSizes.{due_size, size_of-made}
 
 module _ (g : Geometry) where
   -- the futures that were loaded lead from one table to another
@@ -101,58 +95,9 @@ module _ (g : Geometry) where
   futures_end root slot (f ∷ h ∷ futures) did (after, read, rest) reads =
       (after, read, futures_end after slot (h ∷ futures) did rest reads)
 
-  -- runs that were seen taken in their turn have been, whatever comes behind
-  pub turn_more : (pages next : ℕ) (steps more : List Performed) → AreRunsSeenInTurn g pages next steps
-      → AreRunsSeenInTurn g pages next (steps ++ more)
-  turn_more pages next [] [] seen = seen
-  turn_more pages next [] (step ∷ more) seen = inl (turn_more pages next [] more seen)
-  turn_more pages next (step ∷ steps) more (inl later) = inl (turn_more pages next steps more later)
-  turn_more pages next (step ∷ steps) more (inr (here, later)) =
-      inr (here, turn_more pages (next + pages) steps more later)
-
--- ---- a machine that is told one word after another
-
--- these operations, and behind them those of another run
-abbrev behind_steps : {R : Type 0} → List Performed → Ran R → Ran R
-behind_steps steps rest = record { steps = steps ++ rest.steps; next = rest.next }
-
--- the making of a table that has come to this state by these operations
-pub record IsMakingTo (first make : MakeModel) (steps : List Performed) : Type 0 where
-  pub olds : List ℕ
-  pub leads : (later : List ℕ)
-      → ran make_plan make_after first (olds ++ later) ≡ behind_steps steps (ran make_plan make_after make later)
-
-pub making_begins : (first : MakeModel) → IsMakingTo first first []
-making_begins first = record { olds = []; leads = λ later. refl }
-
-abbrev made_step : MakeModel → ℕ → Performed
-made_step make old = record { op = make_plan make; old = old }
-
-pub making_goes : (first make : MakeModel) (steps : List Performed) (old : ℕ) → (make_after make old).1 ≡ Go
-    → IsMakingTo first make steps → IsMakingTo first (make_after make old).0 (steps ++ made_step make old ∷ [])
-making_goes first make steps old is to = record {
-  olds = to.olds ++ old ∷ [];
-  leads = λ later.
-      let rest = ran make_plan make_after (make_after make old).0 later in
-      ap (λ olds. ran make_plan make_after first olds) (append_assoc to.olds (old ∷ []) later)
-      ∙ to.leads (old ∷ later)
-      ∙ ap (λ next. behind_steps steps (went_on (made_step make old) next rest)) is
-      ∙ ap (λ s. record { steps = s; next = rest.next }) (sym (append_assoc steps (made_step make old ∷ []) rest.steps));
-}
-
--- one that ends without a table has found each slot taken, or each run of pages in its turn
-pub making_fails : (g : Geometry) (size seed : ℕ) (make : MakeModel) (steps : List Performed) (old : ℕ)
-    → (make_after make old).1 ≡ Done None → IsMakingTo (make_new g size seed false) make steps
-    → let all = steps ++ made_step make old ∷ [] in
-    AreSlotsSeenTaken g all ⊎ AreRunsSeenInTurn g (pages_for size) 0 all
-making_fails g size seed make steps old is to =
-    let first = make_new g size seed false in
-    let rest = ran make_plan make_after (make_after make old).0 [] in
-    let olds = to.olds ++ old ∷ [] in
-    let all : ran make_plan make_after first olds ≡ record { steps = steps ++ made_step make old ∷ []; next = Done None } =
-    to.leads (old ∷ []) ∙ ap (λ next. behind_steps steps (went_on (made_step make old) next rest)) is in
-    subst (λ (r : Ran (Option (ℕ × ℕ))). AreSlotsSeenTaken g r.steps ⊎ AreRunsSeenInTurn g (pages_for size) 0 r.steps) all
-    ((none_where_slots_or_runs_taken g size seed false olds None (ap (λ (r : Ran (Option (ℕ × ℕ))). r.next) all)).0 refl)
+-- an operation of the making of a table, which found this word
+abbrev made_step : Geometry → MakeModel → ℕ → Performed
+made_step g make old = record { op = make_plan_at g make.exponent make.seed make.at; old = old }
 
 module _ (env : Env) where
   -- ---- what a resizing has seen
@@ -204,6 +149,7 @@ module _ (env : Env) where
     pub read : AreFuturesRead env.geometry root last.table futures
     pub shape_read : Loaded env.geometry (Slot last.table ShapeWord) shape.old shape
     pub same : shape.old ≡ last.shape
+    pub flat : is_nested last.shape ≡ false
 
   -- ---- what was chosen, and what has become of it
 
@@ -217,17 +163,28 @@ module _ (env : Env) where
     pub root_same : chose.root ≡ wanted.root
     pub last_same : chose.last ≡ wanted.last.table
     pub shape_same : chose.shape.old ≡ wanted.last.shape
+    pub size_in : IsSizeUpTo (2 ^ 17) wanted.size
     pub none : NoneAttached chose.last chose.behind
 
   pub record Makes (wanted : Wanted) (make : MakeModel) (steps : List Did) : Type 0 where
     pub wants : Wants wanted steps
-    pub making : IsMakingTo (make_new env.geometry wanted.size env.config.seed false) make (map performed_of wants.chose.behind)
+    pub seen : SawMaking env.geometry make.exponent make.at (map performed_of wants.chose.behind)
+
+  -- none was due, or a table of the size that was is attached
+  abbrev pub IsSupplied : ℕ → Choice → List Did → Type 0
+  IsSupplied last (Attach size) behind = HasAttached env.geometry last size behind
+  IsSupplied last Later behind = ⊥
+  IsSupplied last Nothing behind = Unit {0}
+
+  -- one was due, and none is
+  abbrev pub IsMissing : ℕ → Choice → List Did → Type 0
+  IsMissing last choice behind = (choice ≢ Nothing) × NoneAttached last behind
 
   -- none was due; one was and is attached; or it isn't. Where none was it has performed nothing since
   abbrev pub DueSaw : Due → ℕ → Choice → List Did → Type 0
   DueSaw dues.Nothing last choice behind = choice ≡ Nothing
-  DueSaw dues.Attached last choice behind = Any (λ did. (slot : ℕ) × Attaches env.geometry last slot did) behind
-  DueSaw dues.Later last choice behind = IsUnattached env.geometry last choice behind
+  DueSaw dues.Attached last choice behind = IsSupplied last choice behind
+  DueSaw dues.Later last choice behind = IsMissing last choice behind
 
   pub record HasDue (root : ℕ) (due : Due) (steps : List Did) : Type 0 where
     pub choice : Choice
@@ -236,10 +193,19 @@ module _ (env : Env) where
     pub saw : DueSaw due chose.last choice chose.behind
     pub at_once : due ≡ dues.Nothing → chose.behind ≡ []
 
-  -- and it is to be attached behind this one
-  pub record IsToAttach (root last : ℕ) (steps : List Did) : Type 0 where
-    pub due : HasDue root dues.Later steps
-    pub last_same : due.chose.last ≡ last
+  -- a table of the size that was due is to be attached behind this one
+  pub record IsToAttach (root last slot : ℕ) (steps : List Did) : Type 0 where
+    pub size : ℕ
+    pub chose : HasChosen env (Attach size) steps
+    pub root_same : chose.root ≡ root
+    pub last_same : chose.last ≡ last
+    pub none : NoneAttached chose.last chose.behind
+    pub sized : IsSized env.geometry slot size (map performed_of chose.behind)
+
+  -- whether it is to say that the table that was due isn't attached
+  abbrev pub SaysMissing : Bool → ℕ → Choice → List Did → Type 0
+  SaysMissing true last choice behind = IsMissing last choice behind
+  SaysMissing false last choice behind = IsSupplied last choice behind
 
   -- it has loaded this table as the future of the current one, which it moves
   pub record Moves (future : ℕ) (again : Bool) (steps : List Did) : Type 0 where
@@ -248,17 +214,41 @@ module _ (env : Env) where
     pub followed :
         Any (ReadsFuture env.geometry chose.root (Some future)) chose.behind
     pub apart : chose.root ≢ future
-    pub again_right : (again ≡ true) ↔ IsUnattached env.geometry chose.last choice chose.behind
+    pub says : SaysMissing again chose.last choice chose.behind
 
   -- it has made a table the current one that wasn't, and has left it so since
-  pub record SawReplaced (again : Bool) (steps : List Did) : Type 0 where
-    pub published : SawPublished env again steps
-    pub another : published.chose.root ≢ published.table
-    pub leave : AllByRecursion (Spares (place_of env.geometry CurrentTable)) published.behind
+  pub record Published (steps : List Did) : Type 0 where
+    pub choice : Choice
+    pub chose : HasChosen env choice steps
+    pub table : ℕ
+    pub behind : List Did
+    pub published : HasPublished env.geometry table behind chose.behind
+    pub followed : Any (ReadsFuture env.geometry chose.root (Some table)) published.before
+    pub another : chose.root ≢ table
+    pub leave : AllByRecursion (Spares (place_of env.geometry CurrentTable)) behind
 
+  -- by its last operation
   pub record HasMoved (rehash : Rehash) (steps : List Did) : Type 0 where
-    pub saw : SawReplaced rehash.again steps
-    pub same : saw.published.table ≡ rehash.future
+    pub published : Published steps
+    pub same : published.table ≡ rehash.future
+    pub says : SaysMissing rehash.again published.chose.last published.choice published.chose.behind
+    pub last : published.behind ≡ []
+
+  -- the operation finds that the table of this slot has a future
+  abbrev FindsFurther : ℕ → Did → Type 0
+  FindsFurther table did = (next : ℕ) × ReadsFuture env.geometry table (Some next) did
+
+  abbrev FindsNoneFurther : ℕ → Did → Type 0
+  FindsNoneFurther table did = FindsFurther table did → ⊥
+
+  -- and then it has looked for a further one: it found one, or says what it was to say
+  pub record SawReplaced (again : Bool) (steps : List Did) : Type 0 where
+    pub published : Published steps
+    pub looked : Any (LoadsWord env.geometry (Slot published.table FutureWord)) published.behind
+    pub says :
+        ((again ≡ true) × Any (FindsFurther published.table) published.behind)
+        ⊎ (SaysMissing again published.chose.last published.choice published.chose.behind
+        × AllByRecursion (FindsNoneFurther published.table) published.behind)
 
   -- it found nothing due, loaded that the current table has no future, and has worked on the work lock alone since
   pub record SawIdle (steps : List Did) : Type 0 where
@@ -302,7 +292,7 @@ module _ (env : Env) where
   SawAtWork (at.LastTable root seek) steps = SeekSaw root seek.at steps
   SawAtWork (at.Count root last) steps = Measures root last steps
   SawAtWork (at.Making wanted make) steps = Makes wanted make steps
-  SawAtWork (at.Attaching root last slot shape) steps = IsToAttach root last steps
+  SawAtWork (at.Attaching root last slot shape) steps = IsToAttach root last slot steps
   SawAtWork (at.Unmaking root unmake) steps = HasDue root dues.Later steps
   SawAtWork (at.RootFuture root due) steps = HasDue root due steps
   SawAtWork (at.RootShape root future again) steps = Moves future again steps
@@ -375,19 +365,25 @@ module _ (env : Env) where
     to = futures_more env.geometry root slot next seek.futures did seek.to reads;
   }
 
+  -- what it finds of a shape is flat
+  abbrev FindsFlat : LastTableAt → Did → Type 0
+  FindsFlat (seeks.Future slot) did = Unit {0}
+  FindsFlat (seeks.Shape slot) did = is_nested did.old ≡ false
+
   last-saw : (root : ℕ) (h : Geometry) (state : LastTableAt) (steps : List Did) (did : Did) → IsLastTableAtIn state
-      → did.op ≡ last_table_plan_at env.geometry state → SeekSaw root state steps
+      → FindsFlat state did → did.op ≡ last_table_plan_at env.geometry state → SeekSaw root state steps
       → let next = last_table_after (record { geometry = h; at = state }) did.old in
       SawAtWork (last_seen root next.0 next.1) (steps ++ did ∷ [])
-  last-saw root h (seeks.Future slot) steps did l is seek =
+  last-saw root h (seeks.Future slot) steps did l flat is seek =
       seek-saw root slot steps did (slot_of did.old) (reads (Slot slot FutureWord) did (l, tt) is, refl) seek
-  last-saw root h (seeks.Shape slot) steps did l is found = record {
+  last-saw root h (seeks.Shape slot) steps did l flat is found = record {
     futures = found.futures;
     shape = did;
     began = Began-push root found.futures steps did found.began;
     read = found.read;
     shape_read = reads (Slot slot ShapeWord) did (l, tt) is;
     same = refl;
+    flat = flat;
   }
 
   -- the load of the count is the last one by which it chooses
@@ -428,9 +424,10 @@ module _ (env : Env) where
       root_same = refl;
       last_same = refl;
       shape_same = saw.same;
+      size_in = subst IsOfASize chosen (due_size env did.old last.shape (root == last.table) saw.flat);
       none = tt;
     };
-    making = making_begins (make_new env.geometry size env.config.seed false);
+    seen = saw_nothing env.geometry (exponent_made size) [] tt;
   }
   begun-saw root last Later steps did is chosen saw = record {
     choice = Later;
@@ -476,10 +473,28 @@ module _ (env : Env) where
       AllByRecursion-push (λ did. (slot : ℕ) → Attaches env.geometry last slot did → ⊥) steps did none
       (λ slot attaches. quiet (record { table = last; slot = slot; attaches = attaches }))
 
-  NoneAttached-cut : (last : ℕ) (steps : List Did) (did : Did) → NoneAttached last (steps ++ did ∷ [])
-      → NoneAttached last steps
-  NoneAttached-cut last steps did none =
-      (AllByRecursion-cut (λ did. (slot : ℕ) → Attaches env.geometry last slot did → ⊥) steps (did ∷ []) none).0
+  -- what is attached stays so
+  HasAttached-push : (last size : ℕ) (steps : List Did) (did : Did) → HasAttached env.geometry last size steps
+      → HasAttached env.geometry last size (steps ++ did ∷ [])
+  HasAttached-push last size steps did has = record {
+    slot = has.slot;
+    before = has.before;
+    at = has.at;
+    behind = has.behind ++ did ∷ [];
+    split = ap (λ s. s ++ did ∷ []) has.split ∙ append_assoc has.before (has.at ∷ has.behind) (did ∷ []);
+    attached = has.attached;
+    sized = has.sized;
+  }
+
+  IsSupplied-push : (last : ℕ) (choice : Choice) (behind : List Did) (did : Did) → IsSupplied last choice behind
+      → IsSupplied last choice (behind ++ did ∷ [])
+  IsSupplied-push last (Attach size) behind did has = HasAttached-push last size behind did has
+  IsSupplied-push last Later behind did none = none
+  IsSupplied-push last Nothing behind did is = tt
+
+  IsMissing-push : (last : ℕ) (choice : Choice) (behind : List Did) (did : Did) → IsNoAttach env.geometry did
+      → IsMissing last choice behind → IsMissing last choice (behind ++ did ∷ [])
+  IsMissing-push last choice behind did quiet missing = (missing.0, NoneAttached-push last behind did quiet missing.1)
 
   Wants-push : (wanted : Wanted) (steps : List Did) (did : Did) → IsNoAttach env.geometry did → Wants wanted steps
       → Wants wanted (steps ++ did ∷ [])
@@ -489,15 +504,20 @@ module _ (env : Env) where
     root_same = wants.root_same;
     last_same = wants.last_same;
     shape_same = wants.shape_same;
+    size_in = wants.size_in;
     none = NoneAttached-push wants.chose.last wants.chose.behind did quiet wants.none;
   }
 
   DueSaw-push : (due : Due) (last : ℕ) (choice : Choice) (behind : List Did) (did : Did) → IsNoAttach env.geometry did
       → DueSaw due last choice behind → DueSaw due last choice (behind ++ did ∷ [])
   DueSaw-push dues.Nothing last choice behind did quiet saw = saw
-  DueSaw-push dues.Attached last choice behind did quiet saw =
-      Any-append_left (λ did. (slot : ℕ) × Attaches env.geometry last slot did) behind (did ∷ []) saw
-  DueSaw-push dues.Later last choice behind did quiet saw = (saw.0, NoneAttached-push last behind did quiet saw.1)
+  DueSaw-push dues.Attached last choice behind did quiet saw = IsSupplied-push last choice behind did saw
+  DueSaw-push dues.Later last choice behind did quiet saw = IsMissing-push last choice behind did quiet saw
+
+  SaysMissing-push : (again : Bool) (last : ℕ) (choice : Choice) (behind : List Did) (did : Did) → IsNoAttach env.geometry did
+      → SaysMissing again last choice behind → SaysMissing again last choice (behind ++ did ∷ [])
+  SaysMissing-push true last choice behind did quiet saw = IsMissing-push last choice behind did quiet saw
+  SaysMissing-push false last choice behind did quiet saw = IsSupplied-push last choice behind did saw
 
   HasDue-push : (root : ℕ) (steps : List Did) (did : Did) → IsNoAttach env.geometry did → HasDue root dues.Later steps
       → HasDue root dues.Later (steps ++ did ∷ [])
@@ -513,32 +533,21 @@ module _ (env : Env) where
   Moves-push : (future : ℕ) (again : Bool) (steps : List Did) (did : Did) → IsNoAttach env.geometry did
       → Moves future again steps → Moves future again (steps ++ did ∷ [])
   unfolding HasChosen-push
-  Moves-push future again steps did quiet moves =
-      let last = moves.chose.last in
-      let behind = moves.chose.behind in
-      record {
-        choice = moves.choice;
-        chose = HasChosen-push moves.choice steps did moves.chose;
-        followed = Any-append_left _ behind (did ∷ []) moves.followed;
-        apart = moves.apart;
-        again_right = (
-          λ is.
-              let so = moves.again_right.0 is in
-              (so.0, NoneAttached-push last behind did quiet so.1),
-          λ so. moves.again_right.1 (so.0, NoneAttached-cut last behind did so.1),
-        );
-      }
-
-  -- the operation finds that the table of this slot has a future
-  abbrev FindsFurther : ℕ → Did → Type 0
-  FindsFurther table did = (next : ℕ) × ReadsFuture env.geometry table (Some next) did
+  Moves-push future again steps did quiet moves = record {
+    choice = moves.choice;
+    chose = HasChosen-push moves.choice steps did moves.chose;
+    followed = Any-append_left _ moves.chose.behind (did ∷ []) moves.followed;
+    apart = moves.apart;
+    says = SaysMissing-push again moves.chose.last moves.choice moves.chose.behind did quiet moves.says;
+  }
 
   -- an operation of the making among what it performed
-  performed-push : (make : MakeModel) (behind : List Did) (did : Did) → did.op ≡ make_plan make
-      → map performed_of (behind ++ did ∷ []) ≡ map performed_of behind ++ made_step make did.old ∷ []
-  performed-push make behind did is =
+  performed-push : (make : MakeModel) (behind : List Did) (did : Did) → make.geometry ≡ env.geometry → did.op ≡ make_plan make
+      → map performed_of (behind ++ did ∷ []) ≡ map performed_of behind ++ made_step env.geometry make did.old ∷ []
+  performed-push make behind did geometry is =
       map-append performed_of behind (did ∷ [])
-      ∙ ap (λ (op : Op). map performed_of behind ++ record { op = op; old = did.old } ∷ []) is
+      ∙ ap (λ (op : Op). map performed_of behind ++ record { op = op; old = did.old } ∷ [])
+      (is ∙ ap (λ (h : Geometry). make_plan_at h make.exponent make.seed make.at) geometry)
 
   -- a table that was wanted is due, and isn't attached
   wanted-due : (wanted : Wanted) (all : List Did) → Wants wanted all → HasDue wanted.root dues.Later all
@@ -551,9 +560,7 @@ module _ (env : Env) where
   }
 
   refused-saw : (wanted : Wanted) (all : List Did) → (wants : Wants wanted all)
-      → AreSlotsSeenTaken env.geometry (map performed_of wants.chose.behind)
-      ⊎ AreRunsSeenInTurn env.geometry (pages_for wanted.size) 0 (map performed_of wants.chose.behind)
-      → SawAtWork (not_made wanted) all
+      → SawNoRoom env.geometry wanted.size wants.chose.behind → SawAtWork (not_made wanted) all
   refused-saw wanted all wants room =
       let one = wanted.root == wanted.last.table in
       let nested = is_nested wanted.last.shape in
@@ -573,11 +580,26 @@ module _ (env : Env) where
       or_cases true b is = inl refl
       or_cases false b is = inr is
 
-  made-saw : (wanted : Wanted) (make : MakeModel) (steps : List Did) (did : Did) (next : Next (Option (ℕ × ℕ)))
-      → did.op ≡ make_plan make → (make_after make did.old).1 ≡ next → Makes wanted make steps
-      → SawAtWork (made wanted (make_after make did.old).0 next) (steps ++ did ∷ [])
+  -- a table that was made has the size that was wanted
+  shaped-size : (size exponent slot page : ℕ) (steps : List Performed) → IsSizeUpTo (2 ^ 17) size → exponent ≡ exponent_made size
+      → IsShaped env.geometry exponent slot (made_shape exponent page) steps → IsSized env.geometry slot size steps
+  shaped-size size exponent slot page steps size_in exponent_is shaped = record {
+    before = shaped.before;
+    at = shaped.at;
+    behind = shaped.behind;
+    split = shaped.split;
+    shape = made_shape exponent page;
+    stored = shaped.stored;
+    sized = ap (λ e. size_of (unpacked (made_shape e page))) exponent_is ∙ size_of-made size page size_in;
+    left = shaped.left;
+  }
+
+  made-saw : (wanted : Wanted) (make : MakeModel) (steps : List Did) (did : Did) → IsMakingIn env wanted make
+      → did.op ≡ make_plan make → Makes wanted make steps
+      → SawAtWork (made wanted (make_after make did.old).0 (make_after make did.old).1) (steps ++ did ∷ [])
   unfolding HasChosen-push Wants-push wanted-due
-  made-saw wanted make steps did next is after saw = go next after
+  made-saw wanted make steps did within is saw =
+      go (make_after_at make.geometry make.exponent make.at did.old) after
     where
       quiet : IsNoAttach env.geometry did
       quiet = no_attach env.geometry did (make_plan make) is
@@ -586,48 +608,75 @@ module _ (env : Env) where
       wants : Wants wanted (steps ++ did ∷ [])
       wants = Wants-push wanted steps did quiet saw.wants
 
-      go : (next : Next (Option (ℕ × ℕ))) → (make_after make did.old).1 ≡ next
-          → SawAtWork (made wanted (make_after make did.old).0 next) (steps ++ did ∷ [])
-      go Go goes =
-          let first = make_new env.geometry wanted.size env.config.seed false in
-          record {
-            wants = wants;
-            making =
-                subst (IsMakingTo first (make_after make did.old).0) (sym (performed-push make saw.wants.chose.behind did is))
-                (making_goes first make (map performed_of saw.wants.chose.behind) did.old goes saw.making);
-          }
-      go (Done None) fails =
+      behind : List Did
+      behind = saw.wants.chose.behind
+
+      after : SawMade env.geometry make.exponent (make_after_at make.geometry make.exponent make.at did.old)
+          (map performed_of (behind ++ did ∷ []))
+      after =
+          subst (SawMade env.geometry make.exponent (make_after_at make.geometry make.exponent make.at did.old))
+          (sym (performed-push make behind did within.make_in.geometry_same is))
+          (subst (λ (h : Geometry). SawMade env.geometry make.exponent (make_after_at h make.exponent make.at did.old)
+          (map performed_of behind ++ made_step env.geometry make did.old ∷ [])) (sym within.make_in.geometry_same)
+          (make-saw env.geometry make.exponent make.seed make.at (map performed_of behind) did.old within.make_in.at_in saw.seen))
+
+      go : (r : MakeAt × Next (Option (ℕ × ℕ))) → SawMade env.geometry make.exponent r (map performed_of (behind ++ did ∷ []))
+          → SawAtWork (made wanted (record make { at = r.0 }) r.1) (steps ++ did ∷ [])
+      go (state, Go) seen = record { wants = wants; seen = seen }
+      go (state, Done None) seen =
           refused-saw wanted (steps ++ did ∷ []) wants
-          (subst (λ s. AreSlotsSeenTaken env.geometry s ⊎ AreRunsSeenInTurn env.geometry (pages_for wanted.size) 0 s)
-          (sym (performed-push make saw.wants.chose.behind did is))
-          (making_fails env.geometry wanted.size env.config.seed make (map performed_of saw.wants.chose.behind) did.old fails
-          saw.making))
-      go (Done (Some table)) ends =
-          record { due = wanted-due wanted (steps ++ did ∷ []) wants; last_same = wants.last_same }
+          (subst (λ e. AreSlotsTaken env.geometry (map performed_of (behind ++ did ∷ []))
+          ⊎ SawEachRun env.geometry e (map performed_of (behind ++ did ∷ []))) within.size_same seen)
+      go (state, Done (Some table)) seen = record {
+        size = wanted.size;
+        chose = wants.chose;
+        root_same = wants.root_same;
+        last_same = wants.last_same;
+        none = wants.none;
+        sized =
+            shaped-size wanted.size make.exponent table.0 seen.0 (map performed_of (behind ++ did ∷ [])) wants.size_in within.size_same
+            seen.1;
+      }
 
   -- ---- the table is attached, or another one was
 
   attached-saw : (root last slot shape : ℕ) (steps : List Did) (did : Did) → last < 8 → slot < 8
-      → did.op ≡ plan_at env (at.Attaching root last slot shape) → IsToAttach root last steps
+      → did.op ≡ plan_at env (at.Attaching root last slot shape) → IsToAttach root last slot steps
       → SawAtWork (attached env.geometry root slot shape did.old) (steps ++ did ∷ [])
   unfolding HasChosen-push
   attached-saw root last slot shape steps did last_in slot_in is saw =
-      let due = saw.due in
-      let all = steps ++ did ∷ [] in
+      let chose = HasChosen-push (Attach saw.size) steps did saw.chose in
       by_test
-      (λ t. SawAtWork (cond t (at.RootFuture root dues.Attached) (at.Unmaking root (unmake_new env.geometry slot shape))) all)
+      (λ t. SawAtWork (cond t (at.RootFuture root dues.Attached) (at.Unmaking root (unmake_new env.geometry slot shape)))
+      (steps ++ did ∷ []))
       (did.old == 0)
       (λ t. record {
-        choice = due.choice;
-        chose = HasChosen-push due.choice steps did due.chose;
-        root_same = due.root_same;
-        saw =
-            Any-push (λ did. (slot : ℕ) × Attaches env.geometry due.chose.last slot did) due.chose.behind did
-            (subst (λ l. (slot : ℕ) × Attaches env.geometry l slot did) (sym saw.last_same)
-            (slot, record { table_in = last_in; slot_in = slot_in; exchanges = is; found = eqb-true did.old 0 t }));
+        choice = Attach saw.size;
+        chose = chose;
+        root_same = saw.root_same;
+        saw = record {
+          slot = slot;
+          before = saw.chose.behind;
+          at = did;
+          behind = [];
+          split = refl;
+          attached =
+              subst (λ l. Attaches env.geometry l slot did) (sym saw.last_same)
+              (record { table_in = last_in; slot_in = slot_in; exchanges = is; found = eqb-true did.old 0 t });
+          sized = saw.sized;
+        };
         at_once = λ e. absurd (cc);
       })
-      (λ f. HasDue-push root steps did (λ some. eqb-false did.old 0 f some.attaches.found) due)
+      (λ f. record {
+        choice = Attach saw.size;
+        chose = chose;
+        root_same = saw.root_same;
+        saw = (
+          (λ e. absurd (cc)),
+          NoneAttached-push saw.chose.last saw.chose.behind did (λ some. eqb-false did.old 0 f some.attaches.found) saw.none,
+        );
+        at_once = λ e. absurd (cc);
+      })
 
   unmade-saw : (root : ℕ) (unmake : UnmakeModel) (next : Next (Unit {0})) (all : List Did) → HasDue root dues.Later all
       → SawAtWork (unmade root unmake next) all
@@ -645,17 +694,12 @@ module _ (env : Env) where
   nothing-due (Attach size) steps chose future is behind read none = absurd (cc)
   nothing-due Later steps chose future is behind read none = absurd (cc)
 
-  -- whether a further call has something to do is whether the table that was due isn't attached
-  later-right : (due : Due) (last : ℕ) (choice : Choice) (behind : List Did) → DueSaw due last choice behind
-      → (is_later due ≡ true) ↔ IsUnattached env.geometry last choice behind
-  later-right dues.Nothing last choice behind saw = (λ is. absurd (cc), λ so. absurd (so.0 saw))
-  later-right dues.Attached last choice behind (k, did, within, is, attaches) = (
-    λ e. absurd (cc),
-    λ so.
-        let NoAttachOf : Did → Type 0 = λ did. (slot : ℕ) → Attaches env.geometry last slot did → ⊥ in
-        absurd (subst NoAttachOf is (All-from_recursion NoAttachOf behind so.1 k did within) attaches.0 attaches.1),
-  )
-  later-right dues.Later last choice behind saw = (λ is. saw, λ so. refl)
+  -- it is to say so of what was due
+  due-says : (due : Due) (last : ℕ) (choice : Choice) (behind : List Did) → DueSaw due last choice behind
+      → SaysMissing (is_later due) last choice behind
+  due-says dues.Nothing last choice behind none = subst (λ c. IsSupplied last c behind) (sym none) tt
+  due-says dues.Attached last choice behind saw = saw
+  due-says dues.Later last choice behind saw = saw
 
   future-saw : (root : ℕ) (due : Due) (next : Option ℕ) (steps : List Did) (did : Did) → root < 8
       → did.op ≡ plan_at env (at.RootFuture root due) → slot_of did.old ≡ next → (next ≡ None → due ≡ dues.Nothing)
@@ -687,7 +731,7 @@ module _ (env : Env) where
             followed =
                 Any-push (ReadsFuture env.geometry has.chose.root (Some next)) behind did (loaded has.chose.root has.root_same, finds);
             apart = λ same. apart next finds (sym has.root_same ∙ same);
-            again_right = later-right due has.chose.last has.choice (behind ++ did ∷ []) pushed;
+            says = due-says due has.chose.last has.choice (behind ++ did ∷ []) pushed;
           }
 
   -- ---- the move of the current table
@@ -751,31 +795,24 @@ module _ (env : Env) where
   publish-saw rehash steps did l is saw =
       let pushed = goes rehash _ steps did is (λ table old new l e. cc) saw in
       record {
-        saw = record {
+        published = record {
+          choice = pushed.choice;
+          chose = pushed.chose;
+          table = rehash.future;
+          behind = [];
           published = record {
-            choice = pushed.choice;
-            chose = pushed.chose;
-            table = rehash.future;
-            behind = [];
-            published = record {
-              before = saw.chose.behind;
-              at = did;
-              split = refl;
-              stored = record { table_in = l; stores = is };
-            };
-            followed = saw.followed;
-            again_right = (
-              λ is. inr (pushed.again_right.0 is),
-              λ either. elim either [
-                | inl any ↦ absurd (omega (arith, any.2))
-                | inr so ↦ pushed.again_right.1 so
-              ],
-            );
+            before = saw.chose.behind;
+            at = did;
+            split = refl;
+            stored = record { table_in = l; stores = is };
           };
+          followed = saw.followed;
           another = saw.apart;
           leave = tt;
         };
         same = refl;
+        says = pushed.says;
+        last = refl;
       }
 
   -- what came behind that stays so
@@ -788,87 +825,124 @@ module _ (env : Env) where
     stored = published.stored;
   }
 
-  SawPublished-push : (again : Bool) (steps : List Did) (did : Did) → IsNoAttach env.geometry did
-      → (saw : SawPublished env again steps) → (FindsFurther saw.table did → ⊥) → SawPublished env again (steps ++ did ∷ [])
+  Published-push : (steps : List Did) (did : Did) → Spares (place_of env.geometry CurrentTable) did → Published steps
+      → Published (steps ++ did ∷ [])
   unfolding HasChosen-push HasPublished-push
-  SawPublished-push again steps did quiet saw none =
-      let last = saw.chose.last in
-      record {
-        choice = saw.choice;
-        chose = HasChosen-push saw.choice steps did saw.chose;
-        table = saw.table;
-        behind = saw.behind ++ did ∷ [];
-        published = HasPublished-push saw.table saw.behind saw.chose.behind did saw.published;
-        followed = saw.followed;
-        again_right = (
-          λ is. elim (saw.again_right.0 is) [
-            | inl any ↦ inl (Any-append_left (FindsFurther saw.table) saw.behind (did ∷ []) any)
-            | inr so ↦ inr (so.0, NoneAttached-push last saw.chose.behind did quiet so.1)
-          ],
-          λ either. elim either [
-            | inl any ↦ elim (Any-last (FindsFurther saw.table) saw.behind did any) [
-              | inl before ↦ saw.again_right.1 (inl before)
-              | inr here ↦ absurd (none here)
-            ]
-            | inr so ↦ saw.again_right.1 (inr (so.0, NoneAttached-cut last saw.chose.behind did so.1))
-          ],
-        );
-      }
+  Published-push steps did spares saw = record {
+    choice = saw.choice;
+    chose = HasChosen-push saw.choice steps did saw.chose;
+    table = saw.table;
+    behind = saw.behind ++ did ∷ [];
+    published = HasPublished-push saw.table saw.behind saw.chose.behind did saw.published;
+    followed = saw.followed;
+    another = saw.another;
+    leave = AllByRecursion-push (Spares (place_of env.geometry CurrentTable)) saw.behind did saw.leave spares;
+  }
 
   -- a store of another word attaches nothing and finds nothing
   stored-saw : (again : Bool) (address : Address) (value : ℕ) (steps : List Did) (did : Did) → IsAddress env.geometry address
       → address ≢ CurrentTable → did.op ≡ Store (place_of env.geometry address) value → SawReplaced again steps
       → SawReplaced again (steps ++ did ∷ [])
-  unfolding SawPublished-push HasChosen-push
-  stored-saw again address value steps did there other is saw = record {
-    published =
-        SawPublished-push again steps did (no_attach env.geometry did _ is (λ table old new l e. cc)) saw.published
-        (λ finds. let loads = finds.1.0.word.loads in cc);
-    another = saw.another;
-    leave =
-        AllByRecursion-push (Spares (place_of env.geometry CurrentTable)) saw.published.behind did saw.leave
-        (inl (λ same. other (place_of-apart env.geometry address CurrentTable there tt (sym (ap op_place is) ∙ same))));
-  }
+  unfolding Published-push HasChosen-push
+  stored-saw again address value steps did there other is saw =
+      let published = saw.published in
+      let table = published.table in
+      record {
+        published =
+            Published-push steps did
+            (inl (λ same. other (place_of-apart env.geometry address CurrentTable there tt (sym (ap op_place is) ∙ same)))) published;
+        looked = Any-append_left (LoadsWord env.geometry (Slot table FutureWord)) published.behind (did ∷ []) saw.looked;
+        says = elim saw.says [
+          | inl further ↦ inl (further.0, Any-append_left (FindsFurther table) published.behind (did ∷ []) further.1)
+          | inr says ↦ inr (
+            SaysMissing-push again published.chose.last published.choice published.chose.behind did
+                (no_attach env.geometry did _ is (λ table old new l e. cc)) says.0,
+            AllByRecursion-push (FindsNoneFurther table) published.behind did says.1 (λ finds. let loads = finds.1.0.word.loads in cc),
+          )
+        ];
+      }
 
   retiring-saw : (rehash : Rehash) (next : Option ℕ) (steps : List Did) (did : Did) → rehash.future < 8
       → did.op ≡ plan_at env (at.NewFuture rehash) → slot_of did.old ≡ next → HasMoved rehash steps
       → SawAtWork (retiring rehash next) (steps ++ did ∷ [])
-  unfolding HasChosen-push HasPublished-push SawPublished-push
+  unfolding HasChosen-push HasPublished-push Published-push
   retiring-saw rehash next steps did l is finds moved = go next finds
     where
-      saw : SawPublished env rehash.again steps
-      saw = moved.saw.published
+      saw : Published steps
+      saw = moved.published
 
-      leave : AllByRecursion (Spares (place_of env.geometry CurrentTable)) (saw.behind ++ did ∷ [])
-      leave = AllByRecursion-push (Spares (place_of env.geometry CurrentTable)) saw.behind did moved.saw.leave
-          (inr (ap (word_after did.old) is))
+      published : Published (steps ++ did ∷ [])
+      published = Published-push steps did (inr (ap (word_after did.old) is)) saw
+
+      loaded : Loaded env.geometry (Slot saw.table FutureWord) did.old did
+      loaded =
+          subst (λ s. Loaded env.geometry (Slot s FutureWord) did.old did) (sym moved.same)
+          (reads (Slot rehash.future FutureWord) did (l, tt) is)
+
+      looked : Any (LoadsWord env.geometry (Slot saw.table FutureWord)) (saw.behind ++ did ∷ [])
+      looked = Any-push (LoadsWord env.geometry (Slot saw.table FutureWord)) saw.behind did loaded.word
 
       go : (next : Option ℕ) → slot_of did.old ≡ next → SawAtWork (retiring rehash next) (steps ++ did ∷ [])
       go None finds = record {
-        published =
-            SawPublished-push rehash.again steps did (no_attach env.geometry did _ is (λ table old new l e. cc)) saw
-            (λ further. let one = further.1.1 in let none = finds in cc);
-        another = moved.saw.another;
-        leave = leave;
+        published = published;
+        looked = looked;
+        says = inr (
+          SaysMissing-push rehash.again saw.chose.last saw.choice saw.chose.behind did
+              (no_attach env.geometry did _ is (λ table old new l e. cc)) moved.says,
+          subst (λ behind. AllByRecursion (FindsNoneFurther saw.table) (behind ++ did ∷ [])) (sym moved.last)
+              ((λ further. let one = further.1.1 in let none = finds in cc), tt),
+        );
       }
-      go (Some next) finds =
-          let loaded =
-          subst (λ s. Loaded env.geometry (Slot s FutureWord) did.old did) (sym moved.same)
-          (reads (Slot rehash.future FutureWord) did (l, tt) is) in
-          record {
-            published = record {
-              choice = saw.choice;
-              chose = HasChosen-push saw.choice steps did saw.chose;
-              table = saw.table;
-              behind = saw.behind ++ did ∷ [];
-              published = HasPublished-push saw.table saw.behind saw.chose.behind did saw.published;
-              followed = saw.followed;
-              again_right =
-                  ((λ e. inl (Any-push (FindsFurther saw.table) saw.behind did (next, (loaded, finds)))), λ either. refl);
-            };
-            another = moved.saw.another;
-            leave = leave;
-          }
+      go (Some next) finds = record {
+        published = published;
+        looked = looked;
+        says = inl (refl, Any-push (FindsFurther saw.table) saw.behind did (next, (loaded, finds)));
+      }
+
+  -- ---- what it shows in the end
+
+  -- whether it is to say that a table is missing is whether none of the size that was due is attached
+  says-right : (again : Bool) (last : ℕ) (choice : Choice) (behind : List Did) → SaysMissing again last choice behind
+      → (again ≡ true) ↔ IsUnattached env.geometry last choice behind
+  says-right true last (Attach size) behind missing = (
+    λ is has.
+        let NoAttachOf : Did → Type 0 = λ did. (slot : ℕ) → Attaches env.geometry last slot did → ⊥ in
+        let none = subst (AllByRecursion NoAttachOf) has.split missing.1 in
+        (AllByRecursion-cut NoAttachOf has.before (has.at ∷ has.behind) none).1.0 has.slot has.attached,
+    λ so. refl,
+  )
+  says-right true last Later behind missing = (λ is. tt, λ so. refl)
+  says-right true last Nothing behind missing = absurd (missing.0 refl)
+  says-right false last (Attach size) behind has = (λ is. absurd (cc), λ so. absurd (so has))
+  says-right false last Later behind none = absurd none
+  says-right false last Nothing behind is = (λ is. absurd (cc), λ so. absurd so)
+
+  pub SawReplaced-moved : (again : Bool) (steps : List Did) → SawReplaced again steps → SawMoved env again steps
+  SawReplaced-moved again steps saw =
+      let published = saw.published in
+      let last = published.chose.last in
+      record {
+        choice = published.choice;
+        chose = published.chose;
+        table = published.table;
+        behind = published.behind;
+        published = published.published;
+        followed = published.followed;
+        looked = saw.looked;
+        again_right = elim saw.says [
+          | inl further ↦ (λ is. inl further.1, λ either. further.0)
+          | inr says ↦
+              let right = says-right again last published.choice published.chose.behind says.0 in (
+                λ is. inr (right.0 is),
+                λ either. elim either [
+                  | inl (k, did, within, is, finds) ↦
+                      let none = All-from_recursion (FindsNoneFurther published.table) published.behind says.1 k did within in
+                      absurd (subst (FindsNoneFurther published.table) is none finds)
+                  | inr so ↦ right.1 so
+                ],
+              )
+        ];
+      }
 
   -- ---- what the caller knows
 
@@ -881,6 +955,18 @@ module _ (env : Env) where
         does.found ∙ ap (old_of does.words) does.planned in
         has_future env mix does.caller (mem env mix does.words) does.ghost does.whole root knows
         (sym (ap slot_of found) ∙ none)
+
+    -- each table is flat
+    last_flat : (root : ℕ) (h : Geometry) (state : LastTableAt) (did : Did)
+        → Performs mix env (works (at.LastTable root (record { geometry = h; at = state }))) did → FindsFlat state did
+    last_flat root h (seeks.Future slot) did does = tt
+    last_flat root h (seeks.Shape slot) did does =
+        let found : did.old ≡ mem env mix does.words (Slot slot ShapeWord) =
+        does.found ∙ ap (old_of does.words)
+        (does.planned ∙ ap (λ (g : Geometry). last_table_plan_at g (seeks.Shape slot)) does.within.seek_in.geometry_same) in
+        ap is_nested found
+        ∙ flat_seen env mix does.caller (mem env mix does.words) does.ghost does.whole slot
+        does.knows.knowing.means.work.more.aim_is.table
 
     -- and its shape, where it is the last one
     flat_shape : (emptying : Emptying) (h : Geometry) (slot : ℕ) (did : Did)
@@ -946,20 +1032,30 @@ module _ (env : Env) where
 
   -- ---- all states
 
-  no_table-push : (size : ℕ) (steps : List Did) (did : Did) → SawNoTableDue env size steps
-      → SawNoTableDue env size (steps ++ did ∷ [])
+  -- an operation on the work lock finds nothing of slots
+  slots_taken-stay : (steps : List Performed) (step : Performed) → op_place step.op ≡ place_of env.geometry WorkLock
+      → AreSlotsTaken env.geometry steps → AreSlotsTaken env.geometry (steps ++ step ∷ [])
+  slots_taken-stay steps step on_lock slots = record {
+    seen = λ slot l. Any-append_left (SeesSlotTaken env.geometry slot) steps (step ∷ []) (slots.seen slot l);
+    only =
+        AllByRecursion-push (FindsSlotsTaken env.geometry) steps step slots.only
+        (λ slot l place. let same = sym on_lock ∙ place in absurd (omega (arith, same)));
+  }
+
+  no_table-push : (size : ℕ) (steps : List Did) (did : Did) → did.op ≡ plan_at env (at.LettingGo (outcomes.NoTable size))
+      → SawNoTableDue env size steps → SawNoTableDue env size (steps ++ did ∷ [])
   unfolding HasChosen-push
-  no_table-push size steps did saw =
+  no_table-push size steps did is saw =
       let behind = saw.chose.behind in
       let more = map-append performed_of behind (did ∷ []) in
       record {
         chose = HasChosen-push (Attach size) steps did saw.chose;
         stays = saw.stays;
         room = elim saw.room [
-          | inl slots ↦ inl (λ slot l. subst (Any (SeesSlotTaken env.geometry slot)) (sym more)
-              (Any-append_left (SeesSlotTaken env.geometry slot) (map performed_of behind) (performed_of did ∷ []) (slots slot l)))
-          | inr runs ↦ inr (subst (AreRunsSeenInTurn env.geometry (pages_for size) 0) (sym more)
-              (turn_more env.geometry (pages_for size) 0 (map performed_of behind) (performed_of did ∷ []) runs))
+          | inl slots ↦ inl (subst (AreSlotsTaken env.geometry) (sym more)
+              (slots_taken-stay (map performed_of behind) (performed_of did) (ap op_place is) slots))
+          | inr runs ↦ inr (subst (SawEachRun env.geometry (exponent_made size)) (sym more)
+              (in_turn-stays env.geometry (exponent_made size) 0 (map performed_of behind) (performed_of did) runs))
         ];
       }
 
@@ -980,7 +1076,7 @@ module _ (env : Env) where
   ended-saw : (outcome : Outcome) (steps : List Did) (did : Did) → did.op ≡ plan_at env (at.LettingGo outcome)
       → SawForWork (reply_of outcome) steps → SawForWork (reply_of outcome) (steps ++ did ∷ [])
   ended-saw outcomes.Idle steps did is saw = idle-push steps did is saw
-  ended-saw (outcomes.NoTable size) steps did is saw = no_table-push size steps did saw
+  ended-saw (outcomes.NoTable size) steps did is saw = no_table-push size steps did is saw
   ended-saw (outcomes.Moved again) steps did is saw = stored-saw again WorkLock 0 steps did tt (λ e. cc) is saw
 
   pub work-saw : (mix : ℕ → ℕ → ℕ → ℕ) (state : WorkAt) (steps : List Did) (did : Did)
@@ -989,12 +1085,12 @@ module _ (env : Env) where
   work-saw mix at.WorkLock steps did does saw = lock-saw steps did does.planned saw
   work-saw mix at.CurrentTable steps did does saw = current-saw steps did does.planned saw
   work-saw mix (at.LastTable root seek) steps did does saw =
-      last-saw root seek.geometry seek.at steps did does.within.seek_in.at_in
+      last-saw root seek.geometry seek.at steps did does.within.seek_in.at_in (last_flat mix root seek.geometry seek.at did does)
       (does.planned ∙ ap (λ (h : Geometry). last_table_plan_at h seek.at) does.within.seek_in.geometry_same) saw
   work-saw mix (at.Count root last) steps did does saw =
       begun-saw root last (choice_of env did.old last.shape (root == last.table)) steps did does.planned refl saw
   work-saw mix (at.Making wanted make) steps did does saw =
-      made-saw wanted make steps did (make_after make did.old).1 does.planned refl saw
+      made-saw wanted make steps did does.within does.planned saw
   work-saw mix (at.Attaching root last slot shape) steps did does saw =
       attached-saw root last slot shape steps did does.within.last_in does.within.made_in.slot_in does.planned saw
   work-saw mix (at.Unmaking root unmake) steps did does saw =

@@ -24,7 +24,7 @@ use Rattle.rht_model.specs.declared.history.Call.{Call}
 use Rattle.rht_arena.specs.Laws.{map_place, map_bit}
 use Rattle.rht_nest.specs.Tables.{pages_of_shape}
 use Rattle.rht_core.specs.Traces.{Did}
-use Rattle.rht_core.specs.Refused.{turned, turns, IsTableWord, GivesBackNode, GivesBackSlot, IsOfNodeGiven, IsOfSlotGiven, StoresLast, HasAttached, IsOfSlot, IsOfPages, IsOfAttached, MayAttach, IsExcepted}
+use Rattle.rht_core.specs.Refused.{turned, turns, IsTableWord, GivesBackNode, GivesBackSlot, IsOfNodeGiven, IsOfSlotGiven, StoresLast, AttachedWith, IsOfSlot, IsOfPages, IsOfAttached, MayAttach, IsExcepted}
 use Rattle.rht_core.proofs.Theory.Ghosts.{Ghost, Held, SlotHeld, PageFree, PageHeld, lock_bit, state_word, has_bit}
 use Rattle.rht_core.proofs.Theory.Wholes.{place_at, Whole}
 use Rattle.rht_core.proofs.Theory.Steps.{Holding, Move, Quiet, TakesNode, GivesNode, TakesLock, DropsLock, Raises, Links, Lowers, Rebinds, LinksBehind, Arms, TakesSlot, GivesSlot, TakesPages, GivesPages, TakesWork, GivesWork, BeginsMoving, TakesSecond, Leaves, Arrives, CutsOff, Publishes, Retires, mem, Does, ReadyFor, SaysChange, IsAside, DoesQuiet, DoesTakeNode, DoesGiveNode, DoesTakeLock, DoesDropLock, DoesTakeSlot, DoesGiveSlot, DoesTakePages, DoesGivePages, DoesAttach, DoesTakeWork, DoesGiveWork}
@@ -644,7 +644,7 @@ module _ (env : Env) (mix : ℕ → ℕ → ℕ → ℕ) (call : Call) (steps : 
         let with_pages = may.attaches does.last slot does.within does.attaching does.has in
         let node_same = ap (λ (x : Holding). x.node) does.holds in
         let none : h'.slot ≡ None = ap (λ (x : Holding). x.slot) does.holds in
-        let attached : HasAttached g does.last slot with_pages.shape every = record {
+        let attached : AttachedWith g does.last slot with_pages.shape every = record {
           before = steps;
           at = did;
           behind = [];

@@ -12,7 +12,7 @@ use Rattle.rht_model.specs.declared.history.Call.{Call}
 use Rattle.rht_model.specs.declared.history.Call.TheVariants.{Bind, Work}
 use Rattle.rht_core.specs.Traces.{Did}
 use Rattle.rht_core.specs.ResizeCauses.{Attaches}
-use Rattle.rht_core.specs.Refused.{turns, IsTableWord, GivesBackNode, GivesBackSlot, HasAttached, IsExcepted}
+use Rattle.rht_core.specs.Refused.{turns, IsTableWord, GivesBackNode, GivesBackSlot, AttachedWith, IsExcepted}
 use Rattle.rht_core.proofs.Histories.Behind.{Any-push_cases, Any-none}
 use Rattle.rht_core.proofs.Undoing.TurnedBits.{turned-here}
 
@@ -32,7 +32,7 @@ module _ (g : Geometry) where
   abbrev AttachNone : List Did → Type 0
   AttachNone steps = AllByRecursion (λ did. (table slot : ℕ) → Attaches g table slot did → ⊥) steps
 
-  none_attached : (steps : List Did) → AttachNone steps → (table slot shape : ℕ) → HasAttached g table slot shape steps → ⊥
+  none_attached : (steps : List Did) → AttachNone steps → (table slot shape : ℕ) → AttachedWith g table slot shape steps → ⊥
   none_attached steps none table slot shape has =
       let P : Did → Type 0 = λ did. (t s : ℕ) → Attaches g t s did → ⊥ in
       let parts = AllByRecursion-cut P has.before (has.at ∷ has.behind) (subst (AllByRecursion P) has.split none) in

@@ -1,0 +1,374 @@
+-- In a run with few ports no table is made, and no call is refused because one is full.
+--
+-- By induction over the events: while the words of the slots are as at opening, each call is calm, so its next operation leaves them; and at
+-- the end each call was calm.
+use Rattle.std.proofs.Common.{◌≡◌, ◌≢◌, ℕ, zero, suc, ◌<◌, ◌≤◌, List, [], ◌∷◌, ◌++◌, length, take, map, get_or, refl, sym, ap, ◌∙◌, subst, inl, inr, arith}
+use Rattle.std.specs.Prelude.{Option, Some, None, IfSome}
+use Rattle.std.specs.List.{AllByRecursion}
+use Rattle.std.proofs.lemmas.Bool.{cases_lt}
+use Rattle.std.proofs.lemmas.List.{take_all, length_push}
+use Rattle.rht_words.specs.declared.op.Op.{Op}
+use Rattle.rht_words.specs.declared.env.Env.{Env}
+use Rattle.rht_words.specs.declared.config.Kind.{Kind}
+use Rattle.rht_words.specs.declared.config.Kind.TheVariants.{Single, Listed}
+use Rattle.rht_words.specs.declared.machine.Next.{Next}
+use Rattle.rht_words.specs.declared.machine.Next.TheVariants.{Go, Done}
+use Rattle.rht_words.specs.Machines.{GoesOrEnds}
+use Rattle.rht_words.specs.Opening.{opening_words}
+use Rattle.rht_words.specs.Operations.{applied}
+use Rattle.rht_words.specs.Places.{CurrentTable, NextSerial, Slot, SlotWord, ShapeWord, SeedWord, FutureWord, SerialWord, StateWord, LoadedSection, ChainLink, ListLink, IsSlotWord, place_of}
+use Rattle.rht_words.proofs.EachElement.{AllByRecursion-cut}
+use Rattle.rht_words.proofs.OpeningLaws.{stand_in_place}
+use Rattle.rht_words.proofs.WordChanges.{applied-other}
+use Rattle.rht_bind.specs.Bind.{plan_at, IsBindAtIn, after_at as bind_after_at}
+use Rattle.rht_bind.specs.declared.bind.BindAt.{BindAt}
+use Rattle.rht_bind.specs.declared.bind.BindAt.TheVariants as at
+use Rattle.rht_find.specs.Find.{after_at as find_after_at}
+use Rattle.rht_release.specs.All as all
+use Rattle.rht_release.specs.Release as release
+use Rattle.rht_release.specs.Rebind as rebind
+use Rattle.rht_move.specs.LastTable.{last_table_plan_at}
+use Rattle.rht_move.specs.declared.last_table.LastTableAt.{LastTableAt}
+use Rattle.rht_move.specs.declared.last_table.LastTableAt.TheVariants as last_tables
+use Rattle.rht_move.specs.Work as work
+use Rattle.rht_move.specs.declared.work.WorkAt.{WorkAt}
+use Rattle.rht_move.specs.declared.work.WorkAt.TheVariants as work_at
+use Rattle.rht_model.specs.Endings.{Ending, ending_in, plain_ending}
+use Rattle.rht_model.specs.declared.finished.Finished.{Finished}
+use Rattle.rht_model.specs.declared.history.Call.{Call}
+use Rattle.rht_model.specs.declared.history.Call.TheVariants.{Bind, Find, All, Release, Rebind, Walk, Work, Tidy, Count}
+use Rattle.rht_core.specs.declared.event.Event.{Event}
+use Rattle.rht_core.specs.declared.event.Event.TheVariants.{Enroll, Begin, Step}
+use Rattle.rht_core.specs.FewPorts.{IsNoTableMade, IsCallTaken, StaysWithFirst, FewPorts}
+use Rattle.rht_core.specs.Jobs.{Job, finds, binds, releases, rebinds, lists, works, counts, first_job, first_rebind, call_of, job_of, job_plan, job_next, job_after, listing_ending, node_ending}
+use Rattle.rht_core.specs.Runs.{World, enrolling, local_of, planned_in, view_of, world_step, run_of, IsAdmitted, IsAdmittedEvent}
+use Rattle.rht_core.specs.Seen.{words_before}
+use Rattle.rht_core.specs.Traces.{Did, Past, Traced, traced_of}
+use Rattle.rht_core.proofs.Machines.JobSteps.{JobIn}
+use Rattle.rht_core.proofs.Events.Invariants.{step_of}
+use Rattle.rht_core.proofs.Events.InvariantRuns.{has_inv}
+use Rattle.rht_core.proofs.Events.Worlds.{induct_by_last, take-push, take-push_all, run_of-push, step_none, step_words}
+use Rattle.rht_core.proofs.Tracing.TracedJobs.{Performs, LeadsOn, IsKeeping, IsAtJob, jobs_keep_in}
+use Rattle.rht_core.proofs.Tracing.TracedRuns.{world-traced_of}
+use Rattle.rht_core.proofs.Tracing.TracesInRuns.{remembers}
+use Rattle.rht_core.proofs.Reasons.CausesInRuns.{JobSaw, EndsSeen, job-leads, first_job-saw}
+use Rattle.rht_core.proofs.Reasons.CalmCalls.{HasFew, IsRoomy, CalmBind, CalmWork, CalmJob, CalmEnd, calm-bind, calm-work}
+use Rattle.rht_core.proofs.Counting.FullTables.{taken}
+use Rattle.rht_core.proofs.Counting.SparedSlots.{IsBesideSlots, SparesSlots, spared_slots, by_load, at_node, new_node-spares, give_node-spares, locate-spares, probe-spares, relink-spares, unlock-spares, find-spares, all-spares, release-spares, rebind-spares}
+use Rattle.rht_core.proofs.Histories.BoundAmong.{few-bound, count-few}
+
+-- ---- the words of slots
+
+-- words that have each place of the slots, of the current table and of the next serial as others
+pub no_table_kept : (env : Env) (words after : List ℕ)
+    → ((place : ℕ) → place < 280 → (IsBesideSlots place → ⊥) → place ≢ 4 → get_or after place 0 ≡ get_or words place 0)
+    → IsNoTableMade env words → IsNoTableMade env after
+no_table_kept env words after same none = record {
+  current = same 0 (omega arith) (apart 0 (omega arith) (omega arith) (omega arith)) (omega arith) ∙ none.current;
+  serial = same 3 (omega arith) (apart 3 (omega arith) (omega arith) (omega arith)) (omega arith) ∙ none.serial;
+  slots = λ slot word low is.
+      let place = place_of env.geometry (Slot slot word) in
+      let within = slot_place-within slot word low is in
+      same place within.1 (apart place (omega (arith, within.0)) (omega (arith, within.0)) within.1) (omega (arith, within.0))
+      ∙ none.slots slot word low is;
+}
+  where
+    apart : (place : ℕ) → place ≢ 1 → place ≢ 2 → place < 280 → IsBesideSlots place → ⊥
+    apart place one two low (inl same) = one same
+    apart place one two low (inr (inl same)) = two same
+    apart place one two low (inr (inr high)) = omega (arith, low, high)
+
+    slot_place-within : (slot : ℕ) (word : SlotWord) → slot < 8 → IsSlotWord word
+        → let place = place_of env.geometry (Slot slot word) in (24 ≤ place) × (place < 280)
+    slot_place-within slot ShapeWord low is = (omega (arith, low), omega (arith, low))
+    slot_place-within slot SeedWord low is = (omega (arith, low), omega (arith, low))
+    slot_place-within slot FutureWord low is = (omega (arith, low), omega (arith, low))
+    slot_place-within slot SerialWord low is = (omega (arith, low), omega (arith, low))
+    slot_place-within slot StateWord low is = (omega (arith, low), omega (arith, low))
+    slot_place-within slot (LoadedSection caller) low is = (omega (arith, low, is), omega (arith, low, is))
+
+pub no_table-opening : (env : Env) → IsNoTableMade env (opening_words env)
+no_table-opening env =
+    let stands = stand_in_place env in
+    record {
+      current = stands.each CurrentTable tt;
+      serial = stands.each NextSerial tt;
+      slots = λ slot word low is. stands.each (Slot slot word) (low, is);
+    }
+
+-- ---- what calm calls write
+
+module _ (env : Env) (mix : ℕ → ℕ → ℕ → ℕ) where
+  bind-spares : (state : BindAt) → IsBindAtIn env state → CalmBind env state → SparesSlots (plan_at env state)
+  bind-spares (at.Filling new) within calm = new_node-spares new.geometry new.key new.owner new.at
+  bind-spares (at.CurrentTable attempt) within calm = by_load _ _ refl
+  bind-spares (at.Locating attempt locate) within calm = locate-spares locate.geometry locate.table locate.at
+  bind-spares (at.Probing attempt table shape probe) within calm = probe-spares env.geometry probe.at within.probe_in.at_in
+  bind-spares (at.FoundOwner claimed found) within calm = by_load _ _ refl
+  bind-spares (at.ListLink list) within calm = at_node env.geometry list.claimed.attempt.node ListLink _ refl
+  bind-spares (at.ChainLink list) within calm = by_load _ _ refl
+  bind-spares (at.LinkBehind list link) within calm = at_node env.geometry list.claimed.attempt.node ChainLink _ refl
+  bind-spares (at.Replacing list relink) within calm = relink-spares env.geometry relink relink.at within.relink_in.place_in
+  bind-spares (at.Future claimed length) within calm = by_load _ _ refl
+  bind-spares (at.Count claimed) within calm = by_load _ _ refl
+  bind-spares (at.Link claimed) within calm = at_node env.geometry claimed.attempt.node ChainLink _ refl
+  bind-spares (at.Raise claimed) within calm = inr (inr (inl refl))
+  bind-spares (at.Publish node table relink kick) within calm = relink-spares env.geometry relink relink.at within.relink_in.place_in
+  bind-spares (at.Unlocking attempt table unlock next) within calm = unlock-spares env.geometry unlock within.unlock_in
+  bind-spares (at.Giving give reply) within calm = give_node-spares give
+  bind-spares (at.UnlockingFull growing unlock) within calm = absurd calm
+  bind-spares (at.Root growing) within calm = absurd calm
+  bind-spares (at.GrowthCount growing root) within calm = absurd calm
+  bind-spares (at.Making growing size make) within calm = absurd calm
+  bind-spares (at.FutureAgain growing refusal) within calm = absurd calm
+  bind-spares (at.Attaching growing slot shape) within calm = absurd calm
+  bind-spares (at.Unmaking attempt unmake answer) within calm = absurd calm
+
+  last-spares : (state : LastTableAt) → SparesSlots (last_table_plan_at env.geometry state)
+  last-spares (last_tables.Future table) = by_load _ _ refl
+  last-spares (last_tables.Shape table) = by_load _ _ refl
+
+  work-spares : (state : WorkAt) → work.IsWorkAtIn env state → CalmWork env state → SparesSlots (work.plan_at env state)
+  work-spares work_at.WorkLock within calm = inr (inl refl)
+  work-spares work_at.CurrentTable within calm = by_load _ _ refl
+  work-spares (work_at.LastTable root seek) within calm =
+      subst (λ h. SparesSlots (last_table_plan_at h seek.at)) (sym within.seek_in.geometry_same) (last-spares seek.at)
+  work-spares (work_at.Count root last) within calm = by_load _ _ refl
+  work-spares (work_at.RootFuture root due) within calm = by_load _ _ refl
+  work-spares (work_at.LettingGo outcome) within calm = inr (inl refl)
+  work-spares (work_at.Making wanted make) within calm = absurd calm
+  work-spares (work_at.Attaching root last slot shape) within calm = absurd calm
+  work-spares (work_at.Unmaking root unmake) within calm = absurd calm
+  work-spares (work_at.RootShape root future again) within calm = absurd calm
+  work-spares (work_at.Locking rehash number lock) within calm = absurd calm
+  work-spares (work_at.EntryTable emptying seek) within calm = absurd calm
+  work-spares (work_at.Seed emptying last) within calm = absurd calm
+  work-spares (work_at.BucketWord emptying target) within calm = absurd calm
+  work-spares (work_at.Walking emptying target walk) within calm = absurd calm
+  work-spares (work_at.Key emptying target entry) within calm = absurd calm
+  work-spares (work_at.LockingSecond emptying entry table lock) within calm = absurd calm
+  work-spares (work_at.EntryLink emptying entry second) within calm = absurd calm
+  work-spares (work_at.Linking emptying entry second) within calm = absurd calm
+  work-spares (work_at.CuttingOff emptying entry) within calm = absurd calm
+  work-spares (work_at.Unlocking rehash number unlock stop) within calm = absurd calm
+  work-spares (work_at.Publishing rehash) within calm = absurd calm
+  work-spares (work_at.NewFuture rehash) within calm = absurd calm
+  work-spares (work_at.Retiring root again) within calm = absurd calm
+
+  job-spares : (c : ℕ) (job : Job) → JobIn env mix c job → CalmJob env job → SparesSlots (job_plan env job)
+  job-spares c (finds port state) within calm = find-spares env state within
+  job-spares c (binds port owner once state) within calm = bind-spares state within.at_in calm
+  job-spares c (lists port room state) within calm = all-spares env state within.at_in
+  job-spares c (releases port owner state) within calm = release-spares env state within
+  job-spares c (rebinds port owner new state) within calm = rebind-spares env state within.at_in
+  job-spares c (works state) within calm = work-spares state within calm
+  job-spares c counts within calm = by_load _ _ refl
+
+-- ---- runs
+
+module _ (M : Type 0) (mix : ℕ → ℕ → ℕ → ℕ) (env : Env) (roomy : IsRoomy env) where
+  -- before each event no table was made, and few ports are bound
+  abbrev AreUnmade : List Event → Type 0
+  AreUnmade events = (i : ℕ) → IsNoTableMade env (words_before M mix env events i)
+
+  abbrev AreFew : List Event → Type 0
+  AreFew events = (i : ℕ) → HasFew env (words_before M mix env events i)
+
+  module _ (events : List Event) (few : AreFew events) (unmade : AreUnmade events) where
+    abbrev words_at : ℕ → List ℕ
+    words_at = words_before M mix env events
+
+    -- with what a call has seen, it is calm
+    abbrev Now : Job → List Did → Type 0
+    Now job steps = JobSaw env words_at job steps × CalmJob env job
+
+    abbrev Ended : Call → Ending → List Did → Type 0
+    Ended call ending steps = EndsSeen M mix env events call ending steps × CalmEnd env call ending
+
+    abbrev CalmOn : Job → Job × Next Ending → Type 0
+    CalmOn job next = GoesOrEnds (CalmJob env) (CalmEnd env (call_of job)) next
+
+    both-lead : (job : Job) (all : List Did) (next : Job × Next Ending)
+        → LeadsOn M mix env (JobSaw env words_at) (EndsSeen M mix env events) job all next → CalmOn job next
+        → LeadsOn M mix env Now Ended job all next
+    both-lead job all (after, Go) saw calm = (saw, calm)
+    both-lead job all (after, Done ending) saw calm = (saw, calm)
+
+    next-calm : {S A : Type 0} (start : Job) (job : S → Job) (ending : A → Ending) (next : S × Next A)
+        → GoesOrEnds (λ state. CalmJob env (job state)) (λ end. CalmEnd env (call_of start) (ending end)) next
+        → CalmOn start (job_next job ending next)
+    next-calm start job ending (state, Go) calm = calm
+    next-calm start job ending (state, Done end) calm = calm
+
+    nothing-calm : {S A : Type 0} (next : S × Next A) → GoesOrEnds (λ (state : S). Unit {0}) (λ (end : A). Unit {0}) next
+    nothing-calm (state, Go) = tt
+    nothing-calm (state, Done end) = tt
+
+    job-calm : (job : Job) (steps : List Did) (did : Did) → (does : Performs mix env job did) → does.words ≡ words_at did.index
+        → Now job steps → CalmOn job (job_after mix env job did.old)
+    job-calm (finds port state) steps did does now kept =
+        let next = find_after_at mix env port state did.old in
+        next-calm (finds port state) (finds port) plain_ending next (nothing-calm next)
+    job-calm (binds port owner once state) steps did does now kept =
+        next-calm (binds port owner once state) (binds port owner once) plain_ending (bind_after_at mix env port once state did.old)
+        (calm-bind env words_at (λ i. (few i).bound) mix roomy did (words_at did.index) (unmade did.index) (few did.index)
+        port owner once state steps does now kept.0.0 kept.1)
+    job-calm (lists port room state) steps did does now kept =
+        let after = all.room_after state room did.old in
+        let next = all.after_at mix env port state did.old in
+        next-calm (lists port room state) (lists port after) (listing_ending after) next (nothing-calm next)
+    job-calm (releases port owner state) steps did does now kept =
+        let next = release.after_at mix env port owner state did.old in
+        next-calm (releases port owner state) (releases port owner) node_ending next (nothing-calm next)
+    job-calm (rebinds port owner new state) steps did does now kept =
+        let next = rebind.after_at mix env port owner state did.old in
+        next-calm (rebinds port owner new state) (rebinds port owner new) node_ending next (nothing-calm next)
+    job-calm (works state) steps did does now kept =
+        next-calm (works state) works plain_ending (work.after_at mix env state did.old)
+        (calm-work env words_at (λ i. (few i).bound) mix roomy did (words_at did.index) (unmade did.index) (few did.index)
+        state does now kept.1)
+    job-calm counts steps did does now kept = tt
+
+    first-so : (first : Option Job) (job : Job) → IfSome first (CalmJob env) → first ≡ Some job → CalmJob env job
+    first-so None job calm is = absurd (cc)
+    first-so (Some first) job calm is = let same : first ≡ job = cc in subst (CalmJob env) same calm
+
+    first_rebind-calm : (port owner new : ℕ) (kind : Kind) → IfSome (first_rebind env port owner new kind) (CalmJob env)
+    first_rebind-calm port owner new Single = tt
+    first_rebind-calm port owner new Listed = tt
+
+    first-calm : (call : Call) → IfSome (first_job env call) (CalmJob env)
+    first-calm (Find port) = tt
+    first-calm (Bind port owner once) = tt
+    first-calm (All port) = tt
+    first-calm (Release port owner) = tt
+    first-calm (Rebind port owner new) = first_rebind-calm port owner new env.config.kind
+    first-calm (Walk from limit) = tt
+    first-calm Work = tt
+    first-calm Tidy = tt
+    first-calm Count = tt
+
+    calls-calm : (c : ℕ) → IsAdmitted env.config.kind events
+        → let r : Traced M = traced_of mix env events in IsKeeping M mix env Now Ended (view_of r.world c) (r.traces c)
+    calls-calm c admitted =
+        jobs_keep_in M mix env Now Ended events record {
+          begins = λ call job is. (first_job-saw M mix env events call job is, first-so (first_job env call) job (first-calm call) is);
+          goes = λ job steps did performs now kept.
+              both-lead job (steps ++ did ∷ []) (job_after mix env job did.old)
+              (job-leads M mix env events job steps did performs now kept.0) (job-calm job steps did performs now kept);
+        } c admitted
+
+  -- ---- one event
+
+  module _ (events : List Event) (admitted : IsAdmitted env.config.kind events) (few : AreFew events) (unmade : AreUnmade events) where
+    abbrev w : World M
+    w = run_of mix env events
+
+    -- none was made after all of them
+    unmade-now : IsNoTableMade env w.core.words
+    unmade-now =
+        subst (λ (first : List Event). IsNoTableMade env (run_of {M = M} mix env first).core.words)
+        (take_all (length events) events (omega arith)) (unmade (length events))
+
+    -- the job of a caller that performs this is calm
+    calm-now : (c : ℕ) (job : Job) → job_of (local_of w.core c).doing ≡ Some job → CalmJob env job
+    calm-now c job is =
+        let r : Traced M = traced_of mix env events in
+        let now = (calls-calm events few unmade c admitted).now in
+        let local = ap (λ (v : World M). job_of (local_of v.core c).doing) (world-traced_of M mix env events) ∙ is in
+        (subst (λ (j : Option Job). IsAtJob M mix env (Now events few unmade) (Ended events few unmade) j (r.world.books c) (r.traces c).steps)
+        local now).now.1
+
+    -- so what it performs leaves the words of the slots
+    step-unmade : (c : ℕ) (op : Option Op) → planned_in w.core c ≡ op → IsNoTableMade env (world_step mix w (Step c)).core.words
+    step-unmade c None is =
+        subst (λ (v : World M). IsNoTableMade env v.core.words) (sym (step_none M mix w c is)) unmade-now
+    step-unmade c (Some op) is =
+        let has = has_inv env mix M events admitted in
+        let of = step_of env mix M w.core has.ghost c op has.all has.inv is in
+        let spares = subst SparesSlots (sym of.plan) (job-spares env mix c of.job of.within (calm-now c of.job of.is)) in
+        subst (IsNoTableMade env) (sym (step_words M mix w c op is))
+        (no_table_kept env w.core.words (applied w.core.words op)
+        (λ place low apart other. spared_slots w.core.words op place spares apart) unmade-now)
+
+    event-unmade : (event : Event) → IsNoTableMade env (world_step mix w event).core.words
+    event-unmade Enroll =
+        no_table_kept env w.core.words (applied w.core.words (enrolling w.core.env))
+        (λ place low apart other. applied-other w.core.words (enrolling w.core.env) place other) unmade-now
+    event-unmade (Begin c call) = unmade-now
+    event-unmade (Step c) = step-unmade c (planned_in w.core c) refl
+
+  -- ---- all events
+
+  -- before each event of one more it is as it was, or all of the others are past
+  before-push : (events : List Event) (event : Event) (P : List ℕ → Type 0)
+      → ((i : ℕ) → P (words_before M mix env (events ++ event ∷ []) i)) → (i : ℕ) → P (words_before M mix env events i)
+  before-push events event P all i =
+      let Q : List Event → Type 0 = λ first. P (run_of {M = M} mix env first).core.words in
+      elim (cases_lt (length events) i) [
+        | inl past ↦
+            subst Q (take-push_all events event ∙ sym (take_all i events (omega (arith, past)))) (all (length events))
+        | inr within ↦ subst Q (take-push events event i (omega (arith, within))) (all i)
+      ]
+
+  before-more : (events : List Event) (event : Event) (P : List ℕ → Type 0)
+      → ((i : ℕ) → P (words_before M mix env events i)) → P (world_step mix (run_of {M = M} mix env events) event).core.words
+      → (i : ℕ) → P (words_before M mix env (events ++ event ∷ []) i)
+  before-more events event P all last i =
+      let Q : List Event → Type 0 = λ first. P (run_of {M = M} mix env first).core.words in
+      elim (cases_lt (length events) i) [
+        | inl past ↦
+            subst Q (sym (take_all i (events ++ event ∷ []) (omega (arith, past, length_push events event))))
+            (subst (λ (w : World M). P w.core.words) (sym (run_of-push M mix env events event)) last)
+        | inr within ↦ subst Q (sym (take-push events event i (omega (arith, within)))) (all i)
+      ]
+
+  pub runs-unmade : (events : List Event) → IsAdmitted env.config.kind events → AreFew events → AreUnmade events
+  runs-unmade =
+      induct_by_last (λ events. IsAdmitted env.config.kind events → AreFew events → AreUnmade events)
+      (λ none few i. opened i)
+      (λ events event each all few.
+      let admitted = (AllByRecursion-cut (IsAdmittedEvent env.config.kind) events (event ∷ []) all).0 in
+      let before = before-push events event (HasFew env) few in
+      let unmade = each admitted before in
+      before-more events event (IsNoTableMade env) unmade (event-unmade events admitted before unmade event))
+    where
+      opened : (i : ℕ) → IsNoTableMade env (words_before M mix env [] i)
+      opened zero = no_table-opening env
+      opened (suc i) = no_table-opening env
+
+  -- at the end no call has been refused because a table is full
+  abbrev Taken : Finished → Type 0
+  Taken done = IsCallTaken done.call done.reply
+
+  pub calls-taken : (events : List Event) → IsAdmitted env.config.kind events → AreFew events → StaysWithFirst env (run_of {M = M} mix env events)
+  calls-taken events admitted few =
+      let r : Traced M = traced_of mix env events in
+      let unmade = runs-unmade events admitted few in
+      record {
+        none_made = unmade-now events admitted few unmade;
+        taken = λ c.
+            subst (λ (v : World M). AllByRecursion Taken (v.books c).finished) (world-traced_of M mix env events)
+            (subst (AllByRecursion Taken) ((remembers M mix env events admitted).traces c).past
+            (all_taken events few unmade (r.traces c).past (calls-calm events few unmade c admitted).past));
+      }
+    where
+      all_taken : (events : List Event) (few : AreFew events) (unmade : AreUnmade events) (calls : List Past)
+          → AllByRecursion (λ (past : Past). Ended events few unmade past.done.call (ending_in past.done) past.steps) calls
+          → AllByRecursion Taken (map (λ past. past.done) calls)
+      all_taken events few unmade [] all = tt
+      all_taken events few unmade (past ∷ calls) all = (all.0.1, all_taken events few unmade calls all.1)
+
+pub few_ports : (M : Type 0) (mix : ℕ → ℕ → ℕ → ℕ) → FewPorts M mix
+few_ports M mix env events admitted has =
+    calls-taken M mix env (record { first = has.first; keeps_size = has.keeps_size }) events admitted
+    (λ i.
+    let first = taken (IsAdmittedEvent env.config.kind) i events admitted in
+    let most = few-bound M mix env events admitted has.ports has.among i in
+    let count = count-few M mix env (take i events) (length has.ports) first most in
+    let callers = env.geometry.within.callers_within.1 in
+    let few = has.few in
+    record {
+      count = omega (arith, count, callers, few);
+      bound = λ are. let many = most 16 are in omega (arith, many, few);
+    })

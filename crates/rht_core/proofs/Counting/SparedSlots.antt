@@ -1,0 +1,181 @@
+-- Which operations leave the words of all slots, of the current table and of the next serial: loads, and those on the work lock, on the
+-- count of ports, and on words behind the slots. Look-ups, listings, releases and rebinds have no other; nor have the pieces of a bind but
+-- the making of a table.
+use Rattle.std.proofs.Common.{◌≡◌, ◌⊎◌, ℕ, ◌≤◌, List, get_or, refl, sym, ap, subst, inl, inr, arith}
+use Rattle.rht_words.specs.declared.op.Op.{Op}
+use Rattle.rht_words.specs.declared.op.Op.TheVariants.{Load}
+use Rattle.rht_words.specs.declared.env.Env.{Env}
+use Rattle.rht_words.specs.declared.geometry.Geometry.{Geometry}
+use Rattle.rht_words.specs.Operations.{op_place, old_of, word_after, applied}
+use Rattle.rht_words.specs.Places.{Node, NodeWord, KeyWord, OwnerWord, ListLink, ChainLink, IsBucketPlace, nodes_at, place_of}
+use Rattle.rht_words.proofs.PlacesApart.{parts_in_order}
+use Rattle.rht_words.proofs.WordChanges.{applied-other}
+use Rattle.rht_arena.specs.GiveNode.{GiveNodeModel, give_node_plan}
+use Rattle.rht_arena.specs.NewNode.{new_node_plan_at}
+use Rattle.rht_arena.specs.declared.new_node.NewNodeAt.{NewNodeAt}
+use Rattle.rht_arena.specs.declared.new_node.NewNodeAt.TheVariants as news
+use Rattle.rht_arena.specs.TakeNode.{plan_at as take_node_plan_at}
+use Rattle.rht_arena.specs.declared.take_node.TakeNodeAt.{TakeNodeAt}
+use Rattle.rht_arena.specs.declared.take_node.TakeNodeAt.TheVariants as takes
+use Rattle.rht_nest.specs.Locate.{locate_plan_at}
+use Rattle.rht_nest.specs.declared.locate.LocateAt.{LocateAt}
+use Rattle.rht_nest.specs.declared.locate.LocateAt.TheVariants as locates
+use Rattle.rht_chain.specs.LockedWalk.{walk_plan_at}
+use Rattle.rht_chain.specs.declared.locked_walk.LockedWalkAt.{LockedWalkAt}
+use Rattle.rht_chain.specs.declared.locked_walk.LockedWalkAt.TheVariants as walks
+use Rattle.rht_chain.specs.Lock.{lock_plan_at}
+use Rattle.rht_chain.specs.declared.lock.LockAt.{LockAt}
+use Rattle.rht_chain.specs.declared.lock.LockAt.TheVariants as locks
+use Rattle.rht_chain.specs.Probe.{probe_plan_at, IsProbeAtIn}
+use Rattle.rht_chain.specs.declared.probe.ProbeAt.{ProbeAt}
+use Rattle.rht_chain.specs.declared.probe.ProbeAt.TheVariants as probes
+use Rattle.rht_chain.specs.Relink.{RelinkModel, relink_plan_at}
+use Rattle.rht_chain.specs.declared.relink.RelinkAt.{RelinkAt}
+use Rattle.rht_chain.specs.declared.relink.RelinkAt.TheVariants as relinks
+use Rattle.rht_chain.specs.Unlock.{unlock_plan, IsUnlockIn}
+use Rattle.rht_chain.specs.declared.unlock.Unlock.{Unlock}
+use Rattle.rht_find.specs.Find.{plan_at as find_plan_at, IsFindAtIn}
+use Rattle.rht_find.specs.declared.find.FindAt.{FindAt}
+use Rattle.rht_find.specs.declared.find.FindAt.TheVariants as finds
+use Rattle.rht_release.specs.Seek.{seek_plan_at, IsSeekAtIn}
+use Rattle.rht_release.specs.declared.seek.SeekAt.{SeekAt}
+use Rattle.rht_release.specs.declared.seek.SeekAt.TheVariants as seeks
+use Rattle.rht_release.specs.All as all
+use Rattle.rht_release.specs.declared.all.AllAt.{AllAt}
+use Rattle.rht_release.specs.declared.all.AllAt.TheVariants as alls
+use Rattle.rht_release.specs.Release as release
+use Rattle.rht_release.specs.declared.release.ReleaseAt.{ReleaseAt}
+use Rattle.rht_release.specs.declared.release.ReleaseAt.TheVariants as releases
+use Rattle.rht_release.specs.Rebind as rebind
+use Rattle.rht_release.specs.declared.rebind.RebindAt.{RebindAt}
+use Rattle.rht_release.specs.declared.rebind.RebindAt.TheVariants as rebinds
+use Rattle.rht_core.proofs.Theory.Steps.{unchanged}
+
+-- the place is that of the work lock, of the count of ports, or of a word behind the slots
+abbrev pub IsBesideSlots : ℕ → Type 0
+IsBesideSlots place = (place ≡ 1) ⊎ (place ≡ 2) ⊎ (280 ≤ place)
+
+-- the operation is a load, or on such a place
+abbrev pub SparesSlots : Op → Type 0
+SparesSlots op = ((place : ℕ) × (op ≡ Load place)) ⊎ IsBesideSlots (op_place op)
+
+-- it leaves each other word
+pub spared_slots : (words : List ℕ) (op : Op) (place : ℕ) → SparesSlots op → (IsBesideSlots place → ⊥)
+    → get_or (applied words op) place 0 ≡ get_or words place 0
+spared_slots words op place (inl (at, load)) other =
+    ap (λ w. get_or w place 0) (unchanged words op (ap (word_after (old_of words op)) load))
+spared_slots words op place (inr beside) other =
+    applied-other words op place (λ same. other (subst IsBesideSlots (sym same) beside))
+
+-- ---- pieces
+
+pub by_load : (op : Op) (place : ℕ) → op ≡ Load place → SparesSlots op
+by_load op place is = inl (place, is)
+
+pub behind : (op : Op) → 280 ≤ op_place op → SparesSlots op
+behind op high = inr (inr (inr high))
+
+-- nodes and buckets stand behind the slots
+nodes_behind : (h : Geometry) → 280 ≤ nodes_at h
+nodes_behind h = let order = parts_in_order h in omega (arith, order.page_map, order.nodes)
+
+bucket_behind : (g : Geometry) (place : ℕ) → IsBucketPlace g place → 280 ≤ place
+bucket_behind g place is =
+    let order = parts_in_order g in
+    omega (arith, is.0, order.page_map, order.nodes, order.pages)
+
+pub at_node : (h : Geometry) (node : ℕ) (word : NodeWord) (op : Op) → op_place op ≡ place_of h (Node node word) → SparesSlots op
+at_node h node word op is = behind op (omega (arith, is, nodes_behind h))
+
+pub at_bucket : (g : Geometry) (op : Op) → IsBucketPlace g (op_place op) → SparesSlots op
+at_bucket g op is = behind op (bucket_behind g (op_place op) is)
+
+take_node-spares : (h : Geometry) (state : TakeNodeAt) → SparesSlots (take_node_plan_at h state)
+take_node-spares h (takes.MapWord index) = behind _ (omega arith)
+take_node-spares h (takes.Claim index bit) = behind _ (omega arith)
+
+pub new_node-spares : (h : Geometry) (key owner : ℕ) (state : NewNodeAt) → SparesSlots (new_node_plan_at h key owner state)
+new_node-spares h key owner (news.Taking take) = take_node-spares take.geometry take.at
+new_node-spares h key owner (news.Key node) = at_node h node KeyWord _ refl
+new_node-spares h key owner (news.Owner node) = at_node h node OwnerWord _ refl
+new_node-spares h key owner (news.ListLink node) = at_node h node ListLink _ refl
+
+pub give_node-spares : (give : GiveNodeModel) → SparesSlots (give_node_plan give)
+give_node-spares give = behind _ (omega arith)
+
+pub locate-spares : (h : Geometry) (table : ℕ) (state : LocateAt) → SparesSlots (locate_plan_at h table state)
+locate-spares h table locates.Shape = by_load _ _ refl
+locate-spares h table (locates.Seed shape) = by_load _ _ refl
+
+module _ (g : Geometry) where
+  lock-spares : (place : ℕ) (state : LockAt) → IsBucketPlace g place → SparesSlots (lock_plan_at place state)
+  lock-spares place locks.Word there = by_load _ place refl
+  lock-spares place (locks.Exchange word) there = at_bucket g _ there
+
+  walk-spares : (h : Geometry) (state : LockedWalkAt) → SparesSlots (walk_plan_at h state)
+  walk-spares h (walks.Key node) = by_load _ _ refl
+  walk-spares h (walks.ChainLink node) = by_load _ _ refl
+
+  pub probe-spares : (state : ProbeAt) → IsProbeAtIn g state → SparesSlots (probe_plan_at state)
+  probe-spares (probes.Locking lock) within = lock-spares lock.place lock.at within.place_in
+  probe-spares (probes.Walking bucket walk) within = walk-spares walk.geometry walk.at
+
+  pub relink-spares : (relink : RelinkModel) (state : RelinkAt) → IsBucketPlace g relink.place
+      → SparesSlots (relink_plan_at relink state)
+  relink-spares relink (relinks.ChainLink before) there = at_node relink.geometry before ChainLink _ refl
+  relink-spares relink (relinks.Word word) there = at_bucket g _ there
+
+  pub unlock-spares : (unlock : Unlock) → IsUnlockIn g unlock → SparesSlots (unlock_plan unlock)
+  unlock-spares unlock within = at_bucket g _ within.place_in
+
+  seek-spares : (h : Geometry) (state : SeekAt) → IsSeekAtIn g state → SparesSlots (seek_plan_at h state)
+  seek-spares h seeks.CurrentTable within = by_load _ _ refl
+  seek-spares h (seeks.Locating locate) within = locate-spares locate.geometry locate.table locate.at
+  seek-spares h (seeks.Probing table shape probe) within = probe-spares probe.at within.probe_in.at_in
+  seek-spares h (seeks.Future table bucket) within = by_load _ _ refl
+  seek-spares h (seeks.Leaving table unlock future) within = unlock-spares unlock within.unlock_in
+
+-- ---- calls
+
+module _ (env : Env) where
+  abbrev g : Geometry
+  g = env.geometry
+
+  pub find-spares : (state : FindAt) → IsFindAtIn env state → SparesSlots (find_plan_at env state)
+  find-spares finds.CurrentTable within = by_load _ _ refl
+  find-spares (finds.Locating locate) within = locate-spares locate.geometry locate.table locate.at
+  find-spares (finds.Probing table probe) within = probe-spares g probe.at within.probe_in.at_in
+  find-spares (finds.Future table bucket) within = by_load _ _ refl
+  find-spares (finds.FirstOwner table bucket node) within = by_load _ _ refl
+  find-spares (finds.ListLink table bucket node owner) within = by_load _ _ refl
+  find-spares (finds.LaterOwner table bucket node owner) within = by_load _ _ refl
+  find-spares (finds.Unlocking table unlock next) within = unlock-spares g unlock within.unlock_in
+
+  pub all-spares : (state : AllAt) → all.IsAllAtIn env state → SparesSlots (all.plan_at env state)
+  all-spares (alls.Seeking seek) within = seek-spares g seek.geometry seek.at within.at_in
+  all-spares (alls.Owner found node) within = by_load _ _ refl
+  all-spares (alls.ListLink found node) within = by_load _ _ refl
+  all-spares (alls.Unlocking table unlock) within = unlock-spares g unlock within.unlock_in
+
+  pub release-spares : (state : ReleaseAt) → release.IsReleaseAtIn env state → SparesSlots (release.plan_at env state)
+  release-spares (releases.Seeking seek) within = seek-spares g seek.geometry seek.at within.at_in
+  release-spares (releases.Owner found node before) within = by_load _ _ refl
+  release-spares (releases.ListLink found node) within = by_load _ _ refl
+  release-spares (releases.LinkBehind found node before) within = by_load _ _ refl
+  release-spares (releases.CuttingOut found node before link) within = at_node g before ListLink _ refl
+  release-spares (releases.ChainLink found second) within = by_load _ _ refl
+  release-spares (releases.SecondLink found second link) within = at_node g second ChainLink _ refl
+  release-spares (releases.Promoting found relink) within = relink-spares g relink relink.at within.relink_in.place_in
+  release-spares (releases.Unlinking found relink) within = relink-spares g relink relink.at within.relink_in.place_in
+  release-spares (releases.Lowering node shape) within = inr (inr (inl refl))
+  release-spares (releases.Unlocking table unlock removed) within = unlock-spares g unlock within.unlock_in
+
+  pub rebind-spares : (state : RebindAt) → rebind.IsRebindAtIn env state → SparesSlots (rebind.plan_at env state)
+  rebind-spares (rebinds.Filling new) within = new_node-spares new.geometry new.key new.owner new.at
+  rebind-spares (rebinds.Seeking node seek) within = seek-spares g seek.geometry seek.at within.seek_in.at_in
+  rebind-spares (rebinds.Owner node found) within = by_load _ _ refl
+  rebind-spares (rebinds.ChainLink node found) within = by_load _ _ refl
+  rebind-spares (rebinds.Link node found link) within = at_node g node ChainLink _ refl
+  rebind-spares (rebinds.Replacing node found relink) within = relink-spares g relink relink.at within.relink_in.place_in
+  rebind-spares (rebinds.Unlocking node table unlock) within = unlock-spares g unlock within.unlock_in
+  rebind-spares (rebinds.Giving give) within = give_node-spares give
