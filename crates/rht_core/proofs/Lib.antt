@@ -18,3 +18,5 @@ pub mod Counting
 pub mod Histories
 -- the replies of each call, their causes, and the lists of listings
 pub mod Reasons
+-- the bits that calls turn, and what is left of those that change nothing
+pub mod Undoing

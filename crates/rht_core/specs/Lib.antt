@@ -45,3 +45,5 @@ pub mod WorkCauses
 pub mod Worked
 -- runs with so few ports that no table is full
 pub mod FewPorts
+-- what a call leaves that was refused
+pub mod Refused

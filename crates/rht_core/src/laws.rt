@@ -7,6 +7,7 @@ ghost use Rattle.rht_core.specs.FewPorts.{FewPorts, OneCaller};
 ghost use Rattle.rht_core.specs.Kicks.{Kicks};
 ghost use Rattle.rht_core.specs.ListedOwners.{ListedOwners};
 ghost use Rattle.rht_core.specs.NodesUsed.{Nodes};
+ghost use Rattle.rht_core.specs.Refused.{Refused};
 ghost use Rattle.rht_core.specs.RunHistories.{HasFittingHistory};
 ghost use Rattle.rht_core.specs.ToldHistories.{HasToldHistory};
 ghost use Rattle.rht_core.specs.Worked.{Worked};
@@ -194,6 +195,20 @@ pub fn counted<M: Mix>()
 /// which call took one, that no table in force is retired, nor that such a moment comes.
 pub fn at_rest<M: Mix>()
     ensures { AtRest M M.mix_of }
+{}
+
+/// In every run a call that was refused has undone what it did; so has a bind that was answered `Exists`,
+/// and a rebind that was answered `Absent`. None of its operations changed what the words stand for. And
+/// each bit of each word was turned by its operations an even number of times, whatever others did to it
+/// meanwhile: so at its end the call holds no lock, and the node that it took was given back by it.
+///
+/// Left turned may be: the next serial; words of nodes that it gave back; words of slots that it gave back,
+/// but not the one that says whether the slot is free; and where it is a bind, what belongs to the tables
+/// that it attached: the futures that lead to them, the words of their slots, and the bits of their pages, by
+/// the last shape that it stored for each before attaching it. It doesn't say what stands in these words,
+/// nor that a refused bind attached none.
+pub fn refused<M: Mix>()
+    ensures { Refused M M.mix_of }
 {}
 
 /// In every run a call is answered `NoNode` only where as many calls as there are nodes have taken one,

@@ -1,11 +1,13 @@
 -- What an event does to the words and to each caller, and inductions over the events of a run.
 -- An event of one caller changes what that caller sees of itself and nothing that another sees. All
 -- else that holds of runs goes through these equations.
-use Rattle.std.proofs.Common.{◌≡◌, ◌≢◌, ℕ, ◌<◌, ◌≤◌, Bool, true, false, cond, ◌&&◌, ◌==◌, nat_lt, List, [], ◌∷◌, ◌++◌, length, take, refl, sym, ap, ◌∙◌, subst, append_assoc}
+use Rattle.std.proofs.Common.{◌≡◌, ◌≢◌, ℕ, suc, ◌<◌, ◌≤◌, Bool, true, false, cond, ◌&&◌, ◌==◌, nat_lt, List, [], ◌∷◌, ◌++◌, length, take, refl, sym, ap, ◌∙◌, subst, append_assoc}
 use Rattle.std.specs.Prelude.{Option, Some, None, slice_set}
 use Rattle.std.proofs.lemmas.Bool.{eq-eqb, ne_eqb, ltb-true, and_parts}
 use Rattle.std.proofs.lemmas.List.{append-nil, take-append-le, get_or-set_same, get_or-set_other}
-use Rattle.std.proofs.Math.Seq.{take-append_seam}
+use Rattle.std.specs.List.{slice_get}
+use Rattle.std.proofs.Math.Seq.{take-append_seam, take-suc}
+use Rattle.std.proofs.lemmas.Option.{slice_get_within, get_or_from_slice_get}
 use Rattle.rht_words.specs.declared.op.Op.{Op}
 use Rattle.rht_words.specs.declared.env.Env.{Env}
 use Rattle.rht_words.specs.declared.config.Kind.{Kind}
@@ -194,6 +196,15 @@ module _ (M : Type 0) (mix : ℕ → ℕ → ℕ → ℕ) where
       → ◌≡◌ {A = World M} (run_of mix env (events ++ event ∷ []))
       (world_step mix (run_of mix env events) event)
   run_of-push env events event = run_from-append (opening env) events (event ∷ [])
+
+  -- behind one more of these events the world is changed by it
+  pub run_of-next : (env : Env) (events : List Event) (n : ℕ) (event : Event) → slice_get events n ≡ Some event
+      → ◌≡◌ {A = World M} (run_of mix env (take (suc n) events)) (world_step mix (run_of mix env (take n events)) event)
+  run_of-next env events n event is =
+      ap (run_of {M = M} mix env)
+      (take-suc events n event (slice_get_within events n event is)
+      ∙ ap (λ e. take n events ++ e ∷ []) (get_or_from_slice_get events n event event is))
+      ∙ run_of-push env (take n events) event
 
   -- what each event keeps holds behind all of them
   pub run_keeps : (P : World M → Type 0) → ((w : World M) (event : Event) → P w → P (world_step mix w event))

@@ -874,6 +874,7 @@ module _ (env : Env) (mix : ℕ → ℕ → ℕ → ℕ) (c : ℕ) (port owner :
               left_lock = left_lock list.before;
               left_node = inr refl;
               raised_is = sym k.only.raising;
+              changes = refl;
             };
             says = inr (record {
               unknown = refl;

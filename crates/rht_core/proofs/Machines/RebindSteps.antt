@@ -677,6 +677,7 @@ module _ (env : Env) (mix : ℕ → ℕ → ℕ → ℕ) (c : ℕ) (port owner n
           left_lock = lock_or_none before;
           left_node = inr refl;
           raised_is = sym k.only.raising;
+          changes = refl;
         };
         says = says;
         right = λ answer unknown known.

@@ -507,7 +507,7 @@ module _ (env : Env) (mix : ℕ → ℕ → ℕ → ℕ) (c : ℕ) (port owner :
         (ReleaseNext (next, Go))
         (inl refl) (still_has refl)
         (moved env mix c words G op (holds_bucket found) (holds_bucket found) (ReleaseNext (next, Go))
-        (LinksBehind second) whole tt tt made (record { on = refl; holds = refl })
+        (LinksBehind second) whole tt tt made (record { on = refl; locked = λ e. cc; none = refl; holds = refl })
         (promoting_knows M' G found second (record {
           only = k.only;
           means = record {

@@ -213,6 +213,7 @@ module _ (env : Env) (mix : ℕ → ℕ → ℕ → ℕ) (c : ℕ) (port owner :
             left_lock = takes.left;
             left_node = inl refl;
             raised_is = same;
+            changes = refl;
           };
           says = inr (owner_gone found op node front rear bucket x x_owner raised lock known takes);
           right = λ answer unknown told.

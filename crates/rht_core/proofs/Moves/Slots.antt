@@ -4,13 +4,13 @@ use Rattle.std.proofs.Common.{◌≡◌, ◌≢◌, ℕ, ◌<◌, None, true, fa
 use Rattle.rht_words.specs.declared.env.Env.{Env}
 use Rattle.rht_words.specs.Places.{WorkLock, NextSerial, Slot, SlotWord, StateWord}
 use Rattle.rht_words.proofs.Memory.{Memory, IsWrite}
+use Rattle.rht_core.specs.Refused.{IsTableWord}
 use Rattle.rht_core.proofs.Theory.Ghosts.{put, put-other, put-all, SlotOwner, SlotFree, SlotHeld, Live, Retired, Ghost, state_word, has_table, with_slot}
 use Rattle.rht_core.proofs.Theory.Wholes.{retired_stay, SlotsRight, Whole}
 use Rattle.rht_core.proofs.Theory.Knowledge.{HasSlot}
 use Rattle.rht_core.proofs.Theory.Frames.{Others, Made, same_tables}
 use Rattle.rht_core.proofs.Theory.WholeFrames.{SlotsRight-write}
 use Rattle.rht_core.proofs.Theory.TableFrames.{TablesKept, IsNoBucketWord, Whole-retabled, Rely-retabled, TablesRight-kept, PagesRight-kept}
-use Rattle.rht_core.proofs.Theory.Steps.{IsTableWord}
 use Rattle.rht_core.proofs.Moves.Quiet.{aside}
 
 -- a slot with state word 0 is free

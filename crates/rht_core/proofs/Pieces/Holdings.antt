@@ -11,13 +11,14 @@ use Rattle.rht_words.specs.Members.{In}
 use Rattle.rht_words.specs.Operations.{old_of, word_after, applied}
 use Rattle.rht_words.specs.Places.{NextSerial, Slot, SlotWord, ShapeWord, SeedWord, FutureWord, SerialWord, StateWord, LoadedSection, IsSlotWord, PageMap, map_words, place_of, words_in}
 use Rattle.rht_words.proofs.Memory.{Memory, IsWrite, is_write}
+use Rattle.rht_core.specs.Refused.{IsTableWord}
 use Rattle.rht_core.proofs.Theory.Ghosts.{put, put-same, put-all, put_in, put_in-all, PageOwner, PageFree, PageHeld, SlotFree, SlotHeld, Ghost, has_table, has_bit}
 use Rattle.rht_core.proofs.Theory.Wholes.{Whole}
 use Rattle.rht_core.proofs.Theory.Readiness.{ArePagesOf}
 use Rattle.rht_core.proofs.Theory.Knowns.{Known, KnownSlot, KnownMaking, MakesNothing, HasTaken}
 use Rattle.rht_core.proofs.Theory.Knowledge.{SlotMeans, Knowing}
 use Rattle.rht_core.proofs.Theory.TableFrames.{TablesKept, Knowing-retabled}
-use Rattle.rht_core.proofs.Theory.Steps.{Quiet, TakesSlot, GivesSlot, TakesPages, GivesPages, Holding, IsTableWord, ClearsBits, SetsBits, mem, Moved, moved, loads}
+use Rattle.rht_core.proofs.Theory.Steps.{Quiet, TakesSlot, GivesSlot, TakesPages, GivesPages, Holding, ClearsBits, SetsBits, mem, Moved, moved, loads}
 use Rattle.rht_core.proofs.Moves.Slots.{slot_word-apart, slots_kept, take_slot, give_slot, fill_slot, take_serial}
 use Rattle.rht_core.proofs.Moves.Pages.{map_word-apart, pages_kept, take_pages, give_pages}
 

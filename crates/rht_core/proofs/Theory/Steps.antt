@@ -11,14 +11,15 @@ use Rattle.rht_words.specs.Links.{future_of}
 use Rattle.rht_words.specs.Maps.{bit_of}
 use Rattle.rht_words.specs.Ports.{owner_of}
 use Rattle.rht_words.specs.Operations.{op_place, old_of, word_after, applied}
-use Rattle.rht_words.specs.Places.{CurrentTable, WorkLock, PortCount, NextSerial, Slot, SlotWord, ShapeWord, SeedWord, FutureWord, SerialWord, StateWord, LoadedSection, PageMap, Node, NodeWord, ChainLink, OwnerWord, nodes_at, place_of, word_at}
+use Rattle.rht_words.specs.Places.{CurrentTable, WorkLock, PortCount, NextSerial, Slot, SlotWord, FutureWord, StateWord, PageMap, Node, NodeWord, ChainLink, OwnerWord, nodes_at, place_of, word_at}
 use Rattle.rht_words.specs.Members.{In}
 use Rattle.rht_words.proofs.Members.{count_below-same, in-middle}
 use Rattle.rht_words.proofs.Memory.{Memory}
 use Rattle.rht_model.specs.declared.history.Call.{Call}
 use Rattle.rht_model.specs.Multimap.{Multimap, Agree}
-use Rattle.rht_model.specs.Answers.{Answer}
+use Rattle.rht_model.specs.Answers.{Answer, is_change}
 use Rattle.rht_arena.specs.Laws.{map_place, map_bit, IsTaking}
+use Rattle.rht_core.specs.Refused.{IsTableWord}
 use Rattle.rht_core.proofs.Theory.Ghosts.{put, put-all, Owner, Free, Held, First, Leaving, PageFree, PageHeld, SlotFree, SlotHeld, Ghost, is_taken_by, with_holder, with_armed, with_owner, with_raised, with_slot, has_bit, with_pages, flat_table, with_table}
 use Rattle.rht_core.proofs.Theory.Wholes.{place_at, outs, Whole}
 use Rattle.rht_core.proofs.Theory.Reliance.{bound_used}
@@ -91,18 +92,14 @@ still_has same = record {
   gone = λ node some none. absurd (cc);
 }
 
+-- its answer is known, and is a reply that says that bindings were changed
+abbrev pub SaysChange : Option Answer → Type 0
+SaysChange None = ⊥
+SaysChange (Some answer) = is_change answer.reply ≡ true
+
 -- the operation leaves each bit of the word that it found
 abbrev pub LeavesBits : Op → ℕ → Type 0
 LeavesBits op old = (bit : ℕ) → bit < 64 → bit_at (word_after old op) bit ≡ bit_at old bit
-
--- the word is one of a slot's that say something of its table
-abbrev pub IsTableWord : SlotWord → Type 0
-IsTableWord ShapeWord = Unit {0}
-IsTableWord SeedWord = Unit {0}
-IsTableWord FutureWord = Unit {0}
-IsTableWord SerialWord = Unit {0}
-IsTableWord StateWord = ⊥
-IsTableWord (LoadedSection caller) = ⊥
 
 module _ (g : Geometry) where
   -- the operation is on a word of the node that the call has
@@ -175,16 +172,21 @@ module _ (g : Geometry) where
     pub high : h.raised ≡ true
     pub holds : h' ≡ record h { raised = false; answer = h'.answer }
 
-  -- the store is on a word of a node or of a bucket; the call has the node that it had, or none, and the lock or none
+  -- The store is on a word of a node or of a bucket; the call has the node that it had, or none, and the lock or none. Its answer is
+  -- known from then on, and says that bindings were changed.
   pub record DoesRebind (raised : Bool) (place : ℕ) (op : Op) (h h' : Holding) : Type 0 where
     pub behind_maps : nodes_at g ≤ op_place op
     pub lock : h.lock ≡ Some place
     pub left_lock : (h'.lock ≡ h.lock) ⊎ (h'.lock ≡ None)
     pub left_node : (h'.node ≡ h.node) ⊎ (h'.node ≡ None)
     pub raised_is : h'.raised ≡ raised
+    pub changes : SaysChange h'.answer
 
+  -- the call has a lock and no node of its own
   pub record DoesLinkBehind (node : ℕ) (op : Op) (h h' : Holding) : Type 0 where
     pub on : op_place op ≡ place_of g (Node node ChainLink)
+    pub locked : h.lock ≢ None
+    pub none : h.node ≡ None
     pub holds : HoldsSame h h'
 
   pub record DoesTakeSlot (slot : ℕ) (op : Op) (old : ℕ) (h h' : Holding) : Type 0 where
@@ -456,30 +458,8 @@ module _ (env : Env) (mix : ℕ → ℕ → ℕ → ℕ) where
 
   -- ---- operations that change no bindings
 
-  -- An operation of a caller that leaves bindings, whatever is known of its call's answer.
-  pub record Moved (c : ℕ) (words : List ℕ) (G : Ghost) (op : Op) (h h' : Holding) (Knows : Memory
-      → Ghost → Type 0)
-      : Type 0 where
-    pub move : Move
-    pub ready : ReadyFor c (mem words) G move
-    pub made : Made env mix c (mem words) G (mem (applied words op)) (ghost_after c move G)
-    pub does : Does move op (old_of words op) h h'
-    pub agree : Agree (owners (mem (applied words op)) (ghost_after c move G)) (owners (mem words) G)
-    pub outs : outs env mix (ghost_after c move G) c ≡ outs env mix G c
-    pub knows : Knows (mem (applied words op)) (ghost_after c move G)
-
-  -- a node that the caller hasn't taken out, and hasn't then
-  pub reowned-outs : (c n : ℕ) (owner : Owner) (G : Ghost) → is_taken_by c (G.node n) ≡ false
-      → is_taken_by c owner ≡ false
-      → outs env mix (with_owner G n owner) c ≡ outs env mix G c
-  reowned-outs c n owner G was now =
-      count_below-same (λ m. is_taken_by c (G.node m)) (λ m. is_taken_by c (put G.node n owner m))
-      env.geometry.nodes
-      (λ m l. put-all (λ i o. is_taken_by c o ≡ is_taken_by c (G.node i)) G.node n owner (now
-      ∙ sym was) (λ i ne. refl) m)
-
-  -- where a move binds no port otherwise, each port is bound to what it was
-  abbrev LinksNone : Move → Type 0
+  -- the move binds no port otherwise
+  abbrev pub LinksNone : Move → Type 0
   LinksNone Quiet = Unit {0}
   LinksNone (TakesNode n) = Unit {0}
   LinksNone (GivesNode n) = Unit {0}
@@ -506,6 +486,30 @@ module _ (env : Env) (mix : ℕ → ℕ → ℕ → ℕ) where
   LinksNone Publishes = Unit {0}
   LinksNone (Retires s) = Unit {0}
 
+  -- An operation of a caller that leaves bindings, whatever is known of its call's answer.
+  pub record Moved (c : ℕ) (words : List ℕ) (G : Ghost) (op : Op) (h h' : Holding) (Knows : Memory
+      → Ghost → Type 0)
+      : Type 0 where
+    pub move : Move
+    pub ready : ReadyFor c (mem words) G move
+    pub binds_none : LinksNone move
+    pub made : Made env mix c (mem words) G (mem (applied words op)) (ghost_after c move G)
+    pub does : Does move op (old_of words op) h h'
+    pub agree : Agree (owners (mem (applied words op)) (ghost_after c move G)) (owners (mem words) G)
+    pub outs : outs env mix (ghost_after c move G) c ≡ outs env mix G c
+    pub knows : Knows (mem (applied words op)) (ghost_after c move G)
+
+  -- a node that the caller hasn't taken out, and hasn't then
+  pub reowned-outs : (c n : ℕ) (owner : Owner) (G : Ghost) → is_taken_by c (G.node n) ≡ false
+      → is_taken_by c owner ≡ false
+      → outs env mix (with_owner G n owner) c ≡ outs env mix G c
+  reowned-outs c n owner G was now =
+      count_below-same (λ m. is_taken_by c (G.node m)) (λ m. is_taken_by c (put G.node n owner m))
+      env.geometry.nodes
+      (λ m l. put-all (λ i o. is_taken_by c o ≡ is_taken_by c (G.node i)) G.node n owner (now
+      ∙ sym was) (λ i ne. refl) m)
+
+  -- where a move binds no port otherwise, each port is bound to what it was
   same_bound : (c : ℕ) (move : Move) (G : Ghost) (port : ℕ) → LinksNone move
       → (ghost_after c move G).bound port ≡ G.bound port
   same_bound c Quiet G port none = refl
@@ -575,6 +579,7 @@ module _ (env : Env) (mix : ℕ → ℕ → ℕ → ℕ) where
   moved c words G op h h' Knows move whole ready none made does knows = record {
     move = move;
     ready = ready;
+    binds_none = none;
     made = made;
     does = does;
     agree = λ port. owners-stay c (mem words) (mem (applied words op)) G (ghost_after c move G) whole
@@ -590,6 +595,7 @@ module _ (env : Env) (mix : ℕ → ℕ → ℕ → ℕ) where
   moved-map c words G op h h' Knows More more step = record {
     move = step.move;
     ready = step.ready;
+    binds_none = step.binds_none;
     made = step.made;
     does = step.does;
     agree = step.agree;
@@ -605,6 +611,7 @@ module _ (env : Env) (mix : ℕ → ℕ → ℕ → ℕ) where
   loads c words G op h h' Knows whole same holds knows = record {
     move = Quiet;
     ready = tt;
+    binds_none = tt;
     made = rw (unchanged words op same) (still env mix c (mem words) G whole);
     does = record { holds = holds; leaves = inl (λ bit l. ap (λ word. bit_at word bit) same) };
     agree = rw (unchanged words op same) (λ port. refl);
@@ -621,6 +628,7 @@ module _ (env : Env) (mix : ℕ → ℕ → ℕ → ℕ) where
       record {
         move = step.move;
         ready = step.ready;
+        binds_none = step.binds_none;
         made = step.made;
         does = step.does;
         agree =
@@ -635,81 +643,80 @@ module _ (env : Env) (mix : ℕ → ℕ → ℕ → ℕ) where
   with_answer h answer = record h { answer = answer }
 
   does-answered : (move : Move) (op : Op) (old : ℕ) (h h' : Holding) (answer : Option Answer)
+      → LinksNone move
       → Does move op old h h'
       → Does move op old h (with_answer h' answer)
-  does-answered Quiet op old h h' answer does =
+  does-answered Quiet op old h h' answer none does =
       record { holds = ap (λ x. with_answer x answer) does.holds; leaves = does.leaves }
-  does-answered (TakesNode n) op old h h' answer does =
+  does-answered (TakesNode n) op old h h' answer none does =
       record { taking = does.taking; none = does.none; holds = ap (λ x. with_answer x answer) does.holds }
-  does-answered (GivesNode n) op old h h' answer does =
+  does-answered (GivesNode n) op old h h' answer none does =
       record { giving = does.giving; has = does.has; holds = ap (λ x. with_answer x answer) does.holds }
-  does-answered (TakesLock j) op old h h' answer does = record {
+  does-answered (TakesLock j) op old h h' answer none does = record {
     on = does.on;
     even = does.even;
     locks = does.locks;
     none = does.none;
     holds = ap (λ x. with_answer x answer) does.holds;
   }
-  does-answered (DropsLock j) op old h h' answer does = record {
+  does-answered (DropsLock j) op old h h' answer none does = record {
     on = does.on;
     even = does.even;
     unlocks = does.unlocks;
     has = does.has;
     holds = ap (λ x. with_answer x answer) does.holds;
   }
-  does-answered Raises op old h h' answer does =
+  does-answered Raises op old h h' answer none does =
       record { adds = does.adds; low = does.low; holds = ap (λ x. with_answer x answer) does.holds }
-  does-answered (Links n port j) op old h h' answer does = record {
+  does-answered (Links n port j) op old h h' answer none does = record {
     on = does.on;
     has = does.has;
     lock = does.lock;
     raised = does.raised;
     holds = ap (λ x. with_answer x answer) does.holds;
   }
-  does-answered Lowers op old h h' answer does =
+  does-answered Lowers op old h h' answer none does =
       record {
         subtracts = does.subtracts;
         high = does.high;
         holds = ap (λ x. with_answer x answer)
             does.holds;
       }
-  does-answered (Rebinds change) op old h h' answer does = record {
-    behind_maps = does.behind_maps;
-    lock = does.lock;
-    left_lock = does.left_lock;
-    left_node = does.left_node;
-    raised_is = does.raised_is;
+  does-answered (Rebinds change) op old h h' answer none does = absurd none
+  does-answered (LinksBehind n) op old h h' answer none does = record {
+    on = does.on;
+    locked = does.locked;
+    none = does.none;
+    holds = ap (λ x. with_answer x answer) does.holds;
   }
-  does-answered (LinksBehind n) op old h h' answer does =
-      record { on = does.on; holds = ap (λ x. with_answer x answer) does.holds }
-  does-answered (Arms j) op old h h' answer does =
+  does-answered (Arms j) op old h h' answer none does =
       record { holds = ap (λ x. with_answer x answer) does.holds; leaves = does.leaves }
-  does-answered (TakesSlot s) op old h h' answer does = record {
+  does-answered (TakesSlot s) op old h h' answer none does = record {
     within = does.within;
     taking = does.taking;
     free = does.free;
     none = does.none;
     holds = ap (λ x. with_answer x answer) does.holds;
   }
-  does-answered (GivesSlot s) op old h h' answer does = record {
+  does-answered (GivesSlot s) op old h h' answer none does = record {
     within = does.within;
     giving = does.giving;
     has = does.has;
     empty = does.empty;
     holds = ap (λ x. with_answer x answer) does.holds;
   }
-  does-answered (TakesPages index bits) op old h h' answer does = record {
+  does-answered (TakesPages index bits) op old h h' answer none does = record {
     clears = does.clears;
     pages = does.pages;
     holds = ap (λ x. with_answer x answer) does.holds;
   }
-  does-answered (GivesPages index bits) op old h h' answer does = record {
+  does-answered (GivesPages index bits) op old h h' answer none does = record {
     sets = does.sets;
     had = does.had;
     pages = does.pages;
     holds = ap (λ x. with_answer x answer) does.holds;
   }
-  does-answered (Attaches slot shape seed serial) op old h h' answer does = record {
+  does-answered (Attaches slot shape seed serial) op old h h' answer none does = record {
     last = does.last;
     within = does.within;
     attaching = does.attaching;
@@ -717,24 +724,24 @@ module _ (env : Env) (mix : ℕ → ℕ → ℕ → ℕ) where
     has = does.has;
     holds = ap (λ x. with_answer x answer) does.holds;
   }
-  does-answered TakesWork op old h h' answer does = record {
+  does-answered TakesWork op old h h' answer none does = record {
     taking = does.taking;
     free = does.free;
     idle = does.idle;
     holds = ap (λ x. with_answer x answer) does.holds;
   }
-  does-answered GivesWork op old h h' answer does = record {
+  does-answered GivesWork op old h h' answer none does = record {
     giving = does.giving;
     has = does.has;
     holds = ap (λ x. with_answer x answer) does.holds;
   }
-  does-answered BeginsMoving op old h h' answer does = record {
+  does-answered BeginsMoving op old h h' answer none does = record {
     leaves = does.leaves;
     has = does.has;
     still = does.still;
     holds = ap (λ x. with_answer x answer) does.holds;
   }
-  does-answered (TakesSecond i) op old h h' answer does = record {
+  does-answered (TakesSecond i) op old h h' answer none does = record {
     on = does.on;
     even = does.even;
     locks = does.locks;
@@ -744,29 +751,29 @@ module _ (env : Env) (mix : ℕ → ℕ → ℕ → ℕ) where
     none = does.none;
     holds = ap (λ x. with_answer x answer) does.holds;
   }
-  does-answered (Leaves j i entry nodes) op old h h' answer does = record {
+  does-answered (Leaves j i entry nodes) op old h h' answer none does = record {
     on = does.on;
     moves = does.moves;
     holds = ap (λ x. with_answer x answer) does.holds;
   }
-  does-answered (Arrives j i entry) op old h h' answer does = record {
+  does-answered (Arrives j i entry) op old h h' answer none does = record {
     on = does.on;
     moves = does.moves;
     has = does.has;
     holds = ap (λ x. with_answer x answer) does.holds;
   }
-  does-answered (CutsOff j entry before) op old h h' answer does = record {
+  does-answered (CutsOff j entry before) op old h h' answer none does = record {
     on = does.on;
     moves = does.moves;
     lock = does.lock;
     holds = ap (λ x. with_answer x answer) does.holds;
   }
-  does-answered Publishes op old h h' answer does = record {
+  does-answered Publishes op old h h' answer none does = record {
     on = does.on;
     moves = does.moves;
     holds = ap (λ x. with_answer x answer) does.holds;
   }
-  does-answered (Retires s) op old h h' answer does = record {
+  does-answered (Retires s) op old h h' answer none does = record {
     within = does.within;
     retiring = does.retiring;
     moves = does.moves;
@@ -784,7 +791,7 @@ module _ (env : Env) (mix : ℕ → ℕ → ℕ → ℕ) where
     move = step.move;
     ready = step.ready;
     made = step.made;
-    does = does-answered step.move op (old_of words op) h h' answer step.does;
+    does = does-answered step.move op (old_of words op) h h' answer step.binds_none step.does;
     says = inl (record {
       agree = step.agree;
       said = SaysStill-agree env.config.kind c call (owners (mem words) G)

@@ -2,13 +2,12 @@
 -- that the operations of one of its calls leave from one event up to another is behind these events what it was before.
 -- By induction over the events from the last one back: an enrolling changes the word of the enrolled callers alone, a beginning
 -- none, a step of a caller in no call none, and one of the caller itself is one of the call.
-use Rattle.std.proofs.Common.{◌≡◌, ◌≢◌, ◌⊎◌, ℕ, zero, suc, ◌+◌, ◌-◌, ◌<◌, ◌≤◌, Bool, true, false, cond, nat_lt, List, [], ◌∷◌, ◌++◌, length, take, get_or, refl, sym, ap, ◌∙◌, subst, inl, inr, arith}
+use Rattle.std.proofs.Common.{◌≡◌, ◌≢◌, ◌⊎◌, ℕ, zero, suc, ◌+◌, ◌-◌, ◌<◌, ◌≤◌, Bool, true, false, cond, nat_lt, List, length, take, get_or, refl, sym, ap, ◌∙◌, subst, inl, inr, arith}
 use Rattle.std.specs.Prelude.{Option, Some, None}
 use Rattle.std.specs.List.{AllByRecursion, Contains, slice_get}
 use Rattle.std.proofs.lemmas.Bool.{cases_eq}
 use Rattle.std.proofs.lemmas.List.Elements.{All-contains, All-from_recursion, Contains-push}
-use Rattle.std.proofs.lemmas.Option.{slice_get_within, slice_get-get_or, get_or_from_slice_get}
-use Rattle.std.proofs.Math.Seq.{take-suc}
+use Rattle.std.proofs.lemmas.Option.{slice_get-get_or}
 use Rattle.rht_words.specs.declared.op.Op.{Op}
 use Rattle.rht_words.specs.declared.op.Op.TheVariants.{Store}
 use Rattle.rht_words.specs.declared.env.Env.{Env}
@@ -26,7 +25,7 @@ use Rattle.rht_core.specs.Laws.{IsRecorded, IsPastCall}
 use Rattle.rht_core.specs.ResizeCauses.{Loaded}
 use Rattle.rht_core.specs.Worked.{IsAloneDuring}
 use Rattle.rht_core.proofs.Theory.Steps.{unchanged}
-use Rattle.rht_core.proofs.Events.Worlds.{planned-some, run_of-push, step_none, step_self, step_words}
+use Rattle.rht_core.proofs.Events.Worlds.{planned-some, run_of-next, step_none, step_self, step_words}
 use Rattle.rht_core.proofs.Events.CallBeginnings.{idle_plans}
 use Rattle.rht_core.proofs.Events.BusyCallers.{ends}
 use Rattle.rht_core.proofs.Events.SoundRuns.{runs-in, has_place}
@@ -105,11 +104,7 @@ module _ (M : Type 0) (mix : ℕ → ℕ → ℕ → ℕ) (env : Env) (events : 
   -- one event more
   behind-suc : (n : ℕ) (event : Event) → slice_get events n ≡ Some event
       → ◌≡◌ {A = World M} (behind (suc n)) (world_step mix (behind n) event)
-  behind-suc n event is =
-      ap (run_of {M = M} mix env)
-      (take-suc events n event (slice_get_within events n event is)
-      ∙ ap (λ e. take n events ++ e ∷ []) (get_or_from_slice_get events n event event is))
-      ∙ run_of-push M mix env (take n events) event
+  behind-suc n event is = run_of-next M mix env events n event is
 
   -- then it is in no call
   pub idle_at_end : is_idle (local_of (behind (behind_call past)).core c) ≡ true

@@ -1,0 +1,307 @@
+-- The states behind which a call ends with no refusal any more, nor with another reply that says that nothing was changed: a bind and a
+-- rebind that publish their node, and a resizing that has made its table or needed none. Look-ups, listings, releases and readings of the
+-- count are in such a state from the first.
+use Rattle.std.proofs.Common.{◌≡◌, ℕ, ◌+◌, ◌==◌, Bool, true, false, Option, Some, None, refl, nat_lt}
+use Rattle.std.proofs.lemmas.Bool.{cond_both}
+use Rattle.rht_words.specs.declared.env.Env.{Env}
+use Rattle.rht_words.specs.declared.geometry.Geometry.{Geometry}
+use Rattle.rht_words.specs.declared.machine.Next.{Next}
+use Rattle.rht_words.specs.declared.machine.Next.TheVariants.{Go, Done}
+use Rattle.rht_words.specs.Links.{slot_of, node_of, head_of, unlocked}
+use Rattle.rht_words.specs.Ports.{port_of}
+use Rattle.rht_words.specs.Shapes.{size_of, unpacked}
+use Rattle.rht_policy.specs.Mix.{bucket_of}
+use Rattle.rht_model.specs.declared.history.Call.{Call}
+use Rattle.rht_model.specs.declared.history.Call.TheVariants.{Bind, Rebind, Work}
+use Rattle.rht_model.specs.declared.history.Reply.{Reply}
+use Rattle.rht_nest.specs.Place.{bucket_place}
+use Rattle.rht_nest.specs.Unmake.{UnmakeModel, unmake_new, unmake_after}
+use Rattle.rht_chain.specs.Lock.{LockModel, lock_after}
+use Rattle.rht_chain.specs.Relink.{RelinkModel, relink_after}
+use Rattle.rht_bind.specs.Bind as bind_at
+use Rattle.rht_bind.specs.declared.bind.FoundList.{FoundList}
+use Rattle.rht_bind.specs.declared.bind.BindAt.{BindAt}
+use Rattle.rht_bind.specs.declared.bind.BindAt.TheVariants as binding
+use Rattle.rht_release.specs.Rebind as rebind_at
+use Rattle.rht_release.specs.declared.found_port.FoundPort.{FoundPort}
+use Rattle.rht_release.specs.declared.rebind.RebindAt.{RebindAt}
+use Rattle.rht_release.specs.declared.rebind.RebindAt.TheVariants as rebinding
+use Rattle.rht_move.specs.Choice.{is_nested}
+use Rattle.rht_move.specs.LastTable.{LastTableModel, last_table_after}
+use Rattle.rht_move.specs.LastEntry.{LastEntryModel, last_entry_after}
+use Rattle.rht_move.specs.Work.{after_at, locking_or_publish, bucket_or_publish, next_bucket, locked, unlocking, entry_table_seen, with_word, entry_or_empty, walked, second_or_stop, second_locked, cut_off, unlocked_bucket, retiring, unmade, future_or_idle}
+use Rattle.rht_move.specs.declared.last_table.Last.{Last}
+use Rattle.rht_move.specs.declared.last_entry.Entry.{Entry}
+use Rattle.rht_move.specs.declared.rehash.Rehash.{Rehash}
+use Rattle.rht_move.specs.declared.rehash.Emptying.{Emptying}
+use Rattle.rht_move.specs.declared.rehash.Target.{Target}
+use Rattle.rht_move.specs.declared.work.Due.{Due}
+use Rattle.rht_move.specs.declared.work.Due.TheVariants as dues
+use Rattle.rht_move.specs.declared.work.Outcome.{Outcome}
+use Rattle.rht_move.specs.declared.work.Outcome.TheVariants.{Idle, NoTable, Moved}
+use Rattle.rht_move.specs.declared.work.WorkAt.{WorkAt}
+use Rattle.rht_move.specs.declared.work.WorkAt.TheVariants as at
+use Rattle.rht_core.specs.Jobs.{Job, finds, binds, lists, releases, rebinds, works, counts}
+use Rattle.rht_core.specs.Refused.{changes_nothing}
+
+abbrev pub bind_is_past : BindAt → Bool
+bind_is_past (binding.Replacing list relink) = true
+bind_is_past (binding.Publish node table relink kick) = true
+bind_is_past (binding.Filling new) = false
+bind_is_past (binding.CurrentTable attempt) = false
+bind_is_past (binding.Locating attempt locate) = false
+bind_is_past (binding.Probing attempt table shape probe) = false
+bind_is_past (binding.FoundOwner claimed found) = false
+bind_is_past (binding.ListLink list) = false
+bind_is_past (binding.ChainLink list) = false
+bind_is_past (binding.LinkBehind list link) = false
+bind_is_past (binding.Future claimed length) = false
+bind_is_past (binding.Count claimed) = false
+bind_is_past (binding.Link claimed) = false
+bind_is_past (binding.Raise claimed) = false
+bind_is_past (binding.Unlocking attempt table unlock next) = false
+bind_is_past (binding.UnlockingFull growing unlock) = false
+bind_is_past (binding.Root growing) = false
+bind_is_past (binding.GrowthCount growing root) = false
+bind_is_past (binding.Making growing size make) = false
+bind_is_past (binding.FutureAgain growing refusal) = false
+bind_is_past (binding.Attaching growing slot shape) = false
+bind_is_past (binding.Unmaking attempt unmake answer) = false
+bind_is_past (binding.Giving give reply) = false
+
+abbrev pub rebind_is_past : RebindAt → Bool
+rebind_is_past (rebinding.Replacing node found relink) = true
+rebind_is_past (rebinding.Filling new) = false
+rebind_is_past (rebinding.Seeking node seek) = false
+rebind_is_past (rebinding.Owner node found) = false
+rebind_is_past (rebinding.ChainLink node found) = false
+rebind_is_past (rebinding.Link node found link) = false
+rebind_is_past (rebinding.Unlocking node table unlock) = false
+rebind_is_past (rebinding.Giving give) = false
+
+abbrev pub outcome_is_past : Outcome → Bool
+outcome_is_past (NoTable size) = false
+outcome_is_past Idle = true
+outcome_is_past (Moved again) = true
+
+abbrev pub work_is_past : WorkAt → Bool
+work_is_past at.WorkLock = false
+work_is_past at.CurrentTable = false
+work_is_past (at.LastTable root seek) = false
+work_is_past (at.Count root last) = false
+work_is_past (at.Making wanted make) = false
+work_is_past (at.Attaching root last slot shape) = true
+work_is_past (at.Unmaking root unmake) = true
+work_is_past (at.RootFuture root due) = true
+work_is_past (at.RootShape root future again) = true
+work_is_past (at.Locking rehash number lock) = true
+work_is_past (at.EntryTable emptying seek) = true
+work_is_past (at.Seed emptying last) = true
+work_is_past (at.BucketWord emptying target) = true
+work_is_past (at.Walking emptying target walk) = true
+work_is_past (at.Key emptying target entry) = true
+work_is_past (at.LockingSecond emptying entry table lock) = true
+work_is_past (at.EntryLink emptying entry second) = true
+work_is_past (at.Linking emptying entry second) = true
+work_is_past (at.CuttingOff emptying entry) = true
+work_is_past (at.Unlocking rehash number unlock stop) = true
+work_is_past (at.Publishing rehash) = true
+work_is_past (at.NewFuture rehash) = true
+work_is_past (at.Retiring root again) = true
+work_is_past (at.LettingGo outcome) = outcome_is_past outcome
+
+abbrev pub is_past : Job → Bool
+is_past (finds port state) = true
+is_past (binds port owner once state) = bind_is_past state
+is_past (lists port room state) = true
+is_past (releases port owner state) = true
+is_past (rebinds port owner new state) = rebind_is_past state
+is_past (works state) = work_is_past state
+is_past counts = true
+
+-- ---- it stays past that
+
+-- the next state is such a one, or the call has ended with a reply that says that it did something
+abbrev pub StaysPast : {S A : Type 0} → (S → Bool) → (A → Reply) → Call → S × Next A → Type 0
+StaysPast past reply call (state, Go) = past state ≡ true
+StaysPast past reply call (state, Done end) = changes_nothing call (reply end) ≡ false
+
+abbrev same_reply : Reply → Reply
+same_reply reply = reply
+
+module _ (port owner : ℕ) (once : Bool) where
+  abbrev BindPast : BindAt × Next Reply → Type 0
+  BindPast r = StaysPast bind_is_past same_reply (Bind port owner once) r
+
+  published-past : (node table : ℕ) (kick : Bool) (relink : RelinkModel) (next : Next (Unit {0}))
+      → BindPast (bind_at.published node table kick relink next)
+  published-past node table kick relink Go = refl
+  published-past node table kick relink (Done done) = refl
+
+  replaced-past : (list : FoundList) (relink : RelinkModel) (next : Next (Unit {0}))
+      → BindPast (bind_at.replaced list relink next)
+  replaced-past list relink Go = refl
+  replaced-past list relink (Done done) = refl
+
+  pub bind-past : (mix : ℕ → ℕ → ℕ → ℕ) (env : Env) (state : BindAt) (old : ℕ) → bind_is_past state ≡ true
+      → BindPast (bind_at.after_at mix env port once state old)
+  bind-past mix env (binding.Replacing list relink) old past = replaced-past list (relink_after relink).0 (relink_after relink).1
+  bind-past mix env (binding.Publish node table relink kick) old past =
+      published-past node table kick (relink_after relink).0 (relink_after relink).1
+  bind-past mix env (binding.Filling new) old past = absurd (cc)
+  bind-past mix env (binding.CurrentTable attempt) old past = absurd (cc)
+  bind-past mix env (binding.Locating attempt locate) old past = absurd (cc)
+  bind-past mix env (binding.Probing attempt table shape probe) old past = absurd (cc)
+  bind-past mix env (binding.FoundOwner claimed found) old past = absurd (cc)
+  bind-past mix env (binding.ListLink list) old past = absurd (cc)
+  bind-past mix env (binding.ChainLink list) old past = absurd (cc)
+  bind-past mix env (binding.LinkBehind list link) old past = absurd (cc)
+  bind-past mix env (binding.Future claimed length) old past = absurd (cc)
+  bind-past mix env (binding.Count claimed) old past = absurd (cc)
+  bind-past mix env (binding.Link claimed) old past = absurd (cc)
+  bind-past mix env (binding.Raise claimed) old past = absurd (cc)
+  bind-past mix env (binding.Unlocking attempt table unlock next) old past = absurd (cc)
+  bind-past mix env (binding.UnlockingFull growing unlock) old past = absurd (cc)
+  bind-past mix env (binding.Root growing) old past = absurd (cc)
+  bind-past mix env (binding.GrowthCount growing root) old past = absurd (cc)
+  bind-past mix env (binding.Making growing size make) old past = absurd (cc)
+  bind-past mix env (binding.FutureAgain growing refusal) old past = absurd (cc)
+  bind-past mix env (binding.Attaching growing slot shape) old past = absurd (cc)
+  bind-past mix env (binding.Unmaking attempt unmake answer) old past = absurd (cc)
+  bind-past mix env (binding.Giving give reply) old past = absurd (cc)
+
+module _ (port owner new : ℕ) where
+  abbrev end_reply : Reply × Option ℕ → Reply
+  end_reply end = end.0
+
+  abbrev RebindPast : RebindAt × Next (Reply × Option ℕ) → Type 0
+  RebindPast r = StaysPast rebind_is_past end_reply (Rebind port owner new) r
+
+  rebound-past : (node : ℕ) (found : FoundPort) (relink : RelinkModel) (next : Next (Unit {0}))
+      → RebindPast (rebind_at.replaced node found relink next)
+  rebound-past node found relink Go = refl
+  rebound-past node found relink (Done done) = refl
+
+  pub rebind-past : (mix : ℕ → ℕ → ℕ → ℕ) (env : Env) (state : RebindAt) (old : ℕ) → rebind_is_past state ≡ true
+      → RebindPast (rebind_at.after_at mix env port owner state old)
+  rebind-past mix env (rebinding.Replacing node found relink) old past =
+      rebound-past node found (relink_after relink).0 (relink_after relink).1
+  rebind-past mix env (rebinding.Filling new_node) old past = absurd (cc)
+  rebind-past mix env (rebinding.Seeking node seek) old past = absurd (cc)
+  rebind-past mix env (rebinding.Owner node found) old past = absurd (cc)
+  rebind-past mix env (rebinding.ChainLink node found) old past = absurd (cc)
+  rebind-past mix env (rebinding.Link node found link) old past = absurd (cc)
+  rebind-past mix env (rebinding.Unlocking node table unlock) old past = absurd (cc)
+  rebind-past mix env (rebinding.Giving give) old past = absurd (cc)
+
+-- ---- a resizing
+
+abbrev WorkPast : WorkAt × Next Reply → Type 0
+WorkPast r = StaysPast work_is_past same_reply Work r
+
+unmade-past : (root : ℕ) (unmake : UnmakeModel) (next : Next (Unit {0})) → work_is_past (unmade root unmake next) ≡ true
+unmade-past root unmake Go = refl
+unmade-past root unmake (Done done) = refl
+
+future-past : (root : ℕ) (due : Due) (future : Option ℕ) → work_is_past (future_or_idle root due future) ≡ true
+future-past root due None = refl
+future-past root due (Some future) = refl
+
+locking-past : (rehash : Rehash) (number : ℕ) (place : Option ℕ) → work_is_past (locking_or_publish rehash number place) ≡ true
+locking-past rehash number None = refl
+locking-past rehash number (Some place) = refl
+
+locked-past : (g : Geometry) (rehash : Rehash) (number : ℕ) (lock : LockModel) (next : Next ℕ)
+    → work_is_past (locked g rehash number lock next) ≡ true
+locked-past g rehash number lock Go = refl
+locked-past g rehash number lock (Done word) = refl
+
+entry_table-past : (emptying : Emptying) (seek : LastTableModel) (next : Next Last)
+    → work_is_past (entry_table_seen emptying seek next) ≡ true
+entry_table-past emptying seek Go = refl
+entry_table-past emptying seek (Done last) =
+    cond_both (is_nested last.shape) (unlocking emptying true) (at.Seed emptying last) (λ state. work_is_past state ≡ true)
+    (λ t. refl) (λ f. refl)
+
+entry-past : (g : Geometry) (emptying : Emptying) (target : Target) (first : Option ℕ)
+    → work_is_past (entry_or_empty g emptying target first) ≡ true
+entry-past g emptying target None = refl
+entry-past g emptying target (Some first) = refl
+
+walked-past : (emptying : Emptying) (target : Target) (walk : LastEntryModel) (next : Next Entry)
+    → work_is_past (walked emptying target walk next) ≡ true
+walked-past emptying target walk Go = refl
+walked-past emptying target walk (Done entry) = refl
+
+second-past : (emptying : Emptying) (table : ℕ) (entry : Entry) (place : Option ℕ)
+    → work_is_past (second_or_stop emptying table entry place) ≡ true
+second-past emptying table entry None = refl
+second-past emptying table entry (Some place) = refl
+
+second_locked-past : (emptying : Emptying) (entry : Entry) (table : ℕ) (lock : LockModel) (next : Next ℕ)
+    → work_is_past (second_locked emptying entry table lock next) ≡ true
+second_locked-past emptying entry table lock Go = refl
+second_locked-past emptying entry table lock (Done word) = refl
+
+cut-past : (g : Geometry) (emptying : Emptying) (before : Option ℕ) → work_is_past (cut_off g emptying before) ≡ true
+cut-past g emptying None = refl
+cut-past g emptying (Some before) = refl
+
+next-past : (g : Geometry) (rehash : Rehash) (number : ℕ) → work_is_past (next_bucket g rehash number) ≡ true
+next-past g rehash number =
+    cond_both (nat_lt (number + 1) (size_of (unpacked rehash.shape))) (bucket_or_publish g rehash (number + 1)) (at.Publishing rehash)
+    (λ state. work_is_past state ≡ true) (λ t. locking-past rehash (number + 1) (bucket_place g rehash.shape (number + 1)))
+    (λ f. refl)
+
+unlocked-past : (g : Geometry) (rehash : Rehash) (number : ℕ) (stop : Bool)
+    → work_is_past (unlocked_bucket g rehash number stop) ≡ true
+unlocked-past g rehash number true = refl
+unlocked-past g rehash number false = next-past g rehash number
+
+retiring-past : (rehash : Rehash) (future : Option ℕ) → work_is_past (retiring rehash future) ≡ true
+retiring-past rehash None = refl
+retiring-past rehash (Some next) = refl
+
+ended-past : (mix : ℕ → ℕ → ℕ → ℕ) (env : Env) (outcome : Outcome) (old : ℕ) → outcome_is_past outcome ≡ true
+    → WorkPast (after_at mix env (at.LettingGo outcome) old)
+ended-past mix env Idle old past = refl
+ended-past mix env (NoTable size) old past = absurd (cc)
+ended-past mix env (Moved again) old past = refl
+
+pub work-past : (mix : ℕ → ℕ → ℕ → ℕ) (env : Env) (state : WorkAt) (old : ℕ) → work_is_past state ≡ true
+    → WorkPast (after_at mix env state old)
+work-past mix env at.WorkLock old past = absurd (cc)
+work-past mix env at.CurrentTable old past = absurd (cc)
+work-past mix env (at.LastTable root seek) old past = absurd (cc)
+work-past mix env (at.Count root last) old past = absurd (cc)
+work-past mix env (at.Making wanted make) old past = absurd (cc)
+work-past mix env (at.Attaching root last slot shape) old past =
+    cond_both (old == 0) (at.RootFuture root dues.Attached) (at.Unmaking root (unmake_new env.geometry slot shape))
+    (λ state. work_is_past state ≡ true) (λ t. refl) (λ f. refl)
+work-past mix env (at.Unmaking root unmake) old past = unmade-past root (unmake_after unmake old).0 (unmake_after unmake old).1
+work-past mix env (at.RootFuture root due) old past = future-past root due (slot_of old)
+work-past mix env (at.RootShape root future again) old past =
+    locking-past (record { root = root; future = future; shape = old; again = again }) 0 (bucket_place env.geometry old 0)
+work-past mix env (at.Locking rehash number lock) old past =
+    locked-past env.geometry rehash number (lock_after lock old).0 (lock_after lock old).1
+work-past mix env (at.EntryTable emptying seek) old past =
+    entry_table-past emptying (last_table_after seek old).0 (last_table_after seek old).1
+work-past mix env (at.Seed emptying last) old past = refl
+work-past mix env (at.BucketWord emptying target) old past =
+    entry-past env.geometry (with_word emptying (unlocked old)) target
+    (node_of env.geometry.nodes (head_of emptying.bucket.place (unlocked old)))
+work-past mix env (at.Walking emptying target walk) old past =
+    walked-past emptying target (last_entry_after walk old).0 (last_entry_after walk old).1
+work-past mix env (at.Key emptying target entry) old past =
+    second-past emptying target.table entry
+    (bucket_place env.geometry target.shape (bucket_of mix (port_of old) target.shape target.seed))
+work-past mix env (at.LockingSecond emptying entry table lock) old past =
+    second_locked-past emptying entry table (lock_after lock old).0 (lock_after lock old).1
+work-past mix env (at.EntryLink emptying entry second) old past = refl
+work-past mix env (at.Linking emptying entry second) old past = refl
+work-past mix env (at.CuttingOff emptying entry) old past = cut-past env.geometry emptying entry.before
+work-past mix env (at.Unlocking rehash number unlock stop) old past = unlocked-past env.geometry rehash number stop
+work-past mix env (at.Publishing rehash) old past = refl
+work-past mix env (at.NewFuture rehash) old past = retiring-past rehash (slot_of old)
+work-past mix env (at.Retiring root again) old past = refl
+work-past mix env (at.LettingGo outcome) old past = ended-past mix env outcome old past

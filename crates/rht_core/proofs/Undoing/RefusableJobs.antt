@@ -1,0 +1,327 @@
+-- What a job holds and does that may still be refused: it has raised no count and moves nothing, it has a node where it has a lock, its
+-- pages are its own, and the one exchange of a future is that of a bind which attaches the table that it has made.
+use Rattle.std.proofs.Common.{◌≡◌, ◌≢◌, ℕ, ◌+◌, ◌<◌, Bool, false, List, Some, None, refl, sym, ◌∙◌, subst, arith}
+use Rattle.rht_words.specs.declared.env.Env.{Env}
+use Rattle.rht_words.specs.declared.geometry.Geometry.{Geometry}
+use Rattle.rht_words.specs.declared.op.Op.TheVariants.{Exchange}
+use Rattle.rht_words.specs.Links.{future_of}
+use Rattle.rht_words.specs.Members.{In}
+use Rattle.rht_words.specs.Places.{Slot, FutureWord, place_of}
+use Rattle.rht_words.specs.Shapes.{unpacked}
+use Rattle.rht_words.proofs.Members.{range_with_len-In}
+use Rattle.rht_words.proofs.Memory.{Memory}
+use Rattle.rht_nest.specs.Tables.{table_pages, pages_of_shape}
+use Rattle.rht_nest.specs.Make.{MakeModel, pages_of_make}
+use Rattle.rht_nest.specs.declared.make.MakeAt.{MakeAt}
+use Rattle.rht_nest.specs.declared.make.MakeAt.TheVariants as makes
+use Rattle.rht_bind.specs.BindHeld.{held_of_bind}
+use Rattle.rht_bind.specs.declared.bind.BindAt.{BindAt}
+use Rattle.rht_bind.specs.declared.bind.BindAt.TheVariants as binding
+use Rattle.rht_release.specs.RebindHeld.{held_of_rebind}
+use Rattle.rht_release.specs.declared.rebind.RebindAt.{RebindAt}
+use Rattle.rht_release.specs.declared.rebind.RebindAt.TheVariants as rebinding
+use Rattle.rht_move.specs.WorkHeld.{held_of_work}
+use Rattle.rht_move.specs.LastTable.{LastTableModel}
+use Rattle.rht_move.specs.declared.last_table.Last.{Last}
+use Rattle.rht_move.specs.declared.work.Wanted.{Wanted}
+use Rattle.rht_move.specs.declared.work.Outcome.TheVariants.{Idle, NoTable, Moved}
+use Rattle.rht_move.specs.declared.work.WorkAt.{WorkAt}
+use Rattle.rht_move.specs.declared.work.WorkAt.TheVariants as working
+use Rattle.rht_core.specs.Jobs.{Job, finds, binds, lists, releases, rebinds, works, counts, call_of, job_plan, held_of}
+use Rattle.rht_core.specs.Traces.{Did}
+use Rattle.rht_core.specs.Refused.{StoresLast}
+use Rattle.rht_core.proofs.Theory.Ghosts.{Ghost, PageHeld}
+use Rattle.rht_core.proofs.Theory.Wholes.{pages_of}
+use Rattle.rht_core.proofs.Theory.Knowledge.{IsMade, MakingMeans}
+use Rattle.rht_core.proofs.Theory.Steps.{Holding}
+use Rattle.rht_core.proofs.Pieces.Makes.{known_of_make}
+use Rattle.rht_core.proofs.Pieces.RunPages.{range_with_len-from}
+use Rattle.rht_core.proofs.Machines.JobSteps.{JobKnows}
+use Rattle.rht_core.proofs.Reasons.AttachedTables.{make-none, unmake-none}
+use Rattle.rht_core.proofs.Undoing.UndoneMoves.{MayAttachWith}
+use Rattle.rht_core.proofs.Undoing.PastRefusal.{bind_is_past, rebind_is_past, work_is_past, is_past}
+use Rattle.rht_core.proofs.Undoing.StoredShapes.{HasStored}
+
+-- ---- what it holds
+
+pub record IsRefusable (h : Holding) : Type 0 where
+  pub low : h.raised ≡ false
+  pub still : h.moving ≡ false
+  pub locked_has : h.lock ≢ None → h.node ≢ None
+
+has_node : {h : Holding} → h.raised ≡ false → h.moving ≡ false → (node : ℕ) → h.node ≡ Some node → IsRefusable h
+has_node low still node is = record {
+  low = low;
+  still = still;
+  locked_has = λ locked none. let both_ways = sym is ∙ none in cc;
+}
+
+has_no_lock : {h : Holding} → h.raised ≡ false → h.moving ≡ false → h.lock ≡ None → IsRefusable h
+has_no_lock low still none = record { low = low; still = still; locked_has = λ locked. absurd (locked none) }
+
+bind-refusable : (state : BindAt) → bind_is_past state ≡ false → IsRefusable (held_of_bind state)
+bind-refusable (binding.Replacing list relink) may = absurd (cc)
+bind-refusable (binding.Publish node table relink kick) may = absurd (cc)
+bind-refusable (binding.Filling new) may = has_no_lock refl refl refl
+bind-refusable (binding.CurrentTable attempt) may = has_no_lock refl refl refl
+bind-refusable (binding.Locating attempt locate) may = has_no_lock refl refl refl
+bind-refusable (binding.Probing attempt table shape probe) may = has_node refl refl attempt.node refl
+bind-refusable (binding.FoundOwner claimed found) may = has_node refl refl claimed.attempt.node refl
+bind-refusable (binding.ListLink list) may = has_node refl refl list.claimed.attempt.node refl
+bind-refusable (binding.ChainLink list) may = has_node refl refl list.claimed.attempt.node refl
+bind-refusable (binding.LinkBehind list link) may = has_node refl refl list.claimed.attempt.node refl
+bind-refusable (binding.Future claimed length) may = has_node refl refl claimed.attempt.node refl
+bind-refusable (binding.Count claimed) may = has_node refl refl claimed.attempt.node refl
+bind-refusable (binding.Link claimed) may = has_node refl refl claimed.attempt.node refl
+bind-refusable (binding.Raise claimed) may = has_node refl refl claimed.attempt.node refl
+bind-refusable (binding.Unlocking attempt table unlock next) may = has_node refl refl attempt.node refl
+bind-refusable (binding.UnlockingFull growing unlock) may = has_node refl refl growing.attempt.node refl
+bind-refusable (binding.Root growing) may = has_no_lock refl refl refl
+bind-refusable (binding.GrowthCount growing root) may = has_no_lock refl refl refl
+bind-refusable (binding.Making growing size make) may = has_no_lock refl refl refl
+bind-refusable (binding.FutureAgain growing refusal) may = has_no_lock refl refl refl
+bind-refusable (binding.Attaching growing slot shape) may = has_no_lock refl refl refl
+bind-refusable (binding.Unmaking attempt unmake answer) may = has_no_lock refl refl refl
+bind-refusable (binding.Giving give reply) may = has_no_lock refl refl refl
+
+rebind-refusable : (state : RebindAt) → rebind_is_past state ≡ false → IsRefusable (held_of_rebind state)
+rebind-refusable (rebinding.Replacing node found relink) may = absurd (cc)
+rebind-refusable (rebinding.Filling new) may = has_no_lock refl refl refl
+rebind-refusable (rebinding.Seeking node seek) may = has_node refl refl node refl
+rebind-refusable (rebinding.Owner node found) may = has_node refl refl node refl
+rebind-refusable (rebinding.ChainLink node found) may = has_node refl refl node refl
+rebind-refusable (rebinding.Link node found link) may = has_node refl refl node refl
+rebind-refusable (rebinding.Unlocking node table unlock) may = has_node refl refl node refl
+rebind-refusable (rebinding.Giving give) may = has_no_lock refl refl refl
+
+-- a resizing that may still be refused looks for the last table, makes one, or ends for want of one
+pub data IsEarlyWork : WorkAt → Type 0 where
+  at_lock : IsEarlyWork working.WorkLock
+  at_current : IsEarlyWork working.CurrentTable
+  at_last : (root : ℕ) (seek : LastTableModel) → IsEarlyWork (working.LastTable root seek)
+  at_count : (root : ℕ) (last : Last) → IsEarlyWork (working.Count root last)
+  at_making : (wanted : Wanted) (make : MakeModel) → IsEarlyWork (working.Making wanted make)
+  at_end : (size : ℕ) → IsEarlyWork (working.LettingGo (NoTable size))
+
+pub early_work : (state : WorkAt) → work_is_past state ≡ false → IsEarlyWork state
+early_work working.WorkLock may = at_lock
+early_work working.CurrentTable may = at_current
+early_work (working.LastTable root seek) may = at_last root seek
+early_work (working.Count root last) may = at_count root last
+early_work (working.Making wanted make) may = at_making wanted make
+early_work (working.Attaching root last slot shape) may = absurd (cc)
+early_work (working.Unmaking root unmake) may = absurd (cc)
+early_work (working.RootFuture root due) may = absurd (cc)
+early_work (working.RootShape root future again) may = absurd (cc)
+early_work (working.Locking rehash number lock) may = absurd (cc)
+early_work (working.EntryTable emptying seek) may = absurd (cc)
+early_work (working.Seed emptying last) may = absurd (cc)
+early_work (working.BucketWord emptying target) may = absurd (cc)
+early_work (working.Walking emptying target walk) may = absurd (cc)
+early_work (working.Key emptying target entry) may = absurd (cc)
+early_work (working.LockingSecond emptying entry table lock) may = absurd (cc)
+early_work (working.EntryLink emptying entry second) may = absurd (cc)
+early_work (working.Linking emptying entry second) may = absurd (cc)
+early_work (working.CuttingOff emptying entry) may = absurd (cc)
+early_work (working.Unlocking rehash number unlock stop) may = absurd (cc)
+early_work (working.Publishing rehash) may = absurd (cc)
+early_work (working.NewFuture rehash) may = absurd (cc)
+early_work (working.Retiring root again) may = absurd (cc)
+early_work (working.LettingGo (NoTable size)) may = at_end size
+early_work (working.LettingGo Idle) may = absurd (cc)
+early_work (working.LettingGo (Moved again)) may = absurd (cc)
+
+work-refusable : (state : WorkAt) → IsEarlyWork state → IsRefusable (held_of_work state)
+work-refusable state at_lock = has_no_lock refl refl refl
+work-refusable state at_current = has_no_lock refl refl refl
+work-refusable state (at_last root seek) = has_no_lock refl refl refl
+work-refusable state (at_count root last) = has_no_lock refl refl refl
+work-refusable state (at_making wanted make) = has_no_lock refl refl refl
+work-refusable state (at_end size) = has_no_lock refl refl refl
+
+pub refusable : (job : Job) → is_past job ≡ false → IsRefusable (held_of job)
+refusable (finds port state) may = absurd (cc)
+refusable (binds port owner once state) may = bind-refusable state may
+refusable (lists port room state) may = absurd (cc)
+refusable (releases port owner state) may = absurd (cc)
+refusable (rebinds port owner new state) may = rebind-refusable state may
+refusable (works state) may = work-refusable state (early_work state may)
+refusable counts may = absurd (cc)
+
+-- what it has stored for a table that it makes
+abbrev pub JobStored : Env → Job → List Did → Type 0
+JobStored env (finds port state) steps = Unit {0}
+JobStored env (binds port owner once state) steps = HasStored env state steps
+JobStored env (lists port room state) steps = Unit {0}
+JobStored env (releases port owner state) steps = Unit {0}
+JobStored env (rebinds port owner new state) steps = Unit {0}
+JobStored env (works state) steps = Unit {0}
+JobStored env counts steps = Unit {0}
+
+-- ---- its pages
+
+module _ (env : Env) (mix : ℕ → ℕ → ℕ → ℕ) (c : ℕ) (M : Memory) (G : Ghost) where
+  abbrev g : Geometry
+  g = env.geometry
+
+  -- each of these pages is the caller's
+  abbrev AreMine : List ℕ → Type 0
+  AreMine pages = (page : ℕ) → In page pages → G.page page ≡ PageHeld c
+
+  make-mine : (exponent seed : ℕ) (state : MakeAt) → MakingMeans env mix c M G (known_of_make exponent seed state)
+      → AreMine (pages_of_make exponent state)
+  make-mine exponent seed (makes.Slot slot) means page i = absurd i
+  make-mine exponent seed (makes.Taking slot take) means page i = means.mine page i
+  make-mine exponent seed (makes.SlotBack slot) means page i = absurd i
+  make-mine exponent seed (makes.NextSerial slot page_first) means page i = means.mine page i
+  make-mine exponent seed (makes.Shape slot page_first serial) means page i = means.mine page i
+  make-mine exponent seed (makes.Seed slot page_first serial) means page i = means.mine page i
+  make-mine exponent seed (makes.Future slot page_first serial) means page i = means.mine page i
+  make-mine exponent seed (makes.Serial slot page_first serial) means page i = means.mine page i
+
+  -- those of a table that was made lie from its first page on, and are there
+  below_end : (shape page : ℕ) → In page (pages_of_shape shape) → page < (unpacked shape).page + pages_of env mix shape
+  below_end shape page i = range_with_len-In (unpacked shape).page (table_pages (unpacked shape)) page i
+
+  made-mine : (slot shape : ℕ) → IsMade env mix c M G slot shape → AreMine (pages_of_shape shape)
+  made-mine slot shape made page i =
+      made.run page (range_with_len-from (unpacked shape).page (table_pages (unpacked shape)) page i) (below_end shape page i)
+
+  made-among : (slot shape : ℕ) → IsMade env mix c M G slot shape → (page : ℕ) → In page (pages_of_shape shape)
+      → page < env.geometry.pages
+  made-among slot shape made page i =
+      let below = below_end shape page i in let fits = made.fits in omega (arith, below, fits)
+
+  bind-mine : (port owner : ℕ) (once : Bool) (state : BindAt) → bind_is_past state ≡ false
+      → JobKnows env mix c (binds port owner once state) M G → AreMine (held_of_bind state).pages
+  bind-mine port owner once (binding.Making growing size make) may knows page i =
+      make-mine make.exponent make.seed make.at knows.knowing.means.making page i
+  bind-mine port owner once (binding.Attaching growing slot shape) may knows page i =
+      made-mine slot shape knows.knowing.means.making page i
+  bind-mine port owner once (binding.Unmaking attempt unmake answer) may knows page i =
+      knows.knowing.means.making.mine page i
+  bind-mine port owner once (binding.Replacing list relink) may knows page i = absurd (cc)
+  bind-mine port owner once (binding.Publish node table relink kick) may knows page i = absurd (cc)
+  bind-mine port owner once (binding.Filling new) may knows page i = absurd i
+  bind-mine port owner once (binding.CurrentTable attempt) may knows page i = absurd i
+  bind-mine port owner once (binding.Locating attempt locate) may knows page i = absurd i
+  bind-mine port owner once (binding.Probing attempt table shape probe) may knows page i = absurd i
+  bind-mine port owner once (binding.FoundOwner claimed found) may knows page i = absurd i
+  bind-mine port owner once (binding.ListLink list) may knows page i = absurd i
+  bind-mine port owner once (binding.ChainLink list) may knows page i = absurd i
+  bind-mine port owner once (binding.LinkBehind list link) may knows page i = absurd i
+  bind-mine port owner once (binding.Future claimed length) may knows page i = absurd i
+  bind-mine port owner once (binding.Count claimed) may knows page i = absurd i
+  bind-mine port owner once (binding.Link claimed) may knows page i = absurd i
+  bind-mine port owner once (binding.Raise claimed) may knows page i = absurd i
+  bind-mine port owner once (binding.Unlocking attempt table unlock next) may knows page i = absurd i
+  bind-mine port owner once (binding.UnlockingFull growing unlock) may knows page i = absurd i
+  bind-mine port owner once (binding.Root growing) may knows page i = absurd i
+  bind-mine port owner once (binding.GrowthCount growing root) may knows page i = absurd i
+  bind-mine port owner once (binding.FutureAgain growing refusal) may knows page i = absurd i
+  bind-mine port owner once (binding.Giving give reply) may knows page i = absurd i
+
+  rebind-mine : (state : RebindAt) → rebind_is_past state ≡ false → AreMine (held_of_rebind state).pages
+  rebind-mine (rebinding.Replacing node found relink) may page i = absurd (cc)
+  rebind-mine (rebinding.Filling new) may page i = absurd i
+  rebind-mine (rebinding.Seeking node seek) may page i = absurd i
+  rebind-mine (rebinding.Owner node found) may page i = absurd i
+  rebind-mine (rebinding.ChainLink node found) may page i = absurd i
+  rebind-mine (rebinding.Link node found link) may page i = absurd i
+  rebind-mine (rebinding.Unlocking node table unlock) may page i = absurd i
+  rebind-mine (rebinding.Giving give) may page i = absurd i
+
+  work-mine : (state : WorkAt) → IsEarlyWork state → JobKnows env mix c (works state) M G → AreMine (held_of_work state).pages
+  work-mine state at_lock knows page i = absurd i
+  work-mine state at_current knows page i = absurd i
+  work-mine state (at_last root seek) knows page i = absurd i
+  work-mine state (at_count root last) knows page i = absurd i
+  work-mine state (at_making wanted make) knows page i =
+      make-mine make.exponent make.seed make.at knows.knowing.means.making page i
+  work-mine state (at_end size) knows page i = absurd i
+
+  pub mine : (job : Job) → is_past job ≡ false → JobKnows env mix c job M G → AreMine (held_of job).pages
+  mine (finds port state) may knows page i = absurd (cc)
+  mine (binds port owner once state) may knows page i = bind-mine port owner once state may knows page i
+  mine (lists port room state) may knows page i = absurd (cc)
+  mine (releases port owner state) may knows page i = absurd (cc)
+  mine (rebinds port owner new state) may knows page i = rebind-mine state may page i
+  mine (works state) may knows page i = work-mine state (early_work state may) knows page i
+  mine counts may knows page i = absurd (cc)
+
+  -- ---- which exchange of a future it makes
+
+  module _ (steps : List Did) (did : Did) (last slot : ℕ) (low : last < 8)
+      (exchanges : did.op ≡ Exchange (place_of g (Slot last FutureWord)) 0 (future_of slot)) where
+    abbrev MayAttachNow : Job → Type 0
+    MayAttachNow job = MayAttachWith g (call_of job) slot (held_of job).pages steps
+
+    bind-attaches : (port owner : ℕ) (once : Bool) (state : BindAt) → bind_is_past state ≡ false
+        → JobKnows env mix c (binds port owner once state) M G → HasStored env state steps
+        → did.op ≡ job_plan env (binds port owner once state) → (held_of_bind state).slot ≡ Some slot
+        → MayAttachNow (binds port owner once state)
+    bind-attaches port owner once (binding.Making growing size make) may knows stored is has =
+        absurd (make-none g make.geometry make.exponent make.seed make.at last 0 (future_of slot) low (sym is ∙ exchanges))
+    bind-attaches port owner once (binding.Attaching growing s shape) may knows stored is has =
+        let same : s ≡ slot = cc in
+        record {
+          may = tt;
+          shape = shape;
+          stored = subst (λ x. StoresLast g x shape steps) same stored;
+          among = made-among s shape knows.knowing.means.making;
+          of_shape = λ page i. i;
+        }
+    bind-attaches port owner once (binding.Unmaking attempt unmake answer) may knows stored is has =
+        absurd (unmake-none g unmake.geometry unmake.slot unmake.at last 0 (future_of slot) low (sym is ∙ exchanges))
+    bind-attaches port owner once (binding.Replacing list relink) may knows stored is has = absurd (cc)
+    bind-attaches port owner once (binding.Publish node table relink kick) may knows stored is has = absurd (cc)
+    bind-attaches port owner once (binding.Filling new) may knows stored is has = absurd (cc)
+    bind-attaches port owner once (binding.CurrentTable attempt) may knows stored is has = absurd (cc)
+    bind-attaches port owner once (binding.Locating attempt locate) may knows stored is has = absurd (cc)
+    bind-attaches port owner once (binding.Probing attempt table shape probe) may knows stored is has = absurd (cc)
+    bind-attaches port owner once (binding.FoundOwner claimed found) may knows stored is has = absurd (cc)
+    bind-attaches port owner once (binding.ListLink list) may knows stored is has = absurd (cc)
+    bind-attaches port owner once (binding.ChainLink list) may knows stored is has = absurd (cc)
+    bind-attaches port owner once (binding.LinkBehind list link) may knows stored is has = absurd (cc)
+    bind-attaches port owner once (binding.Future claimed length) may knows stored is has = absurd (cc)
+    bind-attaches port owner once (binding.Count claimed) may knows stored is has = absurd (cc)
+    bind-attaches port owner once (binding.Link claimed) may knows stored is has = absurd (cc)
+    bind-attaches port owner once (binding.Raise claimed) may knows stored is has = absurd (cc)
+    bind-attaches port owner once (binding.Unlocking attempt table unlock next) may knows stored is has = absurd (cc)
+    bind-attaches port owner once (binding.UnlockingFull growing unlock) may knows stored is has = absurd (cc)
+    bind-attaches port owner once (binding.Root growing) may knows stored is has = absurd (cc)
+    bind-attaches port owner once (binding.GrowthCount growing root) may knows stored is has = absurd (cc)
+    bind-attaches port owner once (binding.FutureAgain growing refusal) may knows stored is has = absurd (cc)
+    bind-attaches port owner once (binding.Giving give reply) may knows stored is has = absurd (cc)
+
+    -- a rebind has no slot
+    rebind-slot : (state : RebindAt) → rebind_is_past state ≡ false → (held_of_rebind state).slot ≡ Some slot → ⊥
+    rebind-slot (rebinding.Replacing node found relink) may has = absurd (cc)
+    rebind-slot (rebinding.Filling new) may has = cc
+    rebind-slot (rebinding.Seeking node seek) may has = cc
+    rebind-slot (rebinding.Owner node found) may has = cc
+    rebind-slot (rebinding.ChainLink node found) may has = cc
+    rebind-slot (rebinding.Link node found link) may has = cc
+    rebind-slot (rebinding.Unlocking node table unlock) may has = cc
+    rebind-slot (rebinding.Giving give) may has = cc
+
+    -- and a resizing that may be refused exchanges none
+    work-attaches : (state : WorkAt) → IsEarlyWork state → did.op ≡ job_plan env (works state)
+        → (held_of_work state).slot ≡ Some slot → ⊥
+    work-attaches state at_lock is has = cc
+    work-attaches state at_current is has = cc
+    work-attaches state (at_last root seek) is has = cc
+    work-attaches state (at_count root last_table) is has = cc
+    work-attaches state (at_making wanted make) is has =
+        make-none g make.geometry make.exponent make.seed make.at last 0 (future_of slot) low (sym is ∙ exchanges)
+    work-attaches state (at_end size) is has = cc
+
+    pub attaches : (job : Job) → is_past job ≡ false → JobKnows env mix c job M G → JobStored env job steps
+        → did.op ≡ job_plan env job → (held_of job).slot ≡ Some slot → MayAttachNow job
+    attaches (finds port state) may knows stored is has = absurd (cc)
+    attaches (binds port owner once state) may knows stored is has = bind-attaches port owner once state may knows stored is has
+    attaches (lists port room state) may knows stored is has = absurd (cc)
+    attaches (releases port owner state) may knows stored is has = absurd (cc)
+    attaches (rebinds port owner new state) may knows stored is has = absurd (rebind-slot state may has)
+    attaches (works state) may knows stored is has = absurd (work-attaches state (early_work state may) is has)
+    attaches counts may knows stored is has = absurd (cc)

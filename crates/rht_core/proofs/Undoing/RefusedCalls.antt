@@ -1,0 +1,482 @@
+-- In every run a call that was refused, or found its port bound, or found no owner to replace, has undone what it did.
+--
+-- While a call may still be refused its operations have changed nothing that the words stand for, and the bits that they turned an odd
+-- number of times are those of what it holds, but for those that may be left. An operation that changes bindings tells an answer that
+-- says so, and behind that the call isn't refused. Once it has ended it holds nothing.
+use Rattle.std.proofs.Common.{◌≡◌, ◌⊎◌, ℕ, suc, ◌+◌, ◌%◌, ◌<◌, Bool, true, false, List, [], ◌∷◌, ◌++◌, take, refl, sym, ap, ◌∙◌, subst, inl, inr, arith}
+use Rattle.std.specs.Prelude.{Option, Some, None}
+use Rattle.std.specs.List.{AllByRecursion}
+use Rattle.rht_words.specs.declared.env.Env.{Env}
+use Rattle.rht_words.specs.declared.config.Kind.{Kind}
+use Rattle.rht_words.specs.declared.config.Kind.TheVariants.{Single, Listed}
+use Rattle.rht_words.specs.declared.geometry.Geometry.{Geometry}
+use Rattle.rht_words.specs.declared.machine.Next.{Next}
+use Rattle.rht_words.specs.declared.machine.Next.TheVariants.{Go, Done}
+use Rattle.rht_words.specs.Operations.{applied}
+use Rattle.rht_words.proofs.EachElement.{AllByRecursion-push}
+use Rattle.rht_model.specs.declared.history.Call.{Call}
+use Rattle.rht_model.specs.declared.history.Call.TheVariants.{Bind, Find, All, Release, Rebind, Walk, Work, Tidy, Count}
+use Rattle.rht_model.specs.declared.history.Reply.{Reply}
+use Rattle.rht_model.specs.declared.history.Reply.TheVariants as replies
+use Rattle.rht_model.specs.Answers.{Answer, is_change}
+use Rattle.rht_model.specs.Endings.{Ending, plain_ending, ending_in}
+use Rattle.rht_model.specs.Multimap.{Multimap, Agree}
+use Rattle.rht_model.proofs.UnchangedBindings.{left_by-unchanged}
+use Rattle.rht_model.specs.Rooms.{Kept}
+use Rattle.rht_find.specs.Find as find_at
+use Rattle.rht_find.specs.declared.find.FindAt.{FindAt}
+use Rattle.rht_bind.specs.Bind as bind_at
+use Rattle.rht_bind.specs.declared.bind.BindAt.{BindAt}
+use Rattle.rht_release.specs.All as all_at
+use Rattle.rht_release.specs.declared.all.AllAt.{AllAt}
+use Rattle.rht_release.specs.Release as release_at
+use Rattle.rht_release.specs.declared.release.ReleaseAt.{ReleaseAt}
+use Rattle.rht_release.specs.Rebind as rebind_at
+use Rattle.rht_release.specs.declared.rebind.RebindAt.{RebindAt}
+use Rattle.rht_move.specs.Work as work_at
+use Rattle.rht_move.specs.declared.work.WorkAt.{WorkAt}
+use Rattle.rht_move.specs.declared.work.WorkAt.TheVariants as works_at
+use Rattle.rht_core.specs.declared.event.Event.{Event}
+use Rattle.rht_core.specs.declared.event.Event.TheVariants.{Step as Steps}
+use Rattle.rht_core.specs.Jobs.{Job, finds, binds, lists, releases, rebinds, works, counts, call_of, first_rebind, first_job, job_plan, job_after, job_next, listing_ending, node_ending, held_of, held_next}
+use Rattle.rht_core.specs.Runs.{World, run_of}
+use Rattle.rht_core.specs.Traces.{Did, Past, traced_of}
+use Rattle.rht_core.specs.Seen.{words_before}
+use Rattle.rht_core.specs.StandsFor.{stands_for}
+use Rattle.rht_core.specs.RunHistories.{ChangesBindings}
+use Rattle.rht_core.specs.Replies.{IsReplyTo, IsFindReply, IsAllReply, IsReleaseReply, IsCountReply}
+use Rattle.rht_core.specs.Laws.{IsRecorded, IsPastCall}
+use Rattle.rht_core.specs.Refused.{changes_nothing, turns, IsExcepted, IsUndone, Refused}
+use Rattle.rht_core.proofs.Theory.Answering.{entry_of, same_reply, known_so, unknown_before, Says, ChangesBindings as ChangesThem}
+use Rattle.rht_core.proofs.Theory.Steps.{Holding, mem, ghost_after, Does, SaysChange}
+use Rattle.rht_core.proofs.Meaning.BoundPorts.{stands_for_bound}
+use Rattle.rht_core.proofs.Events.Worlds.{run_of-next, step_words}
+use Rattle.rht_core.proofs.Events.JobsOfCallers.{same_call}
+use Rattle.rht_core.proofs.Tracing.TracedJobs.{Performs, LeadsOn, IsEndedSo, jobs_keep_in}
+use Rattle.rht_core.proofs.Tracing.TracesAtEvents.{at_events}
+use Rattle.rht_core.proofs.Tracing.RepliesInRuns.{Holds, Answered, runs-right}
+use Rattle.rht_core.proofs.Undoing.TurnedBits.{held_bits}
+use Rattle.rht_core.proofs.Undoing.UndoneMoves.{Undoes, Undoes-push, MayGoBack, kept_by}
+use Rattle.rht_core.proofs.Undoing.PastRefusal.{bind_is_past, rebind_is_past, work_is_past, is_past, StaysPast, bind-past, rebind-past, work-past}
+use Rattle.rht_core.proofs.Undoing.StoredShapes.{bind-stored}
+use Rattle.rht_core.proofs.Undoing.RefusableJobs.{refusable, mine, JobStored, attaches}
+
+-- ---- answers that say that bindings were changed
+
+-- a call that ends with such a reply changes something
+change-not_nothing : (call : Call) (reply : Reply) → is_change reply ≡ true → changes_nothing call reply ≡ true → ⊥
+change-not_nothing call (replies.Bound kick) change nothing = cc
+change-not_nothing call (replies.Released kick) change nothing = cc
+change-not_nothing call replies.Rebound change nothing = cc
+change-not_nothing call (replies.Exists owner) change nothing = cc
+change-not_nothing call (replies.Found owner) change nothing = cc
+change-not_nothing call replies.Missing change nothing = cc
+change-not_nothing call (replies.Listed len) change nothing = cc
+change-not_nothing call replies.Absent change nothing = cc
+change-not_nothing call (replies.TooBig count) change nothing = cc
+change-not_nothing call (replies.Again table) change nothing = cc
+change-not_nothing call (replies.Busy root last) change nothing = cc
+change-not_nothing call (replies.NoTable size) change nothing = cc
+change-not_nothing call replies.NoNode change nothing = cc
+change-not_nothing call (replies.Pending caller section) change nothing = cc
+change-not_nothing call replies.Elsewhere change nothing = cc
+change-not_nothing call (replies.Walked len next) change nothing = cc
+change-not_nothing call (replies.Moved again) change nothing = cc
+change-not_nothing call replies.Idle change nothing = cc
+change-not_nothing call (replies.Clear returned) change nothing = cc
+change-not_nothing call (replies.Counted count) change nothing = cc
+
+module _ (kind : Kind) (c : ℕ) (call : Call) (before after : Multimap) where
+  -- an operation that changes bindings tells one
+  changed_says : (was now : Option Answer) → ChangesThem kind c call before after was now → SaysChange now
+  changed_says was now changes =
+      subst SaysChange (sym changes.known) (go (is_change changes.answer.reply) refl)
+    where
+      go : (t : Bool) → is_change changes.answer.reply ≡ t → is_change changes.answer.reply ≡ true
+      go true is = is
+      go false is =
+          let entry = entry_of c call changes.answer in
+          let port = changes.port in
+          absurd (changes.differs (changes.bindings port ∙ left_by-unchanged kind before entry (inl changes.answered) is port))
+
+  -- one that is known stays so
+  change_stays : (was now : Option Answer) → Says kind c call before after was now → SaysChange was → SaysChange now
+  change_stays None now says so = absurd so
+  change_stays (Some was) None says so =
+      absurd (let none = unknown_before kind c call before after (Some was) None says refl in cc)
+  change_stays (Some was) (Some now) says so =
+      known_so kind c call (λ answer. is_change answer.reply ≡ true)
+      (λ one other same is.
+      same_reply (λ reply. is_change reply ≡ true)
+      (record { bound = λ kick l e. refl; released = λ kick l e. refl }) one other same is)
+      before after (Some was) (Some now) says (λ answer none known. absurd (cc)) so
+
+module _ (M : Type 0) (mix : ℕ → ℕ → ℕ → ℕ) (env : Env) (events : List Event) where
+  abbrev g : Geometry
+  g = env.geometry
+
+  -- ---- what is kept of a call
+
+  -- the operation, performed in the words before its event, leaves what the words stand for
+  abbrev LeavesBindings : Did → Type 0
+  LeavesBindings did =
+      let words = words_before M mix env events did.index in
+      Agree (stands_for g (applied words did.op)) (stands_for g words)
+
+  -- of one that may still be refused
+  pub record MayBeRefused (job : Job) (steps : List Did) : Type 0 where
+    pub undoes : Undoes g (call_of job) (held_of job) steps
+    pub still : AllByRecursion LeavesBindings steps
+    pub stored : JobStored env job steps
+
+  -- of each one
+  abbrev pub Going : Job → List Did → Type 0
+  Going job steps = (is_past job ≡ true) ⊎ SaysChange (held_of job).answer ⊎ MayBeRefused job steps
+
+  -- of one that has ended
+  pub record HasUndone (call : Call) (steps : List Did) : Type 0 where
+    pub even : (place bit : ℕ) → bit < 64 → IsExcepted g call steps place bit ⊎ (turns place bit steps % 2 ≡ 0)
+    pub still : AllByRecursion LeavesBindings steps
+
+  abbrev pub Undone : Call → Ending → List Did → Type 0
+  Undone call ending steps = changes_nothing call ending.answer.reply ≡ true → HasUndone call steps
+
+  abbrev pub Ended : Call → Ending → List Did → Type 0
+  Ended (Find port) ending steps = Unit {0}
+  Ended (All port) ending steps = Unit {0}
+  Ended (Release port owner) ending steps = Unit {0}
+  Ended Count ending steps = Unit {0}
+  Ended (Bind port owner once) ending steps = Undone (Bind port owner once) ending steps
+  Ended (Rebind port owner new) ending steps = Undone (Rebind port owner new) ending steps
+  Ended (Walk from limit) ending steps = Undone (Walk from limit) ending steps
+  Ended Work ending steps = Undone Work ending steps
+  Ended Tidy ending steps = Undone Tidy ending steps
+
+  ended-so : (call : Call) (ending : Ending) (steps : List Did) → Undone call ending steps → Ended call ending steps
+  ended-so (Find port) ending steps undone = tt
+  ended-so (All port) ending steps undone = tt
+  ended-so (Release port owner) ending steps undone = tt
+  ended-so Count ending steps undone = tt
+  ended-so (Bind port owner once) ending steps undone = undone
+  ended-so (Rebind port owner new) ending steps undone = undone
+  ended-so (Walk from limit) ending steps undone = undone
+  ended-so Work ending steps undone = undone
+  ended-so Tidy ending steps undone = undone
+
+  abbrev Leads : Job → List Did → Job × Next Ending → Type 0
+  Leads job all next = LeadsOn M mix env Going Ended job all next
+
+  -- ---- behind a refusal's last chance
+
+  both_say : (call : Call) (reply : Reply) → changes_nothing call reply ≡ false → changes_nothing call reply ≡ true → ⊥
+  both_say call reply not_so so = let both = sym not_so ∙ so in cc
+
+  module _ (all : List Did) where
+    finds-lead : (port : ℕ) (state : FindAt) (r : FindAt × Next Reply)
+        → Leads (finds port state) all (job_next (finds port) plain_ending r)
+    finds-lead port state (next, Go) = inl refl
+    finds-lead port state (next, Done reply) = tt
+
+    binds-lead : (port owner : ℕ) (once : Bool) (state : BindAt) (r : BindAt × Next Reply)
+        → StaysPast bind_is_past (λ reply. reply) (Bind port owner once) r
+        → Leads (binds port owner once state) all (job_next (binds port owner once) plain_ending r)
+    binds-lead port owner once state (next, Go) past = inl past
+    binds-lead port owner once state (next, Done reply) past =
+        λ nothing. absurd (both_say (Bind port owner once) reply past nothing)
+
+    lists-lead : (port : ℕ) (room after : Kept ℕ) (state : AllAt) (r : AllAt × Next (Unit {0}))
+        → Leads (lists port room state) all (job_next (lists port after) (listing_ending after) r)
+    lists-lead port room after state (next, Go) = inl refl
+    lists-lead port room after state (next, Done done) = tt
+
+    releases-lead : (port owner : ℕ) (state : ReleaseAt) (r : ReleaseAt × Next (Reply × Option ℕ))
+        → Leads (releases port owner state) all (job_next (releases port owner) node_ending r)
+    releases-lead port owner state (next, Go) = inl refl
+    releases-lead port owner state (next, Done end) = tt
+
+    rebinds-lead : (port owner new : ℕ) (state : RebindAt) (r : RebindAt × Next (Reply × Option ℕ))
+        → StaysPast rebind_is_past (λ end. end.0) (Rebind port owner new) r
+        → Leads (rebinds port owner new state) all (job_next (rebinds port owner new) node_ending r)
+    rebinds-lead port owner new state (next, Go) past = inl past
+    rebinds-lead port owner new state (next, Done end) past =
+        λ nothing. absurd (both_say (Rebind port owner new) end.0 past nothing)
+
+    works-lead : (state : WorkAt) (r : WorkAt × Next Reply) → StaysPast work_is_past (λ reply. reply) Work r
+        → Leads (works state) all (job_next works plain_ending r)
+    works-lead state (next, Go) past = inl past
+    works-lead state (next, Done reply) past = λ nothing. absurd (both_say Work reply past nothing)
+
+    past-leads : (job : Job) (old : ℕ) → is_past job ≡ true → Leads job all (job_after mix env job old)
+    past-leads (finds port state) old past = finds-lead port state (find_at.after_at mix env port state old)
+    past-leads (binds port owner once state) old past =
+        binds-lead port owner once state (bind_at.after_at mix env port once state old)
+        (bind-past port owner once mix env state old past)
+    past-leads (lists port room state) old past =
+        lists-lead port room (all_at.room_after state room old) state (all_at.after_at mix env port state old)
+    past-leads (releases port owner state) old past =
+        releases-lead port owner state (release_at.after_at mix env port owner state old)
+    past-leads (rebinds port owner new state) old past =
+        rebinds-lead port owner new state (rebind_at.after_at mix env port owner state old)
+        (rebind-past port owner new mix env state old past)
+    past-leads (works state) old past = works-lead state (work_at.after_at mix env state old) (work-past mix env state old past)
+    past-leads counts old past = tt
+
+    -- ---- behind an answer that says that bindings were changed
+
+    change-leads : (job : Job) (next : Job × Next Ending) → SaysChange (held_next next).answer → Leads job all next
+    change-leads job (after, Go) says = inr (inl says)
+    change-leads job (after, Done ending) says =
+        ended-so (call_of job) ending all
+        (λ nothing. absurd (change-not_nothing (call_of job) ending.answer.reply says nothing))
+
+  -- ---- while it may be refused
+
+  -- what the next state has stored
+  abbrev NextStored : List Did → Job × Next Ending → Type 0
+  NextStored all (after, Go) = JobStored env after all
+  NextStored all (after, Done ending) = Unit {0}
+
+  next-stored : {S A : Type 0} (all : List Did) (job : S → Job) (ending : A → Ending) (r : S × Next A)
+      → JobStored env (job r.0) all → NextStored all (job_next job ending r)
+  next-stored all job ending (state, Go) stored = stored
+  next-stored all job ending (state, Done end) stored = tt
+
+  stored_then : (job : Job) (steps : List Did) (did : Did) → is_past job ≡ false → did.op ≡ job_plan env job
+      → JobStored env job steps → NextStored (steps ++ did ∷ []) (job_after mix env job did.old)
+  stored_then (finds port state) steps did may is stored = absurd (cc)
+  stored_then (binds port owner once state) steps did may is stored =
+      let r = bind_at.after_at mix env port once state did.old in
+      next-stored (steps ++ did ∷ []) (binds port owner once) plain_ending r (bind-stored env mix port once state steps did is stored)
+  stored_then (lists port room state) steps did may is stored = absurd (cc)
+  stored_then (releases port owner state) steps did may is stored = absurd (cc)
+  stored_then (rebinds port owner new state) steps did may is stored =
+      next-stored (steps ++ did ∷ []) (rebinds port owner new) node_ending (rebind_at.after_at mix env port owner state did.old) tt
+  stored_then (works state) steps did may is stored =
+      next-stored (steps ++ did ∷ []) works plain_ending (work_at.after_at mix env state did.old) tt
+  stored_then counts steps did may is stored = absurd (cc)
+
+  -- a call that has ended holds nothing
+  nothing_held : (n : ℕ) → (n + 0) % 2 ≡ 0 → n % 2 ≡ 0
+  nothing_held n even = omega (arith, even)
+
+  module _ (job : Job) (steps : List Did) (did : Did) (may : is_past job ≡ false) (kept : MayBeRefused job steps) where
+    abbrev all : List Did
+    all = steps ++ did ∷ []
+
+    -- what is known of the operation, by what it leads to
+    abbrev LeavesOr : Holding → Type 0
+    LeavesOr after = SaysChange after.answer ⊎ LeavesBindings did
+
+    abbrev UndoesOr : Holding → Type 0
+    UndoesOr after =
+        after.raised ≡ false → after.moving ≡ false → SaysChange after.answer ⊎ Undoes g (call_of job) after all
+
+    go_on : (after : Job) → call_of after ≡ call_of job → LeavesOr (held_of after) → UndoesOr (held_of after)
+        → JobStored env after all → (t : Bool) → is_past after ≡ t → Going after all
+    go_on after same leaves undoes stored true past = inl past
+    go_on after same leaves undoes stored false not_past =
+        let may_then = refusable after not_past in
+        elim leaves [
+          | inl says ↦ inr (inl says)
+          | inr left ↦ elim (undoes may_then.low may_then.still) [
+            | inl says ↦ inr (inl says)
+            | inr now ↦ inr (inr (record {
+              undoes = subst (λ call. Undoes g call (held_of after) all) (sym same) now;
+              still = AllByRecursion-push LeavesBindings steps did kept.still left;
+              stored = stored;
+            }))
+          ]
+        ]
+
+    end : (after : Job) (ending : Ending) → LeavesOr (held_next (after, Done ending)) → UndoesOr (held_next (after, Done ending))
+        → Leads job all (after, Done ending)
+    end after ending leaves undoes = elim leaves [
+      | inl says ↦ change-leads all job (after, Done ending) says
+      | inr left ↦ elim (undoes refl refl) [
+        | inl says ↦ change-leads all job (after, Done ending) says
+        | inr now ↦ ended-so (call_of job) ending all (λ nothing. record {
+          even = λ place bit low. elim (now.even place bit low) [
+            | inl some ↦ elim some [
+              | inl excepted ↦ inl excepted
+              | inr own ↦ elim own [
+                | inl node ↦ absurd (let none = node.has in cc)
+                | inr slot ↦ absurd (let none = slot.has in cc)
+              ]
+            ]
+            | inr even ↦ inr (nothing_held (turns place bit all) even)
+          ];
+          still = AllByRecursion-push LeavesBindings steps did kept.still left;
+        })
+      ]
+    ]
+
+    by_next : (next : Job × Next Ending) → call_of next.0 ≡ call_of job → LeavesOr (held_next next) → UndoesOr (held_next next)
+        → NextStored all next → Leads job all next
+    by_next (after, Go) same leaves undoes stored = go_on after same leaves undoes stored (is_past after) refl
+    by_next (after, Done ending) same leaves undoes stored = end after ending leaves undoes
+
+    module _ (performs : Performs mix env job did) (here : performs.words ≡ words_before M mix env events did.index) where
+      abbrev after : Holding
+      after = held_next (job_after mix env job did.old)
+
+      leaves : LeavesOr after
+      leaves = elim performs.step.says [
+        | inr changes ↦
+            inl (changed_says env.config.kind performs.caller (call_of job) _ _ (held_of job).answer after.answer changes)
+        | inl stills ↦ inr (subst (λ ws. Agree (stands_for g (applied ws did.op)) (stands_for g ws)) here (λ port.
+            stands_for_bound env mix (applied performs.words did.op) (ghost_after env mix performs.caller performs.step.move performs.ghost)
+            performs.step.made.whole port
+            ∙ stills.agree port ∙ sym (stands_for_bound env mix performs.words performs.ghost performs.whole port)))
+      ]
+
+      undoes : UndoesOr after
+      undoes low_then still_then =
+          let holds = refusable job may in
+          let step = performs.step in
+          let go_back : MayGoBack env mix (call_of job) steps did (held_of job) after performs.caller performs.ghost = record {
+            low = holds.low;
+            low_then = low_then;
+            still = holds.still;
+            still_then = still_then;
+            locked_has = holds.locked_has;
+            mine = mine env mix performs.caller (mem env mix performs.words) performs.ghost job may performs.knows;
+            attaches = λ last slot low exchanges has.
+                attaches env mix performs.caller (mem env mix performs.words) performs.ghost steps did last slot low exchanges
+                job may performs.knows kept.stored performs.planned has;
+          } in
+          elim (kept_by env mix (call_of job) steps did (held_of job) after performs.caller performs.words performs.ghost
+          performs.whole performs.found kept.undoes go_back step.move step.ready
+          (subst (λ old. Does env mix step.move did.op old (held_of job) after) (sym performs.found) step.does)) [
+            | inl says ↦ inl says
+            | inr keeps ↦ inr (Undoes-push g (call_of job) steps did (held_of job) after kept.undoes keeps)
+          ]
+
+      leads_on : Leads job all (job_after mix env job did.old)
+      leads_on =
+          by_next (job_after mix env job did.old) (same_call mix env job did.old) leaves undoes
+          (stored_then job steps did may performs.planned kept.stored)
+
+  -- ---- each operation, and the beginning
+
+  goes : (job : Job) (steps : List Did) (did : Did) (performs : Performs mix env job did)
+      → performs.words ≡ words_before M mix env events did.index → Going job steps
+      → Leads job (steps ++ did ∷ []) (job_after mix env job did.old)
+  goes job steps did performs here (inl past) = past-leads (steps ++ did ∷ []) job did.old past
+  goes job steps did performs here (inr (inl says)) =
+      change-leads (steps ++ did ∷ []) job (job_after mix env job did.old)
+      (change_stays env.config.kind performs.caller (call_of job) _ _ (held_of job).answer
+      (held_next (job_after mix env job did.old)).answer performs.step.says says)
+  goes job steps did performs here (inr (inr kept)) = by_case (is_past job) refl
+    where
+      by_case : (t : Bool) → is_past job ≡ t → Leads job (steps ++ did ∷ []) (job_after mix env job did.old)
+      by_case true past = past-leads (steps ++ did ∷ []) job did.old past
+      by_case false may = leads_on job steps did may kept performs here
+
+  of_first : (first job : Job) → Some first ≡ Some job → Going first [] → Going job []
+  of_first first job is going = let same : first ≡ job = cc in subst (λ j. Going j []) same going
+
+  -- at first nothing is held, and nothing was turned
+  holds_none : (job : Job) → (held_of job).node ≡ None → (held_of job).slot ≡ None
+      → ((place bit : ℕ) → held_bits g (held_of job) place bit ≡ 0) → JobStored env job [] → MayBeRefused job []
+  holds_none job node slot none stored = record {
+    undoes = record {
+      even = λ place bit low. inr (ap (λ n. (0 + n) % 2) (none place bit));
+      node_in = λ n is. absurd (let both = sym node ∙ is in cc);
+      slot_in = λ s is. absurd (let both = sym slot ∙ is in cc);
+    };
+    still = tt;
+    stored = stored;
+  }
+
+  begins-rebind : (port owner new : ℕ) (kind : Kind) (job : Job) → first_rebind env port owner new kind ≡ Some job → Going job []
+  begins-rebind port owner new Single job is =
+      of_first _ job is (inr (inr (holds_none (rebinds port owner new (rebind_at.first_state env port new)) refl refl (λ place bit. refl) tt)))
+  begins-rebind port owner new Listed job is = absurd (cc)
+
+  begins : (call : Call) (job : Job) → first_job env call ≡ Some job → Going job []
+  begins (Find port) job is = of_first _ job is (inl refl)
+  begins (Bind port owner once) job is =
+      of_first _ job is (inr (inr (holds_none (binds port owner once (bind_at.first_state env port owner)) refl refl (λ place bit. refl) tt)))
+  begins (All port) job is = of_first _ job is (inl refl)
+  begins (Release port owner) job is = of_first _ job is (inl refl)
+  begins (Rebind port owner new) job is = begins-rebind port owner new env.config.kind job is
+  begins Work job is = of_first _ job is (inr (inr (holds_none (works works_at.WorkLock) refl refl (λ place bit. refl) tt)))
+  begins Count job is = of_first _ job is (inl refl)
+  begins _ job is = absurd (cc)
+
+  -- ---- the law
+
+  -- replies of calls that are never refused
+  find-changes : (port : ℕ) (reply : Reply) → IsFindReply reply → changes_nothing (Find port) reply ≡ true → ⊥
+  find-changes port (replies.Found owner) right nothing = cc
+  find-changes port replies.Missing right nothing = cc
+  find-changes port _ right nothing = absurd right
+
+  all-changes : (port : ℕ) (reply : Reply) → IsAllReply reply → changes_nothing (All port) reply ≡ true → ⊥
+  all-changes port (replies.Listed len) right nothing = cc
+  all-changes port _ right nothing = absurd right
+
+  release-changes : (port owner : ℕ) (reply : Reply) → IsReleaseReply reply → changes_nothing (Release port owner) reply ≡ true → ⊥
+  release-changes port owner (replies.Released kick) right nothing = cc
+  release-changes port owner replies.Absent right nothing = cc
+  release-changes port owner _ right nothing = absurd right
+
+  count-changes : (reply : Reply) → IsCountReply reply → changes_nothing Count reply ≡ true → ⊥
+  count-changes (replies.Counted count) right nothing = cc
+  count-changes _ right nothing = absurd right
+
+  undone-by : (call : Call) (ending : Ending) (steps : List Did) → Ended call ending steps → IsReplyTo call ending.answer.reply
+      → changes_nothing call ending.answer.reply ≡ true → HasUndone call steps
+  undone-by (Find port) ending steps ended right nothing = absurd (find-changes port ending.answer.reply right nothing)
+  undone-by (All port) ending steps ended right nothing = absurd (all-changes port ending.answer.reply right nothing)
+  undone-by (Release port owner) ending steps ended right nothing =
+      absurd (release-changes port owner ending.answer.reply right nothing)
+  undone-by Count ending steps ended right nothing = absurd (count-changes ending.answer.reply right nothing)
+  undone-by (Bind port owner once) ending steps ended right nothing = ended nothing
+  undone-by (Rebind port owner new) ending steps ended right nothing = ended nothing
+  undone-by (Walk from limit) ending steps ended right nothing = ended nothing
+  undone-by Work ending steps ended right nothing = ended nothing
+  undone-by Tidy ending steps ended right nothing = ended nothing
+
+  module _ (c : ℕ) where
+    -- behind an operation's event the words are as it left them
+    words_behind : (did : Did) → IsRecorded M mix env events c did
+        → words_before M mix env events (did.index + 1) ≡ applied (words_before M mix env events did.index) did.op
+    words_behind did recorded =
+        let w : World M = run_of mix env (take did.index events) in
+        let next : did.index + 1 ≡ suc did.index = omega arith in
+        ap (words_before M mix env events) next
+        ∙ ap (λ (v : World M). v.core.words) (run_of-next M mix env events did.index (Steps c) recorded.event)
+        ∙ step_words M mix w c did.op recorded.plan
+
+    still-there : (steps : List Did) → AllByRecursion LeavesBindings steps → AllByRecursion (IsRecorded M mix env events c) steps
+        → AllByRecursion (λ did. ¬ ChangesBindings M mix env events did) steps
+    still-there [] leaves_all recorded = tt
+    still-there (did ∷ steps) leaves_all recorded = (
+      λ (port, differs).
+          differs (sym (leaves_all.0 port) ∙ ap (λ ws. stands_for g ws port) (sym (words_behind did recorded.0))),
+      still-there steps leaves_all.1 recorded.1,
+    )
+
+    each : (calls : List Past) → AllByRecursion (IsEndedSo M mix env Going Ended) calls
+        → AllByRecursion (IsEndedSo M mix env (Holds M mix env) (Answered M mix env)) calls
+        → AllByRecursion (IsPastCall M mix env events c) calls
+        → AllByRecursion (λ past. changes_nothing past.done.call past.done.reply ≡ true → IsUndone M mix env events past) calls
+    each [] ended right were = tt
+    each (past ∷ calls) ended right were = (
+      λ nothing.
+          let undone = undone-by past.done.call (ending_in past.done) past.steps ended.0 right.0.reply nothing in
+          record {
+            bindings = still-there past.steps undone.still were.0.steps;
+            even = λ place bit within low. undone.even place bit low;
+          },
+      each calls ended.1 right.1 were.1,
+    )
+
+pub refused : (M : Type 0) (mix : ℕ → ℕ → ℕ → ℕ) → Refused M mix
+refused M mix env events c admitted =
+    let keeping =
+    jobs_keep_in M mix env (Going M mix env events) (Ended M mix env events) events
+    (record { begins = begins M mix env events; goes = goes M mix env events }) c admitted in
+    each M mix env events c ((traced_of {M = M} mix env events).traces c).past keeping.past
+    (runs-right M mix env events c admitted).past (at_events M mix env events admitted c).past

@@ -1,0 +1,153 @@
+-- What a call leaves that changes nothing: one that was refused, or found its port bound, or found no owner to replace.
+-- A bit that its operations turned an even number of times is as if the call had never been, whatever others do to it.
+use Rattle.std.specs.Prelude.{◌≡◌, ◌≢◌, ℕ, ◌+◌, ◌/◌, ◌%◌, ◌<◌, ◌⊎◌, ◌==◌, Bool, true, List, [], ◌∷◌, ◌++◌, if◌then◌else◌}
+use Rattle.std.specs.List.{AllByRecursion, Any}
+use Rattle.std.specs.Int.{bit_at}
+use Rattle.rht_words.specs.declared.op.Op.TheVariants.{Store, Or}
+use Rattle.rht_words.specs.declared.env.Env.{Env}
+use Rattle.rht_words.specs.declared.geometry.Geometry.{Geometry}
+use Rattle.rht_words.specs.Maps.{bit_of}
+use Rattle.rht_words.specs.Members.{In}
+use Rattle.rht_words.specs.Operations.{op_place, word_after}
+use Rattle.rht_words.specs.Places.{NextSerial, Slot, SlotWord, ShapeWord, SeedWord, FutureWord, SerialWord, StateWord, LoadedSection, PageMap, Node, NodeWord, words_in, place_of}
+use Rattle.rht_model.specs.declared.history.Call.{Call}
+use Rattle.rht_model.specs.declared.history.Call.TheVariants.{Bind, Rebind}
+use Rattle.rht_model.specs.declared.history.Reply.{Reply}
+use Rattle.rht_model.specs.declared.history.Reply.TheVariants.{Exists, Absent}
+use Rattle.rht_model.specs.Answers.{is_refusal}
+use Rattle.rht_arena.specs.Laws.{map_place, map_bit}
+use Rattle.rht_nest.specs.Tables.{pages_of_shape}
+use Rattle.rht_core.specs.declared.event.Event.{Event}
+use Rattle.rht_core.specs.Runs.{IsAdmitted}
+use Rattle.rht_core.specs.Traces.{Did, Past, traced_of}
+use Rattle.rht_core.specs.ResizeCauses.{Attaches}
+use Rattle.rht_core.specs.RunHistories.{ChangesBindings}
+
+-- a call that ends with this reply changes nothing: it was refused, or its port was bound, or it replaced no owner
+abbrev pub changes_nothing : Call → Reply → Bool
+changes_nothing call (Exists owner) = true
+changes_nothing (Rebind port owner new) Absent = true
+changes_nothing call reply = is_refusal reply
+
+-- ---- bits that operations turn
+
+-- whether the operation turned this bit of the word at this place: 1 where it did, and else 0
+abbrev pub turned : ℕ → ℕ → Did → ℕ
+turned place bit did =
+    if op_place did.op == place then (bit_at did.old bit + bit_at (word_after did.old did.op) bit) % 2 else 0
+
+-- how often these operations did
+abbrev pub turns : ℕ → ℕ → List Did → ℕ
+turns place bit [] = 0
+turns place bit (did ∷ steps) = turned place bit did + turns place bit steps
+
+-- ---- what may be left otherwise
+
+-- the operation gives this node back, which was taken until then
+pub record GivesBackNode (g : Geometry) (node : ℕ) (did : Did) : Type 0 where
+  pub gives : did.op ≡ Or (map_place g node) (bit_of (map_bit node))
+  pub taken : bit_at did.old (map_bit node) ≡ 0
+
+-- the operation gives this slot back, which was taken until then
+pub record GivesBackSlot (g : Geometry) (slot : ℕ) (did : Did) : Type 0 where
+  pub gives : did.op ≡ Store (place_of g (Slot slot StateWord)) 0
+  pub taken : did.old ≡ 1
+
+-- the word is one of a slot's that say something of its table
+abbrev pub IsTableWord : SlotWord → Type 0
+IsTableWord ShapeWord = Unit {0}
+IsTableWord SeedWord = Unit {0}
+IsTableWord FutureWord = Unit {0}
+IsTableWord SerialWord = Unit {0}
+IsTableWord StateWord = ⊥
+IsTableWord (LoadedSection caller) = ⊥
+
+-- a word of a node that these operations gave back
+pub record IsOfNodeGiven (g : Geometry) (steps : List Did) (place : ℕ) : Type 0 where
+  pub node : ℕ
+  pub among : node < g.nodes
+  pub given : Any (GivesBackNode g node) steps
+  pub word : NodeWord
+  pub there : place ≡ place_of g (Node node word)
+
+-- a word of a slot that they gave back, but for the one that says whether the slot is free
+pub record IsOfSlotGiven (g : Geometry) (steps : List Did) (place : ℕ) : Type 0 where
+  pub slot : ℕ
+  pub within : slot < 8
+  pub given : Any (GivesBackSlot g slot) steps
+  pub word : SlotWord
+  pub of_table : IsTableWord word
+  pub there : place ≡ place_of g (Slot slot word)
+
+-- the operation stores no shape in this slot
+abbrev pub IsNoShapeStore : Geometry → ℕ → Did → Type 0
+IsNoShapeStore g slot did = (shape : ℕ) → did.op ≢ Store (place_of g (Slot slot ShapeWord)) shape
+
+-- the last shape that these operations store in this slot is this one
+pub record StoresLast (g : Geometry) (slot shape : ℕ) (steps : List Did) : Type 0 where
+  pub before : List Did
+  pub at : Did
+  pub behind : List Did
+  pub split : steps ≡ before ++ at ∷ behind
+  pub stores : at.op ≡ Store (place_of g (Slot slot ShapeWord)) shape
+  pub last : AllByRecursion (IsNoShapeStore g slot) behind
+
+-- one of these operations attached the table of this slot behind another one, when they had stored this shape for it
+pub record AttachedWith (g : Geometry) (table slot shape : ℕ) (steps : List Did) : Type 0 where
+  pub before : List Did
+  pub at : Did
+  pub behind : List Did
+  pub split : steps ≡ before ++ at ∷ behind
+  pub attaches : Attaches g table slot at
+  pub stored : StoresLast g slot shape before
+
+-- a word of this slot that is a table's, or that says whether it is free
+pub record IsOfSlot (g : Geometry) (slot place : ℕ) : Type 0 where
+  pub word : SlotWord
+  pub used : IsTableWord word ⊎ (word ≡ StateWord)
+  pub there : place ≡ place_of g (Slot slot word)
+
+-- the bit of a page of a table of this shape
+pub record IsOfPages (g : Geometry) (shape place bit : ℕ) : Type 0 where
+  pub page : ℕ
+  pub among : page < g.pages
+  pub has : In page (pages_of_shape shape)
+  pub there : place ≡ place_of g (PageMap (page / 64))
+  pub bit_is : bit ≡ page % 64
+
+-- what is left of a table that these operations attached: the future that leads to it, the words of its slot, and its pages' bits
+pub record IsOfAttached (g : Geometry) (steps : List Did) (place bit : ℕ) : Type 0 where
+  pub table : ℕ
+  pub slot : ℕ
+  pub shape : ℕ
+  pub attached : AttachedWith g table slot shape steps
+  pub of_it : (place ≡ place_of g (Slot table FutureWord)) ⊎ IsOfSlot g slot place ⊎ IsOfPages g shape place bit
+
+-- only a bind attaches tables and is refused then
+abbrev pub MayAttach : Call → Type 0
+MayAttach (Bind port owner once) = Unit {0}
+MayAttach _ = ⊥
+
+-- What these operations of a call may leave turned: the next serial, words of nodes and of slots that they gave back, and what is of the
+-- tables that a bind attached. Each address is one of the table's, since places alone don't tell it from a word that isn't there.
+abbrev pub IsExcepted : Geometry → Call → List Did → ℕ → ℕ → Type 0
+IsExcepted g call steps place bit =
+    (place ≡ place_of g NextSerial)
+    ⊎ IsOfNodeGiven g steps place
+    ⊎ IsOfSlotGiven g steps place
+    ⊎ (MayAttach call × IsOfAttached g steps place bit)
+
+module _ (M : Type 0) (mix : ℕ → ℕ → ℕ → ℕ) where
+  -- A call has undone what it did. None of its operations changed what the words stand for, and each bit of each word was turned an
+  -- even number of times, but for those that may be left turned. So the call holds no lock, and gave back the node that it took.
+  pub record IsUndone (env : Env) (events : List Event) (past : Past) : Type 0 where
+    pub bindings : AllByRecursion (λ did. ¬ ChangesBindings M mix env events did) past.steps
+    pub even : (place bit : ℕ) → place < words_in env.geometry → bit < 64
+        → IsExcepted env.geometry past.done.call past.steps place bit ⊎ (turns place bit past.steps % 2 ≡ 0)
+
+  -- in every run each call that has ended, and changes nothing by its reply, has undone what it did
+  abbrev pub Refused : Type 0
+  Refused =
+      (env : Env) (events : List Event) (c : ℕ) → IsAdmitted env.config.kind events
+      → AllByRecursion (λ past. changes_nothing past.done.call past.done.reply ≡ true → IsUndone env events past)
+      ((traced_of {M = M} mix env events).traces c).past
