@@ -8,9 +8,11 @@ pub mod ChainsCounted
 pub mod AttachedTables
 -- and that it has raised no count until it publishes its node
 pub mod UnraisedBinds
+-- which pages the taking of a run has taken
+pub mod PagesTaken
 -- what the making of a table has seen so far
 pub mod MakesSeen
--- where a bind does nothing to the state of a slot
+-- where a bind takes no slot and no page
 pub mod UntriedSlots
 -- what a bind that finds the last table full has seen for a refusal
 pub mod RefusedBinds

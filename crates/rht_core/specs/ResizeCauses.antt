@@ -12,7 +12,7 @@ use Rattle.rht_words.specs.Operations.{op_place}
 use Rattle.rht_words.specs.Places.{Address, CurrentTable, PortCount, Slot, FutureWord, StateWord, Node, KeyWord, IsAddress, place_of}
 use Rattle.rht_words.specs.Shapes.{unpacked, size_of}
 use Rattle.rht_policy.specs.Thresholds.{is_above_75, is_above_100}
-use Rattle.rht_arena.specs.RunLaws.{AreRunsSeenInTurn}
+use Rattle.rht_arena.specs.RunLaws.{TakesPage, SeesRunTaken}
 use Rattle.rht_nest.specs.Place.{bucket_place}
 use Rattle.rht_nest.specs.MakeLaws.{pages_for, SeesSlotTaken, AreSlotsSeenTaken}
 use Rattle.rht_core.specs.declared.event.Event.{Event}
@@ -111,10 +111,24 @@ pub record AreSlotsTaken (g : Geometry) (steps : List Performed) : Type 0 where
   pub seen : AreSlotsSeenTaken g steps
   pub only : AllByRecursion (FindsSlotsTaken g) steps
 
--- no slot was to be had for a table of this size, or no run of pages: each was found taken, the runs in their turn
+-- the operation sees a page of the run taken, which none of these before it took
+pub record SeesRunLost (g : Geometry) (pages first : ℕ) (before : List Performed) (step : Performed) : Type 0 where
+  pub sees : SeesRunTaken g pages first step
+  pub untaken : AllByRecursion (λ other. TakesPage g sees.page other → ⊥) before
+
+-- Behind these operations each run from this one on is seen taken in its turn, by an operation of its own that finds a page taken
+-- which none before it took.
+abbrev pub AreRunsTaken : Geometry → ℕ → ℕ → List Performed → List Performed → Type 0
+AreRunsTaken g pages next before [] = g.pages < next + pages
+AreRunsTaken g pages next before (step ∷ steps) =
+    let past = before ++ step ∷ [] in
+    AreRunsTaken g pages next past steps
+    ⊎ (SeesRunLost g pages next before step × AreRunsTaken g pages (next + pages) past steps)
+
+-- no slot was to be had for a table of this size, or no run of pages: each was found taken, and not by these operations
 abbrev pub SawNoRoom : Geometry → ℕ → List Did → Type 0
 SawNoRoom g size steps =
-    AreSlotsTaken g (map performed_of steps) ⊎ AreRunsSeenInTurn g (pages_for size) 0 (map performed_of steps)
+    AreSlotsTaken g (map performed_of steps) ⊎ AreRunsTaken g (pages_for size) 0 [] (map performed_of steps)
 
 module _ (M : Type 0) (mix : ℕ → ℕ → ℕ → ℕ) (env : Env) (events : List Event) (c : ℕ) where
   -- a count was loaded that is above the size of a table of this shape, which may grow

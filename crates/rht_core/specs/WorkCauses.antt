@@ -75,8 +75,8 @@ pub record HasChosen (env : Env) (choice : Choice) (steps : List Did) : Type 0 w
 
 -- ---- rows
 
--- A table of this size was due, for which each slot was found taken, or each run of pages in its turn, and the current table could not
--- be moved instead: it was the last one, or the last one was nested.
+-- A table of this size was due, for which each slot was found taken, or each run of pages in its turn, by a page that the call had not
+-- taken, and the current table could not be moved instead: it was the last one, or the last one was nested.
 pub record SawNoTableDue (env : Env) (size : ℕ) (steps : List Did) : Type 0 where
   pub chose : HasChosen env (choices.Attach size) steps
   pub stays : (chose.root ≡ chose.last) ⊎ (is_nested chose.shape.old ≡ true)

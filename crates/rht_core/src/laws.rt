@@ -106,8 +106,9 @@ pub fn taken_alone<M: Mix>()
 /// the table may grow. `Again` names the table that the bind then attached behind that one, or found there
 /// as its future. For `Busy` and `NoTable` it then loaded that future as none. Before, for `Busy`, it had
 /// found that another table is the current one, and that by the count the full one isn't due to grow; for
-/// `NoTable`, that each slot is taken, by each of its operations on the state of one, or each run of pages in its turn, for the size that is wanted: twice the full
-/// table's where that is due to grow by the count, and else its own, where it is the current one.
+/// `NoTable`, that each slot is taken, by each of its operations on the state of one, or each run of pages
+/// in its turn, by a page that it hadn't taken itself, for the size that is wanted: twice the full table's
+/// where that is due to grow by the count, and else its own, where it is the current one.
 ///
 /// A `Work` that was answered `Elsewhere` found the work lock taken. Any other one took it, looked for
 /// the last table from the current one on and chose by its shape and by the count what is due:

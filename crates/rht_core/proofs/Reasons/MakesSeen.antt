@@ -5,6 +5,7 @@ use Rattle.std.proofs.Common.{◌≡◌, ◌≢◌, ℕ, ◌+◌, ◌<◌, ◌�
 use Rattle.std.specs.Prelude.{Option, ◌==◌, nat_le, nat_lt}
 use Rattle.std.specs.List.{AllByRecursion, Any}
 use Rattle.std.proofs.lemmas.Bool.{cases_lt, cond_both, eqb-false, leb-false, ltb-false}
+use Rattle.std.proofs.lemmas.List.{append-nil}
 use Rattle.std.proofs.lemmas.List.Quantifiers.{Any-push}
 use Rattle.rht_words.specs.declared.machine.Next.{Next}
 use Rattle.rht_words.specs.declared.machine.Next.TheVariants.{Go, Done}
@@ -14,63 +15,82 @@ use Rattle.rht_words.specs.Machines.{Performed}
 use Rattle.rht_words.specs.Operations.{op_place}
 use Rattle.rht_words.specs.Places.{Slot, ShapeWord, StateWord, place_of}
 use Rattle.rht_words.proofs.EachElement.{Any-append_left, AllByRecursion-push}
-use Rattle.rht_arena.specs.RunLaws.{SeesRunTaken, SeesNextRun, AreRunsSeenInTurn}
-use Rattle.rht_arena.specs.TakeRun.{TakeRunModel, take_run_new, take_run_after, run_length, first_run, IsTakeRunAtIn}
+use Rattle.rht_words.proofs.MachineRuns.{performed}
+use Rattle.rht_words.proofs.PlacesApart.{parts_in_order}
+use Rattle.rht_arena.specs.RunLaws.{page_place}
+use Rattle.rht_arena.specs.TakeRun.{TakeRunModel, take_run_new, take_run_plan, take_run_after, run_length, first_run, IsTakeRunAtIn}
 use Rattle.rht_arena.proofs.RunsSeen.{next_unseen, GoesOn, Went, goes_on_in}
 use Rattle.rht_nest.specs.Make.{make_plan_at, make_after_at, made_pages, made_shape, run_taken, run_started, slot_seen, IsMakeAtIn}
 use Rattle.rht_nest.specs.MakeLaws.{StoresInSlot, SeesSlotTaken}
 use Rattle.rht_nest.specs.declared.make.MakeAt.{MakeAt}
 use Rattle.rht_nest.specs.declared.make.MakeAt.TheVariants as at
 use Rattle.rht_nest.proofs.MakesStay.{made_pages-some}
-use Rattle.rht_core.specs.ResizeCauses.{FindsSlotsTaken, AreSlotsTaken}
+use Rattle.rht_core.specs.ResizeCauses.{FindsSlotsTaken, AreSlotsTaken, SeesRunLost, AreRunsTaken}
+use Rattle.rht_core.proofs.Reasons.PagesTaken.{none_from, TakesNoneFrom, off_map_takes_none, none_later, none_took, StandsFrom, PassesIn, passes_in}
 
 module _ (g : Geometry) (exponent : ℕ) where
   abbrev pages : ℕ
   pages = made_pages exponent
 
-  -- the runs from one up to this one were seen taken in their turn
-  abbrev pub AreRunsSeenTo : ℕ → ℕ → List Performed → Type 0
-  AreRunsSeenTo place next [] = next ≡ place
-  AreRunsSeenTo place next (step ∷ steps) = SeesNextRun g pages next step (λ first. AreRunsSeenTo place first steps)
+  -- the runs from one up to this one were seen taken in their turn, behind these operations
+  abbrev pub AreRunsTakenTo : ℕ → ℕ → List Performed → List Performed → Type 0
+  AreRunsTakenTo place next before [] = next ≡ place
+  AreRunsTakenTo place next before (step ∷ steps) =
+      let past = before ++ step ∷ [] in
+      AreRunsTakenTo place next past steps
+      ⊎ (SeesRunLost g pages next before step × AreRunsTakenTo place (next + pages) past steps)
 
   -- and stay so
-  seen_to-stays : (place next : ℕ) (steps : List Performed) (step : Performed) → AreRunsSeenTo place next steps
-      → AreRunsSeenTo place next (steps ++ step ∷ [])
-  seen_to-stays place next [] step same = inl same
-  seen_to-stays place next (first ∷ steps) step (inl later) = inl (seen_to-stays place next steps step later)
-  seen_to-stays place next (first ∷ steps) step (inr (here, later)) =
-      inr (here, seen_to-stays place (next + pages) steps step later)
+  taken_to-stays : (place next : ℕ) (before steps : List Performed) (step : Performed) → AreRunsTakenTo place next before steps
+      → AreRunsTakenTo place next before (steps ++ step ∷ [])
+  taken_to-stays place next before [] step same = inl same
+  taken_to-stays place next before (first ∷ steps) step (inl later) =
+      inl (taken_to-stays place next (before ++ first ∷ []) steps step later)
+  taken_to-stays place next before (first ∷ steps) step (inr (here, later)) =
+      inr (here, taken_to-stays place (next + pages) (before ++ first ∷ []) steps step later)
 
   -- and this one too, where the next operation sees it
-  seen_to-sees : (place next : ℕ) (steps : List Performed) (step : Performed) → SeesRunTaken g pages place step
-      → AreRunsSeenTo place next steps → AreRunsSeenTo (place + pages) next (steps ++ step ∷ [])
-  seen_to-sees place next [] step sees same = inr (subst (λ p. SeesRunTaken g pages p step) (sym same) sees, ap (λ p. p + pages) same)
-  seen_to-sees place next (first ∷ steps) step sees (inl later) = inl (seen_to-sees place next steps step sees later)
-  seen_to-sees place next (first ∷ steps) step sees (inr (here, later)) =
-      inr (here, seen_to-sees place (next + pages) steps step sees later)
+  taken_to-sees : (place next : ℕ) (before steps : List Performed) (step : Performed)
+      → SeesRunLost g pages place (before ++ steps) step
+      → AreRunsTakenTo place next before steps → AreRunsTakenTo (place + pages) next before (steps ++ step ∷ [])
+  taken_to-sees place next before [] step sees same =
+      let here = subst (λ b. SeesRunLost g pages place b step) (append-nil before) sees in
+      inr (subst (λ p. SeesRunLost g pages p before step) (sym same) here, ap (λ p. p + pages) same)
+  taken_to-sees place next before (first ∷ steps) step sees (inl later) =
+      inl (taken_to-sees place next (before ++ first ∷ []) steps step
+      (subst (λ b. SeesRunLost g pages place b step) (sym (append_assoc before (first ∷ []) steps)) sees) later)
+  taken_to-sees place next before (first ∷ steps) step sees (inr (here, later)) =
+      inr (
+        here,
+        taken_to-sees place (next + pages) (before ++ first ∷ []) steps step
+            (subst (λ b. SeesRunLost g pages place b step) (sym (append_assoc before (first ∷ []) steps)) sees) later,
+      )
 
   -- where fewer pages are left behind them, each run was seen
-  seen_to-each : (place next : ℕ) (steps : List Performed) → g.pages < place + pages → AreRunsSeenTo place next steps
-      → AreRunsSeenInTurn g pages next steps
-  seen_to-each place next [] past same = subst (λ p. g.pages < p + pages) (sym same) past
-  seen_to-each place next (step ∷ steps) past (inl later) = inl (seen_to-each place next steps past later)
-  seen_to-each place next (step ∷ steps) past (inr (here, later)) =
-      inr (here, seen_to-each place (next + pages) steps past later)
+  taken_to-each : (place next : ℕ) (before steps : List Performed) → g.pages < place + pages
+      → AreRunsTakenTo place next before steps → AreRunsTaken g pages next before steps
+  taken_to-each place next before [] past same = subst (λ p. g.pages < p + pages) (sym same) past
+  taken_to-each place next before (step ∷ steps) past (inl later) =
+      inl (taken_to-each place next (before ++ step ∷ []) steps past later)
+  taken_to-each place next before (step ∷ steps) past (inr (here, later)) =
+      inr (here, taken_to-each place (next + pages) (before ++ step ∷ []) steps past later)
 
   -- with none seen yet
-  seen_to-begins : (steps : List Performed) → AreRunsSeenTo 0 0 steps
-  seen_to-begins [] = refl
-  seen_to-begins (step ∷ steps) = inl (seen_to-begins steps)
+  taken_to-begins : (before steps : List Performed) → AreRunsTakenTo 0 0 before steps
+  taken_to-begins before [] = refl
+  taken_to-begins before (step ∷ steps) = inl (taken_to-begins (before ++ step ∷ []) steps)
 
   -- runs that were seen taken in their turn have been, whatever comes behind
-  pub in_turn-stays : (next : ℕ) (steps : List Performed) (step : Performed) → AreRunsSeenInTurn g pages next steps
-      → AreRunsSeenInTurn g pages next (steps ++ step ∷ [])
-  in_turn-stays next [] step seen = inl seen
-  in_turn-stays next (first ∷ steps) step (inl later) = inl (in_turn-stays next steps step later)
-  in_turn-stays next (first ∷ steps) step (inr (here, later)) = inr (here, in_turn-stays (next + pages) steps step later)
+  pub runs_taken-stay : (next : ℕ) (before steps : List Performed) (step : Performed) → AreRunsTaken g pages next before steps
+      → AreRunsTaken g pages next before (steps ++ step ∷ [])
+  runs_taken-stay next before [] step seen = inl seen
+  runs_taken-stay next before (first ∷ steps) step (inl later) =
+      inl (runs_taken-stay next (before ++ first ∷ []) steps step later)
+  runs_taken-stay next before (first ∷ steps) step (inr (here, later)) =
+      inr (here, runs_taken-stay (next + pages) (before ++ first ∷ []) steps step later)
 
   abbrev pub SawEachRun : List Performed → Type 0
-  SawEachRun steps = AreRunsSeenInTurn g pages 0 steps
+  SawEachRun steps = AreRunsTaken g pages 0 [] steps
 
   -- the last operation on the shape of this slot stored this one
   pub record IsShaped (slot shape : ℕ) (steps : List Performed) : Type 0 where
@@ -104,8 +124,10 @@ module _ (g : Geometry) (exponent : ℕ) where
 
   -- what the making has seen in a state
   abbrev pub SawMaking : MakeAt → List Performed → Type 0
-  SawMaking (at.Slot slot) steps = SawSlotsBelow slot steps × AllByRecursion (FindsSlotsTaken g) steps
-  SawMaking (at.Taking slot take) steps = AreRunsSeenTo (next_unseen pages take.at) 0 steps
+  SawMaking (at.Slot slot) steps =
+      SawSlotsBelow slot steps × (AllByRecursion (FindsSlotsTaken g) steps × AllByRecursion (TakesNoneFrom g 0) steps)
+  SawMaking (at.Taking slot take) steps =
+      AllByRecursion (TakesNoneFrom g (none_from pages take.at)) steps × AreRunsTakenTo (next_unseen pages take.at) 0 [] steps
   SawMaking (at.SlotBack slot) steps = SawEachRun steps
   SawMaking (at.NextSerial slot page) steps = Unit {0}
   SawMaking (at.Shape slot page serial) steps = Unit {0}
@@ -120,33 +142,38 @@ module _ (g : Geometry) (exponent : ℕ) where
   SawMade (state, Done (Some made)) steps = (page : ℕ) × IsShaped made.0 (made_shape exponent page) steps
 
   -- it begins with nothing seen
-  pub saw_nothing : (steps : List Performed) → AllByRecursion (FindsSlotsTaken g) steps → SawMaking (at.Slot 0) steps
-  saw_nothing steps none = (λ other low. absurd (omega (arith, low)), none)
-
-  -- an operation sees the next run or stays at it
-  went-to : (stand end : ℕ) (steps : List Performed) (step : Performed) → Went g pages stand end step
-      → AreRunsSeenTo stand 0 steps → AreRunsSeenTo end 0 (steps ++ step ∷ [])
-  went-to stand end steps step (inl stays) seen =
-      subst (λ p. AreRunsSeenTo p 0 (steps ++ step ∷ [])) (sym stays.0) (seen_to-stays stand 0 steps step seen)
-  went-to stand end steps step (inr goes) seen =
-      subst (λ p. AreRunsSeenTo p 0 (steps ++ step ∷ [])) (sym goes.0) (seen_to-sees stand 0 steps step goes.1 seen)
+  pub saw_nothing : (steps : List Performed) → AllByRecursion (FindsSlotsTaken g) steps → AllByRecursion (TakesNoneFrom g 0) steps
+      → SawMaking (at.Slot 0) steps
+  saw_nothing steps finds takes = (λ other low. absurd (omega (arith, low)), (finds, takes))
 
   -- with a slot a run is looked for from the first one on, or there are too few pages
-  started-saw : (slot : ℕ) (steps : List Performed) → SawMaking (run_started slot (take_run_new g pages)) steps
-  started-saw slot steps =
+  started-saw : (slot : ℕ) (steps : List Performed) → AllByRecursion (TakesNoneFrom g 0) steps
+      → SawMaking (run_started slot (take_run_new g pages)) steps
+  started-saw slot steps none =
       let some = made_pages-some exponent in
       cond_both (nat_le (run_length pages) g.pages) (starts.Running (first_run g (run_length pages))) (starts.Done None)
       (λ start. SawMaking (run_started slot start) steps)
-      (λ t. seen_to-begins steps)
+      (λ t. (none, taken_to-begins [] steps))
       (λ f.
       let few : g.pages < run_length pages = leb-false (run_length pages) g.pages f in
-      seen_to-each 0 0 steps (omega (arith, few, some)) (seen_to-begins steps))
+      taken_to-each 0 0 [] steps (omega (arith, few, some)) (taken_to-begins [] steps))
+
+  -- the exchange of a slot's state takes no page
+  slot_takes_none : (slot : ℕ) (step : Performed) → step.op ≡ make_plan_at g exponent 0 (at.Slot slot) → slot < 8
+      → TakesNoneFrom g 0 step
+  slot_takes_none slot step is slot_in =
+      off_map_takes_none g step
+      (λ page within same.
+      let here : place_of g (Slot slot StateWord) ≡ page_place g page = sym (ap op_place is) ∙ same in
+      let order = parts_in_order g in
+      absurd (omega (arith, here, slot_in, order.page_map)))
 
   slot-saw : (slot : ℕ) (steps : List Performed) (step : Performed) → step.op ≡ make_plan_at g exponent 0 (at.Slot slot)
       → slot < 8 → SawMaking (at.Slot slot) steps → SawMade (slot_seen g exponent slot step.old) (steps ++ step ∷ [])
   slot-saw slot steps step is slot_in saw =
       let all = steps ++ step ∷ [] in
-      cond_both (step.old == 0) _ _ (λ next. SawMade next all) (λ t. started-saw slot all)
+      let takes = AllByRecursion-push (TakesNoneFrom g 0) steps step saw.1.1 (slot_takes_none slot step is slot_in) in
+      cond_both (step.old == 0) _ _ (λ next. SawMade next all) (λ t. started-saw slot all takes)
       (λ f.
       let here : SeesSlotTaken g slot step = record { looks = is; taken = eqb-false step.old 0 f } in
       let further : SawSlotsBelow (slot + 1) all = λ other low. elim (cases_lt other slot) [
@@ -159,20 +186,53 @@ module _ (g : Geometry) (exponent : ℕ) where
       let places : place_of g (Slot slot StateWord) ≡ place_of g (Slot other StateWord) = sym (ap op_place is) ∙ place in
       let same : slot ≡ other = omega (arith, places) in
       subst (λ s. SeesSlotTaken g s step) same here in
-      let only = AllByRecursion-push (FindsSlotsTaken g) steps step saw.1 finds in
-      cond_both (nat_lt (slot + 1) 8) _ _ (λ next. SawMade next all) (λ t. (further, only))
+      let only = AllByRecursion-push (FindsSlotsTaken g) steps step saw.1.0 finds in
+      cond_both (nat_lt (slot + 1) 8) _ _ (λ next. SawMade next all) (λ t. (further, (only, takes)))
       (λ last.
       let end : 8 ≤ slot + 1 = ltb-false (slot + 1) 8 last in
       inl (record { seen = λ other high. further other (omega (arith, high, end)); only = only })))
 
-  module _ (slot stand : ℕ) (steps : List Performed) (step : Performed) (left : TakeRunModel) where
-    taken-saw : (next : Next (Option ℕ)) → GoesOn g pages stand step (left, next) → AreRunsSeenTo stand 0 steps
-        → SawMaking (run_taken slot left next) (steps ++ step ∷ [])
-    taken-saw Go on saw =
-        subst (λ place. AreRunsSeenTo place 0 (steps ++ step ∷ [])) (sym on.stands) (went-to stand on.end steps step on.went saw)
-    taken-saw (Done None) on saw =
-        seen_to-each on.end 0 (steps ++ step ∷ []) on.stands (went-to stand on.end steps step on.went saw)
-    taken-saw (Done (Some page)) on saw = tt
+  -- an operation of the taking of a run
+  module _ (slot : ℕ) (take : TakeRunModel) (old : ℕ) (steps : List Performed) where
+    abbrev stand : ℕ
+    stand = next_unseen pages take.at
+
+    abbrev step : Performed
+    step = performed take_run_plan take_run_after take old
+
+    abbrev done : List Performed
+    done = steps ++ step ∷ []
+
+    -- it sees the run at which the machine stands or stays at it
+    went-to : (end : ℕ) → Went g pages stand end step → PassesIn g pages take old → SawMaking (at.Taking slot take) steps
+        → AreRunsTakenTo end 0 [] done
+    went-to end (inl stays) passes saw =
+        subst (λ p. AreRunsTakenTo p 0 [] done) (sym stays.0) (taken_to-stays stand 0 [] steps step saw.1)
+    went-to end (inr (is, sees)) passes saw =
+        let ahead = passes.ahead sees in
+        let lost : SeesRunLost g pages stand steps step = record {
+          sees = sees;
+          untaken = none_took g (none_from pages take.at) sees.page steps ahead.0 ahead.1 saw.0;
+        } in
+        subst (λ p. AreRunsTakenTo p 0 [] done) (sym is) (taken_to-sees stand 0 [] steps step lost saw.1)
+
+    -- up to where it stands then it may have taken pages
+    none_taken : (passes : PassesIn g pages take old) → SawMaking (at.Taking slot take) steps
+        → AllByRecursion (TakesNoneFrom g passes.from) done
+    none_taken passes saw =
+        AllByRecursion-push (TakesNoneFrom g passes.from) steps step
+        (none_later g (none_from pages take.at) passes.from steps passes.before saw.0) passes.takes
+
+    taken-saw : (r : TakeRunModel × Next (Option ℕ)) → GoesOn g pages stand step r → (passes : PassesIn g pages take old)
+        → StandsFrom pages passes.from r → SawMaking (at.Taking slot take) steps
+        → SawMaking (run_taken slot r.0 r.1) done
+    taken-saw (left, Go) on passes stands saw = (
+      none_later g passes.from (none_from pages left.at) done stands (none_taken passes saw),
+      subst (λ place. AreRunsTakenTo place 0 [] done) (sym on.stands) (went-to on.end on.went passes saw),
+    )
+    taken-saw (left, Done None) on passes stands saw =
+        taken_to-each on.end 0 [] done on.stands (went-to on.end on.went passes saw)
+    taken-saw (left, Done (Some page)) on passes stands saw = tt
 
   -- each operation sees more
   pub make-saw : (seed : ℕ) (state : MakeAt) (steps : List Performed) (old : ℕ) → IsMakeAtIn g pages state
@@ -182,12 +242,11 @@ module _ (g : Geometry) (exponent : ℕ) where
       slot-saw slot steps (record { op = make_plan_at g exponent seed (at.Slot slot); old = old }) refl here saw
   make-saw seed (at.Taking slot take) steps old here saw =
       let range = subst (λ p. IsTakeRunAtIn g p take.at) here.pages_same here.take_in.at_in in
-      taken-saw slot (next_unseen pages take.at) steps
-      (record { op = make_plan_at g exponent seed (at.Taking slot take); old = old })
-      (take_run_after take old).0 (take_run_after take old).1
-      (goes_on_in g pages take old here.take_in.geometry_same here.pages_same range) saw
+      let passes = passes_in g pages take old here.take_in.geometry_same here.pages_same range in
+      taken-saw slot take old steps (take_run_after take old)
+      (goes_on_in g pages take old here.take_in.geometry_same here.pages_same range) passes passes.stands saw
   make-saw seed (at.SlotBack slot) steps old here saw =
-      inr (in_turn-stays 0 steps (record { op = make_plan_at g exponent seed (at.SlotBack slot); old = old }) saw)
+      inr (runs_taken-stay 0 [] steps (record { op = make_plan_at g exponent seed (at.SlotBack slot); old = old }) saw)
   make-saw seed (at.NextSerial slot page) steps old here saw = tt
   make-saw seed (at.Shape slot page serial) steps old here saw =
       IsShaped-new slot (made_shape exponent page) steps

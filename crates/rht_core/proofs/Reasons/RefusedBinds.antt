@@ -20,7 +20,6 @@ use Rattle.rht_words.specs.declared.machine.Next.TheVariants.{Go, Done}
 use Rattle.rht_words.specs.Places.{CurrentTable, PortCount, Slot, FutureWord, place_of}
 use Rattle.rht_words.specs.Links.{slot_of, table_of}
 use Rattle.rht_words.specs.Shapes.{unpacked, size_of}
-use Rattle.rht_words.specs.Operations.{op_place}
 use Rattle.rht_words.proofs.EachElement.{Any-append_left, AllByRecursion-push}
 use Rattle.rht_policy.specs.Thresholds.{is_above_75, is_above_100}
 use Rattle.rht_nest.specs.Make.{MakeModel, made_pages, make_plan_at, make_after_at, IsMakeIn}
@@ -38,7 +37,7 @@ use Rattle.rht_core.specs.ResizeCauses.{Loaded, Attaches, FindsFuture, wanted_si
 use Rattle.rht_core.proofs.Reasons.TablesWalked.{nodes_behind, LastWalked-push}
 use Rattle.rht_core.proofs.Reasons.KeyLoads.{no_key-before, no_key-make}
 use Rattle.rht_core.proofs.Reasons.ChainsCounted.{SawLongChain-push}
-use Rattle.rht_core.proofs.Reasons.UntriedSlots.{IsUntried, untried-finds}
+use Rattle.rht_core.proofs.Reasons.UntriedSlots.{IsUntried, untried-finds, untried-takes, on_load}
 use Rattle.rht_core.proofs.Reasons.MakesSeen.{SawMade, SawEachRun, saw_nothing, make-saw}
 use Rattle.rht_core.proofs.Theory.Steps.{by_test}
 
@@ -282,15 +281,16 @@ module _ (env : Env) (words_at : ℕ → List ℕ) where
       → (is_due growing.shape did.old ≡ true) ⊎ (root ≡ growing.table)
       → AllByRecursion (IsUntried g) behind × SawRoot growing root behind
       → SawToMake growing size (exponent_made size) (makes.Slot 0, Go) (behind ++ did ∷ [])
-  begins-making growing root size behind did is wanted grows (untried, saw) = record {
-    why = SawWhy-push growing.why growing.shape behind did (no_key-count did is) saw.why;
-    wanted = wanted-saw growing.shape growing.table root size behind did is wanted grows saw.current;
-    exponent_is = refl;
-    made =
-        saw_nothing g (exponent_made size) (map performed_of (behind ++ did ∷ []))
-        (untried-finds g (behind ++ did ∷ []) (AllByRecursion-push (IsUntried g) behind did untried
-        (λ slot l same. let here = sym (ap op_place is) ∙ same in absurd (omega (arith, here)))));
-  }
+  begins-making growing root size behind did is wanted grows (untried, saw) =
+      let all = behind ++ did ∷ [] in
+      let here = on_load g did _ is (λ slot l same. absurd (omega (arith, same))) in
+      let each = AllByRecursion-push (IsUntried g) behind did untried here in
+      record {
+        why = SawWhy-push growing.why growing.shape behind did (no_key-count did is) saw.why;
+        wanted = wanted-saw growing.shape growing.table root size behind did is wanted grows saw.current;
+        exponent_is = refl;
+        made = saw_nothing g (exponent_made size) (map performed_of all) (untried-finds g all each) (untried-takes g all each);
+      }
 
   pub other-saw : (growing : Growing) (root : ℕ) (behind : List Did) (did : Did)
       → did.op ≡ Load (place_of g PortCount) → root ≢ growing.table → is_due growing.shape did.old ≡ false

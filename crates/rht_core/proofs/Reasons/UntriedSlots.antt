@@ -1,7 +1,8 @@
--- From the load of the last table's shape on, and up to the making of a table, no operation of a bind is on the state of a slot.
+-- From the load of the last table's shape on, and up to the making of a table, no operation of a bind is on the state of a slot, and none
+-- takes a page.
 --
 -- It is kept from that load on, of each operation behind which no shape is loaded. What comes before the load doesn't matter: a bind
--- that begins anew may have taken a slot for a table that it attached, or gave back.
+-- that begins anew may have taken a slot and pages for a table that it attached, or gave back.
 use Rattle.std.proofs.Common.{◌≡◌, ◌≢◌, ℕ, ◌+◌, ◌<◌, ◌≤◌, ◌-◌, ◌==◌, Bool, cond, List, [], ◌∷◌, ◌++◌, append_assoc, map, refl, sym, ap, ◌∙◌, subst, arith}
 use Rattle.std.specs.Prelude.{Option, Some, None}
 use Rattle.std.specs.List.{AllByRecursion}
@@ -48,18 +49,25 @@ use Rattle.rht_core.specs.Seen.{IsNoShapeLoad, LastWalked}
 use Rattle.rht_core.specs.ResizeCauses.{FindsSlotsTaken}
 use Rattle.rht_core.proofs.Theory.Steps.{by_test}
 use Rattle.rht_core.proofs.Reasons.TablesWalked.{nodes_behind}
+use Rattle.rht_core.proofs.Reasons.PagesTaken.{TakesNoneFrom, load_takes_none, off_map_takes_none}
 
 module _ (g : Geometry) where
-  -- the operation isn't on the state of a slot
-  abbrev pub IsUntried : Did → Type 0
-  IsUntried did = (slot : ℕ) → slot < 8 → op_place did.op ≢ place_of g (Slot slot StateWord)
+  -- the operation isn't on the state of a slot, and takes no page
+  pub record IsUntried (did : Did) : Type 0 where
+    pub slots : (slot : ℕ) → slot < 8 → op_place did.op ≢ place_of g (Slot slot StateWord)
+    pub pages : TakesNoneFrom g 0 (performed_of did)
 
   -- so it finds what it finds of none
   pub untried-finds : (steps : List Did) → AllByRecursion IsUntried steps
       → AllByRecursion (FindsSlotsTaken g) (map performed_of steps)
   untried-finds [] untried = tt
   untried-finds (did ∷ steps) untried =
-      ((λ slot l place. absurd (untried.0 slot l place)), untried-finds steps untried.1)
+      ((λ slot l place. absurd (untried.0.slots slot l place)), untried-finds steps untried.1)
+
+  pub untried-takes : (steps : List Did) → AllByRecursion IsUntried steps
+      → AllByRecursion (TakesNoneFrom g 0) (map performed_of steps)
+  untried-takes [] untried = tt
+  untried-takes (did ∷ steps) untried = (untried.0.pages, untried-takes steps untried.1)
 
   -- nor is any behind the last load of a shape
   abbrev pub UntriedSince : List Did → Type 0
@@ -100,22 +108,36 @@ module _ (g : Geometry) where
 
   -- ---- operations
 
-  on_place : (did : Did) (op : Op) → did.op ≡ op → ((slot : ℕ) → slot < 8 → op_place op ≢ place_of g (Slot slot StateWord))
-      → IsUntried did
-  on_place did op is apart slot l same = apart slot l (sym (ap op_place is) ∙ same)
+  -- a load of another word
+  pub on_load : (did : Did) (place : ℕ) → did.op ≡ Load place
+      → ((slot : ℕ) → slot < 8 → place ≢ place_of g (Slot slot StateWord)) → IsUntried did
+  on_load did place is apart = record {
+    slots = λ slot l same. apart slot l (sym (ap op_place is) ∙ same);
+    pages = λ page low within takes. load_takes_none g place page (performed_of did) is takes;
+  }
 
-  -- on a place behind the slots
-  on_behind : (did : Did) (op : Op) → did.op ≡ op → 280 ≤ op_place op → IsUntried did
-  on_behind did op is high = on_place did op is (λ slot l same. absurd (omega (arith, l, same, high)))
+  -- of a place behind the slots
+  on_behind : (did : Did) (place : ℕ) → did.op ≡ Load place → 280 ≤ place → IsUntried did
+  on_behind did place is high = on_load did place is (λ slot l same. absurd (omega (arith, l, same, high)))
 
-  bucket_behind : (place : ℕ) → IsBucketPlace g place → 280 ≤ place
-  bucket_behind place is =
+  -- or an operation on the word of a bucket
+  on_bucket : (did : Did) (op : Op) → did.op ≡ op → IsBucketPlace g (op_place op) → IsUntried did
+  on_bucket did op is there =
       let order = parts_in_order g in
-      omega (arith, is.0, order.page_map, order.nodes, order.pages)
+      record {
+        slots = λ slot l same.
+            let here = sym (ap op_place is) ∙ same in
+            absurd (omega (arith, l, here, there.0, order.page_map, order.nodes, order.pages));
+        pages =
+            off_map_takes_none g (performed_of did)
+            (λ page within same.
+            let here = sym (ap op_place is) ∙ same in
+            absurd (omega (arith, within, here, there.0, order.nodes, order.pages)));
+      }
 
   on_lock : (did : Did) (place : ℕ) (state : LockAt) → IsBucketPlace g place → did.op ≡ lock_plan_at place state → IsUntried did
-  on_lock did place locks.Word there is = on_behind did _ is (bucket_behind place there)
-  on_lock did place (locks.Exchange word) there is = on_behind did _ is (bucket_behind place there)
+  on_lock did place locks.Word there is = on_bucket did _ is there
+  on_lock did place (locks.Exchange word) there is = on_bucket did _ is there
 
   on_walk : (did : Did) (h : Geometry) (state : LockedWalkAt) → did.op ≡ walk_plan_at h state → IsUntried did
   on_walk did h (walks.Key node) is = on_behind did _ is (omega (arith, nodes_behind g h))
@@ -253,7 +275,7 @@ module _ (env : Env) where
           → UntriedSince g (steps ++ did ∷ [])
       go locates.Shape is since = UntriedSince-new g steps did locate.table l is
       go (locates.Seed shape) is since =
-          UntriedSince-push g steps did (on_place g did _ is (λ slot high same. absurd (omega (arith, same)))) since
+          UntriedSince-push g steps did (on_load g did _ is (λ slot high same. absurd (omega (arith, same)))) since
 
   pub untried-saw : (mix : ℕ → ℕ → ℕ → ℕ) (port : ℕ) (once : Bool) (state : BindAt) (steps : List Did) (did : Did)
       → IsBindAtIn env state → did.op ≡ plan_at env state → SawUntried state steps
@@ -265,17 +287,17 @@ module _ (env : Env) where
       (UntriedSince-push g steps did (on_probe g did probe.at within.probe_in.at_in is) since)
   untried-saw mix port once (at.Future claimed length) steps did within is since =
       any-untried (after_at mix env port once (at.Future claimed length) did.old).0 (steps ++ did ∷ [])
-      (UntriedSince-push g steps did (on_place g did _ is (λ slot l same. absurd (omega (arith, same)))) since)
+      (UntriedSince-push g steps did (on_load g did _ is (λ slot l same. absurd (omega (arith, same)))) since)
   untried-saw mix port once (at.Count claimed) steps did within is since =
       any-untried (after_at mix env port once (at.Count claimed) did.old).0 (steps ++ did ∷ [])
-      (UntriedSince-push g steps did (on_place g did _ is (λ slot l same. absurd (omega (arith, same)))) since)
+      (UntriedSince-push g steps did (on_load g did _ is (λ slot l same. absurd (omega (arith, same)))) since)
   untried-saw mix port once (at.UnlockingFull growing unlock) steps did within is since =
-      UntriedSince-push g steps did (on_behind g did _ is (bucket_behind g unlock.place within.unlock_in.place_in)) since
+      UntriedSince-push g steps did (on_bucket g did _ is within.unlock_in.place_in) since
   untried-saw mix port once (at.Root growing) steps did within is since =
-      UntriedSince-push g steps did (on_place g did _ is (λ slot l same. absurd (omega (arith, same)))) since
+      UntriedSince-push g steps did (on_load g did _ is (λ slot l same. absurd (omega (arith, same)))) since
   untried-saw mix port once (at.GrowthCount growing root) steps did within is since =
       any-untried (after_at mix env port once (at.GrowthCount growing root) did.old).0 (steps ++ did ∷ [])
-      (UntriedSince-push g steps did (on_place g did _ is (λ slot l same. absurd (omega (arith, same)))) since)
+      (UntriedSince-push g steps did (on_load g did _ is (λ slot l same. absurd (omega (arith, same)))) since)
   untried-saw mix port once (at.Filling new) steps did within is since =
       filled-untried (new_node_after new did.old).0 (new_node_after new did.old).1 (steps ++ did ∷ [])
   untried-saw mix port once (at.CurrentTable attempt) steps did within is since = tt

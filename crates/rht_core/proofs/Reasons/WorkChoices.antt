@@ -70,7 +70,7 @@ use Rattle.rht_core.proofs.Machines.WorkMachine.{known_rehash, known_place, know
 use Rattle.rht_core.proofs.Tracing.TracedJobs.{Performs}
 use Rattle.rht_core.proofs.Tracing.LoneCalls.{Spares}
 use Rattle.rht_core.proofs.Reasons.AttachedTables.{IsNoFutureExchange, IsNoAttach, no_attach, lock-none, make-none, unmake-none}
-use Rattle.rht_core.proofs.Reasons.MakesSeen.{SawMaking, SawMade, SawEachRun, IsShaped, saw_nothing, in_turn-stays, make-saw}
+use Rattle.rht_core.proofs.Reasons.MakesSeen.{SawMaking, SawMade, SawEachRun, IsShaped, saw_nothing, runs_taken-stay, make-saw}
 use Rattle.rht_core.proofs.Reasons.MadeSizes.{due_size, size_of-made}
 
 module _ (g : Geometry) where
@@ -427,7 +427,7 @@ module _ (env : Env) where
       size_in = subst IsOfASize chosen (due_size env did.old last.shape (root == last.table) saw.flat);
       none = tt;
     };
-    seen = saw_nothing env.geometry (exponent_made size) [] tt;
+    seen = saw_nothing env.geometry (exponent_made size) [] tt tt;
   }
   begun-saw root last Later steps did is chosen saw = record {
     choice = Later;
@@ -1055,7 +1055,7 @@ module _ (env : Env) where
           | inl slots ↦ inl (subst (AreSlotsTaken env.geometry) (sym more)
               (slots_taken-stay (map performed_of behind) (performed_of did) (ap op_place is) slots))
           | inr runs ↦ inr (subst (SawEachRun env.geometry (exponent_made size)) (sym more)
-              (in_turn-stays env.geometry (exponent_made size) 0 (map performed_of behind) (performed_of did) runs))
+              (runs_taken-stay env.geometry (exponent_made size) 0 [] (map performed_of behind) (performed_of did) runs))
         ];
       }
 
