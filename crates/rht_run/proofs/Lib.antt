@@ -10,6 +10,8 @@ pub mod SeatMoves
 pub mod Performed
 -- from one operation to a call, and what a finished call was answered
 pub mod CallSteps
+-- why a finished call was answered as it was
+pub mod CallCauses
 -- how a table is opened
 pub mod OpenedTables
 -- how a table is closed

@@ -6,3 +6,5 @@ pub mod Spent
 pub mod Rule
 -- what clauses say of a table and its passes
 pub mod Passes
+-- why calls were answered as they were
+pub mod Caused
