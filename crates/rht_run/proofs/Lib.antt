@@ -12,6 +12,8 @@ pub mod Performed
 pub mod CallSteps
 -- why a finished call was answered as it was
 pub mod CallCauses
+-- the calls of a command
+pub mod ServedCommands
 -- how a table is opened
 pub mod OpenedTables
 -- how a table is closed

@@ -8,3 +8,5 @@ pub mod Rule
 pub mod Passes
 -- why calls were answered as they were
 pub mod Caused
+-- what the calls of a command leave
+pub mod Served
