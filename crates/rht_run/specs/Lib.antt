@@ -6,3 +6,9 @@ pub mod Spent
 pub mod Rule
 -- what clauses say of a table and its passes
 pub mod Passes
+-- a call that is driven from outside its pass
+pub mod Rides
+-- the states of the machines that hold a piece
+pub mod Frames
+-- pieces that are driven part by part
+pub mod Pieces

@@ -11,6 +11,7 @@ ghost use Rattle.rht_run.specs.Rule.{MayBegin};
 ghost use Rattle.rht_run.specs.Passes.{IsPassOf, IsCalling, HasCalled, Turned, HasGone};
 
 use crate::pass::Pass;
+use crate::ride::clear_rooms;
 use crate::table::Table;
 use rht_model::{Call, Reply};
 use rht_policy::Mix;
@@ -64,7 +65,8 @@ impl<M: Mix> Table<M> {
         ensures called { HasCalled M.mix_of self.now (Find port) result pass.old pass.new }
         ensures reply { IsFindReply result }
     {
-        self.call(rt, pass, Call::Find { port })
+        clear_rooms(&mut pass.local);
+        self.drive_find::<R, Brand>(rt, &mut pass.seat, pass.number, port)
     }
     /// Binds a port to an owner, and is tried once alone: it may answer `Again`. The kernel's
     /// counterparts are `rhashtable_lookup_insert_key` and `rhltable_insert_key`.
@@ -75,7 +77,8 @@ impl<M: Mix> Table<M> {
         ensures reply { IsBindReply true result }
     {
         let once = true;
-        self.call(rt, pass, Call::Bind { port, owner, once })
+        clear_rooms(&mut pass.local);
+        self.drive_bind::<R, Brand>(rt, &mut pass.seat, pass.number, port, owner, once)
     }
 
     /// Binds a port to an owner, and tries again where `bind_once` answers `Again`.
@@ -86,7 +89,8 @@ impl<M: Mix> Table<M> {
         ensures reply { IsBindReply false result }
     {
         let once = false;
-        self.call(rt, pass, Call::Bind { port, owner, once })
+        clear_rooms(&mut pass.local);
+        self.drive_bind::<R, Brand>(rt, &mut pass.seat, pass.number, port, owner, once)
     }
 
     /// Takes one binding of a port to this owner out: `Released`, or `Absent` where there is none.

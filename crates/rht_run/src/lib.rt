@@ -7,12 +7,18 @@
 //! calls promise.
 #![tactic(auto)]
 
+mod binding;
+mod buckets;
 mod calls;
 mod closing;
+mod finding;
 mod layout;
+mod nodes;
 mod opening;
 mod pass;
+mod pieces;
 pub mod plays;
+mod ride;
 mod seats;
 mod steps;
 mod table;
