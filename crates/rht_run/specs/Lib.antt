@@ -12,3 +12,5 @@ pub mod Rides
 pub mod Frames
 -- pieces that are driven part by part
 pub mod Pieces
+-- the way to a port as a piece, and the machines that go it
+pub mod Seeks

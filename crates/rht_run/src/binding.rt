@@ -20,7 +20,7 @@ use rht_chain::Then;
 use rht_model::Reply;
 use rht_nest::{Locate, LocateAt, place_of};
 use rht_policy::{Mix, bucket_of};
-use rht_words::{Port, owner_of, slot_of, table_of, word_of};
+use rht_words::{Env, Port, owner_of, slot_of, table_of, word_of};
 use std::sync::Wait;
 
 impl<M: Mix> Table<M> {
@@ -57,14 +57,14 @@ impl<M: Mix> Table<M> {
             attached: false,
         };
         let at = BindAt::CurrentTable { attempt };
-        let mut table = table_of(self.binding::<K>(seat, number, port, owner, once, at));
+        let mut table = table_of(self.binding::<K>(seat, env, number, port, owner, once, at));
         for _ in 0..u64::MAX {
             let locate = Locate::new(env.geometry, table);
             let at = BindAt::Locating { attempt, locate };
-            let shape = self.binding::<K>(seat, number, port, owner, once, at);
+            let shape = self.binding::<K>(seat, env, number, port, owner, once, at);
             let locate = locate.with(LocateAt::Seed { shape });
             let at = BindAt::Locating { attempt, locate };
-            let seed = self.binding::<K>(seat, number, port, owner, once, at);
+            let seed = self.binding::<K>(seat, env, number, port, owner, once, at);
             let bucket = bucket_of::<M>(port, shape, seed);
             let Some(place) = place_of(env.geometry, shape, bucket) else {
                 let at = bucket_or_no_table(env, port, attempt, table, shape, None);
@@ -102,20 +102,20 @@ impl<M: Mix> Table<M> {
                     return self.rest_of_bind::<R, K>(rt, seat, number, port, owner, once, at);
                 };
                 let at = BindAt::FoundOwner { claimed, found };
-                let other = owner_of(self.binding::<K>(seat, number, port, owner, once, at));
+                let other = owner_of(self.binding::<K>(seat, env, number, port, owner, once, at));
                 let reply = Reply::Exists { owner: other };
                 let at = unlocking(claimed, Then::Answer(reply));
-                self.binding::<K>(seat, number, port, owner, once, at);
+                self.binding::<K>(seat, env, number, port, owner, once, at);
                 let at = giving(env, claimed.attempt.node, reply);
-                self.binding::<K>(seat, number, port, owner, once, at);
+                self.binding::<K>(seat, env, number, port, owner, once, at);
                 return reply;
             }
             let length = probed.seen.length;
             let at = BindAt::Future { claimed, length };
-            let future = slot_of(self.binding::<K>(seat, number, port, owner, once, at));
+            let future = slot_of(self.binding::<K>(seat, env, number, port, owner, once, at));
             if let Some(next) = future {
                 let at = unlocking(claimed, Then::Table(next));
-                self.binding::<K>(seat, number, port, owner, once, at);
+                self.binding::<K>(seat, env, number, port, owner, once, at);
                 table = next;
                 continue;
             }
@@ -124,18 +124,18 @@ impl<M: Mix> Table<M> {
                 return self.rest_of_bind::<R, K>(rt, seat, number, port, owner, once, at);
             };
             let at = BindAt::Count { claimed };
-            let count = self.binding::<K>(seat, number, port, owner, once, at);
+            let count = self.binding::<K>(seat, env, number, port, owner, once, at);
             let at = checked_count(env, claimed, count);
             let BindAt::Link { claimed } = at else {
                 return self.rest_of_bind::<R, K>(rt, seat, number, port, owner, once, at);
             };
             let at = BindAt::Link { claimed };
-            self.binding::<K>(seat, number, port, owner, once, at);
+            self.binding::<K>(seat, env, number, port, owner, once, at);
             let at = BindAt::Raise { claimed };
-            let count = self.binding::<K>(seat, number, port, owner, once, at);
+            let count = self.binding::<K>(seat, env, number, port, owner, once, at);
             let kick = kicks(env, claimed, count);
             let at = publishing(env, claimed, kick);
-            self.binding::<K>(seat, number, port, owner, once, at);
+            self.binding::<K>(seat, env, number, port, owner, once, at);
             return Reply::Bound { kick };
         }
         never(rt);
@@ -167,16 +167,17 @@ impl<M: Mix> Table<M> {
     fn binding<K: Ride>(
         &self,
         seat: &mut Seat<(), SeatView<M>>,
+        env: Env,
         number: u32,
         port: Port,
         owner: u32,
         once: bool,
         at: BindAt,
     ) -> u64
-        requires { IsRiding M.mix_of self.now K.riding (bind_at self.now.env number port owner once at) seat.old }
-        ensures { Stepped M.mix_of self.now K.riding (doing_after M.mix_of (bind_at self.now.env number port owner once at) result) seat.new }
+        requires { IsRiding M.mix_of self.now K.riding (bind_at env number port owner once at) seat.old }
+        ensures { Stepped M.mix_of self.now K.riding (doing_after M.mix_of (bind_at env number port owner once at) result) seat.new }
     {
-        let bind = Bind::<M>::new(self.env, number, port, owner, once).with(at);
+        let bind = Bind::<M>::new(env, number, port, owner, once).with(at);
         self.operate::<K, Reply, Bind<M>, Whole>(seat, &Whole, &bind)
     }
 }

@@ -101,7 +101,8 @@ impl<M: Mix> Table<M> {
         ensures called { HasCalled M.mix_of self.now (Release port owner) result pass.old pass.new }
         ensures reply { IsReleaseReply result }
     {
-        self.call(rt, pass, Call::Release { port, owner })
+        clear_rooms(&mut pass.local);
+        self.drive_release::<R, Brand>(rt, &mut pass.seat, pass.number, port, owner)
     }
 
     /// Puts a new owner in the only one's place, in a table of one owner each: `Rebound`, `Absent`
@@ -121,7 +122,8 @@ impl<M: Mix> Table<M> {
         ensures called { HasCalled M.mix_of self.now (Rebind port owner new) result pass.old pass.new }
         ensures reply { IsRebindReply result }
     {
-        self.call(rt, pass, Call::Rebind { port, owner, new })
+        clear_rooms(&mut pass.local);
+        self.drive_rebind::<R, Brand>(rt, &mut pass.seat, pass.number, port, owner, new)
     }
 
     /// Lists the owners of a port: `Listed`, and they stand in `Pass::owners`. The kernel's

@@ -16,7 +16,7 @@ use rht_find::{Find, FindAt};
 use rht_model::Reply;
 use rht_nest::{Locate, LocateAt, place_of};
 use rht_policy::{Mix, bucket_of};
-use rht_words::{Port, node_of, owner_of, slot_of, table_of, word_of};
+use rht_words::{Env, Port, node_of, owner_of, slot_of, table_of, word_of};
 use std::sync::Wait;
 
 impl<M: Mix> Table<M> {
@@ -40,10 +40,10 @@ impl<M: Mix> Table<M> {
         for _ in 0..u64::MAX {
             let locate = Locate::new(env.geometry, table);
             let at = FindAt::Locating { locate };
-            let shape = self.finding::<K>(seat, number, port, at);
+            let shape = self.finding::<K>(seat, env, number, port, at);
             let locate = locate.with(LocateAt::Seed { shape });
             let at = FindAt::Locating { locate };
-            let seed = self.finding::<K>(seat, number, port, at);
+            let seed = self.finding::<K>(seat, env, number, port, at);
             let bucket = bucket_of::<M>(port, shape, seed);
             let Some(place) = place_of(env.geometry, shape, bucket) else {
                 return Reply::Missing;
@@ -67,7 +67,7 @@ impl<M: Mix> Table<M> {
             let unlock = Unlock::new(bucket.place, bucket.word);
             let Some(node) = probed.seen.found else {
                 let at = FindAt::Future { table, bucket };
-                let future = slot_of(self.finding::<K>(seat, number, port, at));
+                let future = slot_of(self.finding::<K>(seat, env, number, port, at));
                 let Some(next) = future else {
                     let reply = Reply::Missing;
                     let then = Then::Answer(reply);
@@ -76,7 +76,7 @@ impl<M: Mix> Table<M> {
                         unlock,
                         then,
                     };
-                    self.finding::<K>(seat, number, port, at);
+                    self.finding::<K>(seat, env, number, port, at);
                     return reply;
                 };
                 let then = Then::Table(next);
@@ -85,7 +85,7 @@ impl<M: Mix> Table<M> {
                     unlock,
                     then,
                 };
-                self.finding::<K>(seat, number, port, at);
+                self.finding::<K>(seat, env, number, port, at);
                 table = next;
                 continue;
             };
@@ -94,7 +94,7 @@ impl<M: Mix> Table<M> {
                 bucket,
                 node,
             };
-            let owner = owner_of(self.finding::<K>(seat, number, port, at));
+            let owner = owner_of(self.finding::<K>(seat, env, number, port, at));
             let mut node = node;
             for _ in 0..u64::MAX {
                 let at = FindAt::ListLink {
@@ -103,7 +103,7 @@ impl<M: Mix> Table<M> {
                     node,
                     owner,
                 };
-                let link = self.finding::<K>(seat, number, port, at);
+                let link = self.finding::<K>(seat, env, number, port, at);
                 let Some(next) = node_of(env.geometry.nodes, link) else {
                     let reply = Reply::Found { owner };
                     let then = Then::Answer(reply);
@@ -112,7 +112,7 @@ impl<M: Mix> Table<M> {
                         unlock,
                         then,
                     };
-                    self.finding::<K>(seat, number, port, at);
+                    self.finding::<K>(seat, env, number, port, at);
                     return reply;
                 };
                 let at = FindAt::LaterOwner {
@@ -121,7 +121,7 @@ impl<M: Mix> Table<M> {
                     node: next,
                     owner,
                 };
-                self.finding::<K>(seat, number, port, at);
+                self.finding::<K>(seat, env, number, port, at);
                 node = next;
             }
             never(rt);
@@ -136,14 +136,15 @@ impl<M: Mix> Table<M> {
     fn finding<K: Ride>(
         &self,
         seat: &mut Seat<(), SeatView<M>>,
+        env: Env,
         number: u32,
         port: Port,
         at: FindAt,
     ) -> u64
-        requires { IsRiding M.mix_of self.now K.riding (find_at self.now.env number port at) seat.old }
-        ensures { Stepped M.mix_of self.now K.riding (doing_after M.mix_of (find_at self.now.env number port at) result) seat.new }
+        requires { IsRiding M.mix_of self.now K.riding (find_at env number port at) seat.old }
+        ensures { Stepped M.mix_of self.now K.riding (doing_after M.mix_of (find_at env number port at) result) seat.new }
     {
-        let find = Find::<M>::new(self.env, number, port).with(at);
+        let find = Find::<M>::new(env, number, port).with(at);
         self.operate::<K, Reply, Find<M>, Whole>(seat, &Whole, &find)
     }
 }

@@ -18,8 +18,12 @@ mod opening;
 mod pass;
 mod pieces;
 pub mod plays;
+mod rebinding;
+mod releasing;
 mod ride;
 mod seats;
+mod seeking;
+mod seeks;
 mod steps;
 mod table;
 
