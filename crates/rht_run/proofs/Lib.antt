@@ -18,3 +18,5 @@ pub mod ServedCommands
 pub mod OpenedTables
 -- how a table is closed
 pub mod ClosedTables
+-- a call that is driven from outside its pass goes as its caller does in the run
+pub mod Rides

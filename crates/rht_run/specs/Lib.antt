@@ -10,3 +10,11 @@ pub mod Passes
 pub mod Caused
 -- what the calls of a command leave
 pub mod Served
+-- a call that is driven from outside its pass
+pub mod Rides
+-- the states of the machines that hold a piece
+pub mod Frames
+-- pieces that are driven part by part
+pub mod Pieces
+-- the way to a port as a piece, and the machines that go it
+pub mod Seeks

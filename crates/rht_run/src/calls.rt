@@ -13,6 +13,7 @@ ghost use Rattle.rht_run.specs.Passes.{IsPassOf, IsCalling, HasCalled, Turned, H
 ghost use Rattle.rht_run.specs.Caused.{IsCaused};
 
 use crate::pass::Pass;
+use crate::ride::clear_rooms;
 use crate::table::Table;
 use rht_model::{Call, Reply};
 use rht_policy::Mix;
@@ -68,7 +69,8 @@ impl<M: Mix> Table<M> {
         ensures reply { IsFindReply result }
         ensures cause { IsCaused M.mix_of self.now (Find port) result pass.old pass.new }
     {
-        self.call(rt, pass, Call::Find { port })
+        clear_rooms(&mut pass.local);
+        self.drive_find::<R, Brand>(rt, &mut pass.seat, pass.number, port)
     }
     /// Binds a port to an owner, and is tried once alone: it may answer `Again`. The kernel's
     /// counterparts are `rhashtable_lookup_insert_key` and `rhltable_insert_key`.
@@ -94,7 +96,8 @@ impl<M: Mix> Table<M> {
         ensures cause { IsCaused M.mix_of self.now (Bind port owner true) result pass.old pass.new }
     {
         let once = true;
-        self.call(rt, pass, Call::Bind { port, owner, once })
+        clear_rooms(&mut pass.local);
+        self.drive_bind::<R, Brand>(rt, &mut pass.seat, pass.number, port, owner, once)
     }
 
     /// Binds a port to an owner, and tries again where `bind_once` answers `Again`. Each other reply comes
@@ -107,7 +110,8 @@ impl<M: Mix> Table<M> {
         ensures cause { IsCaused M.mix_of self.now (Bind port owner false) result pass.old pass.new }
     {
         let once = false;
-        self.call(rt, pass, Call::Bind { port, owner, once })
+        clear_rooms(&mut pass.local);
+        self.drive_bind::<R, Brand>(rt, &mut pass.seat, pass.number, port, owner, once)
     }
 
     /// Takes one binding of a port to this owner out: `Released`, or `Absent` where there is none.
@@ -123,7 +127,8 @@ impl<M: Mix> Table<M> {
         ensures reply { IsReleaseReply result }
         ensures cause { IsCaused M.mix_of self.now (Release port owner) result pass.old pass.new }
     {
-        self.call(rt, pass, Call::Release { port, owner })
+        clear_rooms(&mut pass.local);
+        self.drive_release::<R, Brand>(rt, &mut pass.seat, pass.number, port, owner)
     }
 
     /// Puts a new owner in the only one's place, in a table of one owner each: `Rebound`, `Absent`
@@ -144,7 +149,8 @@ impl<M: Mix> Table<M> {
         ensures reply { IsRebindReply result }
         ensures cause { IsCaused M.mix_of self.now (Rebind port owner new) result pass.old pass.new }
     {
-        self.call(rt, pass, Call::Rebind { port, owner, new })
+        clear_rooms(&mut pass.local);
+        self.drive_rebind::<R, Brand>(rt, &mut pass.seat, pass.number, port, owner, new)
     }
 
     /// Lists the owners of a port: `Listed`, for which it has nothing further to show, and they stand in

@@ -2,18 +2,28 @@
 //! in threads of their own.
 //!
 //! Stands on `rht_core`, whose machines it runs, and on the kit's `atomic_table`, whose rule ties
-//! the words to one run. Nothing else is shared. `rht_registry` will run scripts on it.
+//! the words to one run. Nothing else is shared. `rht_registry` runs scripts on it.
 //! Read `specs/Rule.antt` first, which is the rule, and then `specs/Passes.antt`, `Caused` and
 //! `Served`, which are what the calls promise.
 #![tactic(auto)]
 
+mod binding;
+mod buckets;
 mod calls;
 mod closing;
+mod finding;
 mod layout;
+mod nodes;
 mod opening;
 mod pass;
+mod pieces;
 pub mod plays;
+mod rebinding;
+mod releasing;
+mod ride;
 mod seats;
+mod seeking;
+mod seeks;
 mod serving;
 mod steps;
 mod table;

@@ -19,7 +19,7 @@ impl<M: Mix> Table<M> {
     /// Performs the operation, and answers the word before it. Every operation is one atomic step;
     /// a store is a swap, so that it too tells the old word.
     #[inline(always)]
-    fn perform<K: Turn>(&self, seat: &mut Seat<(), SeatView<M>>, op: Op) -> u64
+    pub(crate) fn perform<K: Turn>(&self, seat: &mut Seat<(), SeatView<M>>, op: Op) -> u64
         requires { CanPerform K.begins self.now seat.old op }
         ensures seat { IsSameSeat seat.old seat.new }
         ensures went { Went M.mix_of K.begins seat.old.me.0 result seat.new.me.0 }

@@ -1,0 +1,25 @@
+-- Pieces that are driven part by part.
+use Rattle.std.specs.Prelude.{ℕ, Option, None, Some}
+use Rattle.rht_words.specs.declared.machine.Next.{Next}
+use Rattle.rht_arena.specs.NewNode.{NewNodeModel}
+use Rattle.rht_arena.specs.declared.new_node.NewNodeAt.{NewNodeAt}
+use Rattle.rht_arena.specs.declared.new_node.NewNodeAt.TheVariants as news
+use Rattle.rht_chain.specs.Probe.{ProbeModel}
+use Rattle.rht_chain.specs.declared.probe.Probed.{Probed}
+use Rattle.rht_chain.specs.declared.probe.ProbeAt.{ProbeAt}
+use Rattle.rht_model.specs.declared.history.Reply.{Reply}
+use Rattle.rht_core.specs.declared.local.Doing.{Doing}
+
+-- the probe stands here, and says this
+abbrev pub probe_told : ProbeModel → ProbeAt × Next Probed → ProbeModel × Next Probed
+probe_told probe next = (record probe { at = next.0 }, next.1)
+
+-- the new node stands here, and says this
+abbrev pub new_node_told : NewNodeModel → NewNodeAt × Next (Option ℕ) → NewNodeModel × Next (Option ℕ)
+new_node_told new next = (record new { at = next.0 }, next.1)
+
+-- a node that was taken gets its key next; where none was free the piece has answered
+abbrev pub node_then : {M : Type 0} → (NewNodeModel → Doing M) → (Option ℕ → Doing M × Option Reply) → NewNodeModel
+    → Option ℕ → Doing M × Option Reply
+node_then holding behind new None = behind None
+node_then holding behind new (Some node) = (holding (record new { at = news.Key node }), None)

@@ -1,0 +1,103 @@
+-- A call that is driven from outside its pass: the seat's view has what the caller does, and no machine of the call is kept.
+use Rattle.std.specs.Prelude.{◌≡◌, ℕ, true, Option, Some, None, List, [], ◌∷◌, ◌++◌}
+use Rattle.atomic_table.specs.declared.shared.Seat.{Seat}
+use Rattle.rht_words.specs.declared.machine.Next.{Next}
+use Rattle.rht_words.specs.declared.machine.Next.TheVariants.{Go, Done}
+use Rattle.rht_model.specs.declared.history.Call.{Call}
+use Rattle.rht_model.specs.declared.history.Call.TheVariants.{Count}
+use Rattle.rht_model.specs.declared.history.Reply.{Reply}
+use Rattle.rht_model.specs.declared.finished.Finished.{Finished}
+use Rattle.rht_model.specs.Rooms.{Kept, emptied, no_room}
+use Rattle.rht_core.specs.declared.local.Local.{Local}
+use Rattle.rht_core.specs.declared.local.Doing.{Doing}
+use Rattle.rht_core.specs.declared.local.Doing.TheVariants.{Idle}
+use Rattle.rht_core.specs.Locals.{is_idle}
+use Rattle.rht_core.specs.Laws.{IsDoingIn}
+use Rattle.rht_run.specs.declared.seats.Held.{Held}
+use Rattle.rht_run.specs.declared.seats.SeatView.{SeatView}
+use Rattle.rht_run.specs.declared.table.Table.{Table}
+use Rattle.rht_run.specs.declared.pass.Pass.{Pass}
+use Rattle.rht_run.specs.Passes.{IsPassOf, book_in}
+
+-- what stays as it is while a call is driven: the caller, the call, the calls before it, and the caller's rooms, which are empty
+pub record Riding : Type 0 where
+  pub number : ℕ
+  pub call : Call
+  pub finished : List Finished
+  pub owners : Kept ℕ
+  pub pairs : Kept (ℕ × ℕ)
+
+-- a call that is never driven
+abbrev pub any_riding : Riding
+any_riding = record { number = 0; call = Count; finished = []; owners = no_room; pairs = no_room }
+
+module _ {M : Type 0} where
+  abbrev pub owners_in : List (Held M) → Kept ℕ
+  owners_in [] = no_room
+  owners_in (held ∷ rest) = held.local.owners
+
+  abbrev pub pairs_in : List (Held M) → Kept (ℕ × ℕ)
+  pairs_in [] = no_room
+  pairs_in (held ∷ rest) = held.local.pairs
+
+  -- what stays in a call that begins with this seat
+  abbrev pub riding_of : ℕ → Call → Seat (Unit {0}) (SeatView M) → Riding
+  riding_of number call seat = record {
+    number = number;
+    call = call;
+    finished = (book_in seat.me.0.held).finished;
+    owners = emptied (owners_in seat.me.0.held);
+    pairs = emptied (pairs_in seat.me.0.held);
+  }
+
+  -- the caller, which does this
+  abbrev pub riding_local : Riding → Doing M → Local M
+  riding_local r doing = record { doing = doing; owners = r.owners; pairs = r.pairs }
+
+  -- and a pass that has it
+  abbrev pub riding_pass : Riding → Doing M → Seat (Unit {0}) (SeatView M) → Pass M
+  riding_pass r doing seat = record { seat = seat; number = r.number; local = riding_local r doing }
+
+-- the caller of the seat is in no call, and has these calls behind it
+pub record IsBefore {M : Type 0} (mix : ℕ → ℕ → ℕ → ℕ) (t : Table M) (r : Riding) (seat : Seat (Unit {0}) (SeatView M))
+    : Type 0 where
+  pub local : Local M
+  pub pass : IsPassOf mix t record { seat = seat; number = r.number; local = local }
+  pub idle : is_idle local ≡ true
+  pub owners : emptied local.owners ≡ r.owners
+  pub pairs : emptied local.pairs ≡ r.pairs
+  pub finished : (book_in seat.me.0.held).finished ≡ r.finished
+
+-- the caller of the seat is in the call, and does this
+pub record IsRiding {M : Type 0} (mix : ℕ → ℕ → ℕ → ℕ) (t : Table M) (r : Riding) (doing : Doing M)
+    (seat : Seat (Unit {0}) (SeatView M))
+    : Type 0 where
+  pub pass : IsPassOf mix t (riding_pass r doing seat)
+  pub call : (book_in seat.me.0.held).call ≡ Some r.call
+  pub finished : (book_in seat.me.0.held).finished ≡ r.finished
+  pub in_range : IsDoingIn t.env r.number doing
+
+-- the call has ended with this reply, and the caller does this
+pub record IsEnded {M : Type 0} (mix : ℕ → ℕ → ℕ → ℕ) (t : Table M) (r : Riding) (doing : Doing M) (reply : Reply)
+    (seat : Seat (Unit {0}) (SeatView M))
+    : Type 0 where
+  pub pass : IsPassOf mix t (riding_pass r doing seat)
+  pub finished :
+      (book_in seat.me.0.held).finished
+      ≡ r.finished ++ record { call = r.call; reply = reply; owners = r.owners.items; pairs = r.pairs.items } ∷ []
+
+-- the call has ended with this reply, and the caller is in no call
+abbrev pub HasEnded : {M : Type 0} → (ℕ → ℕ → ℕ → ℕ) → Table M → Riding → Reply → Seat (Unit {0}) (SeatView M) → Type 0
+HasEnded mix t r reply seat = IsEnded mix t r Idle reply seat
+
+-- after an operation: what the caller does, with a reply where the call has ended
+abbrev pub Stepped : {M : Type 0} → (ℕ → ℕ → ℕ → ℕ) → Table M → Riding → Doing M × Option Reply
+    → Seat (Unit {0}) (SeatView M) → Type 0
+Stepped mix t r (doing, None) seat = IsRiding mix t r doing seat
+Stepped mix t r (doing, Some reply) seat = IsEnded mix t r doing reply seat
+
+-- while a piece goes on the caller does what holds it, and once the piece has answered, what comes behind that
+abbrev pub piece_next : {M P A : Type 0} → (P → Doing M) → (A → Doing M × Option Reply) → P × Next A
+    → Doing M × Option Reply
+piece_next holding behind (piece, Go) = (holding piece, None)
+piece_next holding behind (piece, Done answer) = behind answer

@@ -1,0 +1,138 @@
+-- The way to a port as a piece.
+use Rattle.std.specs.Prelude.{◌≡◌, ℕ, refl, Option, None, Some}
+use Rattle.rht_words.specs.declared.env.Env.{Env}
+use Rattle.rht_words.specs.declared.geometry.Geometry.{Geometry}
+use Rattle.rht_words.specs.declared.machine.Next.{Next}
+use Rattle.rht_words.specs.declared.machine.Next.TheVariants.{Go, Done}
+use Rattle.rht_chain.specs.Probe.{ProbeModel}
+use Rattle.rht_chain.specs.declared.probe.Probed.{Probed}
+use Rattle.rht_arena.specs.NewNode.{NewNodeModel}
+use Rattle.rht_release.specs.Seek.{SeekModel, seek_new, seek_after, port_at, found_or_future, probed}
+use Rattle.rht_release.specs.Release.{ReleaseModel, release_after, moved as release_moved, sought as release_sought_at}
+use Rattle.rht_release.specs.declared.release.ReleaseAt.{ReleaseAt}
+use Rattle.rht_release.specs.declared.release.ReleaseAt.TheVariants as releases
+use Rattle.rht_release.specs.Rebind.{RebindModel, rebind_after, filled, giving, moved as rebind_moved, sought as rebind_sought_at}
+use Rattle.rht_release.specs.declared.rebind.RebindAt.{RebindAt}
+use Rattle.rht_release.specs.declared.rebind.RebindAt.TheVariants as rebinds
+use Rattle.rht_release.specs.declared.found_port.FoundPort.{FoundPort}
+use Rattle.rht_release.specs.declared.seek.SeekAt.{SeekAt}
+use Rattle.rht_release.specs.declared.seek.SeekAt.TheVariants as seeks
+use Rattle.rht_model.specs.declared.history.Reply.{Reply}
+use Rattle.rht_model.specs.declared.history.Reply.TheVariants.{Absent, NoNode}
+use Rattle.rht_core.specs.declared.local.Doing.{Doing}
+use Rattle.rht_core.specs.declared.local.Doing.TheVariants.{Idle, Releasing, Rebinding}
+use Rattle.rht_core.specs.Locals.{doing_next, without_node}
+use Rattle.rht_run.specs.declared.seeks.PortSeek.{PortSeek}
+use Rattle.rht_run.specs.Rides.{piece_next}
+
+-- the way to this port stands here
+abbrev pub port_seek : Geometry → ℕ → SeekAt → PortSeek
+port_seek g port at = record { port = port; seek = record { geometry = g; at = at } }
+
+-- and says this, of the port
+abbrev pub sought_of : ℕ → Next (Option FoundPort) → Next (ℕ × Option FoundPort)
+sought_of port Go = Go
+sought_of port (Done found) = Done (port, found)
+
+abbrev pub seek_told : Geometry → ℕ → SeekAt × Next (Option FoundPort) → PortSeek × Next (ℕ × Option FoundPort)
+seek_told g port next = (port_seek g port next.0, sought_of port next.1)
+
+abbrev pub port_seek_after : (ℕ → ℕ → ℕ → ℕ) → PortSeek → ℕ → PortSeek × Next (ℕ × Option FoundPort)
+port_seek_after mix p word =
+    let next = seek_after mix p.port p.seek word in (record { port = p.port; seek = next.0 }, sought_of p.port next.1)
+
+module _ {M : Type 0} (holding : PortSeek → Doing M) (behind : ℕ × Option FoundPort → Doing M × Option Reply)
+    (g : Geometry)
+    (port table shape : ℕ)
+  where
+    -- where this node was seen to have the port the way has ended, and else the table's future comes next
+    abbrev pub seek_seen : Probed → Option ℕ → Doing M × Option Reply
+    seek_seen end None = (holding (port_seek g port (seeks.Future table end.bucket)), None)
+    seek_seen end (Some node) = behind (port, Some (port_at table shape end node))
+
+    abbrev pub seek_probed : Probed → Doing M × Option Reply
+    seek_probed end = seek_seen end end.seen.found
+
+    seen_so : (probe : ProbeModel) (end : Probed) (found : Option ℕ)
+        → piece_next holding behind (seek_told g port (found_or_future table shape probe end found)) ≡ seek_seen end found
+    seen_so probe end None = refl
+    seen_so probe end (Some node) = refl
+
+    pub seek_probing : (next : ProbeModel × Next Probed)
+        → piece_next holding behind (seek_told g port (probed table shape next.0 next.1))
+        ≡ piece_next (λ p. holding (port_seek g port (seeks.Probing table shape p))) seek_probed next
+    seek_probing (probe, Go) = refl
+    seek_probing (probe, Done end) = seen_so probe end end.seen.found
+
+module _ {M : Type 0} where
+  -- ---- the release
+
+  -- it takes a binding out, and stands here
+  abbrev pub release_at : Env → ℕ → ℕ → ℕ → ReleaseAt → Doing M
+  release_at env caller port owner at =
+      Releasing (record { env = env; caller = caller; port = port; owner = owner; at = at })
+
+  -- and has found the port, or found that no table binds it
+  abbrev pub release_sought : Env → ℕ → ℕ → ℕ → Option FoundPort → Doing M × Option Reply
+  release_sought env caller port owner None = (Idle, Some Absent)
+  release_sought env caller port owner (Some found) =
+      (release_at env caller port owner (releases.Owner found found.node None), None)
+
+  pub release_seeking : (env : Env) (caller port owner : ℕ) (next : SeekModel × Next (Option FoundPort))
+      → doing_next Releasing (
+        (release_moved (record { env = env; caller = caller; port = port; owner = owner; at = releases.Seeking next.0 }) (release_sought_at next.0 next.1)).0,
+        without_node (release_moved (record { env = env; caller = caller; port = port; owner = owner; at = releases.Seeking next.0 }) (release_sought_at next.0 next.1)).1,
+      )
+      ≡ piece_next (λ (p : PortSeek). release_at env caller p.port owner (releases.Seeking p.seek))
+      (λ found. release_sought env caller found.0 owner found.1)
+      (record { port = port; seek = next.0 }, sought_of port next.1)
+  release_seeking env caller port owner (seek, Go) = refl
+  release_seeking env caller port owner (seek, Done None) = refl
+  release_seeking env caller port owner (seek, Done (Some found)) = refl
+
+  -- ---- the rebind
+
+  -- it puts another owner in one's place, and stands here
+  abbrev pub rebind_at : Env → ℕ → ℕ → ℕ → ℕ → RebindAt → Doing M
+  rebind_at env caller port owner new at =
+      Rebinding (record { env = env; caller = caller; port = port; owner = owner; new_owner = new; at = at })
+
+  -- and has taken this node, or found none
+  abbrev pub rebind_filled : Env → ℕ → ℕ → ℕ → ℕ → Option ℕ → Doing M × Option Reply
+  rebind_filled env caller port owner new None = (Idle, Some NoNode)
+  rebind_filled env caller port owner new (Some node) =
+      (rebind_at env caller port owner new (rebinds.Seeking node (seek_new env.geometry)), None)
+
+  pub rebind_filling : (env : Env) (caller port owner new : ℕ) (next : NewNodeModel × Next (Option ℕ))
+      → doing_next Rebinding (
+        (rebind_moved (record { env = env; caller = caller; port = port; owner = owner; new_owner = new; at = rebinds.Filling next.0 }) (filled env.geometry next.0 next.1)).0,
+        without_node (rebind_moved (record { env = env; caller = caller; port = port; owner = owner; new_owner = new; at = rebinds.Filling next.0 }) (filled env.geometry next.0 next.1)).1,
+      )
+      ≡ piece_next (λ p. rebind_at env caller port owner new (rebinds.Filling p))
+      (λ node. rebind_filled env caller port owner new node) next
+  rebind_filling env caller port owner new (node, Go) = refl
+  rebind_filling env caller port owner new (node, Done None) = refl
+  rebind_filling env caller port owner new (node, Done (Some found)) = refl
+
+  -- and has found the port with this node, or found that no table binds it
+  abbrev pub rebind_sought : Env → ℕ → ℕ → ℕ → ℕ → ℕ → Option FoundPort → Doing M × Option Reply
+  rebind_sought env caller port owner new node None =
+      (rebind_at env caller port owner new (giving env.geometry node), None)
+  rebind_sought env caller port owner new node (Some found) =
+      (rebind_at env caller port owner new (rebinds.Owner node found), None)
+
+  pub rebind_seeking : (env : Env) (caller port owner new node : ℕ) (next : SeekModel × Next (Option FoundPort))
+      → ◌≡◌ {A = Doing M × Option Reply} (rebind_at env caller port owner new (rebind_sought_at env.geometry node next.0 next.1), None)
+      (piece_next (λ (p : PortSeek). rebind_at env caller p.port owner new (rebinds.Seeking node p.seek))
+      (λ found. rebind_sought env caller found.0 owner new node found.1)
+      (record { port = port; seek = next.0 }, sought_of port next.1))
+  rebind_seeking env caller port owner new node (seek, Go) = refl
+  rebind_seeking env caller port owner new node (seek, Done None) = refl
+  rebind_seeking env caller port owner new node (seek, Done (Some found)) = refl
+
+-- what the two say, without the node that was taken out
+abbrev pub release_told : (ℕ → ℕ → ℕ → ℕ) → ReleaseModel → ℕ → ReleaseModel × Next Reply
+release_told mix m word = let next = release_after mix m word in (next.0, without_node next.1)
+
+abbrev pub rebind_told : (ℕ → ℕ → ℕ → ℕ) → RebindModel → ℕ → RebindModel × Next Reply
+rebind_told mix m word = let next = rebind_after mix m word in (next.0, without_node next.1)

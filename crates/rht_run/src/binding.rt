@@ -1,0 +1,183 @@
+//! The bind of a port, in straight code. What is seldom isn't: where the table is full or the port has
+//! a list already, the machine runs on as a whole.
+
+ghost use Rattle.std.specs.Prelude.{◌≡◌};
+ghost use Rattle.rht_model.specs.declared.history.Call.TheVariants.{Bind as BindCall};
+ghost use Rattle.rht_core.specs.Locals.{doing_after};
+ghost use Rattle.rht_run.specs.Rides.{IsBefore, IsRiding, HasEnded, Stepped};
+ghost use Rattle.rht_run.specs.Frames.{bind_at};
+
+use crate::pieces::{BindFilling, BindProbing, Whole};
+use crate::ride::{Ride, never};
+use crate::seats::SeatView;
+use crate::table::Table;
+use atomic_table::Seat;
+use rht_bind::{
+    Attempt, Bind, BindAt, Claimed, bound_already, bucket_or_no_table, checked_count,
+    future_or_count, giving, kicks, publishing, unlocking,
+};
+use rht_chain::Then;
+use rht_model::Reply;
+use rht_nest::{Locate, LocateAt, place_of};
+use rht_policy::{Mix, bucket_of};
+use rht_words::{Env, Port, owner_of, slot_of, table_of, word_of};
+use std::sync::Wait;
+
+impl<M: Mix> Table<M> {
+    /// Binds the port, from the first operation to the reply.
+    #[inline(always)]
+    pub(crate) fn drive_bind<R: Wait, K: Ride>(
+        &self,
+        rt: &R,
+        seat: &mut Seat<(), SeatView<M>>,
+        number: u32,
+        port: Port,
+        owner: u32,
+        once: bool,
+    ) -> Reply
+        requires before { IsBefore M.mix_of self.now K.riding seat.old }
+        requires number { K.riding.number ≡ number }
+        requires call { K.riding.call ≡ BindCall port owner once }
+        ensures { HasEnded M.mix_of self.now K.riding result seat.new }
+    {
+        let env = self.env;
+        let frame = BindFilling {
+            env,
+            caller: number,
+            port,
+            owner,
+            once,
+        };
+        let Some(node) = self.begin_with_node::<R, K, BindFilling>(rt, seat, &frame, port, owner)
+        else {
+            return Reply::NoNode;
+        };
+        let attempt = Attempt {
+            node,
+            attached: false,
+        };
+        let at = BindAt::CurrentTable { attempt };
+        let mut table = table_of(self.binding::<K>(seat, env, number, port, owner, once, at));
+        for _ in 0..u64::MAX {
+            let locate = Locate::new(env.geometry, table);
+            let at = BindAt::Locating { attempt, locate };
+            let shape = self.binding::<K>(seat, env, number, port, owner, once, at);
+            let locate = locate.with(LocateAt::Seed { shape });
+            let at = BindAt::Locating { attempt, locate };
+            let seed = self.binding::<K>(seat, env, number, port, owner, once, at);
+            let bucket = bucket_of::<M>(port, shape, seed);
+            let Some(place) = place_of(env.geometry, shape, bucket) else {
+                let at = bucket_or_no_table(env, port, attempt, table, shape, None);
+                return self.rest_of_bind::<R, K>(rt, seat, number, port, owner, once, at);
+            };
+            let frame = BindProbing {
+                env,
+                caller: number,
+                port,
+                owner,
+                once,
+                attempt,
+                table,
+                shape,
+            };
+            let key = word_of(port);
+            let probed = self.probe::<R, K, BindProbing>(
+                rt,
+                seat,
+                &frame,
+                env.geometry,
+                place,
+                key,
+            );
+            let bucket = probed.bucket;
+            let claimed = Claimed {
+                attempt,
+                table,
+                shape,
+                bucket,
+            };
+            if let Some(first) = probed.seen.found {
+                let at = bound_already(env.config.kind, claimed, first, probed.seen.before);
+                let BindAt::FoundOwner { claimed, found } = at else {
+                    return self.rest_of_bind::<R, K>(rt, seat, number, port, owner, once, at);
+                };
+                let at = BindAt::FoundOwner { claimed, found };
+                let other = owner_of(self.binding::<K>(seat, env, number, port, owner, once, at));
+                let reply = Reply::Exists { owner: other };
+                let at = unlocking(claimed, Then::Answer(reply));
+                self.binding::<K>(seat, env, number, port, owner, once, at);
+                let at = giving(env, claimed.attempt.node, reply);
+                self.binding::<K>(seat, env, number, port, owner, once, at);
+                return reply;
+            }
+            let length = probed.seen.length;
+            let at = BindAt::Future { claimed, length };
+            let future = slot_of(self.binding::<K>(seat, env, number, port, owner, once, at));
+            if let Some(next) = future {
+                let at = unlocking(claimed, Then::Table(next));
+                self.binding::<K>(seat, env, number, port, owner, once, at);
+                table = next;
+                continue;
+            }
+            let at = future_or_count(claimed, length, None);
+            let BindAt::Count { claimed } = at else {
+                return self.rest_of_bind::<R, K>(rt, seat, number, port, owner, once, at);
+            };
+            let at = BindAt::Count { claimed };
+            let count = self.binding::<K>(seat, env, number, port, owner, once, at);
+            let at = checked_count(env, claimed, count);
+            let BindAt::Link { claimed } = at else {
+                return self.rest_of_bind::<R, K>(rt, seat, number, port, owner, once, at);
+            };
+            let at = BindAt::Link { claimed };
+            self.binding::<K>(seat, env, number, port, owner, once, at);
+            let at = BindAt::Raise { claimed };
+            let count = self.binding::<K>(seat, env, number, port, owner, once, at);
+            let kick = kicks(env, claimed, count);
+            let at = publishing(env, claimed, kick);
+            self.binding::<K>(seat, env, number, port, owner, once, at);
+            return Reply::Bound { kick };
+        }
+        never(rt);
+        unreachable!()
+    }
+
+    /// The bind from this state on, as a whole.
+    #[cold]
+    #[inline(never)]
+    fn rest_of_bind<R: Wait, K: Ride>(
+        &self,
+        rt: &R,
+        seat: &mut Seat<(), SeatView<M>>,
+        number: u32,
+        port: Port,
+        owner: u32,
+        once: bool,
+        at: BindAt,
+    ) -> Reply
+        requires { IsRiding M.mix_of self.now K.riding (bind_at self.now.env number port owner once at) seat.old }
+        ensures { HasEnded M.mix_of self.now K.riding result seat.new }
+    {
+        let bind = Bind::<M>::new(self.env, number, port, owner, once).with(at);
+        self.run_whole::<R, K, Bind<M>, Whole>(rt, seat, &Whole, bind)
+    }
+
+    /// The operation of the bind in this state.
+    #[inline(always)]
+    fn binding<K: Ride>(
+        &self,
+        seat: &mut Seat<(), SeatView<M>>,
+        env: Env,
+        number: u32,
+        port: Port,
+        owner: u32,
+        once: bool,
+        at: BindAt,
+    ) -> u64
+        requires { IsRiding M.mix_of self.now K.riding (bind_at env number port owner once at) seat.old }
+        ensures { Stepped M.mix_of self.now K.riding (doing_after M.mix_of (bind_at env number port owner once at) result) seat.new }
+    {
+        let bind = Bind::<M>::new(env, number, port, owner, once).with(at);
+        self.operate::<K, Reply, Bind<M>, Whole>(seat, &Whole, &bind)
+    }
+}

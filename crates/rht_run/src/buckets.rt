@@ -1,0 +1,131 @@
+//! Locking the bucket of a port and walking its chain, in whatever machine does so.
+
+ghost use Rattle.std.specs.Prelude.{◌≡◌, ℕ};
+ghost use Rattle.rht_words.specs.declared.machine.Next.TheVariants.{Done};
+ghost use Rattle.rht_words.specs.Places.{IsBucketPlace};
+ghost use Rattle.rht_chain.specs.Lock.{lock_new};
+ghost use Rattle.rht_chain.specs.Probe.{probe_new, probe_after, lock_taken};
+ghost use Rattle.rht_chain.specs.declared.probe.ProbeAt.TheVariants as at;
+ghost use Rattle.rht_run.specs.Rides.{IsRiding, Stepped, piece_next};
+ghost use Rattle.rht_run.specs.Pieces.{probe_told};
+
+use crate::pieces::Frame;
+use crate::ride::{Ride, never};
+use crate::seats::SeatView;
+use crate::table::Table;
+use atomic_table::Seat;
+use rht_chain::{Lock, Locked, LockedWalk, Probe, ProbeAt, Probed};
+use rht_policy::Mix;
+use rht_words::{Geometry, Next, Start, is_locked};
+use std::sync::Wait;
+
+impl<M: Mix> Table<M> {
+    /// Locks the bucket at this place, and walks its chain to the first node with the key.
+    #[inline(always)]
+    pub(crate) fn probe<R: Wait, K: Ride, F: Frame<M, Probe, Probed>>(
+        &self,
+        rt: &R,
+        seat: &mut Seat<(), SeatView<M>>,
+        frame: &F,
+        geometry: Geometry,
+        place: usize,
+        key: u64,
+    ) -> Probed
+        requires place { IsBucketPlace geometry place }
+        requires riding { IsRiding M.mix_of self.now K.riding (F.holding frame.now (probe_new geometry place key)) seat.old }
+        ensures { Stepped M.mix_of self.now K.riding (F.behind frame.now result) seat.new }
+    {
+        let probe = Probe::new(geometry, place, key);
+        let (lock, word) = self.lock::<R, K, F>(rt, seat, frame, &probe, Lock::new(place));
+        let place = lock.place();
+        let bucket = Locked { place, word };
+        match LockedWalk::new(geometry, place, word, key) {
+            Start::Running(walk) => self.walk::<R, K, F>(rt, seat, frame, &probe, bucket, walk),
+            Start::Done(seen) => Probed { bucket, seen },
+        }
+    }
+
+    /// Takes the lock of a bucket. A round ends without it where the word was found locked, or was
+    /// another one at the exchange.
+    #[inline(always)]
+    fn lock<R: Wait, K: Ride, F: Frame<M, Probe, Probed>>(
+        &self,
+        rt: &R,
+        seat: &mut Seat<(), SeatView<M>>,
+        frame: &F,
+        probe: &Probe,
+        lock: Lock,
+    ) -> (Lock, u64)
+        requires { IsRiding M.mix_of self.now K.riding (F.holding frame.now (record probe.now { at = at.Locking lock })) seat.old }
+        ensures { Stepped M.mix_of self.now K.riding (piece_next (λ p. F.holding frame.now p) (λ a. F.behind frame.now a) (probe_told probe.now (lock_taken probe.now.geometry probe.now.key result.0 (Done result.1)))) seat.new }
+    {
+        let mut lock = lock;
+        for _ in 0..u64::MAX {
+            let word = self.probing::<K, F>(seat, frame, probe, ProbeAt::Locking { lock });
+            let (next, answer) = lock.after(word);
+            if let Next::Done(word) = answer {
+                return (next, word);
+            }
+            lock = next;
+            if is_locked(word) {
+                continue;
+            }
+            let word = self.probing::<K, F>(seat, frame, probe, ProbeAt::Locking { lock });
+            let (next, answer) = lock.after(word);
+            if let Next::Done(word) = answer {
+                return (next, word);
+            }
+            lock = next;
+        }
+        never(rt);
+        unreachable!()
+    }
+
+    /// Walks the chain of a bucket that is locked. A round loads a node's key and the link behind it.
+    #[inline(always)]
+    fn walk<R: Wait, K: Ride, F: Frame<M, Probe, Probed>>(
+        &self,
+        rt: &R,
+        seat: &mut Seat<(), SeatView<M>>,
+        frame: &F,
+        probe: &Probe,
+        bucket: Locked,
+        walk: LockedWalk,
+    ) -> Probed
+        requires { IsRiding M.mix_of self.now K.riding (F.holding frame.now (record probe.now { at = at.Walking bucket walk })) seat.old }
+        ensures { Stepped M.mix_of self.now K.riding (F.behind frame.now result) seat.new }
+    {
+        let mut walk = walk;
+        for _ in 0..u64::MAX {
+            let key = self.probing::<K, F>(seat, frame, probe, ProbeAt::Walking { bucket, walk });
+            let (next, answer) = walk.after(key);
+            if let Next::Done(seen) = answer {
+                return Probed { bucket, seen };
+            }
+            walk = next;
+            let link = self.probing::<K, F>(seat, frame, probe, ProbeAt::Walking { bucket, walk });
+            let (next, answer) = walk.after(link);
+            if let Next::Done(seen) = answer {
+                return Probed { bucket, seen };
+            }
+            walk = next;
+        }
+        never(rt);
+        unreachable!()
+    }
+
+    /// The operation of a probe in this state.
+    #[inline(always)]
+    fn probing<K: Ride, F: Frame<M, Probe, Probed>>(
+        &self,
+        seat: &mut Seat<(), SeatView<M>>,
+        frame: &F,
+        probe: &Probe,
+        at: ProbeAt,
+    ) -> u64
+        requires { IsRiding M.mix_of self.now K.riding (F.holding frame.now (record probe.now { at = at })) seat.old }
+        ensures { Stepped M.mix_of self.now K.riding (piece_next (λ p. F.holding frame.now p) (λ a. F.behind frame.now a) (probe_after (record probe.now { at = at }) result)) seat.new }
+    {
+        self.operate::<K, Probed, Probe, F>(seat, frame, &probe.with(at))
+    }
+}

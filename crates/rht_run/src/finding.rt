@@ -1,0 +1,150 @@
+//! The look-up of a port, in straight code.
+
+ghost use Rattle.std.specs.Prelude.{◌≡◌};
+ghost use Rattle.rht_model.specs.declared.history.Call.TheVariants.{Find as FindCall};
+ghost use Rattle.rht_core.specs.Locals.{doing_after};
+ghost use Rattle.rht_run.specs.Rides.{IsBefore, IsRiding, HasEnded, Stepped};
+ghost use Rattle.rht_run.specs.Frames.{find_at};
+
+use crate::pieces::{FindProbing, Whole};
+use crate::ride::{Ride, never};
+use crate::seats::SeatView;
+use crate::table::Table;
+use atomic_table::Seat;
+use rht_chain::{Then, Unlock};
+use rht_find::{Find, FindAt};
+use rht_model::Reply;
+use rht_nest::{Locate, LocateAt, place_of};
+use rht_policy::{Mix, bucket_of};
+use rht_words::{Env, Port, node_of, owner_of, slot_of, table_of, word_of};
+use std::sync::Wait;
+
+impl<M: Mix> Table<M> {
+    /// Looks the port up, from the first operation to the reply.
+    #[inline(always)]
+    pub(crate) fn drive_find<R: Wait, K: Ride>(
+        &self,
+        rt: &R,
+        seat: &mut Seat<(), SeatView<M>>,
+        number: u32,
+        port: Port,
+    ) -> Reply
+        requires before { IsBefore M.mix_of self.now K.riding seat.old }
+        requires number { K.riding.number ≡ number }
+        requires call { K.riding.call ≡ FindCall port }
+        ensures { HasEnded M.mix_of self.now K.riding result seat.new }
+    {
+        let env = self.env;
+        let find = Find::<M>::new(env, number, port);
+        let mut table = table_of(self.begin::<K, Reply, Find<M>, Whole>(seat, &Whole, &find));
+        for _ in 0..u64::MAX {
+            let locate = Locate::new(env.geometry, table);
+            let at = FindAt::Locating { locate };
+            let shape = self.finding::<K>(seat, env, number, port, at);
+            let locate = locate.with(LocateAt::Seed { shape });
+            let at = FindAt::Locating { locate };
+            let seed = self.finding::<K>(seat, env, number, port, at);
+            let bucket = bucket_of::<M>(port, shape, seed);
+            let Some(place) = place_of(env.geometry, shape, bucket) else {
+                return Reply::Missing;
+            };
+            let frame = FindProbing {
+                env,
+                caller: number,
+                port,
+                table,
+            };
+            let key = word_of(port);
+            let probed = self.probe::<R, K, FindProbing>(
+                rt,
+                seat,
+                &frame,
+                env.geometry,
+                place,
+                key,
+            );
+            let bucket = probed.bucket;
+            let unlock = Unlock::new(bucket.place, bucket.word);
+            let Some(node) = probed.seen.found else {
+                let at = FindAt::Future { table, bucket };
+                let future = slot_of(self.finding::<K>(seat, env, number, port, at));
+                let Some(next) = future else {
+                    let reply = Reply::Missing;
+                    let then = Then::Answer(reply);
+                    let at = FindAt::Unlocking {
+                        table,
+                        unlock,
+                        then,
+                    };
+                    self.finding::<K>(seat, env, number, port, at);
+                    return reply;
+                };
+                let then = Then::Table(next);
+                let at = FindAt::Unlocking {
+                    table,
+                    unlock,
+                    then,
+                };
+                self.finding::<K>(seat, env, number, port, at);
+                table = next;
+                continue;
+            };
+            let at = FindAt::FirstOwner {
+                table,
+                bucket,
+                node,
+            };
+            let owner = owner_of(self.finding::<K>(seat, env, number, port, at));
+            let mut node = node;
+            for _ in 0..u64::MAX {
+                let at = FindAt::ListLink {
+                    table,
+                    bucket,
+                    node,
+                    owner,
+                };
+                let link = self.finding::<K>(seat, env, number, port, at);
+                let Some(next) = node_of(env.geometry.nodes, link) else {
+                    let reply = Reply::Found { owner };
+                    let then = Then::Answer(reply);
+                    let at = FindAt::Unlocking {
+                        table,
+                        unlock,
+                        then,
+                    };
+                    self.finding::<K>(seat, env, number, port, at);
+                    return reply;
+                };
+                let at = FindAt::LaterOwner {
+                    table,
+                    bucket,
+                    node: next,
+                    owner,
+                };
+                self.finding::<K>(seat, env, number, port, at);
+                node = next;
+            }
+            never(rt);
+            unreachable!()
+        }
+        never(rt);
+        unreachable!()
+    }
+
+    /// The operation of the look-up in this state.
+    #[inline(always)]
+    fn finding<K: Ride>(
+        &self,
+        seat: &mut Seat<(), SeatView<M>>,
+        env: Env,
+        number: u32,
+        port: Port,
+        at: FindAt,
+    ) -> u64
+        requires { IsRiding M.mix_of self.now K.riding (find_at env number port at) seat.old }
+        ensures { Stepped M.mix_of self.now K.riding (doing_after M.mix_of (find_at env number port at) result) seat.new }
+    {
+        let find = Find::<M>::new(env, number, port).with(at);
+        self.operate::<K, Reply, Find<M>, Whole>(seat, &Whole, &find)
+    }
+}

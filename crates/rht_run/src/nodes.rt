@@ -1,0 +1,91 @@
+//! Taking a free node and filling it, in whatever machine does so.
+
+ghost use Rattle.std.specs.Prelude.{◌≡◌, Some};
+ghost use Rattle.rht_words.specs.Ports.{word_of};
+ghost use Rattle.rht_arena.specs.NewNode.{new_node_new, new_node_after, node_taken};
+ghost use Rattle.rht_core.specs.Locals.{machine_of};
+ghost use Rattle.rht_core.specs.Runs.{IsAdmittedCall, IsBuiltFor};
+ghost use Rattle.rht_run.specs.Rides.{IsBefore, IsRiding, Stepped, piece_next};
+ghost use Rattle.rht_run.specs.Pieces.{new_node_told, node_then};
+
+use crate::pieces::Frame;
+use crate::ride::{Ride, never};
+use crate::seats::SeatView;
+use crate::table::Table;
+use atomic_table::Seat;
+use rht_arena::{NewNode, NewNodeAt, TakeNode};
+use rht_policy::Mix;
+use rht_words::{Next, Port, word_of};
+use std::sync::Wait;
+
+impl<M: Mix> Table<M> {
+    /// Begins a call that takes a free node and fills it, and does so.
+    #[inline(always)]
+    pub(crate) fn begin_with_node<R: Wait, K: Ride, F: Frame<M, NewNode, Option<u32>>>(
+        &self,
+        rt: &R,
+        seat: &mut Seat<(), SeatView<M>>,
+        frame: &F,
+        port: Port,
+        owner: u32,
+    ) -> Option<u32>
+        requires before { IsBefore M.mix_of self.now K.riding seat.old }
+        requires begins { machine_of self.now.env K.riding.number K.riding.call ≡ Some (F.holding frame.now (new_node_new self.now.env.geometry (word_of port) owner)) }
+        requires admitted { IsAdmittedCall K.riding.call }
+        requires built { IsBuiltFor self.now.env.config.kind K.riding.call }
+        ensures { Stepped M.mix_of self.now K.riding (F.behind frame.now result) seat.new }
+    {
+        let new = NewNode::new(self.env.geometry, word_of(port), owner);
+        let word = self.begin::<K, Option<u32>, NewNode, F>(seat, frame, &new);
+        let (take, answer) = TakeNode::new(self.env.geometry).after(word);
+        let Some(node) = self.take_node::<R, K, F>(rt, seat, frame, &new, take, answer) else {
+            return None;
+        };
+        self.filling::<K, F>(seat, frame, &new, NewNodeAt::Key { node });
+        self.filling::<K, F>(seat, frame, &new, NewNodeAt::Owner { node });
+        self.filling::<K, F>(seat, frame, &new, NewNodeAt::ListLink { node });
+        Some(node)
+    }
+
+    /// Takes a free node, once the first word of the node map was looked at.
+    #[inline(always)]
+    fn take_node<R: Wait, K: Ride, F: Frame<M, NewNode, Option<u32>>>(
+        &self,
+        rt: &R,
+        seat: &mut Seat<(), SeatView<M>>,
+        frame: &F,
+        new: &NewNode,
+        take: TakeNode,
+        answer: Next<Option<u32>>,
+    ) -> Option<u32>
+        requires { Stepped M.mix_of self.now K.riding (piece_next (λ p. F.holding frame.now p) (λ a. F.behind frame.now a) (new_node_told new.now (node_taken take answer))) seat.old }
+        ensures { Stepped M.mix_of self.now K.riding (node_then (λ p. F.holding frame.now p) (λ a. F.behind frame.now a) new.now result) seat.new }
+    {
+        let mut take = take;
+        let mut answer = answer;
+        for _ in 0..u64::MAX {
+            if let Next::Done(node) = answer {
+                return node;
+            }
+            let word = self.filling::<K, F>(seat, frame, new, NewNodeAt::Taking { take });
+            (take, answer) = take.after(word);
+        }
+        never(rt);
+        unreachable!()
+    }
+
+    /// The operation of a new node in this state.
+    #[inline(always)]
+    fn filling<K: Ride, F: Frame<M, NewNode, Option<u32>>>(
+        &self,
+        seat: &mut Seat<(), SeatView<M>>,
+        frame: &F,
+        new: &NewNode,
+        at: NewNodeAt,
+    ) -> u64
+        requires { IsRiding M.mix_of self.now K.riding (F.holding frame.now (record new.now { at = at })) seat.old }
+        ensures { Stepped M.mix_of self.now K.riding (piece_next (λ p. F.holding frame.now p) (λ a. F.behind frame.now a) (new_node_after (record new.now { at = at }) result)) seat.new }
+    {
+        self.operate::<K, Option<u32>, NewNode, F>(seat, frame, &new.with(at))
+    }
+}

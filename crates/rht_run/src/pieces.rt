@@ -1,0 +1,281 @@
+//! Pieces of machines, and the states of the machines that hold them.
+
+ghost use Rattle.std.specs.Prelude.{◌≡◌, ℕ, Option, None, Some, false};
+ghost use Rattle.rht_words.specs.declared.op.Op.{Op};
+ghost use Rattle.rht_words.specs.declared.machine.Next.{Next};
+ghost use Rattle.rht_words.specs.declared.env.Env.{Env};
+ghost use Rattle.rht_arena.specs.NewNode.{new_node_plan, new_node_after, IsNewNodeIn};
+ghost use Rattle.rht_bind.specs.Bind.{bind_plan, bind_after, IsBindAtIn};
+ghost use Rattle.rht_bind.specs.declared.bind.BindAt.TheVariants as binds;
+ghost use Rattle.rht_chain.specs.Probe.{probe_plan, probe_after, IsProbeIn};
+ghost use Rattle.rht_find.specs.Find.{find_plan, find_after, IsFindAtIn};
+ghost use Rattle.rht_find.specs.declared.find.FindAt.TheVariants as finds;
+ghost use Rattle.rht_model.specs.Rooms.{Kept, emptied};
+ghost use Rattle.rht_model.specs.declared.history.Reply.{Reply as ReplyOf};
+ghost use Rattle.rht_core.specs.declared.local.Doing.{Doing};
+ghost use Rattle.rht_core.specs.declared.local.Doing.TheVariants.{Idle, Binding, Finding};
+ghost use Rattle.rht_core.specs.Locals.{does_nothing, doing_plan, doing_after, owners_beside, owners_after};
+ghost use Rattle.rht_core.specs.Laws.{IsDoingIn};
+ghost use Rattle.rht_run.specs.Rides.{piece_next};
+ghost use Rattle.rht_run.specs.Frames.{doing_piece, bind_at, bind_filling, bind_filled, bind_probing, bind_probed, find_at, find_probing, find_probed};
+
+use rht_arena::NewNode;
+use rht_bind::{Attempt, Bind};
+use rht_chain::{Probe, Probed};
+use rht_find::Find;
+use rht_model::Reply;
+use rht_policy::Mix;
+use rht_words::{Env, Next, Op, Port};
+
+/// A piece, which performs one operation after another, to an answer.
+pub trait Piece<M: Mix, A> {
+    ghost plan_of: { Self → Op };
+
+    ghost after_of: { Self → ℕ → Self × Next A };
+
+    // all that it names is the table's
+    ghost is_in: { Env → Self → Type 0 };
+
+    /// The next operation.
+    fn planned(&self) -> Op
+        ensures { result ≡ plan_of self.now };
+
+    /// Takes in the word's old value.
+    fn told(&mut self, old: u64) -> Next<A>
+        ensures { (self.new, result) ≡ after_of self.old old };
+}
+
+/// A state of a machine that holds a piece, without that piece. It has no code.
+pub trait Frame<M: Mix, P: Piece<M, A>, A> {
+    // what the caller does while the piece runs
+    ghost holding: { Self → P → Doing M };
+
+    // and once it has answered, with the reply where that ends the call
+    ghost behind: { Self → A → Doing M × Option ReplyOf };
+
+    ghost busy: { (f : Self) (p : P) → does_nothing (holding f p) ≡ false };
+
+    ghost empties: { (f : Self) (p : P) (room : Kept ℕ) → owners_beside (holding f p) room ≡ emptied room };
+
+    ghost plans: { (f : Self) (p : P) → doing_plan (holding f p) ≡ Some (P.plan_of p) };
+
+    ghost within: { (env : Env) (c : ℕ) (f : Self) (p : P) → IsDoingIn env c (holding f p) → P.is_in env p };
+
+    ghost goes: { (f : Self) (p : P) (old : ℕ) → doing_after M.mix_of (holding f p) old ≡ piece_next (λ q. holding f q) (λ a. behind f a) (P.after_of p old) };
+
+    ghost keeps: { (f : Self) (p : P) (room : Kept ℕ) (old : ℕ) → owners_after M.mix_of (holding f p) room old ≡ room };
+}
+
+/// The whole machine of a call. Its reply ends the call.
+#[derive(Clone, Copy)]
+pub struct Whole;
+
+// ---- pieces
+
+impl<M: Mix> Piece<M, Probed> for Probe {
+    ghost plan_of = { probe_plan };
+
+    ghost after_of = { probe_after };
+
+    ghost is_in = { λ env p. IsProbeIn env.geometry p };
+
+    #[inline(always)]
+    fn planned(&self) -> Op {
+        self.plan()
+    }
+
+    #[inline(always)]
+    fn told(&mut self, old: u64) -> Next<Probed> {
+        self.take(old)
+    }
+}
+
+// ---- the look-up
+
+impl<M: Mix> Piece<M, Reply> for Find<M> {
+    ghost plan_of = { find_plan };
+
+    ghost after_of = { find_after M.mix_of };
+
+    ghost is_in = { λ env m. IsFindAtIn env m.at };
+
+    #[inline(always)]
+    fn planned(&self) -> Op {
+        self.plan()
+    }
+
+    #[inline(always)]
+    fn told(&mut self, old: u64) -> Next<Reply> {
+        self.take(old)
+    }
+}
+
+impl<M: Mix> Frame<M, Find<M>, Reply> for Whole {
+    ghost use Rattle.std.specs.Prelude.{refl};
+
+    ghost holding = { λ f m. Finding m };
+
+    ghost behind = { λ f reply. (Idle, Some reply) };
+
+    ghost busy = { λ f m. refl };
+
+    ghost empties = { λ f m room. refl };
+
+    ghost plans = { λ f m. refl };
+
+    ghost within = { λ env c f m is. is.at_in };
+
+    ghost goes = { λ f m old. doing_piece Finding (find_after M.mix_of m old) };
+
+    ghost keeps = { λ f m room old. refl };
+}
+
+/// A look-up that is in the port's bucket.
+#[derive(Clone, Copy)]
+pub struct FindProbing {
+    pub env: Env,
+    pub caller: u32,
+    pub port: Port,
+    pub table: u32,
+}
+
+impl<M: Mix> Frame<M, Probe, Probed> for FindProbing {
+    ghost use Rattle.std.specs.Prelude.{refl};
+
+    ghost holding = { λ f p. find_at f.env f.caller f.port (finds.Probing f.table p) };
+
+    ghost behind = { λ f end. find_probed f.env f.caller f.port f.table end };
+
+    ghost busy = { λ f p. refl };
+
+    ghost empties = { λ f p room. refl };
+
+    ghost plans = { λ f p. refl };
+
+    ghost within = { λ env c f p is. is.at_in.probe_in };
+
+    ghost goes = { λ f p old. find_probing f.env f.caller f.port f.table (probe_after p old) };
+
+    ghost keeps = { λ f p room old. refl };
+}
+
+// ---- the bind
+
+impl<M: Mix> Piece<M, Option<u32>> for NewNode {
+    ghost plan_of = { new_node_plan };
+
+    ghost after_of = { new_node_after };
+
+    ghost is_in = { λ env p. IsNewNodeIn env.geometry p };
+
+    #[inline(always)]
+    fn planned(&self) -> Op {
+        self.plan()
+    }
+
+    #[inline(always)]
+    fn told(&mut self, old: u64) -> Next<Option<u32>> {
+        self.take(old)
+    }
+}
+
+impl<M: Mix> Piece<M, Reply> for Bind<M> {
+    ghost plan_of = { bind_plan };
+
+    ghost after_of = { bind_after M.mix_of };
+
+    ghost is_in = { λ env m. IsBindAtIn env m.at };
+
+    #[inline(always)]
+    fn planned(&self) -> Op {
+        self.plan()
+    }
+
+    #[inline(always)]
+    fn told(&mut self, old: u64) -> Next<Reply> {
+        self.take(old)
+    }
+}
+
+impl<M: Mix> Frame<M, Bind<M>, Reply> for Whole {
+    ghost use Rattle.std.specs.Prelude.{refl};
+
+    ghost holding = { λ f m. Binding m };
+
+    ghost behind = { λ f reply. (Idle, Some reply) };
+
+    ghost busy = { λ f m. refl };
+
+    ghost empties = { λ f m room. refl };
+
+    ghost plans = { λ f m. refl };
+
+    ghost within = { λ env c f m is. is.at_in };
+
+    ghost goes = { λ f m old. doing_piece Binding (bind_after M.mix_of m old) };
+
+    ghost keeps = { λ f m room old. refl };
+}
+
+/// A bind that takes a node and fills it.
+#[derive(Clone, Copy)]
+pub struct BindFilling {
+    pub env: Env,
+    pub caller: u32,
+    pub port: Port,
+    pub owner: u32,
+    pub once: bool,
+}
+
+impl<M: Mix> Frame<M, NewNode, Option<u32>> for BindFilling {
+    ghost use Rattle.std.specs.Prelude.{refl};
+
+    ghost holding = { λ f p. bind_at f.env f.caller f.port f.owner f.once (binds.Filling p) };
+
+    ghost behind = { λ f node. bind_filled f.env f.caller f.port f.owner f.once node };
+
+    ghost busy = { λ f p. refl };
+
+    ghost empties = { λ f p room. refl };
+
+    ghost plans = { λ f p. refl };
+
+    ghost within = { λ env c f p is. is.at_in };
+
+    ghost goes = { λ f p old. bind_filling f.env f.caller f.port f.owner f.once (new_node_after p old) };
+
+    ghost keeps = { λ f p room old. refl };
+}
+
+/// A bind that is in the port's bucket.
+#[derive(Clone, Copy)]
+pub struct BindProbing {
+    pub env: Env,
+    pub caller: u32,
+    pub port: Port,
+    pub owner: u32,
+    pub once: bool,
+    pub attempt: Attempt,
+    pub table: u32,
+    pub shape: u64,
+}
+
+impl<M: Mix> Frame<M, Probe, Probed> for BindProbing {
+    ghost use Rattle.std.specs.Prelude.{refl};
+
+    ghost holding = { λ f p. bind_at f.env f.caller f.port f.owner f.once (binds.Probing f.attempt f.table f.shape p) };
+
+    ghost behind = { λ f end. bind_probed f.env f.caller f.port f.owner f.once f.attempt f.table f.shape end };
+
+    ghost busy = { λ f p. refl };
+
+    ghost empties = { λ f p room. refl };
+
+    ghost plans = { λ f p. refl };
+
+    ghost within = { λ env c f p is. is.at_in.probe_in };
+
+    ghost goes = { λ f p old. bind_probing f.env f.caller f.port f.owner f.once f.attempt f.table f.shape (probe_after p old) };
+
+    ghost keeps = { λ f p room old. refl };
+}

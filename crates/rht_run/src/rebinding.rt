@@ -1,0 +1,144 @@
+//! The rebind of a port, in straight code.
+
+ghost use Rattle.std.specs.Prelude.{◌≡◌};
+ghost use Rattle.rht_words.specs.declared.config.Kind.TheVariants.{Single};
+ghost use Rattle.rht_model.specs.declared.history.Call.TheVariants.{Rebind as RebindCall};
+ghost use Rattle.rht_core.specs.Locals.{doing_after};
+ghost use Rattle.rht_release.specs.Rebind.{replacing};
+ghost use Rattle.rht_model.specs.declared.history.Reply.TheVariants.{Rebound};
+ghost use Rattle.rht_run.specs.Rides.{IsBefore, IsRiding, HasEnded, Stepped};
+ghost use Rattle.rht_run.specs.Seeks.{rebind_at};
+
+use crate::pieces::Whole;
+use crate::ride::Ride;
+use crate::seats::SeatView;
+use crate::seeks::{RebindFilling, RebindSeeking};
+use crate::table::Table;
+use atomic_table::Seat;
+use rht_model::Reply;
+use rht_policy::Mix;
+use rht_release::rebind::{giving, owner_compared};
+use rht_release::{FoundPort, Rebind, RebindAt, SeekAt};
+use rht_words::{Env, Port, link_of, owner_of, table_of};
+use std::sync::Wait;
+
+impl<M: Mix> Table<M> {
+    /// Puts the new owner in the old one's place, from the first operation to the reply.
+    #[inline(always)]
+    pub(crate) fn drive_rebind<R: Wait, K: Ride>(
+        &self,
+        rt: &R,
+        seat: &mut Seat<(), SeatView<M>>,
+        number: u32,
+        port: Port,
+        owner: u32,
+        new: u32,
+    ) -> Reply
+        requires before { IsBefore M.mix_of self.now K.riding seat.old }
+        requires number { K.riding.number ≡ number }
+        requires call { K.riding.call ≡ RebindCall port owner new }
+        requires single { self.now.env.config.kind ≡ Single }
+        ensures { HasEnded M.mix_of self.now K.riding result seat.new }
+    {
+        let env = self.env;
+        let frame = RebindFilling {
+            env,
+            caller: number,
+            port,
+            owner,
+            new,
+        };
+        let Some(node) = self.begin_with_node::<R, K, RebindFilling>(rt, seat, &frame, port, new)
+        else {
+            return Reply::NoNode;
+        };
+        let frame = RebindSeeking {
+            env,
+            caller: number,
+            owner,
+            new,
+            node,
+        };
+        let at = SeekAt::CurrentTable;
+        let table = table_of(self.seeking::<K, RebindSeeking>(
+            seat,
+            &frame,
+            env.geometry,
+            port,
+            at,
+        ));
+        let Some(found) = self.seek::<R, K, RebindSeeking>(rt, seat, &frame, port, table) else {
+            let at = giving(env.geometry, node);
+            self.rebinding::<K>(seat, env, number, port, owner, new, at);
+            return Reply::Absent;
+        };
+        let at = RebindAt::Owner { node, found };
+        let first = owner_of(self.rebinding::<K>(seat, env, number, port, owner, new, at));
+        let at = owner_compared(node, found, first == owner);
+        let RebindAt::ChainLink { .. } = at else {
+            self.rebinding::<K>(seat, env, number, port, owner, new, at);
+            let at = giving(env.geometry, node);
+            self.rebinding::<K>(seat, env, number, port, owner, new, at);
+            return Reply::Absent;
+        };
+        let link = self.rebinding::<K>(seat, env, number, port, owner, new, at);
+        let at = RebindAt::Link { node, found, link };
+        self.rebinding::<K>(seat, env, number, port, owner, new, at);
+        self.replacing::<K>(seat, env, number, port, owner, new, node, found);
+        Reply::Rebound
+    }
+
+    /// Puts the new node in the old one's place, and unlocks the bucket.
+    #[inline(always)]
+    fn replacing<K: Ride>(
+        &self,
+        seat: &mut Seat<(), SeatView<M>>,
+        env: Env,
+        number: u32,
+        port: Port,
+        owner: u32,
+        new: u32,
+        node: u32,
+        found: FoundPort,
+    )
+        requires { IsRiding M.mix_of self.now K.riding (rebind_at env number port owner new (replacing env.geometry node found)) seat.old }
+        ensures { HasEnded M.mix_of self.now K.riding Rebound seat.new }
+    {
+        let relink = found.relink(env.geometry, link_of(node));
+        let at = RebindAt::Replacing {
+            node,
+            found,
+            relink,
+        };
+        self.rebinding::<K>(seat, env, number, port, owner, new, at);
+        let Some(_) = found.before else {
+            return;
+        };
+        let (relink, _) = relink.after();
+        let at = RebindAt::Replacing {
+            node,
+            found,
+            relink,
+        };
+        self.rebinding::<K>(seat, env, number, port, owner, new, at);
+    }
+
+    /// The operation of the rebind in this state.
+    #[inline(always)]
+    fn rebinding<K: Ride>(
+        &self,
+        seat: &mut Seat<(), SeatView<M>>,
+        env: Env,
+        number: u32,
+        port: Port,
+        owner: u32,
+        new: u32,
+        at: RebindAt,
+    ) -> u64
+        requires { IsRiding M.mix_of self.now K.riding (rebind_at env number port owner new at) seat.old }
+        ensures { Stepped M.mix_of self.now K.riding (doing_after M.mix_of (rebind_at env number port owner new at) result) seat.new }
+    {
+        let rebind = Rebind::<M>::new(env, number, port, owner, new).with(at);
+        self.operate::<K, Reply, Rebind<M>, Whole>(seat, &Whole, &rebind)
+    }
+}

@@ -1,0 +1,114 @@
+//! One operation of a call that is driven from outside its pass.
+//!
+//! The calls of a port go through the states of their machine in straight code: each line makes one
+//! operation, and knows in which state the machine is. So no machine is kept while the program runs.
+//! The seat's view has it, for the proofs alone.
+
+ghost use Rattle.std.specs.Prelude.{◌≡◌, Option, None, Some};
+ghost use Rattle.rht_model.specs.Rooms.{emptied};
+ghost use Rattle.rht_model.specs.declared.history.Reply.{Reply as ReplyOf};
+ghost use Rattle.rht_core.specs.declared.local.Doing.TheVariants.{Idle};
+ghost use Rattle.rht_core.specs.Locals.{machine_of, doing_after};
+ghost use Rattle.rht_core.specs.Runs.{IsAdmittedCall, IsBuiltFor};
+ghost use Rattle.rht_run.specs.Rides.{Riding, any_riding, IsBefore, IsRiding, HasEnded, Stepped, piece_next};
+
+use crate::pieces::{Frame, Piece};
+use crate::seats::SeatView;
+use crate::table::Table;
+use atomic_table::Seat;
+use rht_core::Local;
+use rht_model::Reply;
+use rht_policy::Mix;
+use rht_words::Next;
+use std::marker::Brand;
+use std::sync::Wait;
+
+/// What stays as it is while a call is driven.
+pub trait Ride {
+    ghost riding: { Riding };
+}
+
+impl Ride for Brand {
+    ghost riding = { any_riding };
+}
+
+impl<M: Mix> Table<M> {
+    /// The first operation of a call, which this piece plans.
+    #[inline(always)]
+    pub(crate) fn begin<K: Ride, A, P: Piece<M, A>, F: Frame<M, P, A>>(
+        &self,
+        seat: &mut Seat<(), SeatView<M>>,
+        frame: &F,
+        piece: &P,
+    ) -> u64
+        requires before { IsBefore M.mix_of self.now K.riding seat.old }
+        requires begins { machine_of self.now.env K.riding.number K.riding.call ≡ Some (F.holding frame.now piece.now) }
+        requires admitted { IsAdmittedCall K.riding.call }
+        requires built { IsBuiltFor self.now.env.config.kind K.riding.call }
+        ensures doing { Stepped M.mix_of self.now K.riding (doing_after M.mix_of (F.holding frame.now piece.now) result) seat.new }
+        ensures piece { Stepped M.mix_of self.now K.riding (piece_next (λ p. F.holding frame.now p) (λ a. F.behind frame.now a) (P.after_of piece.now result)) seat.new }
+    {
+        let op = piece.planned();
+        self.perform::<Brand>(seat, op)
+    }
+
+    /// The operation that this piece plans, in the machine that holds it.
+    #[inline(always)]
+    pub(crate) fn operate<K: Ride, A, P: Piece<M, A>, F: Frame<M, P, A>>(
+        &self,
+        seat: &mut Seat<(), SeatView<M>>,
+        frame: &F,
+        piece: &P,
+    ) -> u64
+        requires { IsRiding M.mix_of self.now K.riding (F.holding frame.now piece.now) seat.old }
+        ensures doing { Stepped M.mix_of self.now K.riding (doing_after M.mix_of (F.holding frame.now piece.now) result) seat.new }
+        ensures piece { Stepped M.mix_of self.now K.riding (piece_next (λ p. F.holding frame.now p) (λ a. F.behind frame.now a) (P.after_of piece.now result)) seat.new }
+    {
+        let op = piece.planned();
+        self.perform::<Brand>(seat, op)
+    }
+
+    /// Runs a machine from where it stands to its reply, one operation after another. It is for the
+    /// ways that are seldom taken.
+    #[cold]
+    #[inline(never)]
+    pub(crate) fn run_whole<R: Wait, K: Ride, P: Piece<M, Reply> + Drop, F: Frame<M, P, Reply>>(
+        &self,
+        rt: &R,
+        seat: &mut Seat<(), SeatView<M>>,
+        frame: &F,
+        machine: P,
+    ) -> Reply
+        requires riding { IsRiding M.mix_of self.now K.riding (F.holding frame.now machine) seat.old }
+        requires ends { (reply : ReplyOf) → F.behind frame.now reply ≡ (Idle, Some reply) }
+        ensures { HasEnded M.mix_of self.now K.riding result seat.new }
+    {
+        let mut machine = machine;
+        for _ in rt.forever() {
+            let old = self.operate::<K, Reply, P, F>(seat, frame, &machine);
+            if let Next::Done(reply) = machine.told(old) {
+                return reply;
+            }
+        }
+        unreachable!()
+    }
+}
+
+/// Empties the caller's rooms, as the beginning of a call does that brings no lists. It takes no memory.
+#[inline(always)]
+pub(crate) fn clear_rooms<M: Mix>(local: &mut Local<M>)
+    ensures { local.new ≡ record local.old { owners = emptied local.old.owners; pairs = emptied local.old.pairs } }
+{
+    local.owners.clear();
+    local.pairs.clear();
+}
+
+/// Behind a loop of 2^64 - 1 rounds, which no run uses up: it waits for ever. `rt.forever()` in that
+/// loop would do so too, but it asks in each round, and the compiler keeps what it asks.
+#[cold]
+#[inline(never)]
+pub(crate) fn never<R: Wait>(rt: &R)
+    ensures { ⊥ }
+{
+    for _ in rt.forever() {}
+}
