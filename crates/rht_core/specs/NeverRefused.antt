@@ -1,6 +1,6 @@
 -- Where a table is large enough for the commands that a run serves, none of them about bindings is refused; and where there is one worker,
 -- each is answered as the model answers it. It is said in the words of the commands alone: no word of a table and no event of the run.
-use Rattle.std.specs.Prelude.{◌≡◌, ℕ, ◌+◌, ◌<◌, ◌≤◌, is_some, IfSome, true, false, List, [], ◌∷◌, length, take, count_by}
+use Rattle.std.specs.Prelude.{◌≡◌, ℕ, ◌+◌, ◌<◌, ◌≤◌, is_some, IfSome, Bool, true, false, List, [], ◌∷◌, length, take, count_by}
 use Rattle.std.specs.List.{AllByRecursion}
 use Rattle.rht_words.specs.declared.config.Config.{Config}
 use Rattle.rht_words.specs.declared.config.Kind.{Kind}
