@@ -18,6 +18,12 @@ pub mod AloneLaw
 pub mod ToldEntries
 -- a run that serves commands has a history that tells so
 pub mod ToldHistories
+-- what calls leave and are answered where none is refused: lists alone, with no run
+pub mod AnsweredInOrder
+-- some commands with how they ended
+pub mod WorkedAnswers
+-- in a run whose table is large enough for the commands that it serves none is refused
+pub mod NeverRefused
 -- a resizing that was alone and found nothing due leaves nothing due
 pub mod SettledTables
 -- where all binds of a run are of some ports, no other port is ever bound

@@ -8,6 +8,8 @@ pub mod TracedJobs
 pub mod TracesInRuns
 -- in every run the traces say what happened at which event
 pub mod TracesAtEvents
+-- the calls that had ended behind the first events of a run
+pub mod CallsOfFronts
 -- in every run each operation stands in the trace of its call
 pub mod StepsInTraces
 -- the words that a call leaves, while no other caller is in one

@@ -39,6 +39,8 @@ pub mod RunHistories
 pub mod Serving
 -- what a run tells that serves commands
 pub mod ToldHistories
+-- and that no command is refused where the table is large enough
+pub mod NeverRefused
 -- why a resizing was answered as it was
 pub mod WorkCauses
 -- what a resizing leaves that is alone

@@ -6,6 +6,7 @@ ghost use Rattle.rht_core.specs.Counts.{Counted, AtRest};
 ghost use Rattle.rht_core.specs.FewPorts.{FewPorts, OneCaller};
 ghost use Rattle.rht_core.specs.Kicks.{Kicks};
 ghost use Rattle.rht_core.specs.ListedOwners.{ListedOwners};
+ghost use Rattle.rht_core.specs.NeverRefused.{RoomyTakesAll, OneWorkerAsModel};
 ghost use Rattle.rht_core.specs.NodesUsed.{Nodes};
 ghost use Rattle.rht_core.specs.Refused.{Refused};
 ghost use Rattle.rht_core.specs.RunHistories.{HasFittingHistory};
@@ -249,4 +250,17 @@ pub fn one_caller<M: Mix>()
 /// is such a run, and nothing of commands that aren't about bindings.
 pub fn told<M: Mix>()
     ensures { HasToldHistory M M.mix_of }
+{}
+
+/// Where a run serves the commands of workers, and the table begins with 64 buckets or more, doesn't
+/// shrink, has as many nodes as there are commands that bind or rebind, or more, and these binds have 15
+/// ports at most, no command about bindings is refused, and the table is closed with the size with which
+/// it began. Where there is one worker, 16 buckets are enough, and the ports may be any, if by the model
+/// fewer than 16 are bound after each command: then each command about bindings is answered as the model
+/// answers it, in the order of the script, and what was closed is what the model leaves. A kick isn't
+/// looked at. It doesn't say that there is such a run, and nothing of how commands end that aren't about
+/// bindings.
+pub fn never_refused<M: Mix>()
+    ensures workers { RoomyTakesAll M M.mix_of }
+    ensures one_worker { OneWorkerAsModel M M.mix_of }
 {}

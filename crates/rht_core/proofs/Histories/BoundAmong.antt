@@ -2,7 +2,7 @@
 -- A history fits the run, and each of its entries is of a call that has ended or of one in progress. So what its first entries leave binds
 -- these ports alone, and that is what the words stand for. So many ports are bound at most, and the count of ports is at most these and
 -- the callers.
-use Rattle.std.proofs.Common.{◌≡◌, ◌≢◌, ℕ, zero, suc, ◌+◌, ◌≤◌, cond, nat_le, List, [], ◌∷◌, ◌++◌, length, take, map, length-append, refl, sym, ap, ◌∙◌, subst, inl, inr, arith}
+use Rattle.std.proofs.Common.{◌≡◌, ◌≢◌, ℕ, zero, suc, ◌+◌, ◌≤◌, cond, nat_le, List, [], ◌∷◌, ◌++◌, length, take, length-append, refl, sym, ap, ◌∙◌, subst, inl, inr, arith}
 use Rattle.std.specs.Prelude.{Option, Some, None, IfSome, is_some, ◌==◌}
 use Rattle.std.specs.List.{AllByRecursion}
 use Rattle.std.proofs.lemmas.Bool.{cases_lt, eqb-true, eq-eqb}
@@ -33,6 +33,7 @@ use Rattle.rht_core.proofs.Tracing.TracedRuns.{world-traced_of}
 use Rattle.rht_core.proofs.Tracing.TracesInRuns.{remembers}
 use Rattle.rht_core.proofs.Counting.CountedRuns.{counted}
 use Rattle.rht_core.proofs.Histories.FittingRuns.{opening-agree, fits}
+use Rattle.rht_core.proofs.Histories.ToldEntries.{AllByRecursion-in_map}
 
 -- ---- lists without a number twice
 
@@ -171,15 +172,10 @@ module _ (M : Type 0) (mix : ℕ → ℕ → ℕ → ℕ) (env : Env) (events : 
   -- the calls of a trace are those of its book
   calls-among : (c : ℕ) → AllByRecursion (PastAmong ports) (r.traces c).past
   calls-among c =
-      unmap (r.traces c).past
+      AllByRecursion-in_map (λ (done : Finished). BindsAmong ports done.call) (λ (past : Past). past.done) (r.traces c).past
       (subst (AllByRecursion (λ (done : Finished). BindsAmong ports done.call)) (sym ((remembers M mix env events admitted).traces c).past)
       (subst (λ (w : World M). AllByRecursion (λ (done : Finished). BindsAmong ports done.call) (w.books c).finished)
       (sym (world-traced_of M mix env events)) (among c).ended))
-    where
-      unmap : (calls : List Past) → AllByRecursion (λ (done : Finished). BindsAmong ports done.call) (map (λ past. past.done) calls)
-          → AllByRecursion (PastAmong ports) calls
-      unmap [] all = tt
-      unmap (past ∷ calls) all = (all.0, unmap calls all.1)
 
   progress-among : (c : ℕ) → IfSome (r.world.books c).call (BindsAmong ports)
   progress-among c =

@@ -87,7 +87,7 @@ entries_by-ended c calls history ended =
 -- ---- calls that serve commands
 
 -- a command's calls come first: its own, those behind it, and then those of the other commands
-command_first : (auto : Bool) (call : Call) (ending : Ending) (Others : List Finished → Type 0) (done : List Finished)
+pub command_first : (auto : Bool) (call : Call) (ending : Ending) (Others : List Finished → Type 0) (done : List Finished)
     → (cut : IsCut (AreForCommand auto call ending) Others done)
     → done ≡ ended_with call ending ∷ cut.first_is.behind ++ cut.rest
 command_first auto call ending Others done cut = cut.whole ∙ ap (λ front. front ++ cut.rest) cut.first_is.whole
@@ -173,11 +173,16 @@ pub entries_told-none : (c : ℕ) (calls : List Call) → entries_told c calls [
 entries_told-none c [] = refl
 entries_told-none c (call ∷ calls) = refl
 
--- what is so of a list of things made of others is so of what is made of each
+-- what is so of a list of things made of others is so of what is made of each, and the other way round
 pub AllByRecursion-of_map : {X Y : Type 0} (P : Y → Type 0) (f : X → Y) (xs : List X) → AllByRecursion (λ x. P (f x)) xs
     → AllByRecursion P (map f xs)
 AllByRecursion-of_map P f [] all = tt
 AllByRecursion-of_map P f (x ∷ xs) all = (all.0, AllByRecursion-of_map P f xs all.1)
+
+pub AllByRecursion-in_map : {X Y : Type 0} (P : Y → Type 0) (f : X → Y) (xs : List X) → AllByRecursion P (map f xs)
+    → AllByRecursion (λ x. P (f x)) xs
+AllByRecursion-in_map P f [] all = tt
+AllByRecursion-in_map P f (x ∷ xs) all = (all.0, AllByRecursion-in_map P f xs all.1)
 
 -- ---- histories of one caller
 

@@ -90,7 +90,7 @@ saw-full M mix env events c past call reply count cause full =
     go Count saw = absurd saw
 
 -- as many ports are bound where the bindings agree
-AreBound-Agree : (here there : Multimap) (count : ℕ) → Agree there here → AreBound here count → AreBound there count
+pub AreBound-Agree : (here there : Multimap) (count : ℕ) → Agree there here → AreBound here count → AreBound there count
 AreBound-Agree here there count agree are = record {
   ports = are.ports;
   distinct = are.distinct;
@@ -136,12 +136,12 @@ module _ (M : Type 0) (mix : ℕ → ℕ → ℕ → ℕ) (env : Env) (auto : Bo
       omega (arith, few, callers, past)
 
   -- each caller's finished calls serve its commands, or it has none
-  abbrev IsServed : ℕ → Type 0
+  abbrev pub IsServed : ℕ → Type 0
   IsServed c =
       Serves auto (calls_of (c + 1) commands) (endings_by c endings) (w.books c).finished
       ⊎ (((w.books c).finished ≡ []) × (endings_by c endings ≡ []))
 
-  serving : (c : ℕ) → IsServed c
+  pub serving : (c : ℕ) → IsServed c
   serving c = elim (cases_lt c env.config.callers) [
     | inl low ↦ inl (each c low).serves
     | inr past ↦ inr (ap (λ (v : View M). v.book.finished) (not_enrolled M mix env events admitted c (unknown c past)), no_endings c past)
@@ -160,7 +160,7 @@ module _ (M : Type 0) (mix : ℕ → ℕ → ℕ → ℕ) (env : Env) (auto : Bo
 
   -- ---- entries
 
-  ended : (history : List Numbered) → Fits M mix env events history → (c : ℕ)
+  pub ended : (history : List Numbered) → Fits M mix env events history → (c : ℕ)
       → AreEnded (about_bindings (r.traces c).past) (entries_of c history)
   ended history fitting c =
       let trace = r.traces c in
@@ -184,7 +184,7 @@ module _ (M : Type 0) (mix : ℕ → ℕ → ℕ → ℕ) (env : Env) (auto : Bo
           ap (entries_done c) none.0 ∙ sym (entries_told-none c (calls_of (c + 1) commands))
           ∙ ap (entries_told c (calls_of (c + 1) commands)) (sym none.1)
 
-  order_is : (history : List Numbered) → Fits M mix env events history → env.config.callers ≡ 1
+  pub order_is : (history : List Numbered) → Fits M mix env events history → env.config.callers ≡ 1
       → history_of history ≡ entries_told 0 (calls_of 1 commands) (endings_by 0 endings)
   order_is history fitting one =
       sym (all_first (history_of history) (λ c more.
@@ -226,7 +226,7 @@ module _ (M : Type 0) (mix : ℕ → ℕ → ℕ → ℕ) (env : Env) (auto : Bo
       let zero : ◌≡◌ {A = ℕ} (cond (may_take_node (w.books c).call) 1 0) 0 = ap (λ o. cond (may_take_node o) 1 0) none in
       omega (arith, zero)
 
-  no_call_there : (c : ℕ) → (w.books c).call ≡ None
+  pub no_call_there : (c : ℕ) → (w.books c).call ≡ None
   no_call_there c = ap (λ (v : World M). (v.books c).call) (sym same_world) ∙ no_call c
 
   took_most : (c : ℕ) → took c ≤ need c

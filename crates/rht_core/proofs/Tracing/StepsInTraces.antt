@@ -346,7 +346,7 @@ behind_steps-lower from later [] lower = lower
 behind_steps-lower from later (did ∷ steps) lower = omega arith
 
 -- they lie from where they begin up to the one behind them
-from-behind : (from : ℕ) (steps : List Did) → IsRising from steps → from ≤ behind_steps from steps
+pub from-behind : (from : ℕ) (steps : List Did) → IsRising from steps → from ≤ behind_steps from steps
 from-behind from [] rising = omega arith
 from-behind from (did ∷ steps) rising = omega (arith, rising.0, from-behind (did.index + 1) steps rising.1)
 
