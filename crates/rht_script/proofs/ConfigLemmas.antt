@@ -5,7 +5,7 @@ use Rattle.std.proofs.Common.{◌≡◌, ℕ, ◌*◌, ◌^◌, ◌<◌, ◌≤�
 use Rattle.std.specs.Prelude.{IfSome, nat_le}
 use Rattle.std.specs.Int.{IsPowerOfTwo}
 use Rattle.std.proofs.lemmas.Bool.{cases_lt, leb-true, ne_eqb}
-use Rattle.rht_words.specs.Limits.{IsWithinLimits, node_limits, hint_limits, min_limits, max_limits, page_limits, seed_limits, rewalk_limits, page_words}
+use Rattle.rht_words.specs.Limits.{IsWithinLimits, node_limits, hint_limits, min_limits, max_limits, page_limits, caller_limits, seed_limits, rewalk_limits, page_words}
 use Rattle.rht_words.specs.declared.config.Config.{Config}
 use Rattle.rht_words.specs.declared.config.Kind.{Kind}
 use Rattle.rht_words.specs.declared.limits.Limits.{Limits}
@@ -104,7 +104,8 @@ module _ (kind : Kind) (options : Options) (allowed : AreAllowed options) where
       nodes_within =
           either_way (IsWithinLimits node_limits) options.nodes 4096 allowed.nodes (omega arith, omega arith);
       pages_within = pages_within;
-      callers_within = (omega arith, omega arith);
+      callers_within =
+          either_way (IsWithinLimits caller_limits) options.workers 1 allowed.workers (omega arith, omega arith);
     };
     hint = hint_within;
     least =

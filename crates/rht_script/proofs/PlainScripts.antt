@@ -1,7 +1,7 @@
 -- What is spelled plainly is read back. A plain line has the words that it was made of (`PlainWords`), so a command's line
 -- is read as the command, case by case of the verbs, and the table line as the config, option by option: each is set once,
--- its number is within its limits, and the least size and the greatest are rounded already. By induction over the commands, their lines are
--- read as they.
+-- its number is within its limits, and the least size and the greatest are rounded already. By induction over the
+-- commands, their lines are read as they.
 use Rattle.std.proofs.Common.{◌≡◌, ℕ, ◌+◌, ◌*◌, ◌^◌, ◌<◌, ◌≤◌, ◌==◌, Bool, true, false, cond, Option, Some, None, Ok, List, [], ◌∷◌, ◌++◌, length, length-append, max, unwrap_or, refl, sym, ap, ◌∙◌, inl, inr, arith}
 use Rattle.std.specs.Prelude.{codes, decimal}
 use Rattle.std.specs.List.{AllByRecursion, flat_map}
@@ -13,8 +13,8 @@ use Rattle.rht_words.specs.declared.config.Kind.TheVariants.{Single, Listed}
 use Rattle.rht_words.specs.declared.config.Hash.{Hash}
 use Rattle.rht_words.specs.declared.config.Hash.TheVariants.{Mix, Low}
 use Rattle.rht_words.specs.declared.limits.Limits.{Limits}
-use Rattle.rht_words.specs.Limits.{IsWithinLimits, node_limits, hint_limits, min_limits, max_limits, page_limits, seed_limits, rewalk_limits, page_words}
-use Rattle.rht_words.specs.Settled.{plain_config}
+use Rattle.rht_words.specs.Limits.{IsWithinLimits, node_limits, hint_limits, min_limits, max_limits, page_limits, caller_limits, seed_limits, rewalk_limits, page_words}
+use Rattle.rht_words.specs.Settled.{IsSettled, plain_config}
 use Rattle.rht_words.specs.Sizes.{rounded_down, first_size}
 use Rattle.rht_words.proofs.EachElement.{AllByRecursion-append}
 use Rattle.rht_words.proofs.Rounding.{rounded_down-zero}
@@ -22,18 +22,18 @@ use Rattle.rht_model.specs.declared.history.Call.{Call}
 use Rattle.rht_model.specs.declared.history.Call.TheVariants.{Bind, Find, All as ListAll, Release, Rebind, Walk, Work, Tidy, Count}
 use Rattle.rht_script.specs.declared.script.TableLine.{TableLine}
 use Rattle.rht_script.specs.declared.options.Setting.{Setting}
-use Rattle.rht_script.specs.declared.options.Setting.TheVariants.{Nodes, Hint, Min, Max, Pages, Seed, Rewalks, Hashing, Shrink, Auto}
+use Rattle.rht_script.specs.declared.options.Setting.TheVariants.{Nodes, Hint, Min, Max, Pages, Workers, Seed, Rewalks, Hashing, Shrink, Auto}
 use Rattle.rht_script.specs.declared.options.Options.{Options}
 use Rattle.rht_script.specs.Spelling.{◌>>=◌, lines_of, is_skipped, number_of}
-use Rattle.rht_script.specs.Grammar.{most_lines, words_at, commands_from, said_from}
+use Rattle.rht_script.specs.Grammar.{most_lines, most_in_line, words_at, commands_from, said_from}
 use Rattle.rht_script.specs.TableLines.{no_options, kind_of, with_setting, setting_of, options_from, configured, sizes_agree, has_room, rounded_min, config_of, table_of}
 use Rattle.rht_script.specs.CommandLines.{port_limits, owner_limits, worker_limits, bind_of, find_of, all_of, release_of, of_single, rebind_of, bare_of, call_of, command_of}
-use Rattle.rht_script.specs.Plain.{IsSayableConfig, IsSayableCall, IsSayableCommand, number_or_none, kind_word, hash_word, switch_word, auto_word, table_words, call_words, command_words, plain_line, plain_script}
+use Rattle.rht_script.specs.Plain.{IsSayableCall, IsSayableCommand, number_or_none, kind_word, hash_word, switch_word, auto_word, table_words, call_words, command_words, plain_line, plain_script}
 use Rattle.rht_script.specs.Laws.{ReadsBack}
 use Rattle.rht_script.proofs.LineLemmas.{words_at-right}
 use Rattle.rht_script.proofs.PiecesLemmas.{lines_of-empty}
 use Rattle.rht_script.proofs.ReadingLemmas.{reading_of-lines, said_with-commands}
-use Rattle.rht_script.proofs.PlainWords.{number_of-decimal, IsPlainWord, plain_name, IsPlainWord-decimal, is_schedule-decimal, is_comment-decimal, spaced_words, words_of-spaced, length-spaced, lines_of-plain}
+use Rattle.rht_script.proofs.PlainWords.{number_of-decimal, IsPlainWord, plain_name, IsPlainWord-decimal, is_schedule-decimal, is_comment-decimal, spaced_words, words_of-spaced, length-spaced, length-spaced_two, lines_of-plain}
 
 -- ---- calls
 
@@ -172,6 +172,12 @@ unfolding setting_of
 set_pages number within =
     set_number Pages page_limits (codes "pages") (λ value. refl) number (omega (arith, within)) within
 
+set_workers : (number : ℕ) → IsWithinLimits caller_limits number
+    → setting_of (codes "workers") (decimal number) ≡ Ok (Workers number)
+unfolding setting_of
+set_workers number within =
+    set_number Workers caller_limits (codes "workers") (λ value. refl) number (omega (arith, within)) within
+
 set_seed : (number : ℕ) → IsWithinLimits seed_limits number
     → setting_of (codes "seed") (decimal number) ≡ Ok (Seed number)
 unfolding setting_of
@@ -206,9 +212,8 @@ options_from-step : (options : Options) (setting : Setting) (name value : List �
 options_from-step options setting name value words is = rw is refl
 
 -- a config of these numbers
-made : Config → ℕ → ℕ → ℕ → ℕ → Config
-made config callers hint min max = record config {
-  callers = callers;
+made : Config → ℕ → ℕ → ℕ → Config
+made config hint min max = record config {
   hint = hint;
   min = min;
   max = max;
@@ -216,7 +221,7 @@ made config callers hint min max = record config {
 
 -- a config is made of its own numbers
 made-same : (config : Config)
-    → made config config.callers config.hint config.min config.max ≡ config
+    → made config config.hint config.min config.max ≡ config
 unfolding made
 made-same config = refl
 
@@ -228,6 +233,7 @@ options_said config auto hint most = record {
   min = Some config.min;
   max = most;
   pages = Some config.pages;
+  workers = Some config.callers;
   seed = Some config.seed;
   rewalks = Some config.rewalks;
   hash = Some config.hash;
@@ -245,6 +251,11 @@ kind_of-plain Listed = refl
 kind_word-plain : (kind : Kind) → IsPlainWord (kind_word kind)
 kind_word-plain Single = plain_name refl
 kind_word-plain Listed = plain_name refl
+
+-- a word for a kind has six bytes
+length-kind_word : (kind : Kind) → length (kind_word kind) ≡ 6
+length-kind_word Single = refl
+length-kind_word Listed = refl
 
 hash_word-plain : (hash : Hash) → IsPlainWord (hash_word hash)
 hash_word-plain Mix = plain_name refl
@@ -266,7 +277,7 @@ number_or_none-plain name plain number small = elim (cases_Bool (number == 0)) [
   | inr some ↦ rw some ((plain, (IsPlainWord-decimal number small, tt)), omega arith)
 ]
 
-module _ (config : Config) (auto : Bool) (sayable : IsSayableConfig config) where
+module _ (config : Config) (auto : Bool) (settled : IsSettled config) where
   -- the hint and the greatest size, where there is one
   abbrev hint_said : Option ℕ
   hint_said = cond (config.hint == 0) None (Some config.hint)
@@ -283,7 +294,7 @@ module _ (config : Config) (auto : Bool) (sayable : IsSayableConfig config) wher
         rw some
         (options_from-step (options_said config auto hint None) (Max config.max) (codes "max")
         (decimal config.max) []
-        (set_max config.max (sayable.settled.greatest.within (eqb-false config.max 0 some))))
+        (set_max config.max (settled.greatest.within (eqb-false config.max 0 some))))
   ]
 
   options_from-hint : options_from (options_said config auto None None) (number_or_none (codes "hint") config.hint
@@ -295,27 +306,49 @@ module _ (config : Config) (auto : Bool) (sayable : IsSayableConfig config) wher
         rw some
         (options_from-step (options_said config auto None None) (Hint config.hint) (codes "hint")
         (decimal config.hint) (number_or_none (codes "max") config.max)
-        (set_hint config.hint (positive, sayable.settled.hint))
+        (set_hint config.hint (positive, settled.hint))
         ∙ options_from-max (Some config.hint))
   ]
 
-  options_from-plain : options_from no_options (codes "hash" ∷ hash_word config.hash
-      ∷ codes "shrink" ∷ switch_word config.shrink ∷ codes "work" ∷ auto_word auto
-      ∷ codes "nodes" ∷ decimal config.nodes ∷ codes "min" ∷ decimal config.min
-      ∷ codes "pages" ∷ decimal config.pages ∷ codes "seed" ∷ decimal config.seed
-      ∷ codes "rewalks" ∷ decimal config.rewalks
-      ∷ (number_or_none (codes "hint") config.hint ++ number_or_none (codes "max") config.max)) ≡ Ok
-      (options_said config auto hint_said max_said)
-  options_from-plain =
-      let s = sayable.settled in
-      rw set_hash
-      (rw (set_shrink config.shrink)
-      (rw (set_auto auto)
-      (rw (set_nodes config.nodes s.geometry.nodes_within)
-      (rw (set_min config.min (omega (arith, s.least.within), s.least.within.1))
-      (rw (set_pages config.pages s.geometry.pages_within)
-      (rw (set_seed config.seed (omega arith, s.seed))
-      (rw (set_rewalks config.rewalks (omega arith, s.rewalks)) options_from-hint)))))))
+  -- the words of the table line from the seed on, from the nodes on, and all behind the kind (split so, the options are
+  -- set in few steps at a time)
+  abbrev last_words : List (List ℕ)
+  last_words =
+      codes "seed" ∷ decimal config.seed ∷ codes "rewalks" ∷ decimal config.rewalks
+      ∷ (number_or_none (codes "hint") config.hint ++ number_or_none (codes "max") config.max)
+
+  abbrev number_words : List (List ℕ)
+  number_words =
+      codes "nodes" ∷ decimal config.nodes ∷ codes "min" ∷ decimal config.min
+      ∷ codes "pages" ∷ decimal config.pages ∷ codes "workers" ∷ decimal config.callers ∷ last_words
+
+  abbrev option_words : List (List ℕ)
+  option_words =
+      codes "hash" ∷ hash_word config.hash ∷ codes "shrink" ∷ switch_word config.shrink
+      ∷ codes "work" ∷ auto_word auto ∷ number_words
+
+  -- what is set before each of them
+  abbrev set_before_last : Options
+  set_before_last = record (options_said config auto None None) { seed = None; rewalks = None }
+
+  abbrev set_before_numbers : Options
+  set_before_numbers =
+      record no_options { hash = Some config.hash; shrink = Some config.shrink; auto = Some auto }
+
+  options_from-last : options_from set_before_last last_words ≡ Ok (options_said config auto hint_said max_said)
+  options_from-last =
+      rw (set_seed config.seed (omega arith, settled.seed))
+      (rw (set_rewalks config.rewalks (omega arith, settled.rewalks)) options_from-hint)
+
+  options_from-numbers : options_from set_before_numbers number_words ≡ Ok (options_said config auto hint_said max_said)
+  options_from-numbers =
+      rw (set_nodes config.nodes settled.geometry.nodes_within)
+      (rw (set_min config.min (omega (arith, settled.least.within), settled.least.within.1))
+      (rw (set_pages config.pages settled.geometry.pages_within)
+      (rw (set_workers config.callers settled.geometry.callers_within) options_from-last)))
+
+  options_from-plain : options_from no_options option_words ≡ Ok (options_said config auto hint_said max_said)
+  options_from-plain = rw set_hash (rw (set_shrink config.shrink) (rw (set_auto auto) options_from-numbers))
 
   hint_same : unwrap_or hint_said plain_config.hint ≡ config.hint
   hint_same = elim (cases_Bool (config.hint == 0)) [
@@ -325,13 +358,13 @@ module _ (config : Config) (auto : Bool) (sayable : IsSayableConfig config) wher
 
   min_same : rounded_min config.min ≡ config.min
   min_same =
-      let least = sayable.settled.least in
+      let least = settled.least in
       ap (max 4) least.rounded ∙ omega (arith, least.within)
 
   max_same : rounded_down (unwrap_or max_said plain_config.max) ≡ config.max
   max_same = elim (cases_Bool (config.max == 0)) [
     | inl none ↦ rw none (rounded_down-zero ∙ sym (eqb-true config.max 0 none))
-    | inr some ↦ rw some sayable.settled.greatest.rounded
+    | inr some ↦ rw some settled.greatest.rounded
   ]
 
   -- the options stand for the config
@@ -340,9 +373,8 @@ module _ (config : Config) (auto : Bool) (sayable : IsSayableConfig config) wher
   configured-said =
       let hint = unwrap_or hint_said plain_config.hint in
       let most = rounded_down (unwrap_or max_said plain_config.max) in
-      let same : made config plain_config.callers hint (rounded_min config.min) most
-      ≡ made config config.callers config.hint config.min config.max =
-      rw (hint_same, min_same, max_same, sayable.callers) refl in
+      let same : made config hint (rounded_min config.min) most ≡ made config config.hint config.min config.max =
+      rw (hint_same, min_same, max_same) refl in
       same ∙ made-same config
 
   sizes_agree-settled : sizes_agree config ≡ true
@@ -350,14 +382,14 @@ module _ (config : Config) (auto : Bool) (sayable : IsSayableConfig config) wher
     | inl none ↦ rw none refl
     | inr some ↦
         rw some
-        (le-leb config.min config.max (sayable.settled.agree (eqb-false config.max 0 some)))
+        (le-leb config.min config.max (settled.agree (eqb-false config.max 0 some)))
   ]
 
   config_of-plain : config_of config.kind (options_said config auto hint_said max_said) ≡ Ok config
   unfolding config_of
   config_of-plain =
       let room : has_room config ≡ true = le-leb (first_size config) (page_words * config.pages)
-      sayable.settled.starts in
+      settled.starts in
       rw (configured-said, sizes_agree-settled, room) refl
 
   table_of-plain : table_of (table_words config auto) ≡ Ok (record { config = config; auto = auto })
@@ -368,39 +400,41 @@ module _ (config : Config) (auto : Bool) (sayable : IsSayableConfig config) wher
   max_small : config.max < 2 ^ 32
   max_small = elim (cases_Bool (config.max == 0)) [
     | inl none ↦ omega (arith, eqb-true config.max 0 none)
-    | inr some ↦ omega (arith, sayable.settled.greatest.within (eqb-false config.max 0 some))
+    | inr some ↦ omega (arith, settled.greatest.within (eqb-false config.max 0 some))
   ]
 
-  -- the words of the table line are plain, and at most twenty-two
-  table_words-plain : AllByRecursion IsPlainWord (table_words config auto) × (length (table_words config auto) ≤ 22)
+  -- the words of the table line are plain, and at most twenty-four
+  table_words-plain : AllByRecursion IsPlainWord (table_words config auto) × (length (table_words config auto) ≤ 24)
   table_words-plain =
-      let s = sayable.settled in
       let number = IsPlainWord-decimal in
-      let hint = number_or_none-plain (codes "hint") (plain_name refl) config.hint (omega (arith, s.hint)) in
+      let hint = number_or_none-plain (codes "hint") (plain_name refl) config.hint (omega (arith, settled.hint)) in
       let max = number_or_none-plain (codes "max") (plain_name refl) config.max max_small in
       let behind = AllByRecursion-append IsPlainWord (number_or_none (codes "hint") config.hint)
       (number_or_none (codes "max") config.max) hint.0 max.0 in
       let few = length-append (number_or_none (codes "hint") config.hint)
       (number_or_none (codes "max") config.max) in
-      let last : AllByRecursion IsPlainWord (codes "seed" ∷ decimal config.seed ∷ codes "rewalks" ∷ decimal config.rewalks
-      ∷ (number_or_none (codes "hint") config.hint ++ number_or_none (codes "max") config.max)) = (
+      let last : AllByRecursion IsPlainWord last_words = (
         plain_name refl,
         (
-          number config.seed (omega (arith, s.seed)),
-          (plain_name refl, (number config.rewalks (omega (arith, s.rewalks)), behind)),
+          number config.seed (omega (arith, settled.seed)),
+          (plain_name refl, (number config.rewalks (omega (arith, settled.rewalks)), behind)),
         ),
       ) in
-      let numbers : AllByRecursion IsPlainWord (codes "nodes" ∷ decimal config.nodes ∷ codes "min" ∷ decimal config.min
-      ∷ codes "pages" ∷ decimal config.pages ∷ codes "seed" ∷ decimal config.seed ∷ codes "rewalks" ∷ decimal config.rewalks
-      ∷ (number_or_none (codes "hint") config.hint ++ number_or_none (codes "max") config.max)) = (
+      let numbers : AllByRecursion IsPlainWord number_words = (
         plain_name refl,
         (
-          number config.nodes (omega (arith, s.geometry.nodes_within)),
+          number config.nodes (omega (arith, settled.geometry.nodes_within)),
           (
             plain_name refl,
             (
-              number config.min (omega (arith, s.least.within)),
-              (plain_name refl, (number config.pages (omega (arith, s.geometry.pages_within)), last)),
+              number config.min (omega (arith, settled.least.within)),
+              (
+                plain_name refl,
+                (
+                  number config.pages (omega (arith, settled.geometry.pages_within)),
+                  (plain_name refl, (number config.callers (omega (arith, settled.geometry.callers_within)), last)),
+                ),
+              ),
             ),
           ),
         ),
@@ -421,6 +455,16 @@ module _ (config : Config) (auto : Bool) (sayable : IsSayableConfig config) wher
         omega (arith, hint.1, max.1, few),
       )
 
+  -- The first two have eleven bytes together, and so the line isn't too long: it has at most 255.
+  table_words-short : length (spaced_words (table_words config auto)) ≤ most_in_line
+  table_words-short =
+      let plain = table_words-plain in
+      let few : length option_words ≤ 22 = omega (arith, plain.1) in
+      let long : length (spaced_words (table_words config auto))
+      ≤ 5 + length (kind_word config.kind) + 2 + 11 * length option_words =
+      length-spaced_two (codes "table") (kind_word config.kind) option_words plain.0.1.1 in
+      omega (arith, long, length-kind_word config.kind, few)
+
 -- ---- the whole script
 
 pub reads_back : ReadsBack
@@ -428,20 +472,20 @@ unfolding plain_script
 reads_back said can short =
     let config = said.config in
     let commands = said.commands in
-    let sayable = can.config in
+    let settled = can.config in
     let auto = said.auto in
     let table : TableLine = record { config = config; auto = auto } in
     let words = table_words config auto in
-    let plain = table_words-plain config auto sayable in
+    let plain = table_words-plain config auto settled in
     let behind = flat_map (λ command. plain_line (command_words command)) commands in
-    let callers : config.callers < 2 ^ 32 = omega (arith, sayable.settled.geometry.callers_within) in
+    let callers : config.callers < 2 ^ 32 = omega (arith, settled.geometry.callers_within) in
     let read : words_at 1 (spaced_words words) ≡ Ok words =
-    words_at-right 1 (spaced_words words) (omega arith) (omega (arith, length-spaced words plain.0, plain.1))
+    words_at-right 1 (spaced_words words) (omega arith) (table_words-short config auto settled)
     ∙ ap (λ (ws : List (List ℕ)). Ok ws) (words_of-spaced words plain.0) in
     let each = recursion_from_All (IsSayableCommand config) commands can.commands in
     let commands_read = commands_from-plain table callers 2 commands each (omega (arith, can.few)) in
     reading_of-lines (plain_line words ++ behind) short
     ∙ ap (said_from 1) (lines_of-plain words behind plain.0)
-    ∙ rw (read, table_of-plain config auto sayable)
+    ∙ rw (read, table_of-plain config auto settled)
     (said_with-commands table 2 (lines_of behind) commands commands_read
     ∙ rw (← can.schedule) refl)

@@ -214,6 +214,17 @@ length-spaced (word ∷ next ∷ words) plain =
     let joined = length-append word (32 ∷ spaced_words (next ∷ words)) in
     omega (arith, plain.0.short, joined, length-spaced (next ∷ words) plain.1)
 
+-- the same where what the first two have is known
+pub length-spaced_two : (first second : List ℕ) (words : List (List ℕ)) → AllByRecursion IsPlainWord words
+    → length (spaced_words (first ∷ second ∷ words)) ≤ length first + length second + 2 + 11 * length words
+length-spaced_two first second [] plain =
+    let joined = length-append first (32 ∷ second) in
+    omega (arith, joined)
+length-spaced_two first second (word ∷ words) plain =
+    let joined = length-append first (32 ∷ spaced_words (second ∷ word ∷ words)) in
+    let behind = length-append second (32 ∷ spaced_words (word ∷ words)) in
+    omega (arith, joined, behind, length-spaced (word ∷ words) plain)
+
 -- a plain line is the first line of a text
 pub lines_of-plain : (words : List (List ℕ)) (text : List ℕ) → AllByRecursion IsPlainWord words
     → lines_of (plain_line words ++ text) ≡ spaced_words words ∷ lines_of text

@@ -1,6 +1,6 @@
 -- Whatever is read, today's words can say. Each number of an option is read within its limits, so the options are
--- allowed, and where their first table has room their config is settled; what no option sets is as without options. Each
--- command is read with its worker, port and owner within their limits (`ReadCommands`).
+-- allowed, and where their first table has room their config is settled. Each command is read with its worker, port and
+-- owner within their limits (`ReadCommands`).
 use Rattle.std.proofs.Common.{◌≡◌, ℕ, ◌+◌, ◌*◌, Bool, true, false, not, ◌&&◌, cond, Ok, Err, List, [], ◌∷◌, length, codes, refl, ap, arith}
 use Rattle.std.specs.Prelude.{IfOk, nat_le, nat_lt}
 use Rattle.std.specs.List.{AllByRecursion}
@@ -11,7 +11,8 @@ use Rattle.std.proofs.lemmas.Result.{IfOk-at_ok}
 use Rattle.rht_words.specs.declared.config.Config.{Config}
 use Rattle.rht_words.specs.declared.config.Kind.{Kind}
 use Rattle.rht_words.specs.declared.limits.Limits.{Limits}
-use Rattle.rht_words.specs.Limits.{IsWithinLimits, node_limits, hint_limits, min_limits, max_limits, page_limits, seed_limits, rewalk_limits, page_words}
+use Rattle.rht_words.specs.Limits.{IsWithinLimits, node_limits, hint_limits, min_limits, max_limits, page_limits, caller_limits, seed_limits, rewalk_limits, page_words}
+use Rattle.rht_words.specs.Settled.{IsSettled}
 use Rattle.rht_words.specs.Sizes.{first_size}
 use Rattle.rht_model.specs.declared.history.Call.{Call}
 use Rattle.rht_model.specs.declared.history.Call.TheVariants.{Bind, Find, All as ListAll, Release, Rebind, Walk, Work, Tidy, Count}
@@ -19,14 +20,14 @@ use Rattle.rht_script.specs.declared.script.Script.{Script}
 use Rattle.rht_script.specs.declared.script.TableLine.{TableLine}
 use Rattle.rht_script.specs.declared.cause.Cause.TheVariants.{NoTableLine, UnknownWord, OptionsDisagree}
 use Rattle.rht_script.specs.declared.options.Setting.{Setting}
-use Rattle.rht_script.specs.declared.options.Setting.TheVariants.{Nodes, Hint, Min, Max, Pages, Seed, Rewalks, Hashing, Shrink, Auto}
+use Rattle.rht_script.specs.declared.options.Setting.TheVariants.{Nodes, Hint, Min, Max, Pages, Workers, Seed, Rewalks, Hashing, Shrink, Auto}
 use Rattle.rht_script.specs.declared.options.Options.{Options}
 use Rattle.rht_script.specs.Spelling.{is_word, is_within, number_of, lines_of, is_skipped}
 use Rattle.rht_script.specs.TableLines.{numbered, kind_of, hash_of, switch_of, auto_of, setting_of, no_options, with_setting, options_from, configured, sizes_agree, has_room, config_of, table_of}
 use Rattle.rht_script.specs.CommandLines.{port_limits, owner_limits, worker_limits, command_of}
 use Rattle.rht_script.specs.Grammar.{most_bytes, at_line, words_at, Said, commands_from, said_from, reading_of}
 use Rattle.rht_script.specs.Allowed.{IsAllowed, AreAllowed}
-use Rattle.rht_script.specs.Plain.{IsSayableConfig, IsSayableCall, IsSayableCommand}
+use Rattle.rht_script.specs.Plain.{IsSayableCall, IsSayableCommand}
 use Rattle.rht_script.specs.Reading.{said_by}
 use Rattle.rht_script.specs.Sound.{is_single, is_sound_call, is_sound_command, IsCommandCall, IsSoundScript}
 use Rattle.rht_script.specs.Laws.{SaysSayable}
@@ -66,6 +67,8 @@ module _ (value : List ℕ) where
       (numbered_allowed Max max_limits (λ number within. within))
       (IfOk-cond IsAllowed (is_word name (codes "pages")) _ _
       (numbered_allowed Pages page_limits (λ number within. within))
+      (IfOk-cond IsAllowed (is_word name (codes "workers")) _ _
+      (numbered_allowed Workers caller_limits (λ number within. within))
       (IfOk-cond IsAllowed (is_word name (codes "seed")) _ _
       (numbered_allowed Seed seed_limits (λ number within. within))
       (IfOk-cond IsAllowed (is_word name (codes "rewalks")) _ _
@@ -75,31 +78,33 @@ module _ (value : List ℕ) where
       (IfOk-cond IsAllowed (is_word name (codes "shrink")) _ _
       (IfOk-after IsAllowed (switch_of value) _ (λ shrink. tt))
       (IfOk-cond IsAllowed (is_word name (codes "work")) _ (Err UnknownWord)
-      (IfOk-after IsAllowed (auto_of value) _ (λ auto. tt)) tt)))))))))
+      (IfOk-after IsAllowed (auto_of value) _ (λ auto. tt)) tt))))))))))
 
 -- by cases of the setting
 AreAllowed-with : (options : Options) (setting : Setting) → AreAllowed options → IsAllowed setting
     → AreAllowed (with_setting options setting)
 AreAllowed-with options (Nodes number) are is =
-    record { nodes = is; hint = are.hint; min = are.min; max = are.max; pages = are.pages; seed = are.seed; rewalks = are.rewalks }
+    record { nodes = is; hint = are.hint; min = are.min; max = are.max; pages = are.pages; workers = are.workers; seed = are.seed; rewalks = are.rewalks }
 AreAllowed-with options (Hint number) are is =
-    record { nodes = are.nodes; hint = is; min = are.min; max = are.max; pages = are.pages; seed = are.seed; rewalks = are.rewalks }
+    record { nodes = are.nodes; hint = is; min = are.min; max = are.max; pages = are.pages; workers = are.workers; seed = are.seed; rewalks = are.rewalks }
 AreAllowed-with options (Min number) are is =
-    record { nodes = are.nodes; hint = are.hint; min = is; max = are.max; pages = are.pages; seed = are.seed; rewalks = are.rewalks }
+    record { nodes = are.nodes; hint = are.hint; min = is; max = are.max; pages = are.pages; workers = are.workers; seed = are.seed; rewalks = are.rewalks }
 AreAllowed-with options (Max number) are is =
-    record { nodes = are.nodes; hint = are.hint; min = are.min; max = is; pages = are.pages; seed = are.seed; rewalks = are.rewalks }
+    record { nodes = are.nodes; hint = are.hint; min = are.min; max = is; pages = are.pages; workers = are.workers; seed = are.seed; rewalks = are.rewalks }
 AreAllowed-with options (Pages number) are is =
-    record { nodes = are.nodes; hint = are.hint; min = are.min; max = are.max; pages = is; seed = are.seed; rewalks = are.rewalks }
+    record { nodes = are.nodes; hint = are.hint; min = are.min; max = are.max; pages = is; workers = are.workers; seed = are.seed; rewalks = are.rewalks }
+AreAllowed-with options (Workers number) are is =
+    record { nodes = are.nodes; hint = are.hint; min = are.min; max = are.max; pages = are.pages; workers = is; seed = are.seed; rewalks = are.rewalks }
 AreAllowed-with options (Seed number) are is =
-    record { nodes = are.nodes; hint = are.hint; min = are.min; max = are.max; pages = are.pages; seed = is; rewalks = are.rewalks }
+    record { nodes = are.nodes; hint = are.hint; min = are.min; max = are.max; pages = are.pages; workers = are.workers; seed = is; rewalks = are.rewalks }
 AreAllowed-with options (Rewalks number) are is =
-    record { nodes = are.nodes; hint = are.hint; min = are.min; max = are.max; pages = are.pages; seed = are.seed; rewalks = is }
+    record { nodes = are.nodes; hint = are.hint; min = are.min; max = are.max; pages = are.pages; workers = are.workers; seed = are.seed; rewalks = is }
 AreAllowed-with options (Hashing hash) are is =
-    record { nodes = are.nodes; hint = are.hint; min = are.min; max = are.max; pages = are.pages; seed = are.seed; rewalks = are.rewalks }
+    record { nodes = are.nodes; hint = are.hint; min = are.min; max = are.max; pages = are.pages; workers = are.workers; seed = are.seed; rewalks = are.rewalks }
 AreAllowed-with options (Shrink shrink) are is =
-    record { nodes = are.nodes; hint = are.hint; min = are.min; max = are.max; pages = are.pages; seed = are.seed; rewalks = are.rewalks }
+    record { nodes = are.nodes; hint = are.hint; min = are.min; max = are.max; pages = are.pages; workers = are.workers; seed = are.seed; rewalks = are.rewalks }
 AreAllowed-with options (Auto auto) are is =
-    record { nodes = are.nodes; hint = are.hint; min = are.min; max = are.max; pages = are.pages; seed = are.seed; rewalks = are.rewalks }
+    record { nodes = are.nodes; hint = are.hint; min = are.min; max = are.max; pages = are.pages; workers = are.workers; seed = are.seed; rewalks = are.rewalks }
 
 -- by induction over the words, two at a time
 options_allowed : (options : Options) (words : List (List ℕ)) → AreAllowed options
@@ -112,7 +117,7 @@ options_allowed options (name ∷ value ∷ words) are =
     (AreAllowed-with options setting are is))
 
 no_options_allowed : AreAllowed no_options
-no_options_allowed = record { nodes = tt; hint = tt; min = tt; max = tt; pages = tt; seed = tt; rewalks = tt }
+no_options_allowed = record { nodes = tt; hint = tt; min = tt; max = tt; pages = tt; workers = tt; seed = tt; rewalks = tt }
 
 -- ---- the table line
 
@@ -122,35 +127,35 @@ module _ (kind : Kind) (options : Options) (are : AreAllowed options) where
   config = configured kind options
 
   where_agreed : (agreed : Bool) → (sizes_agree config && has_room config) ≡ agreed
-      → IfOk (cond agreed (Ok config) (Err OptionsDisagree)) IsSayableConfig
+      → IfOk (cond agreed (Ok config) (Err OptionsDisagree)) IsSettled
   unfolding configured
   where_agreed true is =
       let parts = and_parts (sizes_agree config) (has_room config) is in
       let room = leb-true (first_size config) (page_words * config.pages) parts.1 in
-      record { settled = IsSettled-configured kind options are parts.0 room; callers = refl }
+      IsSettled-configured kind options are parts.0 room
   where_agreed false is = tt
 
-  config_sayable : IfOk (config_of kind options) IsSayableConfig
+  config_settled : IfOk (config_of kind options) IsSettled
   unfolding config_of
-  config_sayable =
-      IfOk-cond IsSayableConfig options.twice (Err OptionsDisagree) _ tt
+  config_settled =
+      IfOk-cond IsSettled options.twice (Err OptionsDisagree) _ tt
       (where_agreed (sizes_agree config && has_room config) refl)
 
--- what a table line says: a config that can be said
-abbrev IsSayableTable : TableLine → Type 0
-IsSayableTable table = IsSayableConfig table.config
+-- what a table line says: a config that a table can be opened with
+abbrev IsSettledTable : TableLine → Type 0
+IsSettledTable table = IsSettled table.config
 
-table_sayable : (words : List (List ℕ)) → IfOk (table_of words) IsSayableTable
+table_settled : (words : List (List ℕ)) → IfOk (table_of words) IsSettledTable
 unfolding table_of
-table_sayable [] = tt
-table_sayable (table ∷ []) = IfOk-cond IsSayableTable (is_word table (codes "table")) _ (Err NoTableLine)
+table_settled [] = tt
+table_settled (table ∷ []) = IfOk-cond IsSettledTable (is_word table (codes "table")) _ (Err NoTableLine)
     tt tt
-table_sayable (table ∷ kind ∷ words) =
-    IfOk-cond IsSayableTable (is_word table (codes "table")) _ (Err NoTableLine)
-    (IfOk-after IsSayableTable (kind_of kind) _ (λ kind.
-    IfOk-then AreAllowed IsSayableTable (options_from no_options words) _
+table_settled (table ∷ kind ∷ words) =
+    IfOk-cond IsSettledTable (is_word table (codes "table")) _ (Err NoTableLine)
+    (IfOk-after IsSettledTable (kind_of kind) _ (λ kind.
+    IfOk-then AreAllowed IsSettledTable (options_from no_options words) _
     (options_allowed no_options words no_options_allowed) (λ options are.
-    IfOk-then IsSayableConfig IsSayableTable (config_of kind options) _ (config_sayable kind options are)
+    IfOk-then IsSettled IsSettledTable (config_of kind options) _ (config_settled kind options are)
     (λ config is. is))))
     tt
 
@@ -158,7 +163,7 @@ table_sayable (table ∷ kind ∷ words) =
 
 -- of what is said, what the table line decides
 record IsSayableAbove (said : Said) : Type 0 where
-  config : IsSayableConfig said.config
+  config : IsSettled said.config
   schedule : said.schedule ≡ []
 
 -- By induction over the lines up to the table line.
@@ -168,8 +173,8 @@ said_sayable number (line ∷ lines) =
     IfOk-after IsSayableAbove (at_line number (words_at number line)) _ (λ words.
     IfOk-cond IsSayableAbove (is_skipped words) (said_from (number + 1) lines) _
     (said_sayable (number + 1) lines)
-    (IfOk-then IsSayableTable IsSayableAbove (at_line number (table_of words)) _
-    (IfOk-at_line IsSayableTable number (table_of words) (table_sayable words)) (λ table is.
+    (IfOk-then IsSettledTable IsSayableAbove (at_line number (table_of words)) _
+    (IfOk-at_line IsSettledTable number (table_of words) (table_settled words)) (λ table is.
     IfOk-after IsSayableAbove (commands_from (number + 1) table lines) _ (λ commands.
     record { config = is; schedule = refl }))))
 
@@ -243,7 +248,7 @@ IsSoundScript-read bytes script read =
     (λ command. is_sound_command script.config command ≡ true)
     (is_sound_command-sayable script.config) script.commands.items sayable.commands in
     record {
-      settled = sayable.config.settled;
+      settled = sayable.config;
       few = (let few = sayable.few in omega (arith, script.commands.ok.0));
       commands = list_all-from_AllPass (is_sound_command script.config) script.commands.items each;
       schedule = rw sayable.schedule refl;

@@ -62,7 +62,8 @@ ends_without_table_line = refl
 -- a word of the table line can't stand there, or is missing
 unknown_words_of_tables : HaveFault 1 UnknownWord (
     codes "table\n" ∷ codes "table double\n" ∷ codes "table single single\n"
-    ∷ codes "table single listed\n" ∷ codes "table single workers 2\n" ∷ codes "table single work on\n"
+    ∷ codes "table single listed\n" ∷ codes "table single workers\n" ∷ codes "table single worker 2\n"
+    ∷ codes "table single work on\n"
     ∷ codes "table single work\n" ∷ codes "table single shrink auto\n" ∷ codes "table single shrink 1\n"
     ∷ codes "table single shrinks on\n" ∷ codes "table single Work auto\n"
     ∷ codes "table single hint\n" ∷ codes "table listed nodes\n" ∷ codes "table single max\n"
@@ -86,7 +87,7 @@ bad_numbers_of_tables : HaveFault 1 BadNumber (
     codes "table single hint x\n" ∷ codes "table single min +4\n"
     ∷ codes "table single pages 0x10\n" ∷ codes "table single seed -1\n"
     ∷ codes "table single rewalks 000000000000000000008\n" ∷ codes "table listed nodes x\n"
-    ∷ codes "table single max x\n" ∷ [])
+    ∷ codes "table single max x\n" ∷ codes "table single workers two\n" ∷ [])
 unfolding whole_reading
 bad_numbers_of_tables = refl
 
@@ -107,7 +108,8 @@ numbers_out_of_range_of_tables : HaveFault 1 OutOfRange (
     ∷ codes "table single pages 4097\n" ∷ codes "table single seed 4294967296\n"
     ∷ codes "table single rewalks 256\n" ∷ codes "table single seed 18446744073709551616\n"
     ∷ codes "table single nodes 0\n" ∷ codes "table single nodes 65537\n" ∷ codes "table single max 3\n"
-    ∷ codes "table single max 131073\n" ∷ [])
+    ∷ codes "table single max 131073\n" ∷ codes "table single workers 0\n"
+    ∷ codes "table single workers 17\n" ∷ [])
 unfolding whole_reading
 numbers_out_of_range_of_tables = refl
 
@@ -121,6 +123,13 @@ numbers_out_of_range_of_commands : HaveFault 2 OutOfRange (below_table (
     ∷ codes "1 rebind 80 1 4294967296\n" ∷ codes "2 work\n" ∷ []))
 unfolding whole_reading
 numbers_out_of_range_of_commands = refl
+
+-- where the table line says how many workers there are, the first number out of range is the one behind the last
+workers_out_of_range : HaveFault 2 OutOfRange (
+    codes "table single workers 2\n3 find 1\n" ∷ codes "table listed workers 2\n0 find 1\n"
+    ∷ codes "table single workers 1\n2 find 1\n" ∷ codes "table single workers 16\n17 find 1\n" ∷ [])
+unfolding whole_reading
+workers_out_of_range = refl
 
 -- a line is too long, be it the table line, a comment, a blank line or a command's
 lines_too_long : HaveFault 1 LineTooLong (too_long (codes "table single\n" ∷ codes "# a\n" ∷ codes "\n" ∷ []))
@@ -137,7 +146,7 @@ options_twice : HaveFault 1 OptionsDisagree (
     codes "table single hint 96 hint 96\n" ∷ codes "table single min 4 seed 1 min 4\n"
     ∷ codes "table single pages 4 pages 4\n" ∷ codes "table single seed 1 seed 2 seed 3\n"
     ∷ codes "table single rewalks 8 rewalks 8\n" ∷ codes "table single hash low hash low\n"
-    ∷ codes "table listed nodes 16 nodes 16\n" ∷ codes "table single max 4 max 4\n"
+    ∷ codes "table single workers 2 workers 2\n" ∷ codes "table listed nodes 16 nodes 16\n" ∷ codes "table single max 4 max 4\n"
     ∷ codes "table single shrink off shrink off\n" ∷ codes "table single work auto shrink on work auto\n" ∷ [])
 unfolding whole_reading
 options_twice = refl
@@ -349,6 +358,23 @@ options : Says (codes "table single hash low rewalks 0 seed 7 pages 4 min 5 hint
     (record plain_config { hash = Low; rewalks = 0; seed = 7; pages = 4; min = 8; hint = 192 }) []
 unfolding whole_reading
 options = refl
+
+-- the commands of two workers, in the order of their lines
+two_workers : Says (codes "table single workers 2\n2 bind 80 100\n1 find 80\n02 count\n")
+    (record plain_config { callers = 2 })
+    ((2, Bind 80 100 false) ∷ (1, Find 80) ∷ (2, Count) ∷ [])
+unfolding whole_reading
+two_workers = refl
+
+-- as many workers as there can be, and one, as there is without the option
+most_workers : Says (codes "table single pages 4 workers 16\n16 find 80\n")
+    (record plain_config { callers = 16; pages = 4 }) ((16, Find 80) ∷ [])
+unfolding whole_reading
+most_workers = refl
+
+one_worker : Says (codes "table single workers 1\n1 find 80\n") plain_config ((1, Find 80) ∷ [])
+unfolding whole_reading
+one_worker = refl
 
 -- a table that shrinks, in which only commands run the work
 shrinking : SaysOf false (codes "table single shrink on work manual\n1 work\n") (record plain_config { shrink = true })

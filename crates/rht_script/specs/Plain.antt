@@ -8,18 +8,13 @@ use Rattle.rht_words.specs.declared.config.Kind.TheVariants.{Single, Listed}
 use Rattle.rht_words.specs.declared.config.Hash.{Hash}
 use Rattle.rht_words.specs.declared.config.Hash.TheVariants.{Mix, Low}
 use Rattle.rht_words.specs.Limits.{IsWithinLimits}
-use Rattle.rht_words.specs.Settled.{IsSettled, plain_config}
+use Rattle.rht_words.specs.Settled.{IsSettled}
 use Rattle.rht_model.specs.declared.history.Call.{Call}
 use Rattle.rht_model.specs.declared.history.Call.TheVariants.{Bind, Find, All as ListAll, Release, Rebind, Walk, Work, Tidy, Count}
 use Rattle.rht_script.specs.Grammar.{most_lines, Said}
 use Rattle.rht_script.specs.CommandLines.{port_limits, owner_limits, worker_limits}
 
 -- ---- what can be said
-
--- the options can say the config: a table can be opened with it, and what no option sets is as without options
-pub record IsSayableConfig (config : Config) : Type 0 where
-  pub settled : IsSettled config
-  pub callers : config.callers ≡ plain_config.callers
 
 -- There is a verb for the call in a table of this kind: a bind that is tried until it ends, a look-up, a listing, a release
 -- and a rebind, each of any port and owners, the work, and a reading of the count. A rebind is in a table of one owner each.
@@ -42,10 +37,10 @@ abbrev pub IsSayableCommand : Config → ℕ × Call → Type 0
 IsSayableCommand config command =
     IsWithinLimits (worker_limits config) command.0 × IsSayableCall config.kind command.1
 
--- today's words can say this: a config and commands that they can say, one line each, whether workers run `work` by themselves,
--- and nothing else
+-- today's words can say this: any config that a table can be opened with, commands that they can say, one line each, whether
+-- workers run `work` by themselves, and nothing else
 pub record IsSayable (said : Said) : Type 0 where
-  pub config : IsSayableConfig said.config
+  pub config : IsSettled said.config
   pub commands : All (IsSayableCommand said.config) said.commands
   pub few : length said.commands < most_lines
   pub schedule : said.schedule ≡ []
@@ -80,8 +75,8 @@ table_words config auto =
     codes "table" ∷ kind_word config.kind ∷ codes "hash" ∷ hash_word config.hash
     ∷ codes "shrink" ∷ switch_word config.shrink ∷ codes "work" ∷ auto_word auto
     ∷ codes "nodes" ∷ decimal config.nodes ∷ codes "min" ∷ decimal config.min
-    ∷ codes "pages" ∷ decimal config.pages ∷ codes "seed" ∷ decimal config.seed
-    ∷ codes "rewalks" ∷ decimal config.rewalks
+    ∷ codes "pages" ∷ decimal config.pages ∷ codes "workers" ∷ decimal config.callers
+    ∷ codes "seed" ∷ decimal config.seed ∷ codes "rewalks" ∷ decimal config.rewalks
     ∷ (number_or_none (codes "hint") config.hint ++ number_or_none (codes "max") config.max)
 
 -- the words of a call: its verb and its numbers; of calls for which there is no verb yet, none

@@ -7,14 +7,14 @@ use Rattle.rht_words.specs.declared.config.Kind.TheVariants.{Single, Listed}
 use Rattle.rht_words.specs.declared.config.Hash.{Hash}
 use Rattle.rht_words.specs.declared.config.Hash.TheVariants.{Mix, Low}
 use Rattle.rht_words.specs.declared.limits.Limits.{Limits}
-use Rattle.rht_words.specs.Limits.{node_limits, hint_limits, min_limits, max_limits, page_limits, seed_limits, rewalk_limits, least_size, page_words}
+use Rattle.rht_words.specs.Limits.{node_limits, hint_limits, min_limits, max_limits, page_limits, caller_limits, seed_limits, rewalk_limits, least_size, page_words}
 use Rattle.rht_words.specs.Settled.{plain_config}
 use Rattle.rht_words.specs.Sizes.{rounded_up, rounded_down, first_size}
 use Rattle.rht_script.specs.declared.script.TableLine.{TableLine}
 use Rattle.rht_script.specs.declared.cause.Cause.{Cause}
 use Rattle.rht_script.specs.declared.cause.Cause.TheVariants.{NoTableLine, UnknownWord, OptionsDisagree}
 use Rattle.rht_script.specs.declared.options.Setting.{Setting}
-use Rattle.rht_script.specs.declared.options.Setting.TheVariants.{Nodes, Hint, Min, Max, Pages, Seed, Rewalks, Hashing, Shrink, Auto}
+use Rattle.rht_script.specs.declared.options.Setting.TheVariants.{Nodes, Hint, Min, Max, Pages, Workers, Seed, Rewalks, Hashing, Shrink, Auto}
 use Rattle.rht_script.specs.declared.options.Options.{Options}
 use Rattle.rht_script.specs.Spelling.{◌>>=◌, is_word, number_of}
 
@@ -60,6 +60,7 @@ setting_of name value =
     else if is_word name (codes "min") then numbered Min min_limits value
     else if is_word name (codes "max") then numbered Max max_limits value
     else if is_word name (codes "pages") then numbered Pages page_limits value
+    else if is_word name (codes "workers") then numbered Workers caller_limits value
     else if is_word name (codes "seed") then numbered Seed seed_limits value
     else if is_word name (codes "rewalks") then numbered Rewalks rewalk_limits value
     else if is_word name (codes "hash") then (hash_of value >>= (λ hash. Ok (Hashing hash)))
@@ -75,6 +76,7 @@ no_options = record {
   min = None;
   max = None;
   pages = None;
+  workers = None;
   seed = None;
   rewalks = None;
   hash = None;
@@ -95,6 +97,8 @@ with_setting options (Max number) =
     record options { max = Some number; twice = options.twice || is_some options.max }
 with_setting options (Pages number) =
     record options { pages = Some number; twice = options.twice || is_some options.pages }
+with_setting options (Workers number) =
+    record options { workers = Some number; twice = options.twice || is_some options.workers }
 with_setting options (Seed number) =
     record options { seed = Some number; twice = options.twice || is_some options.seed }
 with_setting options (Rewalks number) =
@@ -118,12 +122,14 @@ options_from options (name ∷ value ∷ words) = do
 abbrev pub rounded_min : ℕ → ℕ
 rounded_min number = max least_size (rounded_up number)
 
--- what a table of this kind with these options is opened with; the greatest size is rounded down to a power of two
+-- what a table of this kind with these options is opened with: each worker is a caller, and the greatest size is rounded
+-- down to a power of two
 unfoldable pub configured : Kind → Options → Config
-configured kind options = record plain_config {
+configured kind options = record {
   kind = kind;
   nodes = unwrap_or options.nodes plain_config.nodes;
   pages = unwrap_or options.pages plain_config.pages;
+  callers = unwrap_or options.workers plain_config.callers;
   hint = unwrap_or options.hint plain_config.hint;
   min = rounded_min (unwrap_or options.min plain_config.min);
   max = rounded_down (unwrap_or options.max plain_config.max);

@@ -18,6 +18,7 @@ pub(crate) enum Setting {
     Min(u32),
     Max(u32),
     Pages(u32),
+    Workers(u32),
     Seed(u32),
     Rewalks(u32),
     Hashing(Hash),
@@ -33,6 +34,7 @@ pub(crate) struct Options {
     pub(crate) min: Option<u32>,
     pub(crate) max: Option<u32>,
     pub(crate) pages: Option<u32>,
+    pub(crate) workers: Option<u32>,
     pub(crate) seed: Option<u32>,
     pub(crate) rewalks: Option<u32>,
     pub(crate) hash: Option<Hash>,
@@ -53,6 +55,7 @@ impl Options {
             min: None,
             max: None,
             pages: None,
+            workers: None,
             seed: None,
             rewalks: None,
             hash: None,
@@ -93,6 +96,11 @@ impl Options {
             Setting::Pages(pages) => Options {
                 pages: Some(pages),
                 twice: self.twice || self.pages.is_some(),
+                ..self
+            },
+            Setting::Workers(workers) => Options {
+                workers: Some(workers),
+                twice: self.twice || self.workers.is_some(),
                 ..self
             },
             Setting::Seed(seed) => Options {
@@ -150,6 +158,7 @@ impl Options {
             kind,
             nodes: self.nodes.unwrap_or(plain.nodes),
             pages: self.pages.unwrap_or(plain.pages),
+            callers: self.workers.unwrap_or(plain.callers),
             hint: self.hint.unwrap_or(plain.hint),
             min: rounded_up(self.min.unwrap_or(plain.min)).max(LEAST_SIZE),
             max: rounded_down(self.max.unwrap_or(plain.max)),
@@ -157,7 +166,6 @@ impl Options {
             rewalks: self.rewalks.unwrap_or(plain.rewalks),
             hash: self.hash.unwrap_or(plain.hash),
             shrink: self.shrink.unwrap_or(plain.shrink),
-            ..plain
         }
     }
 }

@@ -26,6 +26,7 @@ use cursors::{Lines, Words};
 use names::{
     ALL, AUTO, BIND, COUNT, FIND, FINISH, HASH, HINT, LISTED, LOW, MANUAL, MAX, MIN, MIX, NODES,
     OFF, ON, PAGES, REBIND, RELEASE, REWALKS, SEED, SHRINK, SINGLE, SKIP, STEP, TABLE, WORK,
+    WORKERS,
 };
 use numbers::{OWNER, PORT, number_within};
 use rht_model::Call;
@@ -174,6 +175,8 @@ fn setting(name: &[u8], value: &[u8]) -> Result<Setting, Cause>
         Ok(Setting::Max(number_within(limits::MAX, value)?))
     } else if name == PAGES {
         Ok(Setting::Pages(number_within(limits::PAGES, value)?))
+    } else if name == WORKERS {
+        Ok(Setting::Workers(number_within(limits::CALLERS, value)?))
     } else if name == SEED {
         Ok(Setting::Seed(number_within(limits::SEED, value)?))
     } else if name == REWALKS {

@@ -24,6 +24,9 @@ pub const MAX: &[u8] = b"max";
 /// The pages that buckets are kept in.
 pub const PAGES: &[u8] = b"pages";
 
+/// The workers of the script, each of which is a caller of the table.
+pub const WORKERS: &[u8] = b"workers";
+
 /// The seed of the first table's hash.
 pub const SEED: &[u8] = b"seed";
 

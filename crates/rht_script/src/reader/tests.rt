@@ -30,7 +30,9 @@ const FAULTS: &[(&str, u32, u8)] = &[
     ("table listed 16 nodes\n", 1, 2),
     ("table single nodes\n", 1, 2),
     ("table listed max\n", 1, 2),
-    ("table single workers 2\n", 1, 2),
+    ("table single workers\n", 1, 2),
+    ("table single worker 2\n", 1, 2),
+    ("table single workers 2 3\n", 1, 2),
     ("table single shrink\n", 1, 2),
     ("table single shrink 1\n", 1, 2),
     ("table single shrink auto\n", 1, 2),
@@ -53,10 +55,13 @@ const FAULTS: &[(&str, u32, u8)] = &[
     ("table single rewalks 000000000000000000008\n", 1, 3),
     ("table single nodes 16x\n", 1, 3),
     ("table listed max -4\n", 1, 3),
+    ("table single workers two\n", 1, 3),
     ("table single nodes 0\n", 1, 4),
     ("table single nodes 65537\n", 1, 4),
     ("table single max 3\n", 1, 4),
     ("table single max 131073\n", 1, 4),
+    ("table single workers 0\n", 1, 4),
+    ("table single workers 17\n", 1, 4),
     ("table single hint 0\n", 1, 4),
     ("table single hint 65537\n", 1, 4),
     ("table single min 0\n", 1, 4),
@@ -77,6 +82,7 @@ const FAULTS: &[(&str, u32, u8)] = &[
     ("table single hash low hash low\n", 1, 8),
     ("table listed nodes 16 nodes 16\n", 1, 8),
     ("table single max 4 hash low max 8\n", 1, 8),
+    ("table single workers 2 workers 2\n", 1, 8),
     ("table single shrink on shrink on\n", 1, 8),
     ("table single work auto work manual\n", 1, 8),
     // The least size is rounded up, to 8 and 128, and the greatest down, to 4 and 64.
@@ -157,6 +163,10 @@ const FAULTS: &[(&str, u32, u8)] = &[
     ("table single\none count\n", 2, 3),
     ("table single\n0 find 80\n", 2, 4),
     ("table single\n2 find 1\n", 2, 4),
+    ("table single workers 1\n2 find 1\n", 2, 4),
+    ("table single workers 2\n0 find 1\n", 2, 4),
+    ("table single workers 2\n3 find 1\n", 2, 4),
+    ("table single workers 16\n16 find 1\n17 find 1\n", 3, 4),
     ("table single\n99999999999999999999 find 80\n", 2, 4),
     (
         "table single\n1 bind 0 7\n1 bind 4294967295 8\n1 find 4294967296\n",
@@ -227,7 +237,7 @@ fn finds_the_first_fault(rt: HostRuntime) {
 fn reads_scripts(rt: HostRuntime) -> Result<(), Fail> {
     let plain = Config::plain();
     // the input, the config that it stands for, and its commands
-    let scripts: [(&str, Config, &[(u32, Call)]); 28] = [
+    let scripts: [(&str, Config, &[(u32, Call)]); 31] = [
         ("table single", plain, &[]),
         ("table single\n", plain, &[]),
         ("\n# a\n \t\r\n\ttable  single \r\n#b\n\n", plain, &[]),
@@ -284,6 +294,32 @@ fn reads_scripts(rt: HostRuntime) -> Result<(), Fail> {
             "table single work auto\n1 work\n",
             plain,
             &[(1, Call::Work)],
+        ),
+        (
+            "table single workers 1\n1 find 0\n",
+            plain,
+            &[(1, Call::Find { port: 0 })],
+        ),
+        (
+            "table single workers 2\n2 find 0\n1 count\n2 work\n",
+            Config {
+                callers: 2,
+                ..plain
+            },
+            &[
+                (2, Call::Find { port: 0 }),
+                (1, Call::Count),
+                (2, Call::Work),
+            ],
+        ),
+        (
+            "table listed workers 16\n16 find 0\n",
+            Config {
+                kind: Kind::Listed,
+                callers: 16,
+                ..plain
+            },
+            &[(16, Call::Find { port: 0 })],
         ),
         ("table single nodes 1\n", Config { nodes: 1, ..plain }, &[]),
         (
