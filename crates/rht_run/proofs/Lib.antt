@@ -10,6 +10,10 @@ pub mod SeatMoves
 pub mod Performed
 -- from one operation to a call, and what a finished call was answered
 pub mod CallSteps
+-- why a finished call was answered as it was
+pub mod CallCauses
+-- the calls of a command
+pub mod ServedCommands
 -- how a table is opened
 pub mod OpenedTables
 -- how a table is closed

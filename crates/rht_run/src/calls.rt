@@ -1,4 +1,5 @@
-//! The calls. Each makes one operation after another until one of them has its reply.
+//! The calls. Each makes one operation after another until one of them has its reply, and its clause
+//! `cause` says what its own operations have to show for that.
 
 ghost use Rattle.std.specs.Prelude.{◌≡◌, ℕ, ◌+◌, true, false, None, Some};
 ghost use Rattle.rht_words.specs.declared.config.Kind.TheVariants.{Single};
@@ -9,6 +10,7 @@ ghost use Rattle.rht_core.specs.Replies.{IsFindReply, IsBindReply, IsReleaseRepl
 ghost use Rattle.rht_run.specs.declared.pass.Pass.{Pass as PassOf};
 ghost use Rattle.rht_run.specs.Rule.{MayBegin};
 ghost use Rattle.rht_run.specs.Passes.{IsPassOf, IsCalling, HasCalled, Turned, HasGone};
+ghost use Rattle.rht_run.specs.Caused.{IsCaused};
 
 use crate::pass::Pass;
 use crate::table::Table;
@@ -56,34 +58,53 @@ impl<M: Mix> Table<M> {
         unreachable!()
     }
 
-    /// Looks a port up: `Found` with its first owner, or `Missing`. It takes a bucket's lock, for
-    /// which it may wait. The kernel's counterpart is `rhashtable_lookup`.
+    /// Looks a port up: `Found` with its first owner, or `Missing`, for which it has nothing further to
+    /// show. It takes a bucket's lock, for which it may wait. The kernel's counterpart is
+    /// `rhashtable_lookup`.
     pub fn find<R: Wait>(&self, rt: &R, pass: &mut Pass<M>, port: Port) -> Reply
         requires pass { IsPassOf M.mix_of self.now pass.old }
         requires idle { is_idle pass.old.local ≡ true }
         ensures called { HasCalled M.mix_of self.now (Find port) result pass.old pass.new }
         ensures reply { IsFindReply result }
+        ensures cause { IsCaused M.mix_of self.now (Find port) result pass.old pass.new }
     {
         self.call(rt, pass, Call::Find { port })
     }
     /// Binds a port to an owner, and is tried once alone: it may answer `Again`. The kernel's
     /// counterparts are `rhashtable_lookup_insert_key` and `rhltable_insert_key`.
+    ///
+    /// `Bound` comes with a kick exactly where this call attached a table, or, behind the last table that
+    /// it walked, raised the count of ports and by this has that table more ports than three quarters of
+    /// its buckets, and may grow. `Exists` has nothing further to show.
+    ///
+    /// It is refused as `NoNode` where it found the bit of each node clear, each at some operation of its
+    /// own; and as `TooBig` where it loaded that count, which is as many ports as the table may hold or
+    /// more. The other refusals come where the last table that it walked is full: it counted 16 nodes or
+    /// more in a bucket of it, or loaded a count above its size, and it may grow. `Again` names the table
+    /// that this call attached behind that one, or found there as its future; for the other two it found
+    /// none there. `Busy` comes where another table is the current one, and by the count the full one
+    /// isn't due to grow. `NoTable` comes where it found each slot taken, or each run of pages in its
+    /// turn, for the size that was wanted: twice that of the full table where this is due to grow by the
+    /// count, and otherwise its own.
     pub fn bind_once<R: Wait>(&self, rt: &R, pass: &mut Pass<M>, port: Port, owner: u32) -> Reply
         requires pass { IsPassOf M.mix_of self.now pass.old }
         requires idle { is_idle pass.old.local ≡ true }
         ensures called { HasCalled M.mix_of self.now (Bind port owner true) result pass.old pass.new }
         ensures reply { IsBindReply true result }
+        ensures cause { IsCaused M.mix_of self.now (Bind port owner true) result pass.old pass.new }
     {
         let once = true;
         self.call(rt, pass, Call::Bind { port, owner, once })
     }
 
-    /// Binds a port to an owner, and tries again where `bind_once` answers `Again`.
+    /// Binds a port to an owner, and tries again where `bind_once` answers `Again`. Each other reply comes
+    /// when it does of that one.
     pub fn bind<R: Wait>(&self, rt: &R, pass: &mut Pass<M>, port: Port, owner: u32) -> Reply
         requires pass { IsPassOf M.mix_of self.now pass.old }
         requires idle { is_idle pass.old.local ≡ true }
         ensures called { HasCalled M.mix_of self.now (Bind port owner false) result pass.old pass.new }
         ensures reply { IsBindReply false result }
+        ensures cause { IsCaused M.mix_of self.now (Bind port owner false) result pass.old pass.new }
     {
         let once = false;
         self.call(rt, pass, Call::Bind { port, owner, once })
@@ -91,18 +112,23 @@ impl<M: Mix> Table<M> {
 
     /// Takes one binding of a port to this owner out: `Released`, or `Absent` where there is none.
     /// The kernel's counterpart is `rhashtable_remove_fast`.
+    ///
+    /// `Released` comes with a kick exactly where this call, behind the last table that it walked, lowered
+    /// the count of ports, shrinking is on, and by this that table has fewer ports than three tenths of
+    /// its buckets, and more buckets than the least size.
     pub fn release<R: Wait>(&self, rt: &R, pass: &mut Pass<M>, port: Port, owner: u32) -> Reply
         requires pass { IsPassOf M.mix_of self.now pass.old }
         requires idle { is_idle pass.old.local ≡ true }
         ensures called { HasCalled M.mix_of self.now (Release port owner) result pass.old pass.new }
         ensures reply { IsReleaseReply result }
+        ensures cause { IsCaused M.mix_of self.now (Release port owner) result pass.old pass.new }
     {
         self.call(rt, pass, Call::Release { port, owner })
     }
 
     /// Puts a new owner in the only one's place, in a table of one owner each: `Rebound`, `Absent`
-    /// where the port isn't bound to this owner, or `NoNode`. The kernel's counterpart is
-    /// `rhashtable_replace_fast`.
+    /// where the port isn't bound to this owner, or `NoNode` where it found the bit of each node clear,
+    /// each at some operation of its own. The kernel's counterpart is `rhashtable_replace_fast`.
     pub fn rebind<R: Wait>(
         &self,
         rt: &R,
@@ -116,42 +142,52 @@ impl<M: Mix> Table<M> {
         requires single { self.now.env.config.kind ≡ Single }
         ensures called { HasCalled M.mix_of self.now (Rebind port owner new) result pass.old pass.new }
         ensures reply { IsRebindReply result }
+        ensures cause { IsCaused M.mix_of self.now (Rebind port owner new) result pass.old pass.new }
     {
         self.call(rt, pass, Call::Rebind { port, owner, new })
     }
 
-    /// Lists the owners of a port: `Listed`, and they stand in `Pass::owners`. The kernel's
-    /// counterpart is `rhltable_lookup`.
+    /// Lists the owners of a port: `Listed`, for which it has nothing further to show, and they stand in
+    /// `Pass::owners`. The kernel's counterpart is `rhltable_lookup`.
     pub fn all<R: Wait>(&self, rt: &R, pass: &mut Pass<M>, port: Port) -> Reply
         requires pass { IsPassOf M.mix_of self.now pass.old }
         requires idle { is_idle pass.old.local ≡ true }
         ensures called { HasCalled M.mix_of self.now (All port) result pass.old pass.new }
         ensures reply { IsAllReply result }
         ensures owners { AreOwnersWith result pass.new.local.owners.items }
+        ensures cause { IsCaused M.mix_of self.now (All port) result pass.old pass.new }
     {
         self.call(rt, pass, Call::All { port })
     }
 
     /// Attaches a table where one is due, and moves the current table's entries into its future one,
-    /// where it has one. `Moved` says that another table is the current one, and whether there is more
-    /// to do; `Idle`, that nothing was due; `NoTable`, that a table of this size was and couldn't be
-    /// had; `Elsewhere`, that another caller is at it, for which this one doesn't wait. It waits for the
-    /// locks of buckets. The kernel's counterpart is `rht_deferred_worker`.
+    /// where it has one. It waits for the locks of buckets. The kernel's counterpart is
+    /// `rht_deferred_worker`.
+    ///
+    /// `Elsewhere` comes where it found the work lock taken: another caller is at it, for which this one
+    /// doesn't wait. Otherwise it chose by the last table's shape and by the count what was due. `Idle`
+    /// comes where nothing was, and the current table had no future; `NoTable` where a table of this size
+    /// was due that couldn't be had, while the last one was the current one or nested; `Moved` where it
+    /// made another table the current one. There is more to do exactly where that one had a future, or no
+    /// table of the size that was due had been attached.
     pub fn work<R: Wait>(&self, rt: &R, pass: &mut Pass<M>) -> Reply
         requires pass { IsPassOf M.mix_of self.now pass.old }
         requires idle { is_idle pass.old.local ≡ true }
         ensures called { HasCalled M.mix_of self.now Work result pass.old pass.new }
         ensures reply { IsWorkReply result }
+        ensures cause { IsCaused M.mix_of self.now Work result pass.old pass.new }
     {
         self.call(rt, pass, Call::Work)
     }
 
-    /// Counts the bound ports: `Counted`. It waits for nobody.
+    /// Counts the bound ports: `Counted`. The ports bound where it loaded the count were at most so many,
+    /// and with the other callers that were in the middle of a call at least. It waits for nobody.
     pub fn count(&self, pass: &mut Pass<M>) -> Reply
         requires pass { IsPassOf M.mix_of self.now pass.old }
         requires idle { is_idle pass.old.local ≡ true }
         ensures called { HasCalled M.mix_of self.now Count result pass.old pass.new }
         ensures reply { IsCountReply result }
+        ensures cause { IsCaused M.mix_of self.now Count result pass.old pass.new }
     {
         let Some(reply) = self.start(pass, Call::Count) else {
             unreachable!()

@@ -3,8 +3,8 @@
 //!
 //! Stands on `rht_core`, whose machines it runs, and on the kit's `atomic_table`, whose rule ties
 //! the words to one run. Nothing else is shared. `rht_registry` will run scripts on it.
-//! Read `specs/Rule.antt` first, which is the rule, and then `specs/Passes.antt`, which is what the
-//! calls promise.
+//! Read `specs/Rule.antt` first, which is the rule, and then `specs/Passes.antt`, `Caused` and
+//! `Served`, which are what the calls promise.
 #![tactic(auto)]
 
 mod calls;
@@ -14,6 +14,7 @@ mod opening;
 mod pass;
 pub mod plays;
 mod seats;
+mod serving;
 mod steps;
 mod table;
 

@@ -6,7 +6,7 @@ ghost use Rattle.rht_core.specs.Locals.{is_idle};
 ghost use Rattle.rht_run.specs.Passes.{IsPassOf, AreNew, IsNew};
 
 use super::{Pass, Table};
-use rht_model::{Closed, Reply};
+use rht_model::{Call, Closed, Reply};
 use rht_policy::{Low, Mix};
 use rht_words::{Config, Hash, Kind, Port};
 use std::alloc::{AllocError, Global};
@@ -131,6 +131,58 @@ fn a_table_that_has_grown_is_closed(rt: HostRuntime) -> Result<(), Fail> {
     assert_eq!(rt; closed.bindings.port(2), 7);
     assert_eq!(rt; closed.bindings.port(3), 11);
     assert_eq!(rt; closed.bindings.owners(1), [4].as_slice());
+    Ok(())
+}
+
+/// Binds a port by a command.
+fn command<M: Mix, R: Wait>(
+    rt: &R,
+    table: &Table<M>,
+    pass: &mut Pass<M>,
+    port: Port,
+    owner: u32,
+    auto: bool,
+) -> Reply
+    requires pass { IsPassOf M.mix_of table.now pass.old }
+    requires idle { is_idle pass.old.local ≡ true }
+    ensures pass { IsPassOf M.mix_of table.now pass.new }
+    ensures idle { is_idle pass.new.local ≡ true }
+{
+    let once = false;
+    table.serve(rt, pass, Call::Bind { port, owner, once }, auto)
+}
+
+/// The four ports of `grow`, bound by commands.
+fn commands<M: Mix, R: Wait>(rt: &R, table: &Table<M>, pass: &mut Pass<M>, auto: bool) -> [Reply; 4]
+    requires pass { IsPassOf M.mix_of table.now pass.old }
+    requires idle { is_idle pass.old.local ≡ true }
+    ensures pass { IsPassOf M.mix_of table.now pass.new }
+{
+    let first = command(rt, table, pass, 7, 1, auto);
+    let second = command(rt, table, pass, 2, 2, auto);
+    let third = command(rt, table, pass, 11, 3, auto);
+    let fourth = command(rt, table, pass, 5, 4, auto);
+    [first, second, third, fourth]
+}
+
+/// The fourth port has the table grow, from 4 buckets to 8, where the work is made behind it.
+#[test]
+fn a_kick_is_followed_by_work_where_that_is_automatic(rt: HostRuntime) -> Result<(), Fail> {
+    let config = Config { hint: 3, ..SMALL };
+    assert!(rt; config.is_settled());
+    for (auto, size) in [(true, 8), (false, 4)] {
+        let (table, passes) = Table::<Low>::open(rt.alloc(), config)?;
+        let mut pass = only(&table, passes).ok_or("a pass")?;
+        let want = [
+            Reply::Bound { kick: false },
+            Reply::Bound { kick: false },
+            Reply::Bound { kick: false },
+            Reply::Bound { kick: true },
+        ];
+        assert_eq!(rt; commands(&rt, &table, &mut pass, auto), want);
+        let closed = closed(rt.alloc(), table, pass)?;
+        assert_eq!(rt; (closed.size, closed.keys), (size, 4));
+    }
     Ok(())
 }
 

@@ -1,6 +1,7 @@
 use Rattle.std.proofs.Common.{refl, arith}
 use Rattle.rht_model.specs.declared.history.Call.TheVariants.{All}
 use Rattle.rht_run.proofs.CallSteps.{answered}
+use Rattle.rht_run.proofs.CallCauses.{called_caused}
 use Rattle.rht_run.proofs.table.Table.all.Goals as goal
 
 pub call-requires-clause-may : goal.call-requires-clause-may
@@ -16,3 +17,8 @@ pub returns-clause-owners : goal.returns-clause-owners
 returns-clause-owners g c =
     (answered g.M.Mix.mix_of c.args.self.now (All c.args.port) c.call.result c.args.pass.now c.call.new.pass
     c.call.ensures).owners
+
+pub returns-clause-cause : goal.returns-clause-cause
+returns-clause-cause g c =
+    called_caused g.M.Mix.mix_of c.args.self.now (All c.args.port) c.call.result c.args.pass.now c.call.new.pass
+    c.call.ensures

@@ -1,0 +1,195 @@
+-- The calls of a command. Behind the command's own comes `work`, until that doesn't answer that it is to be made again, where the
+-- reply asks for it and the pass makes it by itself. A reply that asks for it comes without lists, and so does one of `work`: so
+-- what is in the rooms at the end are the lists of the command's own call.
+use Rattle.std.proofs.Common.{◌≡◌, ◌≢◌, ◌⊎◌, inl, inr, ℕ, Bool, true, false, List, [], ◌∷◌, ◌++◌, refl, sym, ◌∙◌, ap, subst, append_assoc}
+use Rattle.std.specs.Prelude.{Option, ◌&&◌}
+use Rattle.std.specs.List.{AllByRecursion}
+use Rattle.std.proofs.lemmas.List.{append-nil}
+use Rattle.rht_words.proofs.EachElement.{AllByRecursion-append}
+use Rattle.rht_model.specs.declared.history.Call.{Call}
+use Rattle.rht_model.specs.declared.history.Call.TheVariants.{Work}
+use Rattle.rht_model.specs.declared.history.Reply.{Reply}
+use Rattle.rht_model.specs.declared.history.Reply.TheVariants.{Bound, Exists, Found, Missing, Listed, Released, Absent, Rebound, TooBig, Again, Busy, NoTable, NoNode, Pending, Elsewhere, Walked, Moved, Idle, Clear, Counted}
+use Rattle.rht_model.specs.declared.history.Cursor.{Cursor}
+use Rattle.rht_model.specs.declared.finished.Finished.{Finished}
+use Rattle.rht_model.specs.Endings.{ended_with, replied}
+use Rattle.rht_core.specs.Locals.{is_idle}
+use Rattle.rht_core.specs.Replies.{IsWorkReply, AreOwnersWith, ArePairsWith}
+use Rattle.rht_core.specs.Serving.{asks_for_work, AreWorks, AreBehind}
+use Rattle.rht_run.specs.declared.table.Table.{Table}
+use Rattle.rht_run.specs.declared.pass.Pass.{Pass}
+use Rattle.rht_run.specs.Passes.{IsPassOf, IsSamePass, HasCalled, book_of}
+use Rattle.rht_run.specs.Caused.{IsCaused}
+use Rattle.rht_run.specs.Served.{HasServed, HasWorked}
+use Rattle.rht_run.proofs.CallSteps.{answered}
+use Rattle.rht_run.proofs.CallCauses.{caused}
+
+-- ---- replies without lists
+
+-- a reply that lists neither owners nor pairs comes without either
+no_lists : (reply : Reply) (owners : List ℕ) (pairs : List (ℕ × ℕ)) → ((len : ℕ) → reply ≢ Listed len)
+    → ((len : ℕ) (next : Option Cursor) → reply ≢ Walked len next) → AreOwnersWith reply owners → ArePairsWith reply pairs
+    → (owners ≡ []) × (pairs ≡ [])
+no_lists (Bound kick) owners pairs listed walked none nobody = (none, nobody)
+no_lists (Exists owner) owners pairs listed walked none nobody = (none, nobody)
+no_lists (Found owner) owners pairs listed walked none nobody = (none, nobody)
+no_lists Missing owners pairs listed walked none nobody = (none, nobody)
+no_lists (Listed len) owners pairs listed walked none nobody = absurd (listed len refl)
+no_lists (Released kick) owners pairs listed walked none nobody = (none, nobody)
+no_lists Absent owners pairs listed walked none nobody = (none, nobody)
+no_lists Rebound owners pairs listed walked none nobody = (none, nobody)
+no_lists (TooBig count) owners pairs listed walked none nobody = (none, nobody)
+no_lists (Again table) owners pairs listed walked none nobody = (none, nobody)
+no_lists (Busy root last) owners pairs listed walked none nobody = (none, nobody)
+no_lists (NoTable size) owners pairs listed walked none nobody = (none, nobody)
+no_lists NoNode owners pairs listed walked none nobody = (none, nobody)
+no_lists (Pending caller section) owners pairs listed walked none nobody = (none, nobody)
+no_lists Elsewhere owners pairs listed walked none nobody = (none, nobody)
+no_lists (Walked len next) owners pairs listed walked none nobody = absurd (walked len next refl)
+no_lists (Moved again) owners pairs listed walked none nobody = (none, nobody)
+no_lists Idle owners pairs listed walked none nobody = (none, nobody)
+no_lists (Clear returned) owners pairs listed walked none nobody = (none, nobody)
+no_lists (Counted count) owners pairs listed walked none nobody = (none, nobody)
+
+-- such is each reply that asks for `work`
+asks_no_lists : (call : Call) (reply : Reply) (owners : List ℕ) (pairs : List (ℕ × ℕ)) → asks_for_work call reply ≡ true
+    → AreOwnersWith reply owners → ArePairsWith reply pairs → (owners ≡ []) × (pairs ≡ [])
+asks_no_lists call reply owners pairs asks =
+    no_lists reply owners pairs
+    (λ len is. let no : false ≡ true = subst (λ (r : Reply). asks_for_work call r ≡ true) is asks in cc)
+    (λ len next is. let no : false ≡ true = subst (λ (r : Reply). asks_for_work call r ≡ true) is asks in cc)
+
+-- and each of `work`
+work_no_lists : (reply : Reply) (owners : List ℕ) (pairs : List (ℕ × ℕ)) → IsWorkReply reply
+    → AreOwnersWith reply owners → ArePairsWith reply pairs → (owners ≡ []) × (pairs ≡ [])
+work_no_lists reply owners pairs right =
+    no_lists reply owners pairs (λ len is. subst IsWorkReply is right) (λ len next is. subst IsWorkReply is right)
+
+-- ---- the work behind a call
+
+-- `work` was made, and answered that it is to be made again
+pub record IsAgain (done : Finished) : Type 0 where
+  pub call : done.call ≡ Work
+  pub reply : done.reply ≡ Moved true
+
+-- by induction: one that answers otherwise ends it
+AreWorks-last : (works : List Finished) (last : Finished) → AllByRecursion IsAgain works → last.call ≡ Work
+    → last.reply ≢ Moved true → AreWorks (works ++ last ∷ [])
+AreWorks-last [] last again call other = (call, other)
+AreWorks-last (d ∷ []) last again call other = (again.0.call, again.0.reply, (call, other))
+AreWorks-last (d ∷ next ∷ works) last again call other =
+    (again.0.call, again.0.reply, AreWorks-last (next ∷ works) last again.1 call other)
+
+module _ {M : Type 0} (mix : ℕ → ℕ → ℕ → ℕ) (t : Table M) where
+  -- so far each `work` that the pass has made since it was as `before` has answered that it is to be made again
+  pub record IsWorking (before now : Pass M) : Type 0 where
+    pub pass : IsPassOf mix t now
+    pub same : IsSamePass before now
+    pub idle : is_idle now.local ≡ true
+    pub works : List Finished
+    pub finished : (book_of now).finished ≡ (book_of before).finished ++ works
+    pub again : AllByRecursion IsAgain works
+
+  pub works_begin : (p : Pass M) → IsPassOf mix t p → is_idle p.local ≡ true → IsWorking p p
+  works_begin p is idle = record {
+    pass = is;
+    same = record { table = refl; number = refl };
+    idle = idle;
+    works = [];
+    finished = sym (append-nil (book_of p).finished);
+    again = tt;
+  }
+
+  module _ (before p after : Pass M) (reply : Reply) (so_far : IsWorking before p) (has : HasCalled mix t Work reply p after)
+    where
+      -- the `work` that was made now
+      abbrev last : Finished
+      last = record { call = Work; reply = reply; owners = after.local.owners.items; pairs = after.local.pairs.items }
+
+      same : IsSamePass before after
+      same = record { table = has.same.table ∙ so_far.same.table; number = has.same.number ∙ so_far.same.number }
+
+      finished : (book_of after).finished ≡ (book_of before).finished ++ (so_far.works ++ last ∷ [])
+      finished =
+          has.finished ∙ ap (λ l. l ++ last ∷ []) so_far.finished
+          ∙ append_assoc (book_of before).finished so_far.works (last ∷ [])
+
+      pub works_on : reply ≡ Moved true → IsWorking before after
+      works_on moved = record {
+        pass = has.pass;
+        same = same;
+        idle = has.idle;
+        works = so_far.works ++ last ∷ [];
+        finished = finished;
+        again =
+            AllByRecursion-append IsAgain so_far.works (last ∷ []) so_far.again (record { call = refl; reply = moved }, tt);
+      }
+
+      pub works_end : reply ≢ Moved true → HasWorked mix t before after
+      works_end other =
+          let right = answered mix t Work reply p after has in
+          let none = work_no_lists reply after.local.owners.items after.local.pairs.items right.reply right.owners right.pairs in
+          record {
+            pass = has.pass;
+            same = same;
+            idle = has.idle;
+            works = so_far.works ++ last ∷ [];
+            finished = finished;
+            are_works = AreWorks-last so_far.works last so_far.again refl other;
+            owners = none.0;
+            pairs = none.1;
+          }
+
+  -- ---- a command
+
+  module _ (auto : Bool) (call : Call) (reply : Reply) (before : Pass M) where
+    -- it is its own call alone
+    pub serves_alone : (now : Pass M) → (auto ≡ false) ⊎ (asks_for_work call reply ≡ false) → HasCalled mix t call reply before now
+        → HasServed mix t auto call reply before now
+    serves_alone now not has = record {
+      pass = has.pass;
+      same = has.same;
+      idle = has.idle;
+      more = ended_with call (replied reply now.local.owners.items now.local.pairs.items) ∷ [];
+      finished = has.finished;
+      made = record { behind = []; whole = refl; works = none not };
+    }
+      where
+        none_asked : (auto : Bool) → AreBehind (auto && false) []
+        none_asked true = refl
+        none_asked false = refl
+
+        none : (auto ≡ false) ⊎ (asks_for_work call reply ≡ false) → AreBehind (auto && asks_for_work call reply) []
+        none (inl manual) = rw manual refl
+        none (inr asks) = rw asks (none_asked auto)
+
+    -- or the work behind it too
+    pub serves_works : (p now : Pass M) → auto ≡ true → asks_for_work call reply ≡ true → HasCalled mix t call reply before p
+        → HasWorked mix t p now → HasServed mix t auto call reply before now
+    serves_works p now own asks has worked =
+        let right = answered mix t call reply before p has in
+        let none =
+        asks_no_lists call reply p.local.owners.items p.local.pairs.items asks right.owners right.pairs in
+        let ended : List ℕ → List (ℕ × ℕ) → Finished = λ owners pairs. ended_with call (replied reply owners pairs) in
+        let done : Finished = ended now.local.owners.items now.local.pairs.items in
+        let done_is : ended p.local.owners.items p.local.pairs.items ≡ done =
+        ap (λ o. ended o p.local.pairs.items) (none.0 ∙ sym worked.owners)
+        ∙ ap (λ q. ended now.local.owners.items q) (none.1 ∙ sym worked.pairs) in
+        record {
+          pass = worked.pass;
+          same = record { table = worked.same.table ∙ has.same.table; number = worked.same.number ∙ has.same.number };
+          idle = worked.idle;
+          more = done ∷ worked.works;
+          finished =
+              worked.finished ∙ ap (λ l. l ++ worked.works) has.finished
+              ∙ append_assoc (book_of before).finished (ended p.local.owners.items p.local.pairs.items ∷ []) worked.works
+              ∙ ap (λ (d : Finished). (book_of before).finished ++ d ∷ worked.works) done_is;
+          made = record { behind = worked.works; whole = refl; works = rw (own, asks) worked.are_works };
+        }
+
+    -- its own call has its cause
+    pub served_caused : (now : Pass M) → HasServed mix t auto call reply before now → IsCaused mix t call reply before now
+    served_caused now has =
+        let own : Finished = ended_with call (replied reply now.local.owners.items now.local.pairs.items) in
+        caused mix t call reply before now own has.made.behind has.pass
+        (has.finished ∙ ap (λ l. (book_of before).finished ++ l) has.made.whole) refl refl
