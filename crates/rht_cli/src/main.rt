@@ -1,9 +1,10 @@
 //! `rht`, a registry of ports: it reads a script and prints what its commands are answered, and
 //! then the last bindings.
 //!
-//! Stands on `rht_script`, `rht_registry` and `rht_core`, `rht_model`, `rht_policy`, `rht_words` and
-//! `rht_io`. `program` has the top call and its theorem; `main` here only makes the real source, sinks
-//! and gate. A script's commands are done by `rht_registry`.
+//! Stands on `rht_script`, `rht_registry` and `rht_run`, and below them on `rht_model`, `rht_policy`,
+//! `rht_words` and `rht_io`; the definitions of `rht_core` say what a run is. `program` has the top call and
+//! its theorem; `main` here only makes the real source, sinks and gate. A script's commands are done by
+//! `rht_registry`, and the table is closed by `rht_run`.
 #![tactic(auto)]
 
 mod ending;

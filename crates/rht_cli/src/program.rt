@@ -1,15 +1,19 @@
 //! The top call: the program from bytes to bytes.
 //!
-//! Stands on the forms, the reader of the input, the script's reader and writer, the registry that does
-//! a script's commands on a table, and the endings. Begin with the clauses of `run`: they say what each status means.
+//! Stands on the forms, the reader of the input, the script's reader and writer, the registry whose workers
+//! do a script's commands on a table, the closing of that table, and the endings. Begin with the clauses of
+//! `run`: they say what each status means.
 
 ghost use Rattle.std.specs.Prelude.{◌≡◌, ◌≢◌, ◌≤◌, ◌↔◌, ◌⊎◌, None, Some, Option, List, ℕ, string_bytes, map, IfOk};
 ghost use Rattle.std.specs.List.{AllByRecursion};
 ghost use Rattle.rht_io.specs.Told.{Rose, PutsLine};
+ghost use Rattle.rht_policy.specs.Mix.{mix_named};
+ghost use Rattle.rht_core.specs.Serving.{IsServedRun};
 ghost use Rattle.rht_script.specs.declared.script.ScriptFault.{ScriptFault};
 ghost use Rattle.rht_script.specs.Grammar.{Said};
 ghost use Rattle.rht_script.specs.Sound.{IsSoundScript, IsCommandCall};
 ghost use Rattle.rht_script.specs.Text.{fault_line};
+ghost use Rattle.rht_registry.specs.Outcomes.{IsBuiltCommand};
 ghost use Rattle.rht_cli.specs.declared.form.Form.{Form};
 ghost use Rattle.rht_cli.specs.declared.form.Form.TheVariants.{Run};
 ghost use Rattle.rht_cli.specs.Forms.{form_of, HasForm, IsInputOf, IsFaultOf};
@@ -20,8 +24,10 @@ use crate::ending::{Ending, Failure};
 use crate::form::Form;
 use crate::input::read_all;
 use rht_io::{Failed, Gate, Sink, Source};
-use rht_policy::{Lookup3, Low};
-use rht_registry::{Outcome, run_workers};
+use rht_model::{Closed, Replies};
+use rht_policy::{Lookup3, Low, Mix};
+use rht_registry::run_workers;
+use rht_run::Table;
 use rht_script::{Script, read, write_run};
 use rht_words::Hash;
 use std::alloc::{AllocError, Global};
@@ -135,27 +141,46 @@ fn serve_run<R: Threads + Wait + Sync, S: Source, O: Sink, G: Gate + Sync>(
 {
     let bytes = read_all(alloc, source)?;
     let script = read(alloc, &bytes)?;
-    let outcome = run_hashed(rt, alloc, &script, gate)?;
-    served_by(write_run(out, &outcome.replies, &outcome.closed))
+    let (replies, closed) = run_hashed(rt, alloc, &script, gate)?;
+    served_by(write_run(out, &replies, &closed))
 }
 
-/// Does a script's commands on a table, whose ports are hashed as its config says. So far a script has
-/// one worker. The one refusal is want of memory.
+/// Does a script's commands on a table whose ports are hashed as its config says, and closes it. The one
+/// refusal is want of memory.
 fn run_hashed<R: Threads + Wait + Sync, G: Gate + Sync>(
     rt: &R,
     alloc: Global,
     script: &Script,
     gate: &G,
-) -> Result<Outcome, AllocError>
+) -> Result<(Vec<Replies>, Closed), AllocError>
     requires sound { IsSoundScript script.now }
-    requires alone { script.now.config.callers ≡ 1 }
     requires asked { AllByRecursion (λ command. IsCommandCall command.1) script.now.commands.items }
-    ensures { IfOk result (λ outcome. IsServedBy script.now.config.hash script.now.config script.now.auto
-        script.now.commands.items outcome.replies.items outcome.closed) }
+    ensures { IfOk result (λ left. IsServedBy script.now.config.hash script.now.config script.now.auto
+        script.now.commands.items left.0.items left.1) }
 {
     match script.config.hash {
-        Hash::Mix => run_workers::<Lookup3, _, _>(rt, alloc, script, gate),
-        Hash::Low => run_workers::<Low, _, _>(rt, alloc, script, gate),
+        Hash::Mix => run_by::<Lookup3, _, _>(rt, alloc, script, gate),
+        Hash::Low => run_by::<Low, _, _>(rt, alloc, script, gate),
+    }
+}
+
+/// The same by this hash: the replies to each worker's commands, and what is bound at the end.
+fn run_by<M: Mix + Send, R: Threads + Wait + Sync, G: Gate + Sync>(
+    rt: &R,
+    alloc: Global,
+    script: &Script,
+    gate: &G,
+) -> Result<(Vec<Replies>, Closed), AllocError>
+    requires sound { IsSoundScript script.now }
+    requires mix { M.mix_of ≡ mix_named script.now.config }
+    requires built { AllByRecursion (IsBuiltCommand M script.now.config) script.now.commands.items }
+    ensures { IfOk result (λ left. IsServedRun M (mix_named script.now.config) script.now.config script.now.auto
+        script.now.commands.items left.0.items left.1) }
+{
+    let outcome = run_workers::<M, _, _>(rt, alloc, script, gate)?;
+    match Table::close(alloc, outcome.table, outcome.passes) {
+        Ok(closed) => Ok((outcome.replies, closed)),
+        Err(_) => Err(AllocError),
     }
 }
 

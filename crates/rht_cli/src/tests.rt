@@ -3,10 +3,12 @@
 
 use crate::laws::complete;
 use crate::program::run;
-use rht_io::{MemSink, MemSource, NoGate};
+use rht_io::{Gate, MemSink, MemSource, NoGate};
 use std::alloc::Global;
+use std::hint::spin_loop;
 use std::process::Abort;
 use std::sync::Wait;
+use std::sync::atomic::{AtomicBool, Ordering};
 use std::test::Fail;
 use std::thread::Threads;
 
@@ -26,6 +28,14 @@ struct Outside {
     put: u64,
     err: u64,
 }
+
+/// An outside that doesn't fail.
+const WHOLE: Outside = Outside {
+    piece: 4096,
+    take: 0,
+    put: 0,
+    err: 0,
+};
 
 /// What a run left.
 #[derive(Drop)]
@@ -50,12 +60,23 @@ fn run_on<R: Threads + Wait + Sync>(
     script: &str,
     outside: Outside,
 ) -> Result<Left, Fail> {
+    run_with(rt, alloc, words, script, outside, &NoGate)
+}
+
+fn run_with<R: Threads + Wait + Sync, G: Gate + Sync>(
+    rt: &R,
+    alloc: Global,
+    words: &str,
+    script: &str,
+    outside: Outside,
+    gate: &G,
+) -> Result<Left, Fail> {
     let list = words_of(alloc, words)?;
     let bytes = script.as_bytes().to_vec(alloc)?;
     let mut source = MemSource::new(bytes, outside.piece.max(1), vec![in alloc; outside.take]?);
-    let mut out = MemSink::new(alloc, 16_384, vec![in alloc; outside.put]?)?;
+    let mut out = MemSink::new(alloc, 131_072, vec![in alloc; outside.put]?)?;
     let mut err = MemSink::new(alloc, 4096, vec![in alloc; outside.err]?)?;
-    let status = run(rt, alloc, &list, &mut source, &mut out, &mut err, &NoGate);
+    let status = run(rt, alloc, &list, &mut source, &mut out, &mut err, gate);
     Ok(Left { status, out, err })
 }
 
@@ -399,15 +420,105 @@ fn tables_grow_and_shrink(rt: HostRuntime) -> Result<(), Fail> {
     for (script, text) in cases {
         let script = written(rt.alloc(), script)?;
         let text = written(rt.alloc(), text)?;
-        let outside = Outside {
-            piece: 4096,
-            take: 0,
-            put: 0,
-            err: 0,
-        };
-        let left = run_on(&rt, rt.alloc(), "run", &script, outside)?;
+        let left = run_on(&rt, rt.alloc(), "run", &script, WHOLE)?;
         assert_left(&rt, &left, 0, &text, "", &script);
     }
+    Ok(())
+}
+
+#[test]
+fn four_workers_are_served(rt: HostRuntime) -> Result<(), Fail> {
+    // Each has ports of its own, so the replies are the same in every order of the workers' operations.
+    let mut script = String::from_str(rt.alloc(), "table single workers 4\n")?;
+    let mut text = String::new(rt.alloc());
+    for w in 1..=4u32 {
+        for j in 0..500u32 {
+            let p = 1000 * w + j;
+            script.push_str(&format!(in rt.alloc();
+                "{w} bind {p} {w}\n{w} find {p}\n{w} release {p} {w}\n{w} find {p}\n")?)?;
+            text.push_str(&format!(in rt.alloc();
+                "{w}: bound\n{w}: found {w}\n{w}: released\n{w}: missing\n")?)?;
+        }
+    }
+    text.push_str("size 64 keys 0\n")?;
+    let left = run_on(&rt, rt.alloc(), "run", &script, WHOLE)?;
+    assert_left(&rt, &left, 0, &text, "", "four workers");
+    Ok(())
+}
+
+/// How often a worker looks for the other one.
+const TURNS: u32 = 100_000_000;
+
+/// Where two workers meet. Each raises its flag, looks for the other's, and notes whether it saw it.
+#[derive(Drop)]
+struct Meeting {
+    raised: [AtomicBool; 2],
+    seen: [AtomicBool; 2],
+}
+
+impl Gate for Meeting {
+    fn before(&self, worker: u32, _index: u32) {
+        let (own, other) = if worker == 1 { (0, 1) } else { (1, 0) };
+        self.raised[own].store(true, Ordering::SeqCst);
+        for _ in 0..TURNS {
+            if self.raised[other].load(Ordering::SeqCst) {
+                self.seen[own].store(true, Ordering::SeqCst);
+                return;
+            }
+            spin_loop();
+        }
+    }
+
+    fn after(&self, _worker: u32, _index: u32) {}
+}
+
+#[test]
+fn two_workers_meet(rt: HostRuntime) -> Result<(), Fail> {
+    // One thread alone couldn't do this, whichever worker it began with: the second flag would be
+    // raised once the first worker had looked for it.
+    let scripts = [
+        "table single workers 2\n1 bind 1 1\n2 bind 2 2\n",
+        "table single workers 2\n2 bind 2 2\n1 bind 1 1\n",
+    ];
+    for script in scripts {
+        let gate = Meeting {
+            raised: [AtomicBool::new(false), AtomicBool::new(false)],
+            seen: [AtomicBool::new(false), AtomicBool::new(false)],
+        };
+        let left = run_with(&rt, rt.alloc(), "run", script, WHOLE, &gate)?;
+        assert!(rt; gate.seen[0].load(Ordering::SeqCst));
+        assert!(rt; gate.seen[1].load(Ordering::SeqCst));
+        let text = "1: bound\n2: bound\nport 1: 1\nport 2: 2\nsize 64 keys 2\n";
+        assert_left(&rt, &left, 0, text, "", script);
+    }
+    Ok(())
+}
+
+#[test]
+fn sixteen_workers_share_a_port(rt: HostRuntime) -> Result<(), Fail> {
+    // Each binds the port to itself, looks it up and takes its own binding out. Its look-up finds an owner,
+    // since its own is bound then; whose, is for the order of the workers to say.
+    let mut script = String::from_str(rt.alloc(), "table listed workers 16\n")?;
+    for w in 1..=16u32 {
+        for _ in 0..20 {
+            script.push_str(&format!(in rt.alloc(); "{w} bind 80 {w}\n{w} find 80\n{w} release 80 {w}\n")?)?;
+        }
+    }
+    let left = run_on(&rt, rt.alloc(), "run", &script, WHOLE)?;
+    assert_eq!(rt; left.status, 0);
+    let text = str::from_utf8(left.out.bytes())?;
+    let mut lines = text.lines();
+    for w in 1..=16u32 {
+        for _ in 0..20 {
+            assert_eq!(rt; lines.next(), Some(format!(in rt.alloc(); "{w}: bound")?.as_str()));
+            let found = lines.next().ok_or("a reply")?;
+            let owner = found.strip_prefix(format!(in rt.alloc(); "{w}: found ")?.as_str()).ok_or("an owner")?;
+            assert!(rt; matches!(owner.parse::<u32>(), Ok(1..=16)), "{found}");
+            assert_eq!(rt; lines.next(), Some(format!(in rt.alloc(); "{w}: released")?.as_str()));
+        }
+    }
+    assert_eq!(rt; lines.next(), Some("size 64 keys 0"));
+    assert_eq!(rt; lines.next(), None);
     Ok(())
 }
 

@@ -1,4 +1,6 @@
--- a call of the one caller, from its beginning to its end
+-- one command more of a worker is served
 pub mod ServedCalls
 -- the commands of a sound script are its workers', and for a table of its kind
 pub mod SoundCommands
+-- what all workers leave, and what it is once the table is closed
+pub mod ClosedOutcomes

@@ -1,39 +1,30 @@
--- A call of the one caller: it begins where the caller is in none, each operation leaves it in progress or ends it with the reply,
--- and then it is the last of those that have ended. A caller with no call in its book is idle.
-use Rattle.std.proofs.Common.{◌≡◌, ◌≢◌, ◌⊎◌, inl, inr, ℕ, ◌<◌, ◌≤◌, Bool, true, false, List, [], ◌∷◌, ◌++◌, length, refl, sym, ◌∙◌, ap, subst, append_assoc, cond, arith}
-use Rattle.std.specs.Prelude.{Option, Some, None, is_some, nat_lt, ◌&&◌}
+-- How a worker gets on: the calls that a command has added to its pass are served behind the others, and a command of another worker
+-- changes nothing. No pairs come with a reply, since there is no machine for a walk yet.
+use Rattle.std.proofs.Common.{◌≡◌, ◌≢◌, ℕ, ◌+◌, ◌<◌, ◌≤◌, Bool, true, false, List, [], ◌∷◌, ◌++◌, length, take, get_or, inl, refl, sym, ◌∙◌, ap, subst, append_assoc, cond, arith}
+use Rattle.std.specs.Prelude.{Option, Some, None, is_some, ◌==◌}
 use Rattle.std.specs.List.{AllByRecursion}
-use Rattle.std.proofs.lemmas.Bool.{lt-ltb}
-use Rattle.std.proofs.lemmas.List.{append-nil}
-use Rattle.rht_words.specs.declared.op.Op.{Op}
+use Rattle.std.proofs.lemmas.Bool.{eq-eqb, ne_eqb}
+use Rattle.std.proofs.lemmas.List.{append-nil, take_all, take_more}
 use Rattle.rht_words.specs.declared.env.Env.{Env}
-use Rattle.rht_words.specs.Operations.{old_of}
-use Rattle.rht_words.proofs.EachElement.{AllByRecursion-append}
+use Rattle.rht_words.proofs.EachElement.{AllByRecursion-cut}
 use Rattle.rht_model.specs.declared.history.Call.{Call}
-use Rattle.rht_model.specs.declared.history.Call.TheVariants.{Work}
+use Rattle.rht_model.specs.declared.history.Call.TheVariants.{Bind, Find, All, Release, Rebind, Walk, Work, Tidy, Count}
+use Rattle.rht_model.specs.declared.history.Cursor.{Cursor}
 use Rattle.rht_model.specs.declared.history.Reply.{Reply}
-use Rattle.rht_model.specs.declared.history.Reply.TheVariants.{Moved}
+use Rattle.rht_model.specs.declared.history.Reply.TheVariants.{Bound, Exists, Found, Missing, Listed, Released, Absent, Rebound, TooBig, Again, Busy, NoTable, NoNode, Pending, Elsewhere, Walked, Moved, Idle, Clear, Counted}
 use Rattle.rht_model.specs.declared.finished.Finished.{Finished}
 use Rattle.rht_model.specs.Endings.{Ending, ended_with, replied}
-use Rattle.rht_core.specs.declared.event.Event.{Event}
-use Rattle.rht_core.specs.declared.event.Event.TheVariants.{Begin, Step}
-use Rattle.rht_core.specs.declared.event.Stepped.{Stepped}
 use Rattle.rht_core.specs.declared.book.Book.{Book}
-use Rattle.rht_core.specs.declared.local.Local.{Local}
-use Rattle.rht_core.specs.declared.local.Doing.{Doing}
-use Rattle.rht_core.specs.Jobs.{Job, job_of}
-use Rattle.rht_core.specs.Locals.{is_idle, machine_of, local_after, ending_of}
-use Rattle.rht_core.specs.Runs.{Core, World, View, local_of, beginning_in, planned_in, with_step, core_step, world_step, run_of, view_of, book_after, finished_with, IsAdmitted, IsAdmittedEvent}
-use Rattle.rht_core.specs.Traces.{Did, Traced, traced_of}
-use Rattle.rht_core.specs.Serving.{asks_for_work, AreWorks, AreBehind, AreForCommand, Serves}
-use Rattle.rht_core.proofs.Events.Worlds.{run_of-push, begin_self, step_none, step_self}
-use Rattle.rht_core.proofs.Events.SoundRuns.{has_place, runs-in, step-count}
-use Rattle.rht_core.proofs.Events.ReachedStates.{event-env}
-use Rattle.rht_core.proofs.Events.JobsOfCallers.{is_no_job, nothing-job}
-use Rattle.rht_core.proofs.Tracing.TracedRuns.{world-traced_of}
-use Rattle.rht_core.proofs.Tracing.TracedJobs.{IsAtJob}
-use Rattle.rht_core.proofs.Tracing.RepliesInRuns.{Holds, Answered, runs-right}
-use Rattle.rht_registry.specs.Served.{IsRunTo, HasServed}
+use Rattle.rht_core.specs.Locals.{is_idle, machine_of}
+use Rattle.rht_core.specs.Replies.{IsReplyTo, ArePairsWith, IsRightlyAnswered}
+use Rattle.rht_core.specs.Serving.{AreForCommand, Serves, calls_of}
+use Rattle.rht_run.specs.declared.table.Table.{Table}
+use Rattle.rht_run.specs.declared.pass.Pass.{Pass}
+use Rattle.rht_run.specs.Rule.{In, held_at}
+use Rattle.rht_run.specs.Passes.{IsNew, book_of, seen_by}
+use Rattle.rht_run.specs.Served.{HasServed}
+use Rattle.rht_run.proofs.CallSteps.{answers}
+use Rattle.rht_registry.specs.Outcomes.{HasServedWorker}
 
 -- one command more, behind the others, with its calls
 pub Serves-push : (auto : Bool) (calls : List Call) (endings : List Ending) (done : List Finished) (call : Call) (ending : Ending)
@@ -51,184 +42,189 @@ Serves-push auto (own ∷ calls) (e ∷ endings) done call ending more for serve
   rest_is = Serves-push auto calls endings serves.rest call ending more for serves.rest_is;
 }
 
--- a command's calls: its own, and then `work` where that was asked for
-pub for-works : (auto : Bool) (call : Call) (ending : Ending) (works : List Finished) → auto ≡ true
-    → asks_for_work call ending.answer.reply ≡ true → AreWorks works
-    → AreForCommand auto call ending (ended_with call ending ∷ works)
-for-works auto call ending works own asks are = record { behind = works; whole = refl; works = rw (own, asks) are }
+-- ---- the calls of a worker
 
--- or its own alone
-pub for-alone : (auto : Bool) (call : Call) (ending : Ending)
-    → (auto ≡ false) ⊎ (asks_for_work call ending.answer.reply ≡ false)
-    → AreForCommand auto call ending (ended_with call ending ∷ [])
-for-alone auto call ending (inl manual) = record { behind = []; whole = refl; works = rw manual refl }
-for-alone auto call ending (inr asks) = record { behind = []; whole = refl; works = rw asks (none auto) }
-  where
-    none : (auto : Bool) → AreBehind (auto && false) []
-    none true = refl
-    none false = refl
+-- a command in front of two lists, whether or not it is the worker's
+with_own : (own : Bool) (call : Call) (whole calls more : List Call) → whole ≡ calls ++ more
+    → cond own (call ∷ whole) whole ≡ cond own (call ∷ calls) calls ++ more
+with_own true call whole calls more is = ap (λ l. call ∷ l) is
+with_own false call whole calls more is = is
 
--- the call has been made, and answered that it is to be made again
-pub record IsAgain (done : Finished) : Type 0 where
-  pub call : done.call ≡ Work
-  pub reply : done.reply ≡ Moved true
+-- by induction over the commands
+calls_of-append : (worker : ℕ) (commands more : List (ℕ × Call))
+    → calls_of worker (commands ++ more) ≡ calls_of worker commands ++ calls_of worker more
+calls_of-append worker [] more = refl
+calls_of-append worker (command ∷ commands) more =
+    with_own (command.0 == worker) command.1 (calls_of worker (commands ++ more)) (calls_of worker commands)
+    (calls_of worker more) (calls_of-append worker commands more)
 
--- by induction: one that answers otherwise ends it
-pub AreWorks-last : (works : List Finished) (last : Finished) → AllByRecursion IsAgain works → last.call ≡ Work
-    → last.reply ≢ Moved true → AreWorks (works ++ last ∷ [])
-AreWorks-last [] last again call other = (call, other)
-AreWorks-last (d ∷ []) last again call other = (again.0.call, again.0.reply, (call, other))
-AreWorks-last (d ∷ next ∷ works) last again call other =
-    (again.0.call, again.0.reply, AreWorks-last (next ∷ works) last again.1 call other)
+-- a command of its own comes last among its calls
+pub calls_of-own : (worker : ℕ) (commands : List (ℕ × Call)) (call : Call)
+    → calls_of worker (commands ++ (worker, call) ∷ []) ≡ calls_of worker commands ++ call ∷ []
+calls_of-own worker commands call =
+    calls_of-append worker commands ((worker, call) ∷ [])
+    ∙ ap (λ own. calls_of worker commands ++ cond own (call ∷ []) []) (eq-eqb worker worker refl)
 
-module _ (M : Type 0) (mix : ℕ → ℕ → ℕ → ℕ) where
-  -- ---- a caller with no call
+-- and one of another worker isn't among them
+pub calls_of-other : (worker : ℕ) (commands : List (ℕ × Call)) (command : ℕ × Call) → command.0 ≢ worker
+    → calls_of worker (commands ++ command ∷ []) ≡ calls_of worker commands
+calls_of-other worker commands command other =
+    calls_of-append worker commands (command ∷ [])
+    ∙ ap (λ own. calls_of worker commands ++ cond own (command.1 ∷ []) []) (ne_eqb command.0 worker other)
+    ∙ append-nil (calls_of worker commands)
 
-  no_job : (env : Env) (job : Option Job) (book : Book) (steps : List Did) → book.call ≡ None
-      → IsAtJob M mix env (Holds M mix env) (Answered M mix env) job book steps → is_no_job job ≡ true
-  no_job env None book steps none at = refl
-  no_job env (Some job) book steps none at = let e = sym none ∙ at.call in cc
+-- ---- no pairs
 
-  idle-world : (env : Env) (events : List Event) → IsAdmitted env.config.kind events
-      → ((run_of {M = M} mix env events).books 0).call ≡ None → is_idle (local_of (run_of {M = M} mix env events).core 0) ≡ true
-  idle-world env events admitted none =
-      let r : Traced M = traced_of mix env events in
-      let same : r.world ≡ run_of mix env events = world-traced_of M mix env events in
-      subst (λ (w : World M). (w.books 0).call ≡ None → is_idle (local_of w.core 0) ≡ true) same
-      (λ none. nothing-job (local_of r.world.core 0).doing
-      ∙ no_job env (job_of (local_of r.world.core 0).doing) (r.world.books 0) _ none (runs-right M mix env events 0 admitted).now)
-      none
+-- a call for which there is a machine is no walk
+never-walked : (M : Type 0) (env : Env) (caller : ℕ) (call : Call) (len : ℕ) (next : Option Cursor)
+    → is_some (machine_of {M = M} env caller call) ≡ true → IsReplyTo call (Walked len next) → ⊥
+never-walked M env caller (Bind port owner once) len next built reply = reply
+never-walked M env caller (Find port) len next built reply = reply
+never-walked M env caller (All port) len next built reply = reply
+never-walked M env caller (Release port owner) len next built reply = reply
+never-walked M env caller (Rebind port owner new) len next built reply = reply
+never-walked M env caller (Walk from limit) len next built reply = cc
+never-walked M env caller Work len next built reply = reply
+never-walked M env caller Tidy len next built reply = reply
+never-walked M env caller Count len next built reply = reply
 
-  pub idle-none : (core : Core M) (done : List Finished) → IsRunTo M mix core None done → is_idle (local_of core 0) ≡ true
-  idle-none core done run =
-      subst (λ (k : Core M). is_idle (local_of k 0) ≡ true) run.same (idle-world run.env run.events run.admitted run.call_is)
+-- so none of its replies has pairs, by cases of the reply
+no-pairs : (M : Type 0) (env : Env) (caller : ℕ) (call : Call) (reply : Reply) (pairs : List (ℕ × ℕ))
+    → is_some (machine_of {M = M} env caller call) ≡ true → IsReplyTo call reply → ArePairsWith reply pairs → pairs ≡ []
+no-pairs M env caller call (Walked len next) pairs built reply with_it =
+    absurd (never-walked M env caller call len next built reply)
+no-pairs M env caller call (Bound kick) pairs built reply none = none
+no-pairs M env caller call (Exists owner) pairs built reply none = none
+no-pairs M env caller call (Found owner) pairs built reply none = none
+no-pairs M env caller call Missing pairs built reply none = none
+no-pairs M env caller call (Listed len) pairs built reply none = none
+no-pairs M env caller call (Released kick) pairs built reply none = none
+no-pairs M env caller call Absent pairs built reply none = none
+no-pairs M env caller call Rebound pairs built reply none = none
+no-pairs M env caller call (TooBig count) pairs built reply none = none
+no-pairs M env caller call (Again table) pairs built reply none = none
+no-pairs M env caller call (Busy root last) pairs built reply none = none
+no-pairs M env caller call (NoTable size) pairs built reply none = none
+no-pairs M env caller call NoNode pairs built reply none = none
+no-pairs M env caller call (Pending other section) pairs built reply none = none
+no-pairs M env caller call Elsewhere pairs built reply none = none
+no-pairs M env caller call (Moved again) pairs built reply none = none
+no-pairs M env caller call Idle pairs built reply none = none
+no-pairs M env caller call (Clear returned) pairs built reply none = none
+no-pairs M env caller call (Counted count) pairs built reply none = none
 
-  -- one command more has been served, once its calls have been made
-  pub HasServed-more : (core after : Core M) (auto : Bool) (calls : List Call) (endings : List Ending) (call : Call) (ending : Ending)
-      (more : List Finished)
-      → (served : HasServed M mix core auto calls endings) → AreForCommand auto call ending more
-      → IsRunTo M mix after None (served.done ++ more)
-      → HasServed M mix after auto (calls ++ call ∷ []) (endings ++ ending ∷ [])
-  HasServed-more core after auto calls endings call ending more served for run =
-      record { done = served.done ++ more; run = run; serves = Serves-push auto calls endings served.done call ending more for served.serves }
+-- where there is something it is some thing
+pub some-thing : {A : Type 0} (o : Option A) → is_some o ≡ true → (a : A) × (o ≡ Some a)
+some-thing None none = absurd (cc)
+some-thing (Some a) some = (a, refl)
 
-  -- ---- one more event
+-- a new pass has the number of a caller
+pub new-below : {M : Type 0} (mix : ℕ → ℕ → ℕ → ℕ) (t : Table M) (number : ℕ) (pass : Pass M) → IsNew mix t number pass → number ≤ 16
+new-below mix t number pass new =
+    let view = pass.seat.me.0 in
+    let held = held_at pass.number (seen_by pass) in
+    let shows = new.pass.in_run.shows held (subst (In held) (sym new.pass.held) (inl refl)) in
+    let below : pass.number < view.env.geometry.callers = shows.below in
+    let most : view.env.geometry.callers ≤ 16 = view.env.geometry.within.callers_within.1 in
+    let same : pass.number ≡ number = new.number in
+    omega (arith, below, most, same)
 
-  -- it leaves what the table was opened with
-  pub env-stays : (core after : Core M) (event : Event) (stepped : Stepped) → (after, stepped) ≡ core_step mix core event
-      → after.env ≡ core.env
-  env-stays core after event stepped is =
-      let kept : (core_step mix core event).0.env ≡ core.env = event-env M mix core event in
-      ap (λ p. p.0.env) is ∙ kept
+module _ {M : Type 0} (mix : ℕ → ℕ → ℕ → ℕ) (t : Table M) (auto : Bool) where
+  -- the command's own call was answered rightly
+  own-answered : (call : Call) (reply : Reply) (before now : Pass M) → HasServed mix t auto call reply before now
+      → IsRightlyAnswered (ended_with call (replied reply now.local.owners.items now.local.pairs.items))
+  own-answered call reply before now has =
+      let own = ended_with call (replied reply now.local.owners.items now.local.pairs.items) in
+      let right = (answers mix t now has.pass).finished in
+      let more = (AllByRecursion-cut IsRightlyAnswered (book_of before).finished has.more
+      (subst (AllByRecursion IsRightlyAnswered) has.finished right)).1 in
+      let whole : AllByRecursion IsRightlyAnswered (own ∷ has.made.behind) = subst (AllByRecursion IsRightlyAnswered) has.made.whole more in
+      whole.0
 
-  -- what the event makes of the caller is what it makes of the run
-  pub run-more : (core after : Core M) (event : Event) (stepped : Stepped) (was now : Option Call) (done then_ : List Finished)
-      → (run : IsRunTo M mix core was done) → IsAdmittedEvent core.env.config.kind event → (after, stepped) ≡ core_step mix core event
-      → core.enrolled ≤ after.enrolled
-      → let w : World M = world_step mix (run_of mix run.env run.events) event in
-      (w.books 0).call ≡ now → (w.books 0).finished ≡ then_
-      → IsRunTo M mix after now then_
-  run-more core after event stepped was now done then_ run more is kept call_is done_is =
-      let w : World M = run_of mix run.env run.events in
-      let pushed = run_of-push M mix run.env run.events event in
+  -- and no pairs came with its reply
+  pub served-pairs : (caller : ℕ) (call : Call) (reply : Reply) (before now : Pass M)
+      → is_some (machine_of {M = M} t.env caller call) ≡ true → HasServed mix t auto call reply before now
+      → now.local.pairs.items ≡ []
+  served-pairs caller call reply before now built has =
+      let right = own-answered call reply before now has in
+      no-pairs M t.env caller call reply now.local.pairs.items built right.reply right.pairs
+
+  -- ---- one command more
+
+  -- where it is the worker's own, with the reply that it was answered
+  pub HasServedWorker-own : (commands : List (ℕ × Call)) (number : ℕ) (call : Call) (reply : Reply) (before now : Pass M)
+      (endings : List Ending)
+      → HasServed mix t auto call reply before now → HasServedWorker mix t auto commands number before endings
+      → HasServedWorker mix t auto (commands ++ (number + 1, call) ∷ []) number now
+      (endings ++ replied reply now.local.owners.items now.local.pairs.items ∷ [])
+  HasServedWorker-own commands number call reply before now endings has served =
+      let worker = number + 1 in
+      let ending = replied reply now.local.owners.items now.local.pairs.items in
+      let all = endings ++ ending ∷ [] in
+      let pushed =
+      Serves-push auto (calls_of worker commands) endings (book_of before).finished call ending has.more has.made served.serves in
       record {
-        env = run.env;
-        events = run.events ++ event ∷ [];
-        admitted =
-            AllByRecursion-append (IsAdmittedEvent run.env.config.kind) run.events (event ∷ []) run.admitted
-            (subst (λ (e : Env). IsAdmittedEvent e.config.kind event) run.same_env more, tt);
-        same =
-            ap (λ (v : World M). v.core) pushed ∙ ap (λ (k : Core M). (core_step mix k event).0) run.same ∙ sym (ap (λ p. p.0) is);
-        same_env = env-stays core after event stepped is ∙ run.same_env;
-        enrolled = omega (arith, run.enrolled, kept);
-        call_is = ap (λ (v : World M). (v.books 0).call) pushed ∙ call_is;
-        done_is = ap (λ (v : World M). (v.books 0).finished) pushed ∙ done_is;
+        pass_of = has.pass;
+        number_is = has.same.number ∙ served.number_is;
+        idle = has.idle;
+        serves =
+            subst (λ calls. Serves auto calls all (book_of now).finished) (sym (calls_of-own worker commands call))
+            (subst (Serves auto (calls_of worker commands ++ call ∷ []) all) (sym has.finished) pushed);
       }
 
-  -- caller 0 has a place in a run
-  placed : (core : Core M) (call : Option Call) (done : List Finished) (run : IsRunTo M mix core call done)
-      → 0 < length (run_of {M = M} mix run.env run.events).core.locals
-  placed core call done run =
-      let w : World M = run_of mix run.env run.events in
-      has_place M mix run.env w.core 0 (runs-in M mix run.env run.events)
-      (subst (λ (k : Core M). 0 < k.enrolled) (sym run.same) run.enrolled)
+  -- and where it is another one's
+  pub HasServedWorker-other : (commands : List (ℕ × Call)) (number : ℕ) (command : ℕ × Call) (pass : Pass M) (endings : List Ending)
+      → command.0 ≢ number + 1 → HasServedWorker mix t auto commands number pass endings
+      → HasServedWorker mix t auto (commands ++ command ∷ []) number pass endings
+  HasServedWorker-other commands number command pass endings other served = record {
+    pass_of = served.pass_of;
+    number_is = served.number_is;
+    idle = served.idle;
+    serves =
+        subst (λ calls. Serves auto calls endings (book_of pass).finished) (sym (calls_of-other (number + 1) commands command other))
+        served.serves;
+  }
 
-  -- ---- a call begins
+  -- ---- the commands up to a place
 
-  pub run-begins : (core after : Core M) (call : Call) (machine : Doing M) (stepped : Stepped) (done : List Finished)
-      → IsRunTo M mix core None done → IsAdmittedEvent core.env.config.kind (Begin 0 call) → machine_of core.env 0 call ≡ Some machine
-      → (after, stepped) ≡ core_step mix core (Begin 0 call)
-      → IsRunTo M mix after (Some call) done
-  run-begins core after call machine stepped done run more built is =
-      let w : World M = run_of mix run.env run.events in
-      let low = lt-ltb 0 core.enrolled run.enrolled in
-      let idle = idle-none core done run in
-      let may : nat_lt 0 core.enrolled && is_idle (local_of core 0) ≡ true = rw (low, idle) refl in
-      let begins : beginning_in core 0 call ≡ Some machine = ap (λ t. cond t (machine_of core.env 0 call) None) may ∙ built in
-      let begins_there = subst (λ (k : Core M). beginning_in k 0 call ≡ Some machine) (sym run.same) begins in
-      let view = begin_self M mix w 0 call machine begins_there (placed core None done run) in
-      let kept = ap (λ p. p.0.enrolled) is in
-      run-more core after (Begin 0 call) stepped None (Some call) done done run more is (omega (arith, kept))
-      (ap (λ (v : View M). v.book.call) view) (ap (λ (v : View M). v.book.finished) view ∙ run.done_is)
+  -- at first there is none
+  pub HasServedWorker-none : (number : ℕ) (pass : Pass M) → IsNew mix t number pass → HasServedWorker mix t auto [] number pass []
+  HasServedWorker-none number pass new = record {
+    pass_of = new.pass;
+    number_is = new.number;
+    idle = ap is_idle new.local;
+    serves = ap (λ (b : Book). b.finished) new.book;
+  }
 
-  -- ---- an operation of it
+  module _ (items : List (ℕ × Call)) (i : ℕ) (default : ℕ × Call) (number : ℕ) (pass : Pass M) (endings : List Ending)
+      (within : i < length items) where
+    abbrev next : ℕ × Call
+    next = get_or items i default
 
-  -- without a reply the call is still in progress, and with one it has ended so
-  abbrev pub Goes : Core M → Call → List Finished → Option Reply → Type 0
-  Goes after call done None = IsRunTo M mix after (Some call) done
-  Goes after call done (Some reply) =
-      let local = local_of after 0 in
-      IsRunTo M mix after None (done ++ ended_with call (replied reply local.owners.items local.pairs.items) ∷ [])
+    pub served-own : next.0 ≡ number + 1
+        → HasServedWorker mix t auto (take i items ++ (number + 1, next.1) ∷ []) number pass endings
+        → HasServedWorker mix t auto (take (i + 1) items) number pass endings
+    served-own own =
+        let more = take_more items i default within in
+        subst (λ commands. HasServedWorker mix t auto commands number pass endings)
+        (sym (more ∙ ap (λ worker. take i items ++ (worker, next.1) ∷ []) own))
 
-  module _ (core after : Core M) (call : Call) (stepped : Stepped) (done : List Finished) (run : IsRunTo M mix core (Some call) done)
-      (more : IsAdmittedEvent core.env.config.kind (Step 0)) (is : (after, stepped) ≡ core_step mix core (Step 0)) where
-    abbrev w : World M
-    w = run_of mix run.env run.events
+    pub served-other : next.0 ≢ number + 1 → HasServedWorker mix t auto (take i items) number pass endings
+        → HasServedWorker mix t auto (take (i + 1) items) number pass endings
+    served-other other served =
+        subst (λ commands. HasServedWorker mix t auto commands number pass endings) (sym (take_more items i default within))
+        (HasServedWorker-other (take i items) number next pass endings other served)
 
-    -- what the event makes of the run's last words and callers
-    there : (after, stepped) ≡ core_step mix w.core (Step 0)
-    there = is ∙ ap (λ (k : Core M). core_step mix k (Step 0)) (sym run.same)
+  -- the worker's pass and replies under other names
+  pub served-same : (commands : List (ℕ × Call)) (number : ℕ) (pass now : Pass M) (endings all : List Ending) → pass ≡ now → endings ≡ all
+      → HasServedWorker mix t auto commands number now all → HasServedWorker mix t auto commands number pass endings
+  served-same commands number pass now endings all same same_endings served =
+      subst (λ (p : Pass M). HasServedWorker mix t auto commands number p endings) (sym same)
+      (subst (λ e. HasServedWorker mix t auto commands number now e) (sym same_endings) served)
 
-    kept : core.enrolled ≤ after.enrolled
-    kept = let same = ap (λ p. p.0.enrolled) is ∙ step-count M mix run.env core 0 (planned_in core 0) in omega (arith, same)
-
-    goes-on : (now : Option Call) (then_ : List Finished) → ((world_step mix w (Step 0)).books 0).call ≡ now
-        → ((world_step mix w (Step 0)).books 0).finished ≡ then_ → IsRunTo M mix after now then_
-    goes-on now then_ = run-more core after (Step 0) stepped (Some call) now done then_ run more is kept
-
-    module _ (op : Op) (plan : planned_in w.core 0 ≡ Some op) where
-      abbrev next : Local M × Option Reply
-      next = local_after mix (local_of w.core 0) (old_of w.core.words op)
-
-      view : view_of (world_step mix w (Step 0)) 0 ≡ record { local = next.0; book = book_after (ending_of next.0 next.1) (w.books 0) }
-      view = step_self M mix w 0 op plan (placed core (Some call) done run)
-
-      local_is : local_of after 0 ≡ next.0
-      local_is = ap (λ p. local_of p.0 0) there ∙ ap (λ (v : View M). v.local) view
-
-      replies : stepped.reply ≡ next.1
-      replies = ap (λ p. p.1.reply) there ∙ ap (λ (o : Option Op). (with_step mix w.core 0 o).1.reply) plan
-
-      ends : (reply : Option Reply) → next.1 ≡ reply → Goes after call done reply
-      ends None is_none =
-          let book = ap (λ (v : View M). v.book) view ∙ ap (λ r. book_after (ending_of next.0 r) (w.books 0)) is_none in
-          goes-on (Some call) done (ap (λ (b : Book). b.call) book ∙ run.call_is) (ap (λ (b : Book). b.finished) book ∙ run.done_is)
-      ends (Some reply) is_some =
-          let book = ap (λ (v : View M). v.book) view ∙ ap (λ r. book_after (ending_of next.0 r) (w.books 0)) is_some in
-          let ending : Local M → Ending = λ local. replied reply local.owners.items local.pairs.items in
-          goes-on None (done ++ ended_with call (ending (local_of after 0)) ∷ []) (ap (λ (b : Book). b.call) book)
-          (ap (λ (b : Book). b.finished) book
-          ∙ ap (λ c. (w.books 0).finished ++ finished_with c (ending next.0)) run.call_is
-          ∙ ap (λ d. d ++ ended_with call (ending next.0) ∷ []) run.done_is
-          ∙ ap (λ local. done ++ ended_with call (ending local) ∷ []) (sym local_is))
-
-    steps : (op : Option Op) → planned_in w.core 0 ≡ op → Goes after call done stepped.reply
-    steps None plan =
-        let reply : stepped.reply ≡ None = ap (λ p. p.1.reply) there ∙ ap (λ (o : Option Op). (with_step mix w.core 0 o).1.reply) plan in
-        let same = step_none M mix w 0 plan in
-        rw reply (goes-on (Some call) done (ap (λ (v : World M). (v.books 0).call) same ∙ run.call_is)
-        (ap (λ (v : World M). (v.books 0).finished) same ∙ run.done_is))
-    steps (Some op) plan = rw (replies op plan) (ends op plan (next op plan).1 refl)
-
-    pub run-steps : Goes after call done stepped.reply
-    run-steps = steps (planned_in w.core 0) refl
+  -- and at last all of them
+  pub served-all : (items commands : List (ℕ × Call)) (i number : ℕ) (pass : Pass M) (endings : List Ending) → length items ≤ i
+      → items ≡ commands → HasServedWorker mix t auto (take i items) number pass endings
+      → HasServedWorker mix t auto commands number pass endings
+  served-all items commands i number pass endings over same =
+      subst (λ l. HasServedWorker mix t auto l number pass endings) (take_all i items over ∙ same)

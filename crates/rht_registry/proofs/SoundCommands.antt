@@ -1,9 +1,10 @@
 -- Each command of a sound script is one of its workers', and its call is one that a table of the script's config may be given. Where
 -- commands can ask for it there is a machine for it; and where there is one worker all calls are its own.
-use Rattle.std.proofs.Common.{◌≡◌, ◌≢◌, ℕ, ◌≤◌, Bool, true, false, List, [], ◌∷◌, map, refl, sym, ap, subst, arith}
+use Rattle.std.proofs.Common.{◌≡◌, ◌≢◌, ℕ, ◌<◌, ◌≤◌, Bool, true, false, List, [], ◌∷◌, length, map, get_or, refl, sym, ap, subst, arith}
 use Rattle.std.specs.Prelude.{IsTrue, ◌&&◌, is_some}
 use Rattle.std.specs.List.{AllByRecursion, list_all}
 use Rattle.std.proofs.lemmas.Bool.{leb-true, eq-eqb}
+use Rattle.std.proofs.lemmas.List.Elements.{All-from_recursion}
 use Rattle.rht_words.specs.declared.config.Config.{Config}
 use Rattle.rht_words.specs.declared.config.Kind.{Kind}
 use Rattle.rht_words.specs.declared.config.Kind.TheVariants.{Single, Listed}
@@ -55,28 +56,34 @@ sound-commands config (command ∷ commands) sound =
       sound-commands config commands first_and_others.1,
     )
 
+-- what is so of each command is so of the one at a place
+pub next-command : (P : ℕ × Call → Type 0) (items commands : List (ℕ × Call)) (i : ℕ) (default : ℕ × Call) → items ≡ commands
+    → AllByRecursion P commands → i < length items → P (get_or items i default)
+next-command P items commands i default same all within =
+    All-from_recursion P items (subst (AllByRecursion P) (sym same) all) i default within
+
 -- ---- machines
 
 -- in a table of one owner for each port there is one for a rebind
-rebinding-single : (M : Type 0) (env : Env) (port owner new : ℕ) (kind : Kind) → is_single kind ≡ true
-    → is_some (rebinding_of {M = M} env 0 port owner new kind) ≡ true
-rebinding-single M env port owner new Single single = refl
-rebinding-single M env port owner new Listed single = absurd (cc)
+rebinding-single : (M : Type 0) (env : Env) (caller port owner new : ℕ) (kind : Kind) → is_single kind ≡ true
+    → is_some (rebinding_of {M = M} env caller port owner new kind) ≡ true
+rebinding-single M env caller port owner new Single single = refl
+rebinding-single M env caller port owner new Listed single = absurd (cc)
 
 -- by cases of the call
 machine-asked : (M : Type 0) (config : Config) (call : Call) → is_sound_call config call ≡ true → IsCommandCall call
-    → (env : Env) → env.config ≡ config → is_some (machine_of {M = M} env 0 call) ≡ true
-machine-asked M config (Bind port owner once) sound asked env same = refl
-machine-asked M config (Find port) sound asked env same = refl
-machine-asked M config (All port) sound asked env same = refl
-machine-asked M config (Release port owner) sound asked env same = refl
-machine-asked M config (Rebind port owner new) sound asked env same =
-    rebinding-single M env port owner new env.config.kind
+    → (env : Env) (caller : ℕ) → env.config ≡ config → is_some (machine_of {M = M} env caller call) ≡ true
+machine-asked M config (Bind port owner once) sound asked env caller same = refl
+machine-asked M config (Find port) sound asked env caller same = refl
+machine-asked M config (All port) sound asked env caller same = refl
+machine-asked M config (Release port owner) sound asked env caller same = refl
+machine-asked M config (Rebind port owner new) sound asked env caller same =
+    rebinding-single M env caller port owner new env.config.kind
     (subst (λ (c : Config). is_single c.kind ≡ true) (sym same) sound)
-machine-asked M config (Walk from limit) sound asked env same = absurd asked
-machine-asked M config Work sound asked env same = refl
-machine-asked M config Tidy sound asked env same = absurd asked
-machine-asked M config Count sound asked env same = refl
+machine-asked M config (Walk from limit) sound asked env caller same = absurd asked
+machine-asked M config Work sound asked env caller same = refl
+machine-asked M config Tidy sound asked env caller same = absurd asked
+machine-asked M config Count sound asked env caller same = refl
 
 -- so there is one for each command that can be asked for
 pub built-commands : (M : Type 0) (config : Config) (commands : List (ℕ × Call))

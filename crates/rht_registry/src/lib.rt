@@ -1,8 +1,7 @@
-//! The workers of a script: their commands done by the callers of a table, with the work that the
-//! replies ask for, and what they leave.
+//! The workers of a script: their commands done by the callers of a table, in threads of their own,
+//! and what they leave.
 //!
-//! Stands on `rht_core`, whose table runs on plain words here, and on `rht_script`. So far a script
-//! has one worker.
+//! Stands on `rht_run`, whose table all workers share, and on `rht_script`.
 //! Read `specs/Outcomes.antt` first.
 #![tactic(auto)]
 

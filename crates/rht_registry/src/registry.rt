@@ -1,158 +1,166 @@
-//! One worker does its commands in their order, each to its end, and the work that their replies ask for.
+//! A worker for each caller of the table. It does its own commands in their order, each to its end,
+//! while the others do theirs.
 
-ghost use Rattle.std.specs.Prelude.{◌≡◌, ◌<◌, ◌↔◌, ℕ, Bool, true, IsTrue, Some, None, is_some, List, [], ◌∷◌, ◌++◌, map, IfOk, OnOk};
-ghost use Rattle.std.specs.List.{AllByRecursion};
-ghost use Rattle.rht_words.specs.Settled.{IsSettled};
+ghost use Rattle.std.specs.Prelude.{◌≡◌, ◌+◌, ℕ, true, is_some, vec_len, IfOk, OnOk, List, [], ◌∷◌, ◌++◌};
+ghost use Rattle.std.specs.List.{AllByRecursion, enumerate_from};
 ghost use Rattle.rht_policy.specs.Mix.{mix_named};
-ghost use Rattle.rht_model.specs.declared.history.Call.{Call};
-ghost use Rattle.rht_model.specs.declared.history.Reply.TheVariants.{Moved};
-ghost use Rattle.rht_model.specs.declared.finished.Finished.{Finished};
-ghost use Rattle.rht_model.specs.Endings.{replied, ended_with};
+ghost use Rattle.rht_model.specs.declared.history.Call.{Call as CallOf};
 ghost use Rattle.rht_core.specs.Locals.{is_idle, machine_of};
-ghost use Rattle.rht_core.specs.Runs.{local_of, IsBuiltFor};
-ghost use Rattle.rht_core.specs.Serving.{asks_for_work};
+ghost use Rattle.rht_core.specs.Runs.{IsBuiltFor};
+ghost use Rattle.rht_run.specs.Passes.{IsPassOf, IsNew, AreNew};
 ghost use Rattle.rht_script.specs.Sound.{IsSoundScript};
-ghost use Rattle.rht_registry.specs.Outcomes.{IsBuiltCommand, IsOutcome};
-ghost use Rattle.rht_registry.specs.Served.{IsRunTo, HasServed, HasWorked};
+ghost use Rattle.rht_registry.specs.Outcomes.{IsBuiltCommand, CanServe, HasServedWorker, HaveServed, IsOutcome, side_by_side};
 
-use rht_core::{Event, State};
 use rht_io::Gate;
-use rht_model::{Call, Closed, Replies, Reply};
+use rht_model::{Call, Replies};
 use rht_policy::Mix;
+use rht_run::{Pass, Table};
 use rht_script::Script;
-use rht_words::Config;
 use std::alloc::{AllocError, Global};
 use std::sync::Wait;
+use std::thread;
 use std::thread::Threads;
 
-/// The one worker is this caller.
-const WORKER: u32 = 0;
-
 /// What the workers of a script leave.
-#[derive(Debug, Drop)]
-pub struct Outcome {
+#[derive(Drop)]
+pub struct Outcome<M: Mix> {
     /// The replies to each worker's commands, worker by worker.
     pub replies: Vec<Replies>,
-    /// What is bound at the end.
-    pub closed: Closed,
+    /// The table, which is still open.
+    pub table: Table<M>,
+    /// All its passes, in order of their numbers.
+    pub passes: Vec<Pass<M>>,
 }
 
-/// Does the commands of a script. The gate hears of each before it and after it. The one refusal is
-/// want of memory. No call takes memory; a reply does, once its call has ended.
-pub fn run_workers<M: Mix, R: Threads + Wait + Sync, G: Gate + Sync>(
+/// Opens a table and does the commands of a script on it: each worker has a pass and, where threads can
+/// be started, a thread. The gate hears of each command before it and after it. The one refusal is want
+/// of memory, and then the table and its passes are given up. No call takes memory; a reply does, once
+/// its call has ended.
+pub fn run_workers<M: Mix + Send, R: Threads + Wait + Sync, G: Gate + Sync>(
     rt: &R,
     alloc: Global,
     script: &Script,
     gate: &G,
-) -> Result<Outcome, AllocError>
+) -> Result<Outcome<M>, AllocError>
     requires sound { IsSoundScript script.now }
-    requires alone { script.now.config.callers ≡ 1 }
     requires mix { M.mix_of ≡ mix_named script.now.config }
     requires built { AllByRecursion (IsBuiltCommand M script.now.config) script.now.commands.items }
     ensures { IfOk result (IsOutcome M script.now) }
 {
-    let mut state = opened::<M>(alloc, script.config)?;
-    let mut replies = Replies::new(alloc);
-    for (i, command) in script.commands.iter().enumerate() {
-        let index = i as u32 + 1;
-        gate.before(command.0, index);
-        serve(rt, &mut state, script.auto, command.1, &mut replies)?;
-        gate.after(command.0, index);
-    }
-    let mut all = Vec::with_capacity(alloc, 1)?;
-    all.push(replies)?;
+    let (table, passes) = Table::<M>::open(alloc, script.config)?;
+    let jobs = numbered(alloc, passes)?;
+    let left = all_work(rt, alloc, &table, jobs, script, gate)?;
+    let (passes, replies) = gathered(alloc, left)?;
     Ok(Outcome {
-        replies: all,
-        closed: state.closed()?,
+        replies,
+        table,
+        passes,
     })
 }
 
-/// A table with one caller, which has made no call.
-fn opened<M: Mix>(alloc: Global, config: Config) -> Result<State<M>, AllocError>
-    requires { IsSettled config }
-    ensures config { IfOk result (λ state. state.env.config ≡ config) }
-    ensures served { IfOk result (λ state. (auto : Bool) → HasServed M M.mix_of state auto [] []) }
+/// Each pass with its number.
+fn numbered<M: Mix>(
+    alloc: Global,
+    passes: Vec<Pass<M>>,
+) -> Result<Vec<(usize, Pass<M>)>, AllocError>
+    ensures { IfOk result (λ jobs. jobs.items ≡ enumerate_from 0 passes.items) }
 {
-    let mut state = State::open(alloc, config)?;
-    state.step(Event::Enroll);
-    Ok(state)
+    Ok(passes.into_iter().enumerate().collect(alloc)?)
 }
 
-/// Does a command: makes its call, appends the reply, and behind that runs the work that the reply
-/// asks for, where the worker runs it by itself.
+/// All workers do their commands, each in a thread of its own where one can be started.
+fn all_work<M: Mix + Send, R: Threads + Wait + Sync, G: Gate + Sync>(
+    rt: &R,
+    alloc: Global,
+    table: &Table<M>,
+    jobs: Vec<(usize, Pass<M>)>,
+    script: &Script,
+    gate: &G,
+) -> Result<Vec<Result<(Pass<M>, Replies), AllocError>>, AllocError>
+    requires can { CanServe table.now script.now }
+    requires jobs { (passes : _) × (jobs.items ≡ enumerate_from 0 passes) × AreNew M.mix_of table.now 0 passes }
+    ensures len { IfOk result (λ left. vec_len left ≡ vec_len jobs) }
+    ensures served { IfOk result (λ left. HaveServed M.mix_of table.now script.now.auto script.now.commands.items
+        (vec_len jobs) left.items) }
+{
+    thread::map_vec(
+        rt,
+        jobs,
+        &|job| -> Result<(Pass<M>, Replies), AllocError>
+            requires { CanServe table.now script.now × IsNew M.mix_of table.now job.0 job.1 }
+            ensures { IfOk result (λ worked. HasServedWorker M.mix_of table.entry.now script.entry.now.auto
+                script.entry.now.commands.items job.0 worked.0 worked.1) }
+        { work_of(rt, alloc, table, job.0, job.1, script, gate) },
+    )
+}
+
+/// The commands of the worker whose pass this is, in their order.
+fn work_of<M: Mix, R: Wait, G: Gate>(
+    rt: &R,
+    alloc: Global,
+    table: &Table<M>,
+    number: usize,
+    mut pass: Pass<M>,
+    script: &Script,
+    gate: &G,
+) -> Result<(Pass<M>, Replies), AllocError>
+    requires can { CanServe table.now script.now }
+    requires new { IsNew M.mix_of table.now number pass }
+    ensures { IfOk result (λ worked. HasServedWorker M.mix_of table.now script.now.auto script.now.commands.items number
+        worked.0 worked.1) }
+{
+    let worker = number as u32 + 1;
+    let mut replies = Replies::new(alloc);
+    let mut index = 0;
+    for command in script.commands.iter() {
+        if command.0 == worker {
+            index += 1;
+            gate.before(worker, index);
+            serve(rt, table, &mut pass, command.1, script.auto, &mut replies)?;
+            gate.after(worker, index);
+        }
+    }
+    Ok((pass, replies))
+}
+
+/// Does a command to its end, and appends the reply with the lists that came with it.
 fn serve<M: Mix, R: Wait>(
     rt: &R,
-    state: &mut State<M>,
-    auto: bool,
+    table: &Table<M>,
+    pass: &mut Pass<M>,
     call: Call,
+    auto: bool,
     replies: &mut Replies,
 ) -> Result<(), AllocError>
-    requires kind { IsBuiltFor state.old.env.config.kind call }
-    requires built { is_some (machine_of {M = M} state.old.env 0 call) ≡ true }
-    ensures env { state.new.env ≡ state.old.env }
-    ensures served { OnOk result ((calls : List Call) → HasServed M M.mix_of state.old auto calls replies.old
-        → HasServed M M.mix_of state.new auto (calls ++ call ∷ []) replies.new) }
+    requires pass { IsPassOf M.mix_of table.now pass.old }
+    requires idle { is_idle pass.old.local ≡ true }
+    requires kind { IsBuiltFor table.now.env.config.kind call }
+    requires built { is_some (machine_of {M = M} table.now.env pass.old.number call) ≡ true }
+    ensures { OnOk result ((commands : List (ℕ × CallOf)) (number : ℕ)
+        → HasServedWorker M.mix_of table.now auto commands number pass.old replies.old
+        → HasServedWorker M.mix_of table.now auto (commands ++ (number + 1, call) ∷ []) number pass.new replies.new) }
 {
-    let reply = reply_to(rt, state, call);
-    let local = state.local(WORKER);
-    replies.push(reply, local.owners(), local.pairs())?;
-    if auto && asks_for_work(call, reply) {
-        work(rt, state);
-    }
+    let reply = table.serve(rt, pass, call, auto);
+    replies.push(reply, pass.owners(), &[])?;
     Ok(())
 }
 
-/// Whether the reply to this call asks for `work`: it says that there is something to do, or it
-/// refuses a bind until tables have been moved, or for want of a further one.
-fn asks_for_work(call: Call, reply: Reply) -> bool
-    ensures { result ≡ asks_for_work call reply }
+/// The passes and the replies of all workers, each in order of their numbers, unless one of them has
+/// ended for want of memory.
+fn gathered<M: Mix>(
+    alloc: Global,
+    left: Vec<Result<(Pass<M>, Replies), AllocError>>,
+) -> Result<(Vec<Pass<M>>, Vec<Replies>), AllocError>
+    ensures passes { IfOk result (λ all. vec_len all.0 ≡ vec_len left) }
+    ensures replies { IfOk result (λ all. vec_len all.1 ≡ vec_len left) }
+    ensures all { IfOk result (λ all. left.items ≡ side_by_side all.0.items all.1.items) }
 {
-    match reply {
-        Reply::Bound { kick } | Reply::Released { kick } => kick,
-        Reply::Busy { .. } => true,
-        Reply::NoTable { .. } => matches!(call, Call::Bind { .. }),
-        _ => false,
+    let mut passes = Vec::with_capacity(alloc, left.len())?;
+    let mut replies = Vec::with_capacity(alloc, left.len())?;
+    for worked in left {
+        let (pass, own) = worked?;
+        passes.push(pass)?;
+        replies.push(own)?;
     }
-}
-
-/// Runs `work` until it no longer answers that it is to be run again. Nobody hears of these replies.
-fn work<M: Mix, R: Wait>(rt: &R, state: &mut State<M>)
-    ensures env { state.new.env ≡ state.old.env }
-    ensures worked { (done : List Finished) → IsRunTo M M.mix_of state.old None done
-        → HasWorked M M.mix_of state.new done }
-{
-    for _ in rt.forever() {
-        if !is_again(reply_to(rt, state, Call::Work)) {
-            return;
-        }
-    }
-    unreachable!()
-}
-
-/// Whether `work` answered that it moved, and is to be run again.
-fn is_again(reply: Reply) -> bool
-    ensures { IsTrue result ↔ (reply ≡ Moved true) }
-{
-    matches!(reply, Reply::Moved { again: true })
-}
-
-/// Makes a call, and answers its reply.
-fn reply_to<M: Mix, R: Wait>(rt: &R, state: &mut State<M>, call: Call) -> Reply
-    requires kind { IsBuiltFor state.old.env.config.kind call }
-    requires built { is_some (machine_of {M = M} state.old.env 0 call) ≡ true }
-    ensures env { state.new.env ≡ state.old.env }
-    ensures ended { (done : List Finished) → IsRunTo M M.mix_of state.old None done
-        → let local = local_of state.new 0 in
-        IsRunTo M M.mix_of state.new None (done ++ ended_with call (replied result local.owners.items local.pairs.items) ∷ []) }
-{
-    state.step(Event::Begin {
-        caller: WORKER,
-        call,
-    });
-    for _ in rt.forever() {
-        if let Some(reply) = state.step(Event::Step { caller: WORKER }).reply {
-            return reply;
-        }
-    }
-    unreachable!()
+    Ok((passes, replies))
 }

@@ -1,19 +1,22 @@
-//! A script done on a table. The replies are worked out by hand from what the commands say.
+//! Scripts done on a table. The replies are worked out by hand from what the commands say.
 
 ghost use Rattle.std.specs.Prelude.{◌≡◌, false, IfOk};
 ghost use Rattle.std.specs.List.{AllByRecursion};
 ghost use Rattle.rht_model.specs.declared.history.Call.TheVariants.{Bind, Rebind};
 ghost use Rattle.rht_policy.specs.Mix.{mix_named, low_mix};
-ghost use Rattle.rht_registry.specs.Outcomes.{IsBuiltCommand};
+ghost use Rattle.rht_script.specs.Sound.{IsSoundScript};
+ghost use Rattle.rht_registry.specs.Outcomes.{IsBuiltCommand, IsOutcome};
 
-use super::run_workers;
+use super::{Outcome, run_workers};
 use rht_io::{Gate, NoGate};
-use rht_model::{Call, Reply};
+use rht_model::{Call, Closed, Replies, Reply};
 use rht_policy::{Low, Mix};
+use rht_run::Table;
 use rht_script::Script;
 use rht_words::{Config, Hash, Kind, Port};
 use std::alloc::{AllocError, Global};
-use std::sync::atomic::{AtomicU32, Ordering};
+use std::hint::spin_loop;
+use std::sync::atomic::{AtomicBool, AtomicU32, Ordering};
 use std::test::Fail;
 
 const SMALL: Config = Config {
@@ -48,7 +51,6 @@ fn rebind(port: Port, owner: u32, new: u32) -> Call
 
 /// Binds ports of one bucket and of another, takes one out, gives one another owner, and looks ports up.
 fn small_script<M: Mix>(alloc: Global) -> Result<Script, AllocError>
-    ensures config { IfOk result (λ script. script.config.callers ≡ 1) }
     ensures mix { IfOk result (λ script. low_mix ≡ mix_named script.config) }
     ensures built { IfOk result (λ script. AllByRecursion (IsBuiltCommand M script.config) script.commands.items) }
 {
@@ -72,6 +74,22 @@ fn small_script<M: Mix>(alloc: Global) -> Result<Script, AllocError>
         commands: Vec::from_slice(alloc, &commands)?,
         schedule: Vec::new(alloc),
     })
+}
+
+/// The replies, and what is bound once the table is closed.
+fn closed<M: Mix>(
+    alloc: Global,
+    script: &Script,
+    outcome: Outcome<M>,
+) -> Result<(Vec<Replies>, Closed), AllocError>
+    requires sound { IsSoundScript script.now }
+    requires mix { M.mix_of ≡ mix_named script.now.config }
+    requires outcome { IsOutcome M script.now outcome }
+{
+    match Table::close(alloc, outcome.table, outcome.passes) {
+        Ok(closed) => Ok((outcome.replies, closed)),
+        Err(_) => Err(AllocError),
+    }
 }
 
 /// Counts what it hears, with the numbers that it hears.
@@ -103,6 +121,7 @@ fn a_script_is_done_on_the_table(rt: HostRuntime) -> Result<(), Fail> {
     let script = small_script::<Low>(rt.alloc())?;
     assert!(rt; script.is_sound());
     let outcome = run_workers::<Low, _, _>(&rt, rt.alloc(), &script, &NoGate)?;
+    let (replies, closed) = closed(rt.alloc(), &script, outcome)?;
     // There are four nodes, and those that were taken out don't return: the last bind finds none, and
     // neither does the last rebind.
     let want = [
@@ -119,14 +138,13 @@ fn a_script_is_done_on_the_table(rt: HostRuntime) -> Result<(), Fail> {
         Reply::Missing,
         Reply::Counted { count: 2 },
     ];
-    assert_eq!(rt; outcome.replies.len(), 1);
-    let replies = &outcome.replies[0];
+    assert_eq!(rt; replies.len(), 1);
+    let replies = &replies[0];
     assert_eq!(rt; replies.len(), want.len());
     for (i, reply) in want.iter().enumerate() {
         assert!(rt; i < replies.len());
         assert_eq!(rt; replies.reply(i), *reply, "at {i}");
     }
-    let closed = &outcome.closed;
     assert_eq!(rt;
         (closed.size, closed.keys, closed.bindings.len()),
         (64, 2, 2)
@@ -152,5 +170,73 @@ fn the_gate_hears_of_each_command(rt: HostRuntime) -> Result<(), Fail> {
     // Twelve commands of worker 1, and the numbers from 1 to 12.
     assert_eq!(rt; gate.before.load(Ordering::SeqCst), 1_278);
     assert_eq!(rt; gate.after.load(Ordering::SeqCst), 1_278);
+    Ok(())
+}
+
+/// Two workers, each with one bind, of the port that has its number.
+fn pair_script<M: Mix>(alloc: Global, order: [u32; 2]) -> Result<Script, AllocError>
+    ensures mix { IfOk result (λ script. low_mix ≡ mix_named script.config) }
+    ensures built { IfOk result (λ script. AllByRecursion (IsBuiltCommand M script.config) script.commands.items) }
+{
+    let [first, second] = order;
+    let commands = [(first, bind(first, first)), (second, bind(second, second))];
+    Ok(Script {
+        config: Config {
+            callers: 2,
+            ..SMALL
+        },
+        auto: true,
+        commands: Vec::from_slice(alloc, &commands)?,
+        schedule: Vec::new(alloc),
+    })
+}
+
+/// How often a worker looks for the other one.
+const TURNS: u32 = 100_000_000;
+
+/// Where two workers meet. Each raises its flag, looks for the other's, and notes whether it saw it.
+#[derive(Drop)]
+struct Meeting {
+    raised: [AtomicBool; 2],
+    seen: [AtomicBool; 2],
+}
+
+impl Gate for Meeting {
+    fn before(&self, worker: u32, _index: u32) {
+        let (own, other) = if worker == 1 { (0, 1) } else { (1, 0) };
+        self.raised[own].store(true, Ordering::SeqCst);
+        for _ in 0..TURNS {
+            if self.raised[other].load(Ordering::SeqCst) {
+                self.seen[own].store(true, Ordering::SeqCst);
+                return;
+            }
+            spin_loop();
+        }
+    }
+
+    fn after(&self, _worker: u32, _index: u32) {}
+}
+
+#[test]
+fn two_workers_meet(rt: HostRuntime) -> Result<(), Fail> {
+    for order in [[1, 2], [2, 1]] {
+        let script = pair_script::<Low>(rt.alloc(), order)?;
+        assert!(rt; script.is_sound());
+        let gate = Meeting {
+            raised: [AtomicBool::new(false), AtomicBool::new(false)],
+            seen: [AtomicBool::new(false), AtomicBool::new(false)],
+        };
+        let outcome = run_workers::<Low, _, _>(&rt, rt.alloc(), &script, &gate)?;
+        assert!(rt; gate.seen[0].load(Ordering::SeqCst));
+        assert!(rt; gate.seen[1].load(Ordering::SeqCst));
+        let (replies, closed) = closed(rt.alloc(), &script, outcome)?;
+        assert_eq!(rt; replies.len(), 2);
+        for own in replies.iter() {
+            assert_eq!(rt; own.len(), 1);
+            assert!(rt; !own.is_empty());
+            assert_eq!(rt; own.reply(0), Reply::Bound { kick: false });
+        }
+        assert_eq!(rt; (closed.size, closed.keys), (64, 2));
+    }
     Ok(())
 }

@@ -3,7 +3,6 @@ use Rattle.std.proofs.lemmas.Result.{err_from_is_err_and}
 use Rattle.rht_script.specs.Grammar.{reading_of}
 use Rattle.rht_script.specs.Reading.{said_by, IsReason}
 use Rattle.rht_script.specs.Text.{run_text}
-use Rattle.rht_script.proofs.SayableScripts.{says_sayable}
 use Rattle.rht_model.specs.Endings.{Ending}
 use Rattle.rht_registry.proofs.SoundCommands.{sound-commands}
 use Rattle.rht_cli.specs.declared.form.Form.TheVariants.{Run}
@@ -25,22 +24,18 @@ returns-in_err-script g c =
     c.read_all.new.source c.args.out.now
     c.in_ok-bytes.bytes.items error c.in_ok-bytes.ensures.read reason)
 
--- no option names more workers than one
-pub run_hashed-requires-clause-alone : goal.run_hashed-requires-clause-alone
-run_hashed-requires-clause-alone g c _ _ =
-    (says_sayable _ (said_by c.in_ok-script.script) c.in_ok-script.ensures.script).config.callers
-
 pub write_run-requires : goal.write_run-requires
 write_run-requires g c =
     let script = c.in_ok-script.script in
-    let outcome = c.in_ok-outcome.outcome in
-    closed-keys script.config script.auto script.commands.items outcome.replies.items outcome.closed c.in_ok-outcome.ensures
+    closed-keys script.config script.auto script.commands.items c.in_ok-replies.replies.items c.in_ok-replies.closed
+    c.in_ok-replies.ensures
 
 pub returns : goal.returns
 returns g c =
-    let outcome = c.in_ok-outcome.outcome in
-    let pairs = outcome.closed.bindings.pairs in
-    let text = run_text c.deref-2.result.now pairs outcome.closed.size in
+    let replies = c.in_ok-replies.replies in
+    let closed = c.in_ok-replies.closed in
+    let pairs = closed.bindings.pairs in
+    let text = run_text c.deref-2.result.now pairs closed.size in
     let script = c.in_ok-script.script in
     let said = said_by script in
     let bytes = c.in_ok-bytes.bytes.items in
@@ -52,8 +47,8 @@ returns g c =
     let commands = sound-commands script.config script.commands.items c.in_ok-script.ensures.sound.commands in
     let printed : IsTextOf Run said text =
     subst (λ (workers : List (List Ending)). IsTextOf Run said
-    (run_text workers pairs outcome.closed.size)) (sym c.deref-2.ensures.value)
-    (IsTextOf-served said outcome.replies.items outcome.closed commands c.in_ok-outcome.ensures) in
+    (run_text workers pairs closed.size)) (sym c.deref-2.ensures.value)
+    (IsTextOf-served said replies.items closed commands c.in_ok-replies.ensures) in
     rw c.served_by.ensures
     (Serves-put left g.S.Source.faults g.O.Sink.held g.O.Sink.faults c.args.source.now
     c.read_all.new.source c.args.out.now c.write_run.new.out

@@ -11,15 +11,15 @@ use Rattle.rht_registry.proofs.tests.small_script.Goals as goal
 -- there is a machine for a bind
 bind-built : (M : Type 0) (config : Config) (call : Call) (port owner : ℕ) → call ≡ Bind port owner false
     → IsBuiltCommand M config (1, call)
-bind-built M config call port owner is env same =
-    subst (λ k. is_some (machine_of {M = M} env 0 k) ≡ true) (sym is) refl
+bind-built M config call port owner is env caller same =
+    subst (λ k. is_some (machine_of {M = M} env caller k) ≡ true) (sym is) refl
 
 -- in a table of one owner for each port there is one for a rebind
 rebind-built : (M : Type 0) (config : Config) (call : Call) (port owner new : ℕ) → config.kind ≡ Single
     → call ≡ Rebind port owner new → IsBuiltCommand M config (1, call)
-rebind-built M config call port owner new single is env same =
-    subst (λ k. is_some (machine_of {M = M} env 0 k) ≡ true) (sym is)
-    (subst (λ kind. is_some (rebinding_of {M = M} env 0 port owner new kind) ≡ true)
+rebind-built M config call port owner new single is env caller same =
+    subst (λ k. is_some (machine_of {M = M} env caller k) ≡ true) (sym is)
+    (subst (λ kind. is_some (rebinding_of {M = M} env caller port owner new kind) ≡ true)
     (sym (ap (λ (k : Config). k.kind) same ∙ single)) refl)
 
 pub returns-clause-built : goal.returns-clause-built
@@ -44,14 +44,14 @@ returns-clause-built g c =
             (
               fifth,
               (
-                (λ env same. refl),
+                (λ env caller same. refl),
                 (
                   seventh,
                   (
                     eighth,
                     (
                       ninth,
-                      ((λ env same. refl), ((λ env same. refl), ((λ env same. refl), tt))),
+                      ((λ env caller same. refl), ((λ env caller same. refl), ((λ env caller same. refl), tt))),
                     ),
                   ),
                 ),

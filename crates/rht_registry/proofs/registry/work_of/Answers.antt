@@ -1,0 +1,76 @@
+use Rattle.std.proofs.Common.{◌≡◌, ◌+◌, ◌<◌, false, length, take, get_or, sym, subst, arith}
+use Rattle.rht_words.specs.declared.config.Config.{Config}
+use Rattle.rht_model.specs.declared.history.Call.TheVariants.{Bind}
+use Rattle.rht_core.specs.Runs.{IsBuiltFor}
+use Rattle.rht_registry.specs.Outcomes.{IsBuiltCommand}
+use Rattle.rht_registry.proofs.ServedCalls.{new-below, served-own, served-other, served-same}
+use Rattle.rht_registry.proofs.SoundCommands.{IsCommandFor, sound-commands, next-command}
+use Rattle.rht_registry.proofs.registry.work_of.Goals.{then-command-worker+in_ok-serve, else-command-worker}
+use Rattle.rht_registry.proofs.registry.work_of.Goals as goal
+
+pub overflow_add-worker : goal.overflow_add-worker
+overflow_add-worker g c =
+    let few = new-below g.M.Mix.mix_of c.args.table.now c.args.number c.args.pass c.requires.new in
+    omega (arith, few)
+
+pub serve-requires-clause-kind : goal.serve-requires-clause-kind
+serve-requires-clause-kind g c =
+    let config = c.args.script.now.config in
+    let items = c.deref-command-items.result.now in
+    let i = c.loop-command.command-index in
+    let commands = c.args.script.now.commands.items in
+    let within : i < length items = omega arith in
+    let command =
+    next-command (IsCommandFor config) items commands i (0, Bind 0 0 false) c.loop-command.invariant.items
+    (sound-commands config commands c.requires.can.sound.commands) within in
+    subst (λ (k : Config). IsBuiltFor k.kind (get_or items i (0, Bind 0 0 false)).1) (sym c.requires.can.config) command.kind
+
+pub serve-requires-clause-built : goal.serve-requires-clause-built
+serve-requires-clause-built g c =
+    let config = c.args.script.now.config in
+    let items = c.deref-command-items.result.now in
+    let i = c.loop-command.command-index in
+    let within : i < length items = omega arith in
+    next-command (IsBuiltCommand g.row.M.Denot config) items c.args.script.now.commands.items i (0, Bind 0 0 false)
+    c.loop-command.invariant.items c.requires.can.built within c.args.table.now.env c.loop-command.pass.number c.requires.can.config
+
+pub loop-command-preserved : goal.loop-command-preserved
+loop-command-preserved g c =
+    let mix = g.M.Mix.mix_of in
+    let table = c.args.table.now in
+    let auto = c.args.script.now.auto in
+    let number = c.args.number in
+    let items = c.deref-command-items.result.now in
+    let i = c.loop-command.command-index in
+    let before = c.loop-command.invariant in
+    let few = before.few in
+    let within : i < length items = omega arith in
+    let here = get_or items i (0, Bind 0 0 false) in
+    let pass = c.if-command-worker.pass in
+    let replies = c.if-command-worker.replies in
+    elim c.if-command-worker.branch [
+      | then-command-worker+in_ok-serve w ↦
+          let own : here.0 ≡ number + 1 = omega (arith, w.if-command-worker.true) in
+          let now = w.serve.new.pass in
+          let served = w.in_ok-serve.ensures (take i items) number before.served in
+          let index_is = w.index-is in
+          record {
+            served =
+                served-same mix table auto (take (i + 1) items) number pass now replies w.serve.new.replies w.pass-is w.replies-is
+                (served-own mix table auto items i (0, Bind 0 0 false) number now w.serve.new.replies within own served);
+            items = before.items;
+            few = omega (arith, few, index_is);
+          }
+      | else-command-worker w ↦
+          let other = w.if-command-worker.false in
+          let index_is = w.index-is in
+          record {
+            served =
+                served-same mix table auto (take (i + 1) items) number pass c.loop-command.pass replies c.loop-command.replies w.pass-is
+                w.replies-is
+                (served-other mix table auto items i (0, Bind 0 0 false) number c.loop-command.pass c.loop-command.replies within
+                (λ same. absurd (omega (arith, same, other))) before.served);
+            items = before.items;
+            few = omega (arith, few, index_is);
+          }
+    ]
