@@ -1,0 +1,591 @@
+/*
+ * What `rht_bench` does, in C: the same operations on the same words in the same order, each of them
+ * one atomic operation, sequentially consistent. It is built twice:
+ *
+ *   cc -O2 -pthread floor.c        with the clamps and the replies that the machines make
+ *   cc -O2 -pthread -DBARE floor.c without them: no word is doubted, and a reply is a number
+ *
+ * It prints the rows of `rht_bench`, on standard output how many calls had the reply that they must
+ * have, and on standard error the nanoseconds a call. The rows of a table that grows aren't there.
+ * `docs/WORDS.md` says where the words stand, `docs/MACHINES.md` which operations a call makes.
+ */
+#include <pthread.h>
+#include <stdatomic.h>
+#include <stdbool.h>
+#include <stdint.h>
+#include <stdio.h>
+#include <stdlib.h>
+#include <string.h>
+#include <time.h>
+
+#ifdef BARE
+#define CLAMPS 0
+#else
+#define CLAMPS 1
+#endif
+
+#define ALWAYS static inline __attribute__((always_inline))
+
+typedef uint32_t u32;
+typedef uint64_t u64;
+typedef _Atomic u64 word;
+
+/* ---- the words */
+
+enum { CURRENT_TABLE = 0, PORT_COUNT = 2, NEXT_SERIAL = 3, ENROLLED = 4, SLOTS = 24, NODE_MAP = 280 };
+enum { SHAPE = 0, SEED = 1, FUTURE = 2, STATE = 4 };
+enum { CHAIN_LINK = 0, KEY = 1, OWNER_WORD = 2, LIST_LINK = 3 };
+
+/* How many physical words are in no use. The first 24 words have a cache line each. */
+#define GAPS 168
+
+struct table {
+  word *words;
+  u32 nodes, pages, map_words;
+  size_t page_map, first_node, first_page;
+  u32 min, max;
+  bool shrink;
+};
+
+ALWAYS size_t physical(size_t place) { return place < SLOTS ? 8 * place : place + GAPS; }
+
+ALWAYS word *single(const struct table *t, size_t place) { return &t->words[8 * place]; }
+
+ALWAYS word *at(const struct table *t, size_t place) {
+#if CLAMPS
+  return &t->words[physical(place)];
+#else
+  return &t->words[place + GAPS];
+#endif
+}
+
+ALWAYS word *slot_word(const struct table *t, u32 slot, u32 which) {
+  return at(t, SLOTS + 32 * (size_t)slot + which);
+}
+
+ALWAYS word *node_word(const struct table *t, u32 node, u32 which) {
+  return at(t, t->first_node + 4 * (size_t)node + which);
+}
+
+ALWAYS u64 load(word *w) { return atomic_load(w); }
+ALWAYS void store(word *w, u64 value) { (void)atomic_exchange(w, value); }
+
+ALWAYS u64 link_of(u32 node) { return 2 * (u64)node + 2; }
+ALWAYS u64 marker_of(size_t place) { return 2 * (u64)place + 1; }
+
+#define NONE UINT32_MAX
+
+ALWAYS u32 node_of(const struct table *t, u64 link) {
+#if CLAMPS
+  if (link % 2 != 0 || link < 2) return NONE;
+  u64 node = link / 2 - 1;
+  return node < t->nodes ? (u32)node : NONE;
+#else
+  (void)t;
+  return link % 2 != 0 || link == 0 ? NONE : (u32)(link / 2 - 1);
+#endif
+}
+
+ALWAYS u64 head_of(size_t place, u64 w) {
+  u64 first = w - w % 2;
+  return first == 0 ? marker_of(place) : first;
+}
+
+ALWAYS u64 plain_of(size_t place, u64 head) { return head == marker_of(place) ? 0 : head; }
+
+ALWAYS u32 table_of(u64 w) {
+#if CLAMPS
+  return w < 7 ? (u32)w : 7;
+#else
+  return (u32)w;
+#endif
+}
+
+ALWAYS u32 slot_of(u64 future) {
+#if CLAMPS
+  return 1 <= future && future <= 8 ? (u32)(future - 1) : NONE;
+#else
+  return (u32)future - 1;
+#endif
+}
+
+ALWAYS u32 size_of(u64 shape) {
+  u32 exponent = (u32)(shape % 32);
+#if CLAMPS
+  exponent = exponent < 18 ? exponent : 18;
+  exponent = exponent > 2 ? exponent : 2;
+#endif
+  return (u32)1 << exponent;
+}
+
+/* ---- the hash */
+
+ALWAYS u32 rotated(u32 x, u32 by) { return x << by | x >> (32 - by); }
+
+ALWAYS u32 mixed_hash(u32 port, u32 seed) {
+  u32 a = port, b = 0, c = seed;
+  c ^= b, c -= rotated(b, 14);
+  a ^= c, a -= rotated(c, 11);
+  b ^= a, b -= rotated(a, 25);
+  c ^= b, c -= rotated(b, 16);
+  a ^= c, a -= rotated(c, 4);
+  b ^= a, b -= rotated(a, 14);
+  c ^= b, c -= rotated(b, 24);
+  return c;
+}
+
+ALWAYS u32 bucket_of(bool low, u32 port, u64 shape, u64 seed) {
+  u32 hash = low ? port : mixed_hash(port, (u32)seed);
+  return hash & (size_of(shape) - 1);
+}
+
+/* ---- the replies */
+
+enum kind { FOUND, MISSING, BOUND, EXISTS, RELEASED, ABSENT, TOO_BIG, NO_TABLE, NO_NODE };
+
+#if CLAMPS
+typedef struct {
+  enum kind kind;
+  union {
+    u32 owner;
+    u64 count;
+    bool kick;
+  };
+} reply;
+#define FOUND_REPLY(o) ((reply){.kind = FOUND, .owner = (o)})
+#define EXISTS_REPLY(o) ((reply){.kind = EXISTS, .owner = (o)})
+#define BOUND_REPLY(k) ((reply){.kind = BOUND, .kick = (k)})
+#define RELEASED_REPLY(k) ((reply){.kind = RELEASED, .kick = (k)})
+#define TOO_BIG_REPLY(c) ((reply){.kind = TOO_BIG, .count = (c)})
+#define PLAIN_REPLY(what) ((reply){.kind = (what)})
+#define IS_FOUND(r, o) ((r).kind == FOUND && (r).owner == (o))
+#define IS(r, what) ((r).kind == (what))
+#else
+/* An owner, or a negative number. */
+typedef int64_t reply;
+#define FOUND_REPLY(o) ((reply)(o))
+#define EXISTS_REPLY(o) PLAIN_REPLY(EXISTS)
+#define BOUND_REPLY(k) PLAIN_REPLY(BOUND)
+#define RELEASED_REPLY(k) PLAIN_REPLY(RELEASED)
+#define TOO_BIG_REPLY(c) PLAIN_REPLY(TOO_BIG)
+#define PLAIN_REPLY(what) (-1 - (reply)(what))
+#define IS_FOUND(r, o) ((r) == (reply)(o))
+#define IS(r, what) ((r) == PLAIN_REPLY(what))
+#endif
+
+/* ---- the bucket of a port, its lock and its chain */
+
+struct probed {
+  size_t place; /* of the bucket's word */
+  u64 word;     /* before it was locked */
+  u64 shape;    /* of the table */
+  u32 found;    /* the node with the port */
+  u32 before;   /* the node before it in the chain */
+  u32 length;   /* how many keys were loaded */
+};
+
+/* Loads the table's shape and seed, locks the port's bucket and walks its chain. False where the
+ * bucket is missing. */
+ALWAYS bool probe(const struct table *t, bool low, u32 slot, u32 port, struct probed *p) {
+  p->shape = load(slot_word(t, slot, SHAPE));
+  u64 seed = load(slot_word(t, slot, SEED));
+  u64 index = 64 * (p->shape / 1024 % ((u64)1 << 32)) + bucket_of(low, port, p->shape, seed);
+#if CLAMPS
+  if (index >= (u64)64 * t->pages) return false;
+#endif
+  p->place = t->first_page + index;
+  word *bucket = at(t, p->place);
+  for (;;) {
+    u64 w = load(bucket);
+    if (w % 2 == 1) continue;
+    p->word = w;
+    if (atomic_compare_exchange_strong(bucket, &w, w + 1)) break;
+  }
+  p->found = NONE;
+  p->before = NONE;
+  p->length = 0;
+  u32 node = node_of(t, head_of(p->place, p->word));
+  while (node != NONE) {
+    u64 key = load(node_word(t, node, KEY));
+    p->length += CLAMPS ? p->length != UINT32_MAX : 1;
+    if (key == port) {
+      p->found = node;
+      break;
+    }
+    p->before = node;
+    node = node_of(t, load(node_word(t, node, CHAIN_LINK)));
+  }
+  return true;
+}
+
+ALWAYS void unlock(const struct table *t, const struct probed *p) { store(at(t, p->place), p->word); }
+
+/* Gives the place before the found node another link, and unlocks the bucket. */
+ALWAYS void relink(const struct table *t, const struct probed *p, u32 before, u64 link) {
+  if (before != NONE) {
+    store(node_word(t, before, CHAIN_LINK), link);
+    store(at(t, p->place), p->word);
+  } else {
+    store(at(t, p->place), plain_of(p->place, link));
+  }
+}
+
+/* ---- the calls */
+
+ALWAYS reply find(const struct table *t, bool low, u32 port) {
+  u32 slot = table_of(load(single(t, CURRENT_TABLE)));
+  for (;;) {
+    struct probed p;
+    if (!probe(t, low, slot, port, &p)) return PLAIN_REPLY(MISSING);
+    if (p.found != NONE) {
+      u32 owner = (u32)load(node_word(t, p.found, OWNER_WORD));
+      u32 node = node_of(t, load(node_word(t, p.found, LIST_LINK)));
+      while (node != NONE) {
+        (void)load(node_word(t, node, OWNER_WORD));
+        node = node_of(t, load(node_word(t, node, LIST_LINK)));
+      }
+      unlock(t, &p);
+      return FOUND_REPLY(owner);
+    }
+    u32 future = slot_of(load(slot_word(t, slot, FUTURE)));
+    unlock(t, &p);
+    if (future == NONE) return PLAIN_REPLY(MISSING);
+    slot = future;
+  }
+}
+
+/* Looks through the node map from its first word on, and clears the lowest bit that it finds. */
+ALWAYS u32 take_node(const struct table *t) {
+  for (u32 index = 0; index < t->map_words; index++) {
+    word *map = at(t, NODE_MAP + (size_t)index);
+    u64 w = load(map);
+    for (;;) {
+#if CLAMPS
+      u64 left = t->nodes - 64 * (u64)index;
+      w &= left < 64 ? ((u64)1 << left) - 1 : UINT64_MAX;
+#endif
+      if (w == 0) break;
+      u32 bit = (u32)__builtin_ctzll(w);
+      u64 old = atomic_fetch_and(map, ~((u64)1 << bit));
+      if (old >> bit & 1) return 64 * index + bit;
+      w = old & (UINT64_MAX - (((u64)1 << bit) - 1) - ((u64)1 << bit));
+    }
+  }
+  return NONE;
+}
+
+ALWAYS void give_node(const struct table *t, u32 node) {
+  (void)atomic_fetch_or(at(t, NODE_MAP + (size_t)(node / 64)), (u64)1 << node % 64);
+}
+
+/* Whether a table of so many buckets has more ports than so many hundredths of them. */
+ALWAYS bool above_75(const struct table *t, u64 count, u32 size) {
+  return count > size / 4 * 3 && (t->max == 0 || size < t->max);
+}
+ALWAYS bool above_100(const struct table *t, u64 count, u32 size) {
+  return count > size && (t->max == 0 || size < t->max);
+}
+
+/* A bind in a table that has room. Where it has none, as where a chain of 16 nodes is full, the call
+ * would attach a further table: here it is refused. */
+ALWAYS reply bind(const struct table *t, bool low, u32 port, u32 owner) {
+  u32 node = take_node(t);
+  if (node == NONE) return PLAIN_REPLY(NO_NODE);
+  store(node_word(t, node, KEY), port);
+  store(node_word(t, node, OWNER_WORD), owner);
+  store(node_word(t, node, LIST_LINK), 0);
+  u32 slot = table_of(load(single(t, CURRENT_TABLE)));
+  for (;;) {
+    struct probed p;
+    if (!probe(t, low, slot, port, &p)) {
+      give_node(t, node);
+      return PLAIN_REPLY(NO_TABLE);
+    }
+    if (p.found != NONE) {
+      u32 first = (u32)load(node_word(t, p.found, OWNER_WORD));
+      unlock(t, &p);
+      give_node(t, node);
+      (void)first;
+      return EXISTS_REPLY(first);
+    }
+    u32 future = slot_of(load(slot_word(t, slot, FUTURE)));
+    if (future != NONE) {
+      unlock(t, &p);
+      slot = future;
+      continue;
+    }
+    u64 count = p.length >= 16 ? UINT64_MAX : load(single(t, PORT_COUNT));
+#if CLAMPS
+    u64 ports = count < 65536 ? count : 65536;
+    u64 most = t->max == 0 ? (u64)1 << 31 : 2 * (u64)t->max;
+    if (count == UINT64_MAX || ports >= most || above_100(t, ports, size_of(p.shape))) {
+#else
+    if (count > size_of(p.shape)) {
+#endif
+      unlock(t, &p);
+      give_node(t, node);
+      return TOO_BIG_REPLY(count);
+    }
+    store(node_word(t, node, CHAIN_LINK), head_of(p.place, p.word));
+    u64 old = atomic_fetch_add(single(t, PORT_COUNT), 1);
+    bool kick = CLAMPS && above_75(t, (old < 65535 ? old : 65535) + 1, size_of(p.shape));
+    (void)kick;
+    relink(t, &p, NONE, link_of(node));
+    return BOUND_REPLY(kick);
+  }
+}
+
+ALWAYS reply release(const struct table *t, bool low, u32 port, u32 owner) {
+  u32 slot = table_of(load(single(t, CURRENT_TABLE)));
+  for (;;) {
+    struct probed p;
+    if (!probe(t, low, slot, port, &p)) return PLAIN_REPLY(ABSENT);
+    if (p.found == NONE) {
+      u32 future = slot_of(load(slot_word(t, slot, FUTURE)));
+      unlock(t, &p);
+      if (future == NONE) return PLAIN_REPLY(ABSENT);
+      slot = future;
+      continue;
+    }
+    /* A port has one owner here, so its list has one node. */
+    if ((u32)load(node_word(t, p.found, OWNER_WORD)) != owner) {
+      (void)load(node_word(t, p.found, LIST_LINK));
+      unlock(t, &p);
+      return PLAIN_REPLY(ABSENT);
+    }
+    u32 second = node_of(t, load(node_word(t, p.found, LIST_LINK)));
+    u64 link = load(node_word(t, p.found, CHAIN_LINK));
+    if (second != NONE) {
+      store(node_word(t, second, CHAIN_LINK), link);
+      relink(t, &p, p.before, link_of(second));
+      return RELEASED_REPLY(false);
+    }
+    relink(t, &p, p.before, link);
+    u64 old = atomic_fetch_sub(single(t, PORT_COUNT), 1);
+    u64 left = old == 0 ? 0 : old - 1 < 65536 ? old - 1 : 65536;
+    u32 size = size_of(p.shape);
+    bool kick = CLAMPS && t->shrink && left < size * 3 / 10 && size > t->min;
+    (void)kick;
+    return RELEASED_REPLY(kick);
+  }
+}
+
+/* ---- opening */
+
+static void *taken(void *memory) {
+  if (memory == NULL) {
+    fprintf(stderr, "floor: out of memory\n");
+    exit(1);
+  }
+  return memory;
+}
+
+static void fill_map(const struct table *t, size_t first, u32 count) {
+  for (u32 i = 0; i < count; i++) *at(t, first + i / 64) |= (u64)1 << i % 64;
+}
+
+/* A table with a first table of the size that the hint asks for, at page 0. */
+static void open_table(struct table *t, u32 nodes, u32 pages, u32 callers, u32 hint) {
+  t->nodes = nodes;
+  t->pages = pages;
+  t->map_words = (nodes + 63) / 64;
+  t->page_map = NODE_MAP + t->map_words;
+  t->first_node = t->page_map + (pages + 63) / 64;
+  t->first_page = t->first_node + 4 * (size_t)nodes;
+  t->min = 4;
+  t->max = 0;
+  t->shrink = false;
+  size_t count = t->first_page + 64 * (size_t)pages + GAPS;
+  t->words = taken(aligned_alloc(64, (8 * count + 63) / 64 * 64));
+  memset((void *)t->words, 0, 8 * count);
+  u32 exponent = 2;
+  while (((u32)1 << exponent) < hint * 4 / 3) exponent++;
+  fill_map(t, NODE_MAP, nodes);
+  fill_map(t, t->page_map, pages);
+  u32 first_pages = ((u32)1 << exponent) < 64 ? 1 : ((u32)1 << exponent) / 64;
+  for (u32 i = 0; i < first_pages; i++) *at(t, t->page_map + i / 64) &= ~((u64)1 << i % 64);
+  *single(t, NEXT_SERIAL) = 1;
+  *single(t, ENROLLED) = callers;
+  *slot_word(t, 0, SHAPE) = exponent;
+  *slot_word(t, 0, SEED) = 1;
+  *slot_word(t, 0, STATE) = 1;
+}
+
+/* ---- the loops, as in `src/loops.rt` of `rht_bench` */
+
+#define OWNER 7
+#define OTHER ((u32)1 << 20)
+
+struct ports {
+  u32 first, count;
+};
+
+ALWAYS bool is_done(reply r) { return IS_FOUND(r, OWNER) || IS(r, BOUND) || IS(r, RELEASED); }
+
+ALWAYS u32 hits_in(const struct table *t, bool low, struct ports ports) {
+  u32 right = 0;
+  for (u32 i = 0; i < ports.count; i++) {
+    reply r = find(t, low, ports.first + i);
+    right += IS_FOUND(r, OWNER);
+  }
+  return right;
+}
+
+ALWAYS u32 binds_in(const struct table *t, bool low, struct ports ports) {
+  u32 right = 0;
+  for (u32 i = 0; i < ports.count; i++) right += is_done(bind(t, low, ports.first + i, OWNER));
+  return right;
+}
+
+#define LOOP static __attribute__((noinline)) u32
+
+LOOP hits(const struct table *t, struct ports ports) { return hits_in(t, false, ports); }
+LOOP apart(const struct table *t, struct ports ports) { return hits_in(t, true, ports); }
+LOOP binds(const struct table *t, struct ports ports) { return binds_in(t, false, ports); }
+LOOP low_binds(const struct table *t, struct ports ports) { return binds_in(t, true, ports); }
+
+LOOP misses(const struct table *t, struct ports ports) {
+  u32 right = 0;
+  for (u32 i = 0; i < ports.count; i++) {
+    reply r = find(t, false, (ports.first + i) | OTHER);
+    right += IS(r, MISSING);
+  }
+  return right;
+}
+
+LOOP mixed(const struct table *t, struct ports ports) {
+  u32 other = ports.first | OTHER;
+  u32 right = 0;
+  for (u32 i = 0; i < ports.count; i++) {
+    reply r;
+    switch (i % 20) {
+    case 0: r = bind(t, false, other, OWNER); break;
+    case 1: r = release(t, false, other, OWNER); break;
+    default: r = find(t, false, ports.first + i); break;
+    }
+    right += is_done(r);
+  }
+  return right;
+}
+
+LOOP churn(const struct table *t, struct ports ports) {
+  u32 right = 0;
+  for (u32 i = 0; i < ports.count; i++) {
+    u32 other = (ports.first + i) | OTHER;
+    reply bound = bind(t, false, other, OWNER);
+    reply released = release(t, false, other, OWNER);
+    right += is_done(bound);
+    right += is_done(released);
+  }
+  return right;
+}
+
+/* ---- the rows, as in `src/rows.rt` and `src/measure.rt` of `rht_bench` */
+
+enum workload { HITS, APART, MISSES, MIXED, CHURN, BINDS, WORKLOADS };
+
+static const char *const names[] = {"hits", "apart", "misses", "mixed", "churn", "binds"};
+
+struct job {
+  const struct table *table;
+  enum workload workload;
+  struct ports ports;
+  u32 rounds;
+  u64 right;
+};
+
+static void *work(void *given) {
+  struct job *job = given;
+  u64 right = 0;
+  for (u32 i = 0; i < job->rounds; i++) {
+    switch (job->workload) {
+    case HITS: right += hits(job->table, job->ports); break;
+    case APART: right += apart(job->table, job->ports); break;
+    case MISSES: right += misses(job->table, job->ports); break;
+    case MIXED: right += mixed(job->table, job->ports); break;
+    case CHURN: right += churn(job->table, job->ports); break;
+    default: right += binds(job->table, job->ports); break;
+    }
+  }
+  job->right = right;
+  return NULL;
+}
+
+static u64 now(void) {
+  struct timespec t;
+  clock_gettime(CLOCK_MONOTONIC, &t);
+  return (u64)t.tv_sec * 1000000000 + (u64)t.tv_nsec;
+}
+
+struct scale {
+  u32 few, many, nodes, pages, times;
+};
+
+struct measured {
+  u64 calls, nanos;
+};
+
+/* Does all jobs, the first in this thread and each other one in a thread of its own. */
+static void work_all(struct job *jobs, u32 threads) {
+  pthread_t started[4];
+  for (u32 i = 1; i < threads; i++) {
+    if (pthread_create(&started[i], NULL, work, &jobs[i]) != 0) {
+      fprintf(stderr, "floor: no thread could be made\n");
+      exit(1);
+    }
+  }
+  work(&jobs[0]);
+  for (u32 i = 1; i < threads; i++) pthread_join(started[i], NULL);
+}
+
+static struct measured measure(struct scale s, enum workload workload, u32 ports, u32 threads,
+                               u32 rounds) {
+  struct table t;
+  struct job jobs[4];
+  struct measured m = {0, 0};
+  open_table(&t, s.nodes, s.pages, threads, ports);
+  u32 count = ports / threads;
+  for (u32 i = 0; i < threads; i++) {
+    struct ports own = {i * count, count};
+    jobs[i] = (struct job){&t, workload, own, rounds, 0};
+    if (workload == APART) low_binds(&t, own);
+    else if (workload != BINDS) binds(&t, own);
+  }
+  u64 start = now();
+  work_all(jobs, threads);
+  m.nanos = now() - start;
+  for (u32 i = 0; i < threads; i++) m.calls += jobs[i].right;
+  free((void *)t.words);
+  return m;
+}
+
+static void print_row(struct scale s, enum workload workload, u32 ports, u32 threads) {
+  u32 share = s.many / ports;
+  u32 rounds = 1, tables = 1;
+  switch (workload) {
+  case MIXED: rounds = 4 * share, tables = s.times; break;
+  case CHURN: rounds = share, tables = s.times; break;
+  case BINDS: tables = share * s.times; break;
+  default: rounds = 16 * share * s.times; break;
+  }
+  struct measured all = {0, 0};
+  for (u32 i = 0; i < tables; i++) {
+    struct measured once = measure(s, workload, ports, threads, rounds);
+    all.calls += once.calls;
+    all.nanos += once.nanos;
+  }
+  printf("%s_of_%u %u %llu\n", names[workload], ports, threads, (unsigned long long)all.calls);
+  u64 hundredths = all.nanos * 100 / (all.calls > 0 ? all.calls : 1);
+  fprintf(stderr, "%s_of_%u %u %llu.%02llu\n", names[workload], ports, threads,
+          (unsigned long long)hundredths / 100, (unsigned long long)hundredths % 100);
+}
+
+int main(int count, char **words) {
+  struct scale s = {40, 160, 4096, 64, 1};
+  if (count > 1) s = (struct scale){1000, 16000, 65536, 2048, (u32)strtoul(words[1], NULL, 10)};
+  for (u32 workload = 0; workload < WORKLOADS; workload++)
+    for (u32 i = 0; i < 2; i++)
+      for (u32 threads = 1; threads <= 4; threads *= 2)
+        print_row(s, workload, i == 0 ? s.few : s.many, threads);
+  return 0;
+}

@@ -1,0 +1,39 @@
+-- Which replies are right: the ones that the calls of a row must have.
+use Rattle.std.specs.Prelude.{ℕ, Bool, true, false, nat_eq}
+use Rattle.rht_model.specs.declared.history.Reply.{Reply}
+use Rattle.rht_model.specs.declared.history.Reply.TheVariants.{Found, Missing, Bound, Released}
+use Rattle.rht_bench.specs.declared.rows.Workload.{Workload}
+use Rattle.rht_bench.specs.declared.rows.Workload.TheVariants.{Hits, Apart, Misses, Mixed, Churn, Binds, Growth}
+
+-- the owner to which each port is bound
+abbrev pub owner_of_all : ℕ
+owner_of_all = 7
+
+abbrev pub is_found : Reply → Bool
+is_found (Found owner) = nat_eq owner owner_of_all
+is_found _ = false
+
+abbrev pub is_missing : Reply → Bool
+is_missing Missing = true
+is_missing _ = false
+
+abbrev pub is_bound : Reply → Bool
+is_bound (Bound kick) = true
+is_bound _ = false
+
+-- found, bound or released, as the call asked for
+abbrev pub is_done : Reply → Bool
+is_done (Found owner) = nat_eq owner owner_of_all
+is_done (Bound kick) = true
+is_done (Released kick) = true
+is_done _ = false
+
+-- the right replies in the rows of a workload
+abbrev pub right_in : Workload → Reply → Bool
+right_in Hits = is_found
+right_in Apart = is_found
+right_in Misses = is_missing
+right_in Mixed = is_done
+right_in Churn = is_done
+right_in Binds = is_bound
+right_in Growth = is_bound

@@ -1,0 +1,277 @@
+//! What is timed: the loops of one thread. Each goes once through the thread's ports, and answers
+//! how many calls had the reply that they must have.
+
+ghost use Rattle.std.specs.Prelude.{◌≡◌, ◌+◌, ◌*◌, ◌^◌, ◌<◌, ◌≤◌, true};
+ghost use Rattle.rht_model.specs.declared.history.Call.{Call};
+ghost use Rattle.rht_core.specs.Locals.{is_idle};
+ghost use Rattle.rht_run.specs.Passes.{IsPassOf, HasCalled};
+ghost use Rattle.rht_bench.specs.Right.{is_found, is_missing, is_bound, is_done, right_in};
+ghost use Rattle.rht_bench.specs.Made.{HasMade, HasMadeSome};
+
+use crate::rows::Workload;
+use rht_model::Reply;
+use rht_policy::Mix;
+use rht_run::{Pass, Table};
+use rht_words::Port;
+use std::sync::Wait;
+
+/// The owner to which each port is bound.
+const OWNER: u32 = 7;
+
+/// This bit makes another port of a port, in the same bucket where the hash is the port itself.
+const OTHER: Port = 1 << 20;
+
+/// A thread has no more ports than these, which is as many as a table can have nodes.
+pub const MOST: u32 = 65_536;
+
+/// The ports of a thread. No other thread binds or releases one of them, or their others.
+#[derive(Clone, Copy)]
+pub struct Ports {
+    /// The first one.
+    pub first: Port,
+    /// How many there are, side by side.
+    pub count: u32,
+    pub ghost few: { count ≤ 65536 },
+}
+
+impl Ports {
+    /// The port that stands so far behind the first one.
+    #[inline(always)]
+    fn at(self, index: u32) -> Port
+        ensures { self.first + index < 2 ^ 32 → result ≡ self.first + index }
+    {
+        self.first.wrapping_add(index)
+    }
+}
+
+/// Goes so many times through the ports.
+pub fn rounds<M: Mix, R: Wait>(
+    rt: &R,
+    table: &Table<M>,
+    pass: &mut Pass<M>,
+    workload: Workload,
+    ports: Ports,
+    times: u32,
+) -> u64
+    requires pass { IsPassOf M.mix_of table.now pass.old }
+    requires idle { is_idle pass.old.local ≡ true }
+    ensures made { HasMadeSome M.mix_of table.now (right_in workload) (times * ports.count) result pass.old pass.new }
+{
+    let mut right = 0u64;
+    for _round in 0..times {
+        right += round(rt, table, pass, workload, ports);
+    }
+    right
+}
+
+/// Goes once through the ports.
+fn round<M: Mix, R: Wait>(
+    rt: &R,
+    table: &Table<M>,
+    pass: &mut Pass<M>,
+    workload: Workload,
+    ports: Ports,
+) -> u64
+    requires pass { IsPassOf M.mix_of table.now pass.old }
+    requires idle { is_idle pass.old.local ≡ true }
+    ensures made { HasMadeSome M.mix_of table.now (right_in workload) ports.count result pass.old pass.new }
+    ensures few { result ≤ 2 * ports.count }
+{
+    match workload {
+        Workload::Hits | Workload::Apart => hits(rt, table, pass, ports),
+        Workload::Misses => misses(rt, table, pass, ports),
+        Workload::Mixed => mixed(rt, table, pass, ports),
+        Workload::Churn => churn(rt, table, pass, ports),
+        Workload::Binds => binds(rt, table, pass, ports),
+        Workload::Growth => growth(rt, table, pass, ports),
+    }
+}
+
+/// Looks up ports that are bound.
+fn hits<M: Mix, R: Wait>(rt: &R, table: &Table<M>, pass: &mut Pass<M>, ports: Ports) -> u64
+    requires pass { IsPassOf M.mix_of table.now pass.old }
+    requires idle { is_idle pass.old.local ≡ true }
+    ensures made { HasMade M.mix_of table.now is_found ports.count result pass.old pass.new }
+{
+    let mut right = 0u64;
+    for index in 0..ports.count {
+        let reply = table.find(rt, pass, ports.at(index));
+        right += u64::from(is_found(reply));
+    }
+    right
+}
+
+/// Looks up ports that aren't bound.
+fn misses<M: Mix, R: Wait>(rt: &R, table: &Table<M>, pass: &mut Pass<M>, ports: Ports) -> u64
+    requires pass { IsPassOf M.mix_of table.now pass.old }
+    requires idle { is_idle pass.old.local ≡ true }
+    ensures made { HasMade M.mix_of table.now is_missing ports.count result pass.old pass.new }
+{
+    let mut right = 0u64;
+    for index in 0..ports.count {
+        let reply = table.find(rt, pass, ports.at(index) | OTHER);
+        right += u64::from(is_missing(reply));
+    }
+    right
+}
+
+/// Of twenty calls, binds another port and releases it in two, and looks up bound ports in the rest.
+fn mixed<M: Mix, R: Wait>(rt: &R, table: &Table<M>, pass: &mut Pass<M>, ports: Ports) -> u64
+    requires pass { IsPassOf M.mix_of table.now pass.old }
+    requires idle { is_idle pass.old.local ≡ true }
+    ensures made { HasMade M.mix_of table.now is_done ports.count result pass.old pass.new }
+{
+    let mut right = 0u64;
+    for index in 0..ports.count {
+        right += u64::from(is_done(mixed_call(rt, table, pass, ports, index)));
+    }
+    right
+}
+
+/// The call of this number.
+#[inline(always)]
+fn mixed_call<M: Mix, R: Wait>(
+    rt: &R,
+    table: &Table<M>,
+    pass: &mut Pass<M>,
+    ports: Ports,
+    index: u32,
+) -> Reply
+    requires pass { IsPassOf M.mix_of table.now pass.old }
+    requires idle { is_idle pass.old.local ≡ true }
+    ensures called { (call : Call) × HasCalled M.mix_of table.now call result pass.old pass.new }
+{
+    let other = ports.first | OTHER;
+    match index % 20 {
+        0 => table.bind(rt, pass, other, OWNER),
+        1 => table.release(rt, pass, other, OWNER),
+        _ => table.find(rt, pass, ports.at(index)),
+    }
+}
+
+/// Binds a port and releases it again.
+fn churn<M: Mix, R: Wait>(rt: &R, table: &Table<M>, pass: &mut Pass<M>, ports: Ports) -> u64
+    requires pass { IsPassOf M.mix_of table.now pass.old }
+    requires idle { is_idle pass.old.local ≡ true }
+    ensures made { HasMade M.mix_of table.now is_done (2 * ports.count) result pass.old pass.new }
+{
+    let mut right = 0u64;
+    for index in 0..ports.count {
+        let other = ports.at(index) | OTHER;
+        let bound = table.bind(rt, pass, other, OWNER);
+        let released = table.release(rt, pass, other, OWNER);
+        right += u64::from(is_done(bound)) + u64::from(is_done(released));
+    }
+    right
+}
+
+/// Binds ports that aren't bound.
+pub fn binds<M: Mix, R: Wait>(rt: &R, table: &Table<M>, pass: &mut Pass<M>, ports: Ports) -> u64
+    requires pass { IsPassOf M.mix_of table.now pass.old }
+    requires idle { is_idle pass.old.local ≡ true }
+    ensures made { HasMade M.mix_of table.now is_bound ports.count result pass.old pass.new }
+{
+    let mut right = 0u64;
+    for index in 0..ports.count {
+        let reply = table.bind(rt, pass, ports.at(index), OWNER);
+        right += u64::from(is_bound(reply));
+    }
+    right
+}
+
+/// Binds ports in a table that has to grow. Of the calls only the binds that are done are counted:
+/// how many others it takes depends on the other threads.
+fn growth<M: Mix, R: Wait>(rt: &R, table: &Table<M>, pass: &mut Pass<M>, ports: Ports) -> u64
+    requires pass { IsPassOf M.mix_of table.now pass.old }
+    requires idle { is_idle pass.old.local ≡ true }
+    ensures made { HasMadeSome M.mix_of table.now is_bound ports.count result pass.old pass.new }
+    ensures few { result ≡ ports.count }
+{
+    for index in 0..ports.count {
+        bind_and_grow(rt, table, pass, ports.at(index));
+    }
+    u64::from(ports.count)
+}
+
+/// Binds a port, where it is refused again and again, and works on the table where the reply asks for
+/// that.
+fn bind_and_grow<M: Mix, R: Wait>(rt: &R, table: &Table<M>, pass: &mut Pass<M>, port: Port)
+    requires pass { IsPassOf M.mix_of table.now pass.old }
+    requires idle { is_idle pass.old.local ≡ true }
+    ensures made { HasMadeSome M.mix_of table.now is_bound 1 1 pass.old pass.new }
+{
+    for _ in rt.forever() {
+        let reply = table.bind(rt, pass, port, OWNER);
+        if is_bound(reply) {
+            grow_if_told(rt, table, pass, reply);
+            return;
+        }
+        grow(rt, table, pass);
+    }
+    unreachable!()
+}
+
+/// Works on the table where the reply of a bind says that there is something to do.
+fn grow_if_told<M: Mix, R: Wait>(rt: &R, table: &Table<M>, pass: &mut Pass<M>, reply: Reply)
+    requires pass { IsPassOf M.mix_of table.now pass.old }
+    requires idle { is_idle pass.old.local ≡ true }
+    ensures made { HasMadeSome M.mix_of table.now is_bound 0 0 pass.old pass.new }
+{
+    if let Reply::Bound { kick: true } = reply {
+        grow(rt, table, pass);
+        return;
+    }
+}
+
+/// Works on the table until there is no more to do, or another thread is at it. No such call binds.
+fn grow<M: Mix, R: Wait>(rt: &R, table: &Table<M>, pass: &mut Pass<M>)
+    requires pass { IsPassOf M.mix_of table.now pass.old }
+    requires idle { is_idle pass.old.local ≡ true }
+    ensures made { HasMadeSome M.mix_of table.now is_bound 1 0 pass.old pass.new }
+{
+    for _ in rt.forever() {
+        if table.work(rt, pass) != (Reply::Moved { again: true }) {
+            return;
+        }
+    }
+    unreachable!()
+}
+
+/// Whether the port was found bound to its owner.
+#[inline(always)]
+fn is_found(reply: Reply) -> bool
+    ensures { result ≡ is_found reply }
+{
+    match reply {
+        Reply::Found { owner } => owner == OWNER,
+        _ => false,
+    }
+}
+
+/// Whether the port wasn't bound.
+#[inline(always)]
+fn is_missing(reply: Reply) -> bool
+    ensures { result ≡ is_missing reply }
+{
+    matches!(reply, Reply::Missing)
+}
+
+/// Whether the port was bound by this call.
+#[inline(always)]
+fn is_bound(reply: Reply) -> bool
+    ensures { result ≡ is_bound reply }
+{
+    matches!(reply, Reply::Bound { .. })
+}
+
+/// Whether the call has found, bound or released what it was asked to.
+#[inline(always)]
+fn is_done(reply: Reply) -> bool
+    ensures { result ≡ is_done reply }
+{
+    match reply {
+        Reply::Found { owner } => owner == OWNER,
+        Reply::Bound { .. } | Reply::Released { .. } => true,
+        _ => false,
+    }
+}

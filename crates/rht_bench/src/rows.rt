@@ -1,0 +1,159 @@
+//! The rows of the record: what is done, over how many ports, by how many threads, and how often.
+//! `bench/floor.c` has the same numbers.
+
+use rht_words::{Config, Hash, Kind};
+
+/// What the threads of a row do.
+#[derive(Clone, Copy)]
+pub enum Workload {
+    /// Each looks up its own ports, which are bound.
+    Hits,
+    /// As `Hits`, where the ports of each thread lie in buckets of their own, side by side.
+    Apart,
+    /// Each looks up ports that aren't bound.
+    Misses,
+    /// Of twenty calls, each makes eighteen look-ups of bound ports, a bind and a release.
+    Mixed,
+    /// Each binds a port and releases it again.
+    Churn,
+    /// Each binds its own ports, in a table that has room for all of them.
+    Binds,
+    /// As `Binds`, in a table that begins small. Whoever is told so resizes it.
+    Growth,
+}
+
+/// All of them, in the order of the record.
+pub const WORKLOADS: [Workload; 7] = [
+    Workload::Hits,
+    Workload::Apart,
+    Workload::Misses,
+    Workload::Mixed,
+    Workload::Churn,
+    Workload::Binds,
+    Workload::Growth,
+];
+
+/// A table that grows begins with room for one of so many ports. From there on its size is doubled
+/// six times, so that it comes to use seven of the eight tables that there can be.
+const GROWTH: u32 = 42;
+
+impl Workload {
+    /// Its name in the record.
+    pub fn name(self) -> &'static str {
+        match self {
+            Workload::Hits => "hits",
+            Workload::Apart => "apart",
+            Workload::Misses => "misses",
+            Workload::Mixed => "mixed",
+            Workload::Churn => "churn",
+            Workload::Binds => "binds",
+            Workload::Growth => "growth",
+        }
+    }
+
+    /// Whether the ports are bound before the clock is started.
+    pub fn begins_bound(self) -> bool {
+        !matches!(self, Workload::Binds | Workload::Growth)
+    }
+}
+
+/// How much is measured.
+#[derive(Clone, Copy)]
+pub struct Scale {
+    /// The ports of the rows over few ports.
+    pub few: u32,
+    /// The ports of the rows over many, a multiple of those.
+    pub many: u32,
+    /// The nodes of each table.
+    pub nodes: u32,
+    /// The pages of each table.
+    pub pages: u32,
+    /// How often a row is measured.
+    pub times: u32,
+}
+
+/// One row.
+#[derive(Clone, Copy)]
+pub struct Row {
+    /// What is done.
+    pub workload: Workload,
+    /// Over how many ports, which the threads share out among them.
+    pub ports: u32,
+    /// By how many threads.
+    pub threads: u32,
+    /// How often each thread goes through its ports in one table.
+    pub rounds: u32,
+    /// How many tables are opened, one after another.
+    pub tables: u32,
+    /// With what.
+    pub config: Config,
+}
+
+impl Scale {
+    /// Some thousand calls, which take milliseconds.
+    pub fn small() -> Scale {
+        Scale {
+            few: 40,
+            many: 160,
+            nodes: 4_096,
+            pages: 64,
+            times: 1,
+        }
+    }
+
+    /// Some hundred thousand calls a row, and so many times that.
+    pub fn large(times: u32) -> Scale {
+        Scale {
+            few: 1_000,
+            many: 16_000,
+            nodes: 65_536,
+            pages: 2_048,
+            times,
+        }
+    }
+
+    /// A row of this scale. A node that was taken out doesn't come back, so what binds is done a few
+    /// times in one table, and then in another one.
+    pub fn row(self, workload: Workload, ports: u32, threads: u32) -> Row {
+        let share = self.many / ports.max(1);
+        let (rounds, tables) = match workload {
+            Workload::Hits | Workload::Apart | Workload::Misses => {
+                (share.saturating_mul(16).saturating_mul(self.times), 1)
+            }
+            Workload::Mixed => (share.saturating_mul(4), self.times),
+            Workload::Churn => (share, self.times),
+            Workload::Binds | Workload::Growth => (1, share.saturating_mul(self.times)),
+        };
+        Row {
+            workload,
+            ports,
+            threads,
+            rounds,
+            tables,
+            config: self.config(workload, ports, threads),
+        }
+    }
+
+    /// What the table of a row is opened with.
+    fn config(self, workload: Workload, ports: u32, threads: u32) -> Config {
+        Config {
+            kind: Kind::Single,
+            nodes: self.nodes,
+            pages: self.pages,
+            callers: threads,
+            hint: match workload {
+                Workload::Growth => (ports / GROWTH).max(1),
+                _ => ports,
+            },
+            min: 4,
+            max: 0,
+            seed: 1,
+            rewalks: 8,
+            hash: match workload {
+                Workload::Apart => Hash::Low,
+                _ => Hash::Mix,
+            },
+            shrink: false,
+        }
+    }
+}
