@@ -1,7 +1,7 @@
 -- The text that `run` prints for what a script says: that of a run of a table which serves the script's commands.
--- Beside the run stands what it means for who knows ports and owners alone: a history of the replies. The size is that of the
--- current table in the last words of the run (`IsClosedOf`): growing and shrinking decide which one that is, and where the script
--- doesn't say manual, workers do that by themselves.
+-- Beside the run stands what it means for who knows ports and owners alone: a history of the replies, and where no command is refused.
+-- The size is that of the current table in the last words of the run (`IsClosedOf`): growing and shrinking decide which one that is, and
+-- where the script doesn't say manual, workers do that by themselves.
 use Rattle.std.specs.Prelude.{◌≡◌, ℕ, Bool, List, map}
 use Rattle.rht_words.specs.declared.config.Config.{Config}
 use Rattle.rht_words.specs.declared.config.Hash.{Hash}
@@ -13,6 +13,7 @@ use Rattle.rht_model.specs.declared.bindings.Closed.{Closed}
 use Rattle.rht_model.specs.declared.history.Call.{Call}
 use Rattle.rht_model.specs.declared.history.Entry.{Entry}
 use Rattle.rht_model.specs.Endings.{Ending}
+use Rattle.rht_core.specs.NeverRefused.{IsRoomyFor, AreAllTaken, IsSmallFor, AreAsModel}
 use Rattle.rht_core.specs.Serving.{IsServedRun}
 use Rattle.rht_core.specs.ToldHistories.{entries_told, endings_by, IsTold}
 use Rattle.rht_script.specs.Grammar.{Said}
@@ -41,3 +42,10 @@ pub record IsRunText (said : Said) (text : List ℕ) : Type 0 where
   -- where there is one worker the history has the commands in the order of the script
   pub in_order : said.config.callers ≡ 1
       → history ≡ entries_told 0 (map (λ command. command.1) said.commands) (endings_by 0 endings)
+  -- where the table is roomy for the commands, none about bindings is refused, and the size that is printed is the one with which the
+  -- table begins
+  pub roomy : IsRoomyFor said.config said.commands → AreAllTaken said.config said.commands endings closed
+  -- where one worker binds few ports at a time in a table that is large enough, each command about bindings is answered as the model
+  -- answers it, in the order of the script, and what is printed as bound is what the model leaves
+  pub small : IsSmallFor said.config (map (λ command. command.1) said.commands)
+      → AreAsModel said.config.kind (map (λ command. command.1) said.commands) (endings_by 0 endings) closed
