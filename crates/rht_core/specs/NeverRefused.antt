@@ -21,7 +21,7 @@ use Rattle.rht_core.specs.ToldHistories.{endings_by}
 -- ---- any number of workers
 
 -- The table begins with 64 buckets or more and doesn't shrink, it has as many nodes as there are commands that bind or rebind, or more,
--- and the binds among them are of 15 ports at most.
+-- and the commands that bind name 15 ports at most.
 pub record IsRoomyFor (config : Config) (commands : List (ℕ × Call)) : Type 0 where
   pub first : 64 ≤ first_size config
   pub keeps_size : config.shrink ≡ false
@@ -89,7 +89,7 @@ module _ (M : Type 0) (mix : ℕ → ℕ → ℕ → ℕ) where
       → IsServedRun M mix config auto commands endings closed → IsRoomyFor config commands
       → AreAllTaken config commands endings closed
 
-  -- and in every run that serves the few commands of one worker each is answered as the model answers it
+  -- and in every run that serves the commands of one worker, who binds few ports at a time, each is answered as the model answers it
   abbrev pub OneWorkerAsModel : Type 0
   OneWorkerAsModel =
       (config : Config) (auto : Bool) (commands : List (ℕ × Call)) (endings : List (List Ending)) (closed : Closed)
