@@ -435,9 +435,11 @@ fn four_workers_are_served(rt: HostRuntime) -> Result<(), Fail> {
         for j in 0..500u32 {
             let p = 1000 * w + j;
             script.push_str(&format!(in rt.alloc();
-                "{w} bind {p} {w}\n{w} find {p}\n{w} release {p} {w}\n{w} find {p}\n")?)?;
+                "{w} bind {p} {w}\n{w} find {p}\n{w} release {p} {w}\n{w} find {p}\n"
+            )?)?;
             text.push_str(&format!(in rt.alloc();
-                "{w}: bound\n{w}: found {w}\n{w}: released\n{w}: missing\n")?)?;
+                "{w}: bound\n{w}: found {w}\n{w}: released\n{w}: missing\n"
+            )?)?;
         }
     }
     text.push_str("size 64 keys 0\n")?;
@@ -501,7 +503,9 @@ fn sixteen_workers_share_a_port(rt: HostRuntime) -> Result<(), Fail> {
     let mut script = String::from_str(rt.alloc(), "table listed workers 16\n")?;
     for w in 1..=16u32 {
         for _ in 0..20 {
-            script.push_str(&format!(in rt.alloc(); "{w} bind 80 {w}\n{w} find 80\n{w} release 80 {w}\n")?)?;
+            script.push_str(&format!(in rt.alloc();
+                "{w} bind 80 {w}\n{w} find 80\n{w} release 80 {w}\n"
+            )?)?;
         }
     }
     let left = run_on(&rt, rt.alloc(), "run", &script, WHOLE)?;
@@ -510,11 +514,19 @@ fn sixteen_workers_share_a_port(rt: HostRuntime) -> Result<(), Fail> {
     let mut lines = text.lines();
     for w in 1..=16u32 {
         for _ in 0..20 {
-            assert_eq!(rt; lines.next(), Some(format!(in rt.alloc(); "{w}: bound")?.as_str()));
+            assert_eq!(rt;
+                lines.next(),
+                Some(format!(in rt.alloc(); "{w}: bound")?.as_str())
+            );
             let found = lines.next().ok_or("a reply")?;
-            let owner = found.strip_prefix(format!(in rt.alloc(); "{w}: found ")?.as_str()).ok_or("an owner")?;
+            let owner = found
+                .strip_prefix(format!(in rt.alloc(); "{w}: found ")?.as_str())
+                .ok_or("an owner")?;
             assert!(rt; matches!(owner.parse::<u32>(), Ok(1..=16)), "{found}");
-            assert_eq!(rt; lines.next(), Some(format!(in rt.alloc(); "{w}: released")?.as_str()));
+            assert_eq!(rt;
+                lines.next(),
+                Some(format!(in rt.alloc(); "{w}: released")?.as_str())
+            );
         }
     }
     assert_eq!(rt; lines.next(), Some("size 64 keys 0"));

@@ -1,4 +1,4 @@
-use Rattle.std.proofs.Common.{◌≡◌, ◌<◌, sym, subst, arith}
+use Rattle.std.proofs.Common.{sym, subst}
 use Rattle.rht_run.specs.Passes.{IsPassOf, IsClosedWith}
 use Rattle.rht_registry.proofs.ClosedOutcomes.{outcome-passes, IsServedRun-closed}
 use Rattle.rht_cli.proofs.program.run_by.Goals as goal
