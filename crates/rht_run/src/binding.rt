@@ -1,8 +1,11 @@
-//! The bind of a port, in straight code. What is seldom isn't: where the table is full or the port has
-//! a list already, the machine runs on as a whole.
+//! The bind of a port, in straight code. What is seldom isn't: where the node doesn't go into the last
+//! table, the machine runs on as a whole.
 
 ghost use Rattle.std.specs.Prelude.{◌≡◌};
 ghost use Rattle.rht_model.specs.declared.history.Call.TheVariants.{Bind as BindCall};
+ghost use Rattle.rht_model.specs.declared.history.Reply.TheVariants.{Bound};
+ghost use Rattle.rht_bind.specs.Bind.{replacing};
+ghost use Rattle.rht_bind.specs.declared.bind.BindAt.TheVariants.{ListLink, UnlockingFull};
 ghost use Rattle.rht_core.specs.Locals.{doing_after};
 ghost use Rattle.rht_run.specs.Rides.{IsBefore, IsRiding, HasEnded, Stepped};
 ghost use Rattle.rht_run.specs.Frames.{bind_at};
@@ -13,14 +16,14 @@ use crate::seats::SeatView;
 use crate::table::Table;
 use atomic_table::Seat;
 use rht_bind::{
-    Attempt, Bind, BindAt, Claimed, bound_already, bucket_or_no_table, checked_count,
+    Attempt, Bind, BindAt, Claimed, FoundList, Growing, bound_already, checked_count,
     future_or_count, giving, kicks, publishing, unlocking,
 };
-use rht_chain::Then;
+use rht_chain::{Locked, Relink, Then, Unlock};
 use rht_model::Reply;
 use rht_nest::{Locate, LocateAt, place_of};
 use rht_policy::{Mix, bucket_of};
-use rht_words::{Env, Port, owner_of, slot_of, table_of, word_of};
+use rht_words::{Env, Port, Shape, link_of, owner_of, slot_of, table_of, word_of};
 use std::sync::Wait;
 
 impl<M: Mix> Table<M> {
@@ -67,8 +70,11 @@ impl<M: Mix> Table<M> {
             let seed = self.binding::<K>(seat, env, number, port, owner, once, at);
             let bucket = bucket_of::<M>(port, shape, seed);
             let Some(place) = place_of(env.geometry, shape, bucket) else {
-                let at = bucket_or_no_table(env, port, attempt, table, shape, None);
-                return self.rest_of_bind::<R, K>(rt, seat, number, port, owner, once, at);
+                let size = Shape::from(shape).size();
+                let reply = Reply::NoTable { size };
+                let at = giving(env, node, reply);
+                self.binding::<K>(seat, env, number, port, owner, once, at);
+                return reply;
             };
             let frame = BindProbing {
                 env,
@@ -98,6 +104,9 @@ impl<M: Mix> Table<M> {
             };
             if let Some(first) = probed.seen.found {
                 let at = bound_already(env.config.kind, claimed, first, probed.seen.before);
+                if let BindAt::ListLink { list } = at {
+                    return self.bind_in_front::<K>(seat, env, number, port, owner, once, list);
+                }
                 let BindAt::FoundOwner { claimed, found } = at else {
                     return self.rest_of_bind::<R, K>(rt, seat, number, port, owner, once, at);
                 };
@@ -120,12 +129,29 @@ impl<M: Mix> Table<M> {
                 continue;
             }
             let at = future_or_count(claimed, length, None);
+            if let BindAt::UnlockingFull { growing, unlock } = at {
+                return self.grow::<R, K>(rt, seat, number, port, owner, once, growing, unlock);
+            }
             let BindAt::Count { claimed } = at else {
                 return self.rest_of_bind::<R, K>(rt, seat, number, port, owner, once, at);
             };
             let at = BindAt::Count { claimed };
             let count = self.binding::<K>(seat, env, number, port, owner, once, at);
             let at = checked_count(env, claimed, count);
+            if let BindAt::UnlockingFull { growing, unlock } = at {
+                return self.grow::<R, K>(rt, seat, number, port, owner, once, growing, unlock);
+            }
+            if let BindAt::Unlocking {
+                attempt,
+                then: Then::Answer(reply),
+                ..
+            } = at
+            {
+                self.binding::<K>(seat, env, number, port, owner, once, at);
+                let at = giving(env, attempt.node, reply);
+                self.binding::<K>(seat, env, number, port, owner, once, at);
+                return reply;
+            }
             let BindAt::Link { claimed } = at else {
                 return self.rest_of_bind::<R, K>(rt, seat, number, port, owner, once, at);
             };
@@ -140,6 +166,82 @@ impl<M: Mix> Table<M> {
         }
         never(rt);
         unreachable!()
+    }
+
+    /// Puts the node in front of the port's list.
+    #[inline(always)]
+    fn bind_in_front<K: Ride>(
+        &self,
+        seat: &mut Seat<(), SeatView<M>>,
+        env: Env,
+        number: u32,
+        port: Port,
+        owner: u32,
+        once: bool,
+        list: FoundList,
+    ) -> Reply
+        requires { IsRiding M.mix_of self.now K.riding (bind_at env number port owner once (ListLink list)) seat.old }
+        ensures { HasEnded M.mix_of self.now K.riding result seat.new }
+    {
+        let at = BindAt::ListLink { list };
+        self.binding::<K>(seat, env, number, port, owner, once, at);
+        let at = BindAt::ChainLink { list };
+        let link = self.binding::<K>(seat, env, number, port, owner, once, at);
+        let at = BindAt::LinkBehind { list, link };
+        self.binding::<K>(seat, env, number, port, owner, once, at);
+        self.replacing_first::<K>(seat, env, number, port, owner, once, list);
+        Reply::Bound {
+            kick: list.claimed.attempt.attached,
+        }
+    }
+
+    /// Puts the node in the place of the list's first one in the chain, and unlocks the bucket.
+    #[inline(always)]
+    fn replacing_first<K: Ride>(
+        &self,
+        seat: &mut Seat<(), SeatView<M>>,
+        env: Env,
+        number: u32,
+        port: Port,
+        owner: u32,
+        once: bool,
+        list: FoundList,
+    )
+        requires { IsRiding M.mix_of self.now K.riding (bind_at env number port owner once (replacing env list)) seat.old }
+        ensures { HasEnded M.mix_of self.now K.riding (Bound list.claimed.attempt.attached) seat.new }
+    {
+        let Locked { place, word } = list.claimed.bucket;
+        let link = link_of(list.claimed.attempt.node);
+        let relink = Relink::new(env.geometry, place, word, list.before, link);
+        let at = BindAt::Replacing { list, relink };
+        self.binding::<K>(seat, env, number, port, owner, once, at);
+        let Some(_) = list.before else {
+            return;
+        };
+        let (relink, _) = relink.after();
+        let at = BindAt::Replacing { list, relink };
+        self.binding::<K>(seat, env, number, port, owner, once, at);
+    }
+
+    /// Unlocks a bucket into which the node doesn't go, and binds with a further table.
+    #[cold]
+    #[inline(never)]
+    fn grow<R: Wait, K: Ride>(
+        &self,
+        rt: &R,
+        seat: &mut Seat<(), SeatView<M>>,
+        number: u32,
+        port: Port,
+        owner: u32,
+        once: bool,
+        growing: Growing,
+        unlock: Unlock,
+    ) -> Reply
+        requires { IsRiding M.mix_of self.now K.riding (bind_at self.now.env number port owner once (UnlockingFull growing unlock)) seat.old }
+        ensures { HasEnded M.mix_of self.now K.riding result seat.new }
+    {
+        let at = BindAt::UnlockingFull { growing, unlock };
+        self.rest_of_bind::<R, K>(rt, seat, number, port, owner, once, at)
     }
 
     /// The bind from this state on, as a whole.

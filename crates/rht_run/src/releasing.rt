@@ -1,25 +1,26 @@
-//! The release of a port, in straight code. What is seldom isn't: where the first owner of the port is
-//! another one, or others stand behind it, the machine runs on as a whole.
+//! The release of a port, in straight code.
 
-ghost use Rattle.std.specs.Prelude.{◌≡◌};
+ghost use Rattle.std.specs.Prelude.{◌≡◌, false};
 ghost use Rattle.rht_model.specs.declared.history.Call.TheVariants.{Release as ReleaseCall};
+ghost use Rattle.rht_model.specs.declared.history.Reply.TheVariants.{Released};
 ghost use Rattle.rht_core.specs.Locals.{doing_after};
 ghost use Rattle.rht_release.specs.FoundPort.{relink_of};
-ghost use Rattle.rht_release.specs.declared.release.ReleaseAt.TheVariants.{Unlinking, Lowering};
+ghost use Rattle.rht_release.specs.declared.release.ReleaseAt.TheVariants.{LinkBehind, Unlinking, Lowering};
+ghost use Rattle.rht_release.specs.Release.{promoting};
 ghost use Rattle.rht_run.specs.Rides.{IsBefore, IsRiding, HasEnded, Stepped};
 ghost use Rattle.rht_run.specs.Seeks.{release_at};
 
 use crate::pieces::Whole;
-use crate::ride::Ride;
+use crate::ride::{Ride, never};
 use crate::seats::SeatView;
 use crate::seeks::ReleaseSeeking;
 use crate::table::Table;
 use atomic_table::Seat;
 use rht_model::Reply;
 use rht_policy::Mix;
-use rht_release::release::{cut_or_chain, kicks, owner_compared, unlink_or_promote};
+use rht_release::release::{kicks, unlocking};
 use rht_release::{FoundPort, Release, ReleaseAt};
-use rht_words::{Env, Port, node_of, owner_of, table_of};
+use rht_words::{Env, Port, link_of, node_of, owner_of, table_of};
 use std::sync::Wait;
 
 impl<M: Mix> Table<M> {
@@ -49,32 +50,115 @@ impl<M: Mix> Table<M> {
         let Some(found) = self.seek::<R, K, ReleaseSeeking>(rt, seat, &frame, port, table) else {
             return Reply::Absent;
         };
-        let node = found.node;
-        let at = ReleaseAt::Owner {
+        let mut node = found.node;
+        let mut before = None;
+        for _ in 0..u64::MAX {
+            let at = ReleaseAt::Owner {
+                found,
+                node,
+                before,
+            };
+            let other = owner_of(self.releasing::<K>(seat, env, number, port, owner, at));
+            if other == owner {
+                return self.take_out::<K>(seat, env, number, port, owner, found, node, before);
+            }
+            let at = ReleaseAt::ListLink { found, node };
+            let link = self.releasing::<K>(seat, env, number, port, owner, at);
+            let Some(next) = node_of(env.geometry.nodes, link) else {
+                let at = unlocking(found, None);
+                self.releasing::<K>(seat, env, number, port, owner, at);
+                return Reply::Absent;
+            };
+            before = Some(node);
+            node = next;
+        }
+        never(rt);
+        unreachable!()
+    }
+
+    /// Takes this node out of the port's list, where the node before it is this one.
+    #[inline(always)]
+    fn take_out<K: Ride>(
+        &self,
+        seat: &mut Seat<(), SeatView<M>>,
+        env: Env,
+        number: u32,
+        port: Port,
+        owner: u32,
+        found: FoundPort,
+        node: u32,
+        before: Option<u32>,
+    ) -> Reply
+        requires { IsRiding M.mix_of self.now K.riding (release_at env number port owner (LinkBehind found node before)) seat.old }
+        ensures { HasEnded M.mix_of self.now K.riding result seat.new }
+    {
+        let at = ReleaseAt::LinkBehind {
             found,
             node,
-            before: None,
-        };
-        let first = owner_of(self.releasing::<K>(seat, env, number, port, owner, at));
-        let at = owner_compared(found, node, None, first == owner);
-        let ReleaseAt::LinkBehind { .. } = at else {
-            return self.rest_of_release::<R, K>(rt, seat, number, port, owner, at);
+            before,
         };
         let behind = self.releasing::<K>(seat, env, number, port, owner, at);
-        let at = cut_or_chain(env.geometry, found, node, behind, None);
-        let link = self.releasing::<K>(seat, env, number, port, owner, at);
+        if let Some(before) = before {
+            let at = ReleaseAt::CuttingOut {
+                found,
+                node,
+                before,
+                link: behind,
+            };
+            self.releasing::<K>(seat, env, number, port, owner, at);
+            let at = unlocking(found, Some(node));
+            self.releasing::<K>(seat, env, number, port, owner, at);
+            return Reply::Released { kick: false };
+        }
         let second = node_of(env.geometry.nodes, behind);
-        let at = unlink_or_promote(env.geometry, found, link, second);
-        let ReleaseAt::Unlinking { .. } = at else {
-            return self.rest_of_release::<R, K>(rt, seat, number, port, owner, at);
-        };
+        let at = ReleaseAt::ChainLink { found, second };
+        let link = self.releasing::<K>(seat, env, number, port, owner, at);
+        if let Some(second) = second {
+            let at = ReleaseAt::SecondLink {
+                found,
+                second,
+                link,
+            };
+            self.releasing::<K>(seat, env, number, port, owner, at);
+            self.promoting::<K>(seat, env, number, port, owner, found, second);
+            return Reply::Released { kick: false };
+        }
         self.unlinking::<K>(seat, env, number, port, owner, found, link);
         let shape = found.shape;
-        let at = ReleaseAt::Lowering { node, shape };
+        let at = ReleaseAt::Lowering {
+            node: found.node,
+            shape,
+        };
         let count = self.releasing::<K>(seat, env, number, port, owner, at);
         Reply::Released {
             kick: kicks(env, shape, count),
         }
+    }
+
+    /// Puts the list's second node in the first one's place, and unlocks the bucket.
+    #[inline(always)]
+    fn promoting<K: Ride>(
+        &self,
+        seat: &mut Seat<(), SeatView<M>>,
+        env: Env,
+        number: u32,
+        port: Port,
+        owner: u32,
+        found: FoundPort,
+        second: u32,
+    )
+        requires { IsRiding M.mix_of self.now K.riding (release_at env number port owner (promoting env.geometry found second)) seat.old }
+        ensures { HasEnded M.mix_of self.now K.riding (Released false) seat.new }
+    {
+        let relink = found.relink(env.geometry, link_of(second));
+        let at = ReleaseAt::Promoting { found, relink };
+        self.releasing::<K>(seat, env, number, port, owner, at);
+        let Some(_) = found.before else {
+            return;
+        };
+        let (relink, _) = relink.after();
+        let at = ReleaseAt::Promoting { found, relink };
+        self.releasing::<K>(seat, env, number, port, owner, at);
     }
 
     /// Takes the port's only node out of the chain, and unlocks the bucket.
@@ -101,25 +185,6 @@ impl<M: Mix> Table<M> {
         let (relink, _) = relink.after();
         let at = ReleaseAt::Unlinking { found, relink };
         self.releasing::<K>(seat, env, number, port, owner, at);
-    }
-
-    /// The release from this state on, as a whole.
-    #[cold]
-    #[inline(never)]
-    fn rest_of_release<R: Wait, K: Ride>(
-        &self,
-        rt: &R,
-        seat: &mut Seat<(), SeatView<M>>,
-        number: u32,
-        port: Port,
-        owner: u32,
-        at: ReleaseAt,
-    ) -> Reply
-        requires { IsRiding M.mix_of self.now K.riding (release_at self.now.env number port owner at) seat.old }
-        ensures { HasEnded M.mix_of self.now K.riding result seat.new }
-    {
-        let release = Release::<M>::new(self.env, number, port, owner).with(at);
-        self.run_whole::<R, K, Release<M>, Whole>(rt, seat, &Whole, release)
     }
 
     /// The operation of the release in this state.
