@@ -64,6 +64,10 @@ abbrev pub event_text : {M : Type 0} → Bool → ℕ → Local M → Option Ste
 event_text shown worker local None = codes "limit\n"
 event_text shown worker local (Some stepped) = did_text shown worker stepped.did ++ ended_text worker local stepped.reply
 
+-- the caller is in no call, and has no command left
+abbrev pub is_through : {M : Type 0} → Playing M → ℕ → Bool
+is_through p c = is_idle (local_of p.core c) && has_none (p.left c)
+
 -- of so many calls that are still to end an event may have ended one
 abbrev pub still_to_end : ℕ → Option Stepped → ℕ
 still_to_end calls None = calls
@@ -111,10 +115,6 @@ module _ {M : Type 0} (mix : ℕ → ℕ → ℕ → ℕ) where
   -- one event of `step` or `skip`; behind the limit there is none
   abbrev pub stepping : Bool → ℕ → Playing M → Playing M × List ℕ
   stepping shown c p = if p.over then (p, []) else event_with shown c p
-
-  -- the caller is in no call, and has no command left
-  abbrev pub is_through : Playing M → ℕ → Bool
-  is_through p c = is_idle (local_of p.core c) && has_none (p.left c)
 
   -- one event of `finish`, with the number of calls that are still to end; where none is, or the caller is through, there is none
   abbrev pub finishing : ℕ → ℕ × Playing M → (ℕ × Playing M) × List ℕ
