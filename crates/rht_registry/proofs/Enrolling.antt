@@ -1,5 +1,5 @@
 -- Callers who enroll one after another. Nothing is known of calls yet, so what the program keeps is the whole of the run.
-use Rattle.std.proofs.Common.{◌≡◌, ℕ, zero, suc, ◌+◌, ◌-◌, ◌<◌, ◌≤◌, [], ◌∷◌, replicate, refl, sym, ◌∙◌, ap, subst, arith}
+use Rattle.std.proofs.Common.{◌≡◌, ℕ, suc, ◌+◌, ◌-◌, ◌<◌, ◌≤◌, replicate, sym, ◌∙◌, ap, arith}
 use Rattle.rht_words.specs.declared.env.Env.{Env}
 use Rattle.rht_core.specs.declared.event.Event.TheVariants.{Enroll}
 use Rattle.rht_core.specs.declared.event.Stepped.{Stepped}

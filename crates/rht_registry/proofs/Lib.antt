@@ -14,3 +14,5 @@ pub mod Enrolling
 pub mod PlayedEvents
 -- the end of a replay, and the whole of it
 pub mod ReplayEnds
+-- a config has one environment
+pub mod OneEnvironment

@@ -2,13 +2,12 @@
 -- the whole: a part that is put goes from the one to the other, one that fails is a prefix of the whole, and where nothing is left to
 -- play the whole was put.
 use Rattle.std.proofs.Common.{◌≡◌, ℕ, zero, suc, ◌+◌, ◌-◌, ◌<◌, ◌≤◌, List, [], ◌∷◌, ◌++◌, inl, inr, Option, Result, Ok, Err, IsErr, refl, sym, ◌∙◌, ap, subst, append_assoc, append-nil, arith}
-use Rattle.std.specs.Prelude.{OnOk, OnErr, Bool, true, ◌&&◌}
+use Rattle.std.specs.Prelude.{Bool, true}
 use Rattle.std.specs.List.{list_all, range_with_len}
 use Rattle.std.proofs.lemmas.Bool.{and_parts, cases_eq}
-use Rattle.std.specs.Io.KnownBytes.{Appends}
 use Rattle.std.proofs.KnownBytes.{Appends-nil}
 use Rattle.rht_io.specs.declared.source.Failed.{Failed}
-use Rattle.rht_io.specs.Told.{Puts, AppendsPrefix}
+use Rattle.rht_io.specs.Told.{Puts}
 use Rattle.rht_io.proofs.ToldLemmas.{AppendsPrefix-after, AppendsPrefix-longer, Rose-after_kept, Puts-after, Puts-of_put, Puts-passed_on}
 use Rattle.rht_registry.specs.declared.replaying.ReplayError.{ReplayError}
 use Rattle.rht_registry.specs.declared.replaying.ReplayError.TheVariants.{Write}

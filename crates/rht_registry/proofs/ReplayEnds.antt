@@ -1,6 +1,6 @@
 -- The end of a replay, and the whole of it, in plain variables.
-use Rattle.std.proofs.Common.{◌≡◌, ◌≢◌, ℕ, ◌+◌, ◌-◌, ◌<◌, ◌≤◌, Bool, true, false, cond, List, [], ◌∷◌, ◌++◌, Result, Ok, Err, refl, sym, ◌∙◌, ap, subst, arith}
-use Rattle.std.specs.Prelude.{IsTrue, ◌&&◌}
+use Rattle.std.proofs.Common.{◌≡◌, ℕ, Bool, true, false, cond, List, [], ◌∷◌, ◌++◌, refl, sym, ◌∙◌, ap, subst}
+use Rattle.std.specs.Prelude.{IsTrue}
 use Rattle.std.specs.List.{AllByRecursion, list_all, flat_map}
 use Rattle.std.proofs.lemmas.Bool.{and_parts, leb-true}
 use Rattle.rht_words.specs.declared.config.Config.{Config}
@@ -19,7 +19,8 @@ use Rattle.rht_script.specs.Text.{bound_text}
 use Rattle.rht_script.specs.OperationText.{size_line}
 use Rattle.rht_registry.specs.declared.replaying.player.Player.{Player}
 use Rattle.rht_registry.specs.Replays.{Playing, schedule_played, playing_from, bound_in, callers_of, open_text, end_text, replay_text}
-use Rattle.rht_registry.specs.Players.{playing_of, CanPlay, IsLineFor}
+use Rattle.rht_registry.specs.Players.{playing_of, IsLineFor}
+use Rattle.rht_registry.proofs.OneEnvironment.{Env-same}
 use Rattle.rht_registry.proofs.SoundCommands.{IsCommandFor, sound-commands}
 
 -- ---- the lines at the end
@@ -59,6 +60,12 @@ env_of config settled = record {
 pub env_of-config : (config : Config) (settled : IsSettled config) → (env_of config settled).config ≡ config
 unfolding env_of
 env_of-config config settled = refl
+
+-- and no other, so the text of a replay is one
+pub replay_text-one : (M : Type 0) (mix : ℕ → ℕ → ℕ → ℕ) (script : Script) (env : Env) → env.config ≡ script.config → (other : Env)
+    → other.config ≡ script.config → replay_text M mix other script ≡ replay_text M mix env script
+replay_text-one M mix script env is other too =
+    ap (λ (e : Env). replay_text M mix e script) (Env-same other env (too ∙ sym is))
 
 -- each line is a worker's
 sound-line : (config : Config) (line : Sched) → is_sound_line config line ≡ true → IsLineFor config.callers line

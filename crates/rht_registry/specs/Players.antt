@@ -1,5 +1,5 @@
 -- What a program that replays keeps, as the replay that it stands for, and what it has written.
-use Rattle.std.specs.Prelude.{◌≡◌, ℕ, ◌+◌, ◌≤◌, ◌<◌, Option, Some, None, Result, Ok, Err, OnOk, OnErr, List, [], ◌∷◌, length, drop, replicate, slice_index}
+use Rattle.std.specs.Prelude.{◌≡◌, ℕ, ◌+◌, ◌≤◌, Option, Some, None, Result, Err, OnOk, OnErr, List, [], ◌∷◌, length, drop, replicate, slice_index}
 use Rattle.std.specs.List.{AllByRecursion}
 use Rattle.std.specs.Io.KnownBytes.{Appends}
 use Rattle.rht_words.specs.declared.env.Env.{Env}
@@ -12,7 +12,7 @@ use Rattle.rht_script.specs.declared.script.Script.{Script}
 use Rattle.rht_script.specs.declared.script.Sched.{Sched}
 use Rattle.rht_script.specs.declared.script.Sched.TheVariants.{Step, Skip, Finish}
 use Rattle.rht_registry.specs.declared.replaying.ReplayError.{ReplayError}
-use Rattle.rht_registry.specs.declared.replaying.ReplayError.TheVariants.{Write, Memory}
+use Rattle.rht_registry.specs.declared.replaying.ReplayError.TheVariants.{Write}
 use Rattle.rht_registry.specs.declared.replaying.player.Player.{Player}
 use Rattle.rht_registry.specs.Replays.{Playing, left_at, replay_text}
 
@@ -63,9 +63,11 @@ pub record Writes {S : Type 0} (held : S → Option (List ℕ)) (faults : S → 
   pub write : r ≡ Err Write → Rose (faults old) (faults new)
   pub kept : faults old ≤ faults new
 
--- the text of the script's replay was written, on a table of its config
+-- The text of the script's replay was written, on a table of its config. The text is the script's alone: every environment of its
+-- config gives the same one.
 pub record IsReplayed {S : Type 0} (M : Type 0) (mix : ℕ → ℕ → ℕ → ℕ) (script : Script) (held : S → Option (List ℕ)) (faults : S → ℕ)
     (old new : S) (r : Result (Unit {0}) ReplayError) : Type 0 where
   pub env : Env
   pub config_same : env.config ≡ script.config
   pub text : Writes held faults old new r (replay_text M mix env script)
+  pub one_text : (other : Env) → other.config ≡ script.config → replay_text M mix other script ≡ replay_text M mix env script

@@ -1,8 +1,8 @@
-use Rattle.std.proofs.Common.{◌≡◌, ℕ, ◌+◌, ◌-◌, ◌<◌, ◌≤◌, List, [], false, refl, sym, ◌∙◌, ap, arith}
+use Rattle.std.proofs.Common.{◌≡◌, ℕ, ◌+◌, ◌-◌, ◌<◌, ◌≤◌, List, false, sym, ◌∙◌, ap, arith}
 use Rattle.rht_registry.specs.Replays.{Playing, most_events, event_text, still_to_end, event_of, and_then, times, finishing, line_played}
 use Rattle.rht_script.specs.declared.script.Sched.TheVariants as lines
 use Rattle.rht_registry.specs.Players.{playing_of}
-use Rattle.rht_registry.proofs.PlayedParts.{times-still, times-next, times-no_more, StillToPlay, to_play-as, to_play-next, to_play-failed, to_play-none, Plays-failed}
+use Rattle.rht_registry.proofs.PlayedParts.{times-still, times-next, times-no_more, to_play-as, to_play-next, to_play-failed, to_play-none, Plays-failed}
 use Rattle.rht_registry.proofs.PlayedEvents.{most_events-is, finishing-event, finishing-still}
 use Rattle.rht_registry.proofs.replaying.play_finish.Goals as goal
 

@@ -1,7 +1,7 @@
-use Rattle.std.proofs.Common.{◌≡◌, ℕ, ◌+◌, ◌-◌, List, [], refl, sym, ◌∙◌, ap}
+use Rattle.std.proofs.Common.{◌≡◌, ℕ, ◌+◌, ◌-◌, List, sym, ◌∙◌, ap}
 use Rattle.rht_registry.specs.Replays.{Playing, event_text, and_then, times, stepping}
 use Rattle.rht_registry.specs.Players.{playing_of}
-use Rattle.rht_registry.proofs.PlayedParts.{times-still, times-next, StillToPlay, to_play-as, to_play-next, to_play-failed, to_play-none, Plays-failed}
+use Rattle.rht_registry.proofs.PlayedParts.{times-still, times-next, to_play-as, to_play-next, to_play-failed, to_play-none, Plays-failed}
 use Rattle.rht_registry.proofs.PlayedEvents.{stepping-event, stepping-over}
 use Rattle.rht_registry.proofs.replaying.play_steps.Goals as goal
 

@@ -1,4 +1,4 @@
-use Rattle.std.proofs.Common.{◌-◌, List, ℕ}
+use Rattle.std.proofs.Common.{◌-◌}
 use Rattle.std.specs.List.{flat_map, range_with_len}
 use Rattle.rht_registry.specs.Replays.{callers_of, open_text}
 use Rattle.rht_registry.proofs.PlayedParts.{StillToPlay}

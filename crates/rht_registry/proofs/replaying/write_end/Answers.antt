@@ -1,4 +1,4 @@
-use Rattle.std.proofs.Common.{◌≡◌, ℕ, ◌+◌, ◌<◌, ◌≤◌, Bool, true, false, List, ◌++◌, Ok, Err, refl, sym, ◌∙◌, ap, subst, arith}
+use Rattle.std.proofs.Common.{ℕ, Bool, ◌++◌, Ok, Err, sym, ◌∙◌, ap, subst, arith}
 use Rattle.std.proofs.lemmas.Result.{err_from_is_err_and}
 use Rattle.rht_io.specs.declared.source.Failed.{Failed}
 use Rattle.rht_io.specs.Told.{Puts}
@@ -8,9 +8,7 @@ use Rattle.rht_core.specs.Locals.{is_idle}
 use Rattle.rht_core.specs.Runs.{local_of}
 use Rattle.rht_core.specs.Closing.{current_size}
 use Rattle.rht_script.specs.OperationText.{size_line}
-use Rattle.rht_registry.specs.declared.replaying.ReplayError.TheVariants.{Write, Memory}
 use Rattle.rht_registry.specs.Replays.{callers_of, open_text, end_text}
-use Rattle.rht_registry.specs.Players.{Writes}
 use Rattle.rht_registry.proofs.LastBindings.{closed_text-bound_in}
 use Rattle.rht_registry.proofs.PlayedParts.{list_all-each, Puts-longer, Writes-of_put, Writes-failed, Writes-nothing}
 use Rattle.rht_registry.proofs.ReplayEnds.{end_text-idle, end_text-busy}

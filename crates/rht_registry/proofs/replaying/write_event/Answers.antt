@@ -1,4 +1,4 @@
-use Rattle.std.proofs.Common.{Ok, sym, subst}
+use Rattle.std.proofs.Common.{sym, subst}
 use Rattle.rht_io.specs.declared.source.Failed.{Failed}
 use Rattle.rht_io.specs.Told.{Puts}
 use Rattle.rht_io.proofs.ToldLemmas.{Puts-after}

@@ -1,4 +1,4 @@
-use Rattle.std.proofs.Common.{ℕ, ◌+◌, ◌<◌, ◌≤◌, true, refl, sym, ◌∙◌, ap, subst, arith}
+use Rattle.std.proofs.Common.{◌+◌, ◌<◌, ◌≤◌, true, refl, ◌∙◌, ap, arith}
 use Rattle.rht_core.specs.declared.event.Event.TheVariants.{Step}
 use Rattle.rht_core.proofs.Events.ReachedStates.{event-env}
 use Rattle.rht_registry.specs.declared.replaying.player.Player.{Player}
