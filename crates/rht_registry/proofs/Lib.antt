@@ -4,3 +4,17 @@ pub mod ServedCalls
 pub mod SoundCommands
 -- what all workers leave, and what it is once the table is closed
 pub mod ClosedOutcomes
+-- where a worker's next command is, and what is left
+pub mod NextCommands
+-- parts of a replay, one behind the other
+pub mod PlayedParts
+-- what is bound at the end has one list
+pub mod LastBindings
+-- callers who enroll one after another
+pub mod Enrolling
+-- what an event makes of what the program keeps
+pub mod PlayedEvents
+-- the end of a replay, and the whole of it
+pub mod ReplayEnds
+-- a config has one environment
+pub mod OneEnvironment

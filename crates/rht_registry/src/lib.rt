@@ -6,8 +6,10 @@
 #![tactic(auto)]
 
 mod registry;
+mod replaying;
 
 pub use registry::{Outcome, run_workers};
+pub use replaying::{ReplayError, replay};
 
 #[cfg(test)]
 mod tests;

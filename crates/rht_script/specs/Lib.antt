@@ -20,5 +20,7 @@ pub mod Plain
 pub mod Laws
 -- the text of replies and of last bindings
 pub mod Text
+-- the text of a replay's operations, and of what it leaves open
+pub mod OperationText
 -- what a step of writing text does
 pub mod Writing

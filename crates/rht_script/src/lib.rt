@@ -15,4 +15,6 @@ mod writer;
 
 pub use reader::{MOST_BYTES, read};
 pub use script::{ReadError, Sched, Script, ScriptFault, TableLine};
-pub use writer::{write_closed, write_fault, write_reply, write_run};
+pub use writer::{
+    write_closed, write_fault, write_open, write_operation, write_reply, write_run, write_size,
+};

@@ -10,10 +10,12 @@ ghost use Rattle.rht_script.specs.Text.{pair_text, owners_text, walk_end, reply_
 ghost use Rattle.rht_script.specs.Writing.{Adds};
 
 mod buffer;
+mod operations;
 mod pieces;
 #[cfg(test)]
 mod tests;
 
+pub use self::operations::{write_open, write_operation, write_size};
 use self::pieces::Writer;
 use crate::script::ScriptFault;
 use rht_io::{Failed, Sink};
