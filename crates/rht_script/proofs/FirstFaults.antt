@@ -1,6 +1,6 @@
 -- Where a line is at fault, reading stops there: it gives the same fault whatever lines come behind, and the lines
 -- before it have no fault of their own. By induction over the lines. A line that can't be read, or that is no table
--- line or no command, is where reading stops. Behind any other line reading goes on, and it stops where that stops.
+-- line, or neither a command nor a line of the schedule, is where reading stops. Behind any other line reading goes on, and it stops where that stops.
 use Rattle.std.proofs.Common.{◌≡◌, ℕ, ◌+◌, ◌-◌, ◌<◌, ◌≤◌, true, false, Result, Ok, Err, List, [], ◌∷◌, ◌++◌, length, take, drop, refl, sym, ap, ◌∙◌, subst, inl, inr, arith, append_assoc, take-append-drop}
 use Rattle.std.specs.Prelude.{◌⊎◌, IsOk}
 use Rattle.std.proofs.Math.Seq.{take-append_seam, take-append-add}
@@ -10,9 +10,9 @@ use Rattle.rht_script.specs.declared.script.TableLine.{TableLine}
 use Rattle.rht_script.specs.declared.cause.Cause.{Cause}
 use Rattle.rht_script.specs.declared.cause.Cause.TheVariants.{NoTableLine}
 use Rattle.rht_script.specs.Spelling.{◌>>=◌, lines_of, is_skipped}
-use Rattle.rht_script.specs.Grammar.{most_bytes, at_line, fault_at, words_at, commands_from, said_with, said_from, reading_of}
+use Rattle.rht_script.specs.Grammar.{most_bytes, at_line, fault_at, words_at, lines_from, said_with, said_from, reading_of}
 use Rattle.rht_script.specs.TableLines.{table_of}
-use Rattle.rht_script.specs.CommandLines.{command_of}
+use Rattle.rht_script.specs.ScriptLines.{line_of}
 use Rattle.rht_script.specs.Laws.{IsLineFault, IsFirstOfLines, HasNoLineFault, FaultsAreFirst}
 use Rattle.rht_script.proofs.ReadingLemmas.{reading_of-lines}
 
@@ -84,16 +84,16 @@ stops_later read GoesOn onward GoesOnward number line lines fault stop go later 
   before = go later.front later.before;
 }
 
--- ---- commands
+-- ---- lines below the table line
 
 module _ (table : TableLine) (fault : ScriptFault) where
-  commands_stop : (number : ℕ) (lines : List (List ℕ)) → commands_from number table lines ≡ Err fault
-      → Stops (commands_from number table) (λ front. IsOk (commands_from number table front)) number
+  lines_stop : (number : ℕ) (lines : List (List ℕ)) → lines_from number table lines ≡ Err fault
+      → Stops (lines_from number table) (λ front. IsOk (lines_from number table front)) number
       lines fault
-  commands_stop number [] stopped = absurd (cc)
-  commands_stop number (line ∷ lines) stopped =
-      let read_from = λ (n : ℕ). commands_from n table in
-      let Goes = λ (n : ℕ) (front : List (List ℕ)). IsOk (commands_from n table front) in
+  lines_stop number [] stopped = absurd (cc)
+  lines_stop number (line ∷ lines) stopped =
+      let read_from = λ (n : ℕ). lines_from n table in
+      let Goes = λ (n : ℕ) (front : List (List ℕ)). IsOk (lines_from n table front) in
       elim (bind-err (at_line number (words_at number line)) _ fault stopped) [
         | inl wrong ↦ stops_here (read_from number) (Goes number) number line lines fault
             (line-at_line number (words_at number line) fault wrong) (λ other. rw wrong refl) refl
@@ -103,23 +103,23 @@ module _ (table : TableLine) (fault : ScriptFault) where
               stops_later (read_from number) (Goes number) (read_from (number + 1)) (Goes (number + 1))
               number line lines fault
               (λ other stop. rw (read.1, skipped) stop) (λ other go. rw (read.1, skipped) go)
-              (commands_stop (number + 1) lines onward)
+              (lines_stop (number + 1) lines onward)
           | inr said ↦
               let asked = rw said at read.2 in
-              elim (bind-err (at_line number (command_of table read.0)) _ fault asked) [
+              elim (bind-err (at_line number (line_of table read.0)) _ fault asked) [
                 | inl wrong ↦ stops_here (read_from number) (Goes number) number line lines fault
-                    (line-at_line number (command_of table read.0) fault wrong)
+                    (line-at_line number (line_of table read.0) fault wrong)
                     (λ other. rw (read.1, said, wrong) refl) refl
-                | inr command ↦ elim (bind-err (commands_from (number + 1) table lines) _ fault command.2) [
+                | inr first ↦ elim (bind-err (lines_from (number + 1) table lines) _ fault first.2) [
                   | inl later ↦
                       stops_later (read_from number) (Goes number) (read_from (number + 1))
                       (Goes (number + 1))
                       number line lines fault
-                      (λ other stop. rw (read.1, said, command.1, stop) refl)
-                      (λ other go. rw (read.1, said, command.1)
-                      (IsOk-bind (commands_from (number + 1) table other) _ go (λ commands. refl)))
-                      (commands_stop (number + 1) lines later)
-                  | inr commands ↦ absurd (let never = commands.2 in cc)
+                      (λ other stop. rw (read.1, said, first.1, stop) refl)
+                      (λ other go. rw (read.1, said, first.1)
+                      (IsOk-bind (lines_from (number + 1) table other) _ go (λ said. refl)))
+                      (lines_stop (number + 1) lines later)
+                  | inr others ↦ absurd (let never = others.2 in cc)
                 ]
               ]
         ]
@@ -134,21 +134,21 @@ HaveNoFault number lines =
     (fault_at (number + length lines) NoTableLine))
 
 module _ (fault : ScriptFault) where
-  -- below the table line commands decide
+  -- below the table line the other lines decide
   said_stops-table : (number : ℕ) (line : List ℕ) (lines words : List (List ℕ)) (table : TableLine)
       → at_line number (words_at number line) ≡ Ok words → is_skipped words ≡ false
       → at_line number (table_of words) ≡ Ok table → said_with table (number + 1) lines ≡ Err fault
       → Stops (said_from number) (HaveNoFault number) number (line ∷ lines) fault
   said_stops-table number line lines words table read said is stopped =
-      elim (bind-err (commands_from (number + 1) table lines) _ fault stopped) [
+      elim (bind-err (lines_from (number + 1) table lines) _ fault stopped) [
         | inl later ↦
-            stops_later (said_from number) (HaveNoFault number) (commands_from (number + 1) table)
-            (λ front. IsOk (commands_from (number + 1) table front)) number line lines fault
+            stops_later (said_from number) (HaveNoFault number) (lines_from (number + 1) table)
+            (λ front. IsOk (lines_from (number + 1) table front)) number line lines fault
             (λ other stop. rw (read, said, is, stop) refl)
             (λ other go. inl (rw (read, said, is)
-            (IsOk-bind (commands_from (number + 1) table other) _ go (λ commands. refl))))
-            (commands_stop table fault (number + 1) lines later)
-        | inr commands ↦ absurd (let never = commands.2 in cc)
+            (IsOk-bind (lines_from (number + 1) table other) _ go (λ said. refl))))
+            (lines_stop table fault (number + 1) lines later)
+        | inr others ↦ absurd (let never = others.2 in cc)
       ]
 
   -- a line more before lines without a fault

@@ -8,8 +8,8 @@ pub mod ConfigLemmas
 pub mod OptionLemmas
 -- what a line's number and its length say of it
 pub mod LineLemmas
--- what holds of each command that is read
-pub mod ReadCommands
+-- what holds of each line below the table line that is read
+pub mod ReadLines
 -- the two ways to read bytes
 pub mod ReadingLemmas
 -- the first fault of an input, and the lines before it and behind it
@@ -24,8 +24,8 @@ pub mod PlainScripts
 pub mod SayableScripts
 -- inputs, and what the definitions give for them
 pub mod WorkedInputs
--- the commands so far, before those still to be read
-pub mod CommandsSoFar
+-- what is said so far, before the lines still to be read
+pub mod LinesSoFar
 -- pieces of a text that are added one after another
 pub mod AddedPieces
 -- a list whose items are added one after another

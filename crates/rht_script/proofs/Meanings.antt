@@ -1,19 +1,19 @@
 -- Within the bounds no line is one too many, and none is too long. So what is read follows from the words of the lines
 -- that aren't skipped: it is read from these words alone, in which no line has a number. By induction over the lines,
--- for commands first: a line that is skipped leaves both as they are, and any other is read from its words on either side.
+-- for those below the table line first: a line that is skipped leaves both as they are, and any other is read from its words on either side.
 use Rattle.std.proofs.Common.{◌≡◌, ℕ, ◌+◌, ◌≤◌, not, Result, Ok, Err, List, [], ◌∷◌, length, refl, sym, ap, ◌∙◌, inl, inr, arith}
 use Rattle.std.specs.Prelude.{All, map, filter}
 use Rattle.std.proofs.lemmas.Bool.{cases_Bool}
 use Rattle.std.proofs.lemmas.List.Elements.{All-head, All-tail}
-use Rattle.rht_model.specs.declared.history.Call.{Call}
 use Rattle.rht_script.specs.declared.script.ScriptFault.{ScriptFault}
 use Rattle.rht_script.specs.declared.script.TableLine.{TableLine}
+use Rattle.rht_script.specs.declared.script.ScriptLine.{ScriptLine}
 use Rattle.rht_script.specs.declared.cause.Cause.{Cause}
 use Rattle.rht_script.specs.declared.cause.Cause.TheVariants.{NoTableLine}
 use Rattle.rht_script.specs.Spelling.{◌>>=◌, lines_of, words_of, is_skipped}
-use Rattle.rht_script.specs.Grammar.{most_lines, most_in_line, code_of, at_line, words_at, Said, said_of, commands_from, said_from, reading_of}
+use Rattle.rht_script.specs.Grammar.{most_lines, most_in_line, code_of, at_line, words_at, Said, said_of, lines_from, said_from, reading_of}
 use Rattle.rht_script.specs.TableLines.{table_of}
-use Rattle.rht_script.specs.CommandLines.{command_of}
+use Rattle.rht_script.specs.ScriptLines.{line_of}
 use Rattle.rht_script.specs.Laws.{IsWithinBounds, words_said, meaning_of, WordsDecide}
 use Rattle.rht_script.proofs.LineLemmas.{words_at-right}
 use Rattle.rht_script.proofs.ReadingLemmas.{reading_of-lines}
@@ -39,19 +39,17 @@ meaning_of-bind : {A B : Type 0} (read : Result A ScriptFault) (next : A
 meaning_of-bind (Ok value) next meant then first behind = rw (← first) (behind value)
 meaning_of-bind (Err fault) next meant then first behind = rw (← first) refl
 
--- the commands of lines of these words
-commands_in : TableLine → List (List (List ℕ)) → Result (List (ℕ × Call)) ℕ
-commands_in table [] = Ok []
-commands_in table (words ∷ lines) =
-    coded (command_of table words) >>= (λ command. commands_in table lines >>=
-    (λ commands. Ok (command ∷ commands)))
+-- what lines of these words say below the table line
+lines_in : TableLine → List (List (List ℕ)) → Result (List ScriptLine) ℕ
+lines_in table [] = Ok []
+lines_in table (words ∷ lines) =
+    coded (line_of table words) >>= (λ first. lines_in table lines >>= (λ others. Ok (first ∷ others)))
 
 -- what lines of these words say
 said_in : List (List (List ℕ)) → Result Said ℕ
 said_in [] = Err (code_of NoTableLine)
 said_in (words ∷ lines) =
-    coded (table_of words) >>= (λ table. commands_in table lines >>=
-    (λ commands. Ok (said_of table commands)))
+    coded (table_of words) >>= (λ table. lines_in table lines >>= (λ said. Ok (said_of table said)))
 
 -- ---- lines within the bounds
 
@@ -74,26 +72,26 @@ read_first number line lines few short =
     words_at-right number line (omega (arith, few)) (All-head (λ line. length line ≤ most_in_line) line
     lines short)
 
-meaning_of-commands : (table : TableLine) (number : ℕ) (lines : List (List ℕ))
+meaning_of-lines : (table : TableLine) (number : ℕ) (lines : List (List ℕ))
     → number + length lines ≤ most_lines + 1
     → AreShort lines
-    → meaning_of (commands_from number table lines) ≡ commands_in table (words_kept lines)
-unfolding commands_in
-meaning_of-commands table number [] few short = refl
-meaning_of-commands table number (line ∷ lines) few short =
+    → meaning_of (lines_from number table lines) ≡ lines_in table (words_kept lines)
+unfolding lines_in
+meaning_of-lines table number [] few short = refl
+meaning_of-lines table number (line ∷ lines) few short =
     let words = words_of line in
     let read = read_first number line lines few short in
-    let onward : meaning_of (commands_from (number + 1) table lines) ≡ commands_in table (words_kept lines) =
-    meaning_of-commands table (number + 1) lines (omega (arith, few)) (short_behind line lines short) in
+    let onward : meaning_of (lines_from (number + 1) table lines) ≡ lines_in table (words_kept lines) =
+    meaning_of-lines table (number + 1) lines (omega (arith, few)) (short_behind line lines short) in
     elim (cases_Bool (is_skipped words)) [
       | inl skipped ↦ rw (read, skipped) onward
       | inr said ↦
           rw (read, said)
-          (meaning_of-bind (at_line number (command_of table words)) _ (coded (command_of table words)) _
-          (meaning_of-at_line number (command_of table words)) (λ command.
-          meaning_of-bind (commands_from (number + 1) table lines) _
-          (commands_in table (words_kept lines)) _ onward
-          (λ commands. refl)))
+          (meaning_of-bind (at_line number (line_of table words)) _ (coded (line_of table words)) _
+          (meaning_of-at_line number (line_of table words)) (λ first.
+          meaning_of-bind (lines_from (number + 1) table lines) _
+          (lines_in table (words_kept lines)) _ onward
+          (λ said. refl)))
     ]
 
 meaning_of-said : (number : ℕ) (lines : List (List ℕ)) → number + length lines ≤ most_lines + 1
@@ -111,9 +109,9 @@ meaning_of-said number (line ∷ lines) few short =
           rw (read, said)
           (meaning_of-bind (at_line number (table_of words)) _ (coded (table_of words)) _
           (meaning_of-at_line number (table_of words)) (λ table.
-          meaning_of-bind (commands_from (number + 1) table lines) _ (commands_in table (words_kept lines)) _
-          (meaning_of-commands table (number + 1) lines (omega (arith, few)) others_short)
-          (λ commands. refl)))
+          meaning_of-bind (lines_from (number + 1) table lines) _ (lines_in table (words_kept lines)) _
+          (meaning_of-lines table (number + 1) lines (omega (arith, few)) others_short)
+          (λ said. refl)))
     ]
 
 meaning_of-reading : (bytes : List ℕ) → IsWithinBounds bytes

@@ -1,8 +1,8 @@
 -- What is spelled plainly is read back. A plain line has the words that it was made of (`PlainWords`), so a command's line
--- is read as the command, case by case of the verbs, and the table line as the config, option by option: each is set once,
--- its number is within its limits, and the least size and the greatest are rounded already. By induction over the
--- commands, their lines are read as they.
-use Rattle.std.proofs.Common.{◌≡◌, ℕ, ◌+◌, ◌*◌, ◌^◌, ◌<◌, ◌≤◌, ◌==◌, Bool, true, false, cond, Option, Some, None, Ok, List, [], ◌∷◌, ◌++◌, length, length-append, max, unwrap_or, refl, sym, ap, ◌∙◌, inl, inr, arith}
+-- is read as the command, case by case of the verbs, a line of the schedule as that, and the table line as the config,
+-- option by option: each is set once, its number is within its limits, and the least size and the greatest are rounded
+-- already. By induction over the commands and the schedule behind them, their lines are read as they.
+use Rattle.std.proofs.Common.{◌≡◌, ℕ, ◌+◌, ◌*◌, ◌^◌, ◌<◌, ◌≤◌, ◌==◌, Bool, true, false, cond, Option, Some, None, Ok, List, [], ◌∷◌, ◌++◌, length, length-append, map, max, unwrap_or, refl, sym, ap, ◌∙◌, inl, inr, arith}
 use Rattle.std.specs.Prelude.{codes, decimal}
 use Rattle.std.specs.List.{AllByRecursion, flat_map}
 use Rattle.std.proofs.lemmas.Bool.{cases_Bool, le-leb, eqb-false, eqb-true}
@@ -21,19 +21,26 @@ use Rattle.rht_words.proofs.Rounding.{rounded_down-zero}
 use Rattle.rht_model.specs.declared.history.Call.{Call}
 use Rattle.rht_model.specs.declared.history.Call.TheVariants.{Bind, Find, All as ListAll, Release, Rebind, Walk, Work, Tidy, Count}
 use Rattle.rht_script.specs.declared.script.TableLine.{TableLine}
+use Rattle.rht_script.specs.declared.script.Sched.{Sched}
+use Rattle.rht_script.specs.declared.script.Sched.TheVariants.{Step, Skip, Finish}
+use Rattle.rht_script.specs.declared.script.ScriptLine.{ScriptLine}
+use Rattle.rht_script.specs.declared.script.ScriptLine.TheVariants.{Command, Schedule}
 use Rattle.rht_script.specs.declared.options.Setting.{Setting}
 use Rattle.rht_script.specs.declared.options.Setting.TheVariants.{Nodes, Hint, Min, Max, Pages, Workers, Seed, Rewalks, Hashing, Shrink, Auto}
 use Rattle.rht_script.specs.declared.options.Options.{Options}
 use Rattle.rht_script.specs.Spelling.{◌>>=◌, lines_of, is_skipped, number_of}
-use Rattle.rht_script.specs.Grammar.{most_lines, most_in_line, words_at, commands_from, said_from}
+use Rattle.rht_script.specs.Grammar.{most_lines, most_in_line, words_at, lines_from, said_from}
 use Rattle.rht_script.specs.TableLines.{no_options, kind_of, with_setting, setting_of, options_from, configured, sizes_agree, has_room, rounded_min, config_of, table_of}
 use Rattle.rht_script.specs.CommandLines.{port_limits, owner_limits, worker_limits, bind_of, find_of, all_of, release_of, of_single, rebind_of, bare_of, call_of, command_of}
-use Rattle.rht_script.specs.Plain.{IsSayableCall, IsSayableCommand, number_or_none, kind_word, hash_word, switch_word, auto_word, table_words, call_words, command_words, plain_line, plain_script}
+use Rattle.rht_script.specs.ScheduleLines.{event_limits, events_of}
+use Rattle.rht_script.specs.ScriptLines.{line_of, commands_among, schedule_among}
+use Rattle.rht_script.specs.Plain.{IsSayableCall, IsSayableCommand, IsSayableSched, number_or_none, kind_word, hash_word, switch_word, auto_word, table_words, call_words, command_words, sched_words, line_words, plain_order, plain_line, plain_script}
 use Rattle.rht_script.specs.Laws.{ReadsBack}
 use Rattle.rht_script.proofs.LineLemmas.{words_at-right}
 use Rattle.rht_script.proofs.PiecesLemmas.{lines_of-empty}
-use Rattle.rht_script.proofs.ReadingLemmas.{reading_of-lines, said_with-commands}
-use Rattle.rht_script.proofs.PlainWords.{number_of-decimal, IsPlainWord, plain_name, IsPlainWord-decimal, is_schedule-decimal, is_comment-decimal, spaced_words, words_of-spaced, length-spaced, length-spaced_two, lines_of-plain}
+use Rattle.rht_script.proofs.ReadingLemmas.{reading_of-lines}
+use Rattle.rht_script.proofs.ReadLines.{HoldsOfLine}
+use Rattle.rht_script.proofs.PlainWords.{number_of-decimal, IsPlainWord, plain_name, IsPlainWord-decimal, BeginsNoSchedule-decimal, is_comment-decimal, spaced_words, words_of-spaced, length-spaced, length-spaced_two, lines_of-plain}
 
 -- ---- calls
 
@@ -93,43 +100,101 @@ module _ (kind : Kind) where
 -- ---- commands
 
 module _ (table : TableLine) (callers : table.config.callers < 2 ^ 32) where
+  -- a worker's number, and a number of events or calls, is read as it is, and is a plain word
+  worker_read : (worker : ℕ) → IsWithinLimits (worker_limits table.config) worker
+      → number_of (worker_limits table.config) (decimal worker) ≡ Ok worker
+  worker_read worker within =
+      number_of-decimal worker (omega (arith, within, callers)) (worker_limits table.config) within
+
+  worker_plain : (worker : ℕ) → IsWithinLimits (worker_limits table.config) worker
+      → IsPlainWord (decimal worker)
+  worker_plain worker within = IsPlainWord-decimal worker (omega (arith, within, callers))
+
+  number_read : (number : ℕ) → IsWithinLimits event_limits number
+      → number_of event_limits (decimal number) ≡ Ok number
+  number_read number within = number_of-decimal number (omega (arith, within)) event_limits within
+
+  number_plain : (number : ℕ) → IsWithinLimits event_limits number → IsPlainWord (decimal number)
+  number_plain number within = IsPlainWord-decimal number (omega (arith, within))
+
   command_of-plain : (command : ℕ × Call) → IsSayableCommand table.config command
       → command_of table (command_words command) ≡ Ok command
   unfolding command_of
   command_of-plain command sayable =
-      let worker : command.0 < 2 ^ 32 = omega (arith, sayable.0, callers) in
-      let worker_is = number_of-decimal command.0 worker (worker_limits table.config) sayable.0 in
-      rw (is_schedule-decimal command.0 worker, worker_is, call_of-plain table.config.kind command.1 sayable.1)
-      refl
+      rw (worker_read command.0 sayable.0, call_of-plain table.config.kind command.1 sayable.1) refl
 
   -- the words of a command are plain, and at most five
   command_words-plain : (command : ℕ × Call) → IsSayableCommand table.config command
       → AllByRecursion IsPlainWord (command_words command) × (length (command_words command) ≤ 5)
   command_words-plain command sayable =
-      let worker : command.0 < 2 ^ 32 = omega (arith, sayable.0, callers) in
       let call = call_words-plain table.config.kind command.1 sayable.1 in
-      ((IsPlainWord-decimal command.0 worker, call.0), omega (arith, call.1))
+      ((worker_plain command.0 sayable.0, call.0), omega (arith, call.1))
 
-  -- By induction: the line of a command is neither skipped nor too long, and is read as the command.
-  commands_from-plain : (number : ℕ) (commands : List (ℕ × Call))
-      → AllByRecursion (IsSayableCommand table.config) commands
-      → number + length commands ≤ most_lines + 1
-      → commands_from number table (lines_of (flat_map (λ command. plain_line (command_words command))
-      commands)) ≡ Ok commands
-  commands_from-plain number [] sayable few = ap (commands_from number table) lines_of-empty
-  commands_from-plain number (command ∷ commands) sayable few =
-      let words = command_words command in
-      let plain = command_words-plain command sayable.0 in
-      let behind = flat_map (λ command. plain_line (command_words command)) commands in
+  -- ---- lines of the schedule
+
+  sched_of-plain : (sched : Sched) → IsSayableSched table.config sched
+      → line_of table (sched_words sched) ≡ Ok (Schedule sched)
+  unfolding line_of events_of
+  sched_of-plain (Step worker number) sayable =
+      rw (worker_read worker sayable.0, number_read number sayable.1) refl
+  sched_of-plain (Skip worker number) sayable =
+      rw (worker_read worker sayable.0, number_read number sayable.1) refl
+  sched_of-plain (Finish worker number) sayable =
+      rw (worker_read worker sayable.0, number_read number sayable.1) refl
+
+  -- its words are plain, and three
+  sched_words-plain : (sched : Sched) → IsSayableSched table.config sched
+      → AllByRecursion IsPlainWord (sched_words sched) × (length (sched_words sched) ≤ 5)
+  sched_words-plain (Step worker number) sayable =
+      ((plain_name refl, (worker_plain worker sayable.0, (number_plain number sayable.1, tt))), omega arith)
+  sched_words-plain (Skip worker number) sayable =
+      ((plain_name refl, (worker_plain worker sayable.0, (number_plain number sayable.1, tt))), omega arith)
+  sched_words-plain (Finish worker number) sayable =
+      ((plain_name refl, (worker_plain worker sayable.0, (number_plain number sayable.1, tt))), omega arith)
+
+  -- ---- lines below the table line
+
+  -- a line can say this
+  abbrev IsSayableLine : ScriptLine → Type 0
+  IsSayableLine line = HoldsOfLine (IsSayableCommand table.config) (IsSayableSched table.config) line
+
+  line_of-plain : (line : ScriptLine) → IsSayableLine line → line_of table (line_words line) ≡ Ok line
+  unfolding line_of
+  line_of-plain (Command command) sayable =
+      let worker : command.0 < 2 ^ 32 = omega (arith, sayable.0, callers) in
+      let other = BeginsNoSchedule-decimal command.0 worker in
+      rw (other.step, other.skip, other.finish, command_of-plain command sayable) refl
+  line_of-plain (Schedule sched) sayable = sched_of-plain sched sayable
+
+  -- its words are plain, at most five, and no comment
+  line_words-plain : (line : ScriptLine) → IsSayableLine line
+      → AllByRecursion IsPlainWord (line_words line) × (length (line_words line) ≤ 5)
+  line_words-plain (Command command) sayable = command_words-plain command sayable
+  line_words-plain (Schedule sched) sayable = sched_words-plain sched sayable
+
+  line_words-said : (line : ScriptLine) → IsSayableLine line → is_skipped (line_words line) ≡ false
+  line_words-said (Command command) sayable =
+      is_comment-decimal command.0 (omega (arith, sayable.0, callers))
+  line_words-said (Schedule (Step worker number)) sayable = refl
+  line_words-said (Schedule (Skip worker number)) sayable = refl
+  line_words-said (Schedule (Finish worker number)) sayable = refl
+
+  -- By induction: a line is neither skipped nor too long, and is read as what it says.
+  lines_from-plain : (number : ℕ) (lines : List ScriptLine) → AllByRecursion IsSayableLine lines
+      → number + length lines ≤ most_lines + 1
+      → lines_from number table (lines_of (flat_map (λ line. plain_line (line_words line)) lines)) ≡ Ok lines
+  lines_from-plain number [] sayable few = ap (lines_from number table) lines_of-empty
+  lines_from-plain number (line ∷ lines) sayable few =
+      let words = line_words line in
+      let plain = line_words-plain line sayable.0 in
+      let behind = flat_map (λ line. plain_line (line_words line)) lines in
       let read : words_at number (spaced_words words) ≡ Ok words =
       words_at-right number (spaced_words words) (omega (arith, few))
       (omega (arith, length-spaced words plain.0, plain.1))
       ∙ ap (λ (ws : List (List ℕ)). Ok ws) (words_of-spaced words plain.0) in
-      let said : is_skipped words ≡ false = is_comment-decimal command.0
-      (omega (arith, sayable.0.0, callers)) in
-      let onward = commands_from-plain (number + 1) commands sayable.1 (omega (arith, few)) in
-      ap (commands_from number table) (lines_of-plain words behind plain.0)
-      ∙ rw (read, said, command_of-plain command sayable.0, onward) refl
+      let onward = lines_from-plain (number + 1) lines sayable.1 (omega (arith, few)) in
+      ap (lines_from number table) (lines_of-plain words behind plain.0)
+      ∙ rw (read, line_words-said line sayable.0, line_of-plain line sayable.0, onward) refl
 
 -- ---- the table line
 
@@ -465,27 +530,68 @@ module _ (config : Config) (auto : Bool) (settled : IsSettled config) where
       length-spaced_two (codes "table") (kind_word config.kind) option_words plain.0.1.1 in
       omega (arith, long, length-kind_word config.kind, few)
 
+-- ---- the plain order
+
+module _ (config : Config) where
+  -- behind all commands comes the schedule, each line of which can be said
+  schedule_each : (schedule : List Sched) → AllByRecursion (IsSayableSched config) schedule
+      → AllByRecursion (HoldsOfLine (IsSayableCommand config) (IsSayableSched config)) (map Schedule schedule)
+  schedule_each [] each = tt
+  schedule_each (sched ∷ schedule) each = (each.0, schedule_each schedule each.1)
+
+  order_each : (commands : List (ℕ × Call)) (schedule : List Sched)
+      → AllByRecursion (IsSayableCommand config) commands → AllByRecursion (IsSayableSched config) schedule
+      → AllByRecursion (HoldsOfLine (IsSayableCommand config) (IsSayableSched config))
+      (map Command commands ++ map Schedule schedule)
+  order_each [] schedule each others = schedule_each schedule others
+  order_each (command ∷ commands) schedule each others =
+      (each.0, order_each commands schedule each.1 others)
+
+-- there are as many lines as commands and lines of the schedule together
+length-order : (commands : List (ℕ × Call)) (schedule : List Sched)
+    → length (map Command commands ++ map Schedule schedule) ≡ length commands + length schedule
+length-order [] [] = refl
+length-order [] (sched ∷ schedule) = omega (arith, length-order [] schedule)
+length-order (command ∷ commands) schedule = omega (arith, length-order commands schedule)
+
+-- and both are found among them again
+commands_among-order : (commands : List (ℕ × Call)) (schedule : List Sched)
+    → commands_among (map Command commands ++ map Schedule schedule) ≡ commands
+commands_among-order [] [] = refl
+commands_among-order [] (sched ∷ schedule) = commands_among-order [] schedule
+commands_among-order (command ∷ commands) schedule =
+    ap (λ (others : List (ℕ × Call)). command ∷ others) (commands_among-order commands schedule)
+
+schedule_among-order : (commands : List (ℕ × Call)) (schedule : List Sched)
+    → schedule_among (map Command commands ++ map Schedule schedule) ≡ schedule
+schedule_among-order [] [] = refl
+schedule_among-order [] (sched ∷ schedule) =
+    ap (λ (others : List Sched). sched ∷ others) (schedule_among-order [] schedule)
+schedule_among-order (command ∷ commands) schedule = schedule_among-order commands schedule
+
 -- ---- the whole script
 
 pub reads_back : ReadsBack
 unfolding plain_script
 reads_back said can short =
     let config = said.config in
-    let commands = said.commands in
     let settled = can.config in
     let auto = said.auto in
+    let lines = plain_order said in
     let table : TableLine = record { config = config; auto = auto } in
     let words = table_words config auto in
     let plain = table_words-plain config auto settled in
-    let behind = flat_map (λ command. plain_line (command_words command)) commands in
+    let behind = flat_map (λ line. plain_line (line_words line)) lines in
     let callers : config.callers < 2 ^ 32 = omega (arith, settled.geometry.callers_within) in
     let read : words_at 1 (spaced_words words) ≡ Ok words =
     words_at-right 1 (spaced_words words) (omega arith) (table_words-short config auto settled)
     ∙ ap (λ (ws : List (List ℕ)). Ok ws) (words_of-spaced words plain.0) in
-    let each = recursion_from_All (IsSayableCommand config) commands can.commands in
-    let commands_read = commands_from-plain table callers 2 commands each (omega (arith, can.few)) in
+    let each = order_each config said.commands said.schedule
+    (recursion_from_All (IsSayableCommand config) said.commands can.commands)
+    (recursion_from_All (IsSayableSched config) said.schedule can.schedule) in
+    let count = length-order said.commands said.schedule in
+    let lines_read = lines_from-plain table callers 2 lines each (omega (arith, can.few, count)) in
     reading_of-lines (plain_line words ++ behind) short
     ∙ ap (said_from 1) (lines_of-plain words behind plain.0)
-    ∙ rw (read, table_of-plain config auto settled)
-    (said_with-commands table 2 (lines_of behind) commands commands_read
-    ∙ rw (← can.schedule) refl)
+    ∙ rw (read, table_of-plain config auto settled, lines_read)
+    (rw (commands_among-order said.commands said.schedule, schedule_among-order said.commands said.schedule) refl)

@@ -2,7 +2,7 @@
 -- in decimal. Words in a row with a space between each two are the words of that line, and lines that each end with a
 -- line feed are the lines of their text. A number in decimal is read as that number.
 use Rattle.std.proofs.Common.{◌≡◌, ℕ, ◌+◌, ◌-◌, ◌*◌, ◌%◌, ◌^◌, ◌<◌, ◌≤◌, ◌==◌, Bool, true, false, not, ◌&&◌, Ok, List, [], ◌∷◌, ◌++◌, length, refl, ap, ◌∙◌, arith, length-append, append_assoc}
-use Rattle.std.specs.Prelude.{All, decimal, filter, nat_le}
+use Rattle.std.specs.Prelude.{All, codes, decimal, filter, nat_le}
 use Rattle.std.specs.Char.{is_ascii_digit}
 use Rattle.std.specs.List.{AllByRecursion, list_all, join_with_byte, slice_split}
 use Rattle.std.proofs.lemmas.Bool.{le-leb, leb-true, lt-ltb, ne_eqb, and_from, and_parts, not-true, cond-true}
@@ -13,8 +13,7 @@ use Rattle.std.proofs.lemmas.List.Sums.{fold-append}
 use Rattle.std.proofs.lemmas.List.Splits.{slice_split_at, slice_split_none, length-slice_split}
 use Rattle.rht_words.specs.declared.limits.Limits.{Limits}
 use Rattle.rht_words.specs.Limits.{IsWithinLimits}
-use Rattle.rht_script.specs.Spelling.{without_empty_end, lines_of, is_blank, is_some_text, words_of, is_comment, is_number, value_of, is_within, number_of, most_digits}
-use Rattle.rht_script.specs.CommandLines.{is_schedule}
+use Rattle.rht_script.specs.Spelling.{without_empty_end, lines_of, is_blank, is_some_text, words_of, is_comment, is_word, is_number, value_of, is_within, number_of, most_digits}
 use Rattle.rht_script.specs.Plain.{plain_line}
 use Rattle.rht_script.proofs.PiecesLemmas.{onto_pieces}
 
@@ -48,11 +47,17 @@ IsDigitsOf-decimal =
       omega (arith, value, digits_are.1),
     ))
 
+-- The word begins no line of a schedule.
+pub record BeginsNoSchedule (word : List ℕ) : Type 0 where
+  pub step : is_word word (codes "step") ≡ false
+  pub skip : is_word word (codes "skip") ≡ false
+  pub finish : is_word word (codes "finish") ≡ false
+
 -- A word that begins with a digit is no comment, and begins no line of a schedule.
 record BeginsWithDigit (word : List ℕ) : Type 0 where
   some : is_some_text word ≡ true
   no_comment : is_comment word ≡ false
-  no_schedule : is_schedule word ≡ false
+  no_schedule : BeginsNoSchedule word
 
 BeginsWithDigit-digits : (word : List ℕ) → 0 < length word → list_all is_ascii_digit word ≡ true
     → BeginsWithDigit word
@@ -67,7 +72,7 @@ BeginsWithDigit-digits (byte ∷ word) some digits =
     record {
       some = refl;
       no_comment = ne_eqb byte 35 (λ same. absurd (omega (arith, above, same)));
-      no_schedule = rw (no_s, no_f) refl;
+      no_schedule = record { step = rw no_s refl; skip = rw no_s refl; finish = rw no_f refl };
     }
 
 -- ---- words
@@ -126,8 +131,8 @@ module _ (number : ℕ) (small : number < 2 ^ 32) where
   begins_with_digit : BeginsWithDigit (decimal number)
   begins_with_digit = BeginsWithDigit-digits (decimal number) digits_some digits_are.0
 
-  pub is_schedule-decimal : is_schedule (decimal number) ≡ false
-  is_schedule-decimal = begins_with_digit.no_schedule
+  pub BeginsNoSchedule-decimal : BeginsNoSchedule (decimal number)
+  BeginsNoSchedule-decimal = begins_with_digit.no_schedule
 
   pub is_comment-decimal : is_comment (decimal number) ≡ false
   is_comment-decimal = begins_with_digit.no_comment

@@ -1,18 +1,12 @@
 -- The two ways to read bytes: those that are too many have a fault, which the front of them tells, and any others
--- are read line by line. Where the commands below a table line are read, what is said is read; and what stops the one stops the other.
-use Rattle.std.proofs.Common.{◌≡◌, ℕ, ◌+◌, ◌<◌, ◌≤◌, ◌==◌, Result, Ok, Err, List, length, take, refl, ◌++◌, ◌∙◌, sym, ap, arith, length-append}
+-- are read line by line.
+use Rattle.std.proofs.Common.{◌≡◌, ℕ, ◌+◌, ◌<◌, ◌≤◌, ◌==◌, Err, List, length, take, refl, ◌++◌, ◌∙◌, sym, ap, arith, length-append}
 use Rattle.std.specs.Prelude.{count_by}
 use Rattle.std.proofs.lemmas.Bool.{lt-ltb, le-ltb}
 use Rattle.std.proofs.lemmas.List.{take-append-le}
-use Rattle.rht_model.specs.declared.history.Call.{Call}
-use Rattle.rht_script.specs.declared.script.TableLine.{TableLine}
-use Rattle.rht_script.specs.declared.script.ScriptFault.{ScriptFault}
-use Rattle.rht_script.specs.declared.script.ReadError.{ReadError}
-use Rattle.rht_script.specs.declared.script.ReadError.TheVariants.{Fault, Memory}
 use Rattle.rht_script.specs.declared.cause.Cause.TheVariants.{ScriptTooLong}
-use Rattle.rht_script.specs.Grammar.{most_bytes, fault_at, Said, said_of, commands_from, said_with, said_from, reading_of}
+use Rattle.rht_script.specs.Grammar.{most_bytes, fault_at, said_from, reading_of}
 use Rattle.rht_script.specs.Spelling.{lines_of}
-use Rattle.rht_script.specs.Reading.{IsReasonFor}
 
 module _ (bytes : List ℕ) where
   pub reading_of-long : most_bytes < length bytes
@@ -36,14 +30,3 @@ reading_of-front bytes front behind is long =
     reading_of-long bytes longer
     ∙ ap (λ (l : List ℕ). Err (fault_at (1 + count_by (λ byte. byte == 10) l) ScriptTooLong)) first
     ∙ sym (reading_of-long front long)
-
-module _ (table : TableLine) (number : ℕ) (lines : List (List ℕ)) where
-  pub said_with-commands : (commands : List (ℕ × Call)) → commands_from number table lines ≡ Ok commands
-      → said_with table number lines ≡ Ok (said_of table commands)
-  said_with-commands commands read = rw read refl
-
-  pub said_with-reason : (reading : Result Said ScriptFault) (error : ReadError)
-      → reading ≡ said_with table number lines
-      → IsReasonFor (commands_from number table lines) error → IsReasonFor reading error
-  said_with-reason reading (Fault fault) is stopped = rw (is, stopped) refl
-  said_with-reason reading Memory is stopped = tt

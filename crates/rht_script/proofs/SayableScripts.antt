@@ -1,6 +1,6 @@
 -- Whatever is read, today's words can say. Each number of an option is read within its limits, so the options are
 -- allowed, and where their first table has room their config is settled. Each command is read with its worker, port and
--- owner within their limits (`ReadCommands`).
+-- owner within their limits, and each line of the schedule with its worker and its number (`ReadLines`).
 use Rattle.std.proofs.Common.{◌≡◌, ℕ, ◌+◌, ◌*◌, Bool, true, false, not, ◌&&◌, cond, Ok, Err, List, [], ◌∷◌, length, codes, refl, ap, arith}
 use Rattle.std.specs.Prelude.{IfOk, nat_le, nat_lt}
 use Rattle.std.specs.List.{AllByRecursion}
@@ -18,6 +18,8 @@ use Rattle.rht_model.specs.declared.history.Call.{Call}
 use Rattle.rht_model.specs.declared.history.Call.TheVariants.{Bind, Find, All as ListAll, Release, Rebind, Walk, Work, Tidy, Count}
 use Rattle.rht_script.specs.declared.script.Script.{Script}
 use Rattle.rht_script.specs.declared.script.TableLine.{TableLine}
+use Rattle.rht_script.specs.declared.script.Sched.{Sched}
+use Rattle.rht_script.specs.declared.script.Sched.TheVariants.{Step, Skip, Finish}
 use Rattle.rht_script.specs.declared.cause.Cause.TheVariants.{NoTableLine, UnknownWord, OptionsDisagree}
 use Rattle.rht_script.specs.declared.options.Setting.{Setting}
 use Rattle.rht_script.specs.declared.options.Setting.TheVariants.{Nodes, Hint, Min, Max, Pages, Workers, Seed, Rewalks, Hashing, Shrink, Auto}
@@ -25,14 +27,15 @@ use Rattle.rht_script.specs.declared.options.Options.{Options}
 use Rattle.rht_script.specs.Spelling.{is_word, is_within, number_of, lines_of, is_skipped}
 use Rattle.rht_script.specs.TableLines.{numbered, kind_of, hash_of, switch_of, auto_of, setting_of, no_options, with_setting, options_from, configured, sizes_agree, has_room, config_of, table_of}
 use Rattle.rht_script.specs.CommandLines.{port_limits, owner_limits, worker_limits, command_of}
-use Rattle.rht_script.specs.Grammar.{most_bytes, at_line, words_at, Said, commands_from, said_from, reading_of}
+use Rattle.rht_script.specs.ScheduleLines.{event_limits}
+use Rattle.rht_script.specs.Grammar.{most_bytes, at_line, words_at, Said, lines_from, said_from, reading_of}
 use Rattle.rht_script.specs.Allowed.{IsAllowed, AreAllowed}
-use Rattle.rht_script.specs.Plain.{IsSayableCall, IsSayableCommand}
+use Rattle.rht_script.specs.Plain.{IsSayableCall, IsSayableCommand, IsSayableSched}
 use Rattle.rht_script.specs.Reading.{said_by}
-use Rattle.rht_script.specs.Sound.{is_single, is_sound_call, is_sound_command, IsCommandCall, IsSoundScript}
+use Rattle.rht_script.specs.Sound.{is_single, is_sound_call, is_sound_command, is_sound_line, IsCommandCall, IsSoundScript}
 use Rattle.rht_script.specs.Laws.{SaysSayable}
 use Rattle.rht_script.proofs.ConfigLemmas.{IsSettled-configured}
-use Rattle.rht_script.proofs.ReadCommands.{IfOk-then, IfOk-after, IfOk-cond, IfOk-at_line, number_within, call_holds, command_holds, reading_holds}
+use Rattle.rht_script.proofs.ReadLines.{IfOk-then, IfOk-after, IfOk-cond, IfOk-at_line, number_within, call_holds, command_holds, AreEvents, HoldsOfSchedule, reading_holds}
 
 -- ---- numbers
 
@@ -161,22 +164,20 @@ table_settled (table ∷ kind ∷ words) =
 
 -- ---- the whole script
 
--- of what is said, what the table line decides
-record IsSayableAbove (said : Said) : Type 0 where
-  config : IsSettled said.config
-  schedule : said.schedule ≡ []
+-- what is said has a config that a table can be opened with, as the table line decides
+abbrev IsSettledSaid : Said → Type 0
+IsSettledSaid said = IsSettled said.config
 
 -- By induction over the lines up to the table line.
-said_sayable : (number : ℕ) (lines : List (List ℕ)) → IfOk (said_from number lines) IsSayableAbove
-said_sayable number [] = tt
-said_sayable number (line ∷ lines) =
-    IfOk-after IsSayableAbove (at_line number (words_at number line)) _ (λ words.
-    IfOk-cond IsSayableAbove (is_skipped words) (said_from (number + 1) lines) _
-    (said_sayable (number + 1) lines)
-    (IfOk-then IsSettledTable IsSayableAbove (at_line number (table_of words)) _
+said_settled : (number : ℕ) (lines : List (List ℕ)) → IfOk (said_from number lines) IsSettledSaid
+said_settled number [] = tt
+said_settled number (line ∷ lines) =
+    IfOk-after IsSettledSaid (at_line number (words_at number line)) _ (λ words.
+    IfOk-cond IsSettledSaid (is_skipped words) (said_from (number + 1) lines) _
+    (said_settled (number + 1) lines)
+    (IfOk-then IsSettledTable IsSettledSaid (at_line number (table_of words)) _
     (IfOk-at_line IsSettledTable number (table_of words) (table_settled words)) (λ table is.
-    IfOk-after IsSayableAbove (commands_from (number + 1) table lines) _ (λ commands.
-    record { config = is; schedule = refl }))))
+    IfOk-after IsSettledSaid (lines_from (number + 1) table lines) _ (λ others. is))))
 
 -- each command is one of a worker, and its call has a verb
 command_sayable : (table : TableLine) (words : List (List ℕ))
@@ -198,19 +199,30 @@ command_sayable table =
       count = tt;
     })
 
+-- each line of the schedule is one of a worker, with a number of events or calls
+sched_sayable : (config : Config) → HoldsOfSchedule config (IsSayableSched config)
+sched_sayable config =
+    let both : (worker number : ℕ) → AreEvents config (worker, number)
+    → IsWithinLimits (worker_limits config) worker × IsWithinLimits event_limits number =
+    λ worker number are. (
+      IsWithinLimits-test (worker_limits config) worker are.0,
+      IsWithinLimits-test event_limits number are.1,
+    ) in
+    record { step = both; skip = both; finish = both }
+
 pub says_sayable : SaysSayable
 unfolding reading_of
 says_sayable bytes said read =
     let lines = lines_of bytes in
-    let above = IfOk-at_ok IsSayableAbove read
-    (IfOk-cond IsSayableAbove (nat_lt most_bytes (length bytes)) _ (said_from 1 lines) tt
-    (said_sayable 1 lines)) in
-    let are = reading_holds IsSayableCommand command_sayable bytes said read in
+    let settled = IfOk-at_ok IsSettledSaid read
+    (IfOk-cond IsSettledSaid (nat_lt most_bytes (length bytes)) _ (said_from 1 lines) tt
+    (said_settled 1 lines)) in
+    let are = reading_holds IsSayableCommand IsSayableSched command_sayable sched_sayable bytes said read in
     record {
-      config = above.config;
-      commands = All-from_recursion (IsSayableCommand said.config) said.commands are.each;
-      few = (let few = are.few in omega arith);
-      schedule = above.schedule;
+      config = settled;
+      commands = All-from_recursion (IsSayableCommand said.config) said.commands are.commands;
+      schedule = All-from_recursion (IsSayableSched said.config) said.schedule are.schedule;
+      few = are.few;
     }
 
 -- ---- sound scripts
@@ -228,16 +240,36 @@ is_sound_call-sayable config Work sayable = refl
 is_sound_call-sayable config Tidy sayable = absurd sayable
 is_sound_call-sayable config Count sayable = refl
 
+-- the test of limits, of what is within them
+is_within-IsWithinLimits : (limits : Limits) (number : ℕ) → IsWithinLimits limits number
+    → is_within limits number ≡ true
+is_within-IsWithinLimits limits number within =
+    and_from (nat_le limits.least number) (nat_le number limits.greatest)
+    (le-leb limits.least number within.0) (le-leb number limits.greatest within.1)
+
+-- so are a worker's number and a number of events or calls together
+both_within : (config : Config) (worker number : ℕ)
+    → IsWithinLimits (worker_limits config) worker × IsWithinLimits event_limits number
+    → (is_within (worker_limits config) worker && is_within event_limits number) ≡ true
+both_within config worker number both =
+    and_from (is_within (worker_limits config) worker) (is_within event_limits number)
+    (is_within-IsWithinLimits (worker_limits config) worker both.0)
+    (is_within-IsWithinLimits event_limits number both.1)
+
 -- so a command that can be said is sound
 is_sound_command-sayable : (config : Config) (command : ℕ × Call) → IsSayableCommand config command
     → is_sound_command config command ≡ true
 is_sound_command-sayable config command sayable =
     let limits = worker_limits config in
-    let within = sayable.0 in
     and_from (is_within limits command.0) (is_sound_call config command.1)
-    (and_from (nat_le limits.least command.0) (nat_le command.0 limits.greatest)
-    (le-leb limits.least command.0 within.0) (le-leb command.0 limits.greatest within.1))
-    (is_sound_call-sayable config command.1 sayable.1)
+    (is_within-IsWithinLimits limits command.0 sayable.0) (is_sound_call-sayable config command.1 sayable.1)
+
+-- and so is a line of the schedule
+is_sound_line-sayable : (config : Config) (sched : Sched) → IsSayableSched config sched
+    → is_sound_line config sched ≡ true
+is_sound_line-sayable config (Step worker number) sayable = both_within config worker number sayable
+is_sound_line-sayable config (Skip worker number) sayable = both_within config worker number sayable
+is_sound_line-sayable config (Finish worker number) sayable = both_within config worker number sayable
 
 -- and a script that the bytes say is sound
 pub IsSoundScript-read : (bytes : List ℕ) (script : Script) → reading_of bytes ≡ Ok (said_by script)
@@ -247,11 +279,13 @@ IsSoundScript-read bytes script read =
     let each = All-weaker (IsSayableCommand script.config)
     (λ command. is_sound_command script.config command ≡ true)
     (is_sound_command-sayable script.config) script.commands.items sayable.commands in
+    let lines = All-weaker (IsSayableSched script.config) (λ sched. is_sound_line script.config sched ≡ true)
+    (is_sound_line-sayable script.config) script.schedule.items sayable.schedule in
     record {
       settled = sayable.config;
       few = (let few = sayable.few in omega (arith, script.commands.ok.0));
       commands = list_all-from_AllPass (is_sound_command script.config) script.commands.items each;
-      schedule = rw sayable.schedule refl;
+      schedule = list_all-from_AllPass (is_sound_line script.config) script.schedule.items lines;
     }
 
 -- ---- what commands ask for
@@ -260,7 +294,7 @@ IsSoundScript-read bytes script read =
 pub commands_asked : (bytes : List ℕ) (said : Said) → reading_of bytes ≡ Ok said
     → AllByRecursion (λ command. IsCommandCall command.1) said.commands
 commands_asked bytes said read =
-    (reading_holds (λ config command. IsCommandCall command.1) (λ table.
+    (reading_holds (λ config command. IsCommandCall command.1) (λ config sched. Unit {0}) (λ table.
     command_holds (λ command. IsCommandCall command.1) IsCommandCall table
     (λ worker call within asked. asked)
     (call_holds table.config.kind IsCommandCall record {
@@ -272,4 +306,9 @@ commands_asked bytes said read =
       work = tt;
       count = tt;
     }))
-    bytes said read).each
+    (λ config. record {
+      step = λ worker number are. tt;
+      skip = λ worker number are. tt;
+      finish = λ worker number are. tt;
+    })
+    bytes said read).commands

@@ -10,29 +10,37 @@ use Rattle.rht_words.specs.declared.config.Config.{Config}
 use Rattle.rht_words.specs.declared.config.Hash.TheVariants.{Low}
 use Rattle.rht_model.specs.declared.history.Call.{Call}
 use Rattle.rht_model.specs.declared.history.Call.TheVariants.{Bind, Find, All, Release, Rebind, Work, Count}
+use Rattle.rht_script.specs.declared.script.Sched.{Sched}
+use Rattle.rht_script.specs.declared.script.Sched.TheVariants.{Step, Skip, Finish}
 use Rattle.rht_script.specs.declared.cause.Cause.{Cause}
 use Rattle.rht_script.specs.declared.cause.Cause.TheVariants.{NoTableLine, UnknownWord, BadNumber, OutOfRange, LineTooLong, WrongKind, OptionsDisagree}
 use Rattle.rht_script.specs.Spelling.{lines_of, words_of, number_of}
 use Rattle.rht_script.specs.TableLines.{setting_of, configured, config_of, table_of}
 use Rattle.rht_script.specs.CommandLines.{bind_of, find_of, all_of, release_of, rebind_of, bare_of, call_of, command_of}
+use Rattle.rht_script.specs.ScheduleLines.{events_of}
+use Rattle.rht_script.specs.ScriptLines.{line_of}
 use Rattle.rht_script.specs.Grammar.{most_in_line, fault_at, reading_of}
 
 -- the definitions that reading a text computes
 whole_reading : Unit {0}
 unfolding reading_of lines_of words_of number_of table_of setting_of config_of configured rounded_up powers
-    command_of call_of bind_of find_of all_of release_of rebind_of bare_of
+    line_of events_of command_of call_of bind_of find_of all_of release_of rebind_of bare_of
 whole_reading = tt
 
 -- each of these texts has its first fault at this line, of this cause
 abbrev HaveFault : ℕ → Cause → List (List ℕ) → Type 0
 HaveFault line cause texts = map reading_of texts ≡ map (λ text. Err (fault_at line cause)) texts
 
--- the text says this config, whether workers run `work` by themselves, and these commands
-abbrev SaysOf : Bool → List ℕ → Config → List (ℕ × Call) → Type 0
-SaysOf auto text config commands =
-    reading_of text ≡ Ok (record { config = config; auto = auto; commands = commands; schedule = [] })
+-- the text says this config, whether workers run `work` by themselves, these commands, and this schedule
+abbrev SaysAll : Bool → List ℕ → Config → List (ℕ × Call) → List Sched → Type 0
+SaysAll auto text config commands schedule =
+    reading_of text ≡ Ok (record { config = config; auto = auto; commands = commands; schedule = schedule })
 
--- they do, where nothing is said of that
+-- it says this, and no schedule
+abbrev SaysOf : Bool → List ℕ → Config → List (ℕ × Call) → Type 0
+SaysOf auto text config commands = SaysAll auto text config commands []
+
+-- workers run `work` by themselves where nothing is said of that
 abbrev Says : List ℕ → Config → List (ℕ × Call) → Type 0
 Says = SaysOf true
 
@@ -78,9 +86,17 @@ unknown_words_of_commands : HaveFault 2 UnknownWord (below_table (
     ∷ codes "1 find 80 100\n" ∷ codes "1 find 80 # who?\n" ∷ codes "1 release 80 100 7\n"
     ∷ codes "1 all\n" ∷ codes "1 all 80 100\n" ∷ codes "1 rebind 80\n" ∷ codes "1 rebind 80 1\n"
     ∷ codes "1 rebind 80 1 2 3\n" ∷ codes "1 count 80\n" ∷ codes "1 work 1\n" ∷ codes "1 work auto\n" ∷ codes "1 walk\n"
-    ∷ codes "step 1 5\n" ∷ codes "skip x\n" ∷ codes "finish\n" ∷ []))
+    ∷ []))
 unfolding whole_reading
 unknown_words_of_commands = refl
+
+-- a word of a schedule line is missing, or is one too many
+unknown_words_of_schedules : HaveFault 2 UnknownWord (below_table (
+    codes "step\n" ∷ codes "skip\n" ∷ codes "finish\n" ∷ codes "step 1\n" ∷ codes "skip 1\n"
+    ∷ codes "finish 1\n" ∷ codes "step 1 5 6\n" ∷ codes "skip 1 5 skip\n"
+    ∷ codes "finish 1 5 # all\n" ∷ []))
+unfolding whole_reading
+unknown_words_of_schedules = refl
 
 -- a word of the table line is no number where one has to stand
 bad_numbers_of_tables : HaveFault 1 BadNumber (
@@ -100,6 +116,14 @@ bad_numbers_of_commands : HaveFault 2 BadNumber (below_table (
     ∷ codes "x count\n" ∷ codes "x work\n" ∷ codes "work\n" ∷ []))
 unfolding whole_reading
 bad_numbers_of_commands = refl
+
+-- a word of a schedule line is none; behind any other first word that is none, too, since that is a command's worker
+bad_numbers_of_schedules : HaveFault 2 BadNumber (below_table (
+    codes "step x 5\n" ∷ codes "skip x 5\n" ∷ codes "finish x 5\n" ∷ codes "step 1 x\n"
+    ∷ codes "skip 1 -5\n" ∷ codes "finish 1 000000000000000000001\n" ∷ codes "Step 1 5\n"
+    ∷ codes "stepped 1 5\n" ∷ codes "jump 1 5\n" ∷ []))
+unfolding whole_reading
+bad_numbers_of_schedules = refl
 
 -- an option's number is below the least or above the greatest
 numbers_out_of_range_of_tables : HaveFault 1 OutOfRange (
@@ -123,6 +147,13 @@ numbers_out_of_range_of_commands : HaveFault 2 OutOfRange (below_table (
     ∷ codes "1 rebind 80 1 4294967296\n" ∷ codes "2 work\n" ∷ []))
 unfolding whole_reading
 numbers_out_of_range_of_commands = refl
+
+-- so is a worker's number in a schedule line, or the other number
+numbers_out_of_range_of_schedules : HaveFault 2 OutOfRange (below_table (
+    codes "step 0 5\n" ∷ codes "skip 2 5\n" ∷ codes "finish 17 5\n" ∷ codes "step 1 0\n"
+    ∷ codes "skip 1 1000001\n" ∷ codes "finish 1 18446744073709551617\n" ∷ []))
+unfolding whole_reading
+numbers_out_of_range_of_schedules = refl
 
 -- where the table line says how many workers there are, the first number out of range is the one behind the last
 workers_out_of_range : HaveFault 2 OutOfRange (
@@ -214,7 +245,7 @@ number_out_of_range_left = refl
 
 -- so it is in a command line, also where a word is missing or one too many: an unknown word before a number
 unknown_word_left_in_command : HaveFault 2 UnknownWord (below_table (
-    codes "1 lookup x\n" ∷ codes "1 lookup 4294967296\n" ∷ codes "step x\n" ∷ []))
+    codes "1 lookup x\n" ∷ codes "1 lookup 4294967296\n" ∷ []))
 unfolding whole_reading
 unknown_word_left_in_command = refl
 
@@ -231,6 +262,18 @@ number_out_of_range_left_in_command : HaveFault 2 OutOfRange (below_table (
     ∷ codes "1 bind 4294967296 x\n" ∷ []))
 unfolding whole_reading
 number_out_of_range_left_in_command = refl
+
+-- and in a schedule line: a bad number before a missing and an extra word, and before a number out of range
+bad_number_left_in_schedule : HaveFault 2 BadNumber (below_table (
+    codes "step x\n" ∷ codes "skip x 0\n" ∷ codes "finish 1 x 6\n" ∷ []))
+unfolding whole_reading
+bad_number_left_in_schedule = refl
+
+-- and a number out of range before a missing and an extra word, and before a bad number
+number_out_of_range_left_in_schedule : HaveFault 2 OutOfRange (below_table (
+    codes "step 0\n" ∷ codes "skip 2 x\n" ∷ codes "finish 1 0 6\n" ∷ []))
+unfolding whole_reading
+number_out_of_range_left_in_schedule = refl
 
 -- that options disagree comes last, behind an unknown word
 unknown_word_before_options : HaveFault 1 UnknownWord (
@@ -375,6 +418,20 @@ most_workers = refl
 one_worker : Says (codes "table single workers 1\n1 find 80\n") plain_config ((1, Find 80) ∷ [])
 unfolding whole_reading
 one_worker = refl
+
+-- the lines of a schedule between commands and behind them, each kept in the order of its lines
+schedules : SaysAll true
+    (codes "table single workers 2\nfinish 2 1\n1 find 80\nstep 01 1000000\n2 count\n\nskip 2 7\nstep 1 1")
+    (record plain_config { callers = 2 })
+    ((1, Find 80) ∷ (2, Count) ∷ [])
+    (Finish 2 1 ∷ Step 1 1000000 ∷ Skip 2 7 ∷ Step 1 1 ∷ [])
+unfolding whole_reading
+schedules = refl
+
+-- a schedule alone
+schedule_alone : SaysAll true (codes "table single\nskip 1 1\n") plain_config [] (Skip 1 1 ∷ [])
+unfolding whole_reading
+schedule_alone = refl
 
 -- a table that shrinks, in which only commands run the work
 shrinking : SaysOf false (codes "table single shrink on work manual\n1 work\n") (record plain_config { shrink = true })

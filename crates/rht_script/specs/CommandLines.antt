@@ -1,5 +1,5 @@
 -- What the words of a command line stand for: a worker, and what that asks. Words are read from left to right.
-use Rattle.std.specs.Prelude.{ℕ, Bool, false, ◌||◌, if◌then◌else◌, Result, Ok, Err, List, [], ◌∷◌, codes}
+use Rattle.std.specs.Prelude.{ℕ, false, if◌then◌else◌, Result, Ok, Err, List, [], ◌∷◌, codes}
 use Rattle.rht_words.specs.declared.config.Config.{Config}
 use Rattle.rht_words.specs.declared.config.Kind.{Kind}
 use Rattle.rht_words.specs.declared.config.Kind.TheVariants.{Single, Listed}
@@ -90,10 +90,6 @@ call_of kind (verb ∷ words) =
     else if is_word verb (codes "count") then bare_of Count words
     else Err UnknownWord
 
--- the word begins a line of a schedule, of which there are none yet
-abbrev pub is_schedule : List ℕ → Bool
-is_schedule word = is_word word (codes "step") || is_word word (codes "skip") || is_word word (codes "finish")
-
 -- the workers are the callers of the table, counted from 1
 abbrev pub worker_limits : Config → Limits
 worker_limits config = record { least = 1; greatest = config.callers }
@@ -101,9 +97,7 @@ worker_limits config = record { least = 1; greatest = config.callers }
 -- the command of a line of these words below this table line: its worker, and what that asks
 unfoldable pub command_of : TableLine → List (List ℕ) → Result (ℕ × Call) Cause
 command_of table [] = Err UnknownWord
-command_of table (worker ∷ words) =
-    if is_schedule worker then Err UnknownWord
-    else do
-      number ← number_of (worker_limits table.config) worker
-      call ← call_of table.config.kind words
-      Ok (number, call)
+command_of table (worker ∷ words) = do
+  number ← number_of (worker_limits table.config) worker
+  call ← call_of table.config.kind words
+  Ok (number, call)

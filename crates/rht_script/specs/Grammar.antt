@@ -1,16 +1,18 @@
 -- Which bytes are a script and what it says, and where other bytes have their first fault.
--- Lines are read from the first to the last: the table line, and then command lines. The first that is wrong is at fault.
+-- Lines are read from the first to the last: the table line, and then commands and lines of the schedule, in any order.
+-- The first that is wrong is at fault.
 use Rattle.std.specs.Prelude.{ℕ, Bool, ◌+◌, ◌==◌, nat_lt, if◌then◌else◌, Result, Ok, Err, List, [], ◌∷◌, length, take, count_by}
 use Rattle.rht_words.specs.declared.config.Config.{Config}
 use Rattle.rht_model.specs.declared.history.Call.{Call}
 use Rattle.rht_script.specs.declared.script.Sched.{Sched}
+use Rattle.rht_script.specs.declared.script.ScriptLine.{ScriptLine}
 use Rattle.rht_script.specs.declared.script.ScriptFault.{ScriptFault}
 use Rattle.rht_script.specs.declared.script.TableLine.{TableLine}
 use Rattle.rht_script.specs.declared.cause.Cause.{Cause}
 use Rattle.rht_script.specs.declared.cause.Cause.TheVariants.{NoTableLine, UnknownWord, BadNumber, OutOfRange, TooManyLines, LineTooLong, WrongKind, OptionsDisagree, ScriptTooLong}
 use Rattle.rht_script.specs.Spelling.{◌>>=◌, lines_of, words_of, is_skipped}
 use Rattle.rht_script.specs.TableLines.{table_of}
-use Rattle.rht_script.specs.CommandLines.{command_of}
+use Rattle.rht_script.specs.ScriptLines.{line_of, commands_among, schedule_among}
 
 -- the greatest number of bytes of a script, of its lines, and of the bytes of a line without its line feed
 abbrev pub most_bytes : ℕ
@@ -58,31 +60,31 @@ pub record Said : Type 0 where
   pub commands : List (ℕ × Call)
   pub schedule : List Sched
 
--- the commands of the lines below the table line, which are counted on from this number
-abbrev pub commands_from : ℕ → TableLine → List (List ℕ) → Result (List (ℕ × Call)) ScriptFault
-commands_from number table [] = Ok []
-commands_from number table (line ∷ lines) = do
+-- what the lines below the table line say, which are counted on from this number
+abbrev pub lines_from : ℕ → TableLine → List (List ℕ) → Result (List ScriptLine) ScriptFault
+lines_from number table [] = Ok []
+lines_from number table (line ∷ lines) = do
   words ← at_line number (words_at number line)
-  if is_skipped words then commands_from (number + 1) table lines
+  if is_skipped words then lines_from (number + 1) table lines
       else do
-        command ← at_line number (command_of table words)
-        commands ← commands_from (number + 1) table lines
-        Ok (command ∷ commands)
+        first ← at_line number (line_of table words)
+        others ← lines_from (number + 1) table lines
+        Ok (first ∷ others)
 
--- a table line and commands say this; no line says a schedule yet
-abbrev pub said_of : TableLine → List (ℕ × Call) → Said
-said_of table commands = record {
+-- a table line and lines below it say this: the commands and the schedule each in the order of their lines
+abbrev pub said_of : TableLine → List ScriptLine → Said
+said_of table lines = record {
   config = table.config;
   auto = table.auto;
-  commands = commands;
-  schedule = [];
+  commands = commands_among lines;
+  schedule = schedule_among lines;
 }
 
--- what is said with this table line, and the commands of these lines
+-- what is said with this table line by these lines below it
 abbrev pub said_with : TableLine → ℕ → List (List ℕ) → Result Said ScriptFault
 said_with table number lines = do
-  commands ← commands_from number table lines
-  Ok (said_of table commands)
+  said ← lines_from number table lines
+  Ok (said_of table said)
 
 -- what is said in these lines, which are counted on from this number: the first that isn't skipped is the table line
 abbrev pub said_from : ℕ → List (List ℕ) → Result Said ScriptFault

@@ -4,6 +4,10 @@ pub mod Grammar
 pub mod TableLines
 -- what the words of a command line stand for
 pub mod CommandLines
+-- what the words of a schedule line stand for
+pub mod ScheduleLines
+-- what the words of any line below the table line stand for
+pub mod ScriptLines
 -- bytes as lines, lines as words, and words as numbers
 pub mod Spelling
 -- which options have numbers within their limits

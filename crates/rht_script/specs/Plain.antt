@@ -1,6 +1,6 @@
--- What today's words can say, and how that is spelled plainly: one table line, one line a command, numbers in decimal,
--- one space between two words, and a line feed behind each line.
-use Rattle.std.specs.Prelude.{◌≡◌, ℕ, ◌<◌, ◌==◌, Bool, false, if◌then◌else◌, All, List, [], ◌∷◌, ◌++◌, length, codes, decimal}
+-- What today's words can say, and how that is spelled plainly: one table line, one line a command, and behind all of them
+-- the schedule's lines, numbers in decimal, one space between two words, and a line feed behind each line.
+use Rattle.std.specs.Prelude.{◌≡◌, ℕ, ◌+◌, ◌<◌, ◌==◌, Bool, false, if◌then◌else◌, All, List, [], ◌∷◌, ◌++◌, length, map, codes, decimal}
 use Rattle.std.specs.List.{flat_map, join_with_byte}
 use Rattle.rht_words.specs.declared.config.Config.{Config}
 use Rattle.rht_words.specs.declared.config.Kind.{Kind}
@@ -11,8 +11,13 @@ use Rattle.rht_words.specs.Limits.{IsWithinLimits}
 use Rattle.rht_words.specs.Settled.{IsSettled}
 use Rattle.rht_model.specs.declared.history.Call.{Call}
 use Rattle.rht_model.specs.declared.history.Call.TheVariants.{Bind, Find, All as ListAll, Release, Rebind, Walk, Work, Tidy, Count}
+use Rattle.rht_script.specs.declared.script.Sched.{Sched}
+use Rattle.rht_script.specs.declared.script.Sched.TheVariants.{Step, Skip, Finish}
+use Rattle.rht_script.specs.declared.script.ScriptLine.{ScriptLine}
+use Rattle.rht_script.specs.declared.script.ScriptLine.TheVariants.{Command, Schedule}
 use Rattle.rht_script.specs.Grammar.{most_lines, Said}
 use Rattle.rht_script.specs.CommandLines.{port_limits, owner_limits, worker_limits}
+use Rattle.rht_script.specs.ScheduleLines.{event_limits}
 
 -- ---- what can be said
 
@@ -37,13 +42,22 @@ abbrev pub IsSayableCommand : Config → ℕ × Call → Type 0
 IsSayableCommand config command =
     IsWithinLimits (worker_limits config) command.0 × IsSayableCall config.kind command.1
 
--- today's words can say this: any config that a table can be opened with, commands that they can say, one line each, whether
--- workers run `work` by themselves, and nothing else
+-- a schedule line can say this: it is one of a worker of the table, with a number of events or calls
+abbrev pub IsSayableSched : Config → Sched → Type 0
+IsSayableSched config (Step worker number) =
+    IsWithinLimits (worker_limits config) worker × IsWithinLimits event_limits number
+IsSayableSched config (Skip worker number) =
+    IsWithinLimits (worker_limits config) worker × IsWithinLimits event_limits number
+IsSayableSched config (Finish worker number) =
+    IsWithinLimits (worker_limits config) worker × IsWithinLimits event_limits number
+
+-- today's words can say this: any config that a table can be opened with, whether workers run `work` by themselves, and
+-- commands and a schedule that lines can say, one line each, of which there are fewer than a script may have
 pub record IsSayable (said : Said) : Type 0 where
   pub config : IsSettled said.config
   pub commands : All (IsSayableCommand said.config) said.commands
-  pub few : length said.commands < most_lines
-  pub schedule : said.schedule ≡ []
+  pub schedule : All (IsSayableSched said.config) said.schedule
+  pub few : length said.commands + length said.schedule < most_lines
 
 -- ---- how it is spelled
 
@@ -96,6 +110,21 @@ call_words Count = codes "count" ∷ []
 abbrev pub command_words : ℕ × Call → List (List ℕ)
 command_words command = decimal command.0 ∷ call_words command.1
 
+-- the words of a line of a schedule
+abbrev pub sched_words : Sched → List (List ℕ)
+sched_words (Step worker number) = codes "step" ∷ decimal worker ∷ decimal number ∷ []
+sched_words (Skip worker number) = codes "skip" ∷ decimal worker ∷ decimal number ∷ []
+sched_words (Finish worker number) = codes "finish" ∷ decimal worker ∷ decimal number ∷ []
+
+-- the words of a line below the table line
+abbrev pub line_words : ScriptLine → List (List ℕ)
+line_words (Command command) = command_words command
+line_words (Schedule sched) = sched_words sched
+
+-- the lines below the table line, in the plain order: all commands, and then the schedule
+abbrev pub plain_order : Said → List ScriptLine
+plain_order said = map Command said.commands ++ map Schedule said.schedule
+
 -- a line of these words
 unfoldable pub plain_line : List (List ℕ) → List ℕ
 plain_line words = join_with_byte 32 words ++ codes "\n"
@@ -103,5 +132,5 @@ plain_line words = join_with_byte 32 words ++ codes "\n"
 -- a script that says this
 unfoldable pub plain_script : Said → List ℕ
 plain_script said =
-    plain_line (table_words said.config said.auto) ++ flat_map (λ command. plain_line (command_words command))
-    said.commands
+    plain_line (table_words said.config said.auto) ++ flat_map (λ line. plain_line (line_words line))
+    (plain_order said)

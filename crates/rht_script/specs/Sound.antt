@@ -4,7 +4,6 @@ use Rattle.std.specs.List.{list_all}
 use Rattle.rht_words.specs.declared.config.Config.{Config}
 use Rattle.rht_words.specs.declared.config.Kind.{Kind}
 use Rattle.rht_words.specs.declared.config.Kind.TheVariants.{Single, Listed}
-use Rattle.rht_words.specs.declared.limits.Limits.{Limits}
 use Rattle.rht_words.specs.Settled.{IsSettled}
 use Rattle.rht_model.specs.declared.history.Call.{Call}
 use Rattle.rht_model.specs.declared.history.Call.TheVariants.{Bind, Find, All, Release, Rebind, Walk, Work, Tidy, Count}
@@ -13,6 +12,7 @@ use Rattle.rht_script.specs.declared.script.Sched.{Sched}
 use Rattle.rht_script.specs.declared.script.Sched.TheVariants.{Step, Skip, Finish}
 use Rattle.rht_script.specs.Grammar.{most_lines}
 use Rattle.rht_script.specs.CommandLines.{worker_limits}
+use Rattle.rht_script.specs.ScheduleLines.{event_limits}
 use Rattle.rht_script.specs.Spelling.{is_within}
 
 -- a port has at most one owner
@@ -43,10 +43,6 @@ IsCommandCall (Walk from limit) = ⊥
 IsCommandCall Work = Unit {0}
 IsCommandCall Tidy = ⊥
 IsCommandCall Count = Unit {0}
-
--- the events of a line of a schedule, and at `finish` the calls that end
-abbrev pub event_limits : Limits
-event_limits = record { least = 1; greatest = 1000000 }
 
 -- the line of a schedule is a worker's, and its number is within its limits
 abbrev pub is_sound_line : Config → Sched → Bool

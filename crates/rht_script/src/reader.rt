@@ -3,12 +3,14 @@
 //! Stands on the cursors of `cursors`, which take a text apart line by line and word by word, and
 //! on the options of a table line. Begin with `read`.
 
-ghost use Rattle.std.specs.Prelude.{◌≡◌, ◌+◌, ◌<◌, ◌≤◌, ◌==◌, Ok, Err, IfOk, IfErr, MatchResult, MatchOption, count_by, length, take, fold};
+ghost use Rattle.std.specs.Prelude.{◌≡◌, ◌+◌, ◌<◌, ◌≤◌, ◌==◌, ◌∷◌, Ok, Err, IfOk, IfErr, MatchResult, MatchOption, count_by, length, take, fold};
 ghost use Rattle.std.specs.List.{AllByRecursion};
-ghost use Rattle.rht_script.specs.Grammar.{fault_at, commands_from, said_with, said_from};
+ghost use Rattle.rht_script.specs.Grammar.{fault_at, said_with, said_from};
 ghost use Rattle.rht_script.specs.TableLines.{no_options, table_of, kind_of, hash_of, switch_of, auto_of, setting_of, options_from};
-ghost use Rattle.rht_script.specs.CommandLines.{command_of, call_of, bind_of, find_of, all_of, release_of, rebind_of, bare_of, is_schedule};
-ghost use Rattle.rht_script.specs.Reading.{IsScript, IsReason, IsReasonFor};
+ghost use Rattle.rht_script.specs.CommandLines.{command_of, call_of, bind_of, find_of, all_of, release_of, rebind_of, bare_of};
+ghost use Rattle.rht_script.specs.ScheduleLines.{events_of};
+ghost use Rattle.rht_script.specs.ScriptLines.{line_of};
+ghost use Rattle.rht_script.specs.Reading.{IsScript, IsReason, IsReasonFor, said_by};
 ghost use Rattle.rht_script.specs.Allowed.{IsAllowed, AreAllowed};
 ghost use Rattle.rht_script.specs.Sound.{IsSoundScript, IsCommandCall};
 ghost use Rattle.rht_script.specs.declared.cause.Cause.TheVariants.{ScriptTooLong};
@@ -21,7 +23,9 @@ mod tests;
 
 use crate::cause::{Cause, at_line};
 use crate::options::{Options, Setting};
-use crate::script::{ReadError, Script, ScriptFault, TableLine, worker_limits};
+use crate::script::{
+    EVENTS, ReadError, Sched, Script, ScriptFault, ScriptLine, TableLine, worker_limits,
+};
 use cursors::{Lines, Words};
 use names::{
     ALL, AUTO, BIND, COUNT, FIND, FINISH, HASH, HINT, LISTED, LOW, MANUAL, MAX, MIN, MIX, NODES,
@@ -30,7 +34,7 @@ use names::{
 };
 use numbers::{OWNER, PORT, number_within};
 use rht_model::Call;
-use rht_words::{Hash, Kind, limits};
+use rht_words::{Config, Hash, Kind, limits};
 use std::alloc::Global;
 
 /// The greatest number of bytes of a script.
@@ -39,7 +43,8 @@ pub const MOST_BYTES: usize = 16_777_216;
 /// Reads the whole input as a script. A fault is the first one: a script that is too long before
 /// all others, then the first line at fault, and in a line the first of its words, from the left.
 ///
-/// Each byte is looked at a few times, and no memory is taken but that of the commands.
+/// Each byte is looked at a few times, and no memory is taken but that of the commands and of the
+/// schedule.
 pub fn read(alloc: Global, bytes: &[u8]) -> Result<Script, ReadError>
     ensures script { IfOk result (IsScript bytes.now) }
     ensures sound { IfOk result IsSoundScript }
@@ -52,12 +57,7 @@ pub fn read(alloc: Global, bytes: &[u8]) -> Result<Script, ReadError>
     }
     let mut lines = Lines::new(bytes);
     let table = table_line(&mut lines)?;
-    Ok(Script {
-        config: table.config,
-        auto: table.auto,
-        commands: commands(alloc, &table, lines)?,
-        schedule: Vec::new(alloc),
-    })
+    script_below(alloc, &table, lines)
 }
 
 /// The fault of too many bytes, at the line of the first byte that is one too many.
@@ -93,26 +93,30 @@ fn table_line(lines: &mut Lines) -> Result<TableLine, ScriptFault>
     Err(Cause::NoTableLine.at(lines.number()))
 }
 
-/// The commands of the lines that are left, each with its worker.
-fn commands(
-    alloc: Global,
-    table: &TableLine,
-    mut lines: Lines,
-) -> Result<Vec<(u32, Call)>, ReadError>
-    ensures commands { IfOk result
-        (λ commands. commands_from lines.entry.number table.now lines.entry.lines ≡ Ok commands.items) }
+/// The script that begins with this table line and goes on with the lines that are left.
+fn script_below(alloc: Global, table: &TableLine, mut lines: Lines) -> Result<Script, ReadError>
+    ensures script { IfOk result
+        (λ script. said_with table.now lines.entry.number lines.entry.lines ≡ Ok (said_by script)) }
     ensures reason { IfErr result
-        (IsReasonFor (commands_from lines.entry.number table.now lines.entry.lines)) }
+        (IsReasonFor (said_with table.now lines.entry.number lines.entry.lines)) }
 {
-    let mut commands = Vec::new(alloc);
+    let mut script = Script {
+        config: table.config,
+        auto: table.auto,
+        commands: Vec::new(alloc),
+        schedule: Vec::new(alloc),
+    };
     while let Some(next) = lines.next() {
         let (number, line) = next?;
         let words = Words::new(line);
         if !words.is_skipped() {
-            commands.push(at_line(number, command(table, words))?)?;
+            match at_line(number, script_line(table, words))? {
+                ScriptLine::Command(command) => script.commands.push(command)?,
+                ScriptLine::Schedule(sched) => script.schedule.push(sched)?,
+            }
         }
     }
-    Ok(commands)
+    Ok(script)
 }
 
 /// What a table line of these words says.
@@ -231,24 +235,45 @@ fn auto(value: &[u8]) -> Result<bool, Cause>
     }
 }
 
-/// The command that the words of a line stand for: its worker, and what that asks.
-#[tactic(auto, unfolding(crate::specs::CommandLines::command_of))]
-fn command(table: &TableLine, mut words: Words) -> Result<(u32, Call), Cause>
-    ensures { result ≡ command_of table.now words.entry }
+/// What the words of a line below the table line say. Any first word that begins no line of the
+/// schedule stands at the place of a command's worker.
+#[tactic(auto, unfolding(crate::specs::ScriptLines::line_of))]
+fn script_line(table: &TableLine, mut words: Words) -> Result<ScriptLine, Cause>
+    ensures { result ≡ line_of table.now words.entry }
 {
-    let worker = words.next().ok_or(Cause::UnknownWord)?;
-    if is_schedule(worker) {
-        return Err(Cause::UnknownWord);
+    let first = words.next().ok_or(Cause::UnknownWord)?;
+    if first == STEP {
+        let (worker, number) = events(&table.config, words)?;
+        Ok(ScriptLine::Schedule(Sched::Step { worker, number }))
+    } else if first == SKIP {
+        let (worker, number) = events(&table.config, words)?;
+        Ok(ScriptLine::Schedule(Sched::Skip { worker, number }))
+    } else if first == FINISH {
+        let (worker, number) = events(&table.config, words)?;
+        Ok(ScriptLine::Schedule(Sched::Finish { worker, number }))
+    } else {
+        Ok(ScriptLine::Command(command(table, first, words)?))
     }
-    let worker = number_within(worker_limits(&table.config), worker)?;
-    Ok((worker, call(table.config.kind, words)?))
 }
 
-/// Whether the word begins a line of a schedule, of which there are none yet.
-fn is_schedule(word: &[u8]) -> bool
-    ensures { result ≡ is_schedule word.now }
+/// The worker and the number of a line of the schedule, which are its other words.
+#[tactic(auto, unfolding(crate::specs::ScheduleLines::events_of))]
+fn events(config: &Config, mut words: Words) -> Result<(u32, u32), Cause>
+    ensures { result ≡ events_of config.now words.entry }
 {
-    word == STEP || word == SKIP || word == FINISH
+    let worker = words.number(worker_limits(config))?;
+    let number = words.number(EVENTS)?;
+    words.end()?;
+    Ok((worker, number))
+}
+
+/// The command of a line that begins with this word: its worker, and what that asks.
+#[tactic(auto, unfolding(crate::specs::CommandLines::command_of))]
+fn command(table: &TableLine, worker: &[u8], words: Words) -> Result<(u32, Call), Cause>
+    ensures { result ≡ command_of table.now (worker.now ∷ words.entry) }
+{
+    let worker = number_within(worker_limits(&table.config), worker)?;
+    Ok((worker, call(table.config.kind, words)?))
 }
 
 /// What a verb asks of a table of this kind with the words behind it.

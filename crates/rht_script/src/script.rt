@@ -31,7 +31,7 @@ pub struct Script {
     pub auto: bool,
     /// The commands in the order of their lines, each with its worker, counted from 1.
     pub commands: Vec<(u32, Call)>,
-    /// The schedule that a replay follows.
+    /// The schedule that a replay follows, in the order of its lines.
     pub schedule: Vec<Sched>,
 }
 
@@ -39,7 +39,7 @@ pub struct Script {
 pub(crate) const MOST_LINES: usize = 1_000_000;
 
 /// The events of a line of a schedule, and at `finish` the calls that end.
-const EVENTS: Limits = Limits {
+pub(crate) const EVENTS: Limits = Limits {
     least: 1,
     greatest: 1_000_000,
 };
@@ -121,6 +121,15 @@ pub enum Sched {
     Skip { worker: u32, number: u32 },
     /// Events of the worker until so many more of its calls have ended.
     Finish { worker: u32, number: u32 },
+}
+
+/// What a line below the table line says.
+#[derive(Clone, Copy, Debug, PartialEq, Eq)]
+pub(crate) enum ScriptLine {
+    /// A command, with its worker.
+    Command((u32, Call)),
+    /// A line of the schedule.
+    Schedule(Sched),
 }
 
 /// The first fault of bytes that are no script.

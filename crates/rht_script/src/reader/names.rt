@@ -78,9 +78,11 @@ pub const REBIND: &[u8] = b"rebind";
 /// The verb that counts the bound ports.
 pub const COUNT: &[u8] = b"count";
 
-/// The first words of the lines of a schedule.
+/// The first word of a schedule line whose events are shown.
 pub const STEP: &[u8] = b"step";
 
+/// The first word of a schedule line whose events aren't shown.
 pub const SKIP: &[u8] = b"skip";
 
+/// The first word of a schedule line that ends calls.
 pub const FINISH: &[u8] = b"finish";

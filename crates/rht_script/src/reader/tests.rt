@@ -140,12 +140,44 @@ const FAULTS: &[(&str, u32, u8)] = &[
     ("table single\n1 count 80\n", 2, 2),
     // A form feed parts no words.
     ("table single\n1 find\u{c}80\n", 2, 2),
-    // There are no lines of a schedule yet, whatever follows their first word.
-    ("table single\nstep 1 5\n", 2, 2),
-    ("table single\nskip x\n", 2, 2),
-    ("table single\nfinish\n", 2, 2),
-    // Numbers of a command line.
+    // Words of a schedule line that are missing, or one too many.
+    ("table single\nstep\n", 2, 2),
+    ("table single\nskip 1\n", 2, 2),
+    ("table single\nfinish", 2, 2),
+    ("table single\nstep 1 5 6\n", 2, 2),
+    ("table single\nskip 1 5 skip 1 5\n", 2, 2),
+    ("table single\nfinish 1 5 # all\n", 2, 2),
+    // Numbers of a schedule line. Any other first word stands at the place of a command's worker.
     ("table single\nstepped 1 5\n", 2, 3),
+    ("table single\nStep 1 5\n", 2, 3),
+    ("table single\njump 1 5\n", 2, 3),
+    ("table single\nstep# 1 5\n", 2, 3),
+    ("table single\nstep x 5\n", 2, 3),
+    ("table single\nskip one 5\n", 2, 3),
+    ("table single\nfinish 1: 5\n", 2, 3),
+    ("table single\nstep 1 x\n", 2, 3),
+    ("table single\nskip 1 -5\n", 2, 3),
+    ("table single\nfinish 1 000000000000000000001\n", 2, 3),
+    ("table single\nstep 0 5\n", 2, 4),
+    ("table single\nskip 2 5\n", 2, 4),
+    ("table single workers 16\nfinish 16 5\nfinish 17 5\n", 3, 4),
+    ("table single\nstep 1 0\n", 2, 4),
+    ("table single\nskip 1 1000001\n", 2, 4),
+    ("table single\nfinish 1 1000000\nfinish 1 1000001\n", 3, 4),
+    // 2^64 + 1.
+    ("table single\nstep 1 18446744073709551617\n", 2, 4),
+    // In a schedule line: the leftmost word first.
+    ("table single\nstep x\n", 2, 3),
+    ("table single\nstep x 0\n", 2, 3),
+    ("table single\nskip 0\n", 2, 4),
+    ("table single\nskip 2 x\n", 2, 4),
+    ("table single\nfinish 1 x 6\n", 2, 3),
+    ("table single\nfinish 1 0 6\n", 2, 4),
+    // A schedule line stands below the table line, and is counted among the lines.
+    ("step 1 5\ntable single\n", 1, 1),
+    ("table single\nstep 1 5\n1 lookup\nskip x\n", 3, 2),
+    ("table single\nstep 1 x\n1 lookup\n", 2, 3),
+    // Numbers of a command line.
     ("table single\nbind 80 100\n", 2, 3),
     ("table single\n-1 find 80\n", 2, 3),
     ("table single\n1: find 80\n", 2, 3),
@@ -421,6 +453,64 @@ fn reads_scripts(rt: HostRuntime) -> Result<(), Fail> {
         assert_eq!(rt; script.config, config, "at {text:?}");
         assert_eq!(rt; script.commands.as_slice(), commands, "at {text:?}");
         assert!(rt; script.auto && script.schedule.is_empty());
+        assert!(rt; script.is_sound(), "at {text:?}");
+    }
+    Ok(())
+}
+
+#[test]
+fn reads_schedules(rt: HostRuntime) -> Result<(), Fail> {
+    let one_step = Sched::Step {
+        worker: 1,
+        number: 1,
+    };
+    let one_skip = Sched::Skip {
+        worker: 1,
+        number: 1,
+    };
+    let one_finish = Sched::Finish {
+        worker: 1,
+        number: 1,
+    };
+    // the input, the number of its commands, and its schedule
+    let scripts: [(&str, usize, &[Sched]); 6] = [
+        ("table single\nstep 1 1\n", 0, &[one_step]),
+        ("table single\nskip 1 1", 0, &[one_skip]),
+        ("table listed\n\tfinish  01 001\r\n", 0, &[one_finish]),
+        // Lines of the schedule keep their order, and so do commands, wherever they stand.
+        (
+            "table single\nfinish 1 1\n1 find 80\nstep 1 1\n# b\n1 count\n1 work\nskip 1 1\n",
+            3,
+            &[one_finish, one_step, one_skip],
+        ),
+        (
+            "table single\n1 find 80\nstep 1 1\nstep 1 1\n",
+            1,
+            &[one_step, one_step],
+        ),
+        (
+            "table single workers 16\nstep 16 1000000\nskip 2 999999\nfinish 3 20\n",
+            0,
+            &[
+                Sched::Step {
+                    worker: 16,
+                    number: 1_000_000,
+                },
+                Sched::Skip {
+                    worker: 2,
+                    number: 999_999,
+                },
+                Sched::Finish {
+                    worker: 3,
+                    number: 20,
+                },
+            ],
+        ),
+    ];
+    for (text, commands, schedule) in scripts {
+        let script = read(rt.alloc(), text.as_bytes())?;
+        assert_eq!(rt; script.commands.len(), commands, "at {text:?}");
+        assert_eq!(rt; script.schedule.as_slice(), schedule, "at {text:?}");
         assert!(rt; script.is_sound(), "at {text:?}");
     }
     Ok(())

@@ -1,11 +1,11 @@
-use Rattle.std.proofs.Common.{Result, Ok, Err, List, sym, ap, ◌∙◌}
-use Rattle.std.proofs.lemmas.Result.{err_from_is_err_and}
-use Rattle.rht_script.specs.declared.script.Sched.{Sched}
+use Rattle.std.proofs.Common.{◌≡◌, Result, Ok, Err, sym, ap, subst, ◌∙◌}
+use Rattle.std.proofs.lemmas.Result.{err_from_is_err_and, IfOk-weaker, IfErr-weaker}
 use Rattle.rht_script.specs.declared.script.ScriptFault.{ScriptFault}
-use Rattle.rht_script.specs.Grammar.{Said, reading_of, said_from, said_of}
+use Rattle.rht_script.specs.Grammar.{Said, reading_of, said_from, said_with}
 use Rattle.rht_script.specs.Cursors.{Unread}
+use Rattle.rht_script.specs.Reading.{said_by, IsScript, IsReason, IsReasonFor}
 use Rattle.rht_script.proofs.SayableScripts.{IsSoundScript-read, commands_asked}
-use Rattle.rht_script.proofs.ReadingLemmas.{reading_of-long, reading_of-lines, said_with-commands, said_with-reason}
+use Rattle.rht_script.proofs.ReadingLemmas.{reading_of-long, reading_of-lines}
 use Rattle.rht_script.proofs.reader.read.Goals as goal
 
 -- what is said in unread lines
@@ -24,29 +24,34 @@ returns-in_err-table-clause-reason c =
     (reading_of-lines c.args.bytes.now c.if-bytes-gt-MOST_BYTES.false
     ∙ sym (ap said_in c.new-lines.ensures) ∙ c.in_err-table.ensures)
 
-pub returns-in_err-commands-clause-reason : goal.returns-in_err-commands-clause-reason
-returns-in_err-commands-clause-reason c =
-    let p = err_from_is_err_and c.from_residual-in_err-commands.result
-    c.from_residual-in_err-commands.ensures.1 in
-    let left = c.table_line.new.lines in
-    let reading =
+-- what is read is what the table line says with the lines below it
+read_below : (c : goal.After-script_below) → reading_of c.args.bytes.now ≡ said_with c.in_ok-table.table
+    c.table_line.new.lines.number c.table_line.new.lines.lines
+read_below c =
     reading_of-lines c.args.bytes.now c.if-bytes-gt-MOST_BYTES.false
-    ∙ sym (ap said_in c.new-lines.ensures) ∙ c.in_ok-table.ensures in
-    rw p.1 (rw p.2 (said_with-reason c.in_ok-table.table left.number left.lines
-    (reading_of c.args.bytes.now) c.in_err-commands.field-0.0 reading c.in_err-commands.ensures.reason))
+    ∙ sym (ap said_in c.new-lines.ensures) ∙ c.in_ok-table.ensures
+
+pub returns-clause-reason : goal.returns-clause-reason
+returns-clause-reason c =
+    let left = c.table_line.new.lines in
+    IfErr-weaker c.script_below.result (IsReasonFor (said_with c.in_ok-table.table left.number left.lines))
+    (IsReason c.args.bytes.now)
+    (λ error reason. subst (λ reading. IsReasonFor reading error) (sym (read_below c)) reason)
+    c.script_below.ensures.reason
 
 pub returns-clause-script : goal.returns-clause-script
 returns-clause-script c =
-    let table = c.in_ok-table.table in
-    let commands = c.in_ok-commands.field-0.items in
     let left = c.table_line.new.lines in
-    reading_of-lines c.args.bytes.now c.if-bytes-gt-MOST_BYTES.false
-    ∙ sym (ap said_in c.new-lines.ensures) ∙ c.in_ok-table.ensures
-    ∙ said_with-commands table left.number left.lines commands c.in_ok-commands.ensures.commands
-    ∙ ap (λ (s : List Sched). Ok (record (said_of table commands) { schedule = s })) (sym c.new.ensures.items)
+    IfOk-weaker c.script_below.result
+    (λ script. said_with c.in_ok-table.table left.number left.lines ≡ Ok (said_by script))
+    (IsScript c.args.bytes.now) (λ script says. read_below c ∙ says) c.script_below.ensures.script
 
 pub returns-clause-sound : goal.returns-clause-sound
-returns-clause-sound c = IsSoundScript-read c.args.bytes.now _ (returns-clause-script c)
+returns-clause-sound c =
+    IfOk-weaker c.script_below.result (IsScript c.args.bytes.now) _ (IsSoundScript-read c.args.bytes.now)
+    (returns-clause-script c)
 
 pub returns-clause-asked : goal.returns-clause-asked
-returns-clause-asked c = commands_asked c.args.bytes.now _ (returns-clause-script c)
+returns-clause-asked c =
+    IfOk-weaker c.script_below.result (IsScript c.args.bytes.now) _
+    (λ script is. commands_asked c.args.bytes.now (said_by script) is) (returns-clause-script c)

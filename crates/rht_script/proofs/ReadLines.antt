@@ -1,6 +1,7 @@
--- What holds of each command that is read: it holds of what a command line asks, and so, by induction over the
--- lines, of all commands of a script; and there are no more commands than a script may have lines.
-use Rattle.std.proofs.Common.{◌≡◌, ℕ, ◌+◌, ◌≤◌, Bool, true, false, not, cond, Result, Ok, Err, List, [], ◌∷◌, length, codes, refl, arith}
+-- What holds of each line below the table line that is read: it holds of what a command line asks and of what a schedule
+-- line says, and so, by induction over the lines, of all commands of a script and of its schedule; and there are no more
+-- of both than a script may have lines.
+use Rattle.std.proofs.Common.{◌≡◌, ℕ, ◌+◌, ◌<◌, ◌≤◌, Bool, true, false, not, cond, Result, Ok, Err, List, [], ◌∷◌, length, codes, refl, arith}
 use Rattle.std.specs.Prelude.{IfOk, nat_lt}
 use Rattle.std.specs.List.{AllByRecursion}
 use Rattle.std.proofs.lemmas.Bool.{ltb-false}
@@ -13,11 +14,17 @@ use Rattle.rht_model.specs.declared.history.Call.{Call}
 use Rattle.rht_model.specs.declared.history.Call.TheVariants.{Bind, Find, All, Release, Rebind, Work, Count}
 use Rattle.rht_script.specs.declared.script.TableLine.{TableLine}
 use Rattle.rht_script.specs.declared.script.ScriptFault.{ScriptFault}
+use Rattle.rht_script.specs.declared.script.Sched.{Sched}
+use Rattle.rht_script.specs.declared.script.Sched.TheVariants.{Step, Skip, Finish}
+use Rattle.rht_script.specs.declared.script.ScriptLine.{ScriptLine}
+use Rattle.rht_script.specs.declared.script.ScriptLine.TheVariants.{Command, Schedule}
 use Rattle.rht_script.specs.declared.cause.Cause.{Cause}
 use Rattle.rht_script.specs.declared.cause.Cause.TheVariants.{BadNumber, OutOfRange, UnknownWord, TooManyLines, LineTooLong}
-use Rattle.rht_script.specs.Grammar.{most_bytes, most_lines, most_in_line, at_line, words_at, commands_from, Said, said_from, reading_of}
+use Rattle.rht_script.specs.Grammar.{most_bytes, most_lines, most_in_line, at_line, words_at, lines_from, Said, said_from, reading_of}
 use Rattle.rht_script.specs.TableLines.{table_of}
-use Rattle.rht_script.specs.CommandLines.{port_limits, owner_limits, worker_limits, number_first, end_of, bind_of, find_of, all_of, release_of, of_single, rebind_of, bare_of, call_of, is_schedule, command_of}
+use Rattle.rht_script.specs.CommandLines.{port_limits, owner_limits, worker_limits, number_first, end_of, bind_of, find_of, all_of, release_of, of_single, rebind_of, bare_of, call_of, command_of}
+use Rattle.rht_script.specs.ScheduleLines.{event_limits, events_of}
+use Rattle.rht_script.specs.ScriptLines.{scheduled, line_of, commands_among, schedule_among}
 use Rattle.rht_script.specs.Spelling.{◌>>=◌, is_word, is_number, value_of, is_within, number_of, lines_of, words_of, is_skipped}
 
 -- ---- what holds of a value holds on the way to it
@@ -172,17 +179,67 @@ module _ (P : ℕ × Call → Type 0) (Q : Call → Type 0) (table : TableLine)
   command_holds [] = tt
   command_holds (worker ∷ words) =
       let limits = worker_limits table.config in
-      IfOk-cond P (is_schedule worker) (Err UnknownWord) _ tt
-      (IfOk-then (λ number. is_within limits number ≡ true) P (number_of limits worker) _
+      IfOk-then (λ number. is_within limits number ≡ true) P (number_of limits worker) _
       (number_within limits worker) (λ number within.
-      IfOk-then Q P (call_of table.config.kind words) _ (each words) (λ call holds. both number call within holds)))
+      IfOk-then Q P (call_of table.config.kind words) _ (each words) (λ call holds. both number call within holds))
 
--- ---- all command lines
+-- ---- a schedule line
 
--- These are commands of lines that are counted on from this number.
-pub record AreCommands (P : ℕ × Call → Type 0) (number : ℕ) (commands : List (ℕ × Call)) : Type 0 where
-  pub each : AllByRecursion P commands
-  pub few : length commands + number ≤ 1000001
+-- the worker and the number of a schedule line are within their limits
+abbrev pub AreEvents : Config → ℕ × ℕ → Type 0
+AreEvents config events =
+    (is_within (worker_limits config) events.0 ≡ true) × (is_within event_limits events.1 ≡ true)
+
+events_within : (config : Config) (words : List (List ℕ)) → IfOk (events_of config words) (AreEvents config)
+unfolding events_of
+events_within config words =
+    let limits = worker_limits config in
+    IfOk-then (λ (read : ℕ × List (List ℕ)). is_within limits read.0 ≡ true) (AreEvents config)
+    (number_first limits words) _ (first_within limits words) (λ worker is_worker.
+    IfOk-then (λ (read : ℕ × List (List ℕ)). is_within event_limits read.0 ≡ true) (AreEvents config)
+    (number_first event_limits worker.1) _ (first_within event_limits worker.1) (λ number is_number.
+    IfOk-after (AreEvents config) (end_of number.1) _ (λ end. (is_worker, is_number))))
+
+-- It holds of each schedule line of a worker of such a table.
+pub record HoldsOfSchedule (config : Config) (Q : Sched → Type 0) : Type 0 where
+  pub step : (worker number : ℕ) → AreEvents config (worker, number) → Q (Step worker number)
+  pub skip : (worker number : ℕ) → AreEvents config (worker, number) → Q (Skip worker number)
+  pub finish : (worker number : ℕ) → AreEvents config (worker, number) → Q (Finish worker number)
+
+-- ---- any line below the table line
+
+-- the first holds of it where it is a command, and the second where it is a line of the schedule
+abbrev pub HoldsOfLine : (ℕ × Call → Type 0) → (Sched → Type 0) → ScriptLine → Type 0
+HoldsOfLine P Q (Command command) = P command
+HoldsOfLine P Q (Schedule sched) = Q sched
+
+module _ (P : ℕ × Call → Type 0) (Q : Sched → Type 0) (table : TableLine)
+    (command : (words : List (List ℕ)) → IfOk (command_of table words) P)
+    (schedule : HoldsOfSchedule table.config Q) where
+  scheduled_holds : (sched : ℕ → ℕ → Sched)
+      → ((worker number : ℕ) → AreEvents table.config (worker, number) → Q (sched worker number))
+      → (words : List (List ℕ)) → IfOk (scheduled sched table.config words) (HoldsOfLine P Q)
+  scheduled_holds sched holds words =
+      IfOk-then (AreEvents table.config) (HoldsOfLine P Q) (events_of table.config words) _
+      (events_within table.config words) (λ events are. holds events.0 events.1 are)
+
+  pub line_holds : (words : List (List ℕ)) → IfOk (line_of table words) (HoldsOfLine P Q)
+  unfolding line_of
+  line_holds [] = tt
+  line_holds (word ∷ words) =
+      IfOk-cond (HoldsOfLine P Q) (is_word word (codes "step")) _ _ (scheduled_holds Step schedule.step words)
+      (IfOk-cond (HoldsOfLine P Q) (is_word word (codes "skip")) _ _ (scheduled_holds Skip schedule.skip words)
+      (IfOk-cond (HoldsOfLine P Q) (is_word word (codes "finish")) _ _
+      (scheduled_holds Finish schedule.finish words)
+      (IfOk-then P (HoldsOfLine P Q) (command_of table (word ∷ words)) _ (command (word ∷ words))
+      (λ asked is. is))))
+
+-- ---- all lines below the table line
+
+-- These are said by lines that are counted on from this number.
+pub record AreLines (P : ScriptLine → Type 0) (number : ℕ) (lines : List ScriptLine) : Type 0 where
+  pub each : AllByRecursion P lines
+  pub few : length lines + number ≤ 1000001
 
 words_few : (number : ℕ) (line : List ℕ) → IfOk (words_at number line) (λ words. number ≤ most_lines)
 words_few number line = by_test (nat_lt most_lines number) refl
@@ -195,61 +252,95 @@ words_few number line = by_test (nat_lt most_lines number) refl
         IfOk-cond (λ words. number ≤ most_lines) (nat_lt most_in_line (length line)) (Err LineTooLong)
         (Ok (words_of line)) tt (ltb-false most_lines number is)
 
-module _ (P : ℕ × Call → Type 0) (table : TableLine)
-    (each : (words : List (List ℕ)) → IfOk (command_of table words) P) where
-  -- By induction over the lines: a line that is skipped has no command, and any other has one more.
-  pub commands_hold : (number : ℕ) (lines : List (List ℕ)) → number ≤ 1000001
-      → IfOk (commands_from number table lines) (AreCommands P number)
-  commands_hold number [] few = record { each = tt; few = omega arith }
-  commands_hold number (line ∷ lines) few =
-      IfOk-then (λ (words : List (List ℕ)). number ≤ most_lines) (AreCommands P number)
+module _ (P : ScriptLine → Type 0) (table : TableLine)
+    (each : (words : List (List ℕ)) → IfOk (line_of table words) P) where
+  -- By induction over the lines: a line that is skipped says nothing, and any other is one more.
+  pub lines_hold : (number : ℕ) (lines : List (List ℕ)) → number ≤ 1000001
+      → IfOk (lines_from number table lines) (AreLines P number)
+  lines_hold number [] few = record { each = tt; few = omega arith }
+  lines_hold number (line ∷ lines) few =
+      IfOk-then (λ (words : List (List ℕ)). number ≤ most_lines) (AreLines P number)
       (at_line number (words_at number line)) _
       (IfOk-at_line (λ words. number ≤ most_lines) number (words_at number line) (words_few number line))
       (λ words here.
-      let behind = commands_hold (number + 1) lines (omega (arith, here)) in
-      IfOk-cond (AreCommands P number) (is_skipped words) (commands_from (number + 1) table lines) _
-      (earlier (commands_from (number + 1) table lines) behind)
-      (IfOk-then P (AreCommands P number) (at_line number (command_of table words)) _
-      (IfOk-at_line P number (command_of table words) (each words)) (λ command holds.
-      IfOk-then (AreCommands P (number + 1)) (AreCommands P number)
-      (commands_from (number + 1) table lines) _ behind (λ commands are.
+      let behind = lines_hold (number + 1) lines (omega (arith, here)) in
+      IfOk-cond (AreLines P number) (is_skipped words) (lines_from (number + 1) table lines) _
+      (earlier (lines_from (number + 1) table lines) behind)
+      (IfOk-then P (AreLines P number) (at_line number (line_of table words)) _
+      (IfOk-at_line P number (line_of table words) (each words)) (λ first holds.
+      IfOk-then (AreLines P (number + 1)) (AreLines P number)
+      (lines_from (number + 1) table lines) _ behind (λ others are.
       record { each = (holds, are.each); few = (let more = are.few in omega arith) }))))
     where
-      earlier : (read : Result (List (ℕ × Call)) ScriptFault) → IfOk read (AreCommands P (number + 1))
-          → IfOk read (AreCommands P number)
-      earlier (Ok commands) are = record { each = are.each; few = (let more = are.few in omega arith) }
+      earlier : (read : Result (List ScriptLine) ScriptFault) → IfOk read (AreLines P (number + 1))
+          → IfOk read (AreLines P number)
+      earlier (Ok others) are = record { each = are.each; few = (let more = are.few in omega arith) }
       earlier (Err fault) are = tt
+
+-- ---- commands and schedule apart
+
+-- each line is a command or a line of the schedule
+length-among : (lines : List ScriptLine)
+    → length (commands_among lines) + length (schedule_among lines) ≡ length lines
+length-among [] = refl
+length-among (Command command ∷ lines) = omega (arith, length-among lines)
+length-among (Schedule sched ∷ lines) = omega (arith, length-among lines)
+
+module _ (P : ℕ × Call → Type 0) (Q : Sched → Type 0) where
+  -- what holds of each line holds of the commands among them, and of the schedule
+  commands_hold : (lines : List ScriptLine) → AllByRecursion (HoldsOfLine P Q) lines
+      → AllByRecursion P (commands_among lines)
+  commands_hold [] each = tt
+  commands_hold (Command command ∷ lines) each = (each.0, commands_hold lines each.1)
+  commands_hold (Schedule sched ∷ lines) each = commands_hold lines each.1
+
+  schedule_holds : (lines : List ScriptLine) → AllByRecursion (HoldsOfLine P Q) lines
+      → AllByRecursion Q (schedule_among lines)
+  schedule_holds [] each = tt
+  schedule_holds (Command command ∷ lines) each = schedule_holds lines each.1
+  schedule_holds (Schedule sched ∷ lines) each = (each.0, schedule_holds lines each.1)
 
 -- ---- a whole script
 
-module _ (P : Config → ℕ × Call → Type 0)
-    (each : (table : TableLine) (words : List (List ℕ))
-    → IfOk (command_of table words) (P table.config)) where
-  -- what is said has such commands, and no more of them than a script may have lines below the table line
-  abbrev AreSaid : Said → Type 0
-  AreSaid said = AreCommands (P said.config) 2 said.commands
+-- What is said has such commands and such a schedule, and no more of both than a script may have lines below the table
+-- line.
+pub record AreSaid (P : Config → ℕ × Call → Type 0) (Q : Config → Sched → Type 0) (said : Said) : Type 0 where
+  pub commands : AllByRecursion (P said.config) said.commands
+  pub schedule : AllByRecursion (Q said.config) said.schedule
+  pub few : length said.commands + length said.schedule < most_lines
 
+module _ (P : Config → ℕ × Call → Type 0) (Q : Config → Sched → Type 0)
+    (command : (table : TableLine) (words : List (List ℕ)) → IfOk (command_of table words) (P table.config))
+    (schedule : (config : Config) → HoldsOfSchedule config (Q config)) where
   -- By induction over the lines up to the table line.
   said_hold : (number : ℕ) (lines : List (List ℕ)) → 1 ≤ number → number ≤ 1000001
-      → IfOk (said_from number lines) AreSaid
+      → IfOk (said_from number lines) (AreSaid P Q)
   said_hold number [] first few = tt
   said_hold number (line ∷ lines) first few =
-      IfOk-then (λ (words : List (List ℕ)). number ≤ most_lines) AreSaid
+      IfOk-then (λ (words : List (List ℕ)). number ≤ most_lines) (AreSaid P Q)
       (at_line number (words_at number line)) _
       (IfOk-at_line (λ words. number ≤ most_lines) number (words_at number line) (words_few number line))
       (λ words here.
-      IfOk-cond AreSaid (is_skipped words) (said_from (number + 1) lines) _
+      IfOk-cond (AreSaid P Q) (is_skipped words) (said_from (number + 1) lines) _
       (said_hold (number + 1) lines (omega arith) (omega (arith, here)))
-      (IfOk-after AreSaid (at_line number (table_of words)) _ (λ table.
-      IfOk-then (AreCommands (P table.config) (number + 1)) AreSaid (commands_from (number + 1) table lines) _
-      (commands_hold (P table.config) table (each table) (number + 1) lines (omega (arith, here)))
-      (λ commands are.
-      record { each = are.each; few = (let more = are.few in omega arith) }))))
+      (IfOk-after (AreSaid P Q) (at_line number (table_of words)) _ (λ table.
+      let Commands = P table.config in
+      let Schedules = Q table.config in
+      IfOk-then (AreLines (HoldsOfLine Commands Schedules) (number + 1)) (AreSaid P Q)
+      (lines_from (number + 1) table lines) _
+      (lines_hold (HoldsOfLine Commands Schedules) table
+      (line_holds Commands Schedules table (command table) (schedule table.config))
+      (number + 1) lines (omega (arith, here)))
+      (λ others are.
+      record {
+        commands = commands_hold Commands Schedules others are.each;
+        schedule = schedule_holds Commands Schedules others are.each;
+        few = (let more = are.few in omega (arith, length-among others));
+      }))))
 
-  pub reading_holds : (bytes : List ℕ) (said : Said) → reading_of bytes ≡ Ok said
-      → AreCommands (P said.config) 2 said.commands
+  pub reading_holds : (bytes : List ℕ) (said : Said) → reading_of bytes ≡ Ok said → AreSaid P Q said
   unfolding reading_of
   reading_holds bytes said read =
-      IfOk-at_ok AreSaid read
-      (IfOk-cond AreSaid (nat_lt most_bytes (length bytes)) _ (said_from 1 (lines_of bytes)) tt
+      IfOk-at_ok (AreSaid P Q) read
+      (IfOk-cond (AreSaid P Q) (nat_lt most_bytes (length bytes)) _ (said_from 1 (lines_of bytes)) tt
       (said_hold 1 (lines_of bytes) (omega arith) (omega arith)))
