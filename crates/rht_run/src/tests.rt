@@ -60,13 +60,16 @@ fn each_call<M: Mix, R: Wait>(rt: &R, table: &Table<M>, pass: &mut Pass<M>) -> [
     ]
 }
 
-/// Closes a table of one pass.
+/// Closes a table of one pass. Where memory is refused it is closed with all that came back.
 fn closed<M: Mix>(alloc: Global, table: Table<M>, pass: Pass<M>) -> Result<Closed, AllocError>
     requires { IsPassOf M.mix_of table pass }
 {
     let mut passes = Vec::new(alloc);
     passes.push(pass)?;
-    Table::close(alloc, table, passes).map_err(|_| AllocError)
+    match Table::close(alloc, table, passes) {
+        Ok(closed) => Ok(closed),
+        Err(back) => Table::close(alloc, back.table, back.passes).map_err(|_| AllocError),
+    }
 }
 
 #[test]
