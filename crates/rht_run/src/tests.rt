@@ -137,6 +137,59 @@ fn a_table_that_has_grown_is_closed(rt: HostRuntime) -> Result<(), Fail> {
     Ok(())
 }
 
+/// Binds sixteen ports of one bucket.
+fn crowd<M: Mix, R: Wait>(rt: &R, table: &Table<M>, pass: &mut Pass<M>)
+    requires pass { IsPassOf M.mix_of table.now pass.old }
+    requires idle { is_idle pass.old.local ≡ true }
+    ensures pass { IsPassOf M.mix_of table.now pass.new }
+    ensures idle { is_idle pass.new.local ≡ true }
+{
+    for i in 0..16u32 {
+        table.bind(rt, pass, 64 * i, 1);
+    }
+}
+
+/// Binds a port of that bucket, trying once and then once more, and then some other ways.
+fn crowded<M: Mix, R: Wait>(rt: &R, table: &Table<M>, pass: &mut Pass<M>) -> [Reply; 5]
+    requires pass { IsPassOf M.mix_of table.now pass.old }
+    requires idle { is_idle pass.old.local ≡ true }
+    ensures pass { IsPassOf M.mix_of table.now pass.new }
+{
+    crowd(rt, table, pass);
+    let first = table.bind_once(rt, pass, 1024, 1);
+    let second = table.bind_once(rt, pass, 1024, 2);
+    let found = table.find(rt, pass, 1024);
+    let absent = table.release(rt, pass, 0, 2);
+    let released = table.release(rt, pass, 0, 1);
+    [first, second, found, absent, released]
+}
+
+#[test]
+fn a_full_chain_takes_a_further_table(rt: HostRuntime) -> Result<(), Fail> {
+    let config = Config { nodes: 32, ..SMALL };
+    assert!(rt; config.is_settled());
+    let (table, passes) = Table::<Low>::open(rt.alloc(), config)?;
+    let mut pass = only(&table, passes).ok_or("a pass")?;
+    // Behind 16 nodes the bind attaches another table of 64, and has to be made again. Then it goes
+    // past the first table's bucket into the new one's. Port 0 is still in the first: it is the last
+    // of its chain.
+    let want = [
+        Reply::Again { table: 1 },
+        Reply::Bound { kick: false },
+        Reply::Found { owner: 2 },
+        Reply::Absent,
+        Reply::Released { kick: false },
+    ];
+    assert_eq!(rt; crowded(&rt, &table, &mut pass), want);
+    let closed = closed(rt.alloc(), table, pass)?;
+    assert_eq!(rt; (closed.size, closed.keys), (64, 16));
+    assert_eq!(rt; closed.bindings.len(), 16);
+    assert_eq!(rt; closed.bindings.port(0), 64);
+    assert_eq!(rt; closed.bindings.port(15), 1024);
+    assert_eq!(rt; closed.bindings.owners(15), [2].as_slice());
+    Ok(())
+}
+
 /// Binds a port by a command.
 fn command<M: Mix, R: Wait>(
     rt: &R,
