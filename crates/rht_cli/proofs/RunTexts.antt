@@ -43,7 +43,7 @@ module _ (config : Config) (auto : Bool) (commands : List (ℕ × Call)) (ending
   has_told : (history : List Entry) × IsTold config commands endings closed history
   has_told =
       by_hash config auto commands endings closed ((history : List Entry) × IsTold config commands endings closed history)
-      (λ M mix run. told M mix config auto commands endings closed run) config.hash served
+      (λ M mix run. let has = told M mix config auto commands endings closed run in (has.0, has.1.told)) config.hash served
 
   -- where the table is roomy for the commands none is refused
   takes_all : IsRoomyFor config commands → AreAllTaken config commands endings closed

@@ -1,5 +1,6 @@
 -- What a run tells that serves the commands of workers, in the words of ports and owners: the history of their replies, what it leaves
--- bound, and where a command may be refused. No word of a table and no event of the run is spoken of.
+-- bound, and where a command may be refused (`IsTold`). There no word of a table and no event of the run is spoken of. That the
+-- same history fits the run is said beside it (`TellsOf`).
 use Rattle.std.specs.Prelude.{◌≡◌, ℕ, ◌+◌, ◌-◌, ◌<◌, ◌≤◌, ◌==◌, if◌then◌else◌, is_some, Bool, List, [], ◌∷◌, ◌++◌, count_by, filter, slice_index_or}
 use Rattle.std.specs.List.{AllByRecursion}
 use Rattle.rht_words.specs.declared.config.Config.{Config}
@@ -15,6 +16,8 @@ use Rattle.rht_model.specs.Histories.{IsLegal, bindings_left}
 use Rattle.rht_model.specs.Listing.{Lists}
 use Rattle.rht_core.specs.Alone.{entry_done}
 use Rattle.rht_core.specs.NodesUsed.{needs_node}
+use Rattle.rht_core.specs.Numbered.{Numbered, history_of}
+use Rattle.rht_core.specs.RunHistories.{Fits}
 use Rattle.rht_core.specs.Serving.{calls_of, IsServedRun}
 use Rattle.rht_core.specs.StandsFor.{AreBound}
 
@@ -70,10 +73,21 @@ pub record IsTold (config : Config) (commands : List (ℕ × Call)) (endings : L
   pub full : (caller count : ℕ)
       → AllByRecursion (λ ending. ending.answer.reply ≡ TooBig count → WasFull config history count) (endings_by caller endings)
 
+-- The history tells what the commands of this run were answered, and fits the run: its entries have numbers of events that never
+-- fall, each between its call's beginning and last operation, and after each event the entries so far leave what the words stand for.
+pub record TellsOf {M : Type 0} {mix : ℕ → ℕ → ℕ → ℕ} {config : Config} {auto : Bool} {commands : List (ℕ × Call)}
+    {endings : List (List Ending)} {closed : Closed} (served : IsServedRun M mix config auto commands endings closed)
+    (history : List Entry) : Type 0 where
+  pub told : IsTold config commands endings closed history
+  -- its entries, each with its number
+  pub numbered : List Numbered
+  pub without_numbers : history ≡ history_of numbered
+  pub fits : Fits M mix served.env served.events numbered
+
 module _ (M : Type 0) (mix : ℕ → ℕ → ℕ → ℕ) where
-  -- of every run that serves commands there is a history that tells so
+  -- of every run that serves commands there is a history that tells of it
   abbrev pub HasToldHistory : Type 0
   HasToldHistory =
       (config : Config) (auto : Bool) (commands : List (ℕ × Call)) (endings : List (List Ending)) (closed : Closed)
-      → IsServedRun M mix config auto commands endings closed
-      → (history : List Entry) × IsTold config commands endings closed history
+      (served : IsServedRun M mix config auto commands endings closed)
+      → (history : List Entry) × TellsOf served history

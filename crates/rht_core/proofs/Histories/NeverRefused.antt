@@ -59,7 +59,6 @@ use Rattle.rht_core.proofs.Tracing.CallsOfFronts.{calls-later}
 use Rattle.rht_core.proofs.Tracing.RepliesInRuns.{replies}
 use Rattle.rht_core.proofs.Histories.CallEnds.{AreEnded}
 use Rattle.rht_core.proofs.Histories.AloneLaw.{left-behind}
-use Rattle.rht_core.proofs.Histories.FittingRuns.{fits}
 use Rattle.rht_core.proofs.Histories.ToldEntries.{command_first, AllByRecursion-in_map, split_at}
 use Rattle.rht_core.proofs.Histories.ToldHistories.{AreBound-Agree, IsServed, serving, ended, order_is, no_call_there, told}
 use Rattle.rht_core.proofs.Histories.AnsweredInOrder.{IsRefusedForNode, IsRefusedForNode-reply, entries_told-replies, entries_told-caller, calls_in, bindings_left-first, after-told, answered_in_order, entries_of-all, not_refused, IsTakenBefore, answers-below}
@@ -345,7 +344,7 @@ pub roomy_takes_all : (M : Type 0) (mix : ℕ → ℕ → ℕ → ℕ) → Roomy
 roomy_takes_all M mix config auto commands endings closed served roomy =
     let env = served.env in
     let same = served.config_same in
-    let (history, is_told) = told M mix config auto commands endings closed served in
+    let (history, tells) = told M mix config auto commands endings closed served in
     subst (λ (k : Config). AreAllTaken k commands endings closed) same
     (all_taken M mix env auto commands endings served.events
     (subst (λ (k : Config). IsAdmitted k.kind served.events) (sym same) served.admitted)
@@ -353,7 +352,7 @@ roomy_takes_all M mix config auto commands endings closed served roomy =
     (λ c low. served.each c (subst (λ (k : Config). c < k.callers) same low))
     closed served.closed_is
     (subst (λ (k : Config). IsRoomyFor k commands) (sym same) roomy)
-    (found-nodes config commands endings closed history roomy.nodes is_told))
+    (found-nodes config commands endings closed history roomy.nodes tells.told))
 
 -- the commands of the one worker alone
 abbrev only_first : List Call → List (ℕ × Call)
@@ -380,19 +379,18 @@ one_worker_only : (M : Type 0) (mix : ℕ → ℕ → ℕ → ℕ) (config : Con
 one_worker_only M mix config auto commands endings closed served small enough =
     let env = served.env in
     let same = served.config_same in
-    let (history, is_told) = told M mix config auto commands endings closed served in
+    let (history, tells) = told M mix config auto commands endings closed served in
     let admitted = subst (λ (k : Config). IsAdmitted k.kind served.events) (sym same) served.admitted in
-    let (fitting_history, fitting) = fits M mix env served.events admitted in
     subst (λ (k : Config). AreAsModel k.kind (calls_of 1 commands) (endings_by 0 endings) closed) same
     (as_model M mix env auto commands endings served.events admitted
     (served.workers ∙ ap (λ (k : Config). k.callers) (sym same))
     (λ c low. served.each c (subst (λ (k : Config). c < k.callers) same low))
     (subst (λ (k : Config). IsSmallFor k (calls_of 1 commands)) (sym same) small)
-    (found-nodes config commands endings closed history enough is_told 0)
-    fitting_history fitting closed
+    (found-nodes config commands endings closed history enough tells.told 0)
+    tells.numbered tells.fits closed
     (subst (λ (k : Config). Lists closed.bindings.pairs (bindings_left k.kind unbound (entries_told 0 (calls_of 1 commands) (endings_by 0 endings))))
     (sym same)
-    (subst (λ es. Lists closed.bindings.pairs (bindings_left config.kind unbound es)) (is_told.in_order small.one) is_told.leaves)))
+    (subst (λ es. Lists closed.bindings.pairs (bindings_left config.kind unbound es)) (tells.told.in_order small.one) tells.told.leaves)))
 
 pub one_worker_as_model : (M : Type 0) (mix : ℕ → ℕ → ℕ → ℕ) → OneWorkerAsModel M mix
 one_worker_as_model M mix config auto commands endings closed served small =

@@ -1,5 +1,5 @@
--- A run that serves the commands of workers has a history that tells what they were answered: one that fits it. At its end nobody is in
--- a call, so each caller's entries are those of its finished calls about bindings, which are its commands'; and all entries
+-- A run that serves the commands of workers has a history that tells what they were answered: each one that fits it does. At its end
+-- nobody is in a call, so each caller's entries are those of its finished calls about bindings, which are its commands'; and all entries
 -- together leave what the last words stand for.
 -- Where a command was answered that the table is full, the entries up to the load of the count leave the ports that were bound then,
 -- and each other worker was in the middle of at most one call.
@@ -376,32 +376,39 @@ module _ (M : Type 0) (mix : ℕ → ℕ → ℕ → ℕ) (env : Env) (auto : Bo
 
   -- ---- all of it
 
-  told_of : (closed : Closed) → IsClosedOf env.geometry w.core.words closed
-      → (history : List Entry) × IsTold env.config commands endings closed history
-  told_of closed is_closed =
-      let (history, fitting) = fits M mix env events admitted in (
-        history_of history,
-        record {
-          legal = fitting.legal;
-          entries = entries_are history fitting;
-          in_order = order_is history fitting;
-          leaves = record {
-            rising = is_closed.bound.rising;
-            bound = is_closed.bound.bound;
-            agree = λ port. is_closed.bound.agree port ∙ sym (leaves_bound history fitting port);
-          };
-          no_node = no_node_told;
-          full = full_told history fitting;
-        },
-      )
+  -- a history that fits the run tells what the commands were answered
+  told_of : (history : List Numbered) → Fits M mix env events history
+      → (closed : Closed) → IsClosedOf env.geometry w.core.words closed
+      → IsTold env.config commands endings closed (history_of history)
+  told_of history fitting closed is_closed = record {
+    legal = fitting.legal;
+    entries = entries_are history fitting;
+    in_order = order_is history fitting;
+    leaves = record {
+      rising = is_closed.bound.rising;
+      bound = is_closed.bound.bound;
+      agree = λ port. is_closed.bound.agree port ∙ sym (leaves_bound history fitting port);
+    };
+    no_node = no_node_told;
+    full = full_told history fitting;
+  }
 
 pub told : (M : Type 0) (mix : ℕ → ℕ → ℕ → ℕ) → HasToldHistory M mix
 told M mix config auto commands endings closed served =
     let env = served.env in
     let same = served.config_same in
-    subst (λ (k : Config). (history : List Entry) × IsTold k commands endings closed history) same
-    (told_of M mix env auto commands endings served.events
-    (subst (λ (k : Config). IsAdmitted k.kind served.events) (sym same) served.admitted)
-    (served.workers ∙ ap (λ (k : Config). k.callers) (sym same))
-    (λ c low. served.each c (subst (λ (k : Config). c < k.callers) same low))
-    closed served.closed_is)
+    let admitted = subst (λ (k : Config). IsAdmitted k.kind served.events) (sym same) served.admitted in
+    let (history, fitting) = fits M mix env served.events admitted in (
+      history_of history,
+      record {
+        told =
+            subst (λ (k : Config). IsTold k commands endings closed (history_of history)) same
+            (told_of M mix env auto commands endings served.events admitted
+            (served.workers ∙ ap (λ (k : Config). k.callers) (sym same))
+            (λ c low. served.each c (subst (λ (k : Config). c < k.callers) same low))
+            history fitting closed served.closed_is);
+        numbered = history;
+        without_numbers = refl;
+        fits = fitting;
+      },
+    )
