@@ -214,10 +214,10 @@ module _ (M : Type 0) (mix : ℕ → ℕ → ℕ → ℕ) where
   CountCause env events c past Idle = ⊥
   CountCause env events c past (Clear returned) = ⊥
 
-  -- why a bind ended with this reply
+  -- why a bind ended with this reply; in a table of lists none ends with `Exists`
   abbrev pub BindCause : Env → List Event → ℕ → Past → Reply → Type 0
   BindCause env events c past (Bound kick) = KicksRightly env kick past.steps
-  BindCause env events c past (Exists owner) = Unit {0}
+  BindCause env events c past (Exists owner) = env.config.kind ≡ Single
   BindCause env events c past NoNode = SawNoNode env past
   BindCause env events c past (TooBig count) = Any (SawFull env events c count) past.steps
   BindCause env events c past (Again table) = HasFollowed M mix env events c table past.steps

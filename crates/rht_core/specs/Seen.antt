@@ -60,10 +60,12 @@ module _ (M : Type 0) (mix : ℕ → ℕ → ℕ → ℕ) where
   abbrev pub words_before : Env → List Event → ℕ → List ℕ
   words_before env events index = (run_of {M = M} mix env (take index events)).core.words
 
-  -- at the event of this operation, the ports bound were at most so many, and with the other callers in mid-call at least
+  -- At the event of this operation just so many ports were bound, and no more. They are at most the count, and with the other
+  -- callers in mid-call at least that.
   pub record CountedAt (env : Env) (events : List Event) (c count : ℕ) (did : Did) : Type 0 where
     pub bound : ℕ
-    pub are_bound : AreBound (stands_for env.geometry (run_of {M = M} mix env (take did.index events)).core.words) bound
+    pub are_bound : AreBound (stands_for env.geometry (words_before env events did.index)) bound
+    pub most : (more : ℕ) → AreBound (stands_for env.geometry (words_before env events did.index)) more → more ≤ bound
     pub few : bound ≤ count
     pub enough : count ≤ bound + others_in_call (run_of {M = M} mix env (take did.index events)).core c
 

@@ -98,8 +98,8 @@ pub fn taken_alone<M: Mix>()
 /// A bind or a rebind that was answered `NoNode` found the bit of each node clear, each at some event of
 /// its own. A reading that was answered `Counted` loaded that count, and there the ports bound were at
 /// most so many, and with the other callers in mid-call at least. The same is so of a bind that was
-/// answered `TooBig`, and the count is as many ports as the table may hold or more. The kick of a `Bound`
-/// or a `Released` is as `kicks` says.
+/// answered `TooBig`, and the count is as many ports as the table may hold or more. A bind was answered
+/// `Exists` only in a table of one owner each. The kick of a `Bound` or a `Released` is as `kicks` says.
 ///
 /// `Again`, `Busy` and `NoTable` of a bind have as their cause first that the last table that it walked is
 /// full. It came to that table from the current one on along the futures, and counted 16 nodes or more in
@@ -118,10 +118,10 @@ pub fn taken_alone<M: Mix>()
 /// loaded its future; there is more to do exactly where it found one, or attached no table of the size
 /// that was due.
 ///
-/// `Exists` of a bind, `Found` and `Missing` of a look-up, `Listed` of a listing, `Absent` of a release,
-/// `Rebound` and `Absent` of a rebind have nothing to show here. No other reply of these calls comes,
-/// and a call of which there is no machine never ends. It doesn't say that all nodes were taken at one
-/// event, or that exactly so many ports were bound, or in which table a bind's node was linked.
+/// `Found` and `Missing` of a look-up, `Listed` of a listing, `Absent` of a release, `Rebound` and
+/// `Absent` of a rebind have nothing to show here. No other reply of these calls comes, and a call of
+/// which there is no machine never ends. It doesn't say that all nodes were taken at one event, or that
+/// exactly so many ports were bound, or in which table a bind's node was linked.
 pub fn causes<M: Mix>()
     ensures { Causes M M.mix_of }
 {}

@@ -77,7 +77,7 @@ impl<M: Mix> Table<M> {
     ///
     /// `Bound` comes with a kick exactly where this call attached a table, or, behind the last table that
     /// it walked, raised the count of ports and by this has that table more ports than three quarters of
-    /// its buckets, and may grow. `Exists` has nothing further to show.
+    /// its buckets, and may grow. `Exists` comes only in a table of one owner each.
     ///
     /// It is refused as `NoNode` where it found the bit of each node clear, each at some operation of its
     /// own; and as `TooBig` where it loaded that count, which is as many ports as the table may hold or

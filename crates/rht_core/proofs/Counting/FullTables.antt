@@ -53,7 +53,7 @@ use Rattle.rht_core.proofs.Events.InvariantRuns.{has_inv}
 use Rattle.rht_move.specs.WorkHeld.{held_of_work}
 use Rattle.rht_move.specs.declared.work.WorkAt.{WorkAt}
 use Rattle.rht_move.specs.declared.work.WorkAt.TheVariants as work_at
-use Rattle.rht_core.proofs.Counting.CountedPorts.{firsts-AreBound}
+use Rattle.rht_core.proofs.Counting.CountedPorts.{firsts-AreAllBound}
 
 -- what holds of each of a list holds of the first ones
 pub taken : {X : Type 0} (P : X → Type 0) (n : ℕ) (xs : List X) → AllByRecursion P xs
@@ -253,7 +253,8 @@ module _ (M : Type 0) (mix : ℕ → ℕ → ℕ → ℕ) (env : Env) where
       let counted = has.inv.whole.counted in
       record {
         bound = firsts env mix G;
-        are_bound = firsts-AreBound env mix core.words G has.inv.whole;
+        are_bound = (firsts-AreAllBound env mix core.words G has.inv.whole).are;
+        most = (firsts-AreAllBound env mix core.words G has.inv.whole).most;
         few = omega arith;
         enough = omega arith;
       }

@@ -168,7 +168,7 @@ module _ (env : Env) (words_at : ℕ → List ℕ) where
   SawFor NoNode steps = SawAllBelow env.geometry env.geometry.nodes (map performed_of steps)
   SawFor (TooBig count) steps = Any (LoadedFull count) steps
   SawFor (Bound kick) steps = Raised kick steps
-  SawFor (Exists owner) steps = Unit {0}
+  SawFor (Exists owner) steps = env.config.kind ≡ Single
   SawFor (Again table) steps = FollowedSeen env words_at table steps
   SawFor (Busy root last) steps = BusySeen env words_at root last steps
   SawFor (NoTable size) steps = NoTableSeen env words_at size steps
@@ -809,7 +809,7 @@ module _ (env : Env) (words_at : ℕ → List ℕ) where
         (CountedNext env.geometry words_at after) steps did (probe_loads env.geometry did probe.at within does.planned)
         (λ behind counted. probe-counted env mix words_at does.caller port does.words does.ghost does.whole probe.geometry
         probe.key probe.at behind did within does.knows.knowing.means.bucket does.planned now counted) saw)
-    bind-saw (at.FoundOwner claimed found) steps did does now saw so unraised untried = tt
+    bind-saw (at.FoundOwner claimed found) steps did does now saw so unraised untried = does.knows.fits
     bind-saw (at.ListLink list) steps did does now saw so unraised untried =
         Walked-push env.geometry list.claimed.table list.claimed.shape steps did
         (aside env.geometry did _ does.planned (λ place load. cc) (λ place value adds. cc)) saw
