@@ -1,19 +1,21 @@
 -- The command forms: which words they are, what their input is, and what text they print.
--- What a status means rests on the three relations here and on nothing else of a form.
-use Rattle.std.specs.Prelude.{◌≡◌, ℕ, if◌then◌else◌, Option, None, Some, Ok, List, [], ◌∷◌, codes}
-use Rattle.std.specs.Io.KnownBytes.{IsAtEnd, Consumes}
+-- What a status means rests on the relations here and on nothing else of a form.
+use Rattle.std.specs.Prelude.{◌≡◌, ℕ, if◌then◌else◌, Option, None, Some, List, [], ◌∷◌, codes}
 use Rattle.std.specs.Str.{bytes_eq}
 use Rattle.rht_script.specs.declared.script.ScriptFault.{ScriptFault}
-use Rattle.rht_script.specs.Grammar.{Said, reading_of}
-use Rattle.rht_script.specs.Reading.{FirstFault}
+use Rattle.rht_script.specs.Grammar.{Said}
 use Rattle.rht_cli.specs.declared.form.Form.{Form}
-use Rattle.rht_cli.specs.declared.form.Form.TheVariants.{Run}
-use Rattle.rht_cli.specs.Input.{IsRead}
+use Rattle.rht_cli.specs.declared.form.Form.TheVariants.{Run, Replay}
+use Rattle.rht_cli.specs.Input.{IsScriptRead, IsNoScript}
 use Rattle.rht_cli.specs.RunText.{IsRunText}
+use Rattle.rht_cli.specs.ReplayText.{IsReplayText}
 
 -- the form that a single word is
 abbrev pub form_of_word : List ℕ → Option Form
-form_of_word word = if bytes_eq word (codes "run") then Some Run else None
+form_of_word word =
+    if bytes_eq word (codes "run") then Some Run
+    else if bytes_eq word (codes "replay") then Some Replay
+    else None
 
 -- the form that these words are
 abbrev pub form_of : List (List ℕ) → Option Form
@@ -27,27 +29,22 @@ pub record HasForm (words : List (List ℕ)) (Holds : Form → Type 0) : Type 0 
   pub named : form_of words ≡ Some form
   pub holds : Holds form
 
--- The input was read to its end and is a script, which says this.
-pub record IsScriptRead (left left_after : Option (List ℕ)) (said : Said) : Type 0 where
-  pub bytes : List ℕ
-  pub taken : Consumes left left_after bytes
-  pub to_end : IsAtEnd left_after
-  pub script : reading_of bytes ≡ Ok said
-
--- The whole input was read, or one byte more than a script can have, and this is its first fault.
-pub record IsNoScript (left left_after : Option (List ℕ)) (fault : ScriptFault) : Type 0 where
-  pub bytes : List ℕ
-  pub read : IsRead left left_after bytes
-  pub first : FirstFault bytes fault
+-- the form reads a script
+abbrev pub ReadsScript : Form → Type 0
+ReadsScript Run = Unit {0}
+ReadsScript Replay = Unit {0}
 
 -- what reading this form's input means, and that the input says this
 unfoldable pub IsInputOf : Form → Option (List ℕ) → Option (List ℕ) → Said → Type 0
 IsInputOf Run left left_after said = IsScriptRead left left_after said
+IsInputOf Replay left left_after said = IsScriptRead left left_after said
 
 -- what it means that this form's input was read and is at fault
 unfoldable pub IsFaultOf : Form → Option (List ℕ) → Option (List ℕ) → ScriptFault → Type 0
 IsFaultOf Run left left_after fault = IsNoScript left left_after fault
+IsFaultOf Replay left left_after fault = IsNoScript left left_after fault
 
 -- the text is one that this form prints where its input says this
 unfoldable pub IsTextOf : Form → Said → List ℕ → Type 0
 IsTextOf Run said text = IsRunText said text
+IsTextOf Replay said text = IsReplayText said text

@@ -8,6 +8,8 @@ ghost use Rattle.rht_cli.specs.Forms.{form_of, form_of_word};
 pub enum Form {
     /// `run`: reads a script, and prints what its commands are answered and the last bindings.
     Run,
+    /// `replay`: reads a script, and prints what its schedule makes of its commands, event by event.
+    Replay,
 }
 
 impl Form {
@@ -26,5 +28,11 @@ impl Form {
 fn form_of_word(word: &str) -> Option<Form>
     ensures { result ≡ form_of_word word.now }
 {
-    if word == "run" { Some(Form::Run) } else { None }
+    if word == "run" {
+        Some(Form::Run)
+    } else if word == "replay" {
+        Some(Form::Replay)
+    } else {
+        None
+    }
 }

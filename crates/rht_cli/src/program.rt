@@ -1,7 +1,7 @@
 //! The top call: the program from bytes to bytes.
 //!
-//! Stands on the forms, the reader of the input, the script's reader and writer, the registry whose workers
-//! do a script's commands on a table, the closing of that table, and the endings. Begin with the clauses of
+//! Stands on the forms, the reader of the input, the script's writer, the registry whose workers do a
+//! script's commands on a table or which replays it, the closing of that table, and the endings. Begin with the clauses of
 //! `run`: they say what each status means.
 
 ghost use Rattle.std.specs.Prelude.{◌≡◌, ◌≢◌, ◌≤◌, ◌↔◌, ◌⊎◌, None, Some, Option, List, ℕ, string_bytes, map, IfOk};
@@ -15,20 +15,21 @@ ghost use Rattle.rht_script.specs.Sound.{IsSoundScript, IsCommandCall};
 ghost use Rattle.rht_script.specs.Text.{fault_line};
 ghost use Rattle.rht_registry.specs.Outcomes.{IsBuiltCommand};
 ghost use Rattle.rht_cli.specs.declared.form.Form.{Form};
-ghost use Rattle.rht_cli.specs.declared.form.Form.TheVariants.{Run};
-ghost use Rattle.rht_cli.specs.Forms.{form_of, HasForm, IsInputOf, IsFaultOf};
+ghost use Rattle.rht_cli.specs.declared.form.Form.TheVariants.{Run, Replay};
+ghost use Rattle.rht_cli.specs.Forms.{form_of, HasForm, ReadsScript, IsInputOf, IsFaultOf};
 ghost use Rattle.rht_cli.specs.RunText.{IsServedBy};
-ghost use Rattle.rht_cli.specs.Endings.{IsDone, IsCutShort, Serves, served_by, ending_of, status_line};
+ghost use Rattle.rht_cli.specs.ReplayText.{IsReplayedBy};
+ghost use Rattle.rht_cli.specs.Endings.{IsDone, IsCutShort, Serves, served_by, replayed_by, ending_of, status_line};
 
 use crate::ending::{Ending, Failure};
 use crate::form::Form;
-use crate::input::read_all;
+use crate::input::read_script;
 use rht_io::{Failed, Gate, Sink, Source};
 use rht_model::{Closed, Replies};
 use rht_policy::{Lookup3, Low, Mix};
-use rht_registry::run_workers;
+use rht_registry::{ReplayError, replay, run_workers};
 use rht_run::Table;
-use rht_script::{Script, read, write_run};
+use rht_script::{Script, write_run};
 use rht_words::Hash;
 use std::alloc::{AllocError, Global};
 use std::sync::Wait;
@@ -63,8 +64,9 @@ pub fn run<R: Threads + Wait + Sync, S: Source, O: Sink, E: Sink, G: Gate + Sync
         × PutsLine (E.held err.old) (E.held err.new) (E.faults err.old) (E.faults err.new) (fault_line fault)
         × (out.new ≡ out.old) }
 
-    // 3: the source had a fault. Nothing was written.
-    ensures unread { result ≡ 3 → Rose (S.faults source.old) (S.faults source.new) × (out.new ≡ out.old) }
+    // 3: the form reads a script, and the source had a fault. Nothing was written.
+    ensures unread { result ≡ 3 → Rose (S.faults source.old) (S.faults source.new) × (out.new ≡ out.old)
+        × HasForm (map string_bytes words.now.items) ReadsScript }
 
     // 4: the sink had a fault. A prefix of the form's text was written.
     ensures unwritten { result ≡ 4 → Rose (O.faults out.old) (O.faults out.new)
@@ -126,6 +128,7 @@ fn serve<R: Threads + Wait + Sync, S: Source, O: Sink, G: Gate + Sync>(
 {
     match form {
         Form::Run => serve_run(rt, alloc, source, out, gate),
+        Form::Replay => serve_replay(alloc, source, out),
     }
 }
 
@@ -139,10 +142,32 @@ fn serve_run<R: Threads + Wait + Sync, S: Source, O: Sink, G: Gate + Sync>(
 ) -> Result<(), Failure>
     ensures { Serves S.left S.faults O.held O.faults Run source.old source.new out.old out.new result }
 {
-    let bytes = read_all(alloc, source)?;
-    let script = read(alloc, &bytes)?;
+    let script = read_script(alloc, source)?;
     let (replies, closed) = run_hashed(rt, alloc, &script, gate)?;
     served_by(write_run(out, &replies, &closed))
+}
+
+/// Reads a script, and replays it.
+fn serve_replay<S: Source, O: Sink>(
+    alloc: Global,
+    source: &mut S,
+    out: &mut O,
+) -> Result<(), Failure>
+    ensures { Serves S.left S.faults O.held O.faults Replay source.old source.new out.old out.new result }
+{
+    let script = read_script(alloc, source)?;
+    replayed_by(replay_hashed(alloc, &script, out))
+}
+
+/// Replays a script on a table whose ports are hashed as its config says.
+fn replay_hashed<O: Sink>(alloc: Global, script: &Script, out: &mut O) -> Result<(), ReplayError>
+    requires { IsSoundScript script.now }
+    ensures { IsReplayedBy script.now.config.hash script.now O.held O.faults out.old out.new result }
+{
+    match script.config.hash {
+        Hash::Mix => replay::<Lookup3, _>(alloc, script, out),
+        Hash::Low => replay::<Low, _>(alloc, script, out),
+    }
 }
 
 /// Does a script's commands on a table whose ports are hashed as its config says, and closes it. The one
@@ -191,5 +216,16 @@ fn served_by(put: Result<(), Failed>) -> Result<(), Failure>
     match put {
         Ok(()) => Ok(()),
         Err(Failed) => Err(Failure::Write),
+    }
+}
+
+/// How a form is served whose text is a replay that ended so.
+fn replayed_by(replayed: Result<(), ReplayError>) -> Result<(), Failure>
+    ensures { result ≡ replayed_by replayed }
+{
+    match replayed {
+        Ok(()) => Ok(()),
+        Err(ReplayError::Write) => Err(Failure::Write),
+        Err(ReplayError::Memory) => Err(Failure::Memory),
     }
 }

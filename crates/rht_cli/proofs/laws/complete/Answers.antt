@@ -1,7 +1,6 @@
 use Rattle.std.proofs.Common.{[], Some, ap, arith, inl, inr}
 use Rattle.rht_io.specs.Told.{Rose}
-use Rattle.rht_cli.specs.declared.form.Form.TheVariants.{Run}
-use Rattle.rht_cli.proofs.ToldInput.{IsInputOf-told, IsFaultOf-told}
+use Rattle.rht_cli.proofs.ToldInput.{IsInputOf-script, IsFaultOf-script, IsScriptRead-told, IsNoScript-told}
 use Rattle.rht_cli.proofs.laws.complete.Goals as goal
 
 -- a count that stays 0 didn't rise
@@ -12,15 +11,16 @@ not_rose rose = elim rose [
 ]
 
 pub returns-clause-served : goal.returns-clause-served
-returns-clause-served g c said named script =
-    c.run.ensures.served Run c.args.bytes.items (Some []) said named (ap Some c.new-source.ensures)
-    (IsInputOf-told c.args.bytes.items said script) not_rose not_rose
+returns-clause-served g c form said named reads script =
+    c.run.ensures.served form c.args.bytes.items (Some []) said named (ap Some c.new-source.ensures)
+    (IsInputOf-script form reads (Some c.args.bytes.items) (Some []) said (IsScriptRead-told c.args.bytes.items said script))
+    not_rose not_rose
 
 pub returns-clause-refused : goal.returns-clause-refused
-returns-clause-refused g c fault named first =
-    let input = IsFaultOf-told c.args.bytes.items fault first in
-    elim (c.run.ensures.refused Run c.args.bytes.items input.0 fault named (ap Some c.new-source.ensures)
-    input.1 not_rose) [
+returns-clause-refused g c form fault named reads first =
+    let input = IsNoScript-told c.args.bytes.items fault first in
+    elim (c.run.ensures.refused form c.args.bytes.items input.0 fault named (ap Some c.new-source.ensures)
+    (IsFaultOf-script form reads (Some c.args.bytes.items) input.0 fault input.1) not_rose) [
       | inl two ↦ inl two.0
       | inr memory ↦ inr memory
     ]
