@@ -22,6 +22,8 @@ pub mod PlainWords
 pub mod PlainScripts
 -- whatever is read can be said
 pub mod SayableScripts
+-- the script of a number can be said, and what it has
+pub mod GeneratedCommands
 -- inputs, and what the definitions give for them
 pub mod WorkedInputs
 -- what is said so far, before the lines still to be read

@@ -5,7 +5,7 @@ use Rattle.std.proofs.Common.{◌≡◌, ℕ, ◌+◌, ◌*◌, Bool, true, fals
 use Rattle.std.specs.Prelude.{IfOk, nat_le, nat_lt}
 use Rattle.std.specs.List.{AllByRecursion}
 use Rattle.std.proofs.lemmas.Bool.{le-leb, leb-true, and_from, and_parts}
-use Rattle.std.proofs.lemmas.List.Elements.{All-from_recursion, All-weaker}
+use Rattle.std.proofs.lemmas.List.Elements.{All-from_recursion, recursion_from_All, All-weaker}
 use Rattle.std.proofs.lemmas.List.Sums.{list_all-from_AllPass}
 use Rattle.std.proofs.lemmas.Result.{IfOk-at_ok}
 use Rattle.rht_words.specs.declared.config.Config.{Config}
@@ -30,7 +30,7 @@ use Rattle.rht_script.specs.CommandLines.{port_limits, owner_limits, worker_limi
 use Rattle.rht_script.specs.ScheduleLines.{event_limits}
 use Rattle.rht_script.specs.Grammar.{most_bytes, at_line, words_at, Said, lines_from, said_from, reading_of}
 use Rattle.rht_script.specs.Allowed.{IsAllowed, AreAllowed}
-use Rattle.rht_script.specs.Plain.{IsSayableCall, IsSayableCommand, IsSayableSched}
+use Rattle.rht_script.specs.Plain.{IsSayableCall, IsSayableCommand, IsSayableSched, IsSayable}
 use Rattle.rht_script.specs.Reading.{said_by}
 use Rattle.rht_script.specs.Sound.{is_single, is_sound_call, is_sound_command, is_sound_line, IsCommandCall, IsSoundScript}
 use Rattle.rht_script.specs.Laws.{SaysSayable}
@@ -271,11 +271,9 @@ is_sound_line-sayable config (Step worker number) sayable = both_within config w
 is_sound_line-sayable config (Skip worker number) sayable = both_within config worker number sayable
 is_sound_line-sayable config (Finish worker number) sayable = both_within config worker number sayable
 
--- and a script that the bytes say is sound
-pub IsSoundScript-read : (bytes : List ℕ) (script : Script) → reading_of bytes ≡ Ok (said_by script)
-    → IsSoundScript script
-IsSoundScript-read bytes script read =
-    let sayable = says_sayable bytes (said_by script) read in
+-- and so is a script that can be said
+pub IsSoundScript-sayable : (script : Script) → IsSayable (said_by script) → IsSoundScript script
+IsSoundScript-sayable script sayable =
     let each = All-weaker (IsSayableCommand script.config)
     (λ command. is_sound_command script.config command ≡ true)
     (is_sound_command-sayable script.config) script.commands.items sayable.commands in
@@ -290,25 +288,22 @@ IsSoundScript-read bytes script read =
 
 -- ---- what commands ask for
 
--- each command asks for a call that a command can ask for
-pub commands_asked : (bytes : List ℕ) (said : Said) → reading_of bytes ≡ Ok said
+-- a call for which there is a verb is one that a command can ask for
+IsCommandCall-sayable : (kind : Kind) (call : Call) → IsSayableCall kind call → IsCommandCall call
+IsCommandCall-sayable kind (Bind port owner once) sayable = sayable.2
+IsCommandCall-sayable kind (Find port) sayable = tt
+IsCommandCall-sayable kind (ListAll port) sayable = tt
+IsCommandCall-sayable kind (Release port owner) sayable = tt
+IsCommandCall-sayable kind (Rebind port owner new) sayable = tt
+IsCommandCall-sayable kind (Walk from limit) sayable = absurd sayable
+IsCommandCall-sayable kind Work sayable = tt
+IsCommandCall-sayable kind Tidy sayable = absurd sayable
+IsCommandCall-sayable kind Count sayable = tt
+
+-- so each command of what can be said asks for such a call
+pub commands_asked : (said : Said) → IsSayable said
     → AllByRecursion (λ command. IsCommandCall command.1) said.commands
-commands_asked bytes said read =
-    (reading_holds (λ config command. IsCommandCall command.1) (λ config sched. Unit {0}) (λ table.
-    command_holds (λ command. IsCommandCall command.1) IsCommandCall table
-    (λ worker call within asked. asked)
-    (call_holds table.config.kind IsCommandCall record {
-      bind = λ port owner is_port is_owner. refl;
-      find = λ port is_port. tt;
-      list = λ port is_port. tt;
-      release = λ port owner is_port is_owner. tt;
-      rebind = λ port owner new is_port is_owner is_new single. tt;
-      work = tt;
-      count = tt;
-    }))
-    (λ config. record {
-      step = λ worker number are. tt;
-      skip = λ worker number are. tt;
-      finish = λ worker number are. tt;
-    })
-    bytes said read).commands
+commands_asked said sayable =
+    recursion_from_All (λ command. IsCommandCall command.1) said.commands
+    (All-weaker (IsSayableCommand said.config) (λ command. IsCommandCall command.1)
+    (λ command can. IsCommandCall-sayable said.config.kind command.1 can.1) said.commands sayable.commands)

@@ -20,6 +20,8 @@ pub mod Reading
 pub mod Sound
 -- what today's words can say, and how it is spelled plainly
 pub mod Plain
+-- the script that is made from a number
+pub mod Generated
 -- what follows from the grammar, in the words of scripts
 pub mod Laws
 -- the text of replies and of last bindings

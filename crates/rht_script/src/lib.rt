@@ -1,18 +1,20 @@
 //! Scripts and the text that answers them.
 //!
-//! Stands on `rht_model`, `rht_words` and `rht_io`. The program reads a script's bytes by `read`,
-//! and writes the text of a run by `write_run`; `write_reply`, `write_closed` and `write_fault`
-//! write parts of such text.
+//! Stands on `rht_model`, `rht_words` and `rht_io`. The program reads a script's bytes by `read`, or
+//! makes one from a number by `generated`, and writes the text of a run by `write_run`;
+//! `write_reply`, `write_closed` and `write_fault` write parts of such text.
 //! Read `specs/Grammar.antt` and `specs/Text.antt` first.
 #![tactic(auto)]
 
 mod cause;
+mod generator;
 pub mod laws;
 mod options;
 mod reader;
 mod script;
 mod writer;
 
+pub use generator::generated;
 pub use reader::{MOST_BYTES, read};
 pub use script::{ReadError, Sched, Script, ScriptFault, TableLine};
 pub use writer::{
