@@ -1,8 +1,8 @@
 -- How a form that reads a script is served: what was read of it is its input, and a text of its was written whole, or where the sink
 -- failed a prefix of it was.
-use Rattle.std.proofs.Common.{◌≡◌, ℕ, List, Option, Result, Ok, Err, refl, inl, inr}
+use Rattle.std.proofs.Common.{◌≡◌, ℕ, List, Option, Result, Ok, Err, refl, inl, inr, arith}
 use Rattle.rht_io.specs.declared.source.Failed.{Failed}
-use Rattle.rht_io.specs.Told.{Puts}
+use Rattle.rht_io.specs.Told.{Rose, Puts}
 use Rattle.rht_script.specs.Grammar.{Said}
 use Rattle.rht_registry.specs.declared.replaying.ReplayError.{ReplayError}
 use Rattle.rht_registry.specs.declared.replaying.ReplayError.TheVariants as replays
@@ -12,8 +12,15 @@ use Rattle.rht_cli.specs.declared.ending.Failure.{Failure}
 use Rattle.rht_cli.specs.declared.ending.Failure.TheVariants.{Fault, Read, Write, Memory}
 use Rattle.rht_cli.specs.Input.{IsUnread}
 use Rattle.rht_cli.specs.Forms.{ReadsScript, IsInputOf, IsTextOf}
-use Rattle.rht_cli.specs.Endings.{FailsBy, Serves, served_by, replayed_by}
+use Rattle.rht_cli.specs.Endings.{FailsBy, Serves, ServesUnread, served_by, replayed_by}
 use Rattle.rht_cli.proofs.ToldInput.{IsFaultOf-script}
+
+-- a count that stays 0 doesn't rise
+pub never_rises : Rose 0 0 → ⊥
+never_rises rose = elim rose [
+  | inl more ↦ omega (arith, more)
+  | inr last ↦ omega (arith, last)
+]
 
 module _ {S O : Type 0} (left : S → Option (List ℕ)) (sfaults : S → ℕ) (held : O → Option (List ℕ))
     (ofaults : O → ℕ) (form : Form) (s s' : S) where
@@ -48,3 +55,12 @@ module _ {S O : Type 0} (left : S → Option (List ℕ)) (sfaults : S → ℕ) (
   )
   Serves-replayed o o' said text (Err replays.Memory) read printed writes =
       inr (record { said = said; text = text; read = read; printed = printed; written = writes.prefix })
+
+  -- a form that reads nothing is served so whatever source there is
+  pub Serves-unread : (o o' : O) (served : Result (Unit {0}) Failure) → ServesUnread held ofaults form o o' served
+      → Serves left sfaults held ofaults form s s o o' served
+  Serves-unread o o' (Ok done) serves = serves (left s)
+  Serves-unread o o' (Err (Fault fault)) serves = serves (left s)
+  Serves-unread o o' (Err Read) serves = absurd (never_rises (serves (left s)).0)
+  Serves-unread o o' (Err Write) serves = serves (left s)
+  Serves-unread o o' (Err Memory) serves = serves (left s)

@@ -7,10 +7,11 @@ use Rattle.std.proofs.lemmas.Bool.{cases_lt}
 use Rattle.std.proofs.lemmas.List.{length-take-le}
 use Rattle.rht_script.specs.declared.script.ScriptFault.{ScriptFault}
 use Rattle.rht_script.specs.Grammar.{Said, reading_of}
+use Rattle.rht_script.specs.Generated.{generated_said}
 use Rattle.rht_script.specs.Reading.{FirstFault}
 use Rattle.rht_script.proofs.ReadingLemmas.{reading_of-front, reading_of-long}
 use Rattle.rht_cli.specs.declared.form.Form.{Form}
-use Rattle.rht_cli.specs.declared.form.Form.TheVariants.{Run, Replay}
+use Rattle.rht_cli.specs.declared.form.Form.TheVariants.{Run, Replay, Gen}
 use Rattle.rht_cli.specs.Input.{IsRead, IsScriptRead, IsNoScript}
 use Rattle.rht_cli.specs.Forms.{ReadsScript, IsInputOf, IsFaultOf}
 
@@ -69,6 +70,7 @@ pub not_both : (form : Form) (bytes : List ℕ) (rest left_after : Option (List 
 unfolding IsInputOf IsFaultOf
 not_both Run bytes rest left_after said fault input refused = script_or_none bytes rest left_after said fault input refused
 not_both Replay bytes rest left_after said fault input refused = script_or_none bytes rest left_after said fault input refused
+not_both (Gen number) bytes rest left_after said fault input refused = absurd refused
 
 -- told input has one first fault
 pub one_fault : (form : Form) (bytes : List ℕ) (rest left_after : Option (List ℕ))
@@ -78,6 +80,7 @@ pub one_fault : (form : Form) (bytes : List ℕ) (rest left_after : Option (List
 unfolding IsFaultOf
 one_fault Run bytes rest left_after first second one other = one_first bytes rest left_after first second one other
 one_fault Replay bytes rest left_after first second one other = one_first bytes rest left_after first second one other
+one_fault (Gen number) bytes rest left_after first second one other = absurd one
 
 -- a script that was read is the input of a form that reads one
 pub IsInputOf-script : (form : Form) → ReadsScript form → (left left_after : Option (List ℕ)) (said : Said)
@@ -85,6 +88,7 @@ pub IsInputOf-script : (form : Form) → ReadsScript form → (left left_after :
 unfolding IsInputOf
 IsInputOf-script Run reads left left_after said read = read
 IsInputOf-script Replay reads left left_after said read = read
+IsInputOf-script (Gen number) reads left left_after said read = absurd reads
 
 -- and other bytes that were read are input that is at fault
 pub IsFaultOf-script : (form : Form) → ReadsScript form → (left left_after : Option (List ℕ)) (fault : ScriptFault)
@@ -92,6 +96,13 @@ pub IsFaultOf-script : (form : Form) → ReadsScript form → (left left_after :
 unfolding IsFaultOf
 IsFaultOf-script Run reads left left_after fault read = read
 IsFaultOf-script Replay reads left left_after fault read = read
+IsFaultOf-script (Gen number) reads left left_after fault read = absurd reads
+
+-- input that is left as it is is that of `gen`
+pub IsInputOf-gen : (number : ℕ) (left : Option (List ℕ)) (said : Said) → said ≡ generated_said number
+    → IsInputOf (Gen number) left left said
+unfolding IsInputOf
+IsInputOf-gen number left said says = (refl, says)
 
 -- told bytes that are a script can be read
 pub IsScriptRead-told : (bytes : List ℕ) (said : Said) → reading_of bytes ≡ Ok said → IsScriptRead (Some bytes) (Some []) said

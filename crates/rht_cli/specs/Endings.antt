@@ -105,3 +105,8 @@ Serves left sfaults held ofaults form s s_after o o_after (Ok done) =
     IsDone form (left s) (left s_after) (held o) (held o_after)
 Serves left sfaults held ofaults form s s_after o o_after (Err failure) =
     FailsBy left sfaults held ofaults form s s_after o o_after failure
+
+-- the same for a form that reads nothing, whatever input there is
+abbrev pub ServesUnread : {O : Type 0} → (O → Option (List ℕ)) → (O → ℕ) → Form → O → O → Result (Unit {0}) Failure → Type 0
+ServesUnread held ofaults form o o_after served =
+    (left : Option (List ℕ)) → Serves (λ input. input) (λ input. 0) held ofaults form left left o o_after served

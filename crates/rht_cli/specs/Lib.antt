@@ -1,6 +1,6 @@
 -- which bytes are read of an input, and when they are a script
 pub mod Input
--- the text of a script that was run
+-- the text of a script that was run, or what sums it up
 pub mod RunText
 -- the text of a script that was replayed
 pub mod ReplayText

@@ -15,11 +15,11 @@ ghost use Rattle.rht_script.specs.Sound.{IsSoundScript, IsCommandCall};
 ghost use Rattle.rht_script.specs.Text.{fault_line};
 ghost use Rattle.rht_registry.specs.Outcomes.{IsBuiltCommand};
 ghost use Rattle.rht_cli.specs.declared.form.Form.{Form};
-ghost use Rattle.rht_cli.specs.declared.form.Form.TheVariants.{Run, Replay};
+ghost use Rattle.rht_cli.specs.declared.form.Form.TheVariants.{Run, Replay, Gen};
 ghost use Rattle.rht_cli.specs.Forms.{form_of, HasForm, ReadsScript, IsInputOf, IsFaultOf};
 ghost use Rattle.rht_cli.specs.RunText.{IsServedBy};
 ghost use Rattle.rht_cli.specs.ReplayText.{IsReplayedBy};
-ghost use Rattle.rht_cli.specs.Endings.{IsDone, IsCutShort, Serves, served_by, replayed_by, ending_of, status_line};
+ghost use Rattle.rht_cli.specs.Endings.{IsDone, IsCutShort, Serves, ServesUnread, served_by, replayed_by, ending_of, status_line};
 
 use crate::ending::{Ending, Failure};
 use crate::form::Form;
@@ -29,7 +29,7 @@ use rht_model::{Closed, Replies};
 use rht_policy::{Lookup3, Low, Mix};
 use rht_registry::{ReplayError, replay, run_workers};
 use rht_run::Table;
-use rht_script::{Script, write_run};
+use rht_script::{Script, generated, write_run, write_summary};
 use rht_words::Hash;
 use std::alloc::{AllocError, Global};
 use std::sync::Wait;
@@ -37,7 +37,7 @@ use std::thread::Threads;
 
 /// Runs the program on the words after its name, and answers its exit status.
 ///
-/// The script comes from the source, the text goes to `out`, and the line of a status above 0
+/// The script comes from the source, but that of `gen`; the text goes to `out`, and the line of a status above 0
 /// to `err`, whose faults change no status. The gate hears of each command before it and after it.
 pub fn run<R: Threads + Wait + Sync, S: Source, O: Sink, E: Sink, G: Gate + Sync>(
     rt: &R,
@@ -48,7 +48,7 @@ pub fn run<R: Threads + Wait + Sync, S: Source, O: Sink, E: Sink, G: Gate + Sync
     err: &mut E,
     gate: &G,
 ) -> u8
-    // 0: the form's input was read to its end, and its whole text was written.
+    // 0: the form's input was read to its end, where it reads any, and its whole text was written.
     ensures done { result ≡ 0 → HasForm (map string_bytes words.now.items)
         (λ form. IsDone form (S.left source.old) (S.left source.new) (O.held out.old) (O.held out.new)) }
 
@@ -78,6 +78,10 @@ pub fn run<R: Threads + Wait + Sync, S: Source, O: Sink, E: Sink, G: Gate + Sync
         ⊎ HasForm (map string_bytes words.now.items)
         (λ form. IsCutShort form (S.left source.old) (S.left source.new) (O.held out.old) (O.held out.new)) }
     ensures statuses { result ≤ 5 }
+
+    // Where the words are `gen` and a number, nothing is read, whatever the status is.
+    ensures nothing_read { (number : ℕ) → form_of (map string_bytes words.now.items) ≡ Some (Gen number)
+        → source.new ≡ source.old }
 
     // The line of any other status, or a prefix of it where the faults of err rose.
     ensures line { result ≢ 2
@@ -124,11 +128,13 @@ fn serve<R: Threads + Wait + Sync, S: Source, O: Sink, G: Gate + Sync>(
     out: &mut O,
     gate: &G,
 ) -> Result<(), Failure>
-    ensures { Serves S.left S.faults O.held O.faults form source.old source.new out.old out.new result }
+    ensures served { Serves S.left S.faults O.held O.faults form source.old source.new out.old out.new result }
+    ensures unread { (number : ℕ) → form ≡ Gen number → source.new ≡ source.old }
 {
     match form {
         Form::Run => serve_run(rt, alloc, source, out, gate),
         Form::Replay => serve_replay(alloc, source, out),
+        Form::Gen { number } => serve_gen(rt, alloc, number, out, gate),
     }
 }
 
@@ -157,6 +163,21 @@ fn serve_replay<S: Source, O: Sink>(
 {
     let script = read_script(alloc, source)?;
     replayed_by(replay_hashed(alloc, &script, out))
+}
+
+/// Does the commands of the script of a number, and prints a line that sums up what they are answered.
+fn serve_gen<R: Threads + Wait + Sync, O: Sink, G: Gate + Sync>(
+    rt: &R,
+    alloc: Global,
+    number: u32,
+    out: &mut O,
+    gate: &G,
+) -> Result<(), Failure>
+    ensures { ServesUnread O.held O.faults (Gen number) out.old out.new result }
+{
+    let script = generated(alloc, number)?;
+    let (replies, closed) = run_hashed(rt, alloc, &script, gate)?;
+    served_by(write_summary(out, number, &replies, &closed))
 }
 
 /// Replays a script on a table whose ports are hashed as its config says.

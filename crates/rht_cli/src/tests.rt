@@ -8,7 +8,7 @@ use std::alloc::Global;
 use std::hint::spin_loop;
 use std::process::Abort;
 use std::sync::Wait;
-use std::sync::atomic::{AtomicBool, Ordering};
+use std::sync::atomic::{AtomicBool, AtomicU64, Ordering};
 use std::test::Fail;
 use std::thread::Threads;
 
@@ -219,6 +219,10 @@ fn scripts_are_served_and_others_refused(rt: HostRuntime) -> Result<(), Fail> {
         ("gen -1", "table single\n", 1, "", USAGE),
         ("run --", "table single\n", 1, "", USAGE),
         ("replay x", "table single\n", 1, "", USAGE),
+        // The number of `gen` has 1 to 10 digits, and 32 bits.
+        ("gen 4294967296", "table single\n", 1, "", USAGE),
+        ("gen 00000000007", "table single\n", 1, "", USAGE),
+        ("gen 7 7", "table single\n", 1, "", USAGE),
         ("", "table single\n", 1, "", USAGE),
     ];
     for (words, script, status, out, err) in cases {
@@ -497,6 +501,56 @@ fn two_workers_meet(rt: HostRuntime) -> Result<(), Fail> {
     Ok(())
 }
 
+/// How many commands a gate has heard of.
+#[derive(Drop)]
+struct Heard {
+    before: AtomicU64,
+    after: AtomicU64,
+}
+
+impl Gate for Heard {
+    fn before(&self, _worker: u32, _index: u32) {
+        self.before.fetch_add(1, Ordering::SeqCst);
+    }
+
+    fn after(&self, _worker: u32, _index: u32) {
+        self.after.fetch_add(1, Ordering::SeqCst);
+    }
+}
+
+#[test]
+fn a_number_is_run(rt: HostRuntime) -> Result<(), Fail> {
+    // Of 500 rounds of each of 8 workers 250 bind a port twice and leave it bound, and 250 release it.
+    // Bound stay the ports 10,000 w + o + j of the even j, with o the number's last three digits:
+    // 250 * (360,000 + 8 o) + 8 * 62,250 = 90,498,000 + 2,000 o.
+    let cases = [
+        ("gen 7", "gen 7", "90512000"),
+        ("gen 0000000007", "gen 7", "90512000"),
+        ("gen 4294967295", "gen 4294967295", "91088000"),
+    ];
+    for (words, name, sum) in cases {
+        let heard = Heard {
+            before: AtomicU64::new(0),
+            after: AtomicU64::new(0),
+        };
+        // Nothing is read: a take would fail.
+        let outside = Outside {
+            piece: 16,
+            take: 1,
+            put: 0,
+            err: 0,
+        };
+        let left = run_with(&rt, rt.alloc(), words, SCRIPT, outside, &heard)?;
+        let text = format!(in rt.alloc();
+            "{name}: commands 20000 bound 4000 exists 2000 found 6000 missing 6000 released 2000 keys 2000 sum {sum}\n"
+        )?;
+        assert_left(&rt, &left, 0, &text, "", words);
+        assert_eq!(rt; heard.before.load(Ordering::SeqCst), 20_000);
+        assert_eq!(rt; heard.after.load(Ordering::SeqCst), 20_000);
+    }
+    Ok(())
+}
+
 #[test]
 fn sixteen_workers_share_a_port(rt: HostRuntime) -> Result<(), Fail> {
     // Each binds the port to itself, looks it up and takes its own binding out. Its look-up finds an owner,
@@ -675,6 +729,8 @@ fn where_nothing_outside_can_fail(rt: HostRuntime) -> Result<(), Fail> {
         ("replay", SCRIPT, 0),
         ("replay", "", 2),
         ("replay x", SCRIPT, 1),
+        ("gen 7", "", 0),
+        ("gen", SCRIPT, 1),
         ("", SCRIPT, 1),
     ];
     for (words, script, status) in cases {

@@ -7,7 +7,7 @@ use Rattle.rht_registry.proofs.SoundCommands.{sound-commands}
 use Rattle.rht_cli.specs.declared.form.Form.TheVariants.{Run}
 use Rattle.rht_cli.specs.Forms.{IsTextOf}
 use Rattle.rht_cli.proofs.ToldInput.{IsInputOf-script}
-use Rattle.rht_cli.proofs.RunTexts.{closed-keys, IsTextOf-served}
+use Rattle.rht_cli.proofs.RunTexts.{closed-keys, IsTextOf-run}
 use Rattle.rht_cli.proofs.ServedScripts.{FailsBy-unread, Serves-put}
 use Rattle.rht_cli.proofs.program.serve_run.Goals as goal
 
@@ -38,7 +38,7 @@ returns g c =
     let printed : IsTextOf Run said text =
     subst (λ (workers : List (List Ending)). IsTextOf Run said
     (run_text workers pairs closed.size)) (sym c.deref.ensures.value)
-    (IsTextOf-served said replies.items closed commands c.in_ok-replies.ensures) in
+    (IsTextOf-run said replies.items closed commands c.in_ok-replies.ensures) in
     rw c.served_by.ensures
     (Serves-put left g.S.Source.faults g.O.Sink.held g.O.Sink.faults Run c.args.source.now
     c.read_script.new.source c.args.out.now c.write_run.new.out
