@@ -4,5 +4,7 @@ pub mod ToldInput
 pub mod Completeness
 -- what a served run is printed as
 pub mod RunTexts
--- how a script is served that is read, done and written
+-- what a replay writes
+pub mod ReplayTexts
+-- how a form that reads a script is served
 pub mod ServedScripts

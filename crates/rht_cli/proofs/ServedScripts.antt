@@ -1,35 +1,66 @@
--- How the form `run` is served: what was read of a script is its input, and a text of its was written whole, or where the sink
--- failed a prefix of it.
-use Rattle.std.proofs.Common.{ℕ, List, Option, Result, Ok, Err, refl, inl}
+-- How a form that reads a script is served: what was read of it is its input, and a text of its was written whole, or where the sink
+-- failed a prefix of it was.
+use Rattle.std.proofs.Common.{◌≡◌, ℕ, List, Option, Result, Ok, Err, refl, inl, inr, arith}
 use Rattle.rht_io.specs.declared.source.Failed.{Failed}
-use Rattle.rht_io.specs.Told.{Puts}
-use Rattle.rht_script.specs.declared.script.ReadError.{ReadError}
-use Rattle.rht_script.specs.declared.script.ReadError.TheVariants as reads
+use Rattle.rht_io.specs.Told.{Rose, Puts}
 use Rattle.rht_script.specs.Grammar.{Said}
-use Rattle.rht_script.specs.Reading.{IsReason}
-use Rattle.rht_cli.specs.declared.form.Form.TheVariants.{Run}
-use Rattle.rht_cli.specs.Input.{IsRead}
-use Rattle.rht_cli.specs.Forms.{IsInputOf, IsTextOf}
-use Rattle.rht_cli.specs.Endings.{FailsBy, Serves, of_read_error, served_by}
-use Rattle.rht_cli.proofs.ToldInput.{IsFaultOf-read}
+use Rattle.rht_registry.specs.declared.replaying.ReplayError.{ReplayError}
+use Rattle.rht_registry.specs.declared.replaying.ReplayError.TheVariants as replays
+use Rattle.rht_registry.specs.Players.{Writes}
+use Rattle.rht_cli.specs.declared.form.Form.{Form}
+use Rattle.rht_cli.specs.declared.ending.Failure.{Failure}
+use Rattle.rht_cli.specs.declared.ending.Failure.TheVariants.{Fault, Read, Write, Memory}
+use Rattle.rht_cli.specs.Input.{IsUnread}
+use Rattle.rht_cli.specs.Forms.{ReadsScript, IsInputOf, IsTextOf}
+use Rattle.rht_cli.specs.Endings.{FailsBy, Serves, ServesUnread, served_by, replayed_by}
+use Rattle.rht_cli.proofs.ToldInput.{IsFaultOf-script}
+
+-- a count that stays 0 doesn't rise
+pub never_rises : Rose 0 0 → ⊥
+never_rises rose = elim rose [
+  | inl more ↦ omega (arith, more)
+  | inr last ↦ omega (arith, last)
+]
 
 module _ {S O : Type 0} (left : S → Option (List ℕ)) (sfaults : S → ℕ) (held : O → Option (List ℕ))
-    (ofaults : O → ℕ) (s s' : S) where
-  -- bytes were read that are no script, or memory ran out on the way
-  pub FailsBy-read : (o : O) (bytes : List ℕ) (error : ReadError) → IsRead (left s) (left s') bytes
-      → IsReason bytes error
-      → FailsBy left sfaults held ofaults Run s s' o o (of_read_error error)
-  FailsBy-read o bytes (reads.Fault fault) read reason =
-      (IsFaultOf-read (left s) (left s') bytes fault read reason, refl)
-  FailsBy-read o bytes reads.Memory read reason = inl refl
+    (ofaults : O → ℕ) (form : Form) (s s' : S) where
+  -- no script was read
+  pub FailsBy-unread : ReadsScript form → (o : O) (failure : Failure) → IsUnread (left s) (left s') (sfaults s) (sfaults s') failure
+      → FailsBy left sfaults held ofaults form s s' o o failure
+  FailsBy-unread reads o (Fault fault) unread = (IsFaultOf-script form reads (left s) (left s') fault unread, refl)
+  FailsBy-unread reads o Read unread = (unread, refl, reads)
+  FailsBy-unread reads o Write unread = absurd unread
+  FailsBy-unread reads o Memory unread = inl refl
 
   -- the text was put: it was written, or the sink failed and a prefix of it was
   pub Serves-put : (o o' : O) (said : Said) (text : List ℕ) (put : Result (Unit {0}) Failed)
-      → IsInputOf Run (left s) (left s') said → IsTextOf Run said text → Puts held ofaults o o' put text
-      → Serves left sfaults held ofaults Run s s' o o' (served_by put)
+      → IsInputOf form (left s) (left s') said → IsTextOf form said text → Puts held ofaults o o' put text
+      → Serves left sfaults held ofaults form s s' o o' (served_by put)
   Serves-put o o' said text (Ok done) read printed puts =
       record { said = said; text = text; read = read; printed = printed; written = puts.whole }
   Serves-put o o' said text (Err failed) read printed puts = (
     puts.failed,
     record { said = said; text = text; read = read; printed = printed; written = puts.prefix },
   )
+
+  -- the text is a replay: it was written, or the sink failed or memory ran out and a prefix of it was
+  pub Serves-replayed : (o o' : O) (said : Said) (text : List ℕ) (replayed : Result (Unit {0}) ReplayError)
+      → IsInputOf form (left s) (left s') said → IsTextOf form said text → Writes held ofaults o o' replayed text
+      → Serves left sfaults held ofaults form s s' o o' (replayed_by replayed)
+  Serves-replayed o o' said text (Ok done) read printed writes =
+      record { said = said; text = text; read = read; printed = printed; written = writes.whole }
+  Serves-replayed o o' said text (Err replays.Write) read printed writes = (
+    writes.write refl,
+    record { said = said; text = text; read = read; printed = printed; written = writes.prefix },
+  )
+  Serves-replayed o o' said text (Err replays.Memory) read printed writes =
+      inr (record { said = said; text = text; read = read; printed = printed; written = writes.prefix })
+
+  -- a form that reads nothing is served so whatever source there is
+  pub Serves-unread : (o o' : O) (served : Result (Unit {0}) Failure) → ServesUnread held ofaults form o o' served
+      → Serves left sfaults held ofaults form s s o o' served
+  Serves-unread o o' (Ok done) serves = serves (left s)
+  Serves-unread o o' (Err (Fault fault)) serves = serves (left s)
+  Serves-unread o o' (Err Read) serves = absurd (never_rises (serves (left s)).0)
+  Serves-unread o o' (Err Write) serves = serves (left s)
+  Serves-unread o o' (Err Memory) serves = serves (left s)

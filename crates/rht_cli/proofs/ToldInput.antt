@@ -7,12 +7,13 @@ use Rattle.std.proofs.lemmas.Bool.{cases_lt}
 use Rattle.std.proofs.lemmas.List.{length-take-le}
 use Rattle.rht_script.specs.declared.script.ScriptFault.{ScriptFault}
 use Rattle.rht_script.specs.Grammar.{Said, reading_of}
+use Rattle.rht_script.specs.Generated.{generated_said}
 use Rattle.rht_script.specs.Reading.{FirstFault}
 use Rattle.rht_script.proofs.ReadingLemmas.{reading_of-front, reading_of-long}
 use Rattle.rht_cli.specs.declared.form.Form.{Form}
-use Rattle.rht_cli.specs.declared.form.Form.TheVariants.{Run}
-use Rattle.rht_cli.specs.Input.{IsRead}
-use Rattle.rht_cli.specs.Forms.{IsScriptRead, IsNoScript, IsInputOf, IsFaultOf}
+use Rattle.rht_cli.specs.declared.form.Form.TheVariants.{Run, Replay, Gen}
+use Rattle.rht_cli.specs.Input.{IsRead, IsScriptRead, IsNoScript}
+use Rattle.rht_cli.specs.Forms.{ReadsScript, IsInputOf, IsFaultOf}
 
 -- what was read of told bytes, to their end, is all of them
 all_read : (bytes piece : List ℕ) (left_after : Option (List ℕ))
@@ -48,14 +49,28 @@ fault_told bytes left_after fault refused = elim refused.read.enough [
       reading_of-front bytes refused.bytes front.0 front.1 (omega (arith, long)) ∙ refused.first
 ]
 
+-- told bytes aren't both a script and none
+script_or_none : (bytes : List ℕ) (rest left_after : Option (List ℕ)) (said : Said) (fault : ScriptFault)
+    → IsScriptRead (Some bytes) rest said → IsNoScript (Some bytes) left_after fault → ⊥
+script_or_none bytes rest left_after said fault input refused =
+    let says = said_told bytes rest said input in
+    let faulty = fault_told bytes left_after fault refused in cc
+
+-- and they have one first fault
+one_first : (bytes : List ℕ) (rest left_after : Option (List ℕ)) (first second : ScriptFault)
+    → IsNoScript (Some bytes) rest first → IsNoScript (Some bytes) left_after second → second ≡ first
+one_first bytes rest left_after first second one other =
+    let is_first = fault_told bytes rest first one in
+    let is_second = fault_told bytes left_after second other in cc
+
 -- told input isn't both whole and at fault
 pub not_both : (form : Form) (bytes : List ℕ) (rest left_after : Option (List ℕ)) (said : Said)
     (fault : ScriptFault)
     → IsInputOf form (Some bytes) rest said → IsFaultOf form (Some bytes) left_after fault → ⊥
 unfolding IsInputOf IsFaultOf
-not_both Run bytes rest left_after said fault input refused =
-    let says = said_told bytes rest said input in
-    let faulty = fault_told bytes left_after fault refused in cc
+not_both Run bytes rest left_after said fault input refused = script_or_none bytes rest left_after said fault input refused
+not_both Replay bytes rest left_after said fault input refused = script_or_none bytes rest left_after said fault input refused
+not_both (Gen number) bytes rest left_after said fault input refused = absurd refused
 
 -- told input has one first fault
 pub one_fault : (form : Form) (bytes : List ℕ) (rest left_after : Option (List ℕ))
@@ -63,26 +78,45 @@ pub one_fault : (form : Form) (bytes : List ℕ) (rest left_after : Option (List
     → IsFaultOf form (Some bytes) rest first → IsFaultOf form (Some bytes) left_after second
     → second ≡ first
 unfolding IsFaultOf
-one_fault Run bytes rest left_after first second one other =
-    let is_first = fault_told bytes rest first one in
-    let is_second = fault_told bytes left_after second other in cc
+one_fault Run bytes rest left_after first second one other = one_first bytes rest left_after first second one other
+one_fault Replay bytes rest left_after first second one other = one_first bytes rest left_after first second one other
+one_fault (Gen number) bytes rest left_after first second one other = absurd one
 
--- bytes that are a script are the whole input of the form `run`
-pub IsInputOf-told : (bytes : List ℕ) (said : Said) → reading_of bytes ≡ Ok said
-    → IsInputOf Run (Some bytes) (Some []) said
+-- a script that was read is the input of a form that reads one
+pub IsInputOf-script : (form : Form) → ReadsScript form → (left left_after : Option (List ℕ)) (said : Said)
+    → IsScriptRead left left_after said → IsInputOf form left left_after said
 unfolding IsInputOf
-IsInputOf-told bytes said script = record {
+IsInputOf-script Run reads left left_after said read = read
+IsInputOf-script Replay reads left left_after said read = read
+IsInputOf-script (Gen number) reads left left_after said read = absurd reads
+
+-- and other bytes that were read are input that is at fault
+pub IsFaultOf-script : (form : Form) → ReadsScript form → (left left_after : Option (List ℕ)) (fault : ScriptFault)
+    → IsNoScript left left_after fault → IsFaultOf form left left_after fault
+unfolding IsFaultOf
+IsFaultOf-script Run reads left left_after fault read = read
+IsFaultOf-script Replay reads left left_after fault read = read
+IsFaultOf-script (Gen number) reads left left_after fault read = absurd reads
+
+-- input that is left as it is is that of `gen`
+pub IsInputOf-gen : (number : ℕ) (left : Option (List ℕ)) (said : Said) → said ≡ generated_said number
+    → IsInputOf (Gen number) left left said
+unfolding IsInputOf
+IsInputOf-gen number left said says = (refl, says)
+
+-- told bytes that are a script can be read
+pub IsScriptRead-told : (bytes : List ℕ) (said : Said) → reading_of bytes ≡ Ok said → IsScriptRead (Some bytes) (Some []) said
+IsScriptRead-told bytes said script = record {
   bytes = bytes;
   taken = sym (append-nil bytes);
   to_end = refl;
   script = script;
 }
 
--- bytes with a first fault are input of the form `run` that is at fault
-pub IsFaultOf-told : (bytes : List ℕ) (fault : ScriptFault) → FirstFault bytes fault
-    → (rest : Option (List ℕ)) × IsFaultOf Run (Some bytes) rest fault
-unfolding IsFaultOf
-IsFaultOf-told bytes fault first = elim (cases_lt (length bytes) 16777217) [
+-- and so can told bytes with a first fault
+pub IsNoScript-told : (bytes : List ℕ) (fault : ScriptFault) → FirstFault bytes fault
+    → (rest : Option (List ℕ)) × IsNoScript (Some bytes) rest fault
+IsNoScript-told bytes fault first = elim (cases_lt (length bytes) 16777217) [
   | inl few ↦ (
     Some [],
     record {
@@ -113,19 +147,12 @@ to_end left left_after bytes said read script = elim read.enough [
   | inr long ↦ let too_long = reading_of-long bytes (omega (arith, long)) in absurd (cc)
 ]
 
--- a script that was read is the input of the form `run`
-pub IsInputOf-read : (left left_after : Option (List ℕ)) (bytes : List ℕ) (said : Said)
-    → IsRead left left_after bytes → reading_of bytes ≡ Ok said → IsInputOf Run left left_after said
-unfolding IsInputOf
-IsInputOf-read left left_after bytes said read script = record {
+-- so a script that was read to its end is
+pub IsScriptRead-read : (left left_after : Option (List ℕ)) (bytes : List ℕ) (said : Said)
+    → IsRead left left_after bytes → reading_of bytes ≡ Ok said → IsScriptRead left left_after said
+IsScriptRead-read left left_after bytes said read script = record {
   bytes = bytes;
   taken = read.taken;
   to_end = to_end left left_after bytes said read script;
   script = script;
 }
-
--- and other bytes that were read are input that is at fault
-pub IsFaultOf-read : (left left_after : Option (List ℕ)) (bytes : List ℕ) (fault : ScriptFault)
-    → IsRead left left_after bytes → FirstFault bytes fault → IsFaultOf Run left left_after fault
-unfolding IsFaultOf
-IsFaultOf-read left left_after bytes fault read first = record { bytes = bytes; read = read; first = first }

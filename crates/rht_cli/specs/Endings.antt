@@ -7,12 +7,14 @@ use Rattle.rht_script.specs.declared.script.ReadError.{ReadError}
 use Rattle.rht_script.specs.declared.script.ReadError.TheVariants as reads
 use Rattle.rht_script.specs.Grammar.{Said}
 use Rattle.rht_script.specs.Text.{fault_line}
+use Rattle.rht_registry.specs.declared.replaying.ReplayError.{ReplayError}
+use Rattle.rht_registry.specs.declared.replaying.ReplayError.TheVariants as replays
 use Rattle.rht_cli.specs.declared.form.Form.{Form}
 use Rattle.rht_cli.specs.declared.ending.Failure.{Failure}
 use Rattle.rht_cli.specs.declared.ending.Failure.TheVariants.{Fault, Read, Write, Memory}
 use Rattle.rht_cli.specs.declared.ending.Ending.{Ending}
 use Rattle.rht_cli.specs.declared.ending.Ending.TheVariants.{Done, Usage, Unserved}
-use Rattle.rht_cli.specs.Forms.{IsInputOf, IsFaultOf, IsTextOf}
+use Rattle.rht_cli.specs.Forms.{ReadsScript, IsInputOf, IsFaultOf, IsTextOf}
 
 -- why a script wasn't read
 abbrev pub of_read_error : ReadError → Failure
@@ -23,6 +25,12 @@ of_read_error reads.Memory = Memory
 abbrev pub served_by : Result (Unit {0}) Failed → Result (Unit {0}) Failure
 served_by (Ok done) = Ok done
 served_by (Err failed) = Err Write
+
+-- how a form is served whose text is a replay that ended so
+abbrev pub replayed_by : Result (Unit {0}) ReplayError → Result (Unit {0}) Failure
+replayed_by (Ok done) = Ok done
+replayed_by (Err replays.Write) = Err Write
+replayed_by (Err replays.Memory) = Err Memory
 
 -- how a run of a form ends that was served or failed so
 abbrev pub ending_of : Result (Unit {0}) Failure → Ending
@@ -84,7 +92,7 @@ abbrev pub FailsBy : {S O : Type 0} → (S → Option (List ℕ)) → (S → ℕ
 FailsBy left sfaults held ofaults form s s_after o o_after (Fault fault) =
     IsFaultOf form (left s) (left s_after) fault × (o_after ≡ o)
 FailsBy left sfaults held ofaults form s s_after o o_after Read =
-    Rose (sfaults s) (sfaults s_after) × (o_after ≡ o)
+    Rose (sfaults s) (sfaults s_after) × (o_after ≡ o) × ReadsScript form
 FailsBy left sfaults held ofaults form s s_after o o_after Write =
     Rose (ofaults o) (ofaults o_after) × IsCutShort form (left s) (left s_after) (held o) (held o_after)
 FailsBy left sfaults held ofaults form s s_after o o_after Memory =
@@ -97,3 +105,8 @@ Serves left sfaults held ofaults form s s_after o o_after (Ok done) =
     IsDone form (left s) (left s_after) (held o) (held o_after)
 Serves left sfaults held ofaults form s s_after o o_after (Err failure) =
     FailsBy left sfaults held ofaults form s s_after o o_after failure
+
+-- the same for a form that reads nothing, whatever input there is
+abbrev pub ServesUnread : {O : Type 0} → (O → Option (List ℕ)) → (O → ℕ) → Form → O → O → Result (Unit {0}) Failure → Type 0
+ServesUnread held ofaults form o o_after served =
+    (left : Option (List ℕ)) → Serves (λ input. input) (λ input. 0) held ofaults form left left o o_after served

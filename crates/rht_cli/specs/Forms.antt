@@ -1,25 +1,45 @@
 -- The command forms: which words they are, what their input is, and what text they print.
--- What a status means rests on the three relations here and on nothing else of a form.
-use Rattle.std.specs.Prelude.{◌≡◌, ℕ, if◌then◌else◌, Option, None, Some, Ok, List, [], ◌∷◌, codes}
-use Rattle.std.specs.Io.KnownBytes.{IsAtEnd, Consumes}
+-- What a status means rests on the relations here and on nothing else of a form.
+use Rattle.std.specs.Prelude.{◌≡◌, ℕ, ◌^◌, ◌&&◌, nat_lt, nat_le, if◌then◌else◌, Option, None, Some, List, [], ◌∷◌, length, codes}
+use Rattle.std.specs.Char.{is_ascii_digit}
+use Rattle.std.specs.List.{list_all}
 use Rattle.std.specs.Str.{bytes_eq}
+use Rattle.std.specs.Str.Parse.{digits_value}
 use Rattle.rht_script.specs.declared.script.ScriptFault.{ScriptFault}
-use Rattle.rht_script.specs.Grammar.{Said, reading_of}
-use Rattle.rht_script.specs.Reading.{FirstFault}
+use Rattle.rht_script.specs.Grammar.{Said}
+use Rattle.rht_script.specs.Generated.{generated_said}
 use Rattle.rht_cli.specs.declared.form.Form.{Form}
-use Rattle.rht_cli.specs.declared.form.Form.TheVariants.{Run}
-use Rattle.rht_cli.specs.Input.{IsRead}
-use Rattle.rht_cli.specs.RunText.{IsRunText}
+use Rattle.rht_cli.specs.declared.form.Form.TheVariants.{Run, Replay, Gen}
+use Rattle.rht_cli.specs.Input.{IsScriptRead, IsNoScript}
+use Rattle.rht_cli.specs.RunText.{whole_text, summary_text, IsRunText}
+use Rattle.rht_cli.specs.ReplayText.{IsReplayText}
 
 -- the form that a single word is
 abbrev pub form_of_word : List ℕ → Option Form
-form_of_word word = if bytes_eq word (codes "run") then Some Run else None
+form_of_word word =
+    if bytes_eq word (codes "run") then Some Run
+    else if bytes_eq word (codes "replay") then Some Replay
+    else None
+
+-- the form `gen` of the number that digits stand for, where there are some and it has 32 bits
+abbrev pub gen_of_digits : List ℕ → Option Form
+gen_of_digits digits =
+    if nat_lt 0 (length digits) && nat_lt (digits_value 10 digits) (2 ^ 32) then Some (Gen (digits_value 10 digits)) else None
+
+-- the form `gen` of the number that a word is, which has at most 10 digits
+abbrev pub gen_of_word : List ℕ → Option Form
+gen_of_word word = if nat_le (length word) 10 && list_all is_ascii_digit word then gen_of_digits word else None
+
+-- the form that two words are
+abbrev pub form_of_two : List ℕ → List ℕ → Option Form
+form_of_two word second = if bytes_eq word (codes "gen") then gen_of_word second else None
 
 -- the form that these words are
 abbrev pub form_of : List (List ℕ) → Option Form
 form_of [] = None
 form_of (word ∷ []) = form_of_word word
-form_of (word ∷ second ∷ words) = None
+form_of (word ∷ second ∷ []) = form_of_two word second
+form_of (word ∷ second ∷ third ∷ words) = None
 
 -- The words are a form for which this holds.
 pub record HasForm (words : List (List ℕ)) (Holds : Form → Type 0) : Type 0 where
@@ -27,27 +47,27 @@ pub record HasForm (words : List (List ℕ)) (Holds : Form → Type 0) : Type 0 
   pub named : form_of words ≡ Some form
   pub holds : Holds form
 
--- The input was read to its end and is a script, which says this.
-pub record IsScriptRead (left left_after : Option (List ℕ)) (said : Said) : Type 0 where
-  pub bytes : List ℕ
-  pub taken : Consumes left left_after bytes
-  pub to_end : IsAtEnd left_after
-  pub script : reading_of bytes ≡ Ok said
+-- the form reads a script
+abbrev pub ReadsScript : Form → Type 0
+ReadsScript Run = Unit {0}
+ReadsScript Replay = Unit {0}
+ReadsScript (Gen number) = ⊥
 
--- The whole input was read, or one byte more than a script can have, and this is its first fault.
-pub record IsNoScript (left left_after : Option (List ℕ)) (fault : ScriptFault) : Type 0 where
-  pub bytes : List ℕ
-  pub read : IsRead left left_after bytes
-  pub first : FirstFault bytes fault
-
--- what reading this form's input means, and that the input says this
+-- what reading this form's input means, and that the input says this; `gen` leaves it as it is, and does what the script of its
+-- number says
 unfoldable pub IsInputOf : Form → Option (List ℕ) → Option (List ℕ) → Said → Type 0
 IsInputOf Run left left_after said = IsScriptRead left left_after said
+IsInputOf Replay left left_after said = IsScriptRead left left_after said
+IsInputOf (Gen number) left left_after said = (left_after ≡ left) × (said ≡ generated_said number)
 
 -- what it means that this form's input was read and is at fault
 unfoldable pub IsFaultOf : Form → Option (List ℕ) → Option (List ℕ) → ScriptFault → Type 0
 IsFaultOf Run left left_after fault = IsNoScript left left_after fault
+IsFaultOf Replay left left_after fault = IsNoScript left left_after fault
+IsFaultOf (Gen number) left left_after fault = ⊥
 
 -- the text is one that this form prints where its input says this
 unfoldable pub IsTextOf : Form → Said → List ℕ → Type 0
-IsTextOf Run said text = IsRunText said text
+IsTextOf Run said text = IsRunText whole_text said text
+IsTextOf Replay said text = IsReplayText said text
+IsTextOf (Gen number) said text = IsRunText (summary_text number) said text

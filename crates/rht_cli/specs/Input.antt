@@ -1,8 +1,10 @@
--- Which bytes are read of an input: all of them, or one more than a script can have.
-use Rattle.std.specs.Prelude.{◌≡◌, ℕ, ◌+◌, ◌<◌, ◌≤◌, ◌⊎◌, ◌++◌, Bool, Option, List, [], length, MatchBool}
+-- Which bytes are read of an input: all of them, or one more than a script can have. And when they are a script.
+use Rattle.std.specs.Prelude.{◌≡◌, ℕ, ◌+◌, ◌<◌, ◌≤◌, ◌⊎◌, ◌++◌, Bool, Option, Ok, List, [], length, MatchBool}
 use Rattle.std.specs.Io.KnownBytes.{Consumes, IsAtEnd}
 use Rattle.rht_io.specs.Told.{Rose}
-use Rattle.rht_script.specs.Grammar.{most_bytes}
+use Rattle.rht_script.specs.declared.script.ScriptFault.{ScriptFault}
+use Rattle.rht_script.specs.Grammar.{most_bytes, Said, reading_of}
+use Rattle.rht_script.specs.Reading.{FirstFault}
 use Rattle.rht_cli.specs.declared.ending.Failure.{Failure}
 use Rattle.rht_cli.specs.declared.ending.Failure.TheVariants.{Fault, Read, Write, Memory}
 
@@ -26,3 +28,25 @@ IsReadFault before after (Fault fault) = ⊥
 IsReadFault before after Read = Rose before after
 IsReadFault before after Write = ⊥
 IsReadFault before after Memory = Unit {0}
+
+-- ---- scripts
+
+-- The input was read to its end and is a script, which says this.
+pub record IsScriptRead (left left_after : Option (List ℕ)) (said : Said) : Type 0 where
+  pub bytes : List ℕ
+  pub taken : Consumes left left_after bytes
+  pub to_end : IsAtEnd left_after
+  pub script : reading_of bytes ≡ Ok said
+
+-- The whole input was read, or one byte more than a script can have, and this is its first fault.
+pub record IsNoScript (left left_after : Option (List ℕ)) (fault : ScriptFault) : Type 0 where
+  pub bytes : List ℕ
+  pub read : IsRead left left_after bytes
+  pub first : FirstFault bytes fault
+
+-- why no script was read: the input is none, the source's faults rose, or memory ran out
+abbrev pub IsUnread : Option (List ℕ) → Option (List ℕ) → ℕ → ℕ → Failure → Type 0
+IsUnread left left_after before after (Fault fault) = IsNoScript left left_after fault
+IsUnread left left_after before after Read = Rose before after
+IsUnread left left_after before after Write = ⊥
+IsUnread left left_after before after Memory = Unit {0}

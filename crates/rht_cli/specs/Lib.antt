@@ -1,7 +1,9 @@
--- which bytes are read of an input
+-- which bytes are read of an input, and when they are a script
 pub mod Input
--- the text of a script that was run
+-- the text of a script that was run, or what sums it up
 pub mod RunText
+-- the text of a script that was replayed
+pub mod ReplayText
 -- the command forms: their words, their input and their text
 pub mod Forms
 -- how a run can end, and what each end means

@@ -1,4 +1,4 @@
--- The text that `run` prints for what a script says: that of a run of a table which serves the script's commands.
+-- The text that `run` and `gen` print for what a script says: that of a run of a table which serves the script's commands.
 -- Beside the run stands what it means for who knows ports and owners alone: a history of the replies, and where no command is refused.
 -- The size is that of the current table in the last words of the run (`IsClosedOf`): growing and shrinking decide which one that is, and
 -- where the script doesn't say manual, workers do that by themselves.
@@ -18,6 +18,7 @@ use Rattle.rht_core.specs.Serving.{IsServedRun}
 use Rattle.rht_core.specs.ToldHistories.{entries_told, endings_by, IsTold}
 use Rattle.rht_script.specs.Grammar.{Said}
 use Rattle.rht_script.specs.Text.{run_text}
+use Rattle.rht_script.specs.SummaryText.{summary_line}
 
 -- A run of a table of this config, whose ports are hashed so, serves the commands with these endings, and what was closed is what its
 -- last words stand for; the third says whether workers run `work` by themselves. The types name what the callers of a table with such
@@ -26,15 +27,23 @@ abbrev pub IsServedBy : Hash → Config → Bool → List (ℕ × Call) → List
 IsServedBy hashes.Mix config auto commands endings closed = IsServedRun Lookup3 (mix_of_hash hashes.Mix) config auto commands endings closed
 IsServedBy hashes.Low config auto commands endings closed = IsServedRun Low (mix_of_hash hashes.Low) config auto commands endings closed
 
--- The text is that of a run which serves what the script says.
-pub record IsRunText (said : Said) (text : List ℕ) : Type 0 where
+-- `run` prints all replies, and what is bound at the end
+abbrev pub whole_text : List (List Ending) → Closed → List ℕ
+whole_text endings closed = run_text endings closed.bindings.pairs closed.size
+
+-- `gen` of a number prints a line that sums both up
+abbrev pub summary_text : ℕ → List (List Ending) → Closed → List ℕ
+summary_text number endings closed = summary_line number endings closed.bindings.pairs
+
+-- The text is what is printed of a run which serves what the script says.
+pub record IsRunText (printed : List (List Ending) → Closed → List ℕ) (said : Said) (text : List ℕ) : Type 0 where
   -- how each worker's commands ended, and what was closed
   pub endings : List (List Ending)
   pub closed : Closed
   -- they are those of a run, by the hash that the script names
   pub served : IsServedBy said.config.hash said.config said.auto said.commands endings closed
   -- and they are what is printed
-  pub written : text ≡ run_text endings closed.bindings.pairs closed.size
+  pub written : text ≡ printed endings closed
   -- the replies are those of a legal history of the commands, which leaves what is printed as bound; where a command is refused
   -- for want of a node the script has more binds and rebinds than nodes, and where the table is full it was
   pub history : List Entry

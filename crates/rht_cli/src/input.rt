@@ -1,18 +1,34 @@
-//! Reading the whole input, and no more of it than a script can have.
+//! Reading the whole input, and no more of it than a script can have, as a script.
 
 ghost use Rattle.std.specs.Prelude.{◌≡◌, ◌<◌, ◌≤◌, length, vec_len, IfOk, IfErr};
-ghost use Rattle.rht_cli.specs.Input.{IsRead, IsMore, IsReadFault};
+ghost use Rattle.std.specs.List.{AllByRecursion};
+ghost use Rattle.rht_script.specs.Reading.{said_by};
+ghost use Rattle.rht_script.specs.Sound.{IsSoundScript, IsCommandCall};
+ghost use Rattle.rht_cli.specs.Input.{IsRead, IsMore, IsReadFault, IsScriptRead, IsUnread};
 
 use crate::ending::Failure;
 use rht_io::Source;
-use rht_script::MOST_BYTES;
+use rht_script::{MOST_BYTES, Script, read};
 use std::alloc::{AllocError, Global};
 
 /// How many bytes are asked of the source at one time.
 const PIECE: usize = 65_536;
 
+/// Reads the script that the input is.
+pub fn read_script<S: Source>(alloc: Global, source: &mut S) -> Result<Script, Failure>
+    ensures read { IfOk result (λ script. IsScriptRead (S.left source.old) (S.left source.new) (said_by script)) }
+    ensures sound { IfOk result IsSoundScript }
+    ensures asked { IfOk result
+        (λ script. AllByRecursion (λ command. IsCommandCall command.1) script.commands.items) }
+    ensures unread { IfErr result (IsUnread (S.left source.old) (S.left source.new)
+        (S.faults source.old) (S.faults source.new)) }
+{
+    let bytes = read_all(alloc, source)?;
+    Ok(read(alloc, &bytes)?)
+}
+
 /// Reads the input to its end, or until it has one byte more than a script can have.
-pub fn read_all<S: Source>(alloc: Global, source: &mut S) -> Result<Vec<u8>, Failure>
+fn read_all<S: Source>(alloc: Global, source: &mut S) -> Result<Vec<u8>, Failure>
     ensures read { IfOk result (λ bytes. IsRead (S.left source.old) (S.left source.new) bytes.items) }
     ensures fault { IfErr result (IsReadFault (S.faults source.old) (S.faults source.new)) }
 {

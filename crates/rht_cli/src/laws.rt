@@ -1,11 +1,12 @@
 //! What follows for a run over a source and sinks that never fail.
 
-ghost use Rattle.std.specs.Prelude.{◌≡◌, ◌↔◌, ◌⊎◌, None, Some, Ok, string_bytes, map};
+ghost use Rattle.std.specs.Prelude.{◌≡◌, ◌↔◌, ◌⊎◌, ℕ, None, Some, Ok, string_bytes, map};
 ghost use Rattle.rht_script.specs.declared.script.ScriptFault.{ScriptFault};
 ghost use Rattle.rht_script.specs.Grammar.{Said, reading_of};
 ghost use Rattle.rht_script.specs.Reading.{FirstFault};
-ghost use Rattle.rht_cli.specs.declared.form.Form.TheVariants.{Run};
-ghost use Rattle.rht_cli.specs.Forms.{form_of};
+ghost use Rattle.rht_cli.specs.declared.form.Form.{Form};
+ghost use Rattle.rht_cli.specs.declared.form.Form.TheVariants.{Gen};
+ghost use Rattle.rht_cli.specs.Forms.{form_of, ReadsScript};
 
 use crate::program::run;
 use rht_io::{Gate, SureSink, SureSource};
@@ -13,8 +14,9 @@ use std::alloc::Global;
 use std::sync::Wait;
 use std::thread::Threads;
 
-/// The status of a run on these bytes where nothing outside can fail: 0 for a script and 2 for
-/// other bytes, or 5 where memory ran out; and 1 where the words are no command form.
+/// The status of a run on these bytes where nothing outside can fail. A form that reads a script
+/// has 0 for a script and 2 for other bytes, or 5 where memory ran out; `gen` has 0 or 5; and where
+/// the words are no command form the status is 1.
 pub fn complete<R: Threads + Wait + Sync, G: Gate + Sync>(
     rt: &R,
     alloc: Global,
@@ -23,10 +25,13 @@ pub fn complete<R: Threads + Wait + Sync, G: Gate + Sync>(
     gate: &G,
 ) -> u8
     ensures usage { (result ≡ 1) ↔ (form_of (map string_bytes words.now.items) ≡ None) }
-    ensures served { (said : Said) → form_of (map string_bytes words.now.items) ≡ Some Run
-        → reading_of bytes.items ≡ Ok said → (result ≡ 0) ⊎ (result ≡ 5) }
-    ensures refused { (fault : ScriptFault) → form_of (map string_bytes words.now.items) ≡ Some Run
-        → FirstFault bytes.items fault → (result ≡ 2) ⊎ (result ≡ 5) }
+    ensures served { (form : Form) (said : Said) → form_of (map string_bytes words.now.items) ≡ Some form
+        → ReadsScript form → reading_of bytes.items ≡ Ok said → (result ≡ 0) ⊎ (result ≡ 5) }
+    ensures refused { (form : Form) (fault : ScriptFault)
+        → form_of (map string_bytes words.now.items) ≡ Some form
+        → ReadsScript form → FirstFault bytes.items fault → (result ≡ 2) ⊎ (result ≡ 5) }
+    ensures generated { (number : ℕ) → form_of (map string_bytes words.now.items) ≡ Some (Gen number)
+        → (result ≡ 0) ⊎ (result ≡ 5) }
 {
     let mut source = SureSource::new(bytes);
     let mut out = SureSink::new();

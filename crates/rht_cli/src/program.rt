@@ -1,7 +1,7 @@
 //! The top call: the program from bytes to bytes.
 //!
-//! Stands on the forms, the reader of the input, the script's reader and writer, the registry whose workers
-//! do a script's commands on a table, the closing of that table, and the endings. Begin with the clauses of
+//! Stands on the forms, the reader of the input, the script's writer, the registry whose workers do a
+//! script's commands on a table or which replays it, the closing of that table, and the endings. Begin with the clauses of
 //! `run`: they say what each status means.
 
 ghost use Rattle.std.specs.Prelude.{◌≡◌, ◌≢◌, ◌≤◌, ◌↔◌, ◌⊎◌, None, Some, Option, List, ℕ, string_bytes, map, IfOk};
@@ -15,20 +15,21 @@ ghost use Rattle.rht_script.specs.Sound.{IsSoundScript, IsCommandCall};
 ghost use Rattle.rht_script.specs.Text.{fault_line};
 ghost use Rattle.rht_registry.specs.Outcomes.{IsBuiltCommand};
 ghost use Rattle.rht_cli.specs.declared.form.Form.{Form};
-ghost use Rattle.rht_cli.specs.declared.form.Form.TheVariants.{Run};
-ghost use Rattle.rht_cli.specs.Forms.{form_of, HasForm, IsInputOf, IsFaultOf};
+ghost use Rattle.rht_cli.specs.declared.form.Form.TheVariants.{Run, Replay, Gen};
+ghost use Rattle.rht_cli.specs.Forms.{form_of, HasForm, ReadsScript, IsInputOf, IsFaultOf};
 ghost use Rattle.rht_cli.specs.RunText.{IsServedBy};
-ghost use Rattle.rht_cli.specs.Endings.{IsDone, IsCutShort, Serves, served_by, ending_of, status_line};
+ghost use Rattle.rht_cli.specs.ReplayText.{IsReplayedBy};
+ghost use Rattle.rht_cli.specs.Endings.{IsDone, IsCutShort, Serves, ServesUnread, served_by, replayed_by, ending_of, status_line};
 
 use crate::ending::{Ending, Failure};
 use crate::form::Form;
-use crate::input::read_all;
+use crate::input::read_script;
 use rht_io::{Failed, Gate, Sink, Source};
 use rht_model::{Closed, Replies};
 use rht_policy::{Lookup3, Low, Mix};
-use rht_registry::run_workers;
+use rht_registry::{ReplayError, replay, run_workers};
 use rht_run::Table;
-use rht_script::{Script, read, write_run};
+use rht_script::{Script, generated, write_run, write_summary};
 use rht_words::Hash;
 use std::alloc::{AllocError, Global};
 use std::sync::Wait;
@@ -36,7 +37,7 @@ use std::thread::Threads;
 
 /// Runs the program on the words after its name, and answers its exit status.
 ///
-/// The script comes from the source, the text goes to `out`, and the line of a status above 0
+/// The script comes from the source, but that of `gen`; the text goes to `out`, and the line of a status above 0
 /// to `err`, whose faults change no status. The gate hears of each command before it and after it.
 pub fn run<R: Threads + Wait + Sync, S: Source, O: Sink, E: Sink, G: Gate + Sync>(
     rt: &R,
@@ -47,7 +48,7 @@ pub fn run<R: Threads + Wait + Sync, S: Source, O: Sink, E: Sink, G: Gate + Sync
     err: &mut E,
     gate: &G,
 ) -> u8
-    // 0: the form's input was read to its end, and its whole text was written.
+    // 0: the form's input was read to its end, where it reads any, and its whole text was written.
     ensures done { result ≡ 0 → HasForm (map string_bytes words.now.items)
         (λ form. IsDone form (S.left source.old) (S.left source.new) (O.held out.old) (O.held out.new)) }
 
@@ -63,8 +64,9 @@ pub fn run<R: Threads + Wait + Sync, S: Source, O: Sink, E: Sink, G: Gate + Sync
         × PutsLine (E.held err.old) (E.held err.new) (E.faults err.old) (E.faults err.new) (fault_line fault)
         × (out.new ≡ out.old) }
 
-    // 3: the source had a fault. Nothing was written.
-    ensures unread { result ≡ 3 → Rose (S.faults source.old) (S.faults source.new) × (out.new ≡ out.old) }
+    // 3: the form reads a script, and the source had a fault. Nothing was written.
+    ensures unread { result ≡ 3 → Rose (S.faults source.old) (S.faults source.new) × (out.new ≡ out.old)
+        × HasForm (map string_bytes words.now.items) ReadsScript }
 
     // 4: the sink had a fault. A prefix of the form's text was written.
     ensures unwritten { result ≡ 4 → Rose (O.faults out.old) (O.faults out.new)
@@ -76,6 +78,10 @@ pub fn run<R: Threads + Wait + Sync, S: Source, O: Sink, E: Sink, G: Gate + Sync
         ⊎ HasForm (map string_bytes words.now.items)
         (λ form. IsCutShort form (S.left source.old) (S.left source.new) (O.held out.old) (O.held out.new)) }
     ensures statuses { result ≤ 5 }
+
+    // Where the words are `gen` and a number, nothing is read, whatever the status is.
+    ensures nothing_read { (number : ℕ) → form_of (map string_bytes words.now.items) ≡ Some (Gen number)
+        → source.new ≡ source.old }
 
     // The line of any other status, or a prefix of it where the faults of err rose.
     ensures line { result ≢ 2
@@ -122,10 +128,13 @@ fn serve<R: Threads + Wait + Sync, S: Source, O: Sink, G: Gate + Sync>(
     out: &mut O,
     gate: &G,
 ) -> Result<(), Failure>
-    ensures { Serves S.left S.faults O.held O.faults form source.old source.new out.old out.new result }
+    ensures served { Serves S.left S.faults O.held O.faults form source.old source.new out.old out.new result }
+    ensures unread { (number : ℕ) → form ≡ Gen number → source.new ≡ source.old }
 {
     match form {
         Form::Run => serve_run(rt, alloc, source, out, gate),
+        Form::Replay => serve_replay(alloc, source, out),
+        Form::Gen { number } => serve_gen(rt, alloc, number, out, gate),
     }
 }
 
@@ -139,10 +148,47 @@ fn serve_run<R: Threads + Wait + Sync, S: Source, O: Sink, G: Gate + Sync>(
 ) -> Result<(), Failure>
     ensures { Serves S.left S.faults O.held O.faults Run source.old source.new out.old out.new result }
 {
-    let bytes = read_all(alloc, source)?;
-    let script = read(alloc, &bytes)?;
+    let script = read_script(alloc, source)?;
     let (replies, closed) = run_hashed(rt, alloc, &script, gate)?;
     served_by(write_run(out, &replies, &closed))
+}
+
+/// Reads a script, and replays it.
+fn serve_replay<S: Source, O: Sink>(
+    alloc: Global,
+    source: &mut S,
+    out: &mut O,
+) -> Result<(), Failure>
+    ensures { Serves S.left S.faults O.held O.faults Replay source.old source.new out.old out.new result }
+{
+    let script = read_script(alloc, source)?;
+    replayed_by(replay_hashed(alloc, &script, out))
+}
+
+/// Does the commands of the script of a number, and prints a line that sums up what they are answered.
+fn serve_gen<R: Threads + Wait + Sync, O: Sink, G: Gate + Sync>(
+    rt: &R,
+    alloc: Global,
+    number: u32,
+    out: &mut O,
+    gate: &G,
+) -> Result<(), Failure>
+    ensures { ServesUnread O.held O.faults (Gen number) out.old out.new result }
+{
+    let script = generated(alloc, number)?;
+    let (replies, closed) = run_hashed(rt, alloc, &script, gate)?;
+    served_by(write_summary(out, number, &replies, &closed))
+}
+
+/// Replays a script on a table whose ports are hashed as its config says.
+fn replay_hashed<O: Sink>(alloc: Global, script: &Script, out: &mut O) -> Result<(), ReplayError>
+    requires { IsSoundScript script.now }
+    ensures { IsReplayedBy script.now.config.hash script.now O.held O.faults out.old out.new result }
+{
+    match script.config.hash {
+        Hash::Mix => replay::<Lookup3, _>(alloc, script, out),
+        Hash::Low => replay::<Low, _>(alloc, script, out),
+    }
 }
 
 /// Does a script's commands on a table whose ports are hashed as its config says, and closes it. The one
@@ -191,5 +237,16 @@ fn served_by(put: Result<(), Failed>) -> Result<(), Failure>
     match put {
         Ok(()) => Ok(()),
         Err(Failed) => Err(Failure::Write),
+    }
+}
+
+/// How a form is served whose text is a replay that ended so.
+fn replayed_by(replayed: Result<(), ReplayError>) -> Result<(), Failure>
+    ensures { result ≡ replayed_by replayed }
+{
+    match replayed {
+        Ok(()) => Ok(()),
+        Err(ReplayError::Write) => Err(Failure::Write),
+        Err(ReplayError::Memory) => Err(Failure::Memory),
     }
 }

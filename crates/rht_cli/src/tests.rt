@@ -8,7 +8,7 @@ use std::alloc::Global;
 use std::hint::spin_loop;
 use std::process::Abort;
 use std::sync::Wait;
-use std::sync::atomic::{AtomicBool, Ordering};
+use std::sync::atomic::{AtomicBool, AtomicU64, Ordering};
 use std::test::Fail;
 use std::thread::Threads;
 
@@ -218,6 +218,11 @@ fn scripts_are_served_and_others_refused(rt: HostRuntime) -> Result<(), Fail> {
         ("gen", "table single\n", 1, "", USAGE),
         ("gen -1", "table single\n", 1, "", USAGE),
         ("run --", "table single\n", 1, "", USAGE),
+        ("replay x", "table single\n", 1, "", USAGE),
+        // The number of `gen` has 1 to 10 digits, and 32 bits.
+        ("gen 4294967296", "table single\n", 1, "", USAGE),
+        ("gen 00000000007", "table single\n", 1, "", USAGE),
+        ("gen 7 7", "table single\n", 1, "", USAGE),
         ("", "table single\n", 1, "", USAGE),
     ];
     for (words, script, status, out, err) in cases {
@@ -496,6 +501,56 @@ fn two_workers_meet(rt: HostRuntime) -> Result<(), Fail> {
     Ok(())
 }
 
+/// How many commands a gate has heard of.
+#[derive(Drop)]
+struct Heard {
+    before: AtomicU64,
+    after: AtomicU64,
+}
+
+impl Gate for Heard {
+    fn before(&self, _worker: u32, _index: u32) {
+        self.before.fetch_add(1, Ordering::SeqCst);
+    }
+
+    fn after(&self, _worker: u32, _index: u32) {
+        self.after.fetch_add(1, Ordering::SeqCst);
+    }
+}
+
+#[test]
+fn a_number_is_run(rt: HostRuntime) -> Result<(), Fail> {
+    // Of 500 rounds of each of 8 workers 250 bind a port twice and leave it bound, and 250 release it.
+    // Bound stay the ports 10,000 w + o + j of the even j, with o the number's last three digits:
+    // 250 * (360,000 + 8 o) + 8 * 62,250 = 90,498,000 + 2,000 o.
+    let cases = [
+        ("gen 7", "gen 7", "90512000"),
+        ("gen 0000000007", "gen 7", "90512000"),
+        ("gen 4294967295", "gen 4294967295", "91088000"),
+    ];
+    for (words, name, sum) in cases {
+        let heard = Heard {
+            before: AtomicU64::new(0),
+            after: AtomicU64::new(0),
+        };
+        // Nothing is read: a take would fail.
+        let outside = Outside {
+            piece: 16,
+            take: 1,
+            put: 0,
+            err: 0,
+        };
+        let left = run_with(&rt, rt.alloc(), words, SCRIPT, outside, &heard)?;
+        let text = format!(in rt.alloc();
+            "{name}: commands 20000 bound 4000 exists 2000 found 6000 missing 6000 released 2000 keys 2000 sum {sum}\n"
+        )?;
+        assert_left(&rt, &left, 0, &text, "", words);
+        assert_eq!(rt; heard.before.load(Ordering::SeqCst), 20_000);
+        assert_eq!(rt; heard.after.load(Ordering::SeqCst), 20_000);
+    }
+    Ok(())
+}
+
 #[test]
 fn sixteen_workers_share_a_port(rt: HostRuntime) -> Result<(), Fail> {
     // Each binds the port to itself, looks it up and takes its own binding out. Its look-up finds an owner,
@@ -535,21 +590,84 @@ fn sixteen_workers_share_a_port(rt: HostRuntime) -> Result<(), Fail> {
 }
 
 #[test]
+fn schedules_are_replayed(rt: HostRuntime) -> Result<(), Fail> {
+    let cases = [
+        // The worker has no command, and its events do nothing. One too many has the limit in its place.
+        ("table single\nstep 1 1000000\n", "size 64 keys 0\n"),
+        (
+            "table single\nstep 1 1000000\nstep 1 1\n",
+            "limit\nsize 64 keys 0\n",
+        ),
+        // Worker 1 has the lock of resizing while worker 2 tries.
+        (
+            "table single workers 2\n1 work\n2 work\nskip 1 1\nfinish 2 1\nfinish 1 1\n",
+            "2: elsewhere\n1: idle\nsize 64 keys 0\n",
+        ),
+        // The node map of 8 nodes is at 280, node 0 from 282 on, and the pages from 314 on; port 5 has
+        // bucket 5, which is at 319 and has the marker 2 * 319 + 1.
+        (
+            "table single nodes 8 pages 4 workers 2 hash low\n1 bind 5 9\n2 find 5\nstep 1 15\nstep 2 9\n",
+            "1 load 280 255\n1 and 280 18446744073709551614 255\n1 store 283 5\n1 store 284 9\n1 store 285 0\n1 load 0 0\n1 load 24 6\n1 load 25 1\n1 load 319 0\n1 cas 319 0 1 0\n1 load 26 0\n1 load 2 0\n1 store 282 639\n1 add 2 1 0\n1 store 319 2\n1: bound\n2 load 0 0\n2 load 24 6\n2 load 25 1\n2 load 319 2\n2 cas 319 2 3 2\n2 load 283 5\n2 load 284 9\n2 load 285 0\n2 store 319 2\n2: found 9\nport 5: 9\nsize 64 keys 1\n",
+        ),
+        // A worker that is in a call at the end is named.
+        (
+            "table single workers 2\n1 bind 5 9\n2 find 5\nskip 1 1\nfinish 2 1\n",
+            "2: missing\nopen 1\nsize 64\n",
+        ),
+    ];
+    for (script, text) in cases {
+        let left = run_on(&rt, rt.alloc(), "replay", script, WHOLE)?;
+        assert_left(&rt, &left, 0, text, "", script);
+    }
+    Ok(())
+}
+
+#[test]
 fn a_failed_take_leaves_nothing_written(rt: HostRuntime) -> Result<(), Fail> {
     // Four takes of 16 bytes and one that finds the end.
-    for take in 1..=6 {
+    for words in ["run", "replay"] {
+        for take in 1..=6 {
+            let outside = Outside {
+                piece: 16,
+                take,
+                put: 0,
+                err: 0,
+            };
+            let left = run_on(&rt, rt.alloc(), words, SCRIPT, outside)?;
+            if take < 6 {
+                assert_left(&rt, &left, 3, "", "rht: read failed\n", words);
+            } else {
+                assert_eq!(rt; left.status, 0, "{words}");
+            }
+        }
+    }
+    Ok(())
+}
+
+#[test]
+fn a_failed_put_leaves_the_lines_before_it(rt: HostRuntime) -> Result<(), Fail> {
+    // A replay puts each line by itself, and the last two lines together.
+    let script = "table single\n1 bind 80 100\n1 find 80\nfinish 1 2\n";
+    let texts = [
+        "",
+        "1: bound\n",
+        "1: bound\n1: found 100\n",
+        "1: bound\n1: found 100\nport 80: 100\nsize 64 keys 1\n",
+    ];
+    for (i, text) in texts.iter().enumerate() {
         let outside = Outside {
-            piece: 16,
-            take,
-            put: 0,
+            piece: 4096,
+            take: 0,
+            put: i as u64 + 1,
             err: 0,
         };
-        let left = run_on(&rt, rt.alloc(), "run", SCRIPT, outside)?;
-        if take < 6 {
-            assert_left(&rt, &left, 3, "", "rht: read failed\n", "a take fails");
+        let left = run_on(&rt, rt.alloc(), "replay", script, outside)?;
+        let (status, line) = if i < 3 {
+            (4, "rht: write failed\n")
         } else {
-            assert_eq!(rt; left.status, 0);
-        }
+            (0, "")
+        };
+        assert_left(&rt, &left, status, text, line, script);
     }
     Ok(())
 }
@@ -608,7 +726,11 @@ fn where_nothing_outside_can_fail(rt: HostRuntime) -> Result<(), Fail> {
         ("run", SCRIPT, 0),
         ("run", "", 2),
         ("run", "table single\n1 bind 80", 2),
-        ("replay", SCRIPT, 1),
+        ("replay", SCRIPT, 0),
+        ("replay", "", 2),
+        ("replay x", SCRIPT, 1),
+        ("gen 7", "", 0),
+        ("gen", SCRIPT, 1),
         ("", SCRIPT, 1),
     ];
     for (words, script, status) in cases {

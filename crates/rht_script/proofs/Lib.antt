@@ -36,3 +36,5 @@ pub mod AddedLists
 pub mod PlacesOfBindings
 -- what stands at a place of replies and of workers
 pub mod WorkerLines
+-- sums of the summary line while they are made
+pub mod Summaries

@@ -28,5 +28,7 @@ pub mod Laws
 pub mod Text
 -- the text of a replay's operations, and of what it leaves open
 pub mod OperationText
+-- the line that sums up the run of a script made from a number
+pub mod SummaryText
 -- what a step of writing text does
 pub mod Writing

@@ -19,4 +19,5 @@ pub use reader::{MOST_BYTES, read};
 pub use script::{ReadError, Sched, Script, ScriptFault, TableLine};
 pub use writer::{
     write_closed, write_fault, write_open, write_operation, write_reply, write_run, write_size,
+    write_summary,
 };

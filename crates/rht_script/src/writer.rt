@@ -12,11 +12,13 @@ ghost use Rattle.rht_script.specs.Writing.{Adds};
 mod buffer;
 mod operations;
 mod pieces;
+mod summary;
 #[cfg(test)]
 mod tests;
 
 pub use self::operations::{write_open, write_operation, write_size};
 use self::pieces::Writer;
+pub use self::summary::write_summary;
 use crate::script::ScriptFault;
 use rht_io::{Failed, Sink};
 use rht_model::{Bindings, Closed, Cursor, Replies, Reply};

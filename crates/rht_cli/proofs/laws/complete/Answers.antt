@@ -1,26 +1,27 @@
-use Rattle.std.proofs.Common.{[], Some, ap, arith, inl, inr}
-use Rattle.rht_io.specs.Told.{Rose}
-use Rattle.rht_cli.specs.declared.form.Form.TheVariants.{Run}
-use Rattle.rht_cli.proofs.ToldInput.{IsInputOf-told, IsFaultOf-told}
+use Rattle.std.proofs.Common.{[], Some, ap, refl, inl, inr}
+use Rattle.rht_script.specs.Generated.{generated_said}
+use Rattle.rht_cli.specs.declared.form.Form.TheVariants.{Gen}
+use Rattle.rht_cli.proofs.ServedScripts.{never_rises}
+use Rattle.rht_cli.proofs.ToldInput.{IsInputOf-script, IsFaultOf-script, IsInputOf-gen, IsScriptRead-told, IsNoScript-told}
 use Rattle.rht_cli.proofs.laws.complete.Goals as goal
 
--- a count that stays 0 didn't rise
-not_rose : Rose 0 0 → ⊥
-not_rose rose = elim rose [
-  | inl more ↦ omega (arith, more)
-  | inr last ↦ omega (arith, last)
-]
-
 pub returns-clause-served : goal.returns-clause-served
-returns-clause-served g c said named script =
-    c.run.ensures.served Run c.args.bytes.items (Some []) said named (ap Some c.new-source.ensures)
-    (IsInputOf-told c.args.bytes.items said script) not_rose not_rose
+returns-clause-served g c form said named reads script =
+    c.run.ensures.served form c.args.bytes.items (Some []) said named (ap Some c.new-source.ensures)
+    (IsInputOf-script form reads (Some c.args.bytes.items) (Some []) said (IsScriptRead-told c.args.bytes.items said script))
+    never_rises never_rises
 
 pub returns-clause-refused : goal.returns-clause-refused
-returns-clause-refused g c fault named first =
-    let input = IsFaultOf-told c.args.bytes.items fault first in
-    elim (c.run.ensures.refused Run c.args.bytes.items input.0 fault named (ap Some c.new-source.ensures)
-    input.1 not_rose) [
+returns-clause-refused g c form fault named reads first =
+    let input = IsNoScript-told c.args.bytes.items fault first in
+    elim (c.run.ensures.refused form c.args.bytes.items input.0 fault named (ap Some c.new-source.ensures)
+    (IsFaultOf-script form reads (Some c.args.bytes.items) input.0 fault input.1) never_rises) [
       | inl two ↦ inl two.0
       | inr memory ↦ inr memory
     ]
+
+pub returns-clause-generated : goal.returns-clause-generated
+returns-clause-generated g c number named =
+    let bytes = Some c.args.bytes.items in
+    c.run.ensures.served (Gen number) c.args.bytes.items bytes (generated_said number) named (ap Some c.new-source.ensures)
+    (IsInputOf-gen number bytes (generated_said number) refl) never_rises never_rises

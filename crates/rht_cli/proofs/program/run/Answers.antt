@@ -3,6 +3,7 @@ use Rattle.std.specs.declared.string.String.{String}
 use Rattle.std.specs.declared.alloc.Global.{Global}
 use Rattle.rht_io.specs.Told.{PutsLine}
 use Rattle.rht_cli.specs.declared.form.Form.{Form}
+use Rattle.rht_cli.specs.declared.form.Form.TheVariants.{Gen}
 use Rattle.rht_cli.specs.Forms.{form_of, IsInputOf, IsFaultOf}
 use Rattle.rht_cli.specs.Endings.{status_of, ending_of, ending_line}
 use Rattle.rht_cli.proofs.Completeness.{served_whole, refused_fault}
@@ -23,7 +24,7 @@ returns-in-Some-clause-served g c form bytes rest said named told input reads wr
     ∙ ap status_of c.ending_of.ensures in
     elim (served_whole g.S.Source.left g.S.Source.faults g.O.Sink.held g.O.Sink.faults c.in-Some.form
     c.args.source.now c.serve.new.source c.args.out.now c.serve.new.out
-    bytes rest told c.serve.result c.serve.ensures said
+    bytes rest told c.serve.result c.serve.ensures.served said
     (subst (λ (f : Form). IsInputOf f (Some bytes) rest said) same input) reads writes) [
       | inl whole ↦ inl (is ∙ whole)
       | inr memory ↦ inr (is ∙ memory)
@@ -37,7 +38,7 @@ returns-in-Some-clause-refused g c form bytes rest fault named told refused read
     ∙ ap status_of c.ending_of.ensures in
     elim (refused_fault g.S.Source.left g.S.Source.faults g.O.Sink.held g.O.Sink.faults c.in-Some.form
     c.args.source.now c.serve.new.source c.args.out.now c.serve.new.out
-    bytes rest told c.serve.result c.serve.ensures fault
+    bytes rest told c.serve.result c.serve.ensures.served fault
     (subst (λ (f : Form). IsFaultOf f (Some bytes) rest fault) same refused) reads) [
       | inl two ↦ inl (
         is ∙ two.0,
@@ -47,3 +48,8 @@ returns-in-Some-clause-refused g c form bytes rest fault named told refused read
       )
       | inr memory ↦ inr (is ∙ memory)
     ]
+
+pub returns-in-Some-clause-nothing_read : goal.returns-in-Some-clause-nothing_read
+returns-in-Some-clause-nothing_read g c number named =
+    c.serve.ensures.unread number (sym (one_form c.args.words.now.items c.deref.result.now (Gen number) c.in-Some.form
+    c.deref.ensures.value (sym c.in-Some.is ∙ c.of.ensures) named))

@@ -1,28 +1,22 @@
-use Rattle.std.proofs.Common.{◌≡◌, ℕ, List, Ok, sym, subst}
+use Rattle.std.proofs.Common.{◌≡◌, ℕ, List, sym, subst}
 use Rattle.std.proofs.lemmas.Result.{err_from_is_err_and}
-use Rattle.rht_script.specs.Grammar.{reading_of}
-use Rattle.rht_script.specs.Reading.{said_by, IsReason}
+use Rattle.rht_script.specs.Reading.{said_by}
 use Rattle.rht_script.specs.Text.{run_text}
 use Rattle.rht_model.specs.Endings.{Ending}
 use Rattle.rht_registry.proofs.SoundCommands.{sound-commands}
 use Rattle.rht_cli.specs.declared.form.Form.TheVariants.{Run}
 use Rattle.rht_cli.specs.Forms.{IsTextOf}
-use Rattle.rht_cli.proofs.ToldInput.{IsInputOf-read}
-use Rattle.rht_cli.proofs.RunTexts.{closed-keys, IsTextOf-served}
-use Rattle.rht_cli.proofs.ServedScripts.{FailsBy-read, Serves-put}
+use Rattle.rht_cli.proofs.ToldInput.{IsInputOf-script}
+use Rattle.rht_cli.proofs.RunTexts.{closed-keys, IsTextOf-run}
+use Rattle.rht_cli.proofs.ServedScripts.{FailsBy-unread, Serves-put}
 use Rattle.rht_cli.proofs.program.serve_run.Goals as goal
 
 pub returns-in_err-script : goal.returns-in_err-script
 returns-in_err-script g c =
-    let p = err_from_is_err_and c.from_residual-in_err-script.result
-    c.from_residual-in_err-script.ensures.1 in
-    let error = c.in_err-script.field-0.0 in
-    let reason = subst (λ (l : List ℕ). IsReason l error) c.deref.ensures.value
-    c.in_err-script.ensures.reason in
+    let p = err_from_is_err_and c.from_residual.result c.from_residual.ensures.1 in
     rw (p.1, p.2)
-    (FailsBy-read g.S.Source.left g.S.Source.faults g.O.Sink.held g.O.Sink.faults c.args.source.now
-    c.read_all.new.source c.args.out.now
-    c.in_ok-bytes.bytes.items error c.in_ok-bytes.ensures.read reason)
+    (FailsBy-unread g.S.Source.left g.S.Source.faults g.O.Sink.held g.O.Sink.faults Run c.args.source.now
+    c.read_script.new.source tt c.args.out.now c.in_err-script.field-0.0 c.in_err-script.ensures.unread)
 
 pub write_run-requires : goal.write_run-requires
 write_run-requires g c =
@@ -35,21 +29,17 @@ returns g c =
     let replies = c.in_ok-replies.replies in
     let closed = c.in_ok-replies.closed in
     let pairs = closed.bindings.pairs in
-    let text = run_text c.deref-2.result.now pairs closed.size in
+    let text = run_text c.deref.result.now pairs closed.size in
     let script = c.in_ok-script.script in
     let said = said_by script in
-    let bytes = c.in_ok-bytes.bytes.items in
-    let is_script : reading_of bytes ≡ Ok said =
-    subst (λ (l : List ℕ). reading_of l ≡ Ok said) c.deref.ensures.value c.in_ok-script.ensures.script in
     let left = g.S.Source.left in
-    let read = IsInputOf-read (left c.args.source.now) (left c.read_all.new.source) bytes said
-    c.in_ok-bytes.ensures.read is_script in
+    let read = IsInputOf-script Run tt (left c.args.source.now) (left c.read_script.new.source) said c.in_ok-script.ensures.read in
     let commands = sound-commands script.config script.commands.items c.in_ok-script.ensures.sound.commands in
     let printed : IsTextOf Run said text =
     subst (λ (workers : List (List Ending)). IsTextOf Run said
-    (run_text workers pairs closed.size)) (sym c.deref-2.ensures.value)
-    (IsTextOf-served said replies.items closed commands c.in_ok-replies.ensures) in
+    (run_text workers pairs closed.size)) (sym c.deref.ensures.value)
+    (IsTextOf-run said replies.items closed commands c.in_ok-replies.ensures) in
     rw c.served_by.ensures
-    (Serves-put left g.S.Source.faults g.O.Sink.held g.O.Sink.faults c.args.source.now
-    c.read_all.new.source c.args.out.now c.write_run.new.out
+    (Serves-put left g.S.Source.faults g.O.Sink.held g.O.Sink.faults Run c.args.source.now
+    c.read_script.new.source c.args.out.now c.write_run.new.out
     said text c.write_run.result read printed c.write_run.ensures)

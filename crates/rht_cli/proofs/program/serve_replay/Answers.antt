@@ -1,0 +1,28 @@
+use Rattle.std.proofs.lemmas.Result.{err_from_is_err_and}
+use Rattle.rht_script.specs.Reading.{said_by}
+use Rattle.rht_cli.specs.declared.form.Form.TheVariants.{Replay}
+use Rattle.rht_cli.proofs.ToldInput.{IsInputOf-script}
+use Rattle.rht_cli.proofs.ReplayTexts.{IsTextOf-replayed}
+use Rattle.rht_cli.proofs.ServedScripts.{FailsBy-unread, Serves-replayed}
+use Rattle.rht_cli.proofs.program.serve_replay.Goals as goal
+
+pub returns-in_err-script : goal.returns-in_err-script
+returns-in_err-script g c =
+    let p = err_from_is_err_and c.from_residual.result c.from_residual.ensures.1 in
+    rw (p.1, p.2)
+    (FailsBy-unread g.S.Source.left g.S.Source.faults g.O.Sink.held g.O.Sink.faults Replay c.args.source.now
+    c.read_script.new.source tt c.args.out.now c.in_err-script.field-0.0 c.in_err-script.ensures.unread)
+
+pub returns : goal.returns
+returns g c =
+    let script = c.in_ok-script.script in
+    let replayed = c.replay_hashed.result in
+    let left = g.S.Source.left in
+    let text = IsTextOf-replayed g.O.Sink.held g.O.Sink.faults c.args.out.now c.replay_hashed.new.out replayed script
+    c.replay_hashed.ensures in
+    let read = IsInputOf-script Replay tt (left c.args.source.now) (left c.read_script.new.source) (said_by script)
+    c.in_ok-script.ensures.read in
+    rw c.replayed_by.ensures
+    (Serves-replayed left g.S.Source.faults g.O.Sink.held g.O.Sink.faults Replay c.args.source.now
+    c.read_script.new.source c.args.out.now c.replay_hashed.new.out
+    (said_by script) text.0 replayed read text.1 text.2)
