@@ -26,7 +26,7 @@ use Rattle.rht_script.specs.SummaryText.{summary_line, AreCountable}
 use Rattle.rht_registry.proofs.SoundCommands.{IsCommandFor, calls_of-one}
 use Rattle.rht_cli.specs.declared.form.Form.TheVariants.{Run, Gen}
 use Rattle.rht_cli.specs.Forms.{IsTextOf}
-use Rattle.rht_cli.specs.RunText.{IsServedBy, whole_text, summary_text, IsRunText}
+use Rattle.rht_cli.specs.RunText.{IsServedBy, TellsBy, whole_text, summary_text, IsRunText}
 
 -- what is so of each run that serves commands is so by any hash
 by_hash : (config : Config) (auto : Bool) (commands : List (ℕ × Call)) (endings : List (List Ending)) (closed : Closed) (Holds : Type 0)
@@ -35,6 +35,15 @@ by_hash : (config : Config) (auto : Bool) (commands : List (ℕ × Call)) (endin
 by_hash config auto commands endings closed Holds each hashes.Mix served = each Lookup3 (mix_of_hash hashes.Mix) served
 by_hash config auto commands endings closed Holds each hashes.Low served = each Low (mix_of_hash hashes.Low) served
 
+-- there is a history that tells of the commands, and fits the run
+has_told : (hash : Hash) (config : Config) (auto : Bool) (commands : List (ℕ × Call)) (endings : List (List Ending)) (closed : Closed)
+    (served : IsServedBy hash config auto commands endings closed)
+    → (history : List Entry) × IsTold config commands endings closed history × TellsBy hash config auto commands endings closed served history
+has_told hashes.Mix config auto commands endings closed served =
+    let has = told Lookup3 (mix_of_hash hashes.Mix) config auto commands endings closed served in (has.0, has.1.told, has.1)
+has_told hashes.Low config auto commands endings closed served =
+    let has = told Low (mix_of_hash hashes.Low) config auto commands endings closed served in (has.0, has.1.told, has.1)
+
 module _ (config : Config) (auto : Bool) (commands : List (ℕ × Call)) (endings : List (List Ending)) (closed : Closed)
     (served : IsServedBy config.hash config auto commands endings closed) where
   -- as many ports are closed as are listed
@@ -42,12 +51,6 @@ module _ (config : Config) (auto : Bool) (commands : List (ℕ × Call)) (ending
   closed-keys =
       by_hash config auto commands endings closed (closed.keys ≡ length closed.bindings.pairs) (λ M mix run. run.closed_is.keys)
       config.hash served
-
-  -- there is a history that tells of the commands
-  has_told : (history : List Entry) × IsTold config commands endings closed history
-  has_told =
-      by_hash config auto commands endings closed ((history : List Entry) × IsTold config commands endings closed history)
-      (λ M mix run. let has = told M mix config auto commands endings closed run in (has.0, has.1.told)) config.hash served
 
   -- where the table is roomy for the commands none is refused
   takes_all : IsRoomyFor config commands → AreAllTaken config commands endings closed
@@ -68,16 +71,17 @@ IsRunText-served : (printed : List (List Ending) → Closed → List ℕ) (said 
     → IsServedBy said.config.hash said.config said.auto said.commands endings closed
     → IsRunText printed said (printed endings closed)
 IsRunText-served printed said endings closed all served =
-    let has = has_told said.config said.auto said.commands endings closed served in
+    let has = has_told said.config.hash said.config said.auto said.commands endings closed served in
     record {
       endings = endings;
       closed = closed;
       served = served;
       written = refl;
       history = has.0;
-      told = has.1;
+      told = has.1.0;
+      fits = has.1.1;
       in_order = λ one.
-          has.1.in_order one
+          has.1.0.in_order one
           ∙ ap (λ calls. entries_told 0 calls (endings_by 0 endings)) (sym (calls_of-one said.config said.commands one all));
       roomy = takes_all said.config said.auto said.commands endings closed served;
       small = λ is.

@@ -15,7 +15,7 @@ use Rattle.rht_model.specs.declared.history.Entry.{Entry}
 use Rattle.rht_model.specs.Endings.{Ending}
 use Rattle.rht_core.specs.NeverRefused.{IsRoomyFor, AreAllTaken, IsSmallFor, AreAsModel}
 use Rattle.rht_core.specs.Serving.{IsServedRun}
-use Rattle.rht_core.specs.ToldHistories.{entries_told, endings_by, IsTold}
+use Rattle.rht_core.specs.ToldHistories.{entries_told, endings_by, IsTold, TellsOf}
 use Rattle.rht_script.specs.Grammar.{Said}
 use Rattle.rht_script.specs.Text.{run_text}
 use Rattle.rht_script.specs.SummaryText.{summary_line}
@@ -26,6 +26,12 @@ use Rattle.rht_script.specs.SummaryText.{summary_line}
 abbrev pub IsServedBy : Hash → Config → Bool → List (ℕ × Call) → List (List Ending) → Closed → Type 0
 IsServedBy hashes.Mix config auto commands endings closed = IsServedRun Lookup3 (mix_of_hash hashes.Mix) config auto commands endings closed
 IsServedBy hashes.Low config auto commands endings closed = IsServedRun Low (mix_of_hash hashes.Low) config auto commands endings closed
+
+-- the history tells of this run and fits it, by whatever hash it is
+abbrev pub TellsBy : (hash : Hash) (config : Config) (auto : Bool) (commands : List (ℕ × Call)) (endings : List (List Ending))
+    (closed : Closed) → IsServedBy hash config auto commands endings closed → List Entry → Type 0
+TellsBy hashes.Mix config auto commands endings closed served history = TellsOf served history
+TellsBy hashes.Low config auto commands endings closed served history = TellsOf served history
 
 -- `run` prints all replies, and what is bound at the end
 abbrev pub whole_text : List (List Ending) → Closed → List ℕ
@@ -48,6 +54,9 @@ pub record IsRunText (printed : List (List Ending) → Closed → List ℕ) (sai
   -- for want of a node the script has more binds and rebinds than nodes, and where the table is full it was
   pub history : List Entry
   pub told : IsTold said.config said.commands endings closed history
+  -- and the history fits the run: its entries have a moment each, in their order, between the command's beginning and its end, and
+  -- after each event those so far leave what the words stand for
+  pub fits : TellsBy said.config.hash said.config said.auto said.commands endings closed served history
   -- where there is one worker the history has the commands in the order of the script
   pub in_order : said.config.callers ≡ 1
       → history ≡ entries_told 0 (map (λ command. command.1) said.commands) (endings_by 0 endings)
