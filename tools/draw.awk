@@ -389,6 +389,7 @@ function cas_in_words(place, now, a, b) {
     return "changes nothing: " name " is " meaning(now) ", not " meaning(a)
   if (sort == "bucket" && !is_odd(a) && b - 1 == a) return "locks " name
   if (sort == "lock") return "takes " name
+  if (sort == "future") return "attaches " meaning(b) " as " name
   return "exchanges " meaning(a) " for " meaning(b) " in " name
 }
 
