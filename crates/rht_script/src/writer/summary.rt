@@ -5,9 +5,6 @@ ghost use Rattle.rht_io.specs.Told.{Puts};
 ghost use Rattle.rht_script.specs.SummaryText.{sort_name, is_of, count_of, how_many, sort_text, sum_of_ports, bound_sums, summary_line, AreCountable};
 ghost use Rattle.rht_script.specs.Writing.{Adds};
 
-#[cfg(test)]
-mod tests;
-
 use super::pieces::Writer;
 use rht_io::{Failed, Sink};
 use rht_model::{Bindings, Closed, Replies, Reply};
