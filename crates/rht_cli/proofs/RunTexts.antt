@@ -78,10 +78,10 @@ IsRunText-served printed said endings closed all served =
       served = served;
       written = refl;
       history = has.0;
-      told = has.1.0;
-      fits = has.1.1;
+      told = has.1;
+      fits = has.2;
       in_order = λ one.
-          has.1.0.in_order one
+          has.1.in_order one
           ∙ ap (λ calls. entries_told 0 calls (endings_by 0 endings)) (sym (calls_of-one said.config said.commands one all));
       roomy = takes_all said.config said.auto said.commands endings closed served;
       small = λ is.
