@@ -1,0 +1,170 @@
+# The pictures of tools/draw: what draw.awk knows behind an event, as text or as an SVG.
+
+# ---- The picture of an event --------------------------------------------------------------------
+
+# A picture is a list of lines, each of a kind: a title, a note, more of a note, a blank, or a chain,
+# whose cells stand one behind the other, parted by tabs. A cell that begins with `!` shows a word
+# that the event has changed.
+function draw_event(    slot, next_slot, seen, text, by) {
+  lines = 0
+  add_line("title", "event " made ": " operation ": " words)
+  slot = word_at(0) + 0
+  text = "current"
+  for (seen = 0; seen < 8; seen++) {
+    add_line("blank", "")
+    add_table(slot, text)
+    next_slot = word_at(24 + 32 * slot + 2) - 1
+    if (next_slot < 0) break
+    text = "the future of table " slot
+    slot = next_slot
+  }
+  add_line("blank", "")
+  for (by = 1; by <= workers; by++) if (by in commands) add_worker(by)
+  add_line("blank", "")
+  if (form == "svg") svg_lines(); else print_lines()
+}
+
+function add_line(what, text) {
+  lines++
+  line_kind[lines] = what
+  line_text[lines] = text
+}
+
+# A table with its buckets that aren't empty or are locked. The longest name that one of them can have
+# says how wide they are, so that chains begin side by side and stay where they are.
+function add_table(slot, text,    bucket, first_bucket, number, wide) {
+  read_shape(slot)
+  add_line("note", "table " slot ": " size " buckets from [" buckets "], " text)
+  if (nest) { add_line("more", "nested, so its buckets aren't drawn"); return }
+  first_bucket = buckets
+  number = size
+  wide = length("bucket " (number - 1) " [" (first_bucket + number - 1) "] *" workers)
+  for (bucket = 0; bucket < number; bucket++)
+    if (word_at(first_bucket + bucket) != 0) add_chain(bucket, first_bucket + bucket, wide)
+}
+
+# A bucket's chain, from its word to its end. No chain has more nodes than there are.
+function add_chain(bucket, place, wide,    link, node, cells, seen) {
+  cells = "bucket " bucket " [" place "]"
+  if (place in holder) cells = cells " *" holder[place]
+  cells = mark(place, 1) sprintf("%-" wide "s", cells)
+  link = word_at(place)
+  link -= link % 2
+  if (link == 0) link = 2 * place + 1
+  for (seen = 0; !is_odd(link) && link != 0 && seen <= nodes; seen++) {
+    node = link / 2 - 1
+    cells = cells "\t" mark(node_words + 4 * node, 4) node_text(node)
+    link = word_at(node_words + 4 * node)
+  }
+  add_line("chain", cells "\t" link_text(link))
+}
+
+# Whether the event has changed one of so many words.
+function mark(place, number) { return changed >= place && changed < place + number ? "!" : "" }
+
+# A node with its port and its owner, and behind them the other nodes of its list.
+function node_text(node,    at, text, link, seen) {
+  at = node_words + 4 * node
+  text = "node " node " (port " word_at(at + 1) ": " word_at(at + 2)
+  link = word_at(at + 3)
+  for (seen = 0; link != 0 && seen < nodes; seen++) {
+    node = link / 2 - 1
+    at = node_words + 4 * node
+    text = text ", node " node ": " word_at(at + 2)
+    link = word_at(at + 3)
+  }
+  return text ")"
+}
+
+# Where a worker stands: its call and what it did in it last, or how its last call was answered, and
+# which locks it holds.
+function add_worker(by,    text, i, n, each, locks) {
+  if (in_call[by])
+    text = command[by, calls[by]] ", operation " steps[by] ": " did[by]
+  else if (calls[by]) text = command[by, calls[by]] " was answered: " answer[by]
+  else text = "has begun nothing"
+  add_line("note", "worker " by ": " text)
+  n = split(held[by], each, " ")
+  if (n == 0) return
+  locks = ""
+  for (i = 1; i <= n; i++) {
+    look_up(each[i])
+    locks = locks (i > 1 ? ", " : "") name
+  }
+  add_line("more", "holds " locks)
+}
+
+# ---- As text ------------------------------------------------------------------------------------
+
+function print_lines(    i, text) {
+  for (i = 1; i <= lines; i++) {
+    text = line_text[i]
+    if (line_kind[i] == "chain") {
+      gsub(/\t!?/, " -> ", text)
+      sub(/^!?/, "    ", text)
+    } else if (line_kind[i] == "note") text = "  " text
+    else if (line_kind[i] == "more") text = "    " text
+    print text
+  }
+}
+
+# ---- As an SVG ----------------------------------------------------------------------------------
+
+# The lines of an event are put below those before, each 28 high, or 20 where it goes on with the one
+# above. A letter is 8 wide.
+function svg_lines(    i) {
+  if (svg_high > 0)
+    svg_add("<path d=\"M0 " svg_high "h10000\" stroke=\"#999\"/>")
+  for (i = 1; i <= lines; i++) {
+    if (line_kind[i] == "blank") { svg_high += 10; continue }
+    svg_high += line_kind[i] == "more" ? 20 : 28
+    if (line_kind[i] == "chain") svg_chain(line_text[i])
+    else if (line_kind[i] == "title") svg_text(16, line_text[i], " font-weight=\"bold\"")
+    else svg_text(line_kind[i] == "more" ? 48 : 32, line_text[i], "")
+  }
+  svg_high += 8
+}
+
+# A chain: a box for its bucket and for each node, arrows between them, and its end.
+function svg_chain(text,    n, i, cell, left) {
+  n = split(text, cell, "\t")
+  left = 48
+  for (i = 1; i <= n; i++) {
+    if (i > 1) {
+      svg_add("<path d=\"M" left " " (svg_high - 5) "h26m-7 -4l7 4l-7 4\" fill=\"none\" stroke=\"#000\"/>")
+      left += 28
+    }
+    if (i < n) svg_box(left, cell[i], i > 1 ? "#fff" : cell[i] ~ /\*/ ? "#fd9" : "#eee")
+    sub(/^!/, "", cell[i])
+    svg_text(left + 6, cell[i], "")
+    left += 8 * length(cell[i]) + 12
+  }
+}
+
+# The box of a cell, with a thick red line where the event has changed a word of it.
+function svg_box(left, text, color,    line) {
+  line = sub(/^!/, "", text) ? "stroke=\"#c00\" stroke-width=\"3\"" : "stroke=\"#000\""
+  svg_add("<rect x=\"" left "\" y=\"" (svg_high - 17) "\" width=\"" (8 * length(text) + 12) \
+    "\" height=\"24\" fill=\"" color "\" " line "/>")
+}
+
+# A text without the blanks behind it, which an SVG would drop.
+function svg_text(left, text, more,    wide) {
+  sub(/ +$/, "", text)
+  wide = 8 * length(text)
+  if (left + wide > svg_wide) svg_wide = left + wide
+  gsub(/&/, "\\&amp;", text)
+  gsub(/</, "\\&lt;", text)
+  svg_add("<text x=\"" left "\" y=\"" svg_high "\" textLength=\"" wide "\"" more ">" text "</text>")
+}
+
+function svg_add(text) { svg_part[++svg_parts] = text }
+
+function print_svg(    i) {
+  svg_wide += 16
+  print "<svg xmlns=\"http://www.w3.org/2000/svg\" width=\"" svg_wide "\" height=\"" svg_high \
+    "\" viewBox=\"0 0 " svg_wide " " svg_high "\" font-family=\"monospace\" font-size=\"13\">"
+  print "<rect width=\"100%\" height=\"100%\" fill=\"#fff\"/>"
+  for (i = 1; i <= svg_parts; i++) print svg_part[i]
+  print "</svg>"
+}
