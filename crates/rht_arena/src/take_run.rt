@@ -4,7 +4,7 @@
 ghost use Rattle.std.specs.Prelude.{◌≡◌, ◌<◌};
 ghost use Rattle.rht_words.specs.Operations.{op_place};
 ghost use Rattle.rht_words.specs.Places.{words_in};
-ghost use Rattle.rht_arena.specs.TakeRun.{take_run_new, take_run_plan, take_run_after, next_run, given_below, claimed, looked, cleared, IsRunAt, IsTakeRunAtIn, IsRunEndIn};
+ghost use Rattle.rht_arena.specs.TakeRun.{first_run, take_run_new, take_run_plan, take_run_after, next_run, given_below, claimed, looked, cleared, IsRunAt, IsTakeRunAtIn, IsRunEndIn};
 ghost use Rattle.rht_arena.specs.Runs.{run_bits, IsRunIn};
 
 use crate::run_bits::run_bits;
@@ -61,6 +61,18 @@ impl TakeRun {
             })
         } else {
             Start::Done(None)
+        }
+    }
+
+    /// Before the first page, of a run of one page.
+    #[inline(always)]
+    pub fn of_one_page(geometry: Geometry) -> TakeRun
+        ensures { result ≡ first_run geometry 1 }
+    {
+        TakeRun {
+            geometry,
+            pages: 1,
+            at: TakeRunAt::MapWord { first: 0, index: 0 },
         }
     }
 

@@ -209,6 +209,19 @@ fn runs_are_taken_whole(rt: HostRuntime) -> Result<(), Fail> {
 }
 
 #[test]
+fn one_page_is_a_run(rt: HostRuntime) -> Result<(), Fail> {
+    let geometry = Geometry::new(8, 4, 1).ok_or("within limits")?;
+    // page 0 is taken
+    let steps = [
+        (Op::load(281), 14),
+        (Op::load(281), 14),
+        (Op::and(281, ALL - 2), 14),
+    ];
+    assert_performs!(rt; TakeRun::of_one_page(geometry), &steps => Some(1));
+    Ok(())
+}
+
+#[test]
 fn runs_of_several_words_are_given_back_from_the_last_on(rt: HostRuntime) -> Result<(), Fail> {
     // 128 pages of 128, so that there is one run, in two words of the map
     let cases: [(&[(Op, u64)], Option<u32>); 4] = [

@@ -1,7 +1,21 @@
 -- a bucket's word is one of the pages', the buckets of flat tables stand in a row, and no two have one place
 pub mod BucketsApart
+-- the way to a bucket of a nested table stays in its pages
+pub mod Places
+-- what is so of one operation
+pub mod OneOfSteps
+-- the finding of a bucket's place ends at the place that is read from the words, or where no page is
+pub mod PlacesRead
 -- the finding of a bucket stays in its table, and works on the slot's words
 pub mod Locates
+-- the growing of a nested table stays in range
+pub mod Grows
+-- what comes of a machine that holds another one
+pub mod PieceRuns
+-- runs seen in turn, with operations before and behind
+pub mod TurnsJoined
+-- a page that is answered is there, and none is where each was seen taken
+pub mod GrowsEnter
 -- the making and the giving back of a table stay in range
 pub mod MakesStay
 -- and on which words they work

@@ -3,40 +3,32 @@
 --
 -- Each slot is looked at once. Where one is taken, no later operation looks at a slot, and the machine takes a run of pages
 -- as `TakeRun` does: its operations before and behind that see no page taken. Where the run is taken a table is made.
-use Rattle.std.proofs.Common.{◌≡◌, ◌≢◌, ℕ, zero, suc, ◌+◌, ◌*◌, ◌<◌, ◌≤◌, List, [], ◌∷◌, Some, None, inl, inr, refl, sym, subst, max, min, arith}
+use Rattle.std.proofs.Common.{◌≡◌, ◌≢◌, ℕ, ◌+◌, ◌<◌, ◌≤◌, List, [], ◌∷◌, Some, None, inl, inr, refl, sym, subst, arith}
 use Rattle.std.specs.Prelude.{Option, Bool, ◌⊎◌, ◌↔◌, ◌==◌, nat_le, nat_lt, if◌then◌else◌}
 use Rattle.std.specs.List.{Any}
-use Rattle.std.proofs.lemmas.Bool.{cases_eq, cases_order, cond_both, eqb-true, eqb-false, leb-true, leb-false, ltb-true, ltb-false}
-use Rattle.rht_words.specs.declared.op.Op.{Op}
-use Rattle.rht_words.specs.declared.op.Op.TheVariants.{Load, Store, Exchange, Add, And, Or}
+use Rattle.std.proofs.lemmas.Bool.{cases_eq, cond_both, eqb-true, eqb-false, leb-true, leb-false, ltb-true, ltb-false}
 use Rattle.rht_words.specs.declared.machine.Next.{Next}
 use Rattle.rht_words.specs.declared.machine.Next.TheVariants.{Go, Done}
 use Rattle.rht_words.specs.declared.machine.Start.{Start}
 use Rattle.rht_words.specs.declared.machine.Start.TheVariants as starts
 use Rattle.rht_words.specs.declared.geometry.Geometry.{Geometry}
 use Rattle.rht_words.specs.Places.{Slot, StateWord, place_of}
-use Rattle.rht_words.specs.Operations.{op_place}
 use Rattle.rht_words.specs.Machines.{Performed, Ran, went_on, ran}
 use Rattle.rht_arena.specs.declared.take_run.TakeRunAt.{TakeRunAt}
 use Rattle.rht_arena.specs.declared.take_run.TakeRunAt.TheVariants as takes
 use Rattle.rht_arena.specs.Laws.{IsLook}
-use Rattle.rht_arena.specs.Runs.{IsRunIn}
-use Rattle.rht_arena.specs.TakeRun.{TakeRunModel, take_run_new, take_run_plan, take_run_plan_at, take_run_after, run_length, first_run, IsTakeRunIn, IsTakeRunAtIn}
+use Rattle.rht_arena.specs.TakeRun.{TakeRunModel, take_run_new, take_run_plan_at, take_run_after, run_length, first_run, IsTakeRunIn, IsTakeRunAtIn}
 use Rattle.rht_arena.specs.RunLaws.{SeesRunTaken, AreRunsSeenInTurn}
-use Rattle.rht_arena.proofs.RunsStay.{TakeRunIsIn, take_run_stays}
-use Rattle.rht_arena.proofs.RunsSeen.{next_unseen, GoesOn, Went, IsAhead, turn_before, ahead_after, goes_on_in}
+use Rattle.rht_arena.proofs.RunsStay.{take_run_stays}
+use Rattle.rht_arena.proofs.RunsSeen.{next_unseen, GoesOn, IsAhead, turn_before, ahead_after, goes_on_in}
 use Rattle.rht_arena.proofs.NodesInTurn.{Any-behind}
-use Rattle.rht_nest.specs.Make.{MakeModel, make_plan, make_plan_at, make_after, make_after_at, made_pages, run_taken, run_started, slot_seen, IsTakingIn}
+use Rattle.rht_nest.specs.Make.{MakeModel, make_plan, make_plan_at, make_after, make_after_at, made_pages, run_taken, run_started, IsTakingIn}
 use Rattle.rht_nest.specs.Tables.{exponent_made}
-use Rattle.rht_nest.specs.MakeLaws.{slot_taking, SeesSlotTaken, AreSlotsSeenTaken, NoneWhereSlotsOrRunsTaken}
+use Rattle.rht_nest.specs.MakeLaws.{slot_taking, SeesSlotTaken, NoneWhereSlotsOrRunsTaken}
 use Rattle.rht_nest.specs.declared.make.MakeAt.{MakeAt}
 use Rattle.rht_nest.specs.declared.make.MakeAt.TheVariants as at
 use Rattle.rht_nest.proofs.MakesStay.{made_pages-some, begins_taking}
-
--- what is so of one of all is so of the first or of one behind it
-Any-parts : {X : Type 0} (P : X → Type 0) (x : X) (xs : List X) → Any P (x ∷ xs) → P x ⊎ Any P xs
-Any-parts P x xs (zero, y, within, is, holds) = inl (subst P (sym is) holds)
-Any-parts P x xs (suc k, y, within, is, holds) = inr (k, y, omega (arith, within), is, holds)
+use Rattle.rht_nest.proofs.OneOfSteps.{Any-parts}
 
 module _ (g : Geometry) (exponent seed : ℕ) (nested : Bool) where
   abbrev pages : ℕ

@@ -1,9 +1,9 @@
 -- A table that is answered was made of a slot and of pages that were free until the machine took them.
 --
 -- The invariant (`MadeSoFar`): in each state, what was taken and stored so far.
-use Rattle.std.proofs.Common.{◌≡◌, ℕ, ◌+◌, ◌-◌, ◌*◌, ◌/◌, ◌^◌, ◌<◌, ◌≤◌, List, [], ◌∷◌, ◌++◌, Some, None, inl, inr, refl, sym, ap, ◌∙◌, subst, max, min, arith}
+use Rattle.std.proofs.Common.{◌≡◌, ℕ, ◌+◌, ◌-◌, ◌*◌, ◌^◌, ◌<◌, ◌≤◌, List, [], ◌∷◌, ◌++◌, Some, None, inl, inr, refl, sym, ap, ◌∙◌, subst, max, min, arith}
 use Rattle.std.specs.Prelude.{Option, Bool, ◌==◌, nat_le, nat_lt, if◌then◌else◌}
-use Rattle.std.specs.List.{All, AllByRecursion, Any}
+use Rattle.std.specs.List.{Any}
 use Rattle.std.proofs.lemmas.Bool.{cases_lt, cond_both, eqb-true, leb-true, ltb-true}
 use Rattle.std.proofs.lemmas.List.Quantifiers.{Any-push}
 use Rattle.std.proofs.lemmas.List.Elements.{All-from_recursion}
@@ -11,7 +11,6 @@ use Rattle.std.proofs.Math.Pow.{pow_mono}
 use Rattle.std.proofs.lemmas.Nat.{pow-add}
 use Rattle.rht_words.specs.declared.machine.Next.{Next}
 use Rattle.rht_words.specs.declared.machine.Next.TheVariants.{Go, Done}
-use Rattle.rht_words.specs.declared.machine.Start.{Start}
 use Rattle.rht_words.specs.declared.machine.Start.TheVariants as starts
 use Rattle.rht_words.specs.declared.geometry.Geometry.{Geometry}
 use Rattle.rht_words.specs.declared.shape.Shape.{Shape}
@@ -22,11 +21,10 @@ use Rattle.rht_words.proofs.EachElement.{Any-append_left}
 use Rattle.rht_words.proofs.MachineRuns.{performed, kept_to_end}
 use Rattle.rht_arena.specs.TakeRun.{TakeRunModel, take_run_new, take_run_after, run_length, first_run}
 use Rattle.rht_arena.specs.RunLaws.{RunWasTaken}
-use Rattle.rht_arena.proofs.RunsTaken.{TookSoFar, KeepsTook, took_so_far-begins, took_goes_on, took_after, RunWasTaken-push, anything}
+use Rattle.rht_arena.proofs.RunsTaken.{TookSoFar, took_so_far-begins, took_goes_on, took_after, RunWasTaken-push, anything}
 use Rattle.rht_nest.specs.Tables.{exponent_made, flat_shape, table_pages, table_seed}
-use Rattle.rht_nest.specs.Laws.{IsFlatIn, end_word}
-use Rattle.rht_nest.specs.Make.{MakeModel, make_new, make_plan, make_plan_at, make_after, make_after_at, made_pages, made_shape, run_taken, run_started, slot_seen}
-use Rattle.rht_nest.specs.MakeLaws.{TakesSlot, StoresInSlot, TakesSerial, TableWasMade, MadeOfWhatWasFree, pages_for}
+use Rattle.rht_nest.specs.Make.{MakeModel, make_new, make_plan, make_plan_at, make_after, make_after_at, made_pages, made_shape, run_taken, run_started}
+use Rattle.rht_nest.specs.MakeLaws.{TakesSlot, StoresInSlot, TakesSerial, TableWasMade, MadeOfWhatWasFree}
 use Rattle.rht_nest.specs.declared.make.MakeAt.{MakeAt}
 use Rattle.rht_nest.specs.declared.make.MakeAt.TheVariants as at
 use Rattle.rht_nest.proofs.MakesStay.{made_pages-some}

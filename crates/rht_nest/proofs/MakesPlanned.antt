@@ -1,12 +1,12 @@
 -- On which words the making and the giving back of a table work: those of its slot, the next serial, and those of the map
 -- of pages.
-use Rattle.std.proofs.Common.{◌≡◌, ℕ, ◌+◌, ◌*◌, ◌%◌, ◌^◌, ◌<◌, ◌≤◌, refl, sym, subst, arith}
+use Rattle.std.proofs.Common.{ℕ, ◌<◌, ◌≤◌, refl, sym, subst, arith}
 use Rattle.rht_words.specs.declared.geometry.Geometry.{Geometry}
 use Rattle.rht_words.specs.Places.{NextSerial, Slot, ShapeWord, SeedWord, FutureWord, SerialWord, StateWord}
-use Rattle.rht_words.specs.Planned.{IsWord, IsPlannedIn}
+use Rattle.rht_words.specs.Planned.{IsPlannedIn}
 use Rattle.rht_words.proofs.PlannedWords.{planned-at}
 use Rattle.rht_arena.proofs.RunsPlanned.{planned_take_run, planned_give_run}
-use Rattle.rht_nest.specs.Make.{MakeModel, make_plan, make_plan_at, made_pages, made_shape, IsMakeAtIn, IsMakeIn}
+use Rattle.rht_nest.specs.Make.{MakeModel, make_plan, make_plan_at, made_pages, IsMakeAtIn, IsMakeIn}
 use Rattle.rht_nest.specs.declared.make.MakeAt.{MakeAt}
 use Rattle.rht_nest.specs.declared.make.MakeAt.TheVariants as at
 use Rattle.rht_nest.specs.Unmake.{UnmakeModel, unmake_plan, unmake_plan_at, IsUnmakeAtIn, IsUnmakeIn}

@@ -1,21 +1,20 @@
 -- Whatever words they are told, the making of a table and the giving back of one stay among the slots and pages that
 -- there are, and a table that is made is one of the table of words.
-use Rattle.std.proofs.Common.{◌≡◌, ℕ, ◌+◌, ◌<◌, ◌≤◌, max, min, refl, sym, subst, ◌∙◌, ap, arith}
+use Rattle.std.proofs.Common.{ℕ, ◌+◌, ◌<◌, ◌≤◌, refl, sym, subst, arith}
 use Rattle.std.specs.Prelude.{Option, Some, None, ◌==◌, nat_le, nat_lt}
 use Rattle.std.proofs.lemmas.Bool.{cond_both, ltb-true, leb-true}
 use Rattle.rht_words.specs.declared.geometry.Geometry.{Geometry}
 use Rattle.rht_words.specs.declared.machine.Next.{Next}
 use Rattle.rht_words.specs.declared.machine.Next.TheVariants.{Go, Done}
-use Rattle.rht_words.specs.declared.machine.Start.{Start}
 use Rattle.rht_words.specs.declared.machine.Start.TheVariants as starts
 use Rattle.rht_words.specs.Planned.{IsWord}
 use Rattle.rht_arena.specs.Runs.{IsRunIn}
-use Rattle.rht_arena.specs.TakeRun.{TakeRunModel, take_run_new, take_run_after, run_length, first_run, IsTakeRunIn, IsRunEndIn}
+use Rattle.rht_arena.specs.TakeRun.{TakeRunModel, take_run_new, take_run_after, run_length, first_run}
 use Rattle.rht_arena.specs.GiveRun.{GiveRunModel, give_run_after, IsGiveRunIn}
 use Rattle.rht_arena.proofs.RunsStay.{TakeRunIsIn, take_run_stays, give_run_stays}
 use Rattle.rht_arena.proofs.RunsSeen.{begins-in}
-use Rattle.rht_nest.specs.Tables.{flat_shape, table_pages, run_first, run_pages}
-use Rattle.rht_nest.specs.Make.{MakeModel, make_after, make_after_at, made_pages, made_shape, run_taken, run_started, slot_seen, IsSlotAndRun, IsNumbered, IsTakingIn, IsMakeAtIn, IsMakeIn, IsMadeIn, IsMakeEndIn}
+use Rattle.rht_nest.specs.Tables.{run_first, run_pages}
+use Rattle.rht_nest.specs.Make.{MakeModel, make_after, make_after_at, made_pages, run_taken, run_started, slot_seen, IsTakingIn, IsMakeAtIn, IsMakeIn, IsMakeEndIn}
 use Rattle.rht_nest.specs.declared.make.MakeAt.{MakeAt}
 use Rattle.rht_nest.specs.declared.make.MakeAt.TheVariants as at
 use Rattle.rht_nest.specs.Unmake.{UnmakeModel, unmake_new, unmake_after, unmake_after_at, run_given, IsUnmakeAtIn, IsUnmakeIn}

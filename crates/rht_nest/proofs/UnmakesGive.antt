@@ -1,10 +1,10 @@
 -- A table that is given back gives each of its pages back, and then its slot.
-use Rattle.std.proofs.Common.{◌≡◌, ℕ, ◌+◌, ◌*◌, ◌/◌, ◌<◌, ◌≤◌, List, [], ◌∷◌, ◌++◌, inl, inr, refl, ap, arith}
+use Rattle.std.proofs.Common.{◌≡◌, ℕ, ◌+◌, ◌*◌, ◌/◌, ◌≤◌, List, [], ◌∷◌, inl, inr, refl, ap, arith}
 use Rattle.std.proofs.lemmas.Bool.{cases_lt, cond_both, ltb-false}
 use Rattle.std.specs.Prelude.{nat_lt}
 use Rattle.std.specs.List.{Any}
 use Rattle.rht_words.specs.declared.machine.Next.{Next}
-use Rattle.rht_words.specs.declared.machine.Next.TheVariants.{Go, Done}
+use Rattle.rht_words.specs.declared.machine.Next.TheVariants.{Done}
 use Rattle.rht_words.specs.declared.geometry.Geometry.{Geometry}
 use Rattle.rht_words.specs.Machines.{Performed, Ran, ran}
 use Rattle.rht_arena.specs.GiveRun.{GiveRunModel, give_run_plan, give_run_after}
@@ -12,7 +12,7 @@ use Rattle.rht_arena.specs.RunLaws.{IsOfRun, GivesPage}
 use Rattle.rht_arena.proofs.RunsGiven.{giving, gives_page}
 use Rattle.rht_arena.proofs.NodesInTurn.{Any-behind}
 use Rattle.rht_nest.specs.Tables.{run_first, run_pages}
-use Rattle.rht_nest.specs.Unmake.{UnmakeModel, unmake_plan, unmake_plan_at, unmake_after, unmake_after_at, run_given}
+use Rattle.rht_nest.specs.Unmake.{UnmakeModel, unmake_plan, unmake_after, run_given}
 use Rattle.rht_nest.specs.MakeLaws.{EndsWithSlot, GivesTableBack}
 use Rattle.rht_nest.specs.declared.unmake.UnmakeAt.{UnmakeAt}
 use Rattle.rht_nest.specs.declared.unmake.UnmakeAt.TheVariants as at

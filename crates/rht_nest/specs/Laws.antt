@@ -1,10 +1,10 @@
--- What the machines that read a table rely on.
-use Rattle.std.specs.Prelude.{◌≡◌, ◌≢◌, ℕ, ◌+◌, ◌*◌, ◌<◌, ◌≤◌, ◌⊎◌, Some}
+-- What the machines that read a flat table rely on. Where the buckets of a nested one are is said beside the machine that finds them.
+use Rattle.std.specs.Prelude.{◌≡◌, ◌≢◌, ℕ, ◌+◌, ◌*◌, ◌<◌, ◌≤◌, ◌⊎◌}
 use Rattle.rht_words.specs.declared.geometry.Geometry.{Geometry}
 use Rattle.rht_words.specs.declared.shape.Shape.{Shape}
 use Rattle.rht_words.specs.Places.{PageWord, place_of}
 use Rattle.rht_words.specs.Shapes.{unpacked, size_of}
-use Rattle.rht_nest.specs.Place.{bucket_place}
+use Rattle.rht_nest.specs.Place.{flat_place}
 
 -- the number of the table's first bucket word among the words of all pages, and of the one behind its last
 abbrev pub first_word : Shape → ℕ
@@ -28,20 +28,20 @@ abbrev pub BucketsStandInARow : Type 0
 BucketsStandInARow =
     (g : Geometry) (shape bucket : ℕ)
     → HasBucket g (unpacked shape) bucket
-    → bucket_place g shape bucket ≡ Some (place_of g (PageWord (first_word (unpacked shape) + bucket)))
+    → flat_place g shape bucket ≡ place_of g (PageWord (first_word (unpacked shape) + bucket))
 
 -- two flat tables share no word of the pages
 abbrev pub LieApart : Shape → Shape → Type 0
 LieApart shape other = (end_word shape ≤ first_word other) ⊎ (end_word other ≤ first_word shape)
 
--- no two buckets have one place, be they of one table or of two that lie apart
+-- no two buckets of flat tables have one place, be they of one table or of two that lie apart
 pub record BucketsNeverMeet : Type 0 where
   pub in_one :
       (g : Geometry) (shape bucket other : ℕ)
       → HasBucket g (unpacked shape) bucket → HasBucket g (unpacked shape) other
-      → bucket_place g shape bucket ≡ bucket_place g shape other → bucket ≡ other
+      → flat_place g shape bucket ≡ flat_place g shape other → bucket ≡ other
   pub in_two :
       (g : Geometry) (shape bucket second other : ℕ)
       → HasBucket g (unpacked shape) bucket → HasBucket g (unpacked second) other
       → LieApart (unpacked shape) (unpacked second)
-      → bucket_place g shape bucket ≢ bucket_place g second other
+      → flat_place g shape bucket ≢ flat_place g second other

@@ -2,6 +2,8 @@
 pub mod Place
 -- finding the word of a port's bucket
 pub mod Locate
+-- entering a page that is missing on the way to one
+pub mod Grow
 -- the shapes, runs of pages and seeds of flat tables
 pub mod Tables
 -- making a table
@@ -10,5 +12,9 @@ pub mod Make
 pub mod Unmake
 -- what the other machines rely on
 pub mod Laws
+-- those that look for a bucket of a nested table
+pub mod PlaceLaws
+-- and those that enter a missing page
+pub mod GrowLaws
 -- and what those rely on that make one
 pub mod MakeLaws

@@ -1,13 +1,17 @@
 -- What a flat table is made of: its shape and its run of pages.
-use Rattle.std.specs.Prelude.{ℕ, ◌+◌, ◌-◌, ◌/◌, ◌%◌, ◌^◌, min, max, List}
+use Rattle.std.specs.Prelude.{ℕ, Bool, nat_lt, ◌+◌, ◌-◌, ◌/◌, ◌%◌, ◌^◌, min, max, List}
 use Rattle.std.specs.List.{range_with_len}
 use Rattle.rht_words.specs.declared.geometry.Geometry.{Geometry}
 use Rattle.rht_words.specs.declared.shape.Shape.{Shape}
-use Rattle.rht_words.specs.Shapes.{packed, unpacked, size_of, exponent_of}
+use Rattle.rht_words.specs.Shapes.{unpacked, size_of, exponent_of}
 
 -- the binary exponent of a size from 4 to 2^17, as which another number is read too
 abbrev pub exponent_made : ℕ → ℕ
 exponent_made size = max 2 (min (exponent_of size) 17)
+
+-- the table whose shape is packed into this word is nested
+abbrev pub is_nested : ℕ → Bool
+is_nested shape = nat_lt 0 (unpacked shape).nest
 
 -- the shape of a flat table
 abbrev pub flat_shape : ℕ → ℕ → Shape

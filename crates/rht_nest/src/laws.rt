@@ -2,16 +2,46 @@
 //! the law.
 
 ghost use Rattle.rht_nest.specs.Laws.{BucketsStandInARow, BucketsNeverMeet};
+ghost use Rattle.rht_nest.specs.PlaceLaws.{FindsPlaceOfWords, AbsentWhereNoPage};
+ghost use Rattle.rht_nest.specs.GrowLaws.{GrownPageIsThere, NoneWherePagesTaken};
 ghost use Rattle.rht_nest.specs.MakeLaws.{MadeOfWhatWasFree, NoneWhereSlotsOrRunsTaken, GivesTableBack};
 
-/// A flat table's buckets stand in a row from its first page on.
+/// A flat table's buckets stand in a row from its first page on. It says nothing of nested tables.
 pub fn buckets_stand_in_a_row()
     ensures { BucketsStandInARow }
 {}
 
-/// No two buckets have one place, be they of one table or of two that lie apart.
+/// No two buckets of flat tables have one place, be they of one table or of two that lie apart. It says
+/// nothing of nested ones, whose buckets are wherever their entries lead.
 pub fn buckets_never_meet()
     ensures { BucketsNeverMeet }
+{}
+
+/// Where each entry on the way was found as it is among some words, be it at one moment or not, a bucket
+/// is said to be at a place exactly where that is its place by those words: the low bits of its number
+/// pick an entry of the top page, and each further six bits a word of the page that is found. In a flat
+/// table no word is looked at.
+pub fn finds_place_of_words()
+    ensures { FindsPlaceOfWords }
+{}
+
+/// A bucket is said to be absent, at an entry, exactly where an operation that loaded this entry found
+/// that it leads to no page.
+pub fn absent_where_no_page()
+    ensures { AbsentWhereNoPage }
+{}
+
+/// A page that is answered by the growing of a nested table was free until an operation of the machine's
+/// own took it, and then entered by an exchange that found no page; or it is the one to which the entry
+/// led that the exchange found, and then the page that was taken is given back at once.
+pub fn grown_page_is_there()
+    ensures { GrownPageIsThere }
+{}
+
+/// A growing that has ended answers none exactly where each page was seen taken in its turn: by an
+/// operation of its own, in rising order.
+pub fn none_where_pages_taken()
+    ensures { NoneWherePagesTaken }
 {}
 
 /// A table that is answered is flat and lies within the pages. Its slot was free until the exchange

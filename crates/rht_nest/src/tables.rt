@@ -1,10 +1,18 @@
-//! The runs of pages of flat tables.
+//! The shapes of tables, and the runs of pages of flat ones.
 
 ghost use Rattle.std.specs.Prelude.{◌≡◌};
 ghost use Rattle.rht_arena.specs.Runs.{IsRunIn};
-ghost use Rattle.rht_nest.specs.Tables.{table_pages, run_first, run_pages};
+ghost use Rattle.rht_nest.specs.Tables.{is_nested, table_pages, run_first, run_pages};
 
 use rht_words::{Geometry, Shape};
+
+/// Whether the table whose shape is packed into this word is nested.
+#[inline(always)]
+pub fn is_nested(shape: u64) -> bool
+    ensures { result ≡ is_nested shape }
+{
+    0 < Shape::from(shape).nest
+}
 
 /// How many pages the buckets of a flat table take.
 #[inline(always)]
