@@ -18,6 +18,8 @@ pub record Held (Answer : Type 0) : Type 0 where
   pub pages : List ℕ
   -- its answer, once it is known
   pub answer : Option Answer
+  -- the answer that it will have should the page be missing on its way, known from the load of a future that leads to no table
+  pub early : Option Answer
 
 -- nothing is held, and no answer is known
 abbrev pub holds_nothing : {Answer : Type 0} → Held Answer
@@ -31,6 +33,7 @@ holds_nothing = record {
   slot = None;
   pages = [];
   answer = None;
+  early = None;
 }
 
 -- the call has ended with this answer, and holds nothing
