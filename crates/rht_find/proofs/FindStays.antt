@@ -9,8 +9,10 @@ use Rattle.rht_words.specs.declared.machine.Next.TheVariants.{Go, Done}
 use Rattle.rht_words.specs.Links.{node_of, slot_of}
 use Rattle.rht_words.specs.Planned.{IsWord}
 use Rattle.rht_words.proofs.LinksRead.{node_of-in, slot_of-in, IsSlotOrNone}
-use Rattle.rht_nest.specs.Locate.{LocateModel, locate_after, IsBucketOrNone, IsLocateIn}
+use Rattle.rht_nest.specs.Locate.{LocateModel, locate_after, IsLocatedBucketIn, IsLocateIn}
 use Rattle.rht_nest.specs.declared.locate.Located.{Located}
+use Rattle.rht_nest.specs.declared.locate.LocatedBucket.{LocatedBucket}
+use Rattle.rht_nest.specs.declared.locate.LocatedBucket.TheVariants as buckets
 use Rattle.rht_nest.proofs.Locates.{LocateStays, locate_stays}
 use Rattle.rht_chain.specs.LockedWalk.{IsNodeOrNone}
 use Rattle.rht_chain.specs.Locked.{IsLockedIn, IsThenIn}
@@ -22,7 +24,7 @@ use Rattle.rht_chain.specs.declared.locked.Then.TheVariants.{Table, Answer}
 use Rattle.rht_chain.specs.declared.unlock.Unlock.{Unlock}
 use Rattle.rht_chain.proofs.PiecesStay.{ProbeIsIn, probe_stays}
 use Rattle.rht_model.specs.declared.history.Reply.{Reply}
-use Rattle.rht_find.specs.Find.{after_at, bucket_or_missing, located, found_or_not, probed, unlocking, next_table, list_followed, unlocked, IsLeavingBucket, IsFindAtIn}
+use Rattle.rht_find.specs.Find.{after_at, early_or_missing, bucket_or_early, located, found_or_not, probed, unlocking, next_table, list_followed, unlocked, IsLeavingBucket, IsFindAtIn}
 use Rattle.rht_find.specs.declared.find.FindAt.{FindAt}
 use Rattle.rht_find.specs.declared.find.FindAt.TheVariants as at
 
@@ -30,24 +32,31 @@ module _ (mix : ℕ → ℕ → ℕ → ℕ) (env : Env) (port : ℕ) where
   abbrev g : Geometry
   g = env.geometry
 
-  bucket_or_missing-in : (locate : LocateModel) (place : Option ℕ) → IsLocateIn g locate
-      → IsBucketOrNone g place
-      → IsFindAtIn env (bucket_or_missing env port locate place).0
-  bucket_or_missing-in locate None locate_in place_in = locate_in
-  bucket_or_missing-in locate (Some place) locate_in place_in = record {
+  early_or_missing-in : (locate : LocateModel) (early : Option ℕ) → IsLocateIn g locate → IsSlotOrNone early
+      → IsFindAtIn env (early_or_missing env locate early).0
+  early_or_missing-in locate None locate_in early_in = locate_in
+  early_or_missing-in locate (Some next) locate_in early_in =
+      record { geometry_same = refl; table_in = early_in; at_in = tt }
+
+  bucket_or_early-in : (locate : LocateModel) (bucket : LocatedBucket) → IsLocateIn g locate
+      → IsLocatedBucketIn g bucket
+      → IsFindAtIn env (bucket_or_early env port locate bucket).0
+  bucket_or_early-in locate (buckets.At place) locate_in bucket_in = record {
     table_in = locate_in.table_in;
     probe_in = record {
       geometry_same = refl;
       at_in =
-          record { place_in = place_in; even = tt; word_in = tt };
+          record { place_in = bucket_in; even = tt; word_in = tt };
     };
   }
+  bucket_or_early-in locate (buckets.Missing place early) locate_in bucket_in =
+      early_or_missing-in locate early locate_in bucket_in.early_in
 
   located-in : (locate : LocateModel) (next : Next Located) → LocateStays g (locate, next)
       → IsFindAtIn env (located env port locate next).0
   located-in locate Go stays = stays.locate_in
   located-in locate (Done found) stays =
-      bucket_or_missing-in locate found.place stays.locate_in stays.end_in.place_in
+      bucket_or_early-in locate found.bucket stays.locate_in stays.end_in.bucket_in
 
   found_or_not-in : (table : ℕ) (bucket : Locked) (found : Option ℕ) → table < 8 → IsLockedIn g bucket
       → IsNodeOrNone g found → IsFindAtIn env (found_or_not table bucket found)

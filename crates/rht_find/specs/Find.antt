@@ -11,6 +11,8 @@ use Rattle.rht_words.specs.Ports.{word_of, owner_of}
 use Rattle.rht_words.specs.Places.{CurrentTable, Slot, FutureWord, Node, OwnerWord, ListLink, place_of}
 use Rattle.rht_nest.specs.Locate.{LocateModel, locate_new, locate_plan, locate_after, IsLocateIn}
 use Rattle.rht_nest.specs.declared.locate.Located.{Located}
+use Rattle.rht_nest.specs.declared.locate.LocatedBucket.{LocatedBucket}
+use Rattle.rht_nest.specs.declared.locate.LocatedBucket.TheVariants as buckets
 use Rattle.rht_chain.specs.Probe.{ProbeModel, probe_new, probe_plan, probe_after, IsProbeIn}
 use Rattle.rht_chain.specs.declared.probe.Probed.{Probed}
 use Rattle.rht_chain.specs.Unlock.{unlock_plan, IsUnlockIn}
@@ -53,16 +55,22 @@ find_plan m = plan_at m.env m.at
 abbrev pub locating : Env → ℕ → FindAt
 locating env table = at.Locating (locate_new env.geometry table)
 
--- a bucket that is there is locked; in one that is missing there is no port
-abbrev pub bucket_or_missing : Env → ℕ → LocateModel → Option ℕ → FindAt × Next Reply
-bucket_or_missing env port locate None = (at.Locating locate, Done Missing)
-bucket_or_missing env port locate (Some place) =
+-- a bucket that is missing is empty: the look-up goes on in the table that was behind before, and where none was the
+-- port is missing
+abbrev pub early_or_missing : Env → LocateModel → Option ℕ → FindAt × Next Reply
+early_or_missing env locate None = (at.Locating locate, Done Missing)
+early_or_missing env locate (Some next) = (locating env next, Go)
+
+-- a bucket that is there is locked
+abbrev pub bucket_or_early : Env → ℕ → LocateModel → LocatedBucket → FindAt × Next Reply
+bucket_or_early env port locate (buckets.At place) =
     (at.Probing locate.table (probe_new env.geometry place (word_of port)), Go)
+bucket_or_early env port locate (buckets.Missing place early) = early_or_missing env locate early
 
 -- what comes after an operation that looks for the bucket
 abbrev pub located : Env → ℕ → LocateModel → Next Located → FindAt × Next Reply
 located env port locate Go = (at.Locating locate, Go)
-located env port locate (Done found) = bucket_or_missing env port locate found.place
+located env port locate (Done found) = bucket_or_early env port locate found.bucket
 
 -- where the port was found its owner is loaded, and else the table's future
 abbrev pub found_or_not : ℕ → Locked → Option ℕ → FindAt

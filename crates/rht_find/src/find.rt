@@ -1,16 +1,16 @@
 //! The look-up, state by state.
 
-ghost use Rattle.std.specs.Prelude.{◌≡◌, ◌<◌};
+ghost use Rattle.std.specs.Prelude.{◌≡◌, ◌<◌, IfSome};
 ghost use Rattle.rht_words.specs.Operations.{op_place};
 ghost use Rattle.rht_words.specs.Places.{words_in};
-ghost use Rattle.rht_nest.specs.Locate.{locate_after, IsBucketOrNone, IsLocateIn};
+ghost use Rattle.rht_nest.specs.Locate.{locate_after, IsLocatedBucketIn, IsLocateIn};
 ghost use Rattle.rht_chain.specs.Locked.{IsThenIn};
 ghost use Rattle.rht_chain.specs.Probe.{probe_after};
-ghost use Rattle.rht_find.specs.Find.{find_new, find_plan, find_after, after_at, locating, located, bucket_or_missing, probed, found_or_not, next_table, list_followed, unlocking, unlocked, IsFindAtIn};
+ghost use Rattle.rht_find.specs.Find.{find_new, find_plan, find_after, after_at, locating, located, bucket_or_early, early_or_missing, probed, found_or_not, next_table, list_followed, unlocking, unlocked, IsFindAtIn};
 
 use rht_chain::{Locked, Probe, Then, Unlock};
 use rht_model::Reply;
-use rht_nest::Locate;
+use rht_nest::{Locate, LocatedBucket};
 use rht_policy::Mix;
 use rht_words::{Env, Next, Op, Port, node_of, owner_of, places, slot_of, table_of, word_of};
 use std::marker::{Model, PhantomData};
@@ -20,7 +20,10 @@ use std::marker::{Model, PhantomData};
 pub enum FindAt {
     /// Loads which table is the current one.
     CurrentTable,
-    /// Finds the port's bucket in a table. Where it is missing, so is the port.
+    /// Finds the port's bucket in a table. In a nested one it may be missing: the page with its word
+    /// isn't there, so nothing was ever in it. Then the look-up goes on in the table behind, which
+    /// was loaded before the entries. Where there was none, the port was missing at that load: somebody
+    /// may have bound it since.
     Locating {
         locate: Locate,
     },
@@ -207,29 +210,44 @@ fn located<M: Mix>(env: Env, port: Port, locate: Locate, old: u64) -> (FindAt, N
     let (locate, next) = locate.after::<M>(port, old);
     match next {
         Next::Go => (FindAt::Locating { locate }, Next::Go),
-        Next::Done(found) => bucket_or_missing(env, port, locate, found.place),
+        Next::Done(found) => bucket_or_early(env, port, locate, found.bucket),
     }
 }
 
-/// The locking of the port's bucket. Where it is missing, so is the port.
+/// The locking of the port's bucket. One that is missing is empty.
 #[inline(always)]
-pub fn bucket_or_missing(
+pub fn bucket_or_early(
     env: Env,
     port: Port,
     locate: Locate,
-    place: Option<usize>,
+    bucket: LocatedBucket,
 ) -> (FindAt, Next<Reply>)
-    requires { IsBucketOrNone env.geometry place }
-    ensures { result ≡ bucket_or_missing env port locate place }
+    requires { IsLocatedBucketIn env.geometry bucket }
+    ensures { result ≡ bucket_or_early env port locate bucket }
 {
-    let Some(place) = place else {
-        return (FindAt::Locating { locate }, Next::Done(Reply::Missing));
-    };
-    let probing = FindAt::Probing {
-        table: locate.table(),
-        probe: Probe::new(env.geometry, place, word_of(port)),
-    };
-    (probing, Next::Go)
+    match bucket {
+        LocatedBucket::At(place) => {
+            let probing = FindAt::Probing {
+                table: locate.table(),
+                probe: Probe::new(env.geometry, place, word_of(port)),
+            };
+            (probing, Next::Go)
+        }
+        LocatedBucket::Missing { early, .. } => early_or_missing(env, locate, early),
+    }
+}
+
+/// Behind a missing bucket the look-up goes on in the table that was behind before. Where none was,
+/// the port is missing.
+#[inline(always)]
+pub fn early_or_missing(env: Env, locate: Locate, early: Option<u32>) -> (FindAt, Next<Reply>)
+    requires { IfSome early (λ next. next < 8) }
+    ensures { result ≡ early_or_missing env locate early }
+{
+    match early {
+        Some(next) => (locating(env, next), Next::Go),
+        None => (FindAt::Locating { locate }, Next::Done(Reply::Missing)),
+    }
 }
 
 /// After an operation in the bucket: where it has ended, what was seen is looked at.

@@ -8,10 +8,12 @@ use Rattle.rht_words.specs.declared.machine.Next.{Next}
 use Rattle.rht_words.specs.declared.machine.Next.TheVariants.{Go, Done}
 use Rattle.rht_words.specs.Places.{CurrentTable, Slot, FutureWord}
 use Rattle.rht_words.specs.Planned.{IsWord, IsPlannedIn}
-use Rattle.rht_words.proofs.LinksRead.{slot_of-in}
+use Rattle.rht_words.proofs.LinksRead.{slot_of-in, IsSlotOrNone}
 use Rattle.rht_words.proofs.PlannedWords.{planned_load}
-use Rattle.rht_nest.specs.Locate.{LocateModel, locate_after, IsBucketOrNone, IsLocateIn}
+use Rattle.rht_nest.specs.Locate.{LocateModel, locate_after, IsLocatedBucketIn, IsLocateIn}
 use Rattle.rht_nest.specs.declared.locate.Located.{Located}
+use Rattle.rht_nest.specs.declared.locate.LocatedBucket.{LocatedBucket}
+use Rattle.rht_nest.specs.declared.locate.LocatedBucket.TheVariants as buckets
 use Rattle.rht_nest.proofs.Locates.{LocateStays, locate_stays, planned_locate}
 use Rattle.rht_chain.specs.LockedWalk.{IsNodeOrNone}
 use Rattle.rht_chain.specs.Probe.{ProbeModel, probe_after, IsProbeIn, IsProbedIn}
@@ -19,7 +21,7 @@ use Rattle.rht_chain.specs.declared.probe.Probed.{Probed}
 use Rattle.rht_chain.specs.declared.unlock.Unlock.{Unlock}
 use Rattle.rht_chain.proofs.PiecesStay.{ProbeIsIn, probe_stays}
 use Rattle.rht_chain.proofs.PiecesPlanned.{planned_probe, planned_unlock}
-use Rattle.rht_release.specs.Seek.{SeekModel, seek_plan, seek_plan_at, seek_after, seek_after_at, bucket_or_none, located, found_or_future, probed, left, IsLeavingBucket, IsSeekAtIn, IsSeekIn, IsSeekEndIn}
+use Rattle.rht_release.specs.Seek.{SeekModel, seek_plan, seek_plan_at, seek_after, seek_after_at, early_or_none, bucket_or_early, located, found_or_future, probed, left, IsLeavingBucket, IsSeekAtIn, IsSeekIn, IsSeekEndIn}
 use Rattle.rht_release.specs.declared.found_port.FoundPort.{FoundPort}
 use Rattle.rht_release.specs.declared.seek.SeekAt.{SeekAt}
 use Rattle.rht_release.specs.declared.seek.SeekAt.TheVariants as at
@@ -30,25 +32,32 @@ pub record SeekStays (g : Geometry) (next : SeekAt × Next (Option FoundPort)) :
   pub end_in : IsSeekEndIn g next.1
 
 module _ (mix : ℕ → ℕ → ℕ → ℕ) (g : Geometry) (port : ℕ) where
-  bucket_or_none-in : (locate : LocateModel) (shape : ℕ) (place : Option ℕ) → IsLocateIn g locate
-      → IsWord shape → IsBucketOrNone g place → SeekStays g (bucket_or_none g port locate shape place)
-  bucket_or_none-in locate shape None locate_in shape_in place_in = record { at_in = locate_in; end_in = tt }
-  bucket_or_none-in locate shape (Some place) locate_in shape_in place_in = record {
+  early_or_none-in : (locate : LocateModel) (early : Option ℕ) → IsLocateIn g locate → IsSlotOrNone early
+      → SeekStays g (early_or_none g locate early)
+  early_or_none-in locate None locate_in early_in = record { at_in = locate_in; end_in = tt }
+  early_or_none-in locate (Some next) locate_in early_in =
+      record { at_in = record { geometry_same = refl; table_in = early_in; at_in = tt }; end_in = tt }
+
+  bucket_or_early-in : (locate : LocateModel) (shape : ℕ) (bucket : LocatedBucket) → IsLocateIn g locate
+      → IsWord shape → IsLocatedBucketIn g bucket → SeekStays g (bucket_or_early g port locate shape bucket)
+  bucket_or_early-in locate shape (buckets.At place) locate_in shape_in bucket_in = record {
     at_in = record {
       table_in = locate_in.table_in;
       shape_in = shape_in;
       probe_in =
-          record { geometry_same = refl; at_in = record { place_in = place_in; even = tt; word_in = tt } };
+          record { geometry_same = refl; at_in = record { place_in = bucket_in; even = tt; word_in = tt } };
     };
     end_in = tt;
   }
+  bucket_or_early-in locate shape (buckets.Missing place early) locate_in shape_in bucket_in =
+      early_or_none-in locate early locate_in bucket_in.early_in
 
   located-in : (locate : LocateModel) (next : Next Located) → LocateStays g (locate, next)
       → SeekStays g (located g port locate next)
   located-in locate Go stays = record { at_in = stays.locate_in; end_in = tt }
   located-in locate (Done there) stays =
-      bucket_or_none-in locate there.shape there.place stays.locate_in stays.end_in.shape_in
-      stays.end_in.place_in
+      bucket_or_early-in locate there.shape there.bucket stays.locate_in stays.end_in.shape_in
+      stays.end_in.bucket_in
 
   found_or_future-in : (table shape : ℕ) (probe : ProbeModel) (end : Probed) (found : Option ℕ) → table < 8
       → IsWord shape → IsProbeIn g probe → IsProbedIn g end → IsNodeOrNone g found

@@ -12,6 +12,8 @@ use Rattle.rht_words.specs.Ports.{word_of}
 use Rattle.rht_words.specs.Places.{CurrentTable, Slot, FutureWord, place_of}
 use Rattle.rht_nest.specs.Locate.{LocateModel, locate_new, locate_plan, locate_after, IsLocateIn}
 use Rattle.rht_nest.specs.declared.locate.Located.{Located}
+use Rattle.rht_nest.specs.declared.locate.LocatedBucket.{LocatedBucket}
+use Rattle.rht_nest.specs.declared.locate.LocatedBucket.TheVariants as buckets
 use Rattle.rht_chain.specs.Probe.{ProbeModel, probe_new, probe_plan, probe_after, lock_of_probe, IsProbeIn}
 use Rattle.rht_chain.specs.declared.probe.Probed.{Probed}
 use Rattle.rht_chain.specs.Unlock.{unlock_plan, IsUnlockIn}
@@ -47,16 +49,22 @@ seek_plan m = seek_plan_at m.geometry m.at
 abbrev pub locating : Geometry → ℕ → SeekAt
 locating g table = at.Locating (locate_new g table)
 
--- a bucket that is there is locked; in one that is missing there is no port
-abbrev pub bucket_or_none : Geometry → ℕ → LocateModel → ℕ → Option ℕ → SeekAt × Next (Option FoundPort)
-bucket_or_none g port locate shape None = (at.Locating locate, Done None)
-bucket_or_none g port locate shape (Some place) =
+-- a bucket that is missing is empty: the way goes on in the table that was behind before, and where none was the port
+-- is bound nowhere
+abbrev pub early_or_none : Geometry → LocateModel → Option ℕ → SeekAt × Next (Option FoundPort)
+early_or_none g locate None = (at.Locating locate, Done None)
+early_or_none g locate (Some next) = (locating g next, Go)
+
+-- a bucket that is there is locked
+abbrev pub bucket_or_early : Geometry → ℕ → LocateModel → ℕ → LocatedBucket → SeekAt × Next (Option FoundPort)
+bucket_or_early g port locate shape (buckets.At place) =
     (at.Probing locate.table shape (probe_new g place (word_of port)), Go)
+bucket_or_early g port locate shape (buckets.Missing place early) = early_or_none g locate early
 
 -- what comes after an operation that looks for the bucket
 abbrev pub located : Geometry → ℕ → LocateModel → Next Located → SeekAt × Next (Option FoundPort)
 located g port locate Go = (at.Locating locate, Go)
-located g port locate (Done there) = bucket_or_none g port locate there.shape there.place
+located g port locate (Done there) = bucket_or_early g port locate there.shape there.bucket
 
 -- the port at this node, which was seen in a bucket of a table of this shape
 abbrev pub port_at : ℕ → ℕ → Probed → ℕ → FoundPort
@@ -115,7 +123,8 @@ answer_unless absent (Some table) = None
 
 -- What a call answers whose port is bound nowhere, once that is known: from the load of a future on
 -- that leads to no table. At that load no table binds the port, and none will while the bucket is
--- locked.
+-- locked. Where the bucket is missing the answer is known at the end alone: no table bound the port at the
+-- load of the future before the entries, and no lock has kept it unbound since.
 abbrev pub answer_of_seek : {Answer : Type 0} → Answer → SeekAt → Option Answer
 answer_of_seek absent at.CurrentTable = None
 answer_of_seek absent (at.Locating locate) = None

@@ -3,13 +3,13 @@
 ghost use Rattle.std.specs.Prelude.{◌≡◌, ◌<◌, IfSome};
 ghost use Rattle.rht_words.specs.Operations.{op_place};
 ghost use Rattle.rht_words.specs.Places.{words_in};
-ghost use Rattle.rht_nest.specs.Locate.{locate_after, IsBucketOrNone, IsLocateIn};
+ghost use Rattle.rht_nest.specs.Locate.{locate_after, IsLocatedBucketIn, IsLocateIn};
 ghost use Rattle.rht_chain.specs.Probe.{probe_after};
-ghost use Rattle.rht_release.specs.Seek.{seek_new, seek_plan, seek_after, seek_after_at, locating, located, bucket_or_none, probed, found_or_future, leaving, left, IsSeekAtIn, IsSeekEndIn};
+ghost use Rattle.rht_release.specs.Seek.{seek_new, seek_plan, seek_after, seek_after_at, locating, located, bucket_or_early, early_or_none, probed, found_or_future, leaving, left, IsSeekAtIn, IsSeekEndIn};
 
 use crate::found_port::FoundPort;
 use rht_chain::{Locked, Probe, Probed, Unlock};
-use rht_nest::Locate;
+use rht_nest::{Locate, LocatedBucket};
 use rht_policy::Mix;
 use rht_words::{Geometry, Next, Op, Port, places, slot_of, table_of, word_of};
 use std::marker::Model;
@@ -19,7 +19,10 @@ use std::marker::Model;
 pub enum SeekAt {
     /// Loads which table is the current one.
     CurrentTable,
-    /// Finds the port's bucket in a table. Where it is missing, so is the port.
+    /// Finds the port's bucket in a table. In a nested one it may be missing: the page with its word
+    /// isn't there, so nothing was ever in it. Then the way goes on in the table behind, which was
+    /// loaded before the entries. Where there was none, no table bound the port at that load: somebody
+    /// may have bound it since.
     Locating {
         locate: Locate,
     },
@@ -171,31 +174,50 @@ fn located<M: Mix>(
     let (locate, next) = locate.after::<M>(port, old);
     match next {
         Next::Go => (SeekAt::Locating { locate }, Next::Go),
-        Next::Done(there) => bucket_or_none(geometry, port, locate, there.shape, there.place),
+        Next::Done(there) => bucket_or_early(geometry, port, locate, there.shape, there.bucket),
     }
 }
 
-/// The locking of the port's bucket. Where it is missing, so is the port.
+/// The locking of the port's bucket. One that is missing is empty.
 #[inline(always)]
-pub fn bucket_or_none(
+pub fn bucket_or_early(
     geometry: Geometry,
     port: Port,
     locate: Locate,
     shape: u64,
-    place: Option<usize>,
+    bucket: LocatedBucket,
 ) -> (SeekAt, Next<Option<FoundPort>>)
-    requires { IsBucketOrNone geometry place }
-    ensures { result ≡ bucket_or_none geometry port locate shape place }
+    requires { IsLocatedBucketIn geometry bucket }
+    ensures { result ≡ bucket_or_early geometry port locate shape bucket }
 {
-    let Some(place) = place else {
-        return (SeekAt::Locating { locate }, Next::Done(None));
-    };
-    let probing = SeekAt::Probing {
-        table: locate.table(),
-        shape,
-        probe: Probe::new(geometry, place, word_of(port)),
-    };
-    (probing, Next::Go)
+    match bucket {
+        LocatedBucket::At(place) => {
+            let probing = SeekAt::Probing {
+                table: locate.table(),
+                shape,
+                probe: Probe::new(geometry, place, word_of(port)),
+            };
+            (probing, Next::Go)
+        }
+        LocatedBucket::Missing { early, .. } => early_or_none(geometry, locate, early),
+    }
+}
+
+/// Behind a missing bucket the way goes on in the table that was behind before. Where none was, no
+/// table binds the port.
+#[inline(always)]
+pub fn early_or_none(
+    geometry: Geometry,
+    locate: Locate,
+    early: Option<u32>,
+) -> (SeekAt, Next<Option<FoundPort>>)
+    requires { IfSome early (λ next. next < 8) }
+    ensures { result ≡ early_or_none geometry locate early }
+{
+    match early {
+        Some(next) => (locating(geometry, next), Next::Go),
+        None => (SeekAt::Locating { locate }, Next::Done(None)),
+    }
 }
 
 /// After an operation in the bucket: where it has ended, what was seen is looked at.

@@ -50,8 +50,9 @@ const WORDS: [(usize, u64); 20] = [
     (319, 4),
 ];
 
-/// A shape of four buckets from page 5 on, which there isn't: each bucket is missing.
-const NO_PAGE: (usize, u64) = (24, 5_122);
+/// A shape of 128 buckets behind the two entries of page 0, at 314 and 315, which lead to no page: each
+/// bucket is missing. Those of the ports of bucket 5 are behind the second entry.
+const NESTED: (usize, u64) = (24, 39);
 
 const KICK: Reply = Reply::Released { kick: true };
 
@@ -124,9 +125,44 @@ fn on_to_the_end() -> [Op; 3] {
     [Op::load(298), Op::load(26), Op::store(319, 4)]
 }
 
-/// The way to a bucket that is missing.
-fn way_to_none() -> [Op; 3] {
-    [Op::load(0), Op::load(24), Op::load(25)]
+/// The way to a bucket that is behind the second entry of page 0. It ends here where that leads to no
+/// page.
+fn way_to_entry() -> [Op; 5] {
+    [
+        Op::load(0),
+        Op::load(24),
+        Op::load(25),
+        Op::load(26),
+        Op::load(315),
+    ]
+}
+
+/// The first table is nested, and lacks the page of port 69. The table of slot 1 is behind, with 128
+/// buckets from page 2 on, of which the one with number 69 has node 1 alone. It is at
+/// 314 + 64 * 2 + 69, and has the marker 1023.
+const BEHIND: [(usize, u64); 6] = [
+    NESTED,
+    (26, 2),
+    (56, 2_055),
+    (57, 2),
+    (511, 4),
+    (286, 1_023),
+];
+
+/// The way to that bucket, up to the key of node 1.
+fn way_behind() -> [Op; 10] {
+    [
+        Op::load(0),
+        Op::load(24),
+        Op::load(25),
+        Op::load(26),
+        Op::load(315),
+        Op::load(56),
+        Op::load(57),
+        Op::load(511),
+        Op::exchange(511, 4, 5),
+        Op::load(287),
+    ]
 }
 
 /// The machine performs these operations in a table that differs from the one above by these
@@ -208,8 +244,8 @@ fn releases_of_ports_with_one_owner(rt: HostRuntime) {
 #[test]
 fn releases_of_ports_that_the_first_table_has_not(rt: HostRuntime) {
     let absent = (Reply::Absent, None);
-    let parts: [&[Op]; 1] = [&way_to_none()];
-    assert_release(&rt, (69, 1), &[NO_PAGE], &parts, absent);
+    let parts: [&[Op]; 1] = [&way_to_entry()];
+    assert_release(&rt, (69, 1), &[NESTED], &parts, absent);
     let parts: [&[Op]; 3] = [&way(), &on_to_133(), &on_to_the_end()];
     assert_release(&rt, (197, 3), &[], &parts, absent);
     // The future table is in slot 1, with 128 buckets from page 2 on. Port 197 has bucket 69 there,
@@ -237,6 +273,48 @@ fn releases_of_ports_that_the_first_table_has_not(rt: HostRuntime) {
     ];
     let parts: [&[Op]; 4] = [&way(), &on_to_133(), &on_to_the_end(), &of_197];
     assert_release(&rt, (197, 3), &future, &parts, (KICK, Some(5)));
+}
+
+/// The taking out of node 1 with port 69, which is alone in the bucket at this place.
+fn out_of(place: usize) -> [Op; 5] {
+    [
+        Op::load(288),
+        Op::load(289),
+        Op::load(286),
+        Op::store(place, 0),
+        Op::sub(2, 1),
+    ]
+}
+
+#[test]
+fn releases_in_nested_tables(rt: HostRuntime) {
+    let parts: [&[Op]; 2] = [&way_behind(), &out_of(511)];
+    assert_release(&rt, (69, 1), &BEHIND, &parts, (KICK, Some(1)));
+    // The entry leads to page 3, whose word 69 / 2 is the bucket's. It has the marker 1081.
+    let there = [NESTED, (315, 4), (540, 4), (286, 1_081)];
+    let bucket = [
+        Op::load(540), // 314 + 64 * 3 + 34
+        Op::exchange(540, 4, 5),
+        Op::load(287),
+    ];
+    let parts: [&[Op]; 3] = [&way_to_entry(), &bucket, &out_of(540)];
+    assert_release(&rt, (69, 1), &there, &parts, (KICK, Some(1)));
+    // 8192 buckets behind the entries of page 1. The second one leads to page 2, whose entry 34 leads to
+    // page 3, whose first word is the bucket's. It has the marker 1013.
+    let deep = [(24, 1_069), (379, 3), (476, 4), (506, 4), (286, 1_013)];
+    let way = [
+        Op::load(0),
+        Op::load(24),
+        Op::load(25),
+        Op::load(26),
+        Op::load(379), // 314 + 64 + 1
+        Op::load(476), // 314 + 64 * 2 + 34
+        Op::load(506), // 314 + 64 * 3
+        Op::exchange(506, 4, 5),
+        Op::load(287),
+    ];
+    let parts: [&[Op]; 2] = [&way, &out_of(506)];
+    assert_release(&rt, (69, 1), &deep, &parts, (KICK, Some(1)));
 }
 
 /// The loads of three owners, of which each but the last has a node behind it.
@@ -340,6 +418,14 @@ fn rebinds_that_are_made(rt: HostRuntime) {
     ];
     let parts: [&[Op]; 4] = [&new_node(133), &way(), &on_to_133(), &later];
     assert_rebind(&rt, (133, 2), &[], &parts, (Reply::Rebound, Some(4)));
+    let behind = [
+        Op::load(288),
+        Op::load(286),
+        Op::store(302, 1_023),
+        Op::store(511, 12),
+    ];
+    let parts: [&[Op]; 3] = [&new_node(69), &way_behind(), &behind];
+    assert_rebind(&rt, (69, 1), &BEHIND, &parts, (Reply::Rebound, Some(1)));
 }
 
 #[test]
@@ -357,8 +443,8 @@ fn rebinds_that_are_not_made(rt: HostRuntime) {
         &given,
     ];
     assert_rebind(&rt, (197, 3), &[], &parts, absent);
-    let parts: [&[Op]; 3] = [&new_node(197), &way_to_none(), &given];
-    assert_rebind(&rt, (197, 3), &[NO_PAGE], &parts, absent);
+    let parts: [&[Op]; 3] = [&new_node(197), &way_to_entry(), &given];
+    assert_rebind(&rt, (197, 3), &[NESTED], &parts, absent);
     // No node is free.
     let none = [Op::load(280)];
     let parts: [&[Op]; 1] = [&none];
@@ -399,7 +485,10 @@ fn listings_keep_the_owners(rt: HostRuntime) -> Result<(), Fail> {
     let room = assert_all(&rt, room, 133, &[], &parts, &[2]);
     let parts: [&[Op]; 3] = [&way(), &on_to_133(), &on_to_the_end()];
     let room = assert_all(&rt, room, 197, &[], &parts, &[]);
-    let parts: [&[Op]; 1] = [&way_to_none()];
-    assert_all(&rt, room, 5, &[NO_PAGE], &parts, &[]);
+    let parts: [&[Op]; 1] = [&way_to_entry()];
+    let room = assert_all(&rt, room, 5, &[NESTED], &parts, &[]);
+    let one = [Op::load(288), Op::load(289), Op::store(511, 4)];
+    let parts: [&[Op]; 2] = [&way_behind(), &one];
+    assert_all(&rt, room, 69, &BEHIND, &parts, &[1]);
     Ok(())
 }
