@@ -1,4 +1,4 @@
--- On which words a bind works, a case a state: those of the maps of nodes and pages, of slots, nodes and buckets, the
+-- On which words a bind works, a case a state: those of the maps of nodes and pages, of slots, nodes, entries and buckets, the
 -- count of ports and the next serial. What it stores are words.
 use Rattle.std.proofs.Common.{refl, arith}
 use Rattle.rht_words.specs.declared.env.Env.{Env}
@@ -6,6 +6,7 @@ use Rattle.rht_words.specs.Places.{CurrentTable, PortCount, Slot, FutureWord, No
 use Rattle.rht_words.specs.Planned.{IsPlannedIn}
 use Rattle.rht_words.proofs.PlannedWords.{planned-at, planned_load, head_of-fits, link_of-fits}
 use Rattle.rht_nest.proofs.Locates.{planned_locate}
+use Rattle.rht_nest.proofs.Grows.{planned_grow}
 use Rattle.rht_nest.proofs.MakesPlanned.{planned_make, planned_unmake}
 use Rattle.rht_arena.proofs.NodesPlanned.{planned_new_node, planned_give}
 use Rattle.rht_chain.proofs.PiecesPlanned.{planned_probe, planned_relink, planned_unlock}
@@ -17,6 +18,7 @@ pub planned_bind : (env : Env) (state : BindAt) → IsBindAtIn env state → IsP
 planned_bind env (at.Filling new) within = planned_new_node env.geometry new within
 planned_bind env (at.CurrentTable attempt) within = planned_load env.geometry CurrentTable tt tt
 planned_bind env (at.Locating attempt locate) within = planned_locate env.geometry locate within.locate_in
+planned_bind env (at.Entering attempt table shape place grow) within = planned_grow env.geometry grow within.grow_in
 planned_bind env (at.Probing attempt table shape probe) within = planned_probe env.geometry probe within.probe_in
 planned_bind env (at.FoundOwner claimed found) within =
     planned_load env.geometry (Node found OwnerWord) within.found_in tt

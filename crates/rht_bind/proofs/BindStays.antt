@@ -1,7 +1,7 @@
 -- Whatever words it is told, a bind stays in its table: a case a state.
 -- Slots, links, shapes and the node map are read totally, so what they name is there or is none.
-use Rattle.std.proofs.Common.{◌≡◌, ℕ, ◌<◌, ◌≤◌, refl, arith}
-use Rattle.std.specs.Prelude.{Bool, true, false, Option, Some, None, min, nat_le, nat_eq, ◌-◌, ◌*◌, ◌==◌}
+use Rattle.std.proofs.Common.{ℕ, ◌<◌, ◌≤◌, refl, sym, subst, arith}
+use Rattle.std.specs.Prelude.{Bool, Option, Some, None, min, nat_le, nat_eq, ◌*◌, ◌==◌}
 use Rattle.std.proofs.lemmas.Bool.{cond_both}
 use Rattle.rht_words.specs.declared.env.Env.{Env}
 use Rattle.rht_words.specs.declared.config.Kind.{Kind}
@@ -9,16 +9,25 @@ use Rattle.rht_words.specs.declared.config.Kind.TheVariants as kinds
 use Rattle.rht_words.specs.declared.geometry.Geometry.{Geometry}
 use Rattle.rht_words.specs.declared.machine.Next.{Next}
 use Rattle.rht_words.specs.declared.machine.Next.TheVariants.{Go, Done}
-use Rattle.rht_words.specs.Links.{table_of, slot_of, link_of}
+use Rattle.rht_words.specs.declared.machine.Start.{Start}
+use Rattle.rht_words.specs.declared.machine.Start.TheVariants as starts
+use Rattle.rht_words.specs.Links.{slot_of, link_of}
+use Rattle.rht_words.specs.Places.{IsBucketPlace}
 use Rattle.rht_words.specs.Planned.{IsWord}
 use Rattle.rht_words.specs.Shapes.{size_of, unpacked}
 use Rattle.rht_words.proofs.LinksRead.{slot_of-in, IsSlotOrNone}
 use Rattle.rht_words.proofs.PlannedWords.{link_of-fits}
 use Rattle.rht_policy.specs.Thresholds.{is_above_75, is_above_100, is_above_max}
-use Rattle.rht_nest.specs.Locate.{LocateModel, locate_after, IsBucketOrNone}
+use Rattle.rht_nest.specs.Locate.{LocateModel, locate_after, IsLocatedBucketIn}
 use Rattle.rht_nest.specs.declared.locate.Located.{Located}
+use Rattle.rht_nest.specs.declared.locate.LocatedBucket.{LocatedBucket}
+use Rattle.rht_nest.specs.declared.locate.LocatedBucket.TheVariants as buckets
+use Rattle.rht_nest.specs.Place.{PlaceModel, entry_place, entered, IsPlaceIn, IsEnteredIn}
+use Rattle.rht_nest.specs.Grow.{GrowModel, grow_after}
+use Rattle.rht_nest.proofs.Places.{entered_in}
+use Rattle.rht_nest.proofs.Grows.{GrowIsIn, begins_page, grow_stays}
 use Rattle.rht_nest.proofs.Locates.{LocateStays, locate_stays}
-use Rattle.rht_nest.specs.Make.{MakeModel, make_after, IsMadeIn, IsMakeEndIn}
+use Rattle.rht_nest.specs.Make.{MakeModel, make_after, IsMadeIn}
 use Rattle.rht_nest.specs.Unmake.{UnmakeModel, unmake_after, IsUnmakeIn}
 use Rattle.rht_nest.proofs.MakesStay.{MakeIsIn, make_stays, unmake_begins, unmake_stays}
 use Rattle.rht_arena.specs.NewNode.{NewNodeModel, new_node_after}
@@ -32,14 +41,13 @@ use Rattle.rht_chain.specs.declared.locked.Then.{Then}
 use Rattle.rht_chain.specs.declared.locked.Then.TheVariants.{Table, Answer}
 use Rattle.rht_chain.proofs.PiecesStay.{ProbeIsIn, probe_stays, relink_begins, relink_stays}
 use Rattle.rht_model.specs.declared.history.Reply.{Reply}
-use Rattle.rht_bind.specs.Bind.{after_at, filled, bucket_or_no_table, located, bound_already, found_or_future, probed, replacing, replaced, unlocking, future_or_count, checked_count, kicks, publishing, published, unlocked, IsClaimedIn, IsListIn, IsReplacingIn, IsBindAtIn}
-use Rattle.rht_bind.specs.Growing.{unlocking_full, making, size_grown, want_or_busy, made, ended_attempt, behind_attempt, refused_or_found, has_attached, checked_attach, unmade, IsGrowingIn, IsWantingIn, IsMakingIn, IsAttachingIn, IsUnmakingIn}
+use Rattle.rht_bind.specs.Bind.{after_at, filled, probing, at_bucket, located, behind_page, grown, bound_already, found_or_future, probed, replacing, replaced, unlocking, future_or_count, checked_count, kicks, publishing, published, unlocked, IsClaimedIn, IsListIn, IsReplacingIn, IsBindAtIn}
+use Rattle.rht_bind.specs.Growing.{unlocking_full, making, size_grown, want_or_busy, made, ended_attempt, behind_attempt, refused_or_found, has_attached, checked_attach, unmade, IsGrowingIn, IsWantingIn, IsAttachingIn}
 use Rattle.rht_bind.specs.declared.bind.Attempt.{Attempt}
 use Rattle.rht_bind.specs.declared.bind.growth.Full.{Full}
 use Rattle.rht_bind.specs.declared.bind.growth.Full.TheVariants as full
 use Rattle.rht_bind.specs.declared.bind.growth.Growing.{Growing}
 use Rattle.rht_bind.specs.declared.bind.growth.Refusal.{Refusal}
-use Rattle.rht_bind.specs.declared.bind.growth.Refusal.TheVariants as refusals
 use Rattle.rht_bind.specs.declared.bind.Claimed.{Claimed}
 use Rattle.rht_bind.specs.declared.bind.FoundList.{FoundList}
 use Rattle.rht_bind.specs.declared.bind.BindAt.{BindAt}
@@ -55,24 +63,78 @@ module _ (mix : ℕ → ℕ → ℕ → ℕ) (env : Env) (port : ℕ) (once : Bo
   filled-in new (Done None) stays = stays.new_in
   filled-in new (Done (Some node)) stays = stays.node_in
 
-  bucket-in : (attempt : Attempt) (table shape : ℕ) (place : Option ℕ) → attempt.node < g.nodes → table < 8
-      → IsWord shape → IsBucketOrNone g place
-      → IsBindAtIn env (bucket_or_no_table env port attempt table shape place)
-  bucket-in attempt table shape None node_in table_in shape_in place_in =
-      record { geometry_same = refl; node_in = node_in }
-  bucket-in attempt table shape (Some place) node_in table_in shape_in place_in = record {
+  probing-in : (attempt : Attempt) (table shape place : ℕ) → attempt.node < g.nodes → table < 8 → IsWord shape
+      → IsBucketPlace g place → IsBindAtIn env (probing env port attempt table shape place)
+  probing-in attempt table shape place node_in table_in shape_in place_in = record {
     node_in = node_in;
     table_in = table_in;
     shape_in = shape_in;
     probe_in = record { geometry_same = refl; at_in = record { place_in = place_in; even = tt; word_in = tt } };
   }
 
+  -- an entry is one of the pages' words
+  entry_place-in : (place : PlaceModel) → IsPlaceIn g place → IsBucketPlace g (entry_place place)
+  entry_place-in place within =
+      let below = within.entry_in in
+      subst (λ (h : Geometry). IsBucketPlace g (entry_place (record place { geometry = h }))) (sym within.geometry_same)
+      (omega arith, omega (arith, below))
+
+  bucket-in : (attempt : Attempt) (table shape : ℕ) (bucket : LocatedBucket) → attempt.node < g.nodes → table < 8
+      → IsWord shape → IsLocatedBucketIn g bucket → IsBindAtIn env (at_bucket env port attempt table shape bucket)
+  bucket-in attempt table shape (buckets.At place) node_in table_in shape_in bucket_in =
+      probing-in attempt table shape place node_in table_in shape_in bucket_in
+  bucket-in attempt table shape (buckets.Missing place (Some next)) node_in table_in shape_in bucket_in = record {
+    node_in = node_in;
+    locate_in = record { geometry_same = refl; table_in = bucket_in.early_in; at_in = tt };
+  }
+  bucket-in attempt table shape (buckets.Missing place None) node_in table_in shape_in bucket_in = record {
+    node_in = node_in;
+    table_in = table_in;
+    shape_in = shape_in;
+    place_in = bucket_in.place_in;
+    grow_in = record {
+      geometry_same = refl;
+      entry_in = entry_place-in place bucket_in.place_in;
+      at_in = begins_page g;
+    };
+  }
+
   located-in : (attempt : Attempt) (locate : LocateModel) (next : Next Located) → attempt.node < g.nodes
       → LocateStays g (locate, next) → IsBindAtIn env (located env port attempt locate next)
   located-in attempt locate Go node_in stays = record { node_in = node_in; locate_in = stays.locate_in }
   located-in attempt locate (Done there) node_in stays =
-      bucket-in attempt locate.table there.shape there.place node_in stays.locate_in.table_in stays.end_in.shape_in
-      stays.end_in.place_in
+      bucket-in attempt locate.table there.shape there.bucket node_in stays.locate_in.table_in stays.end_in.shape_in
+      stays.end_in.bucket_in
+
+  behind_page-in : (attempt : Attempt) (table shape : ℕ) (way : Start PlaceModel ℕ) → attempt.node < g.nodes
+      → table < 8 → IsWord shape → IsEnteredIn g way
+      → IsBindAtIn env (behind_page env port attempt table shape way)
+  behind_page-in attempt table shape (starts.Running next) node_in table_in shape_in way_in = record {
+    node_in = node_in;
+    locate_in = record {
+      geometry_same = refl;
+      table_in = table_in;
+      at_in = record { nested_in = record { shape_in = shape_in; place_in = way_in }; early_in = tt };
+    };
+  }
+  behind_page-in attempt table shape (starts.Done place) node_in table_in shape_in way_in =
+      probing-in attempt table shape place node_in table_in shape_in way_in
+
+  grown-in : (attempt : Attempt) (table shape : ℕ) (place : PlaceModel) (grow : GrowModel) (next : Next (Option ℕ))
+      → attempt.node < g.nodes → table < 8 → IsWord shape → IsPlaceIn g place → GrowIsIn g (grow, next)
+      → IsBindAtIn env (grown env port attempt table shape place grow next)
+  grown-in attempt table shape place grow Go node_in table_in shape_in place_in stays = record {
+    node_in = node_in;
+    table_in = table_in;
+    shape_in = shape_in;
+    place_in = place_in;
+    grow_in = stays.grow_in;
+  }
+  grown-in attempt table shape place grow (Done None) node_in table_in shape_in place_in stays =
+      record { geometry_same = refl; node_in = node_in }
+  grown-in attempt table shape place grow (Done (Some page)) node_in table_in shape_in place_in stays =
+      behind_page-in attempt table shape (entered place page) node_in table_in shape_in
+      (entered_in g place page place_in stays.page_in)
 
   bound-in : (kind : Kind) (claimed : Claimed) (first : ℕ) (before : Option ℕ) → IsClaimedIn g claimed
       → first < g.nodes
@@ -241,6 +303,9 @@ module _ (mix : ℕ → ℕ → ℕ → ℕ) (env : Env) (port : ℕ) (once : Bo
   bind_stays (at.Locating attempt locate) word within told =
       located-in attempt (locate_after mix port locate word).0 (locate_after mix port locate word).1 within.node_in
       (locate_stays mix port g locate word within.locate_in told)
+  bind_stays (at.Entering attempt table shape place grow) word within told =
+      grown-in attempt table shape place (grow_after grow word).0 (grow_after grow word).1 within.node_in within.table_in
+      within.shape_in within.place_in (grow_stays g grow word within.grow_in told)
   bind_stays (at.Probing attempt table shape probe) word within told =
       probed-in env.config.kind attempt table shape (probe_after probe word).0 (probe_after probe word).1
       within.node_in

@@ -4,6 +4,8 @@ use Rattle.rht_words.specs.declared.op.Op.{Op}
 use Rattle.rht_words.specs.declared.op.Op.TheVariants.{Load, Store, Exchange, Add}
 use Rattle.rht_words.specs.declared.machine.Next.{Next}
 use Rattle.rht_words.specs.declared.machine.Next.TheVariants.{Go, Done}
+use Rattle.rht_words.specs.declared.machine.Start.{Start}
+use Rattle.rht_words.specs.declared.machine.Start.TheVariants as starts
 use Rattle.rht_words.specs.declared.env.Env.{Env}
 use Rattle.rht_words.specs.declared.config.Kind.{Kind}
 use Rattle.rht_words.specs.declared.config.Kind.TheVariants as kinds
@@ -16,6 +18,11 @@ use Rattle.rht_words.specs.Places.{CurrentTable, PortCount, Slot, FutureWord, No
 use Rattle.rht_policy.specs.Thresholds.{is_above_75, is_above_100, is_above_max}
 use Rattle.rht_nest.specs.Locate.{LocateModel, locate_new, locate_plan, locate_after, IsLocateIn}
 use Rattle.rht_nest.specs.declared.locate.Located.{Located}
+use Rattle.rht_nest.specs.declared.locate.LocatedBucket.{LocatedBucket}
+use Rattle.rht_nest.specs.declared.locate.LocatedBucket.TheVariants as buckets
+use Rattle.rht_nest.specs.declared.locate.LocateAt.TheVariants as locates
+use Rattle.rht_nest.specs.Place.{PlaceModel, entry_place, entered, IsPlaceIn}
+use Rattle.rht_nest.specs.Grow.{GrowModel, grow_new, grow_plan, grow_after, IsGrowIn}
 use Rattle.rht_nest.specs.Make.{make_plan, make_after}
 use Rattle.rht_nest.specs.Unmake.{unmake_plan, unmake_after}
 use Rattle.rht_arena.specs.NewNode.{NewNodeModel, new_node_new, new_node_plan, new_node_after, IsNewNodeIn}
@@ -61,6 +68,7 @@ abbrev pub plan_at : Env → BindAt → Op
 plan_at env (at.Filling new) = new_node_plan new
 plan_at env (at.CurrentTable attempt) = Load (place_of env.geometry CurrentTable)
 plan_at env (at.Locating attempt locate) = locate_plan locate
+plan_at env (at.Entering attempt table shape place grow) = grow_plan grow
 plan_at env (at.Probing attempt table shape probe) = probe_plan probe
 plan_at env (at.FoundOwner claimed found) = Load (place_of env.geometry (Node found OwnerWord))
 plan_at env (at.ListLink list) =
@@ -102,17 +110,38 @@ filled new (Done (Some node)) = (at.CurrentTable (first_attempt node), Go)
 abbrev pub locating : Env → Attempt → ℕ → BindAt
 locating env attempt table = at.Locating attempt (locate_new env.geometry table)
 
--- a bucket that is there is locked; where it is missing there is no table of this size for the port
-abbrev pub bucket_or_no_table : Env → ℕ → Attempt → ℕ → ℕ → Option ℕ → BindAt
-bucket_or_no_table env port attempt table shape None = giving env attempt.node (NoTable (size_of (unpacked shape)))
-bucket_or_no_table env port attempt table shape (Some place) =
+-- the bucket whose word has this place is locked
+abbrev pub probing : Env → ℕ → Attempt → ℕ → ℕ → ℕ → BindAt
+probing env port attempt table shape place =
     at.Probing attempt table shape (probe_new env.geometry place (word_of port))
+
+-- A bucket that is there is locked. A missing one is empty: where a table was behind before the entries were looked at, the bind
+-- goes on in that one, and else a page is entered at the entry that leads to none.
+abbrev pub at_bucket : Env → ℕ → Attempt → ℕ → ℕ → LocatedBucket → BindAt
+at_bucket env port attempt table shape (buckets.At place) = probing env port attempt table shape place
+at_bucket env port attempt table shape (buckets.Missing place (Some next)) = locating env attempt next
+at_bucket env port attempt table shape (buckets.Missing place None) =
+    at.Entering attempt table shape place (grow_new env.geometry (entry_place place))
 
 -- what comes after an operation that looks for the bucket
 abbrev pub located : Env → ℕ → Attempt → LocateModel → Next Located → BindAt
 located env port attempt locate Go = at.Locating attempt locate
 located env port attempt locate (Done there) =
-    bucket_or_no_table env port attempt locate.table there.shape there.place
+    at_bucket env port attempt locate.table there.shape there.bucket
+
+-- Behind an entry that leads to a page the bucket is there, or a further entry is looked at. No table was behind before.
+abbrev pub behind_page : Env → ℕ → Attempt → ℕ → ℕ → Start PlaceModel ℕ → BindAt
+behind_page env port attempt table shape (starts.Running next) =
+    at.Locating attempt (record { geometry = env.geometry; table = table; at = locates.Entry shape None next })
+behind_page env port attempt table shape (starts.Done place) = probing env port attempt table shape place
+
+-- What comes after an operation that enters a page: where none was free there is no table of this size for the port.
+abbrev pub grown : Env → ℕ → Attempt → ℕ → ℕ → PlaceModel → GrowModel → Next (Option ℕ) → BindAt
+grown env port attempt table shape place grow Go = at.Entering attempt table shape place grow
+grown env port attempt table shape place grow (Done None) =
+    giving env attempt.node (NoTable (size_of (unpacked shape)))
+grown env port attempt table shape place grow (Done (Some page)) =
+    behind_page env port attempt table shape (entered place page)
 
 -- of a port that is bound already the owner is loaded; in a table of lists the node goes in front of its list
 abbrev pub bound_already : Kind → Claimed → ℕ → Option ℕ → BindAt
@@ -193,6 +222,8 @@ after_at mix env port once (at.Filling new) word = filled (new_node_after new wo
 after_at mix env port once (at.CurrentTable attempt) word = (locating env attempt (table_of word), Go)
 after_at mix env port once (at.Locating attempt locate) word =
     (located env port attempt (locate_after mix port locate word).0 (locate_after mix port locate word).1, Go)
+after_at mix env port once (at.Entering attempt table shape place grow) word =
+    (grown env port attempt table shape place (grow_after grow word).0 (grow_after grow word).1, Go)
 after_at mix env port once (at.Probing attempt table shape probe) word =
     (probed env.config.kind attempt table shape (probe_after probe word).0 (probe_after probe word).1, Go)
 after_at mix env port once (at.FoundOwner claimed found) word =
@@ -234,6 +265,14 @@ bind_after mix m word = moved m (after_at mix m.env m.port m.once m.at word)
 pub record IsLocatingIn (g : Geometry) (attempt : Attempt) (locate : LocateModel) : Type 0 where
   pub node_in : attempt.node < g.nodes
   pub locate_in : IsLocateIn g locate
+
+-- for which it enters a page at an entry of a table
+pub record IsEnteringIn (g : Geometry) (attempt : Attempt) (table shape : ℕ) (place : PlaceModel) (grow : GrowModel) : Type 0 where
+  pub node_in : attempt.node < g.nodes
+  pub table_in : table < 8
+  pub shape_in : IsWord shape
+  pub place_in : IsPlaceIn g place
+  pub grow_in : IsGrowIn g grow
 
 -- and with which it locks a bucket of a table and walks it
 pub record IsProbingIn (g : Geometry) (attempt : Attempt) (table shape : ℕ) (probe : ProbeModel) : Type 0 where
@@ -288,6 +327,7 @@ abbrev pub IsBindAtIn : Env → BindAt → Type 0
 IsBindAtIn env (at.Filling new) = IsNewNodeIn env.geometry new
 IsBindAtIn env (at.CurrentTable attempt) = attempt.node < env.geometry.nodes
 IsBindAtIn env (at.Locating attempt locate) = IsLocatingIn env.geometry attempt locate
+IsBindAtIn env (at.Entering attempt table shape place grow) = IsEnteringIn env.geometry attempt table shape place grow
 IsBindAtIn env (at.Probing attempt table shape probe) = IsProbingIn env.geometry attempt table shape probe
 IsBindAtIn env (at.FoundOwner claimed found) = IsFoundIn env.geometry claimed found
 IsBindAtIn env (at.ListLink list) = IsListIn env.geometry list

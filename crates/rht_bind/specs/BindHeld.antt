@@ -1,12 +1,13 @@
 -- What a bind holds in each of its states: its node until it is linked, put in front of a list or given
 -- back, the lock of a bucket, the count once it is raised, the slot and the pages of a table that it makes
--- until it is attached or given back, and its answer once it is known.
+-- until it is attached or given back, a page until it is entered or given back, and its answer once it is known.
 use Rattle.std.specs.Prelude.{ℕ, Bool, true, Option, None, Some, List, option_map, if◌then◌else◌}
 use Rattle.rht_words.specs.Held.{Held, holds_nothing, ended_with}
 use Rattle.rht_words.specs.declared.machine.Next.{Next}
 use Rattle.rht_words.specs.declared.machine.Next.TheVariants.{Go, Done}
 use Rattle.rht_arena.specs.NewNode.{node_of_new}
 use Rattle.rht_nest.specs.Tables.{pages_of_shape}
+use Rattle.rht_nest.specs.Grow.{pages_of_grow}
 use Rattle.rht_nest.specs.Make.{slot_of_make, pages_of_make}
 use Rattle.rht_nest.specs.Unmake.{pages_of_unmake}
 use Rattle.rht_chain.specs.Locked.{answer_behind}
@@ -34,7 +35,7 @@ holds_replacing claimed stored =
     if stored then record holds_nothing { lock = Some claimed.bucket.place; answer = bound }
     else holds_claimed claimed
 
--- its node, and the slot and the pages of a table
+-- its node, and pages, with the slot of the table that they are taken for where there is one yet
 abbrev pub holds_table : ℕ → Option ℕ → List ℕ → Held Answer
 holds_table node slot pages = record holds_nothing { node = Some node; slot = slot; pages = pages }
 
@@ -43,6 +44,7 @@ abbrev pub held_of_bind : BindAt → Held Answer
 held_of_bind (at.Filling new) = holds_node (node_of_new new.at) None
 held_of_bind (at.CurrentTable attempt) = holds_node (Some attempt.node) None
 held_of_bind (at.Locating attempt locate) = holds_node (Some attempt.node) None
+held_of_bind (at.Entering attempt table shape place grow) = holds_table attempt.node None (pages_of_grow grow.at)
 held_of_bind (at.Probing attempt table shape probe) = holds_node (Some attempt.node) (lock_of_probe probe.at)
 held_of_bind (at.FoundOwner claimed found) = holds_claimed claimed
 held_of_bind (at.ListLink list) = holds_claimed list.claimed

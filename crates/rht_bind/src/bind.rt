@@ -3,15 +3,17 @@
 ghost use Rattle.std.specs.Prelude.{◌≡◌, ◌<◌};
 ghost use Rattle.rht_words.specs.Operations.{op_place};
 ghost use Rattle.rht_words.specs.Places.{words_in};
-ghost use Rattle.rht_nest.specs.Locate.{locate_after, IsBucketOrNone, IsLocateIn};
 ghost use Rattle.rht_arena.specs.NewNode.{new_node_after};
 ghost use Rattle.rht_chain.specs.Locked.{IsThenIn};
 ghost use Rattle.rht_chain.specs.Probe.{probe_after};
-ghost use Rattle.rht_bind.specs.Bind.{bind_new, bind_plan, bind_after, after_at, filled, locating, bucket_or_no_table, located, probed, unlocking, unlocked, IsBindAtIn};
+ghost use Rattle.rht_bind.specs.Bind.{bind_new, bind_plan, bind_after, after_at, filled, probed, unlocking, unlocked, IsBindAtIn};
 
+mod bucket;
 mod growth;
 mod insertion;
 
+pub use bucket::{at_bucket, behind_page, locating, probing};
+use bucket::{grown, located};
 pub use growth::{
     Full, Growing, Refusal, behind_attempt, checked_attach, ended_attempt, giving, making,
     refused_or_found, unlocking_full, want_or_busy,
@@ -24,7 +26,7 @@ use insertion::{published, replaced};
 use rht_arena::{GiveNode, NewNode};
 use rht_chain::{Locked, Probe, Relink, Then, Unlock};
 use rht_model::Reply;
-use rht_nest::{Locate, Make, Unmake};
+use rht_nest::{Grow, Locate, Make, Place, Unmake};
 use rht_policy::Mix;
 use rht_words::{
     Env, Kind, Next, Op, Port, Shape, future_of, head_of, link_of, owner_of, places, slot_of,
@@ -76,10 +78,18 @@ pub enum BindAt {
     CurrentTable {
         attempt: Attempt,
     },
-    /// Finds the port's bucket in a table. Where it is missing the bind is refused.
+    /// Finds the port's bucket in a table.
     Locating {
         attempt: Attempt,
         locate: Locate,
+    },
+    /// Enters a page where the port's bucket is missing and no table was behind before.
+    Entering {
+        attempt: Attempt,
+        table: u32,
+        shape: u64,
+        place: Place,
+        grow: Grow,
     },
     /// Locks the bucket and walks its chain.
     Probing {
@@ -197,7 +207,7 @@ pub enum BindAt {
 /// A bind of one port to one owner. Where the last table is full it attaches a further one, and then
 /// begins anew with the same node. The answers are `Bound`, `Exists`, `NoNode` and `TooBig`; `Busy` and
 /// `NoTable` where no table is attached; and, of a bind that tries but once, `Again`. `NoTable` comes
-/// also where the port's bucket is missing, which it is in no run yet. The kernel's counterparts are
+/// also where the port's bucket is missing and no page was free for it. The kernel's counterparts are
 /// `rhashtable_lookup_insert_key` and, in a table of lists, `rhltable_insert_key`, with
 /// `rhashtable_insert_slow` behind them.
 #[derive(Drop)]
@@ -260,6 +270,7 @@ impl<M: Mix> Bind<M> {
             BindAt::Filling { new } => new.plan(),
             BindAt::CurrentTable { .. } => Op::load(places::current_table()),
             BindAt::Locating { locate, .. } => locate.plan(),
+            BindAt::Entering { grow, .. } => grow.plan(),
             BindAt::Probing { probe, .. } => probe.plan(),
             BindAt::FoundOwner { found, .. } => Op::load(geometry.owner(found)),
             BindAt::ListLink { list } => {
@@ -320,6 +331,13 @@ fn after<M: Mix>(env: Env, port: Port, once: bool, at: &BindAt, old: u64) -> (Bi
         BindAt::Filling { new } => return filled(new, old),
         BindAt::CurrentTable { attempt } => locating(env, attempt, table_of(old)),
         BindAt::Locating { attempt, locate } => located::<M>(env, port, attempt, locate, old),
+        BindAt::Entering {
+            attempt,
+            table,
+            shape,
+            place,
+            grow,
+        } => grown(env, port, attempt, table, shape, place, grow, old),
         BindAt::Probing {
             attempt,
             table,
@@ -390,60 +408,6 @@ fn filled(new: NewNode, old: u64) -> (BindAt, Next<Reply>)
             (BindAt::CurrentTable { attempt }, Next::Go)
         }
         Next::Done(None) => (BindAt::Filling { new }, Next::Done(Reply::NoNode)),
-    }
-}
-
-/// The port's bucket in the table of this slot is looked for.
-#[inline(always)]
-pub fn locating(env: Env, attempt: Attempt, table: u32) -> BindAt
-    requires { table < 8 }
-    ensures { result ≡ locating env attempt table }
-{
-    let locate = Locate::new(env.geometry, table);
-    BindAt::Locating { attempt, locate }
-}
-
-/// After an operation that looks for the bucket: once it is known it is locked.
-#[inline(always)]
-fn located<M: Mix>(env: Env, port: Port, attempt: Attempt, locate: Locate, old: u64) -> BindAt
-    requires node { attempt.node < env.geometry.nodes }
-    requires locate { IsLocateIn env.geometry locate }
-    ensures { result ≡ located env port attempt (locate_after M.mix_of port locate old).0 (locate_after M.mix_of port locate old).1 }
-{
-    let (locate, next) = locate.after::<M>(port, old);
-    match next {
-        Next::Go => BindAt::Locating { attempt, locate },
-        Next::Done(there) => {
-            bucket_or_no_table(env, port, attempt, locate.table(), there.shape, there.place)
-        }
-    }
-}
-
-/// The locking of the port's bucket. Where it is missing, the node is given back.
-#[inline(always)]
-pub fn bucket_or_no_table(
-    env: Env,
-    port: Port,
-    attempt: Attempt,
-    table: u32,
-    shape: u64,
-    place: Option<usize>,
-) -> BindAt
-    requires node { attempt.node < env.geometry.nodes }
-    requires place { IsBucketOrNone env.geometry place }
-    ensures { result ≡ bucket_or_no_table env port attempt table shape place }
-{
-    match place {
-        Some(place) => BindAt::Probing {
-            attempt,
-            table,
-            shape,
-            probe: Probe::new(env.geometry, place, word_of(port)),
-        },
-        None => {
-            let size = Shape::from(shape).size();
-            giving(env, attempt.node, Reply::NoTable { size })
-        }
     }
 }
 

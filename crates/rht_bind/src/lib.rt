@@ -8,10 +8,10 @@
 mod bind;
 
 pub use bind::{
-    Attempt, Bind, BindAt, Claimed, FoundList, Full, Growing, Refusal, behind_attempt,
-    bound_already, bucket_or_no_table, checked_attach, checked_count, ended_attempt,
-    found_or_future, future_or_count, giving, kicks, locating, making, publishing,
-    refused_or_found, replacing, unlocked, unlocking, unlocking_full, want_or_busy,
+    Attempt, Bind, BindAt, Claimed, FoundList, Full, Growing, Refusal, at_bucket, behind_attempt,
+    behind_page, bound_already, checked_attach, checked_count, ended_attempt, found_or_future,
+    future_or_count, giving, kicks, locating, making, probing, publishing, refused_or_found,
+    replacing, unlocked, unlocking, unlocking_full, want_or_busy,
 };
 
 #[cfg(test)]

@@ -2,6 +2,8 @@
 //! at 280, the page map at 281, node n from 282 + 4 * n on, slot t from 24 + 32 * t on, and the pages
 //! from 314 on; with 32 nodes the pages are from 410 on.
 
+mod nested;
+
 use super::Bind;
 use rht_model::Reply;
 use rht_policy::Low;
@@ -48,24 +50,10 @@ fn assert_bind(
 }
 
 #[test]
-fn binds_that_get_no_bucket(rt: HostRuntime) {
-    let single = small(Kind::Single, 0);
+fn a_bind_that_gets_no_node(rt: HostRuntime) {
     // The one free node is taken by another caller meanwhile.
     let no_node = [(Op::load(280), 1), (Op::and(280, !1), 0)];
-    assert_bind(&rt, single, &no_node, &[], Reply::NoNode);
-    // Four buckets from page 5 on, which there isn't: the bucket is missing.
-    let no_table = [
-        (Op::load(24), 5_122),
-        (Op::load(25), 1),
-        (Op::or(280, 1), 0),
-    ];
-    assert_bind(
-        &rt,
-        single,
-        &node_0_filled(),
-        &no_table,
-        Reply::NoTable { size: 4 },
-    );
+    assert_bind(&rt, small(Kind::Single, 0), &no_node, &[], Reply::NoNode);
 }
 
 #[test]
