@@ -12,7 +12,8 @@ use Rattle.rht_words.proofs.ShapeSizes.{IsSizeUpTo-size_of}
 use Rattle.rht_policy.specs.Sizes.{shrunk_size}
 use Rattle.rht_policy.specs.Thresholds.{is_above_75, may_grow}
 use Rattle.rht_policy.proofs.TableSizes.{IsSizeUpTo-shrunk_size}
-use Rattle.rht_move.specs.Choice.{is_nested, is_sparse}
+use Rattle.rht_nest.specs.Tables.{is_nested}
+use Rattle.rht_move.specs.Choice.{is_sparse}
 use Rattle.rht_move.specs.Laws.{IsOfASize, TablesDueHaveSizes}
 use Rattle.rht_move.specs.declared.work.choice.Choice.TheVariants.{Attach, Later, Nothing}
 

@@ -7,6 +7,7 @@ use Rattle.rht_words.specs.declared.geometry.Geometry.{Geometry}
 use Rattle.rht_words.specs.Places.{CurrentTable, WorkLock, PortCount, Slot, ShapeWord, SeedWord, FutureWord, StateWord, Node, ChainLink, KeyWord, IsBucketPlace}
 use Rattle.rht_words.specs.Planned.{IsPlannedIn}
 use Rattle.rht_words.proofs.PlannedWords.{planned-at, planned_load, planned_bucket, head_of-fits, link_of-fits}
+use Rattle.rht_nest.proofs.Places.{planned_place}
 use Rattle.rht_nest.proofs.MakesPlanned.{planned_make, planned_unmake}
 use Rattle.rht_chain.specs.LockedWalk.{IsNodeOrNone}
 use Rattle.rht_chain.proofs.PiecesPlanned.{planned_lock, planned_unlock}
@@ -36,6 +37,7 @@ planned_work env (at.Unmaking root unmake) within = planned_unmake env.geometry 
 planned_work env (at.RootFuture root due) within = planned_load env.geometry (Slot root FutureWord) (within, tt) tt
 planned_work env (at.RootShape root future again) within =
     planned_load env.geometry (Slot root ShapeWord) (within.root_in, tt) tt
+planned_work env (at.Entry rehash number place) within = planned_place env.geometry place within.place_in
 planned_work env (at.Locking rehash number lock) within = planned_lock env.geometry lock within.lock_in
 planned_work env (at.EntryTable emptying seek) within = planned_last_table env.geometry seek within.seek_in
 planned_work env (at.Seed emptying last) within =

@@ -8,15 +8,19 @@ use Rattle.rht_words.specs.declared.geometry.Geometry.{Geometry}
 use Rattle.rht_words.specs.declared.machine.Next.{Next}
 use Rattle.rht_words.specs.declared.machine.Next.TheVariants.{Go, Done}
 use Rattle.rht_words.specs.Links.{slot_of, node_of, head_of, unlocked}
+use Rattle.rht_words.specs.Places.{IsBucketPlace}
 use Rattle.rht_words.specs.Planned.{IsWord}
 use Rattle.rht_words.specs.Ports.{port_of}
 use Rattle.rht_words.specs.Shapes.{size_of, unpacked}
 use Rattle.rht_words.proofs.ShapeSizes.{IsSizeUpTo-size_of}
 use Rattle.rht_words.proofs.LinksRead.{slot_of-in, node_of-in, IsSlotOrNone}
 use Rattle.rht_policy.specs.Mix.{bucket_of}
-use Rattle.rht_nest.specs.Locate.{IsBucketOrNone}
-use Rattle.rht_nest.specs.Place.{bucket_place}
-use Rattle.rht_nest.proofs.BucketsApart.{bucket_is_in}
+use Rattle.rht_nest.specs.Tables.{is_nested}
+use Rattle.rht_nest.specs.Place.{PlaceModel, flat_place, place_after}
+use Rattle.rht_nest.specs.declared.place.Bucket.{Bucket}
+use Rattle.rht_nest.specs.declared.place.Bucket.TheVariants.{At, Absent}
+use Rattle.rht_nest.proofs.BucketsApart.{flat_place_in}
+use Rattle.rht_nest.proofs.Places.{PlaceStays, place_stays, nested_place_in}
 use Rattle.rht_nest.specs.Make.{MakeModel, make_new, make_after, IsMakeIn, IsMakeEndIn}
 use Rattle.rht_nest.specs.Unmake.{UnmakeModel, unmake_after, IsUnmakeIn}
 use Rattle.rht_nest.proofs.MakesStay.{make_stays, unmake_begins, unmake_stays}
@@ -26,8 +30,8 @@ use Rattle.rht_chain.proofs.PiecesStay.{LockStays, lock_stays}
 use Rattle.rht_model.specs.declared.history.Reply.{Reply}
 use Rattle.rht_move.specs.LastTable.{LastTableModel, last_table_after}
 use Rattle.rht_move.specs.LastEntry.{LastEntryModel, last_entry_after, IsEntryIn}
-use Rattle.rht_move.specs.Choice.{choice_of, is_nested}
-use Rattle.rht_move.specs.Work.{after_at, lock_seen, last_seen, begun, not_made, made, attached, unmade, future_or_idle, locking_or_publish, bucket_or_publish, next_bucket, entry_table, locked, unlocking, entry_table_seen, with_word, entry_or_empty, walked, second_or_stop, second_locked, cut_off, unlocked_bucket, retiring, IsCountingIn, IsMakingIn, IsAttachingIn, IsRehashIn, IsBucketIn, IsEmptyingIn, IsTargetIn, IsWorkAtIn}
+use Rattle.rht_move.specs.Choice.{choice_of}
+use Rattle.rht_move.specs.Work.{after_at, lock_seen, last_seen, begun, not_made, made, attached, unmade, future_or_idle, bucket_of_root, next_bucket, entry_passed, entry_table, locked, unlocking, entry_table_seen, with_word, entry_or_empty, walked, keyed, second_locked, cut_off, unlocked_bucket, retiring, IsCountingIn, IsMakingIn, IsAttachingIn, IsRehashIn, IsBucketIn, IsEmptyingIn, IsTargetIn, IsWorkAtIn}
 use Rattle.rht_move.specs.declared.last_table.Last.{Last}
 use Rattle.rht_move.specs.declared.last_entry.Entry.{Entry}
 use Rattle.rht_move.specs.declared.rehash.Rehash.{Rehash}
@@ -43,7 +47,7 @@ use Rattle.rht_move.proofs.LastTables.{LastTableStays, last_table_stays}
 use Rattle.rht_move.proofs.LastEntries.{LastEntryStays, last_entry_stays}
 
 -- a lock begins in its bucket
-lock_begins : (g : Geometry) (place : ℕ) → IsBucketOrNone g (Some place) → IsLockIn g (lock_new place)
+lock_begins : (g : Geometry) (place : ℕ) → IsBucketPlace g place → IsLockIn g (lock_new place)
 lock_begins g place place_in = record { place_in = place_in; even = tt; word_in = tt }
 
 -- the making of a table begins at the first slot, with one of the sizes
@@ -117,27 +121,34 @@ module _ (mix : ℕ → ℕ → ℕ → ℕ) (env : Env) where
 
   -- ---- the move of the current table
 
-  locking-in : (rehash : Rehash) (number : ℕ) (place : Option ℕ) → IsBucketIn rehash number
-      → IsBucketOrNone g place → IsWorkAtIn env (locking_or_publish rehash number place)
-  locking-in rehash number None within place_in = within.rehash_in
-  locking-in rehash number (Some place) within place_in =
-      record { bucket_in = within; lock_in = lock_begins g place place_in }
-
   bucket-in : (rehash : Rehash) (number : ℕ) → IsBucketIn rehash number
-      → IsWorkAtIn env (bucket_or_publish g rehash number)
+      → IsWorkAtIn env (bucket_of_root g rehash number)
   bucket-in rehash number within =
-      locking-in rehash number (bucket_place g rehash.shape number) within (bucket_is_in g rehash.shape number)
+      cond_both (is_nested rehash.shape) _ _ (IsWorkAtIn env)
+      (λ t. record { bucket_in = within; place_in = nested_place_in g rehash.shape number })
+      (λ f.
+      record {
+        bucket_in = within;
+        lock_in = lock_begins g (flat_place g rehash.shape number) (flat_place_in g rehash.shape number);
+      })
 
   next-in : (rehash : Rehash) (number : ℕ) → IsBucketIn rehash number
       → IsWorkAtIn env (next_bucket g rehash number)
   next-in rehash number within =
       let size = size_of (unpacked rehash.shape) in
-      cond_both (nat_lt (number + 1) size) (bucket_or_publish g rehash (number + 1)) (at.Publishing rehash)
+      cond_both (nat_lt (number + 1) size) (bucket_of_root g rehash (number + 1)) (at.Publishing rehash)
       (IsWorkAtIn env)
       (λ t.
       bucket-in rehash (number + 1)
       (record { rehash_in = within.rehash_in; number_in = ltb-true (number + 1) size t }))
       (λ f. within.rehash_in)
+
+  passed-in : (rehash : Rehash) (number : ℕ) (place : PlaceModel) (next : Next Bucket) → IsBucketIn rehash number
+      → PlaceStays g (place, next) → IsWorkAtIn env (entry_passed g rehash number place next)
+  passed-in rehash number place Go within stays = record { bucket_in = within; place_in = stays.place_in }
+  passed-in rehash number place (Done (At word)) within stays =
+      record { bucket_in = within; lock_in = lock_begins g word stays.end_in }
+  passed-in rehash number place (Done (Absent entry)) within stays = next-in rehash number within
 
   entry_table-in : (emptying : Emptying) → IsEmptyingIn g emptying → IsWorkAtIn env (entry_table g emptying)
   entry_table-in emptying within = record {
@@ -195,16 +206,16 @@ module _ (mix : ℕ → ℕ → ℕ → ℕ) (env : Env) where
   walked-in emptying target walk (Done entry) within target_in stays =
       record { emptying_in = within; target_in = target_in; entry_in = stays.end_in }
 
-  second-in : (emptying : Emptying) (table : ℕ) (entry : Entry) (place : Option ℕ) → IsEmptyingIn g emptying
-      → table < 8 → IsEntryIn g entry → IsBucketOrNone g place
-      → IsWorkAtIn env (second_or_stop emptying table entry place)
-  second-in emptying table entry None within table_in entry_in place_in = unlocking-in emptying true within
-  second-in emptying table entry (Some place) within table_in entry_in place_in = record {
-    emptying_in = within;
-    entry_in = entry_in;
-    table_in = table_in;
-    lock_in = lock_begins g place place_in;
-  }
+  keyed-in : (emptying : Emptying) (target : Target) (entry : Entry) (key : ℕ) → IsEmptyingIn g emptying
+      → IsTargetIn target → IsEntryIn g entry → IsWorkAtIn env (keyed mix g emptying target entry key)
+  keyed-in emptying target entry key within target_in entry_in =
+      let bucket = bucket_of mix (port_of key) target.shape target.seed in
+      record {
+        emptying_in = within;
+        entry_in = entry_in;
+        table_in = target_in.table_in;
+        lock_in = lock_begins g (flat_place g target.shape bucket) (flat_place_in g target.shape bucket);
+      }
 
   second_locked-in : (emptying : Emptying) (entry : Entry) (table : ℕ) (lock : LockModel) (next : Next ℕ)
       → IsEmptyingIn g emptying → IsEntryIn g entry → table < 8 → LockStays g (lock, next)
@@ -274,6 +285,9 @@ module _ (mix : ℕ → ℕ → ℕ → ℕ) (env : Env) where
   work_stays (at.RootShape root future again) word within told =
       let rehash : Rehash = record { root = root; future = future; shape = word; again = again } in
       bucket-in rehash 0 (first-in rehash (record { tables_in = within; shape_in = told }))
+  work_stays (at.Entry rehash number place) word within told =
+      passed-in rehash number (place_after place word).0 (place_after place word).1 within.bucket_in
+      (place_stays g place word within.place_in)
   work_stays (at.Locking rehash number lock) word within told =
       locked-in rehash number (lock_after lock word).0 (lock_after lock word).1 within.bucket_in
       (lock_stays g lock word within.lock_in told)
@@ -297,9 +311,7 @@ module _ (mix : ℕ → ℕ → ℕ → ℕ) (env : Env) where
       walked-in emptying target (last_entry_after walk word).0 (last_entry_after walk word).1 within.emptying_in
       within.target_in (last_entry_stays g walk word within.walk_in)
   work_stays (at.Key emptying target entry) word within told =
-      let bucket = bucket_of mix (port_of word) target.shape target.seed in
-      second-in emptying target.table entry (bucket_place g target.shape bucket) within.emptying_in
-      within.target_in.table_in within.entry_in (bucket_is_in g target.shape bucket)
+      keyed-in emptying target entry word within.emptying_in within.target_in within.entry_in
   work_stays (at.LockingSecond emptying entry table lock) word within told =
       second_locked-in emptying entry table (lock_after lock word).0 (lock_after lock word).1 within.emptying_in
       within.entry_in within.table_in (lock_stays g lock word within.lock_in told)

@@ -1,15 +1,12 @@
 -- Whether a table is due behind the last one, and of which size, from how many ports are bound and the last table's shape.
-use Rattle.std.specs.Prelude.{ℕ, Bool, ◌*◌, ◌&&◌, nat_lt, min, if◌then◌else◌}
+use Rattle.std.specs.Prelude.{ℕ, Bool, ◌*◌, ◌&&◌, min, if◌then◌else◌}
 use Rattle.rht_words.specs.declared.env.Env.{Env}
 use Rattle.rht_words.specs.Shapes.{size_of, unpacked}
 use Rattle.rht_policy.specs.Sizes.{shrunk_size}
 use Rattle.rht_policy.specs.Thresholds.{is_above_75, is_below_30}
+use Rattle.rht_nest.specs.Tables.{is_nested}
 use Rattle.rht_move.specs.declared.work.choice.Choice.{Choice}
 use Rattle.rht_move.specs.declared.work.choice.Choice.TheVariants.{Attach, Later, Nothing}
-
--- the table is nested
-abbrev pub is_nested : ℕ → Bool
-is_nested shape = nat_lt 0 (unpacked shape).nest
 
 -- shrinking is on, and so few ports are too few for a table of this size
 abbrev pub is_sparse : Env → ℕ → ℕ → Bool

@@ -12,8 +12,10 @@ use Rattle.rht_words.specs.Ports.{port_of}
 use Rattle.rht_words.specs.Shapes.{size_of, unpacked}
 use Rattle.rht_words.specs.Places.{CurrentTable, WorkLock, PortCount, Slot, ShapeWord, SeedWord, FutureWord, StateWord, Node, ChainLink, KeyWord, place_of}
 use Rattle.rht_policy.specs.Mix.{bucket_of}
-use Rattle.rht_nest.specs.Place.{bucket_place}
-use Rattle.rht_nest.specs.Tables.{exponent_made}
+use Rattle.rht_nest.specs.Place.{PlaceModel, flat_place, nested_place, place_plan, place_after, IsPlaceIn}
+use Rattle.rht_nest.specs.Tables.{exponent_made, is_nested}
+use Rattle.rht_nest.specs.declared.place.Bucket.{Bucket}
+use Rattle.rht_nest.specs.declared.place.Bucket.TheVariants.{At, Absent}
 use Rattle.rht_nest.specs.Make.{MakeModel, make_new, make_plan, make_after, IsMakeIn, IsMadeIn}
 use Rattle.rht_nest.specs.Unmake.{UnmakeModel, unmake_new, unmake_plan, unmake_after, IsUnmakeIn}
 use Rattle.rht_chain.specs.Lock.{LockModel, lock_new, lock_plan, lock_after, IsLockIn}
@@ -30,7 +32,7 @@ use Rattle.rht_move.specs.declared.rehash.Rehash.{Rehash}
 use Rattle.rht_move.specs.declared.rehash.Emptying.{Emptying}
 use Rattle.rht_move.specs.declared.rehash.Target.{Target}
 use Rattle.rht_move.specs.declared.rehash.Second.{Second}
-use Rattle.rht_move.specs.Choice.{choice_of, is_nested}
+use Rattle.rht_move.specs.Choice.{choice_of}
 use Rattle.rht_move.specs.declared.work.choice.Choice.{Choice}
 use Rattle.rht_move.specs.declared.work.choice.Choice.TheVariants.{Attach, Later, Nothing}
 use Rattle.rht_move.specs.declared.work.Wanted.{Wanted}
@@ -69,6 +71,7 @@ plan_at env (at.Attaching root last slot shape) =
 plan_at env (at.Unmaking root unmake) = unmake_plan unmake
 plan_at env (at.RootFuture root due) = Load (place_of env.geometry (Slot root FutureWord))
 plan_at env (at.RootShape root future again) = Load (place_of env.geometry (Slot root ShapeWord))
+plan_at env (at.Entry rehash number place) = place_plan place
 plan_at env (at.Locking rehash number lock) = lock_plan lock
 plan_at env (at.EntryTable emptying seek) = last_table_plan seek
 plan_at env (at.Seed emptying last) = Load (place_of env.geometry (Slot last.table SeedWord))
@@ -149,19 +152,23 @@ future_or_idle root due (Some future) = at.RootShape root future (is_later due)
 
 -- ---- the move of the current table
 
--- a bucket that is there is locked; where it is missing so are all behind it, as the table is flat
-abbrev pub locking_or_publish : Rehash → ℕ → Option ℕ → WorkAt
-locking_or_publish rehash number None = at.Publishing rehash
-locking_or_publish rehash number (Some place) = at.Locking rehash number (lock_new place)
-
-abbrev pub bucket_or_publish : Geometry → Rehash → ℕ → WorkAt
-bucket_or_publish g rehash number = locking_or_publish rehash number (bucket_place g rehash.shape number)
+-- a bucket of a flat table is locked; in a nested one the way to it leads over entries
+abbrev pub bucket_of_root : Geometry → Rehash → ℕ → WorkAt
+bucket_of_root g rehash number =
+    if is_nested rehash.shape then at.Entry rehash number (nested_place g rehash.shape number)
+    else at.Locking rehash number (lock_new (flat_place g rehash.shape number))
 
 -- behind a bucket comes the next one, and behind the last one the table is empty
 abbrev pub next_bucket : Geometry → Rehash → ℕ → WorkAt
 next_bucket g rehash number =
-    if nat_lt (number + 1) (size_of (unpacked rehash.shape)) then bucket_or_publish g rehash (number + 1)
+    if nat_lt (number + 1) (size_of (unpacked rehash.shape)) then bucket_of_root g rehash (number + 1)
     else at.Publishing rehash
+
+-- after an entry comes the next one, or the bucket, which is locked; one that is missing is empty, and is passed by
+abbrev pub entry_passed : Geometry → Rehash → ℕ → PlaceModel → Next Bucket → WorkAt
+entry_passed g rehash number place Go = at.Entry rehash number place
+entry_passed g rehash number place (Done (At word)) = at.Locking rehash number (lock_new word)
+entry_passed g rehash number place (Done (Absent entry)) = next_bucket g rehash number
 
 -- the last table is looked for anew for each entry
 abbrev pub entry_table : Geometry → Emptying → WorkAt
@@ -204,15 +211,11 @@ abbrev pub walked : Emptying → Target → LastEntryModel → Next Entry → Wo
 walked emptying target walk Go = at.Walking emptying target walk
 walked emptying target walk (Done entry) = at.Key emptying target entry
 
--- its bucket in the last table is locked too; one that is missing, which no flat table has, stops the move
-abbrev pub second_or_stop : Emptying → ℕ → Entry → Option ℕ → WorkAt
-second_or_stop emptying table entry None = unlocking emptying true
-second_or_stop emptying table entry (Some place) = at.LockingSecond emptying entry table (lock_new place)
-
+-- its bucket in the last table, which is flat, is locked too
 abbrev pub keyed : (ℕ → ℕ → ℕ → ℕ) → Geometry → Emptying → Target → Entry → ℕ → WorkAt
 keyed mix g emptying target entry key =
     let bucket = bucket_of mix (port_of key) target.shape target.seed in
-    second_or_stop emptying target.table entry (bucket_place g target.shape bucket)
+    at.LockingSecond emptying entry target.table (lock_new (flat_place g target.shape bucket))
 
 -- with both buckets locked the entry is linked anew
 abbrev pub second_locked : Emptying → Entry → ℕ → LockModel → Next ℕ → WorkAt
@@ -256,7 +259,9 @@ after_at mix env (at.Unmaking root unmake) word =
     (unmade root (unmake_after unmake word).0 (unmake_after unmake word).1, Go)
 after_at mix env (at.RootFuture root due) word = (future_or_idle root due (slot_of word), Go)
 after_at mix env (at.RootShape root future again) word =
-    (bucket_or_publish env.geometry (record { root = root; future = future; shape = word; again = again }) 0, Go)
+    (bucket_of_root env.geometry (record { root = root; future = future; shape = word; again = again }) 0, Go)
+after_at mix env (at.Entry rehash number place) word =
+    (entry_passed env.geometry rehash number (place_after place word).0 (place_after place word).1, Go)
 after_at mix env (at.Locking rehash number lock) word =
     (locked env.geometry rehash number (lock_after lock word).0 (lock_after lock word).1, Go)
 after_at mix env (at.EntryTable emptying seek) word =
@@ -333,7 +338,12 @@ pub record IsBucketIn (rehash : Rehash) (number : ℕ) : Type 0 where
   pub rehash_in : IsRehashIn rehash
   pub number_in : number < size_of (unpacked rehash.shape)
 
--- which it locks
+-- to which it is on the way
+pub record IsEntryAtIn (g : Geometry) (rehash : Rehash) (number : ℕ) (place : PlaceModel) : Type 0 where
+  pub bucket_in : IsBucketIn rehash number
+  pub place_in : IsPlaceIn g place
+
+-- or which it locks
 pub record IsLockingIn (g : Geometry) (rehash : Rehash) (number : ℕ) (lock : LockModel) : Type 0 where
   pub bucket_in : IsBucketIn rehash number
   pub lock_in : IsLockIn g lock
@@ -414,6 +424,7 @@ IsWorkAtIn env (at.Attaching root last slot shape) = IsAttachingIn env.geometry 
 IsWorkAtIn env (at.Unmaking root unmake) = IsUnmakingIn env.geometry root unmake
 IsWorkAtIn env (at.RootFuture root due) = root < 8
 IsWorkAtIn env (at.RootShape root future again) = IsFutureIn root future
+IsWorkAtIn env (at.Entry rehash number place) = IsEntryAtIn env.geometry rehash number place
 IsWorkAtIn env (at.Locking rehash number lock) = IsLockingIn env.geometry rehash number lock
 IsWorkAtIn env (at.EntryTable emptying seek) = IsEntryTableIn env.geometry emptying seek
 IsWorkAtIn env (at.Seed emptying last) = IsSeedIn env.geometry emptying last

@@ -1,6 +1,6 @@
 -- What a worker holds in each of its states: the work lock, from the operation that takes it to the one that lets go of it; a slot
 -- and pages, until the table is attached or given back; the locks of one bucket or two; and its answer once it is known. It moves
--- entries from the locking of the first bucket on, and won't refuse any more.
+-- entries from the first bucket on, and won't refuse any more.
 use Rattle.std.specs.Prelude.{ℕ, Bool, true, false, Option, None, Some, List, if◌then◌else◌}
 use Rattle.rht_words.specs.Held.{Held, holds_nothing, ended_with}
 use Rattle.rht_words.specs.declared.machine.Next.{Next}
@@ -55,6 +55,7 @@ held_of_work (at.Attaching root last slot shape) = holds_table (Some slot) (page
 held_of_work (at.Unmaking root unmake) = holds_table (Some unmake.slot) (pages_of_unmake unmake.at)
 held_of_work (at.RootFuture root due) = holds_work
 held_of_work (at.RootShape root future again) = holds_work
+held_of_work (at.Entry rehash number place) = holds_moving None None
 held_of_work (at.Locking rehash number lock) = holds_moving None None
 held_of_work (at.EntryTable emptying seek) = holds_bucket emptying
 held_of_work (at.Seed emptying last) = holds_bucket emptying

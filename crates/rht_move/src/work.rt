@@ -16,12 +16,12 @@ use crate::last_table::{Last, LastTable};
 use crate::rehash::{Emptying, Rehash, Second, Target};
 use crate::work::attaching::{attached, counted, future_or_idle, last_seen, made, seeking, unmade};
 use crate::work::moving::{
-    bucket_or_publish, cut_off, entry_table_seen, first_entry, keyed, locked, retiring,
+    bucket_of_root, cut_off, entry_passed, entry_table_seen, first_entry, keyed, locked, retiring,
     second_locked, unlocked_bucket, walked,
 };
 use rht_chain::{Lock, Unlock};
 use rht_model::Reply;
-use rht_nest::{Make, Unmake};
+use rht_nest::{Make, Place, Unmake};
 use rht_policy::Mix;
 use rht_words::{
     Env, Geometry, Next, Op, future_of, head_of, link_of, marker_of, places, slot_of, table_of,
@@ -111,8 +111,15 @@ pub enum WorkAt {
         future: u32,
         again: bool,
     },
-    /// Locks a bucket of the current table. This and the states up to `Unlocking` are those of
+    /// Loads an entry on the way to a bucket of the current table, where that is nested. A bucket that
+    /// is missing is empty, and is passed by. This and the states up to `Unlocking` are those of
     /// `rhashtable_rehash_chain`.
+    Entry {
+        rehash: Rehash,
+        number: u32,
+        place: Place,
+    },
+    /// Locks a bucket of the current table.
     Locking {
         rehash: Rehash,
         number: u32,
@@ -263,6 +270,7 @@ impl<M: Mix> Work<M> {
             WorkAt::Unmaking { unmake, .. } => unmake.plan(),
             WorkAt::RootFuture { root, .. } => Op::load(places::future(root)),
             WorkAt::RootShape { root, .. } => Op::load(places::shape(root)),
+            WorkAt::Entry { place, .. } => place.plan(),
             WorkAt::Locking { lock, .. } | WorkAt::LockingSecond { lock, .. } => lock.plan(),
             WorkAt::Seed { last, .. } => Op::load(places::seed(last.table)),
             WorkAt::BucketWord { emptying, .. } => Op::load(emptying.bucket.place),
@@ -332,8 +340,13 @@ fn after<M: Mix>(env: Env, at: &WorkAt, old: u64) -> (WorkAt, Next<Reply>)
                 shape: old,
                 again,
             };
-            bucket_or_publish(geometry, rehash, 0)
+            bucket_of_root(geometry, rehash, 0)
         }
+        WorkAt::Entry {
+            rehash,
+            number,
+            place,
+        } => entry_passed(geometry, rehash, number, place, old),
         WorkAt::Locking {
             rehash,
             number,

@@ -9,9 +9,9 @@ ghost use Rattle.rht_move.specs.Choice.{choice_of};
 ghost use Rattle.rht_move.specs.Work.{seeking, last_seen, counted, begun, made, not_made, attached, unmade, future_or_idle, is_later};
 
 use crate::last_table::{Last, LastTable};
-use crate::work::choice::{Choice, choice_of, is_nested};
+use crate::work::choice::{Choice, choice_of};
 use crate::work::{Due, Outcome, Wanted, WorkAt};
-use rht_nest::{Make, Unmake};
+use rht_nest::{Make, Unmake, is_nested};
 use rht_words::{Env, Geometry, Next};
 
 /// The search for the last table, from the current one on.

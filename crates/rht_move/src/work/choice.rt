@@ -2,8 +2,9 @@
 
 ghost use Rattle.std.specs.Prelude.{◌≡◌, ◌≤◌, ◌^◌};
 ghost use Rattle.rht_policy.specs.Conditions.{IsSize};
-ghost use Rattle.rht_move.specs.Choice.{choice_of, chosen, is_nested, is_sparse};
+ghost use Rattle.rht_move.specs.Choice.{choice_of, chosen, is_sparse};
 
+use rht_nest::is_nested;
 use rht_policy::{above_75, below_30, shrunk};
 use rht_words::{Env, Shape};
 
@@ -62,12 +63,4 @@ fn is_sparse(env: Env, ports: u64, size: u32) -> bool
     ensures { result ≡ is_sparse env ports size }
 {
     env.config.shrink && below_30(ports, size, env.config.min)
-}
-
-/// Whether the table with this shape is nested.
-#[inline(always)]
-pub fn is_nested(shape: u64) -> bool
-    ensures { result ≡ is_nested shape }
-{
-    Shape::from(shape).nest > 0
 }

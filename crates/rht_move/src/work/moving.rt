@@ -2,35 +2,39 @@
 
 ghost use Rattle.std.specs.Prelude.{◌≡◌, ◌<◌};
 ghost use Rattle.rht_words.specs.Shapes.{size_of, unpacked};
+ghost use Rattle.rht_nest.specs.Place.{place_after};
 ghost use Rattle.rht_chain.specs.Lock.{lock_after};
 ghost use Rattle.rht_chain.specs.LockedWalk.{IsNodeOrNone};
 ghost use Rattle.rht_move.specs.LastTable.{last_table_after};
 ghost use Rattle.rht_move.specs.LastEntry.{last_entry_after};
-ghost use Rattle.rht_move.specs.Work.{bucket_or_publish, next_bucket, locked, entry_table, entry_table_seen, unlocking, first_entry, entry_or_empty, walked, keyed, second_or_stop, second_locked, cut_off, unlocked_bucket, retiring};
+ghost use Rattle.rht_move.specs.Work.{bucket_of_root, next_bucket, entry_passed, locked, entry_table, entry_table_seen, unlocking, first_entry, entry_or_empty, walked, keyed, second_locked, cut_off, unlocked_bucket, retiring};
 
 use crate::last_entry::{Entry, LastEntry};
 use crate::last_table::LastTable;
 use crate::rehash::{Emptying, Rehash, Second, Target};
-use crate::work::choice::is_nested;
 use crate::work::{Outcome, WorkAt};
 use rht_chain::{Lock, Locked, Unlock};
-use rht_nest::place_of;
+use rht_nest::{Bucket, Place, flat_place, is_nested};
 use rht_policy::{Mix, bucket_of};
 use rht_words::{Geometry, Next, Shape, head_of, node_of, port_of, unlocked};
 
-/// The locking of a bucket of the current table. Where it is missing so are all behind it, as the
-/// table is flat, and the table is empty.
+/// The locking of a bucket of the current table, or the way to it where that table is nested.
 #[inline(always)]
-pub fn bucket_or_publish(geometry: Geometry, rehash: Rehash, number: u32) -> WorkAt
-    ensures { result ≡ bucket_or_publish geometry rehash number }
+pub fn bucket_of_root(geometry: Geometry, rehash: Rehash, number: u32) -> WorkAt
+    ensures { result ≡ bucket_of_root geometry rehash number }
 {
-    match place_of(geometry, rehash.shape, number) {
-        Some(place) => WorkAt::Locking {
+    if is_nested(rehash.shape) {
+        WorkAt::Entry {
             rehash,
             number,
-            lock: Lock::new(place),
-        },
-        None => WorkAt::Publishing { rehash },
+            place: Place::nested(geometry, rehash.shape, number),
+        }
+    } else {
+        WorkAt::Locking {
+            rehash,
+            number,
+            lock: Lock::new(flat_place(geometry, rehash.shape, number)),
+        }
     }
 }
 
@@ -41,9 +45,38 @@ pub fn next_bucket(geometry: Geometry, rehash: Rehash, number: u32) -> WorkAt
     ensures { result ≡ next_bucket geometry rehash number }
 {
     if number + 1 < Shape::from(rehash.shape).size() {
-        bucket_or_publish(geometry, rehash, number + 1)
+        bucket_of_root(geometry, rehash, number + 1)
     } else {
         WorkAt::Publishing { rehash }
+    }
+}
+
+/// After an entry, which was this: the next one is loaded, or the bucket is locked. One that is missing
+/// is empty, and so the next bucket comes.
+#[inline(always)]
+pub fn entry_passed(
+    geometry: Geometry,
+    rehash: Rehash,
+    number: u32,
+    place: Place,
+    old: u64,
+) -> WorkAt
+    requires { number < size_of (unpacked rehash.shape) }
+    ensures { result ≡ entry_passed geometry rehash number (place_after place old).0 (place_after place old).1 }
+{
+    let (place, next) = place.after(old);
+    match next {
+        Next::Go => WorkAt::Entry {
+            rehash,
+            number,
+            place,
+        },
+        Next::Done(Bucket::At(word)) => WorkAt::Locking {
+            rehash,
+            number,
+            lock: Lock::new(word),
+        },
+        Next::Done(Bucket::Absent(_)) => next_bucket(geometry, rehash, number),
     }
 }
 
@@ -166,7 +199,7 @@ pub fn walked(emptying: Emptying, target: Target, walk: LastEntry, old: u64) -> 
     }
 }
 
-/// After the key of the entry was loaded: its bucket in the last table is locked too.
+/// After the key of the entry was loaded: its bucket in the last table, which is flat, is locked too.
 #[inline(always)]
 pub fn keyed<M: Mix>(
     geometry: Geometry,
@@ -178,24 +211,11 @@ pub fn keyed<M: Mix>(
     ensures { result ≡ keyed M.mix_of geometry emptying target entry key }
 {
     let bucket = bucket_of::<M>(port_of(key), target.shape, target.seed);
-    let place = place_of(geometry, target.shape, bucket);
-    second_or_stop(emptying, target.table, entry, place)
-}
-
-/// The locking of the bucket to which the entry is moved. One that is missing, which no flat table
-/// has, stops the move as a nested table does.
-#[inline(always)]
-pub fn second_or_stop(emptying: Emptying, table: u32, entry: Entry, place: Option<usize>) -> WorkAt
-    ensures { result ≡ second_or_stop emptying table entry place }
-{
-    match place {
-        Some(place) => WorkAt::LockingSecond {
-            emptying,
-            entry,
-            table,
-            lock: Lock::new(place),
-        },
-        None => unlocking(emptying, true),
+    WorkAt::LockingSecond {
+        emptying,
+        entry,
+        table: target.table,
+        lock: Lock::new(flat_place(geometry, target.shape, bucket)),
     }
 }
 
