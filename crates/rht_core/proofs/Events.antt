@@ -22,6 +22,8 @@ pub mod OpenedStates
 pub mod ReachedStates
 -- the invariant, and that each event keeps it
 pub mod Invariants
+-- a page that a job may miss stays once it is there
+pub mod PagesThere
 -- the invariant holds in every run
 pub mod InvariantRuns
 -- in every run each caller works at the call of its book, and its calls took out as many nodes as that says

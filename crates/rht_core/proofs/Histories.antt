@@ -8,6 +8,8 @@ pub mod GoodHistories
 pub mod CallerEntries
 -- the entry of a call that ends
 pub mod CallEnds
+-- what is kept of each caller's entries
+pub mod FittingCallers
 -- in every run there is a history that fits it
 pub mod FittingRuns
 -- a call that is alone stands behind all others in a history that fits

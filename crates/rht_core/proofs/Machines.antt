@@ -6,6 +6,8 @@ pub mod BindSteps
 pub mod AllSteps
 -- a rebind, operation by operation
 pub mod RebindSteps
+-- the pages that jobs may miss
+pub mod EarlyPages
 -- a job, operation by operation
 pub mod JobSteps
 -- the stores of a release that take a node out

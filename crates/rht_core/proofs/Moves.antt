@@ -34,3 +34,5 @@ pub mod Slots
 pub mod Pages
 -- a table is attached behind the last one
 pub mod Attaching
+-- a page is entered behind an entry
+pub mod Entering

@@ -12,8 +12,6 @@ pub mod UnraisedBinds
 pub mod PagesTaken
 -- what the making of a table has seen so far
 pub mod MakesSeen
--- where a bind takes no slot and no page
-pub mod UntriedSlots
 -- what a bind that finds the last table full has seen for a refusal
 pub mod RefusedBinds
 -- in every run each call that has ended has a reply with its cause

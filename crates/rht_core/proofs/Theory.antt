@@ -1,9 +1,21 @@
 -- what the words don't say: who holds what, which table each slot has, and which nodes each bucket and each port has
 pub mod Ghosts
+-- a number's low bits and those above them
+pub mod LowBits
+-- the way to the word of a bucket of a nested table
+pub mod Ways
 -- what is true of words and ghosts after each event of each run
 pub mod Wholes
+-- what follows of the words of buckets and of entries
+pub mod Entries
+-- a page that is entered
+pub mod EnteredPages
+-- and the words say of places what the ghost does
+pub mod PlacesRead
 -- what a caller that goes from table to table has passed
 pub mod Passed
+-- and of its bucket, while each table is flat
+pub mod FlatTables
 -- what may be known
 pub mod Knowns
 -- what each caller knows

@@ -8,7 +8,6 @@ use Rattle.rht_words.specs.declared.config.Kind.TheVariants.{Single}
 use Rattle.rht_words.specs.Members.{In, IsDistinct}
 use Rattle.rht_words.specs.Places.{WorkLock, PortCount, Slot, ShapeWord, StateWord, NodeMap, PageMap, word_at}
 use Rattle.rht_words.specs.Shapes.{unpacked, size_of}
-use Rattle.rht_nest.specs.Place.{bucket_place}
 use Rattle.rht_nest.specs.Tables.{pages_of_table}
 use Rattle.rht_model.specs.declared.history.Reply.{Reply}
 use Rattle.rht_model.specs.declared.history.Reply.TheVariants.{Bound, Exists, Found, Missing, Listed, Released, Absent, Rebound, TooBig, Again, Busy, NoTable, NoNode, Pending, Elsewhere, Walked, Moved, Idle, Clear}
@@ -17,7 +16,7 @@ use Rattle.rht_core.specs.declared.event.Event.{Event}
 use Rattle.rht_core.specs.declared.local.Doing.{Doing}
 use Rattle.rht_core.specs.Jobs.{Job, job_of, held_of}
 use Rattle.rht_core.specs.Runs.{Core, World, local_of, run_of, IsAdmitted}
-use Rattle.rht_core.specs.StandsFor.{in_force, shape_of, nodes_of, stands_for, AreAllBound}
+use Rattle.rht_core.specs.StandsFor.{in_force, shape_of, bucket_in, nodes_of, stands_for, AreAllBound}
 use Rattle.rht_core.specs.Alone.{IsQuiet}
 
 -- the job has raised the count for a node that it hasn't linked yet, or has still to lower it for one
@@ -74,7 +73,7 @@ module _ (g : Geometry) (words : List ℕ) where
     pub bucket : ℕ
     pub of_table : In table (in_force g words)
     pub within : bucket < size_of (unpacked (shape_of g words table))
-    pub there : bucket_place g (shape_of g words table) bucket ≡ Some place
+    pub there : bucket_in g words (shape_of g words table) bucket ≡ Some place
 
   -- the page's bit is set
   abbrev pub IsPageFree : ℕ → Type 0

@@ -13,10 +13,9 @@ use Rattle.rht_words.specs.Places.{Address, CurrentTable, PortCount, Slot, Futur
 use Rattle.rht_words.specs.Shapes.{unpacked, size_of}
 use Rattle.rht_policy.specs.Thresholds.{is_above_75, is_above_100}
 use Rattle.rht_arena.specs.RunLaws.{TakesPage, SeesRunTaken}
-use Rattle.rht_nest.specs.Place.{bucket_place}
 use Rattle.rht_nest.specs.MakeLaws.{pages_for, SeesSlotTaken, AreSlotsSeenTaken}
 use Rattle.rht_core.specs.declared.event.Event.{Event}
-use Rattle.rht_core.specs.StandsFor.{bucket_nodes, stands_for, AreBound}
+use Rattle.rht_core.specs.StandsFor.{bucket_in, bucket_nodes, stands_for, AreBound}
 use Rattle.rht_core.specs.Traces.{Did, performed_of}
 use Rattle.rht_core.specs.Seen.{LoadsWord, LoadsCurrent, LastWalked, SawCount, words_before}
 
@@ -83,13 +82,18 @@ module _ (g : Geometry) (words_at : ℕ → List ℕ) where
       (CountsNode place number node did × AreCounted place (number + 1) steps nodes)
       ⊎ (IsNoKeyLoad g did × AreCounted place number steps (node ∷ nodes))
 
+  -- where the operation loads the key of a node, the bucket with this number in a table of this shape has its word at this place
+  abbrev pub FindsBucketAt : ℕ → ℕ → ℕ → Did → Type 0
+  FindsBucketAt shape bucket place did =
+      (node : ℕ) → LoadsKey g node did → bucket_in g (words_at did.index) shape bucket ≡ Some place
+
   -- Behind the load of the table's shape the call counted 16 nodes or more, all in one bucket of the table: each stood there, as
   -- its key was loaded, behind as many others as were counted before.
   pub record SawLongChain (shape : ℕ) (behind : List Did) : Type 0 where
     pub bucket : ℕ
-    pub bucket_in : bucket < size_of (unpacked shape)
+    pub within : bucket < size_of (unpacked shape)
     pub place : ℕ
-    pub place_is : bucket_place g shape bucket ≡ Some place
+    pub place_is : AllByRecursion (FindsBucketAt shape bucket place) behind
     pub nodes : List ℕ
     pub counted : AreCounted place 0 behind nodes
     pub many : 16 ≤ length nodes
@@ -173,16 +177,20 @@ module _ (M : Type 0) (mix : ℕ → ℕ → ℕ → ℕ) (env : Env) (events : 
     pub none : Loaded env.geometry (Slot last FutureWord) 0 full.at
 
   -- A bind is refused for want of a table of this size: the last table that it walked is full, by a count of ports that it
-  -- loaded a table of this size is to come behind it, of twice its own or since it is the current one, there was no room for one,
-  -- and then it loaded its future as none.
+  -- loaded a table of this size is to come behind it, of twice its own or since it is the current one; behind that load it saw no
+  -- room for one, and then it loaded the last table's future as none.
   pub record SawNoTable (size : ℕ) (steps : List Did) : Type 0 where
     pub table : ℕ
     pub full : WalkedFull table steps
+    pub sooner : List Did
+    pub counting : Did
+    pub making : List Did
+    pub parts : full.before ≡ sooner ++ counting ∷ making
     pub count : ℕ
-    pub counted : Any (Loaded env.geometry PortCount count) full.before
+    pub counted : Loaded env.geometry PortCount count counting
     pub wanted : size ≡ wanted_size env full.shape count
     pub grows :
         (is_above_75 count (size_of (unpacked full.shape)) env.config.max ≡ true)
-        ⊎ Any (LoadsCurrent env.geometry table) full.before
-    pub room : SawNoRoom env.geometry size full.before
+        ⊎ Any (LoadsCurrent env.geometry table) sooner
+    pub room : SawNoRoom env.geometry size making
     pub none : Loaded env.geometry (Slot table FutureWord) 0 full.at

@@ -7,8 +7,8 @@ use Rattle.rht_words.specs.Members.{IsDistinct}
 use Rattle.rht_words.specs.Links.{node_of, table_of, slot_of, head_of}
 use Rattle.rht_words.specs.Ports.{word_of, owner_of}
 use Rattle.rht_words.specs.Shapes.{size_of, unpacked}
-use Rattle.rht_words.specs.Places.{CurrentTable, Slot, ShapeWord, FutureWord, Node, ChainLink, KeyWord, OwnerWord, ListLink, word_at}
-use Rattle.rht_nest.specs.Place.{bucket_place}
+use Rattle.rht_words.specs.Places.{CurrentTable, Slot, ShapeWord, FutureWord, Node, ChainLink, KeyWord, OwnerWord, ListLink, PageWord, word_at}
+use Rattle.rht_nest.specs.Place.{place_in}
 use Rattle.rht_model.specs.Multimap.{Multimap}
 
 module _ (g : Geometry) (words : List ℕ) where
@@ -27,6 +27,14 @@ module _ (g : Geometry) (words : List ℕ) where
   chain_from (suc left) None = []
   chain_from (suc left) (Some node) = node ∷ chain_from left (node_of g.nodes (word_at g words (Node node ChainLink)))
 
+  -- the words of the pages, by their numbers
+  abbrev pub page_word : ℕ → ℕ
+  page_word index = word_at g words (PageWord index)
+
+  -- the place of a bucket's word in a table of this shape; there is none where a page is missing on the way to it
+  abbrev pub bucket_in : ℕ → ℕ → Option ℕ
+  bucket_in shape bucket = place_in page_word g shape bucket
+
   -- the nodes of a bucket; one that is missing is empty, and so is one whose first link leads to none
   abbrev pub bucket_nodes : Option ℕ → List ℕ
   bucket_nodes None = []
@@ -38,7 +46,7 @@ module _ (g : Geometry) (words : List ℕ) where
 
   abbrev pub table_nodes : ℕ → List ℕ
   table_nodes table =
-      flat_map (λ bucket. bucket_nodes (bucket_place g (shape_of table) bucket)) (range_with_len 0 (size_of (unpacked (shape_of table))))
+      flat_map (λ bucket. bucket_nodes (bucket_in (shape_of table) bucket)) (range_with_len 0 (size_of (unpacked (shape_of table))))
 
   -- the first node with the port's key, with the tables in the order of their futures
   abbrev pub has_key : ℕ → ℕ → Bool

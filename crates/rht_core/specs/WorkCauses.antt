@@ -11,7 +11,8 @@ use Rattle.rht_words.specs.Operations.{op_place}
 use Rattle.rht_words.specs.Places.{CurrentTable, WorkLock, PortCount, Slot, ShapeWord, FutureWord, place_of}
 use Rattle.rht_words.specs.Shapes.{unpacked, size_of}
 use Rattle.rht_nest.specs.MakeLaws.{StoresInSlot}
-use Rattle.rht_move.specs.Choice.{choice_of, is_nested}
+use Rattle.rht_nest.specs.Tables.{is_nested}
+use Rattle.rht_move.specs.Choice.{choice_of}
 use Rattle.rht_move.specs.declared.work.choice.Choice.{Choice}
 use Rattle.rht_move.specs.declared.work.choice.Choice.TheVariants as choices
 use Rattle.rht_core.specs.Seen.{LoadsWord}

@@ -9,7 +9,8 @@ use Rattle.rht_words.specs.Shapes.{unpacked, size_of}
 use Rattle.rht_policy.specs.Thresholds.{is_above_75}
 use Rattle.rht_model.specs.declared.history.Call.TheVariants.{Work}
 use Rattle.rht_model.specs.declared.history.Reply.TheVariants.{Moved, Idle}
-use Rattle.rht_move.specs.Choice.{is_nested, is_sparse}
+use Rattle.rht_nest.specs.Tables.{is_nested}
+use Rattle.rht_move.specs.Choice.{is_sparse}
 use Rattle.rht_core.specs.declared.event.Event.{Event}
 use Rattle.rht_core.specs.Locals.{is_idle}
 use Rattle.rht_core.specs.Runs.{local_of, run_of, IsAdmitted}

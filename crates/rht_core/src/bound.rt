@@ -2,14 +2,20 @@
 //! read, as if nobody else were about. It is for tests; no machine looks at the words so.
 
 ghost use Rattle.std.specs.Prelude.{◌≡◌, ◌<◌, length, Some, IfSome, IfOk};
+ghost use Rattle.std.specs.Option.{option_map};
 ghost use Rattle.std.specs.List.{find};
-ghost use Rattle.rht_words.specs.Places.{words_in};
-ghost use Rattle.rht_nest.specs.Locate.{IsBucketOrNone};
-ghost use Rattle.rht_core.specs.StandsFor.{bucket_nodes, table_nodes, has_key, first_node, stands_for};
+ghost use Rattle.rht_words.specs.Links.{page_of};
+ghost use Rattle.rht_words.specs.Places.{words_in, IsBucketPlace};
+ghost use Rattle.rht_nest.specs.Place.{entered, read_place, IsPlaceIn, IsEnteredIn};
+ghost use Rattle.rht_core.specs.StandsFor.{page_word, bucket_in, bucket_nodes, table_nodes, has_key, first_node, stands_for};
 
-use rht_nest::place_of;
+#[cfg(test)]
+mod tests;
+
+use rht_nest::{Place, flat_place, is_nested};
 use rht_words::{
-    Geometry, Port, Shape, head_of, node_of, owner_of, places, slot_of, table_of, word_of,
+    Geometry, Port, Shape, Start, head_of, node_of, owner_of, page_of, places, slot_of, table_of,
+    word_of,
 };
 use std::alloc::{AllocError, Global};
 
@@ -67,7 +73,12 @@ fn first_in_table(geometry: Geometry, words: &[u64], table: u32, key: u64) -> Op
 {
     let shape = words[places::shape(table)];
     for bucket in 0..Shape::from(shape).size() {
-        let found = first_at(geometry, words, place_of(geometry, shape, bucket), key);
+        let found = first_at(
+            geometry,
+            words,
+            bucket_in(geometry, words, shape, bucket),
+            key,
+        );
         if found.is_some() {
             return found;
         }
@@ -75,10 +86,51 @@ fn first_in_table(geometry: Geometry, words: &[u64], table: u32, key: u64) -> Op
     None
 }
 
+/// The place of a bucket's word in a table of this shape. None where a page is missing on the way, so
+/// that the bucket is empty and has no word.
+pub(crate) fn bucket_in(geometry: Geometry, words: &[u64], shape: u64, bucket: u32) -> Option<usize>
+    requires { length words.now ≡ words_in geometry }
+    ensures place { result ≡ bucket_in geometry words.now shape bucket }
+    ensures within { IfSome result (IsBucketPlace geometry) }
+{
+    if is_nested(shape) {
+        place_behind(geometry, words, Place::nested(geometry, shape, bucket))
+    } else {
+        Some(flat_place(geometry, shape, bucket))
+    }
+}
+
+/// The place of the bucket's word behind an entry of the top page. At most one more entry is on the way.
+fn place_behind(geometry: Geometry, words: &[u64], top: Place) -> Option<usize>
+    requires words { length words.now ≡ words_in geometry }
+    requires top { IsPlaceIn geometry top }
+    ensures place { result ≡ read_place (page_word geometry words.now) top }
+    ensures within { IfSome result (IsBucketPlace geometry) }
+{
+    match way_behind(geometry, words, top)? {
+        Start::Running(last) => match way_behind(geometry, words, last)? {
+            Start::Running(_) => None,
+            Start::Done(place) => Some(place),
+        },
+        Start::Done(place) => Some(place),
+    }
+}
+
+/// The way on behind an entry, where this leads to a page.
+fn way_behind(geometry: Geometry, words: &[u64], place: Place) -> Option<Start<Place, usize>>
+    requires words { length words.now ≡ words_in geometry }
+    requires place { IsPlaceIn geometry place }
+    ensures way { result ≡ option_map (entered place) (page_of geometry.pages (page_word geometry words.now place.entry)) }
+    ensures within { IfSome result (IsEnteredIn geometry) }
+{
+    let page = page_of(geometry.pages, words[place.entry()])?;
+    Some(place.entered(page))
+}
+
 /// The first node with this key in the bucket at a place, where it has one; else there is none.
 fn first_at(geometry: Geometry, words: &[u64], place: Option<usize>, key: u64) -> Option<u32>
     requires words { length words.now ≡ words_in geometry }
-    requires place { IsBucketOrNone geometry place }
+    requires place { IfSome place (IsBucketPlace geometry) }
     ensures first { result ≡ find (has_key geometry words.now key) (bucket_nodes geometry words.now place) }
     ensures within { IfSome result (λ node. node < geometry.nodes) }
 {

@@ -1,18 +1,16 @@
 //! What the words of a table say at its closing: all buckets of all tables are read once, as if
 //! nobody else were about. All memory is taken beforehand, so that nothing is refused behind that.
 
-ghost use Rattle.std.specs.Prelude.{◌≡◌, ◌+◌, ◌^◌, ◌<◌, ◌≤◌, [], ◌∷◌, ◌++◌, map, length, vec_len, vec_capacity, replicate, Bool, false, Some, IfOk};
-ghost use Rattle.rht_words.specs.Places.{words_in};
-ghost use Rattle.rht_nest.specs.Locate.{IsBucketOrNone};
+ghost use Rattle.std.specs.Prelude.{◌≡◌, ◌+◌, ◌^◌, ◌<◌, ◌≤◌, [], ◌∷◌, ◌++◌, map, length, vec_len, vec_capacity, replicate, Bool, false, Some, IfSome, IfOk};
+ghost use Rattle.rht_words.specs.Places.{words_in, IsBucketPlace};
 ghost use Rattle.rht_model.specs.Listing.{Lists};
 ghost use Rattle.rht_core.specs.StandsFor.{bucket_nodes, table_nodes, stands_for};
 ghost use Rattle.rht_core.specs.Closing.{current_size, nodes_met, with_port, owned, all_added};
 ghost use Rattle.rht_core.specs.Closing.{marked, marked_below, IsListable, IsRoomFor, AreFirsts};
 ghost use Rattle.rht_core.specs.Closing.{IsClosedOf};
 
-use crate::bound::SLOTS;
+use crate::bound::{SLOTS, bucket_in};
 use rht_model::{Bindings, Closed};
-use rht_nest::place_of;
 use rht_words::{
     Geometry, Port, Shape, head_of, node_of, owner_of, places, port_of, slot_of, table_of,
 };
@@ -132,7 +130,12 @@ fn mark_table(met: &mut [bool], geometry: Geometry, words: &[u64], table: u32)
 {
     let shape = words[places::shape(table)];
     for bucket in 0..Shape::from(shape).size() {
-        mark_bucket(met, geometry, words, place_of(geometry, shape, bucket));
+        mark_bucket(
+            met,
+            geometry,
+            words,
+            bucket_in(geometry, words, shape, bucket),
+        );
     }
 }
 
@@ -140,7 +143,7 @@ fn mark_table(met: &mut [bool], geometry: Geometry, words: &[u64], table: u32)
 fn mark_bucket(met: &mut [bool], geometry: Geometry, words: &[u64], bucket: Option<usize>)
     requires words { length words.now ≡ words_in geometry }
     requires met { length met.old ≡ geometry.nodes }
-    requires bucket { IsBucketOrNone geometry bucket }
+    requires bucket { IfSome bucket (IsBucketPlace geometry) }
     ensures { met.new ≡ marked met.old (bucket_nodes geometry words.now bucket) }
 {
     if let Some(place) = bucket {

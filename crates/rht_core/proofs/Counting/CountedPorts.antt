@@ -11,7 +11,7 @@ use Rattle.rht_words.proofs.Members.{count_below, one_if, not_in_from, AllByRecu
 use Rattle.rht_words.proofs.EachElement.{AllByRecursion-weaker}
 use Rattle.rht_model.specs.Multimap.{Multimap}
 use Rattle.rht_core.specs.StandsFor.{stands_for, AreBound, AreAllBound}
-use Rattle.rht_core.proofs.Theory.Ghosts.{Owner, Free, Held, First, Leaving, Behind, Taken, Ghost, is_first, seat-first, seat_of}
+use Rattle.rht_core.proofs.Theory.Ghosts.{Owner, Free, Held, First, Leaving, Behind, Taken, Ghost, is_first, seat-first, seat_of, is_entry}
 use Rattle.rht_core.proofs.Theory.Wholes.{key_of, firsts, Whole, seated_at}
 use Rattle.rht_core.proofs.Theory.Steps.{mem, owners_in}
 use Rattle.rht_core.proofs.Meaning.BoundPorts.{stands_for_bound}
@@ -156,13 +156,14 @@ module _ (env : Env) (mix : ℕ → ℕ → ℕ → ℕ) (words : List ℕ) (G :
       }
 
   -- and no fewer than there are nodes in one of them
-  pub members-AreBound : (j few : ℕ) → j < 64 * env.geometry.pages → few ≤ length (G.bucket j).nodes
+  pub members-AreBound : (j few : ℕ) → j < 64 * env.geometry.pages → is_entry G j ≡ false → few ≤ length (G.bucket j).nodes
       → AreBound (stands_for env.geometry words) few
-  members-AreBound j few below less =
+  members-AreBound j few below plain less =
       let bucket = (G.bucket j).nodes in
       let among = In-AllByRecursion (λ n. n < env.geometry.nodes) bucket
       (λ n i. (whole.owned.first_at n j (whole.owned.member j n i)).among) in
-      let most = length-count_below in_chain env.geometry.nodes bucket (whole.buckets j below).chained.distinct among
+      let most = length-count_below in_chain env.geometry.nodes bucket (whole.buckets j below plain).chained.distinct
+      among
       (λ n i. ap is_first (whole.owned.member j n i)) in
       fewer-AreBound (stands_for env.geometry words) (firsts env mix G) few (omega (arith, less, most)) firsts-AreBound
 

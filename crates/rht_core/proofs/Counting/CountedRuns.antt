@@ -7,7 +7,7 @@ use Rattle.std.specs.List.{range_with_len}
 use Rattle.std.proofs.lemmas.Bool.{cases_lt}
 use Rattle.rht_words.specs.declared.env.Env.{Env}
 use Rattle.rht_words.specs.declared.config.Kind.TheVariants.{Single}
-use Rattle.rht_words.specs.Places.{WorkLock, PortCount, Slot, ShapeWord, StateWord, PageWord, word_at}
+use Rattle.rht_words.specs.Places.{PortCount, Slot, ShapeWord, StateWord, PageWord, word_at}
 use Rattle.rht_words.specs.Members.{In}
 use Rattle.rht_words.specs.Shapes.{unpacked, size_of}
 use Rattle.rht_words.proofs.ShapeSizes.{IsSizeUpTo-size_of}
@@ -25,11 +25,13 @@ use Rattle.rht_core.proofs.Events.Invariants.{Inv, idle_knows}
 use Rattle.rht_core.proofs.Events.InvariantRuns.{has_inv}
 use Rattle.rht_core.proofs.Events.BooksInRuns.{ended_outs, idle-says, has_books}
 use Rattle.rht_core.proofs.Pieces.RunPages.{range_with_len-from}
-use Rattle.rht_core.proofs.Meaning.BoundPorts.{table_in_force, bucket_in_force, listed_bound}
+use Rattle.rht_core.proofs.Meaning.TablesInForce.{table_in_force}
+use Rattle.rht_core.proofs.Meaning.BoundPorts.{bucket_in_force, listed_bound}
 use Rattle.rht_core.proofs.Counting.CountedPorts.{firsts-AreAllBound}
 use Rattle.rht_core.proofs.Counting.CountedNodes.{count_few}
 use Rattle.rht_core.proofs.Counting.NodesOut.{is_out, out_nodes, out_nodes-distinct, out_nodes-among, out_nodes-many, out_nodes-in, out_nodes-out, sum_by-same, seat-is_out}
 use Rattle.rht_core.proofs.Counting.FullTables.{raises}
+use Rattle.rht_core.proofs.Theory.FlatTables.{flat_right}
 
 module _ (env : Env) (mix : ℕ → ℕ → ℕ → ℕ) (words : List ℕ) (G : Ghost)
     (whole : Whole env mix (mem env mix words) G) where
@@ -119,7 +121,7 @@ module _ (env : Env) (mix : ℕ → ℕ → ℕ → ℕ) (words : List ℕ) (G :
   run_of_table τ l =
       let right = whole.tables.each τ l in
       let shape = unpacked (G.table τ).shape in
-      let fits = right.placed.fits in
+      let fits = (flat_right env mix (mem env mix words) G whole τ l).fits in
       let least = (IsSizeUpTo-size_of shape).least in
       let first : run_first env.geometry (G.table τ).shape ≡ shape.page = omega (arith, fits, least) in
       record {
@@ -138,7 +140,7 @@ module _ (env : Env) (mix : ℕ → ℕ → ℕ → ℕ) (words : List ℕ) (G :
       let b = 64 * (p - shape.page) in
       let within : b < size_of shape = omega (arith, from, below, least) in
       let same : (64 * shape.page + b) / 64 ≡ p = omega (arith, from) in
-      subst (λ q. G.page q ≡ PageOf τ) same ((whole.tables.each τ l).placed.pages b within)
+      subst (λ q. G.page q ≡ PageOf τ) same ((flat_right env mix (mem env mix words) G whole τ l).pages b within)
 
   has_state : (o : SlotOwner) → has_table o ≡ true → state_word o ≢ 0
   has_state SlotFree has is = absurd (cc)
@@ -160,9 +162,10 @@ module _ (env : Env) (mix : ℕ → ℕ → ℕ → ℕ) (words : List ℕ) (G :
       go PageFree e = inl ((whole.pages.bits p l).1 e)
       go (PageHeld c) e = absurd (unheld c e)
       go (PageOf τ) e =
-          let of = whole.pages.page_of p τ e in
-          let right = whole.tables.each τ of.attached in
-          let run = run_of_table τ of.attached in
+          let attached = whole.pages.page_of p τ e in
+          let right = whole.tables.each τ attached in
+          let run = run_of_table τ attached in
+          let of = (flat_right env mix (mem env mix words) G whole τ attached).run p e in
           let s = (G.table τ).slot in
           let first = run.first in
           let many = run.many in
@@ -192,7 +195,7 @@ module _ (env : Env) (mix : ℕ → ℕ → ℕ → ℕ) (words : List ℕ) (G :
       let first = run.first in
       let many = run.many in
       let of : G.page p ≡ PageOf τ = page_is_of τ p is.attached (omega (arith, from, first)) (omega (arith, until, first, many)) in
-      let fits = (whole.tables.each τ is.attached).placed.fits in
+      let fits = (flat_right env mix (mem env mix words) G whole τ is.attached).fits in
       let least = (IsSizeUpTo-size_of (unpacked (G.table τ).shape)).least in
       let within : p < env.geometry.pages = omega (arith, until, first, many, fits, least) in
       let none : PageOf τ ≡ PageFree = sym of ∙ (whole.pages.bits p within).0 free in
@@ -290,7 +293,7 @@ module _ (M : Type 0) (mix : ℕ → ℕ → ℕ → ℕ) where
             let at = bucket_in_force env mix core.words G has.inv.whole is.table is.bucket place is.of_table
             is.within is.there in
             let j = at.index in
-            let right = (has.inv.whole.buckets j at.within).locked in
+            let right = (has.inv.whole.buckets j at.within at.plain).locked in
             subst (λ p. slice_index core.words p % 2 ≡ 0) (sym at.place_is)
             (even_word (G.bucket j).holder (G.bucket j).plain
             (word_at env.geometry core.words (PageWord j)) right.word_is right.even

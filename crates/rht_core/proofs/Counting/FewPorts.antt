@@ -114,6 +114,7 @@ module _ (env : Env) (mix : ℕ → ℕ → ℕ → ℕ) where
   work-spares (work_at.Attaching root last slot shape) within calm = absurd calm
   work-spares (work_at.Unmaking root unmake) within calm = absurd calm
   work-spares (work_at.RootShape root future again) within calm = absurd calm
+  work-spares (work_at.Entry rehash number place) within calm = absurd calm
   work-spares (work_at.Locking rehash number lock) within calm = absurd calm
   work-spares (work_at.EntryTable emptying seek) within calm = absurd calm
   work-spares (work_at.Seed emptying last) within calm = absurd calm

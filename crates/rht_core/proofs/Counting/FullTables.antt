@@ -108,6 +108,7 @@ bind_loads-unraised : (e : Env) (place : ℕ) (state : BindAt) → plan_at e sta
 bind_loads-unraised e place (at.Filling new) is = refl
 bind_loads-unraised e place (at.CurrentTable attempt) is = refl
 bind_loads-unraised e place (at.Locating attempt locate) is = refl
+bind_loads-unraised e place (at.Entering attempt table shape way grow) is = refl
 bind_loads-unraised e place (at.Probing attempt table shape probe) is = refl
 bind_loads-unraised e place (at.FoundOwner claimed found) is = refl
 bind_loads-unraised e place (at.ListLink list) is = refl
@@ -186,6 +187,7 @@ work_raises (work_at.Attaching root last slot shape) = refl
 work_raises (work_at.Unmaking root unmake) = refl
 work_raises (work_at.RootFuture root due) = refl
 work_raises (work_at.RootShape root future again) = refl
+work_raises (work_at.Entry rehash number place) = refl
 work_raises (work_at.Locking rehash number lock) = refl
 work_raises (work_at.EntryTable emptying seek) = refl
 work_raises (work_at.Seed emptying last) = refl

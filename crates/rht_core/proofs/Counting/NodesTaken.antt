@@ -300,7 +300,7 @@ module _ (mix : ℕ → ℕ → ℕ → ℕ) (env : Env) where
         (subst (λ old. Does env mix step.move did.op old h after) (sym performs.found) step.does)
 
     unknown : after.answer ≡ None → h.answer ≡ None
-    unknown none = unknown_before env.config.kind performs.caller (call_of job) _ _ h.answer after.answer
+    unknown none = unknown_before env.config.kind performs.caller (call_of job) _ _ _ _ h.answer after.answer
         performs.step.says none
 
     -- an operation that takes no node leaves what the call has taken
@@ -315,7 +315,7 @@ module _ (mix : ℕ → ℕ → ℕ → ℕ) (env : Env) where
       told =
           known_so env.config.kind performs.caller (call_of job)
           (λ answer. TellsNode (call_of job) kept.node answer.reply)
-          (TellsNode-same (call_of job) kept.node) _ _ h.answer after.answer performs.step.says
+          (TellsNode-same (call_of job) kept.node) _ _ _ _ h.answer after.answer performs.step.says
           (λ answer before known. subst (λ node. TellsNode (call_of job) node answer.reply)
           (kept.holds before)
           (performs.step.right answer before known).tells)

@@ -108,6 +108,7 @@ work_has_none (working.Attaching root last slot shape) = refl
 work_has_none (working.Unmaking root unmake) = refl
 work_has_none (working.RootFuture root due) = refl
 work_has_none (working.RootShape root future again) = refl
+work_has_none (working.Entry rehash number place) = refl
 work_has_none (working.Locking rehash number lock) = refl
 work_has_none (working.EntryTable emptying seek) = refl
 work_has_none (working.Seed emptying last) = refl

@@ -152,6 +152,7 @@ module _ (env : Env) where
   work-attaches (work_at.Count root last) within table slot l e = absurd (cc)
   work-attaches (work_at.RootFuture root due) within table slot l e = absurd (cc)
   work-attaches (work_at.RootShape root future again) within table slot l e = absurd (cc)
+  work-attaches (work_at.Entry rehash number place) within table slot l e = absurd (cc)
   work-attaches (work_at.Seed emptying last) within table slot l e = absurd (cc)
   work-attaches (work_at.BucketWord emptying target) within table slot l e = absurd (cc)
   work-attaches (work_at.Key emptying target entry) within table slot l e = absurd (cc)

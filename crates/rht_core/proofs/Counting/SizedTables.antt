@@ -20,19 +20,21 @@ use Rattle.rht_policy.specs.Thresholds.{is_above_75, is_below_30}
 use Rattle.rht_model.specs.declared.history.Reply.{Reply}
 use Rattle.rht_model.specs.declared.history.Reply.TheVariants.{Elsewhere}
 use Rattle.rht_nest.specs.Make.{MakeModel, make_after, make_after_at, made_pages, made_shape, slot_seen, run_started, IsMakeAtIn}
-use Rattle.rht_nest.specs.Tables.{exponent_made, flat_shape}
+use Rattle.rht_nest.specs.Tables.{exponent_made, flat_shape, is_nested}
 use Rattle.rht_nest.specs.Unmake.{UnmakeModel, unmake_new, unmake_after}
 use Rattle.rht_nest.specs.declared.make.MakeAt.{MakeAt}
 use Rattle.rht_nest.specs.declared.make.MakeAt.TheVariants as makes
 use Rattle.rht_arena.specs.TakeRun.{take_run_new}
-use Rattle.rht_nest.specs.Place.{bucket_place}
-use Rattle.rht_chain.specs.Lock.{LockModel, lock_after}
+use Rattle.rht_nest.specs.Place.{PlaceModel, flat_place, nested_place, place_after}
+use Rattle.rht_nest.specs.declared.place.Bucket.{Bucket}
+use Rattle.rht_nest.specs.declared.place.Bucket.TheVariants.{At, Absent}
+use Rattle.rht_chain.specs.Lock.{lock_new, LockModel, lock_after}
 use Rattle.rht_move.specs.declared.last_entry.Entry.{Entry}
 use Rattle.rht_move.specs.declared.last_table.Last.{Last}
 use Rattle.rht_move.specs.declared.last_table.LastTableAt.{LastTableAt}
 use Rattle.rht_move.specs.declared.last_table.LastTableAt.TheVariants as last_tables
 use Rattle.rht_move.specs.LastTable.{LastTableModel, last_table_after, last_table_after_at}
-use Rattle.rht_move.specs.Choice.{choice_of, chosen, is_nested, is_sparse}
+use Rattle.rht_move.specs.Choice.{choice_of, chosen, is_sparse}
 use Rattle.rht_move.specs.declared.work.choice.Choice.{Choice}
 use Rattle.rht_move.specs.declared.work.choice.Choice.TheVariants as choices
 use Rattle.rht_move.specs.declared.work.Wanted.{Wanted}
@@ -43,12 +45,10 @@ use Rattle.rht_move.specs.declared.rehash.Rehash.{Rehash}
 use Rattle.rht_move.specs.declared.rehash.Emptying.{Emptying}
 use Rattle.rht_move.specs.declared.rehash.Target.{Target}
 use Rattle.rht_move.specs.LastEntry.{LastEntryModel, last_entry_after}
-use Rattle.rht_policy.specs.Mix.{bucket_of}
-use Rattle.rht_words.specs.Ports.{port_of}
 use Rattle.rht_move.specs.declared.work.WorkAt.{WorkAt}
 use Rattle.rht_move.specs.declared.work.WorkAt.TheVariants as at
-use Rattle.rht_move.specs.Work.{after_at, last_seen, begun, not_made, made, unmade, future_or_idle, locking_or_publish, bucket_or_publish, locked, unlocking, entry_table_seen, with_word, entry_or_empty, walked, second_or_stop, second_locked, cut_off, unlocked_bucket, retiring, IsWorkAtIn}
-use Rattle.rht_core.proofs.Theory.Ghosts.{Ghost, has_table, index_at, put-all, flat_table}
+use Rattle.rht_move.specs.Work.{after_at, last_seen, begun, not_made, made, unmade, future_or_idle, bucket_of_root, next_bucket, entry_passed, locked, unlocking, entry_table_seen, with_word, entry_or_empty, walked, second_locked, cut_off, unlocked_bucket, retiring, IsWorkAtIn}
+use Rattle.rht_core.proofs.Theory.Ghosts.{Ghost, has_table, index_at, put-all, made_table}
 use Rattle.rht_core.proofs.Theory.Wholes.{Whole}
 use Rattle.rht_core.proofs.Theory.Steps.{Move, Quiet, TakesNode, GivesNode, TakesLock, DropsLock, Raises, Links, Lowers, Rebinds, LinksBehind, Arms, TakesSlot, GivesSlot, TakesPages, GivesPages, Attaches, TakesWork, GivesWork, BeginsMoving, TakesSecond, Leaves, Arrives, CutsOff, Publishes, Retires, ghost_after, mem, by_test}
 
@@ -191,9 +191,22 @@ module _ (env : Env) (keeps : env.config.shrink ≡ false) where
   sized-future root due None = tt
   sized-future root due (Some future) = tt
 
-  sized-bucket : (rehash : Rehash) (number : ℕ) (place : Option ℕ) → SizedWork (locking_or_publish rehash number place)
-  sized-bucket rehash number None = tt
-  sized-bucket rehash number (Some place) = tt
+  sized-bucket : (rehash : Rehash) (number : ℕ) → SizedWork (bucket_of_root env.geometry rehash number)
+  sized-bucket rehash number =
+      by_test (λ t. SizedWork (cond t (at.Entry rehash number (nested_place env.geometry rehash.shape number))
+      (at.Locking rehash number (lock_new (flat_place env.geometry rehash.shape number)))))
+      (is_nested rehash.shape) (λ t. tt) (λ f. tt)
+
+  sized-next : (rehash : Rehash) (number : ℕ) → SizedWork (next_bucket env.geometry rehash number)
+  sized-next rehash number =
+      by_test (λ t. SizedWork (cond t (bucket_of_root env.geometry rehash (number + 1)) (at.Publishing rehash)))
+      (nat_lt (number + 1) (size_of (unpacked rehash.shape))) (λ t. sized-bucket rehash (number + 1)) (λ f. tt)
+
+  sized-passed : (rehash : Rehash) (number : ℕ) (place : PlaceModel) (next : Next Bucket)
+      → SizedWork (entry_passed env.geometry rehash number place next)
+  sized-passed rehash number place Go = tt
+  sized-passed rehash number place (Done (At word)) = tt
+  sized-passed rehash number place (Done (Absent entry)) = sized-next rehash number
 
   sized-locked : (rehash : Rehash) (number : ℕ) (lock : LockModel) (next : Next ℕ)
       → SizedWork (locked env.geometry rehash number lock next)
@@ -214,10 +227,6 @@ module _ (env : Env) (keeps : env.config.shrink ≡ false) where
   sized-walked emptying target walk Go = tt
   sized-walked emptying target walk (Done entry) = tt
 
-  sized-second : (emptying : Emptying) (table : ℕ) (entry : Entry) (place : Option ℕ) → SizedWork (second_or_stop emptying table entry place)
-  sized-second emptying table entry None = tt
-  sized-second emptying table entry (Some place) = tt
-
   sized-second_locked : (emptying : Emptying) (entry : Entry) (table : ℕ) (lock : LockModel) (next : Next ℕ)
       → SizedWork (second_locked emptying entry table lock next)
   sized-second_locked emptying entry table lock Go = tt
@@ -229,10 +238,7 @@ module _ (env : Env) (keeps : env.config.shrink ≡ false) where
 
   sized-unlocked : (rehash : Rehash) (number : ℕ) (stop : Bool) → SizedWork (unlocked_bucket env.geometry rehash number stop)
   sized-unlocked rehash number true = tt
-  sized-unlocked rehash number false =
-      by_test (λ t. SizedWork (cond t (bucket_or_publish env.geometry rehash (number + 1)) (at.Publishing rehash)))
-      (nat_lt (number + 1) (size_of (unpacked rehash.shape)))
-      (λ t. sized-bucket rehash (number + 1) (bucket_place env.geometry rehash.shape (number + 1))) (λ f. tt)
+  sized-unlocked rehash number false = sized-next rehash number
 
   sized-retiring : (rehash : Rehash) (next : Option ℕ) → SizedWork (retiring rehash next)
   sized-retiring rehash None = tt
@@ -260,7 +266,9 @@ module _ (env : Env) (keeps : env.config.shrink ≡ false) where
   sized-work mix (at.Unmaking root unmake) old within sized shape =
       sized-unmade root (unmake_after unmake old).0 (unmake_after unmake old).1
   sized-work mix (at.RootFuture root due) old within sized shape = sized-future root due (slot_of old)
-  sized-work mix (at.RootShape root future again) old within sized shape = sized-bucket _ 0 (bucket_place env.geometry old 0)
+  sized-work mix (at.RootShape root future again) old within sized shape = sized-bucket _ 0
+  sized-work mix (at.Entry rehash number place) old within sized shape =
+      sized-passed rehash number (place_after place old).0 (place_after place old).1
   sized-work mix (at.Locking rehash number lock) old within sized shape =
       sized-locked rehash number (lock_after lock old).0 (lock_after lock old).1
   sized-work mix (at.EntryTable emptying seek) old within sized shape =
@@ -270,9 +278,7 @@ module _ (env : Env) (keeps : env.config.shrink ≡ false) where
       sized-first (with_word emptying (unlocked old)) target (node_of env.geometry.nodes (head_of emptying.bucket.place (unlocked old)))
   sized-work mix (at.Walking emptying target walk) old within sized shape =
       sized-walked emptying target (last_entry_after walk old).0 (last_entry_after walk old).1
-  sized-work mix (at.Key emptying target entry) old within sized shape =
-      sized-second emptying target.table entry
-      (bucket_place env.geometry target.shape (bucket_of mix (port_of old) target.shape target.seed))
+  sized-work mix (at.Key emptying target entry) old within sized shape = tt
   sized-work mix (at.LockingSecond emptying entry table lock) old within sized shape =
       sized-second_locked emptying entry table (lock_after lock old).0 (lock_after lock old).1
   sized-work mix (at.EntryLink emptying entry second) old within sized shape = tt
@@ -291,7 +297,7 @@ module _ (env : Env) (mix : ℕ → ℕ → ℕ → ℕ) where
   pub attached-sized : (G : Ghost) (slot shape seed serial : ℕ) → AreSized G → IsSized shape
       → (c : ℕ) → AreSized (ghost_after env mix c (Attaches slot shape seed serial) G)
   attached-sized G slot shape seed serial sized fits c τ l =
-      put-all (λ i t. i < G.attached + 1 → IsSized t.shape) G.table G.attached (flat_table slot shape seed serial) (λ last. fits)
+      put-all (λ i t. i < G.attached + 1 → IsSized t.shape) G.table G.attached (made_table slot shape seed serial) (λ last. fits)
       (λ i other low. sized i (omega (arith, other, low))) τ l
 
   -- no other move attaches any

@@ -106,6 +106,8 @@ give_node-spares give = behind _ (omega arith)
 pub locate-spares : (h : Geometry) (table : ℕ) (state : LocateAt) → SparesSlots (locate_plan_at h table state)
 locate-spares h table locates.Shape = by_load _ _ refl
 locate-spares h table (locates.Seed shape) = by_load _ _ refl
+locate-spares h table (locates.Early shape place) = by_load _ _ refl
+locate-spares h table (locates.Entry shape early place) = by_load _ _ refl
 
 module _ (g : Geometry) where
   lock-spares : (place : ℕ) (state : LockAt) → IsBucketPlace g place → SparesSlots (lock_plan_at place state)

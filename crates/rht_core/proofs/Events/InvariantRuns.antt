@@ -17,7 +17,7 @@ use Rattle.rht_core.specs.Locals.{fresh}
 use Rattle.rht_core.specs.Runs.{Core, World, local_in, opening, opening_core, run_of, IsAdmitted}
 use Rattle.rht_core.proofs.Events.Worlds.{run_keeps_admitted}
 use Rattle.rht_core.proofs.Events.RangesInRuns.{AllIn, opens-all, event-all}
-use Rattle.rht_core.proofs.Theory.Ghosts.{Free, Ghost, Table, PageOf, SlotFree, Live, is_first, has_table, put, put-same, put-other, blank_bucket, PageOwner, PageFree, PageHeld, SlotHeld, state_word, put-all}
+use Rattle.rht_core.proofs.Theory.Ghosts.{Free, Ghost, Table, PageOf, SlotFree, Live, is_first, has_table, put, put-same, put-other, blank_bucket, PageOwner, PageFree, PageHeld, SlotHeld, state_word, put-all, Row, is_entry, is_entry_of}
 use Rattle.rht_core.proofs.Theory.Wholes.{Whole, TableRight, PagesRight}
 use Rattle.rht_core.proofs.Theory.Steps.{mem}
 use Rattle.rht_core.proofs.Events.Invariants.{Inv, kept}
@@ -30,6 +30,8 @@ first_table env = record {
   seed = env.config.seed;
   serial = 0;
   place = λ b. Some b;
+  part = λ p. Row;
+  entry = λ j. None;
 }
 
 -- the first pages are the first table's, and nobody has the others
@@ -69,6 +71,23 @@ module _ (env : Env) (mix : ℕ → ℕ → ℕ → ℕ) where
         (put-other (λ s. SlotFree) 0 (Live 0) s other) has in cc)
   ]
 
+  -- a page that a table has is one of the first ones, and the first table's
+  page_below : (p τ : ℕ) → opening_page env p ≡ PageOf τ → (p < first_pages env) × (0 ≡ τ)
+  page_below p τ is = elim (cases_lt p (first_pages env)) [
+    | inl below ↦
+        let same : ◌≡◌ {A = PageOwner} (PageOf 0) (PageOf τ) = sym (first_page env p below) ∙ is in (below, cc)
+    | inr past ↦ let same : ◌≡◌ {A = PageOwner} PageFree (PageOf τ) = sym (other_page env p past) ∙ is in absurd (cc)
+  ]
+
+  -- no word is an entry
+  no_entry : (j : ℕ) → is_entry (opening_ghost env) j ≡ true → ⊥
+  no_entry j = go (opening_page env (j / 64))
+    where
+      go : (owner : PageOwner) → is_entry_of (opening_ghost env).table owner (j / 64) ≡ true → ⊥
+      go PageFree is = cc
+      go (PageHeld c) is = cc
+      go (PageOf τ) is = cc
+
   opening_table : (τ : ℕ) → τ < 1 → TableRight env mix (mem env mix (opening_words env)) (opening_ghost env) τ
   opening_table τ first =
       let zero : τ ≡ 0 = omega arith in
@@ -82,7 +101,7 @@ module _ (env : Env) (mix : ℕ → ℕ → ℕ → ℕ) where
         shape_is = opened (Slot 0 ShapeWord) (omega arith, tt);
         seed_is = opened (Slot 0 SeedWord) (omega arith, tt);
         future_is = opened (Slot 0 FutureWord) (omega arith, tt);
-        placed = record {
+        placed = inl (record {
           flat = subst (λ (s : Shape). s.nest ≡ 0) (sym opens.shape) opens.flat;
           fits =
               subst (λ (s : Shape). 64 * s.page + size_of s ≤ 64 * env.geometry.pages) (sym opens.shape)
@@ -93,7 +112,15 @@ module _ (env : Env) (mix : ℕ → ℕ → ℕ → ℕ) where
           pages = λ b l. first_page env ((64 * (unpacked (first_table env).shape).page + b) / 64)
               (subst (λ (s : Shape). (64 * s.page + b) / 64 < first_pages env) (sym opens.shape)
               (first_within (subst (λ (s : Shape). b < size_of s) opens.shape l)));
-        };
+          run = λ p is.
+              let below = page_below p 0 is in
+              record {
+                from = subst (λ (s : Shape). s.page ≤ p) (sym opens.shape) (omega arith);
+                below = subst (λ (s : Shape). p < s.page + max 1 (size_of s / 64)) (sym opens.shape)
+                    (subst (λ size. p < 0 + max 1 (size / 64)) (sym opens.size) (omega (arith, below.0)));
+              };
+          rows = λ p is. refl;
+        });
       })
     where
       first_within : {b : ℕ} → b < size_of (first_shape env) → (64 * 0 + b) / 64 < first_pages env
@@ -113,20 +140,7 @@ module _ (env : Env) (mix : ℕ → ℕ → ℕ → ℕ) where
   opening_pages : PagesRight env mix (mem env mix (opening_words env)) (opening_ghost env)
   opening_pages = record {
     bits = λ p l. rw (opened (PageMap (p / 64)) (omega arith)) (page_bit p l);
-    page_of = λ p τ is. elim (cases_lt p (first_pages env)) [
-      | inl below ↦
-          let opens = opens_flat env in
-          let same : ◌≡◌ {A = PageOwner} (PageOf 0) (PageOf τ) = sym (first_page env p below) ∙ is in
-          let zero : 0 ≡ τ = cc in
-          record {
-            attached = omega (arith, zero);
-            from = subst (λ (s : Shape). s.page ≤ p) (sym opens.shape) (omega arith);
-            below = subst (λ (s : Shape). p < s.page + max 1 (size_of s / 64)) (sym opens.shape)
-                (subst (λ size. p < 0 + max 1 (size / 64)) (sym opens.size) (omega (arith, below)));
-          }
-      | inr past ↦ let same : ◌≡◌ {A = PageOwner} PageFree (PageOf τ) = sym (other_page env p past) ∙ is in
-          absurd (cc)
-    ];
+    page_of = λ p τ is. let zero = (page_below p τ is).1 in omega (arith, zero);
     blank = λ j is. refl;
   }
     where
@@ -161,11 +175,13 @@ module _ (env : Env) (mix : ℕ → ℕ → ℕ → ℕ) where
             rw (put-same (λ s. SlotFree) 0 (Live 0)) (omega arith);
         slot = refl;
       });
+      flat = λ τ l. let opens = opens_flat env in subst (λ (s : Shape). s.nest ≡ 0) (sym opens.shape) opens.flat;
     };
-    buckets = λ j l. record {
+    buckets = λ j l plain. record {
       locked = record { word_is = opened (PageWord j) l; even = refl };
       chained = record { segment = refl; distinct = tt };
     };
+    entries = λ j l is. absurd (no_entry j is);
     owned = record {
       member = λ j n i. absurd i;
       first_at = λ n j f. absurd (cc);

@@ -23,7 +23,7 @@ use Rattle.rht_core.specs.declared.local.Doing.{Doing}
 use Rattle.rht_core.specs.declared.local.Doing.TheVariants.{Idle, Finding, Binding, Releasing, Rebinding, Listing, Working, Counting}
 use Rattle.rht_core.specs.Locals.{fresh, owners_room, does_nothing, machine_of, begin_with, local_after}
 use Rattle.rht_core.specs.Runs.{Core, local_of, beginning_in, planned_in, enrolling, core_step}
-use Rattle.rht_core.specs.Jobs.{Job, finds, binds, releases, rebinds, lists, works, counts, call_of, job_plan, job_after, job_of, told, held_of, held_next}
+use Rattle.rht_core.specs.Jobs.{Job, finds, binds, releases, rebinds, lists, works, counts, job_plan, job_after, job_of, told, held_of, held_next}
 use Rattle.rht_core.specs.Laws.{IsDoingIn}
 use Rattle.rht_core.proofs.Events.CallBeginnings.{begins_so}
 use Rattle.rht_core.proofs.Events.Worlds.{beginning-some, planned-some}
@@ -35,10 +35,10 @@ use Rattle.rht_core.proofs.Theory.Wholes.{outs, Whole}
 use Rattle.rht_core.proofs.Theory.Answering.{outs_of}
 use Rattle.rht_core.proofs.Theory.Reliance.{Rely}
 use Rattle.rht_core.proofs.Theory.KnowledgeKept.{Knowing-rely}
-use Rattle.rht_core.proofs.Theory.Steps.{mem, Step, ghost_after}
+use Rattle.rht_core.proofs.Theory.Steps.{mem, ghost_after}
 use Rattle.rht_core.proofs.Moves.Quiet.{aside}
 use Rattle.rht_core.proofs.Machines.FindSteps.{known_nothing}
-use Rattle.rht_core.proofs.Machines.JobSteps.{JobIn, JobKnows, JobKnows-rely, KnowsNothing, JobNext, holds_no, job_step}
+use Rattle.rht_core.proofs.Machines.JobSteps.{JobIn, JobKnows, JobKnows-rely, JobStepOf, KnowsNothing, JobNext, holds_no, job_step}
 
 module _ (env : Env) (mix : ℕ → ℕ → ℕ → ℕ) where
   -- a caller knows what its job says, and one in no call has nothing
@@ -133,7 +133,7 @@ module _ (env : Env) (mix : ℕ → ℕ → ℕ → ℕ) where
       pub all : length core.words ≡ words_in env.geometry
       pub step :
           let r = job_after mix env job (old_of core.words op) in
-          Step env mix c (call_of job) core.words G op (held_of job) (held_next r) (JobNext env mix c r)
+          JobStepOf env mix c core.words G op job r
 
     pub step_of : (core : Core L) (G : Ghost) (c : ℕ) (op : Op) → AllIn L mix env core → Inv core G
         → planned_in core c ≡ Some op
@@ -156,8 +156,7 @@ module _ (env : Env) (mix : ℕ → ℕ → ℕ → ℕ) where
           low = low;
           all = sound.stays.all_words;
           step = subst (λ o. let r = job_after mix env job (old_of core.words o) in
-              Step env mix c (call_of job) core.words G o (held_of job) (held_next r)
-              (JobNext env mix c r)) (sym plans.plan)
+              JobStepOf env mix c core.words G o job r) (sym plans.plan)
               (job_step env mix c low core.words G sound.stays.all_words inv.whole job within knows);
         }
 
@@ -286,16 +285,22 @@ module _ (env : Env) (mix : ℕ → ℕ → ℕ → ℕ) where
           };
         }
 
+    -- an enrolling leaves the whole, and all that anybody relies on
+    pub enrolled : (core : Core L) (G : Ghost) → AllIn L mix env core → Inv core G
+        → let M' = mem env mix (applied core.words (enrolling core.env)) in
+        Whole env mix M' G × ((k : ℕ) → Rely env mix k (mem env mix core.words) G M' G)
+    enrolled core G sound inv =
+        let op = enrolling core.env in
+        let write = is_write env.geometry core.words EnrolledCallers op sound.stays.all_words tt refl in
+        aside env mix EnrolledCallers (word_after (word_at env.geometry core.words EnrolledCallers) op)
+        (mem env mix core.words) (mem env mix (applied core.words op)) G inv.whole write
+        (record { current = λ e. cc; work = λ e. cc; slots = λ s w e. cc; pages = λ i e. cc }) (λ j e. cc) (λ n w e. cc) (λ i e. cc)
+        (λ e. cc)
+
     enroll_kept : (core : Core L) (G : Ghost) → AllIn L mix env core → Inv core G → Kept core G Enroll
     enroll_kept core G sound inv =
-        let op = enrolling core.env in
-        let M' = mem env mix (applied core.words op) in
-        let write = is_write env.geometry core.words EnrolledCallers op sound.stays.all_words tt refl in
-        let kept = aside env mix EnrolledCallers (word_after
-        (word_at env.geometry core.words EnrolledCallers) op) (mem env mix core.words) M' G inv.whole
-        write
-        (record { current = λ e. cc; work = λ e. cc; slots = λ s w e. cc; pages = λ i e. cc }) (λ j e. cc) (λ n w e. cc) (λ i e. cc)
-        (λ e. cc) in
+        let kept = enrolled core G sound inv in
+        let M' = mem env mix (applied core.words (enrolling core.env)) in
         record {
           ghost = G;
           inv = record {

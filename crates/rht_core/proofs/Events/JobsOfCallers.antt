@@ -5,11 +5,13 @@ use Rattle.std.proofs.Common.{◌≡◌, ℕ, Bool, true, false, [], refl, sym, 
 use Rattle.std.specs.Prelude.{Option, Some, None, option_map}
 use Rattle.rht_words.specs.declared.op.Op.{Op}
 use Rattle.rht_words.specs.declared.env.Env.{Env}
+use Rattle.rht_words.specs.Held as held
 use Rattle.rht_words.specs.declared.machine.Next.{Next}
 use Rattle.rht_words.specs.declared.machine.Next.TheVariants.{Go, Done}
 use Rattle.rht_model.specs.declared.history.Call.{Call}
-use Rattle.rht_model.specs.declared.history.Call.TheVariants.{Bind, Find, Release, Rebind, All, Work, Count}
+use Rattle.rht_model.specs.declared.history.Call.TheVariants.{Bind, Find, Release, Rebind, All, Walk, Work, Tidy, Count}
 use Rattle.rht_model.specs.declared.history.Reply.{Reply}
+use Rattle.rht_model.specs.Answers.{Answer}
 use Rattle.rht_model.specs.Endings.{Ending, plain_ending}
 use Rattle.rht_find.specs.Find as find
 use Rattle.rht_find.specs.Find.{FindModel}
@@ -95,49 +97,38 @@ pub left-told : (next : Job × Next Ending) → is_no_job (told next).0 ≡ has_
 left-told (job, Go) = refl
 left-told (job, Done ending) = refl
 
--- nothing is known of the answer of a first job
-first_rebind-unknown : (env : Env) (port owner new : ℕ) (kind : Kind) (job : Job)
-    → first_rebind env port owner new kind ≡ Some job → (held_of job).answer ≡ None
-first_rebind-unknown env port owner new Single job is =
-    let here : rebinds port owner new (rebind.first_state env port new) ≡ job = cc in ap (λ j. (held_of j).answer) (sym here)
-first_rebind-unknown env port owner new Listed job is = absurd (cc)
+-- a call holds nothing at its beginning
+first_rebind-holds : (env : Env) (port owner new : ℕ) (kind : Kind) (job : Job)
+    → first_rebind env port owner new kind ≡ Some job → held_of job ≡ held.holds_nothing
+first_rebind-holds env port owner new Single job is =
+    let here : rebinds port owner new (rebind.first_state env port new) ≡ job = cc in ap held_of (sym here)
+first_rebind-holds env port owner new Listed job is = absurd (cc)
 
-pub first_unknown : (env : Env) (call : Call) (job : Job) → first_job env call ≡ Some job → (held_of job).answer ≡ None
-first_unknown env (Find port) job is = let here : finds port CurrentTable ≡ job = cc in ap (λ j. (held_of j).answer) (sym here)
-first_unknown env (Bind port owner once) job is =
-    let here : binds port owner once (bind.first_state env port owner) ≡ job = cc in ap (λ j. (held_of j).answer) (sym here)
-first_unknown env (All port) job is =
+pub first_holds : (env : Env) (call : Call) (job : Job) → first_job env call ≡ Some job
+    → held_of job ≡ held.holds_nothing
+first_holds env (Find port) job is = let here : finds port CurrentTable ≡ job = cc in ap held_of (sym here)
+first_holds env (Bind port owner once) job is =
+    let here : binds port owner once (bind.first_state env port owner) ≡ job = cc in ap held_of (sym here)
+first_holds env (All port) job is =
     let here : lists port (room_for_nodes env) (alls.Seeking (seek_new env.geometry)) ≡ job = cc in
-    ap (λ j. (held_of j).answer) (sym here)
-first_unknown env (Release port owner) job is =
-    let here : releases port owner (Seeking (seek_new env.geometry)) ≡ job = cc in ap (λ j. (held_of j).answer) (sym here)
-first_unknown env (Rebind port owner new) job is = first_rebind-unknown env port owner new env.config.kind job is
-first_unknown env Work job is =
-    let here : works works_at.WorkLock ≡ job = cc in ap (λ j. (held_of j).answer) (sym here)
-first_unknown env Count job is = let here : counts ≡ job = cc in ap (λ j. (held_of j).answer) (sym here)
-first_unknown env _ job is = absurd (cc)
+    ap held_of (sym here)
+first_holds env (Release port owner) job is =
+    let here : releases port owner (Seeking (seek_new env.geometry)) ≡ job = cc in ap held_of (sym here)
+first_holds env (Rebind port owner new) job is = first_rebind-holds env port owner new env.config.kind job is
+first_holds env Work job is = let here : works works_at.WorkLock ≡ job = cc in ap held_of (sym here)
+first_holds env Count job is = let here : counts ≡ job = cc in ap held_of (sym here)
+first_holds env (Walk from limit) job is = absurd (cc)
+first_holds env Tidy job is = absurd (cc)
 
--- and it has no node
-first_rebind-without : (env : Env) (port owner new : ℕ) (kind : Kind) (job : Job)
-    → first_rebind env port owner new kind ≡ Some job → (held_of job).node ≡ None
-first_rebind-without env port owner new Single job is =
-    let here : rebinds port owner new (rebind.first_state env port new) ≡ job = cc in ap (λ j. (held_of j).node) (sym here)
-first_rebind-without env port owner new Listed job is = absurd (cc)
+-- so nothing is known of its answer, now or early, and it has no node
+pub first_unknown : (env : Env) (call : Call) (job : Job) → first_job env call ≡ Some job → (held_of job).answer ≡ None
+first_unknown env call job is = ap (λ (h : held.Held Answer). h.answer) (first_holds env call job is)
+
+pub first_not_early : (env : Env) (call : Call) (job : Job) → first_job env call ≡ Some job → (held_of job).early ≡ None
+first_not_early env call job is = ap (λ (h : held.Held Answer). h.early) (first_holds env call job is)
 
 pub first_without : (env : Env) (call : Call) (job : Job) → first_job env call ≡ Some job → (held_of job).node ≡ None
-first_without env (Find port) job is = let here : finds port CurrentTable ≡ job = cc in ap (λ j. (held_of j).node) (sym here)
-first_without env (Bind port owner once) job is =
-    let here : binds port owner once (bind.first_state env port owner) ≡ job = cc in ap (λ j. (held_of j).node) (sym here)
-first_without env (All port) job is =
-    let here : lists port (room_for_nodes env) (alls.Seeking (seek_new env.geometry)) ≡ job = cc in
-    ap (λ j. (held_of j).node) (sym here)
-first_without env (Release port owner) job is =
-    let here : releases port owner (Seeking (seek_new env.geometry)) ≡ job = cc in ap (λ j. (held_of j).node) (sym here)
-first_without env (Rebind port owner new) job is = first_rebind-without env port owner new env.config.kind job is
-first_without env Work job is =
-    let here : works works_at.WorkLock ≡ job = cc in ap (λ j. (held_of j).node) (sym here)
-first_without env Count job is = let here : counts ≡ job = cc in ap (λ j. (held_of j).node) (sym here)
-first_without env _ job is = absurd (cc)
+first_without env call job is = ap (λ (h : held.Held Answer). h.node) (first_holds env call job is)
 
 -- the job that is left of what a caller does is the one that is left of its job
 module _ (M : Type 0) where

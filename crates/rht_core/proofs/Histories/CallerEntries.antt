@@ -1,6 +1,7 @@
 -- The entries of one caller in a history beside a run. Those of its calls that have ended come first. A call in progress has one
 -- more exactly where it has changed the bindings, with its answer as far as that is known. Where it has changed none and its answer
--- is known, there is an event of the call at which that answer was right and changed nothing.
+-- is known, there is an event of the call at which that answer was right and changed nothing; so there is of an answer that it knows
+-- early, unless the page that it knows it for is there.
 use Rattle.std.proofs.Common.{◌≡◌, ◌≢◌, ◌⊎◌, ℕ, ◌+◌, ◌<◌, ◌≤◌, List, [], ◌∷◌, ◌++◌, length, Option, Some, None, true, refl, sym, ap, ◌∙◌, subst, inl, inr, arith}
 use Rattle.std.specs.Prelude.{is_some}
 use Rattle.std.specs.List.{AllByRecursion}
@@ -19,7 +20,7 @@ use Rattle.rht_core.specs.Traces.{Did}
 use Rattle.rht_core.specs.Numbered.{Numbered, entries_of}
 use Rattle.rht_core.specs.Alone.{bindings_at}
 use Rattle.rht_core.specs.RunHistories.{bindings_behind, ChangesBindings}
-use Rattle.rht_core.proofs.Theory.Answering.{entry_of, IsSameAnswer, IsLegalOn, IsSaidOn, SaysStill, Says}
+use Rattle.rht_core.proofs.Theory.Answering.{entry_of, IsSameAnswer, IsLegalOn, IsSaidOn, RecallsAnswer, SaysStill, KnowsEarly, Says}
 use Rattle.rht_core.proofs.Histories.NumberedEntries.{IsAlike, alike-legal_at, alike-left_by, push-other, push-own}
 use Rattle.rht_core.proofs.Histories.Behind.{Any-push_cases, behind-all, behind-more, behind-last, Changed, Changed-more, Changed-fewer}
 use Rattle.rht_core.proofs.Histories.GoodHistories.{IsGood, good-quiet, good-push}
@@ -55,6 +56,10 @@ module _ (M : Type 0) (mix : ℕ → ℕ → ℕ → ℕ) (env : Env) where
     abbrev pub Still : Call → ℕ → Option Answer → Type 0
     Still call begin None = Unit {0}
     Still call begin (Some answer) = IsSaid call begin answer
+
+    -- of an answer that is known early the same, or the page that it is known for is there
+    abbrev pub IsEarly : Call → ℕ → Type 0 → Option Answer → Type 0
+    IsEarly call begin There early = (answer : Answer) → early ≡ Some answer → There ⊎ IsSaid call begin answer
 
     -- the entry of a call in progress that has changed the bindings
     pub record IsPending (call : Call) (begin : ℕ) (answer : Option Answer) (x : Numbered) : Type 0 where
@@ -109,6 +114,14 @@ module _ (M : Type 0) (mix : ℕ → ℕ → ℕ → ℕ) (env : Env) where
         → Still events c call begin answer → Still more c call begin answer
     still-more c call begin None still = still
     still-more c call begin (Some answer) still = said-more c call begin answer still
+
+    -- where the page stays once it is there
+    pub early-more : (c : ℕ) (call : Call) (begin : ℕ) (There There' : Type 0) (early : Option Answer)
+        → (There → There') → IsEarly events c call begin There early → IsEarly more c call begin There' early
+    early-more c call begin There There' early stays is answer known = elim (is answer known) [
+      | inl there ↦ inl (stays there)
+      | inr said ↦ inr (said-more c call begin answer said)
+    ]
 
     pending-more : (c : ℕ) (call : Call) (begin : ℕ) (answer : Option Answer) (x : Numbered)
         → IsPending events c call begin answer x
@@ -219,26 +232,56 @@ module _ (M : Type 0) (mix : ℕ → ℕ → ℕ → ℕ) (env : Env) where
             leaves = λ p. ap (λ (m : Multimap). m p) (alike-left_by kind b x y alike) ∙ legal.leaves p;
           }
 
-      still-next : (was now : Option Answer) → SaysStill kind c call after was now
-          → Still events c call begin was → Still more c call begin now
-      still-next None now (inl keeps) still = subst (Still more c call begin) (sym keeps) tt
-      still-next (Some was) None (inl keeps) still = absurd keeps
-      still-next (Some was) (Some now) (inl keeps) still = said-same was now keeps
-          (said-more c call begin was still)
-      still-next was now (inr learns) still = subst (Still more c call begin) (sym learns.known) (record {
+      -- what is said on the bindings now is so at the last event
+      said-now : (answer : Answer) → IsSaidOn kind c call after answer → IsSaid more c call begin answer
+      said-now answer said = record {
         at = length events;
         begun = begun;
         so_far = omega (arith, longer);
-        said = subst (λ (b : Multimap). IsSaidOn kind c call b learns.answer)
-            (sym (behind-last M mix env events event)) learns.said;
-      })
+        said = subst (λ (b : Multimap). IsSaidOn kind c call b answer) (sym (behind-last M mix env events event)) said;
+      }
 
-      pending-next : (was now : Option Answer) (x : Numbered) → SaysStill kind c call after was now
+      -- what is known early stays so, or is said now
+      pub early-next : (There There' : Type 0) (was now : Option Answer) → KnowsEarly kind c call There There' after was now
+          → IsEarly events c call begin There was → IsEarly more c call begin There' now
+      early-next There There' was now knows is answer known = elim (knows answer known) [
+        | inl stays ↦ elim (is answer stays.known_early) [
+          | inl there ↦ inl (stays.stays there)
+          | inr said ↦ inr (said-more c call begin answer said)
+        ]
+        | inr (inl said) ↦ inr (said-now answer said)
+        | inr (inr there) ↦ inl there
+      ]
+
+      -- an answer that is recalled, the page not being there, was right at the event at which it was known early
+      said-recalled : (early : Option Answer) (There : Type 0) (was now : Option Answer)
+          → (recalls : RecallsAnswer kind c call early There was now) → IsEarly events c call begin There early
+          → IsSaid more c call begin recalls.answer
+      said-recalled early There was now recalls is = elim (is recalls.foreseen recalls.known_early) [
+        | inl there ↦ absurd (recalls.missing there)
+        | inr said ↦ said-same recalls.foreseen recalls.answer recalls.same
+            (said-more c call begin recalls.foreseen said)
+      ]
+
+      still-next : (early : Option Answer) (There : Type 0) (was now : Option Answer)
+          → SaysStill kind c call early There after was now → IsEarly events c call begin There early
+          → Still events c call begin was → Still more c call begin now
+      still-next early There None now (inl keeps) is still = subst (Still more c call begin) (sym keeps) tt
+      still-next early There (Some was) None (inl keeps) is still = absurd keeps
+      still-next early There (Some was) (Some now) (inl keeps) is still = said-same was now keeps
+          (said-more c call begin was still)
+      still-next early There was now (inr (inl learns)) is still =
+          subst (Still more c call begin) (sym learns.known) (said-now learns.answer learns.said)
+      still-next early There was now (inr (inr recalls)) is still =
+          subst (Still more c call begin) (sym recalls.known) (said-recalled early There was now recalls is)
+
+      pending-next : (early : Option Answer) (There : Type 0) (was now : Option Answer) (x : Numbered)
+          → SaysStill kind c call early There after was now
           → IsPending events c call begin was x
           → IsPending more c call begin now x
-      pending-next None now x said is = absurd (let known = is.known in cc)
-      pending-next (Some was) None x (inl keeps) is = absurd keeps
-      pending-next (Some was) (Some now) x (inl keeps) is =
+      pending-next early There None now x said is = absurd (let known = is.known in cc)
+      pending-next early There (Some was) None x (inl keeps) is = absurd keeps
+      pending-next early There (Some was) (Some now) x (inl keeps) is =
           let same : was ≡ is.told = (let known = is.known in cc) in
           let same_told = subst (λ (a : Answer). IsSameAnswer a now) same keeps in
           record {
@@ -251,7 +294,8 @@ module _ (M : Type 0) (mix : ℕ → ℕ → ℕ → ℕ) (env : Env) where
             begun = is.begun;
             so_far = (let l = is.so_far in omega (arith, longer, l));
           }
-      pending-next (Some was) now x (inr learns) is = absurd (let unknown = learns.unknown in cc)
+      pending-next early There (Some was) now x (inr (inl learns)) is = absurd (let unknown = learns.unknown in cc)
+      pending-next early There (Some was) now x (inr (inr recalls)) is = absurd (let unknown = recalls.unknown in cc)
 
       -- the history after the operation: the others' entries are the same
       pub record IsNext (history : List Numbered) (now : Option Answer) (es : List Numbered) : Type 0 where
@@ -260,22 +304,21 @@ module _ (M : Type 0) (mix : ℕ → ℕ → ℕ → ℕ) (env : Env) where
         pub others : (d : ℕ) → d ≢ c → entries_of d next ≡ entries_of d history
         pub tail : IsTail more c call begin (steps ++ did ∷ []) now es (entries_of c next)
 
-      pub next_history : (history : List Numbered) (was now : Option Answer) (es : List Numbered)
-          → IsGood M mix env events history
-          → Says kind c call before after was now → IsTail events c call begin steps was es
-          (entries_of c history) → IsNext history now es
-      next_history history was now es good (inl stills) (inl is) = record {
+      pub next_history : (early : Option Answer) (There : Type 0) (history : List Numbered) (was now : Option Answer)
+          (es : List Numbered) → IsGood M mix env events history → Says kind c call early There before after was now
+          → IsEarly events c call begin There early → IsTail events c call begin steps was es (entries_of c history)
+          → IsNext history now es
+      next_history early There history was now es good (inl stills) knows (inl is) = record {
         next = history;
         good = good-quiet M mix env events event history good stills.agree;
         others = λ d ne. refl;
         tail = inl (record {
           none = is.none;
           same = unchanged stills.agree is.same;
-          still = still-next
-              was now stills.said is.still;
+          still = still-next early There was now stills.said knows is.still;
         });
       }
-      next_history history was now es good (inl stills) (inr is) = record {
+      next_history early There history was now es good (inl stills) knows (inr is) = record {
         next = history;
         good = good-quiet M mix env events event history good stills.agree;
         others = λ d ne. refl;
@@ -283,10 +326,10 @@ module _ (M : Type 0) (mix : ℕ → ℕ → ℕ → ℕ) (env : Env) where
           entry = is.entry;
           one = is.one;
           changed = still_changed is.changed;
-          pending = pending-next was now is.entry stills.said is.pending;
+          pending = pending-next early There was now is.entry stills.said is.pending;
         });
       }
-      next_history history was now es good (inr changes) (inl is) =
+      next_history early There history was now es good (inr changes) knows (inl is) =
           let entry = entry_of c call changes.answer in
           let x : Numbered = record { number = length events; entry = entry } in
           record {
@@ -310,5 +353,5 @@ module _ (M : Type 0) (mix : ℕ → ℕ → ℕ → ℕ) (env : Env) where
               };
             });
           }
-      next_history history was now es good (inr changes) (inr is) =
+      next_history early There history was now es good (inr changes) knows (inr is) =
           absurd (let unknown = changes.unknown in let known = is.pending.known in cc)

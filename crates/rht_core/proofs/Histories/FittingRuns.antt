@@ -1,6 +1,6 @@
 -- In every run there is a history that fits it, by induction over the events. What an operation of a caller says of bindings and of
 -- its call's answer is what the history needs: an operation that changes bindings has its entry put behind all others.
-use Rattle.std.proofs.Common.{◌≡◌, ◌≢◌, ℕ, ◌+◌, ◌<◌, ◌≤◌, List, [], ◌∷◌, ◌++◌, length, Option, Some, None, Bool, true, false, cond, refl, sym, ap, ◌∙◌, subst, inl, inr, arith}
+use Rattle.std.proofs.Common.{◌≡◌, ◌≢◌, ℕ, ◌+◌, ◌<◌, List, [], ◌∷◌, ◌++◌, length, Option, Some, None, Bool, true, false, cond, refl, sym, ap, ◌∙◌, subst, inl, inr, arith}
 use Rattle.std.specs.List.{AllByRecursion, Any}
 use Rattle.std.proofs.lemmas.Bool.{cases_eq}
 use Rattle.std.proofs.lemmas.List.{length_push, append-nil}
@@ -9,10 +9,8 @@ use Rattle.rht_words.specs.declared.env.Env.{Env}
 use Rattle.rht_words.specs.declared.config.Kind.{Kind}
 use Rattle.rht_words.specs.declared.machine.Next.{Next}
 use Rattle.rht_words.specs.declared.machine.Next.TheVariants.{Go, Done}
-use Rattle.rht_words.specs.Operations.{old_of, applied, word_after}
+use Rattle.rht_words.specs.Operations.{old_of, applied}
 use Rattle.rht_words.specs.Opening.{opening_words}
-use Rattle.rht_words.specs.Places.{EnrolledCallers, word_at}
-use Rattle.rht_words.proofs.Memory.{is_write}
 use Rattle.rht_words.proofs.EachElement.{AllByRecursion-cut, AllByRecursion-push, AllByRecursion-weaker, each_replicate}
 use Rattle.rht_model.specs.declared.history.Call.{Call}
 use Rattle.rht_model.specs.Endings.{Ending}
@@ -24,31 +22,32 @@ use Rattle.rht_core.specs.declared.local.Local.{Local}
 use Rattle.rht_core.specs.declared.local.Doing.{Doing}
 use Rattle.rht_core.specs.Locals.{fresh, local_after, ending_of}
 use Rattle.rht_core.specs.Jobs.{Job, call_of, job_of, job_after, told, held_of, held_next}
-use Rattle.rht_core.specs.Runs.{World, View, IsAdmitted, IsAdmittedEvent, local_of, planned_in, beginning_in, enrolling, world_step}
+use Rattle.rht_core.specs.Runs.{World, View, IsAdmitted, IsAdmittedEvent, local_of, planned_in, beginning_in}
 use Rattle.rht_core.specs.Traces.{Did, Past, Trace, Traced, trace_begun, trace_did, traces_after, traced_step, traced_of}
 use Rattle.rht_core.specs.StandsFor.{stands_for}
 use Rattle.rht_core.specs.Numbered.{Numbered, entries_of}
 use Rattle.rht_core.specs.Alone.{bindings_at}
 use Rattle.rht_core.specs.RunHistories.{ChangesBindings, AreInProgress, AreOfCalls, about_bindings, HasFittingHistory}
-use Rattle.rht_core.proofs.Events.Worlds.{induct_by_last, run_of-push, beginning-some, planned-some, begin_none, begin_self, begin_other, step_none, step_self, step_other, step_words}
-use Rattle.rht_core.proofs.Events.JobsOfCallers.{is_no_job, same_call, nothing-job, first_unknown, first_job-machine, local_after-job}
+use Rattle.rht_core.proofs.Events.Worlds.{induct_by_last, beginning-some, planned-some, begin_none, begin_self, begin_other, step_none, step_self, step_other, step_words}
+use Rattle.rht_core.proofs.Events.JobsOfCallers.{is_no_job, same_call, nothing-job, first_unknown, first_not_early, first_job-machine, local_after-job}
 use Rattle.rht_core.proofs.Events.SoundRuns.{has_place, made_in}
-use Rattle.rht_core.proofs.Tracing.TracedRuns.{world-traced_of, count-traced_of, traced_of-push, trace_begin_none, trace_begin_self, trace_begin_other, trace_step_none, trace_step_self, trace_step_other}
+use Rattle.rht_core.proofs.Tracing.TracedRuns.{count-traced_of, traced_of-push, trace_begin_none, trace_begin_self, trace_begin_other, trace_step_none, trace_step_self, trace_step_other}
 use Rattle.rht_core.proofs.Tracing.TracedCallers.{inv_now, stays_in}
 use Rattle.rht_core.proofs.Tracing.TracedJobs.{busy-none, IsAtJob}
 use Rattle.rht_core.proofs.Tracing.RepliesInRuns.{Holds, Answered, runs-right}
-use Rattle.rht_core.proofs.Theory.Answering.{Says}
-use Rattle.rht_core.proofs.Theory.Frames.{Made}
-use Rattle.rht_core.proofs.Theory.Steps.{mem, owners, owners-stay, ghost_after}
-use Rattle.rht_core.proofs.Moves.Quiet.{aside}
-use Rattle.rht_core.proofs.Events.Invariants.{StepOf, step_of}
+use Rattle.rht_core.proofs.Theory.Answering.{KnowsEarly, Says}
+use Rattle.rht_core.proofs.Theory.Steps.{mem, owners, ghost_after}
+use Rattle.rht_core.proofs.Machines.EarlyPages.{IsThereNext}
+use Rattle.rht_core.proofs.Events.Invariants.{StepOf, step_of, enrolled}
+use Rattle.rht_core.proofs.Events.PagesThere.{stepped-there}
 use Rattle.rht_core.proofs.Events.InvariantRuns.{HasInv, opening_ghost, opening_whole}
 use Rattle.rht_core.proofs.Meaning.BoundPorts.{stands_for_bound}
 use Rattle.rht_core.proofs.Histories.NumberedEntries.{AllBelow}
 use Rattle.rht_core.proofs.Histories.Behind.{Any-none}
-use Rattle.rht_core.proofs.Histories.GoodHistories.{IsGood, good-quiet}
-use Rattle.rht_core.proofs.Histories.CallerEntries.{IsTail, tail-more, IsNext, next_history}
+use Rattle.rht_core.proofs.Histories.GoodHistories.{good-quiet}
+use Rattle.rht_core.proofs.Histories.CallerEntries.{IsSaid, IsEarly, IsTail, early-next, IsNext, next_history}
 use Rattle.rht_core.proofs.Histories.CallEnds.{AreEnded, end_history}
+use Rattle.rht_core.proofs.Histories.FittingCallers.{IsThereAt, IsWorking, IsAt, IsOfCaller, AreOfCallers, IsFitting, there-next, there-same, of-more, quiet-fits, end-is, end-next, enroll-agree, enroll-stays, same-agree}
 
 -- all entries of a caller are below what all entries are below
 below-own : (bound c : ℕ) (history : List Numbered) → AllBelow bound history
@@ -81,141 +80,19 @@ module _ (M : Type 0) (mix : ℕ → ℕ → ℕ → ℕ) (env : Env) where
   abbrev at_end : List Event → Multimap
   at_end events = bindings_at M mix env events
 
-  -- ---- what is kept
-
-  pub record IsWorking (events : List Event) (c : ℕ) (job : Job) (trace : Trace)
-      (es own : List Numbered) : Type 0 where
-    begun : trace.begin ≤ length events
-    made : AllByRecursion (λ did. did.index < length events) trace.steps
-    below : AllBelow trace.begin es
-    tail : IsTail M mix env events c (call_of job) trace.begin trace.steps (held_of job).answer es own
-
-  abbrev IsAt : List Event → ℕ → Option Job → Trace → List Numbered → List Numbered → Type 0
-  IsAt events c None trace es own = own ≡ es
-  IsAt events c (Some job) trace es own = IsWorking events c job trace es own
-
-  -- the entries of a caller in a history beside these events
-  record IsOfCaller (events : List Event) (c : ℕ) (job : Option Job) (trace : Trace)
-      (own : List Numbered) : Type 0 where
-    es : List Numbered
-    ended : AreEnded (about_bindings trace.past) es
-    now : IsAt events c job trace es own
-
-  abbrev AreOfCallers : List Event → Traced M → List Numbered → Type 0
-  AreOfCallers events r history =
-      (c : ℕ) → IsOfCaller events c (job_of (local_of r.world.core c).doing) (r.traces c)
-      (entries_of c history)
-
-  record IsFitting (events : List Event) (r : Traced M) : Type 0 where
-    history : List Numbered
-    good : IsGood M mix env events history
-    callers : AreOfCallers events r history
-
-  -- ---- one event more
-
-  module _ (events : List Event) (event : Event) where
-    abbrev more : List Event
-    more = events ++ event ∷ []
-
-    at-more : (c : ℕ) (job : Option Job) (trace : Trace) (es own : List Numbered)
-        → IsAt events c job trace es own
-        → IsAt more c job trace es own
-    at-more c None trace es own at = at
-    at-more c (Some job) trace es own at =
-        let longer = length_push events event in
-        record {
-          begun = (let b = at.begun in omega (arith, longer, b));
-          made = AllByRecursion-weaker (λ (d : Did). d.index < length events)
-              (λ (d : Did). d.index < length more)
-              (λ d l. omega (arith, longer, l)) trace.steps at.made;
-          below = at.below;
-          tail = tail-more M mix env events event c (call_of job) trace.begin trace.steps
-              (held_of job).answer es own at.made at.tail;
-        }
-
-    -- a caller of which the event says nothing
-    of-more : (c : ℕ) (job job' : Option Job) (trace trace' : Trace) (own own' : List Numbered)
-        → job' ≡ job → trace' ≡ trace → own' ≡ own
-        → IsOfCaller events c job trace own → IsOfCaller more c job' trace' own'
-    of-more c job job' trace trace' own own' same_job same_trace same_own is =
-        subst (λ o. IsOfCaller more c job' trace' o) (sym same_own)
-        (subst (λ (t : Trace). IsOfCaller more c job' t own) (sym same_trace)
-        (subst (λ (j : Option Job). IsOfCaller more c j trace own) (sym same_job)
-        (record { es = is.es; ended = is.ended; now = at-more c job trace is.es own is.now })))
-
-  -- an event that leaves all callers and the bindings
-  quiet-fits : (events : List Event) (event : Event) → Agree (at_end (events ++ event ∷ [])) (at_end events)
-      → ((c : ℕ) → job_of (local_of (traced_step mix (R events) event).world.core c).doing ≡ job_of
-      (local_of (R events).world.core c).doing)
-      → ((c : ℕ) → traces_after mix (R events) event c ≡ (R events).traces c)
-      → IsFitting events (R events) → IsFitting (events ++ event ∷ []) (traced_step mix (R events) event)
-  quiet-fits events event agree jobs traces fitting = record {
-    history = fitting.history;
-    good = good-quiet M mix env events event fitting.history fitting.good agree;
-    callers = λ c. of-more events event c _ _ _ _ _ _ (jobs c) (traces c) refl (fitting.callers c);
-  }
-
-  -- ---- the words
-
-  -- the run's words are those of the run with its traces
-  end-is : (events : List Event) → at_end events ≡ stands_for env.geometry (R events).world.core.words
-  end-is events = ap (λ (w : World M). stands_for env.geometry w.core.words)
-      (sym (world-traced_of M mix env events))
-
-  end-next : (events : List Event) (event : Event)
-      → at_end (events ++ event ∷ []) ≡ stands_for env.geometry
-      (world_step mix (R events).world event).core.words
-  end-next events event =
-      ap (λ (w : World M). stands_for env.geometry w.core.words) (run_of-push M mix env events event)
-      ∙ ap (λ (w : World M). stands_for env.geometry (world_step mix w event).core.words)
-      (sym (world-traced_of M mix env events))
-
-  -- an enrolling leaves the bindings
-  enroll-agree : (events : List Event) → IsAdmitted kind events
-      → Agree (at_end (events ++ Enroll ∷ [])) (at_end events)
-  enroll-agree events admitted p =
-      let core = (R events).world.core in
-      let has = inv_now M mix env events admitted in
-      let G = has.ghost in
-      let op = enrolling core.env in
-      let words' = applied core.words op in
-      let here : op ≡ enrolling env = ap enrolling has.inv.same_env in
-      let write = is_write env.geometry core.words EnrolledCallers (enrolling env)
-      has.all.stays.all_words tt refl in
-      let kept = aside env mix EnrolledCallers (word_after
-      (word_at env.geometry core.words EnrolledCallers) (enrolling env)) (mem env mix core.words)
-      (mem env mix (applied core.words (enrolling env))) G has.inv.whole write
-      (record { current = λ e. cc; work = λ e. cc; slots = λ s w e. cc; pages = λ i e. cc }) (λ j e. cc) (λ n w e. cc) (λ i e. cc) (λ e. cc) in
-      let made : Made env mix 0 (mem env mix core.words) G (mem env mix (applied core.words (enrolling env))) G =
-      record { whole = kept.0; others = λ k ne. kept.1 k } in
-      ap (λ (b : Multimap). b p) (end-next events Enroll)
-      ∙ ap (λ o. stands_for env.geometry (applied core.words o) p) here
-      ∙ stands_for_bound env mix (applied core.words (enrolling env)) G kept.0 p
-      ∙ owners-stay env mix 0 (mem env mix core.words) (mem env mix (applied core.words (enrolling env)))
-      G G has.inv.whole made p refl
-      ∙ sym (stands_for_bound env mix core.words G has.inv.whole p)
-      ∙ sym (ap (λ (b : Multimap). b p) (end-is events))
-
-  -- and so does the beginning of a call, and an event that does nothing
-  same-agree : (events : List Event) (event : Event)
-      → (world_step mix (R events).world event).core.words ≡ (R events).world.core.words
-      → Agree (at_end (events ++ event ∷ [])) (at_end events)
-  same-agree events event same p =
-      ap (λ (b : Multimap). b p) (end-next events event ∙ ap (stands_for env.geometry) same
-      ∙ sym (end-is events))
-
   -- ---- a call begins
 
   begin-fits : (events : List Event) (c : ℕ) (call : Call) (machine : Option (Doing M))
       → IsAdmitted kind events
-      → beginning_in (R events).world.core c call ≡ machine → IsFitting events (R events)
-      → IsFitting (events ++ Begin c call ∷ []) (traced_step mix (R events) (Begin c call))
+      → beginning_in (R events).world.core c call ≡ machine → IsFitting M mix env events (R events)
+      → IsFitting M mix env (events ++ Begin c call ∷ []) (traced_step mix (R events) (Begin c call))
   begin-fits events c call None admitted is fitting =
       let r = R events in
       let same = begin_none M mix r.world c call is in
-      quiet-fits events (Begin c call) (same-agree events (Begin c call) refl)
+      quiet-fits M mix env events (Begin c call) (same-agree M mix env events (Begin c call) refl)
       (λ d. ap (λ (w : World M). job_of (local_of w.core d).doing) same)
-      (λ d. ap (λ (t : ℕ → Trace). t d) (trace_begin_none M mix r c call is)) fitting
+      (λ d. ap (λ (t : ℕ → Trace). t d) (trace_begin_none M mix r c call is))
+      (λ d. there-same M mix env events (Begin c call) refl _) fitting
   begin-fits events c call (Some machine) admitted is fitting =
       let r = R events in
       let more = events ++ Begin c call ∷ [] in
@@ -232,17 +109,17 @@ module _ (M : Type 0) (mix : ℕ → ℕ → ℕ → ℕ) (env : Env) where
       record {
         history = fitting.history;
         good = good-quiet M mix env events (Begin c call) fitting.history fitting.good
-            (same-agree events (Begin c call) refl);
+            (same-agree M mix env events (Begin c call) refl);
         callers = λ d. elim (cases_eq d c) [
           | inl same ↦
-              subst (λ k. IsOfCaller more k (job_of (local_of
+              subst (λ k. IsOfCaller M mix env more k (job_of (local_of
               (traced_step mix r (Begin c call)).world.core k).doing)
               (traces_after mix r (Begin c call) k) (entries_of k fitting.history)) (sym same)
-              (subst (λ (s : View M). IsOfCaller more c (job_of s.local.doing)
+              (subst (λ (s : View M). IsOfCaller M mix env more c (job_of s.local.doing)
               (traces_after mix r (Begin c call) c) (entries_of c fitting.history)) (sym here)
-              (subst (λ (t : Trace). IsOfCaller more c (job_of machine) t (entries_of c fitting.history))
+              (subst (λ (t : Trace). IsOfCaller M mix env more c (job_of machine) t (entries_of c fitting.history))
               (sym (trace_begin_self M mix r c call machine is))
-              (subst (λ (j : Option Job). IsOfCaller more c j (trace_begun r.count (r.traces c))
+              (subst (λ (j : Option Job). IsOfCaller M mix env more c j (trace_begun r.count (r.traces c))
               (entries_of c fitting.history)) (sym first.does)
               (record {
                 es = was.es;
@@ -258,25 +135,28 @@ module _ (M : Type 0) (mix : ℕ → ℕ → ℕ → ℕ) (env : Env) where
                     same = Any-none (ChangesBindings M mix env more);
                     still = rw (first_unknown env call first.job first.first) tt;
                   });
+                  early = λ answer known. absurd
+                      (let none = sym (first_not_early env call first.job first.first) ∙ known in cc);
                 };
               }))))
           | inr other ↦
-              of-more events (Begin c call) d _ _ _ _ _ _
+              of-more M mix env events (Begin c call) d _ _ _ _ _ _
               (ap (λ (s : View M). job_of s.local.doing) (begin_other M mix r.world c call d other))
-              (trace_begin_other M mix r c call d other) refl (fitting.callers d)
+              (trace_begin_other M mix r c call d other) refl (there-same M mix env events (Begin c call) refl _)
+              (fitting.callers d)
         ];
       }
     where
       idle_at : (past : List Event) (k : ℕ) (job : Option Job) (trace : Trace) (es own : List Numbered)
           → is_no_job job ≡ true
-          → IsAt past k job trace es own → own ≡ es
+          → IsAt M mix env past k job trace es own → own ≡ es
       idle_at past k None trace es own none at = at
       idle_at past k (Some job) trace es own none at = absurd (cc)
 
   -- ---- an operation
 
   module _ (events : List Event) (c : ℕ) (op : Op) (admitted : IsAdmitted kind events)
-      (is : planned_in (R events).world.core c ≡ Some op) (fitting : IsFitting events (R events)) where
+      (is : planned_in (R events).world.core c ≡ Some op) (fitting : IsFitting M mix env events (R events)) where
     abbrev r : Traced M
     r = R events
 
@@ -321,29 +201,40 @@ module _ (M : Type 0) (mix : ℕ → ℕ → ℕ → ℕ) (env : Env) where
         (planned-some r.world.core.env r.world.core.enrolled r.world.core.locals c op is).below
 
     -- what its caller was in the middle of
-    working : (own : IsOfCaller events c (job_of (local_of r.world.core c).doing) trace
+    working : (own : IsOfCaller M mix env events c (job_of (local_of r.world.core c).doing) trace
         (entries_of c history))
-        → IsAt events c (Some job) trace own.es (entries_of c history)
-    working own = subst (λ (j : Option Job). IsAt events c j trace own.es (entries_of c history)) of.is
+        → IsAt M mix env events c (Some job) trace own.es (entries_of c history)
+    working own = subst (λ (j : Option Job). IsAt M mix env events c j trace own.es (entries_of c history)) of.is
         own.now
 
-    -- what it says of the bindings and of the answer
-    says : Says kind c (call_of job) (at_end events) (at_end after_it) (held_of job).answer
-        (held_next next_job).answer
-    says =
-        let M' = mem env mix (applied words op) in
+    -- the bindings before it, and those after it, as the ghost has them
+    before-is : owners env mix (mem env mix words) has.ghost ≡ at_end events
+    before-is = (λ i p. sym (stands_for_bound env mix words has.ghost has.inv.whole p) i) ∙ sym (end-is M mix env events)
+
+    after-is : owners env mix (mem env mix (applied words op)) (ghost_after env mix c of.step.move has.ghost)
+        ≡ at_end after_it
+    after-is =
         let G' = ghost_after env mix c of.step.move has.ghost in
-        let before : owners env mix (mem env mix words) has.ghost ≡ at_end events =
-        (λ i p. sym (stands_for_bound env mix words has.ghost has.inv.whole p) i) ∙ sym (end-is events) in
-        let after : owners env mix M' G' ≡ at_end after_it =
         (λ i p. sym (stands_for_bound env mix (applied words op) G' of.step.made.whole p) i)
         ∙ ap (stands_for env.geometry) (sym (step_words M mix r.world c op is))
-        ∙ sym (end-next events event) in
-        subst (λ (b : Multimap). Says kind c (call_of job) b (at_end after_it) (held_of job).answer
-        (held_next next_job).answer) before
-        (subst (λ (b : Multimap). Says kind c (call_of job)
+        ∙ sym (end-next M mix env events event)
+
+    -- what it says of the bindings and of the answer
+    says : Says kind c (call_of job) (held_of job).early (IsThereAt M mix env events job) (at_end events) (at_end after_it)
+        (held_of job).answer (held_next next_job).answer
+    says =
+        subst (λ (b : Multimap). Says kind c (call_of job) (held_of job).early (IsThereAt M mix env events job) b
+        (at_end after_it) (held_of job).answer (held_next next_job).answer) before-is
+        (subst (λ (b : Multimap). Says kind c (call_of job) (held_of job).early (IsThereAt M mix env events job)
         (owners env mix (mem env mix words) has.ghost) b (held_of job).answer
-        (held_next next_job).answer) after of.step.says)
+        (held_next next_job).answer) after-is of.step.says)
+
+    -- what is known early after it
+    knows : KnowsEarly kind c (call_of job) (IsThereAt M mix env events job) (IsThereNext env mix next_job (mem env mix (applied words op)))
+        (at_end after_it) (held_of job).early (held_next next_job).early
+    knows = subst (λ (b : Multimap). KnowsEarly kind c (call_of job) (IsThereAt M mix env events job)
+        (IsThereNext env mix next_job (mem env mix (applied words op))) b (held_of job).early
+        (held_next next_job).early) after-is of.step.early
 
     -- the call of its book, and what is left of the job and of the call
     asked : (r.world.books c).call ≡ Some (call_of job)
@@ -384,36 +275,39 @@ module _ (M : Type 0) (mix : ℕ → ℕ → ℕ → ℕ) (env : Env) where
     -- the others are where they were
     others-now : (next : List Numbered) → ((d : ℕ) → d ≢ c → entries_of d next ≡ entries_of d history)
         → (d : ℕ) → d ≢ c
-        → IsOfCaller after_it d (job_of (local_of (traced_step mix r event).world.core d).doing)
+        → IsOfCaller M mix env after_it d (job_of (local_of (traced_step mix r event).world.core d).doing)
         (traces_after mix r event d) (entries_of d next)
     others-now next same d other =
-        of-more events event d _ _ _ _ _ _
+        of-more M mix env events event d _ _ _ _ _ _
         (ap (λ (s : View M). job_of s.local.doing) (step_other M mix r.world c d other))
-        (trace_step_other M mix r c d other) (same d other) (fitting.callers d)
+        (trace_step_other M mix r c d other) (same d other)
+        (λ job is_at there. there-next M mix env events event (applied words op) (step_words M mix r.world c op is) job
+        (stepped-there env mix M r.world.core has.ghost has.inv d job is_at c op of other there))
+        (fitting.callers d)
 
     -- all callers, where this one is so
     all-now : (next : List Numbered) → ((d : ℕ) → d ≢ c → entries_of d next ≡ entries_of d history)
-        → IsOfCaller after_it c (told next_job).0 (trace_did (Some (call_of job)) did (told next_job).1
+        → IsOfCaller M mix env after_it c (told next_job).0 (trace_did (Some (call_of job)) did (told next_job).1
         trace) (entries_of c next)
-        → AreOfCallers after_it (traced_step mix r event) next
+        → AreOfCallers M mix env after_it (traced_step mix r event) next
     all-now next same own d = elim (cases_eq d c) [
       | inl here ↦
-          subst (λ k. IsOfCaller after_it k (job_of (local_of (traced_step mix r event).world.core
+          subst (λ k. IsOfCaller M mix env after_it k (job_of (local_of (traced_step mix r event).world.core
           k).doing) (traces_after mix r event k) (entries_of k next)) (sym here)
-          (subst (λ (j : Option Job). IsOfCaller after_it c j (traces_after mix r event c)
+          (subst (λ (j : Option Job). IsOfCaller M mix env after_it c j (traces_after mix r event c)
           (entries_of c next)) (sym job-now)
-          (subst (λ (t : Trace). IsOfCaller after_it c (told next_job).0 t (entries_of c next))
+          (subst (λ (t : Trace). IsOfCaller M mix env after_it c (told next_job).0 t (entries_of c next))
           (sym trace-now) own))
       | inr other ↦ others-now next same d other
     ]
 
-    op-fits : IsFitting after_it (traced_step mix r event)
+    op-fits : IsFitting M mix env after_it (traced_step mix r event)
     op-fits = go next_job refl
       where
-        own : IsOfCaller events c (job_of (local_of r.world.core c).doing) trace (entries_of c history)
+        own : IsOfCaller M mix env events c (job_of (local_of r.world.core c).doing) trace (entries_of c history)
         own = fitting.callers c
 
-        at : IsWorking events c job trace own.es (entries_of c history)
+        at : IsWorking M mix env events c job trace own.es (entries_of c history)
         at = working own
 
         step : IsNext M mix env events event c (call_of job) trace.begin at.begun trace.steps at.made did
@@ -421,13 +315,33 @@ module _ (M : Type 0) (mix : ℕ → ℕ → ℕ → ℕ) (env : Env) where
         step =
             next_history M mix env events event c (call_of job) trace.begin at.begun trace.steps at.made
             did (count-traced_of M mix env events)
-            history (held_of job).answer (held_next next_job).answer own.es fitting.good says at.tail
+            (held_of job).early (IsThereAt M mix env events job) history (held_of job).answer (held_next next_job).answer
+            own.es fitting.good says at.early at.tail
 
-        go : (q : Job × Next Ending) → next_job ≡ q → IsFitting after_it (traced_step mix r event)
+        early : IsEarly M mix env after_it c (call_of job) trace.begin
+            (IsThereNext env mix next_job (mem env mix (applied words op))) (held_next next_job).early
+        early =
+            early-next M mix env events event c (call_of job) trace.begin at.begun trace.steps at.made did
+            (count-traced_of M mix env events) (IsThereAt M mix env events job)
+            (IsThereNext env mix next_job (mem env mix (applied words op)))
+            (held_of job).early (held_next next_job).early knows at.early
+
+        -- where the job goes on
+        early_now : (after : Job) → next_job ≡ (after, Go) → call_of after ≡ call_of job
+            → IsEarly M mix env after_it c (call_of after) trace.begin (IsThereAt M mix env after_it after) (held_of after).early
+        early_now after e same answer known =
+            let here = subst (λ (q : Job × Next Ending). IsEarly M mix env after_it c (call_of job) trace.begin
+            (IsThereNext env mix q (mem env mix (applied words op))) (held_next q).early) e early in
+            elim (here answer known) [
+              | inl there ↦ inl (there-next M mix env events event (applied words op) (step_words M mix r.world c op is) after there)
+              | inr said ↦ inr (subst (λ (a : Call). IsSaid M mix env after_it c a trace.begin answer) (sym same) said)
+            ]
+
+        go : (q : Job × Next Ending) → next_job ≡ q → IsFitting M mix env after_it (traced_step mix r event)
         go (after, Go) e =
             let same : call_of after ≡ call_of job = ap (λ q. call_of q.0) (sym e)
             ∙ same_call mix env job old in
-            let here : IsWorking after_it c after (trace_did (Some (call_of job)) did None trace) own.es (entries_of c step.next) = record {
+            let here : IsWorking M mix env after_it c after (trace_did (Some (call_of job)) did None trace) own.es (entries_of c step.next) = record {
               begun = (let b = at.begun in omega (arith, longer, b));
               made = made_now at.made;
               below = at.below;
@@ -438,12 +352,13 @@ module _ (M : Type 0) (mix : ℕ → ℕ → ℕ → ℕ) (env : Env) where
                   (subst (λ (q : Job × Next Ending). IsTail M mix env after_it c (call_of job)
                   trace.begin (trace.steps ++ did ∷ []) (held_next q).answer own.es
                   (entries_of c step.next)) e step.tail);
+              early = early_now after e same;
             } in
             record {
               history = step.next;
               good = step.good;
               callers = all-now step.next step.others
-                  (subst (λ (q : Job × Next Ending). IsOfCaller after_it c (told q).0
+                  (subst (λ (q : Job × Next Ending). IsOfCaller M mix env after_it c (told q).0
                   (trace_did (Some (call_of job)) did (told q).1 trace) (entries_of c step.next)) (sym e)
                   (record { es = own.es; ended = own.ended; now = here }));
             }
@@ -459,26 +374,27 @@ module _ (M : Type 0) (mix : ℕ → ℕ → ℕ → ℕ) (env : Env) where
               history = ends.next;
               good = ends.good;
               callers = all-now ends.next (λ d ne. ends.others d ne ∙ step.others d ne)
-                  (subst (λ (q : Job × Next Ending). IsOfCaller after_it c (told q).0
+                  (subst (λ (q : Job × Next Ending). IsOfCaller M mix env after_it c (told q).0
                   (trace_did (Some (call_of job)) did (told q).1 trace) (entries_of c ends.next)) (sym e)
                   (record { es = ends.es; ended = ends.ended; now = ends.own }));
             }
 
   step-fits : (events : List Event) (c : ℕ) (op : Option Op) → IsAdmitted kind events
       → planned_in (R events).world.core c ≡ op
-      → IsFitting events (R events) → IsFitting (events ++ Step c ∷ []) (traced_step mix (R events) (Step c))
+      → IsFitting M mix env events (R events) → IsFitting M mix env (events ++ Step c ∷ []) (traced_step mix (R events) (Step c))
   step-fits events c None admitted is fitting =
       let r = R events in
       let same = step_none M mix r.world c is in
-      quiet-fits events (Step c) (same-agree events (Step c) (ap (λ (w : World M). w.core.words) same))
+      quiet-fits M mix env events (Step c) (same-agree M mix env events (Step c) (ap (λ (w : World M). w.core.words) same))
       (λ d. ap (λ (w : World M). job_of (local_of w.core d).doing) same)
-      (λ d. ap (λ (t : ℕ → Trace). t d) (trace_step_none M mix r c is)) fitting
+      (λ d. ap (λ (t : ℕ → Trace). t d) (trace_step_none M mix r c is))
+      (λ d. there-same M mix env events (Step c) (ap (λ (w : World M). w.core.words) same) _) fitting
   step-fits events c (Some op) admitted is fitting = op-fits events c op admitted is fitting
 
-  event-fits : (events : List Event) (event : Event) → IsAdmitted kind events → IsFitting events (R events)
-      → IsFitting (events ++ event ∷ []) (traced_step mix (R events) event)
+  event-fits : (events : List Event) (event : Event) → IsAdmitted kind events → IsFitting M mix env events (R events)
+      → IsFitting M mix env (events ++ event ∷ []) (traced_step mix (R events) event)
   event-fits events Enroll admitted fitting =
-      quiet-fits events Enroll (enroll-agree events admitted) (λ d. refl) (λ d. refl) fitting
+      quiet-fits M mix env events Enroll (enroll-agree M mix env events admitted) (λ d. refl) (λ d. refl) (enroll-stays M mix env events admitted) fitting
   event-fits events (Begin c call) admitted fitting =
       begin-fits events c call (beginning_in (R events).world.core c call) admitted refl fitting
   event-fits events (Step c) admitted fitting = step-fits events c (planned_in (R events).world.core c)
@@ -491,7 +407,7 @@ module _ (M : Type 0) (mix : ℕ → ℕ → ℕ → ℕ) (env : Env) where
   opening-agree p = sym (stands_for_bound env mix (opening_words env) (opening_ghost env)
       (opening_whole env mix) p)
 
-  opening-fits : IsFitting [] (R [])
+  opening-fits : IsFitting M mix env [] (R [])
   opening-fits = record {
     history = [];
     good = record {
@@ -506,12 +422,12 @@ module _ (M : Type 0) (mix : ℕ → ℕ → ℕ → ℕ) (env : Env) where
         (fresh env) refl) (record { es = []; ended = tt; now = refl });
   }
 
-  runs-fit : (events : List Event) → IsAdmitted kind events → IsFitting events (R events)
+  runs-fit : (events : List Event) → IsAdmitted kind events → IsFitting M mix env events (R events)
   runs-fit =
-      induct_by_last (λ events. IsAdmitted kind events → IsFitting events (R events)) (λ none. opening-fits)
+      induct_by_last (λ events. IsAdmitted kind events → IsFitting M mix env events (R events)) (λ none. opening-fits)
       (λ events event each all.
       let admitted = (AllByRecursion-cut (IsAdmittedEvent kind) events (event ∷ []) all).0 in
-      subst (IsFitting (events ++ event ∷ [])) (sym (traced_of-push M mix env events event))
+      subst (IsFitting M mix env (events ++ event ∷ [])) (sym (traced_of-push M mix env events event))
       (event-fits events event admitted (each admitted)))
 
   -- ---- the history fits
@@ -522,7 +438,7 @@ module _ (M : Type 0) (mix : ℕ → ℕ → ℕ → ℕ) (env : Env) where
 
     fits-calls : (job : Option Job) (trace : Trace) (book : Book)
         → IsAtJob M mix env (Holds M mix env) (Answered M mix env) job book trace.steps
-        → IsOfCaller events c job trace own
+        → IsOfCaller M mix env events c job trace own
         → AreOfCalls (Any (ChangesBindings M mix env events) trace.steps) book.call trace.begin
         (length events) (about_bindings trace.past) own
     fits-calls None trace book at is =

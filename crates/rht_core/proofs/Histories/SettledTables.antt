@@ -18,7 +18,8 @@ use Rattle.rht_words.proofs.PlacesApart.{place_of-apart}
 use Rattle.rht_policy.specs.Sizes.{shrunk_size}
 use Rattle.rht_policy.specs.Thresholds.{is_above_75}
 use Rattle.rht_model.specs.declared.history.Call.TheVariants.{Work}
-use Rattle.rht_move.specs.Choice.{chosen, is_nested, is_sparse}
+use Rattle.rht_nest.specs.Tables.{is_nested}
+use Rattle.rht_move.specs.Choice.{chosen, is_sparse}
 use Rattle.rht_move.specs.declared.work.choice.Choice.{Choice}
 use Rattle.rht_move.specs.declared.work.choice.Choice.TheVariants as choices
 use Rattle.rht_core.specs.declared.event.Event.{Event}

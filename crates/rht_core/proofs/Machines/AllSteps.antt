@@ -32,7 +32,7 @@ use Rattle.rht_core.proofs.Theory.Wholes.{list_of, Whole}
 use Rattle.rht_core.proofs.Theory.Knowns.{Nowhere, Locks, Collected, CollectedTo, Known, last_of}
 use Rattle.rht_core.proofs.Theory.Knowledge.{Knowing}
 use Rattle.rht_core.proofs.Theory.Answering.{IsLegalOn, IsRight, Tells, keeps, learns}
-use Rattle.rht_core.proofs.Theory.Steps.{Holding, mem, owners, owners_in, moved-map, Step, step-map, answered, reads, HoldsSame, still_has}
+use Rattle.rht_core.proofs.Theory.Steps.{Holding, mem, owners, owners_in, moved-map, Step, step-map, answered, reads, HoldsNoneEarly, still_has}
 use Rattle.rht_core.proofs.Pieces.Locks.{unlock_step}
 use Rattle.rht_core.proofs.Pieces.Lists.{list_among, list_few, list_rest, found_list}
 use Rattle.rht_core.proofs.Pieces.Seeks as seeks
@@ -102,7 +102,7 @@ module _ (env : Env) (mix : ℕ → ℕ → ℕ → ℕ) (c : ℕ) (port : ℕ) 
     -- a load, with what it tells of the answer
     goes_on : (at next : AllAt) (after : Kept ℕ)
         → word_after (old_of words (plan_at env at)) (plan_at env at) ≡ old_of words (plan_at env at)
-        → HoldsSame (held_of_all room.items at) (held_of_all after.items next)
+        → HoldsNoneEarly (held_of_all room.items at) (held_of_all after.items next)
         → Tells env.config.kind c call (held_of_all room.items at).node now (held_of_all room.items at).answer
         (held_of_all after.items next).answer
         → AllKnows after next M G → AllMoved at after (next, Go)

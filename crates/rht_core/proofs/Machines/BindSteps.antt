@@ -31,6 +31,7 @@ use Rattle.rht_nest.specs.declared.make.MakeAt.{MakeAt}
 use Rattle.rht_nest.specs.Unmake.{UnmakeModel, unmake_new, unmake_plan, unmake_after_at, pages_of_unmake}
 use Rattle.rht_nest.specs.declared.unmake.UnmakeAt.{UnmakeAt}
 use Rattle.rht_nest.proofs.TablePages.{page_of_table, pages_of_table-shape, pages_of_unmake-table}
+use Rattle.rht_nest.specs.Grow.{pages_of_grow}
 use Rattle.rht_nest.specs.Locate.{LocateModel, locate_new, locate_plan, locate_after}
 use Rattle.rht_nest.specs.declared.locate.Located.{Located}
 use Rattle.rht_chain.specs.Probe.{ProbeModel, probe_new, probe_plan, probe_after, lock_of_probe}
@@ -49,7 +50,7 @@ use Rattle.rht_model.specs.Answers.{plain, bind_reply, owners_bound}
 use Rattle.rht_model.specs.Answers as answers
 use Rattle.rht_bind.specs.Bind.{plan_at, after_at, first_attempt, filled, located, bound_already, found_or_future, probed, replacing, unlocking, future_or_count, checked_count, publishing, kicks, IsBindAtIn}
 use Rattle.rht_bind.specs.Growing.{giving, unlocking_full, want_or_busy, making, size_grown, made, ended_attempt, behind_attempt, refused_or_found, has_attached, unmade}
-use Rattle.rht_bind.specs.BindHeld.{held_of_bind, holds_node, holds_claimed, holds_replacing}
+use Rattle.rht_bind.specs.BindHeld.{held_of_bind, holds_node, holds_claimed, holds_replacing, holds_table}
 use Rattle.rht_bind.specs.declared.bind.Attempt.{Attempt}
 use Rattle.rht_bind.specs.declared.bind.Claimed.{Claimed}
 use Rattle.rht_bind.specs.declared.bind.growth.Full.{Full}
@@ -60,17 +61,17 @@ use Rattle.rht_bind.specs.declared.bind.growth.Refusal.TheVariants as refusals
 use Rattle.rht_bind.specs.declared.bind.FoundList.{FoundList}
 use Rattle.rht_bind.specs.declared.bind.BindAt.{BindAt}
 use Rattle.rht_bind.specs.declared.bind.BindAt.TheVariants as at
-use Rattle.rht_core.proofs.Theory.Ghosts.{put_in, put_in-all, PageOf, PageHeld, SlotHeld, Live, is_page_for, flat_table, put, put-same, put-other, put-all, Held, First, Ghost, is_taken_by, index_at, table_at, with_armed, armed_by}
+use Rattle.rht_core.proofs.Theory.Ghosts.{put_in, put_in-all, PageOf, PageHeld, SlotHeld, Live, is_page_for, made_table, put, put-same, put-other, put-all, Held, First, Ghost, is_taken_by, index_at, table_at, with_armed, armed_by}
 use Rattle.rht_core.proofs.Theory.Wholes.{chain_of, key_of, place_at, word_index, place_at-index, index-within, Whole}
 use Rattle.rht_core.proofs.Theory.Passed.{home-table, Passed-stays}
-use Rattle.rht_core.proofs.Theory.Knowns.{KnownNode, KnownTable, KnownBucket, KnownList, Known, knows_plain, Nowhere, InSlot, Passes, AtHome, Unlocked, Locks, Missed, Found, Member, InList, FirstLink, Replaces, MakesNothing, HasTaken, HasMade, Unlocks, Armed}
+use Rattle.rht_core.proofs.Theory.Knowns.{KnownNode, KnownTable, KnownBucket, KnownList, Known, knows_plain, Nowhere, InSlot, Passes, AtHome, Unlocked, Locks, Missed, Found, Member, InList, FirstLink, Replaces, MakesNothing, HasPages, HasTaken, HasMade, Unlocks, Armed, OnWay}
 use Rattle.rht_core.proofs.Theory.Knowledge.{HasOnly, HasLock, HoldsLock, IsMember, Knowing, has_lock, idle_moves_none}
 use Rattle.rht_core.proofs.Theory.KnowledgeStays.{TableMeans-stay}
 use Rattle.rht_core.proofs.Theory.Frames.{Made, same_tables, same_grow, tables_stay}
 use Rattle.rht_core.specs.Counts.{takes_out}
 use Rattle.rht_core.specs.Replies.{IsBindReply, AreOwnersWith, ArePairsWith}
 use Rattle.rht_core.proofs.Theory.Answering.{KeepsAnswer, IsLegalOn, IsRight, Tells, keeps, learns}
-use Rattle.rht_core.proofs.Theory.Steps.{Attaches, Links, Rebinds, Holding, HoldsSame, by_test, mem, owners, owners_in, owners-stay, owners_in-stay, ghost_after, Moved, moved-map, with_knowledge, still_has, reowned-outs, Step, answered, reads, Arms, unchanged, moved}
+use Rattle.rht_core.proofs.Theory.Steps.{Attaches, Links, Rebinds, Holding, HoldsNoneEarly, by_test, mem, owners, owners_in, owners-stay, owners_in-stay, ghost_after, Moved, moved-map, with_knowledge, still_has, reowned-outs, Step, answered, reads, Arms, unchanged, moved}
 use Rattle.rht_core.proofs.Theory.Readiness.{IsAttaching, linked_bucket, IsReady, IsArming}
 use Rattle.rht_core.proofs.Moves.Quiet.{armed_passes, arm}
 use Rattle.rht_core.proofs.Moves.Linking.{link_head}
@@ -82,7 +83,7 @@ use Rattle.rht_core.proofs.Moves.Slots.{slot_word-apart}
 use Rattle.rht_core.proofs.Moves.Attaching.{is_page-for, attach, attached_kept}
 use Rattle.rht_core.proofs.Pieces.Holdings.{bare_slot, holding, knowing}
 use Rattle.rht_core.proofs.Pieces.Makes.{known_of_make, known_made, slot_made, made_with, make_step, known_given, slot_given, pages_given, unmake_step}
-use Rattle.rht_core.proofs.Pieces.Locates.{known_locate, first_passed, locate_step, LocateKnows, FutureIs, future_is, is_last}
+use Rattle.rht_core.proofs.Pieces.Locates.{known_locate, first_passed, locate_step, LocateKnows, FutureIs, future_is, is_last, no_way}
 use Rattle.rht_core.proofs.Pieces.Locks.{unlock_step, unlock_any}
 use Rattle.rht_core.proofs.Pieces.Probes.{known_probe, known_found, place_of_probe, IsProbeFor, probed_by, ProbeKnows, probe_step}
 use Rattle.rht_core.proofs.Pieces.PortCounts.{raise_step}
@@ -139,6 +140,8 @@ module _ (port owner : ℕ) where
   known_of_bind (at.Filling new) = knows_plain (nodes.known_at port owner new.at) Nowhere Unlocked
   known_of_bind (at.CurrentTable attempt) = knows_of (own attempt.node) Nowhere Unlocked
   known_of_bind (at.Locating attempt locate) = knows_of (own attempt.node) (known_locate port locate.table locate.at) Unlocked
+  known_of_bind (at.Entering attempt table shape place grow) =
+      record (knows_of (own attempt.node) (OnWay port table shape) Unlocked) { making = HasPages (pages_of_grow grow.at) }
   known_of_bind (at.Probing attempt table shape probe) = knows_of (own attempt.node) (AtHome port table (Some shape) (place_of_probe probe.at)) (known_probe port probe.at)
   known_of_bind (at.FoundOwner claimed found) = knows_of (own claimed.attempt.node) (at_home claimed) (Member claimed.bucket.place claimed.bucket.word port found)
   known_of_bind (at.ListLink list) = knows_of (own list.claimed.attempt.node) (at_home list.claimed)
@@ -197,6 +200,7 @@ module _ (env : Env) (mix : ℕ → ℕ → ℕ → ℕ) (c : ℕ) (port owner :
   fits_bind (at.Filling new) = (new.key ≡ port) × (new.owner ≡ owner)
   fits_bind (at.CurrentTable attempt) = Unit {0}
   fits_bind (at.Locating attempt locate) = Unit {0}
+  fits_bind (at.Entering attempt table shape place grow) = Unit {0}
   fits_bind (at.Probing attempt table shape probe) = (probe.key ≡ port) × IsProbeFor port probe.at
   fits_bind (at.FoundOwner claimed found) = env.config.kind ≡ Single
   fits_bind (at.ListLink list) = env.config.kind ≡ Listed
@@ -250,7 +254,7 @@ module _ (env : Env) (mix : ℕ → ℕ → ℕ → ℕ) (c : ℕ) (port owner :
 
     -- a load of which the answer isn't known
     goes_on : (at next : BindAt) → word_after (old_of words (plan_at env at)) (plan_at env at) ≡ old_of words (plan_at env at)
-        → HoldsSame (held_of_bind at) (held_of_bind next) → KeepsAnswer (held_of_bind at).answer (held_of_bind next).answer
+        → HoldsNoneEarly (held_of_bind at) (held_of_bind next) → KeepsAnswer (held_of_bind at).answer (held_of_bind next).answer
         → BindKnows next M G → BindMoved at (next, Go)
     goes_on at next same holds says knows =
         reads env mix c call words G (plan_at env at) (held_of_bind at) (held_of_bind next) (BindNext (next, Go)) whole same holds (inl says) knows
@@ -675,6 +679,7 @@ module _ (env : Env) (mix : ℕ → ℕ → ℕ → ℕ) (c : ℕ) (port owner :
             port = port;
             differs = λ e. let q : ◌≡◌ {A = List ℕ} (owner_of (M' (Node n OwnerWord)) ∷ []) [] = sym (ap (owners_in env mix M') (put-same G.bound port (n ∷ []))) ∙ e ∙ none in cc;
           });
+          early = λ answer known. absurd (cc);
           right = λ answer unknown known.
               subst (IsRight call (Some n)) (let same : ◌≡◌ {A = Option answers.Answer} (Some (plain (Bound kick))) (Some answer) = known in cc)
               (with_node n (Bound kick) tt refl refl (λ e. cc));
@@ -888,6 +893,7 @@ module _ (env : Env) (mix : ℕ → ℕ → ℕ → ℕ) (c : ℕ) (port owner :
                   longer owner (now port)
                   (sym here ∙ sym (ap (owners_in env mix stored) (put-same G.bound port (n ∷ rest))) ∙ e);
             });
+            early = λ answer known. absurd (cc);
             right = λ answer unknown known.
                 subst (IsRight call (Some n))
                 (let same : Some (plain (Bound list.claimed.attempt.attached)) ≡ Some answer = known in cc)
@@ -1195,9 +1201,9 @@ module _ (env : Env) (mix : ℕ → ℕ → ℕ → ℕ) (c : ℕ) (port owner :
             holds = refl;
           })
           (let left =
-          Knowing-retabled env mix M M' G (put G.table G.attached (flat_table slot shape seed serial)) (G.attached + 1)
+          Knowing-retabled env mix M M' G (put G.table G.attached (made_table slot shape seed serial)) (G.attached + 1)
           (put G.slot slot (Live G.attached)) (put_in (is_page_for shape) (PageOf G.attached) G.page) whole kept
-          (Slot (G.table τ).slot FutureWord) (future_of slot) write (slot_word-apart (G.table τ).slot FutureWord) c
+          (Slot (G.table τ).slot FutureWord) (future_of slot) write (slot_word-apart G (G.table τ).slot FutureWord) c
           has_table_made (known_of_bind port owner (at.Attaching growing slot shape)) None [] MakesNothing k
           (put-all (λ s o. o ≡ SlotHeld c → ◌≡◌ {A = Option ℕ} None (Some s)) G.slot slot (Live G.attached)
           (λ e. absurd (cc)) (λ s ne held. let same = k.only.slots s held in absurd (ne (cc))))
@@ -1279,6 +1285,9 @@ module _ (env : Env) (mix : ℕ → ℕ → ℕ → ℕ) (c : ℕ) (port owner :
     bind_step (at.Locating attempt locate) is known =
         found_place attempt locate (locate_after mix port locate (old_of words (locate_plan locate)))
         (locate_step env mix c (holds_node (Some attempt.node) None) (Some (own port owner attempt.node)) Unlocked words G whole port locate is.locate_in known.knowing)
+    bind_step (at.Entering attempt table shape place grow) is known =
+        no_way env mix c (holds_table attempt.node None (pages_of_grow grow.at)) (Some (own port owner attempt.node)) Unlocked words G whole _ port table shape
+        known.knowing.means.table
     bind_step (at.Probing attempt table shape probe) is known =
         walked attempt table shape probe (probe_after probe (old_of words (probe_plan probe))) known.fits.0
         (probe_step env mix c (holds_node (Some attempt.node) None) (Some (own port owner attempt.node)) port table (Some shape) words G all whole probe is.probe_in known.fits.0 known.fits.1 known.knowing)

@@ -34,7 +34,7 @@ use Rattle.rht_core.proofs.Theory.Wholes.{word_index, Whole}
 use Rattle.rht_core.proofs.Theory.Knowns.{KnownTable, Nowhere, Passes, AtHome, KnownBucket, Unlocked, Locks, Missed, Member, Listing, Known, knows_plain}
 use Rattle.rht_core.proofs.Theory.Knowledge.{Knowing}
 use Rattle.rht_core.proofs.Theory.Answering.{KeepsAnswer, keeps, learns}
-use Rattle.rht_core.proofs.Theory.Steps.{Holding, mem, owners, owners_in, Moved, moved-map, with_knowledge, Step, answered, reads, HoldsSame, still_has}
+use Rattle.rht_core.proofs.Theory.Steps.{Holding, mem, owners, owners_in, Moved, moved-map, with_knowledge, Step, answered, reads, HoldsNoneEarly, still_has}
 use Rattle.rht_core.proofs.Pieces.Locates.{known_locate, first_passed, locate_step, LocateKnows, FutureIs, future_is}
 use Rattle.rht_core.proofs.Pieces.Locks.{unlock_step}
 use Rattle.rht_core.proofs.Pieces.Lists.{IsNextOf, list_next, list_among}
@@ -126,7 +126,7 @@ module _ (env : Env) (mix : ℕ → ℕ → ℕ → ℕ) (c : ℕ) (port : ℕ) 
     -- a load of which the answer isn't known
     goes_on : (at next : FindAt) → word_after (old_of words (plan_at env at)) (plan_at env at) ≡ old_of
         words (plan_at env at)
-        → HoldsSame (held_of_find at) (held_of_find next)
+        → HoldsNoneEarly (held_of_find at) (held_of_find next)
         → KeepsAnswer (held_of_find at).answer (held_of_find next).answer
         → FindKnows next M G → FindMoved at (next, Go)
     goes_on at next same holds says knows =

@@ -5,7 +5,8 @@ use Rattle.rht_words.specs.declared.env.Env.{Env}
 use Rattle.rht_words.specs.declared.machine.Next.{Next}
 use Rattle.rht_words.specs.declared.machine.Next.TheVariants.{Go, Done}
 use Rattle.rht_words.specs.Held as held
-use Rattle.rht_words.specs.Operations.{old_of}
+use Rattle.rht_words.specs.declared.op.Op.{Op}
+use Rattle.rht_words.specs.Operations.{old_of, applied}
 use Rattle.rht_words.specs.Places.{words_in}
 use Rattle.rht_words.proofs.Memory.{Memory}
 use Rattle.rht_model.specs.declared.history.Call.TheVariants.{Release, Rebind, All, Work, Count}
@@ -42,7 +43,8 @@ use Rattle.rht_core.proofs.Theory.Knowns.{Known}
 use Rattle.rht_core.proofs.Theory.Knowledge.{Knowing}
 use Rattle.rht_core.proofs.Theory.Reliance.{Rely}
 use Rattle.rht_core.proofs.Theory.KnowledgeKept.{Knowing-rely}
-use Rattle.rht_core.proofs.Theory.Steps.{mem, Holding, Step, step-map, reads}
+use Rattle.rht_core.proofs.Theory.Steps.{mem, Holding, Step, StepWhere, step-map, reads}
+use Rattle.rht_core.proofs.Machines.EarlyPages.{IsThere, IsThereNext}
 use Rattle.rht_core.proofs.Machines.FindSteps.{known_nothing, known_of_find, fits_find, find_holds, FindNext, find_step}
 use Rattle.rht_core.proofs.Machines.BindSteps.{known_of_bind, fits_bind, bind_holds, BindNext, bind_step}
 use Rattle.rht_core.proofs.Machines.AllSteps.{known_of_all, fits_all, all_holds, AllNext, all_step}
@@ -124,6 +126,12 @@ module _ (env : Env) (mix : ℕ → ℕ → ℕ → ℕ) (c : ℕ) where
   JobNext (job, Go) M G = JobKnows job M G
   JobNext (job, Done ending) M G = Knowing env mix c (held.ended_with ending.answer) known_nothing M G
 
+  -- an operation of a job, of which this is left
+  abbrev pub JobStepOf : List ℕ → Ghost → Op → Job → Job × Next Ending → Type 0
+  JobStepOf words G op job r =
+      StepWhere env mix (IsThere env mix job (mem env mix words)) (IsThereNext env mix r (mem env mix (applied words op)))
+      c (call_of job) words G op (held_of job) (held_next r) (JobNext r)
+
   -- what it knows outlives a step of anybody else
   pub JobKnows-rely : (job : Job) (M M' : Memory) (G G' : Ghost) → Whole env mix M G → Rely env mix c M G M' G'
       → JobKnows job M G → JobKnows job M' G'
@@ -136,13 +144,11 @@ module _ (env : Env) (mix : ℕ → ℕ → ℕ → ℕ) (c : ℕ) where
   module _ (low : c < env.geometry.callers) (words : List ℕ) (G : Ghost) (all : length words ≡ words_in env.geometry)
       (whole : Whole env mix (mem env mix words) G) where
     abbrev pub JobStep : Job → Type 0
-    JobStep job =
-        let r = job_after mix env job (old_of words (job_plan env job)) in
-        Step env mix c (call_of job) words G (job_plan env job) (held_of job) (held_next r) (JobNext r)
+    JobStep job = JobStepOf words G (job_plan env job) job (job_after mix env job (old_of words (job_plan env job)))
 
     finds_so : (port : ℕ) (state : FindAt) (r : FindAt × Next Reply)
         → Step env mix c (call_of (finds port state)) words G (find_at.plan_at env state) (held_of (finds port state)) (find_holds env mix c port r) (FindNext env mix c port r)
-        → Step env mix c (call_of (finds port state)) words G (find_at.plan_at env state) (held_of (finds port state)) (held_next (job_next (finds port) plain_ending r)) (JobNext (job_next (finds port) plain_ending r))
+        → JobStepOf words G (job_plan env (finds port state)) (finds port state) (job_next (finds port) plain_ending r)
     finds_so port state (next, Go) step =
         step-map env mix c (call_of (finds port state)) words G (find_at.plan_at env state) (held_of (finds port state)) (held_of (finds port next)) _ (JobNext (finds port next, Go))
         (λ M G' w k. record { built = tt; knowing = k.knowing; fits = k.fits }) step
@@ -150,7 +156,7 @@ module _ (env : Env) (mix : ℕ → ℕ → ℕ → ℕ) (c : ℕ) where
 
     binds_so : (port owner : ℕ) (once : Bool) (state : BindAt) (r : BindAt × Next Reply)
         → Step env mix c (call_of (binds port owner once state)) words G (bind_at.plan_at env state) (held_of (binds port owner once state)) (bind_holds env mix c port owner once r) (BindNext env mix c port owner once r)
-        → Step env mix c (call_of (binds port owner once state)) words G (bind_at.plan_at env state) (held_of (binds port owner once state)) (held_next (job_next (binds port owner once) plain_ending r)) (JobNext (job_next (binds port owner once) plain_ending r))
+        → JobStepOf words G (job_plan env (binds port owner once state)) (binds port owner once state) (job_next (binds port owner once) plain_ending r)
     binds_so port owner once state (next, Go) step =
         step-map env mix c (call_of (binds port owner once state)) words G (bind_at.plan_at env state) (held_of (binds port owner once state)) (held_of (binds port owner once next)) _ (JobNext (binds port owner once next, Go))
         (λ M G' w k. record { built = tt; knowing = k.knowing; fits = k.fits }) step
@@ -159,8 +165,7 @@ module _ (env : Env) (mix : ℕ → ℕ → ℕ → ℕ) (c : ℕ) where
     lists_so : (port : ℕ) (room : Kept ℕ) (state : AllAt) (after : Kept ℕ) (r : AllAt × Next (Unit {0}))
         → Step env mix c (All port) words G (all_at.plan_at env state) (held_of_all room.items state)
         (all_holds env mix c port after r) (AllNext env mix c port after r)
-        → Step env mix c (All port) words G (all_at.plan_at env state) (held_of_all room.items state)
-        (held_next (job_next (lists port after) (listing_ending after) r)) (JobNext (job_next (lists port after) (listing_ending after) r))
+        → JobStepOf words G (job_plan env (lists port room state)) (lists port room state) (job_next (lists port after) (listing_ending after) r)
     lists_so port room state after (next, Go) step =
         step-map env mix c (All port) words G (all_at.plan_at env state) (held_of_all room.items state)
         (held_of (lists port after next)) _ (JobNext (lists port after next, Go))
@@ -170,8 +175,7 @@ module _ (env : Env) (mix : ℕ → ℕ → ℕ → ℕ) (c : ℕ) where
     releases_so : (port owner : ℕ) (state : ReleaseAt) (r : ReleaseAt × Next (Reply × Option ℕ))
         → Step env mix c (Release port owner) words G (release_at.plan_at env state) (held_of (releases port owner state))
         (release_holds env mix c port owner r) (ReleaseNext env mix c port owner r)
-        → Step env mix c (Release port owner) words G (release_at.plan_at env state) (held_of (releases port owner state))
-        (held_next (job_next (releases port owner) node_ending r)) (JobNext (job_next (releases port owner) node_ending r))
+        → JobStepOf words G (job_plan env (releases port owner state)) (releases port owner state) (job_next (releases port owner) node_ending r)
     releases_so port owner state (next, Go) step =
         step-map env mix c (Release port owner) words G (release_at.plan_at env state) (held_of (releases port owner state))
         (held_of (releases port owner next)) _ (JobNext (releases port owner next, Go))
@@ -185,8 +189,7 @@ module _ (env : Env) (mix : ℕ → ℕ → ℕ → ℕ) (c : ℕ) where
     rebinds_so : env.config.kind ≡ Single → (port owner new : ℕ) (state : RebindAt) (r : RebindAt × Next (Reply × Option ℕ))
         → Step env mix c (Rebind port owner new) words G (rebind_at.plan_at env state) (held_of (rebinds port owner new state))
         (rebind_holds env mix c port owner new r) (RebindNext env mix c port owner new r)
-        → Step env mix c (Rebind port owner new) words G (rebind_at.plan_at env state) (held_of (rebinds port owner new state))
-        (held_next (job_next (rebinds port owner new) node_ending r)) (JobNext (job_next (rebinds port owner new) node_ending r))
+        → JobStepOf words G (job_plan env (rebinds port owner new state)) (rebinds port owner new state) (job_next (rebinds port owner new) node_ending r)
     rebinds_so single port owner new state (next, Go) step =
         step-map env mix c (Rebind port owner new) words G (rebind_at.plan_at env state) (held_of (rebinds port owner new state))
         (held_of (rebinds port owner new next)) _ (JobNext (rebinds port owner new next, Go))
@@ -199,8 +202,7 @@ module _ (env : Env) (mix : ℕ → ℕ → ℕ → ℕ) (c : ℕ) where
 
     works_so : (state : WorkAt) (r : WorkAt × Next Reply)
         → Step env mix c Work words G (work_at.plan_at env state) (held_of (works state)) (work_holds r) (WorkNext env mix c r)
-        → Step env mix c Work words G (work_at.plan_at env state) (held_of (works state))
-        (held_next (job_next works plain_ending r)) (JobNext (job_next works plain_ending r))
+        → JobStepOf words G (job_plan env (works state)) (works state) (job_next works plain_ending r)
     works_so state (next, Go) step =
         step-map env mix c Work words G (work_at.plan_at env state) (held_of (works state)) (held_of (works next)) _ (JobNext (works next, Go))
         (λ M G' w k. record { built = tt; knowing = k; fits = tt }) step

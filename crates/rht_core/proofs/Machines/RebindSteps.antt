@@ -44,7 +44,7 @@ use Rattle.rht_core.proofs.Theory.Knowledge.{HasOnly, HoldsLock, HasTakenOut, Kn
 use Rattle.rht_core.proofs.Theory.Frames.{Made}
 use Rattle.rht_core.proofs.Theory.Readiness.{Change, changed}
 use Rattle.rht_core.proofs.Theory.Answering.{KeepsAnswer, IsLegalOn, IsRight, Stills, ChangesBindings, Says, Tells, keeps, learns}
-use Rattle.rht_core.proofs.Theory.Steps.{Rebinds, Holding, HoldsSame, by_test, mem, owners, owners_in, owners-stay, Moved, moved-map, Step, step-map, with_answer, answered, reads, HasNodeInTime, still_has}
+use Rattle.rht_core.proofs.Theory.Steps.{Rebinds, Holding, HoldsNoneEarly, by_test, mem, owners, owners_in, owners-stay, Moved, moved-map, Step, step-map, with_answer, answered, reads, HasNodeInTime, still_has}
 use Rattle.rht_core.proofs.Moves.Relinking.{relink_address, relink_value}
 use Rattle.rht_core.proofs.Moves.Removing as removing
 use Rattle.rht_core.proofs.Moves.Removing.{IsFoundIn, CanReplace}
@@ -146,7 +146,7 @@ module _ (env : Env) (mix : ℕ → ℕ → ℕ → ℕ) (c : ℕ) (port owner n
     -- a load of which the answer isn't known
     goes_on : (at next : RebindAt)
         → word_after (old_of words (plan_at env at)) (plan_at env at) ≡ old_of words (plan_at env at)
-        → HoldsSame (held_of_rebind at) (held_of_rebind next)
+        → HoldsNoneEarly (held_of_rebind at) (held_of_rebind next)
         → KeepsAnswer (held_of_rebind at).answer (held_of_rebind next).answer
         → RebindKnows next M G → RebindMoved at (next, Go)
     goes_on at next same holds says knows =
@@ -590,7 +590,7 @@ module _ (env : Env) (mix : ℕ → ℕ → ℕ → ℕ) (c : ℕ) (port owner n
           ]
 
       -- an owner that takes its own place changes nothing
-      says_same : new ≡ owner → Stills env.config.kind c call now after None (Some (plain Rebound))
+      says_same : new ≡ owner → Stills env.config.kind c call None ⊥ now after None (Some (plain Rebound))
       says_same e =
           let own : after port ≡ owner ∷ [] = is_now ∙ ap (λ o. o ∷ []) e in
           let legal : IsLegalOn env.config.kind c call after (plain Rebound) = record {
@@ -602,7 +602,7 @@ module _ (env : Env) (mix : ℕ → ℕ → ℕ → ℕ) (c : ℕ) (port owner n
               | inl q ↦ ap after q ∙ own ∙ sym was ∙ ap now (sym q)
               | inr ne ↦ others_same other ne
             ];
-            said = inr (record { unknown = refl; answer = plain Rebound; known = refl; said = inl legal });
+            said = inr (inl (record { unknown = refl; answer = plain Rebound; known = refl; said = inl legal }));
           }
 
       says_other : new ≢ owner → ChangesBindings env.config.kind c call now after None (Some (plain Rebound))
@@ -616,7 +616,7 @@ module _ (env : Env) (mix : ℕ → ℕ → ℕ → ℕ) (c : ℕ) (port owner n
         differs = λ e. ne (let q : ◌≡◌ {A = List ℕ} (new ∷ []) (owner ∷ []) = sym is_now ∙ e ∙ was in cc);
       }
 
-      says : Says env.config.kind c call now after None (Some (plain Rebound))
+      says : Says env.config.kind c call None ⊥ now after None (Some (plain Rebound))
       says = elim (cases_eq new owner) [ inl e ↦ inl (says_same e) | inr ne ↦ inr (says_other ne) ]
 
       -- ---- the store
@@ -680,6 +680,7 @@ module _ (env : Env) (mix : ℕ → ℕ → ℕ → ℕ) (c : ℕ) (port owner n
           changes = refl;
         };
         says = says;
+        early = λ answer known. absurd (cc);
         right = λ answer unknown known.
             let same : ◌≡◌ {A = Option Answer} (Some (plain Rebound)) (Some answer) = known in
             subst (IsRight call (Some n)) (cc) (with_node n Rebound tt refl refl (λ e. cc));

@@ -42,7 +42,7 @@ use Rattle.rht_core.proofs.Theory.Wholes.{chain_of, list_of, word_index, Whole}
 use Rattle.rht_core.proofs.Theory.Knowns.{Nowhere, KnownBucket, Locks, TakenOut, LocksTakenOut, KnownList, AtNode, Differing, Matching, CutsOut, Leads, LeadsTo, Promotes, Known, NoOwner, list_link, first_of_list}
 use Rattle.rht_core.proofs.Theory.Knowledge.{Knowing, ListMeans}
 use Rattle.rht_core.proofs.Theory.Answering.{KeepsAnswer, IsLegalOn, IsRight, keeps, learns}
-use Rattle.rht_core.proofs.Theory.Steps.{Lowers, LinksBehind, Holding, HoldsSame, by_test, mem, owners, owners_in, moved, moved-map, Step, step-map, answered, reads, still_has}
+use Rattle.rht_core.proofs.Theory.Steps.{Lowers, LinksBehind, Holding, HoldsNoneEarly, by_test, mem, owners, owners_in, moved, moved-map, Step, step-map, answered, reads, still_has}
 use Rattle.rht_core.proofs.Moves.Quiet.{count_down}
 use Rattle.rht_core.proofs.Moves.TakenNodes.{chain_behind}
 use Rattle.rht_core.proofs.Moves.Relinking.{last_none, last_of-more}
@@ -210,7 +210,7 @@ module _ (env : Env) (mix : ℕ → ℕ → ℕ → ℕ) (c : ℕ) (port owner :
     -- a load of which the answer isn't known
     goes_on : (at next : ReleaseAt)
         → word_after (old_of words (plan_at env at)) (plan_at env at) ≡ old_of words (plan_at env at)
-        → HoldsSame (held_of_release at) (held_of_release next)
+        → HoldsNoneEarly (held_of_release at) (held_of_release next)
         → KeepsAnswer (held_of_release at).answer (held_of_release next).answer
         → ReleaseKnows next M G → ReleaseMoved at (next, Go)
     goes_on at next same holds says knows =

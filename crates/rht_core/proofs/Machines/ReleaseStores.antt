@@ -216,6 +216,7 @@ module _ (env : Env) (mix : ℕ → ℕ → ℕ → ℕ) (c : ℕ) (port owner :
             changes = refl;
           };
           says = inr (owner_gone found op node front rear bucket x x_owner raised lock known takes);
+          early = λ answer known. absurd (cc);
           right = λ answer unknown told.
               subst (IsRight call None) (let is : plain (Released false) ≡ answer = cc in is)
               (released_right false);

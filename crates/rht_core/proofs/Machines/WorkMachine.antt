@@ -17,7 +17,7 @@ use Rattle.rht_words.proofs.Memory.{Memory, is_write}
 use Rattle.rht_words.proofs.ShapeSizes.{IsSizeUpTo-size_of}
 use Rattle.rht_policy.specs.Mix.{bucket_of}
 use Rattle.rht_chain.specs.Lock.{LockModel, lock_new, lock_plan, lock_after}
-use Rattle.rht_nest.specs.Place.{bucket_place}
+use Rattle.rht_nest.specs.Place.{flat_place}
 use Rattle.rht_nest.proofs.TablePages.{pages_of_table-shape}
 use Rattle.rht_nest.specs.Make.{MakeModel, make_plan, make_after_at}
 use Rattle.rht_nest.specs.declared.make.MakeAt.{MakeAt}
@@ -46,23 +46,24 @@ use Rattle.rht_move.specs.declared.work.Outcome.{Outcome}
 use Rattle.rht_move.specs.declared.work.Outcome.TheVariants.{Idle, NoTable, Moved as HasMoved}
 use Rattle.rht_move.specs.declared.work.WorkAt.{WorkAt}
 use Rattle.rht_move.specs.declared.work.WorkAt.TheVariants as at
-use Rattle.rht_move.specs.Choice.{chosen, choice_of, is_nested}
+use Rattle.rht_nest.specs.Tables.{is_nested}
+use Rattle.rht_move.specs.Choice.{chosen, choice_of}
 use Rattle.rht_move.specs.LastTable.{LastTableModel, last_table_new, next_or_shape}
 use Rattle.rht_move.specs.LastEntry.{LastEntryModel, followed}
-use Rattle.rht_move.specs.Work.{plan_at, after_at, begun, made, not_made, unmade, future_or_idle, is_later, unlocking, entry_or_empty, with_word, walked, retiring, locked, second_locked, cut_off, next_bucket, bucket_or_publish, locking_or_publish, second_or_stop, reply_of, IsWorkAtIn}
+use Rattle.rht_move.specs.Work.{plan_at, after_at, begun, made, not_made, unmade, future_or_idle, is_later, unlocking, entry_or_empty, with_word, walked, retiring, locked, second_locked, cut_off, next_bucket, bucket_of_root, reply_of, IsWorkAtIn}
 use Rattle.rht_move.specs.WorkHeld.{holds_work, holds_table, holds_moving, has_moved, held_of_work}
 use Rattle.rht_core.specs.Counts.{takes_out}
 use Rattle.rht_core.specs.Replies.{IsWorkReply, AreOwnersWith, ArePairsWith}
 use Rattle.rht_core.proofs.Theory.Ghosts.{Ghost}
 use Rattle.rht_core.proofs.Theory.Wholes.{word_index, place_at-index, pages_of, Whole}
-use Rattle.rht_core.proofs.Theory.Knowns.{Known, KnownMaking, MakesNothing, HasTaken, HasMade, KnownAim, NoAim, Onward, From, Beyond, KnownRehash, KnownPlace, KnownEntry, KnownWork, NoWork, Works, Rooted, Follows, Empties, LeavesBehind, Faces, InBucket, Bare, AtEntry, AtTail, Aims, Brings, TakesOut, HasBrought}
+use Rattle.rht_core.proofs.Theory.Knowns.{Known, KnownMaking, MakesNothing, HasTaken, HasMade, KnownAim, NoAim, Onward, From, Beyond, KnownRehash, KnownPlace, KnownEntry, KnownWork, NoWork, Works, Rooted, Follows, Empties, LeavesBehind, Nears, Faces, InBucket, Bare, AtEntry, AtTail, Aims, Brings, TakesOut, HasBrought}
 use Rattle.rht_core.proofs.Theory.Knowledge.{IsMade, WorkMeans, Means, Only, Knowing}
 use Rattle.rht_core.proofs.Theory.Answering.{Tells, keeps}
 use Rattle.rht_core.proofs.Theory.Steps.{Holding, mem, owners, Moved, moved-map, with_knowledge, with_answer, Step, answered, still_has, loads}
 use Rattle.rht_core.proofs.Pieces.Holdings.{bare_slot}
 use Rattle.rht_core.proofs.Pieces.Makes.{known_of_make, slot_made, made_with, known_made, make_step, slot_given, pages_given, known_given, unmake_step}
 use Rattle.rht_core.proofs.Pieces.Attaches.{attach_step, lose_attach_step}
-use Rattle.rht_core.proofs.Pieces.WorkLoads.{last_sought, aim_sought, first_known, next_known, root_seen, from_root, root_alone, other_behind, future_behind, last_seen, future_seen, shape_seen, place_seen, from_current, aim_seen, aim_shape, aim_seed, word_seen, first_seen, next_seen, key_seen}
+use Rattle.rht_core.proofs.Pieces.WorkLoads.{last_sought, aim_sought, first_known, next_known, root_seen, from_root, root_alone, other_behind, future_behind, last_seen, future_seen, shape_seen, nears_none, place_seen, from_current, aim_seen, aim_shape, aim_seed, word_seen, first_seen, next_seen, key_seen}
 use Rattle.rht_core.proofs.Pieces.WorkSteps.{knows_work, locked_by, LockWorks, work_loads, lock_work_step, unlock_work_step}
 use Rattle.rht_core.proofs.Pieces.WorkStores.{second_by, SecondWorks, take_work_step, lose_work_step, give_work_step, begin_moving_step, stop_step, lock_second_step, leave_step, arrive_step, cut_step, publish_step, retire_step}
 use Rattle.rht_core.proofs.Machines.FindSteps.{known_nothing}
@@ -118,6 +119,7 @@ known_at_work (at.Attaching root last slot shape) = Rooted root (From last)
 known_at_work (at.Unmaking root unmake) = Rooted root Onward
 known_at_work (at.RootFuture root due) = Rooted root (due_aim due)
 known_at_work (at.RootShape root future again) = Follows root future
+known_at_work (at.Entry rehash number place) = Nears (known_rehash rehash) number
 known_at_work (at.Locking rehash number lock) = Faces (known_rehash rehash) number lock.place
 known_at_work (at.EntryTable emptying seek) = in_bucket emptying (entry_aim seek.at)
 known_at_work (at.Seed emptying last) = in_bucket emptying (Beyond last.table (Some last.shape) None)
@@ -155,6 +157,7 @@ made_at_work (at.Attaching root last slot shape) = HasMade slot shape
 made_at_work (at.Unmaking root unmake) = HasTaken (bare_slot unmake.slot) (pages_of_unmake unmake.at)
 made_at_work (at.RootFuture root due) = MakesNothing
 made_at_work (at.RootShape root future again) = MakesNothing
+made_at_work (at.Entry rehash number place) = MakesNothing
 made_at_work (at.Locking rehash number lock) = MakesNothing
 made_at_work (at.EntryTable emptying seek) = MakesNothing
 made_at_work (at.Seed emptying last) = MakesNothing
@@ -491,11 +494,11 @@ module _ (env : Env) (mix : ℕ → ℕ → ℕ → ℕ) (c : ℕ) where
         let place = place_seen env mix c M G whole (known_rehash rehash) 0
         (shape_seen env mix c M G whole root future known.means.work) (omega (arith, least)) in
         let next = at.Locking rehash 0 (lock_new place.place) in
-        subst (λ p. WorkMoved state (locking_or_publish rehash 0 p, Go)) (sym place.there)
+        rw place.flat (subst (λ p. WorkMoved state (at.Locking rehash 0 (lock_new p), Go)) (sym place.there)
         (leads (plan_at env state) holds_work (moving_at None)
         (knows_work MakesNothing (Faces (known_rehash rehash) 0 place.place)) next (inl refl) refl refl refl
         (begin_moving_step env mix c held.holds_nothing words G all whole (plan_at env state) (Follows root future)
-        (Faces (known_rehash rehash) 0 place.place) refl known.means.work.works.0 known (λ k. place.knows)))
+        (Faces (known_rehash rehash) 0 place.place) refl known.means.work.works.0 known (λ k. place.knows))))
 
     -- a bucket is locked
     locked_leads : (rehash : Rehash) (number : ℕ) (lock : LockModel) (r : LockModel × Next ℕ)
@@ -641,7 +644,7 @@ module _ (env : Env) (mix : ℕ → ℕ → ℕ → ℕ) (c : ℕ) where
         let aim = key_seen env mix c M G whole root place (known_entry entry) target.table target.shape target.seed
         known.means.work in
         let next = at.LockingSecond emptying entry target.table (lock_new aim.place) in
-        subst (λ p. WorkMoved state (second_or_stop emptying target.table entry p, Go)) (sym aim.there)
+        subst (λ p. WorkMoved state (at.LockingSecond emptying entry target.table (lock_new p), Go)) (sym aim.there)
         (load_moving (plan_at env state) (Some emptying.bucket.place)
         (AtTail root place (known_entry entry) (target_aim target)) (Aims root place (known_entry entry) aim.place) next
         refl known (λ k. aim.knows) (inl refl) refl refl)
@@ -738,12 +741,12 @@ module _ (env : Env) (mix : ℕ → ℕ → ℕ → ℕ) (c : ℕ) where
         let more = place_seen env mix c _ _ step.made.whole root (number + 1) step.knows.means.work
         (ltb-true (number + 1) size t) in
         let next = at.Locking rehash (number + 1) (lock_new more.place) in
-        subst (λ p. Step env mix c call words G op h (held_of_work (locking_or_publish rehash (number + 1) p))
-        (WorkNext (locking_or_publish rehash (number + 1) p, Go))) (sym more.there)
+        rw more.flat (subst (λ p. Step env mix c call words G op h (held_of_work (at.Locking rehash (number + 1) (lock_new p)))
+        (WorkNext (at.Locking rehash (number + 1) (lock_new p), Go))) (sym more.there)
         (leads op h (moving_at None) (known_of_work next) next (inl refl) refl refl refl
         (with_knowledge env mix c words G op h (moving_at None) (knowing (moving_at None) (Empties root (number + 1)))
         (knowing (moving_at None) (Faces root (number + 1) more.place)) step
-        (knows_that (moving_at None) _ _ (Empties root (number + 1)) (Faces root (number + 1) more.place) step.knows more.knows))))
+        (knows_that (moving_at None) _ _ (Empties root (number + 1)) (Faces root (number + 1) more.place) step.knows more.knows)))))
         (λ f.
         let next = at.Publishing rehash in
         let last : number + 1 ≡ size = (let above = ltb-false (number + 1) size f in omega (arith, above, below)) in
@@ -812,6 +815,8 @@ module _ (env : Env) (mix : ℕ → ℕ → ℕ → ℕ) (c : ℕ) where
     work_step (at.RootFuture root due) is known =
         root_future root due (slot_of (M (Slot root FutureWord))) refl known
     work_step (at.RootShape root future again) is known = root_shape root future again known
+    work_step (at.Entry rehash number place) is known =
+        nears_none env mix c M G whole _ (known_rehash rehash) number known.means.work
     work_step (at.Locking rehash number lock) is known =
         locked_leads rehash number lock (lock_after lock (old_of words (lock_plan lock)))
         (lock_work_step env mix c (moving_at None) words G all whole (known_rehash rehash) number lock is.lock_in.even known)

@@ -2,30 +2,32 @@
 -- The tables in force are those from the current one on, in the order in which they were attached. Each node that is met in them has a
 -- seat: it is in the chain of a bucket, or on its way out of one, and is the first of those to which its port is bound. And each such
 -- node is met. So the first one that has a port's key is the first to which the port is bound; the others are met along its list.
-use Rattle.std.proofs.Common.{◌≡◌, ℕ, zero, suc, ◌+◌, ◌-◌, ◌*◌, ◌%◌, ◌<◌, ◌≤◌, List, [], ◌∷◌, length, Option, Some, None, true, cond, refl, sym, ◌∙◌, ap, subst, inl, inr, slice_index, arith, map, ◌++◌}
-use Rattle.std.proofs.lemmas.Bool.{eqb-true, eq-eqb, lt-ltb, le-ltb, cases_eq}
+use Rattle.std.proofs.Common.{◌≡◌, ℕ, zero, suc, ◌+◌, ◌-◌, ◌*◌, ◌%◌, ◌<◌, ◌≤◌, List, [], ◌∷◌, length, Option, Some, None, true, refl, sym, ◌∙◌, ap, subst, inl, inr, slice_index, arith, ◌++◌, false}
+use Rattle.std.proofs.lemmas.Bool.{eqb-true, eq-eqb}
 use Rattle.std.proofs.lemmas.Bool.Decides.{nat_tests}
 use Rattle.std.proofs.lemmas.List.{append-nil}
 use Rattle.std.specs.Prelude.{IfSome}
-use Rattle.std.specs.List.{AllByRecursion, find, flat_map, range_with_len}
+use Rattle.std.specs.List.{find, flat_map, range_with_len}
 use Rattle.rht_words.specs.declared.env.Env.{Env}
 use Rattle.rht_words.specs.declared.geometry.Geometry.{Geometry}
 use Rattle.rht_words.proofs.Memory.{Memory}
-use Rattle.rht_words.specs.Links.{node_of, table_of, future_of, head_of, link_of, slot_of, marker_of}
+use Rattle.rht_words.specs.Links.{node_of, head_of, link_of, marker_of}
 use Rattle.rht_words.specs.Shapes.{unpacked, size_of}
 use Rattle.rht_words.specs.Chains.{IsSegment}
-use Rattle.rht_words.specs.Places.{CurrentTable, Slot, FutureWord}
 use Rattle.rht_words.proofs.ChainLemmas.{IsSegment-append}
-use Rattle.rht_words.proofs.LinksRead.{links_tell_apart, entries_come_back}
+use Rattle.rht_words.proofs.LinksRead.{links_tell_apart}
 use Rattle.rht_words.specs.Members.{In, IsDistinct, NotIn}
 use Rattle.rht_words.proofs.Members.{In-flat_map, flat_map-In, In-range_with_len, range_with_len-In, find-Some, find-None, In-AllByRecursion, count_below-most, length-count_below, not_in_from, In-append_cases, In-append_right, IsDistinct-with}
-use Rattle.rht_nest.specs.Place.{bucket_place, bucket_index}
-use Rattle.rht_core.specs.StandsFor.{in_force, chain_from, bucket_nodes, table_nodes, has_key, first_node, list_from, nodes_of, stands_for, shape_of, tables_from}
-use Rattle.rht_core.proofs.Theory.Ghosts.{Ghost, lock_bit, table_at, some-same, First, Leaving, seat_of, seated, index_at}
+use Rattle.rht_core.specs.StandsFor.{in_force, chain_from, bucket_in, bucket_nodes, table_nodes, has_key, first_node, list_from, nodes_of, stands_for, shape_of}
+use Rattle.rht_core.proofs.Theory.Ghosts.{Ghost, lock_bit, table_at, some-same, First, Leaving, seat_of, seated, is_entry}
 use Rattle.rht_core.proofs.Theory.Wholes.{chain_of, list_of, key_of, hash_in, home, place_at, Whole, stop, out-seated, seated_at, IsHomeOf}
-use Rattle.rht_core.proofs.Theory.Passed.{hash-below, home-index, home-within}
+use Rattle.rht_core.proofs.Theory.Passed.{hash-below, home-within, held-no_entry, member-no_entry, place-word, place-bucket}
 use Rattle.rht_core.proofs.Pieces.Lists.{list_among, list_few}
 use Rattle.rht_core.proofs.Theory.Steps.{mem, owners, owners_in}
+use Rattle.rht_core.proofs.Theory.Entries.{bucket-no_entry}
+use Rattle.rht_core.proofs.Theory.PlacesRead.{placed_in_words}
+use Rattle.std.specs.Option.{option_map}
+use Rattle.rht_core.proofs.Meaning.TablesInForce.{in_force_is, table_in_force}
 
 -- the first of a list
 abbrev pub head_or_none : List ℕ → Option ℕ
@@ -61,11 +63,11 @@ module _ (env : Env) (mix : ℕ → ℕ → ℕ → ℕ) (words : List ℕ) (G :
   head_of-locked place plain None even = ap (head_of place) (omega arith)
   head_of-locked place plain (Some c) even = grind (arith, nat_tests, even)
 
-  first_link : (j : ℕ) → j < 64 * g.pages
+  first_link : (j : ℕ) → j < 64 * g.pages → is_entry G j ≡ false
       → head_of (place_at env mix j) (slice_index words (place_at env mix j))
       ≡ head_of (place_at env mix j) (G.bucket j).plain
-  first_link j l =
-      let right = (whole.buckets j l).locked in
+  first_link j l plain =
+      let right = (whole.buckets j l plain).locked in
       ap (head_of (place_at env mix j)) right.word_is
       ∙ head_of-locked (place_at env mix j) (G.bucket j).plain (G.bucket j).holder right.even
 
@@ -112,12 +114,12 @@ module _ (env : Env) (mix : ℕ → ℕ → ℕ → ℕ) (words : List ℕ) (G :
         ],
       )
 
-  bucket_leads : (j : ℕ) → j < 64 * g.pages
+  bucket_leads : (j : ℕ) → j < 64 * g.pages → is_entry G j ≡ false
       → LeadsOn (head_of (place_at env mix j) (G.bucket j).plain)
       × ((n : ℕ) → In n (G.bucket j).nodes → LeadsOn (chain_of M n))
-  bucket_leads j l =
+  bucket_leads j l plain =
       segment_leads (head_of (place_at env mix j) (G.bucket j).plain) (G.bucket j).nodes
-      (stop env mix (place_at env mix j) (G.bucket j).out) (whole.buckets j l).chained.segment
+      (stop env mix (place_at env mix j) (G.bucket j).out) (whole.buckets j l plain).chained.segment
       (first-seat j) (stop_leads j)
 
   home-below : (port j : ℕ) → IsHomeOf env mix G port j → j < 64 * g.pages
@@ -128,12 +130,14 @@ module _ (env : Env) (mix : ℕ → ℕ → ℕ → ℕ) (words : List ℕ) (G :
   seat_leads n has = elim (seated (G.node n) has.0 has.1) [
     | inl first ↦
         let at = whole.owned.first_at n has.0 first in
-        (bucket_leads has.0 (home-below (key_of M n) has.0 at.at_home)).1 n at.there
+        (bucket_leads has.0 (home-below (key_of M n) has.0 at.at_home)
+        (member-no_entry env mix M G whole has.0 n at.there)).1 n at.there
     | inr leaving ↦
         let next = (whole.owned.leaving_at n has.0 leaving).next in
         let below = home-within env mix M G whole (key_of M n) (table_at G next.bucket) next.bucket next.attached
         next.here in
-        subst LeadsOn (sym next.chain) (bucket_leads next.bucket below).0
+        subst LeadsOn (sym next.chain) (bucket_leads next.bucket below
+        (held-no_entry env mix M G whole next.bucket next.worker next.holder)).0
   ]
 
   -- so each node that is met along chains has a seat
@@ -146,32 +150,33 @@ module _ (env : Env) (mix : ℕ → ℕ → ℕ → ℕ) (words : List ℕ) (G :
     | inr k ↦ chain_seats left (node_of g.nodes (chain_of M m)) (seat_leads m has) n k
   ]
 
-  bucket_seats : (j n : ℕ) → j < 64 * g.pages → In n (bucket_nodes g words (Some (place_at env mix j)))
+  bucket_seats : (j n : ℕ) → j < 64 * g.pages → is_entry G j ≡ false → In n (bucket_nodes g words (Some (place_at env mix j)))
       → HasSeat n
-  bucket_seats j n l i =
-      chain_seats g.nodes (node_of g.nodes (head_of (place_at env mix j) (G.bucket j).plain)) (bucket_leads j l).0 n
-      (subst (λ link. In n (chain_from g words g.nodes (node_of g.nodes link))) (first_link j l) i)
+  bucket_seats j n l plain i =
+      chain_seats g.nodes (node_of g.nodes (head_of (place_at env mix j) (G.bucket j).plain)) (bucket_leads j l plain).0 n
+      (subst (λ link. In n (chain_from g words g.nodes (node_of g.nodes link))) (first_link j l plain) i)
 
   -- ---- and each node that has a seat is met in its bucket
 
-  distinct_met : (j : ℕ) → j < 64 * g.pages → (nodes : List ℕ) (end : ℕ) → IsDistinct nodes
+  distinct_met : (j : ℕ) → j < 64 * g.pages → is_entry G j ≡ false → (nodes : List ℕ) (end : ℕ) → IsDistinct nodes
       → ((n : ℕ) → In n nodes → HasSeat n)
       → IsSegment (chain_of M) (head_of (place_at env mix j) (G.bucket j).plain) nodes end
       → (n : ℕ) → In n nodes → In n (bucket_nodes g words (Some (place_at env mix j)))
-  distinct_met j l nodes end distinct seats segment n i =
+  distinct_met j l plain nodes end distinct seats segment n i =
       let among : (m : ℕ) → In m nodes → m < g.nodes = λ m k. seat-among m (seats m k) in
       let few = length-count_below (λ m. true) g.nodes nodes distinct
       (In-AllByRecursion (λ m. m < g.nodes) nodes among) (λ m k. refl) in
       let most = count_below-most (λ m. true) g.nodes in
-      subst (λ link. In n (chain_from g words g.nodes (node_of g.nodes link))) (sym (first_link j l))
+      subst (λ link. In n (chain_from g words g.nodes (node_of g.nodes link))) (sym (first_link j l plain))
       (segment_met g.nodes (head_of (place_at env mix j) (G.bucket j).plain) nodes end (omega (arith, few, most))
       among segment n i)
 
   member_met : (j n : ℕ) → j < 64 * g.pages → In n (G.bucket j).nodes
       → In n (bucket_nodes g words (Some (place_at env mix j)))
   member_met j n l i =
-      let chained = (whole.buckets j l).chained in
-      distinct_met j l (G.bucket j).nodes (stop env mix (place_at env mix j) (G.bucket j).out) chained.distinct
+      let plain = member-no_entry env mix M G whole j n i in
+      let chained = (whole.buckets j l plain).chained in
+      distinct_met j l plain (G.bucket j).nodes (stop env mix (place_at env mix j) (G.bucket j).out) chained.distinct
       (first-seat j) chained.segment n i
 
   -- an entry on its way is met behind the bucket's nodes, of which it is none
@@ -179,7 +184,9 @@ module _ (env : Env) (mix : ℕ → ℕ → ℕ → ℕ) (words : List ℕ) (G :
       → In n (bucket_nodes g words (Some (place_at env mix j)))
   leaving_met j n l leaving =
       let at = whole.owned.leaving_at n j leaving in
-      let chained = (whole.buckets j l).chained in
+      let out = whole.moving.out j n at.out in
+      let plain = held-no_entry env mix M G whole j out.worker out.holder in
+      let chained = (whole.buckets j l plain).chained in
       let nodes = (G.bucket j).nodes in
       let first = head_of (place_at env mix j) (G.bucket j).plain in
       let apart : NotIn n nodes = not_in_from n nodes
@@ -187,7 +194,7 @@ module _ (env : Env) (mix : ℕ → ℕ → ℕ → ℕ) (words : List ℕ) (G :
       let upto : IsSegment (chain_of M) first nodes (link_of n) =
       subst (λ out. IsSegment (chain_of M) first nodes (stop env mix (place_at env mix j) out)) at.out
       chained.segment in
-      distinct_met j l (nodes ++ n ∷ []) (chain_of M n)
+      distinct_met j l plain (nodes ++ n ∷ []) (chain_of M n)
       (IsDistinct-with nodes n [] (subst IsDistinct (sym (append-nil nodes)) chained.distinct) apart tt)
       (λ m i. elim (In-append_cases m nodes (n ∷ []) i) [
         | inl k ↦ first-seat j m k
@@ -208,39 +215,47 @@ module _ (env : Env) (mix : ℕ → ℕ → ℕ → ℕ) (words : List ℕ) (G :
   size : ℕ → ℕ
   size τ = size_of (unpacked (G.table τ).shape)
 
-  -- the index of a bucket's word
-  abbrev index : ℕ → ℕ → ℕ
-  index τ bucket = bucket_index (G.table τ).shape bucket
-
-  index-within : (τ bucket : ℕ) → τ < G.attached → bucket < size τ → index τ bucket < 64 * g.pages
+  -- the place of its bucket, as the words have it
+  place_read : (τ bucket : ℕ) → τ < G.attached → bucket < size τ
+      → bucket_in g words (G.table τ).shape bucket ≡ option_map (place_at env mix) ((G.table τ).place bucket)
   unfolding size
-  index-within τ bucket l below = let fits = (whole.tables.each τ l).placed.fits in omega arith
+  place_read τ bucket l below = placed_in_words env mix M G whole τ bucket l below
 
-  place-index : (τ bucket : ℕ) → τ < G.attached → bucket < size τ
-      → bucket_place g (G.table τ).shape bucket ≡ Some (place_at env mix (index τ bucket))
-  place-index τ bucket l below =
-      ap (λ t. cond t (Some (place_at env mix (index τ bucket))) None)
-      (lt-ltb (index τ bucket) (64 * g.pages) (index-within τ bucket l below))
+  place-index : (τ bucket j : ℕ) → τ < G.attached → bucket < size τ → (G.table τ).place bucket ≡ Some j
+      → bucket_in g words (G.table τ).shape bucket ≡ Some (place_at env mix j)
+  place-index τ bucket j l below here = place_read τ bucket l below ∙ ap (option_map (place_at env mix)) here
 
-  -- a bucket of a table that was attached is one of the words of the pages
+  -- a bucket that has a word has it among those of the pages, and it is no entry
   pub record IsBucketAt (place : ℕ) : Type 0 where
     pub index : ℕ
     pub within : index < 64 * g.pages
+    pub plain : is_entry G index ≡ false
     pub place_is : place ≡ place_at env mix index
 
-  bucket_in : (τ bucket place : ℕ) → τ < G.attached
-      → bucket < size_of (unpacked (shape_of g words (G.table τ).slot))
-      → bucket_place g (shape_of g words (G.table τ).slot) bucket ≡ Some place → IsBucketAt place
+  bucket_word : (τ bucket place : ℕ) → τ < G.attached → bucket < size τ
+      → bucket_in g words (G.table τ).shape bucket ≡ Some place → IsBucketAt place
   unfolding size
-  bucket_in τ bucket place l below there =
-      let shape = (whole.tables.each τ l).shape_is in
-      let less : bucket < size τ = subst (λ s. bucket < size_of (unpacked s)) shape below in
-      record {
-        index = index τ bucket;
-        within = index-within τ bucket l less;
-        place_is = some-same place (place_at env mix (index τ bucket))
-            (sym (subst (λ s. bucket_place g s bucket ≡ Some place) shape there) ∙ place-index τ bucket l less);
+  bucket_word τ bucket place l below there = go ((G.table τ).place bucket) refl
+      (sym (place_read τ bucket l below) ∙ there)
+    where
+      go : (word : Option ℕ) → (G.table τ).place bucket ≡ word → option_map (place_at env mix) word ≡ Some place
+          → IsBucketAt place
+      go None e is = absurd (cc)
+      go (Some j) e is = record {
+        index = j;
+        within = (place-word env mix M G whole τ bucket j l below e).within;
+        plain = bucket-no_entry env mix G j (place-bucket env mix M G whole τ bucket j l below e);
+        place_is = sym (some-same (place_at env mix j) place is);
       }
+
+  bucket-within : (τ bucket place : ℕ) → τ < G.attached
+      → bucket < size_of (unpacked (shape_of g words (G.table τ).slot))
+      → bucket_in g words (shape_of g words (G.table τ).slot) bucket ≡ Some place → IsBucketAt place
+  unfolding size
+  bucket-within τ bucket place l below there =
+      let shape = (whole.tables.each τ l).shape_is in
+      bucket_word τ bucket place l (subst (λ s. bucket < size_of (unpacked s)) shape below)
+      (subst (λ s. bucket_in g words s bucket ≡ Some place) shape there)
 
   -- ---- a bucket that is locked
 
@@ -260,159 +275,47 @@ module _ (env : Env) (mix : ℕ → ℕ → ℕ → ℕ) (words : List ℕ) (G :
       (chain_met left (chain_of M n) nodes end (omega arith) (λ m i. among m (inr i)) s.1 none))
 
   -- the nodes that are met in a bucket out of which no entry is on its way are the bucket's
-  pub still_met : (j : ℕ) → j < 64 * g.pages → (G.bucket j).out ≡ None
+  pub still_met : (j : ℕ) → j < 64 * g.pages → is_entry G j ≡ false → (G.bucket j).out ≡ None
       → bucket_nodes g words (Some (place_at env mix j)) ≡ (G.bucket j).nodes
-  still_met j l still =
+  still_met j l plain still =
       let place = place_at env mix j in
       let nodes = (G.bucket j).nodes in
       let first = head_of place (G.bucket j).plain in
-      let chained = (whole.buckets j l).chained in
+      let chained = (whole.buckets j l plain).chained in
       let among : (m : ℕ) → In m nodes → m < g.nodes = λ m k. seat-among m (first-seat j m k) in
       let few = length-count_below (λ m. true) g.nodes nodes chained.distinct
       (In-AllByRecursion (λ m. m < g.nodes) nodes among) (λ m k. refl) in
       let most = count_below-most (λ m. true) g.nodes in
-      ap (λ link. chain_from g words g.nodes (node_of g.nodes link)) (first_link j l)
+      ap (λ link. chain_from g words g.nodes (node_of g.nodes link)) (first_link j l plain)
       ∙ chain_met g.nodes first nodes (marker_of place) (omega (arith, few, most)) among
       (subst (λ out. IsSegment (chain_of M) first nodes (stop env mix place out)) still chained.segment)
       (links_tell_apart.marker_names_no_node g.nodes place)
 
   -- the bucket of a port in a table is the one with this number
   pub home_place : (port τ j : ℕ) → τ < G.attached → home env mix G port τ ≡ Some j
-      → bucket_place g (G.table τ).shape (hash_in env mix G port τ) ≡ Some (place_at env mix j)
+      → bucket_in g words (G.table τ).shape (hash_in env mix G port τ) ≡ Some (place_at env mix j)
   unfolding size
   home_place port τ j l here =
-      let bucket = hash_in env mix G port τ in
-      place-index τ bucket l (hash-below env mix M G whole port τ)
-      ∙ ap (λ i. Some (place_at env mix i))
-      (some-same (index τ bucket) j (sym (home-index env mix M G whole port τ l) ∙ here))
+      place-index τ (hash_in env mix G port τ) j l (hash-below env mix M G whole port τ) here
 
-  -- ---- the tables in force
-
-  -- the slots of the tables from this one on, where the last ones are attached
-  abbrev slots_from : ℕ → ℕ → List ℕ
-  slots_from τ count = map (λ σ. (G.table σ).slot) (range_with_len τ count)
-
-  -- the slot of the next table, where one is attached
-  abbrev next_slot : ℕ → ℕ → Option ℕ
-  next_slot τ zero = None
-  next_slot τ (suc count) = Some (G.table τ).slot
-
-  future-leads : (τ count : ℕ) → τ + 1 + count ≡ G.attached
-      → slot_of (M (Slot (G.table τ).slot FutureWord)) ≡ next_slot (τ + 1) count
-  future-leads τ zero all =
-      ap slot_of ((whole.tables.each τ (omega (arith, all))).future_is
-      ∙ ap (λ t. cond t (future_of (G.table (τ + 1)).slot) 0) (le-ltb (τ + 1) G.attached (omega (arith, all))))
-  future-leads τ (suc count) all =
-      let next = whole.tables.each (τ + 1) (omega (arith, all)) in
-      ap slot_of ((whole.tables.each τ (omega (arith, all))).future_is
-      ∙ ap (λ t. cond t (future_of (G.table (τ + 1)).slot) 0) (lt-ltb (τ + 1) G.attached (omega (arith, all))))
-      ∙ entries_come_back.future_names (G.table (τ + 1)).slot next.slot_in
-
-  tables_met : (left τ count : ℕ) → count ≤ left → τ + count ≡ G.attached
-      → tables_from g words left (next_slot τ count) ≡ slots_from τ count
-  tables_met zero τ zero fuel all = refl
-  tables_met (suc left) τ zero fuel all = refl
-  tables_met zero τ (suc count) fuel all = absurd (omega (arith, fuel))
-  tables_met (suc left) τ (suc count) fuel all =
-      ap (λ rest. (G.table τ).slot ∷ rest)
-      (ap (tables_from g words left) (future-leads τ count (omega (arith, all)))
-      ∙ tables_met left (τ + 1) count (omega (arith, fuel)) (omega (arith, all)))
-
-  -- tables have slots of their own, of which there are eight
-  own_slot : (τ σ : ℕ) → τ < G.attached → σ < G.attached → (G.table τ).slot ≡ (G.table σ).slot → τ ≡ σ
-  own_slot τ σ l m same =
-      sym (whole.tables.each τ l).index ∙ ap (index_at G) same ∙ (whole.tables.each σ m).index
-
-  slots_apart : (τ σ count : ℕ) → τ < σ → σ + count ≡ G.attached → NotIn (G.table τ).slot (slots_from σ count)
-  slots_apart τ σ zero less all = tt
-  slots_apart τ σ (suc count) less all = (
-    (λ same. let e = own_slot τ σ (omega (arith, less, all)) (omega (arith, all)) same in absurd (omega (arith, e, less))),
-    slots_apart τ (σ + 1) count (omega (arith, less)) (omega (arith, all)),
-  )
-
-  slots_distinct : (τ count : ℕ) → τ + count ≡ G.attached → IsDistinct (slots_from τ count)
-  slots_distinct τ zero all = tt
-  slots_distinct τ (suc count) all =
-      (slots_apart τ (τ + 1) count (omega arith) (omega (arith, all)), slots_distinct (τ + 1) count (omega (arith, all)))
-
-  slots_below : (τ count : ℕ) → τ + count ≡ G.attached → AllByRecursion (λ s. s < 8) (slots_from τ count)
-  slots_below τ zero all = tt
-  slots_below τ (suc count) all =
-      ((whole.tables.each τ (omega (arith, all))).slot_in, slots_below (τ + 1) count (omega (arith, all)))
-
-  slots_many : (τ count : ℕ) → length (slots_from τ count) ≡ count
-  slots_many τ zero = refl
-  slots_many τ (suc count) = ap suc (slots_many (τ + 1) count)
-
-  -- how many tables are in force
-  abbrev in_use : ℕ
-  in_use = G.attached - G.current
-
-  tables_in_force : in_force g words ≡ slots_from G.current in_use
-  tables_in_force = go in_use refl
-    where
-      go : (count : ℕ) → in_use ≡ count → in_force g words ≡ slots_from G.current count
-      go zero is = absurd (omega (arith, is, whole.tables.current_in))
-      go (suc count) is =
-          let all : G.current + suc count ≡ G.attached = omega (arith, is, whole.tables.current_in) in
-          let right = whole.tables.each G.current whole.tables.current_in in
-          let few = length-count_below (λ s. true) 8 (slots_from G.current (suc count))
-          (slots_distinct G.current (suc count) all) (slots_below G.current (suc count) all) (λ s i. refl) in
-          let most = count_below-most (λ s. true) 8 in
-          let fuel : suc count ≤ 8 = omega (arith, few, most, slots_many G.current (suc count)) in
-          let first : table_of (M CurrentTable) ≡ (G.table G.current).slot =
-          (let word = whole.tables.current_is in omega (arith, right.slot_in, word)) in
-          ap (λ s. tables_from g words 8 (Some s)) first ∙ tables_met 8 G.current (suc count) fuel all
-
-  -- a table in force is one of those from the current one on
-  pub record IsTableInForce (slot : ℕ) : Type 0 where
-    pub table : ℕ
-    pub current : G.current ≤ table
-    pub attached : table < G.attached
-    pub slot_is : slot ≡ (G.table table).slot
-
-  slot_in : (slot τ count : ℕ) → G.current ≤ τ → τ + count ≡ G.attached → In slot (slots_from τ count)
-      → IsTableInForce slot
-  slot_in slot τ zero low all i = absurd i
-  slot_in slot τ (suc count) low all i = elim i [
-    | inl e ↦ record { table = τ; current = low; attached = omega (arith, all); slot_is = e }
-    | inr k ↦ slot_in slot (τ + 1) count (omega (arith, low)) (omega (arith, all)) k
-  ]
-
-  pub in_force_is : (slot : ℕ) → In slot (in_force g words) → IsTableInForce slot
-  in_force_is slot i =
-      slot_in slot G.current in_use (omega arith) (let l = whole.tables.current_in in omega (arith, l))
-      (subst (In slot) tables_in_force i)
-
-  in_slots : (τ σ count : ℕ) → σ ≤ τ → τ < σ + count → In (G.table τ).slot (slots_from σ count)
-  in_slots τ σ zero low high = absurd (omega (arith, low, high))
-  in_slots τ σ (suc count) low high = elim (cases_eq τ σ) [
-    | inl e ↦ inl (ap (λ t. (G.table t).slot) e)
-    | inr ne ↦ inr (in_slots τ (σ + 1) count (omega (arith, low, ne)) (omega (arith, high)))
-  ]
-
-  pub table_in_force : (τ : ℕ) → G.current ≤ τ → τ < G.attached → In (G.table τ).slot (in_force g words)
-  table_in_force τ low high =
-      subst (In (G.table τ).slot) (sym tables_in_force) (in_slots τ G.current in_use low (omega (arith, low, high)))
+  -- ---- all nodes that are met
 
   -- a bucket of a table in force is one of the words of the pages
   pub bucket_in_force : (slot bucket place : ℕ) → In slot (in_force g words)
       → bucket < size_of (unpacked (shape_of g words slot))
-      → bucket_place g (shape_of g words slot) bucket ≡ Some place → IsBucketAt place
+      → bucket_in g words (shape_of g words slot) bucket ≡ Some place → IsBucketAt place
   bucket_in_force slot bucket place i below there =
-      let is = in_force_is slot i in
-      bucket_in is.table bucket place is.attached
+      let is = in_force_is env mix words G whole slot i in
+      bucket-within is.table bucket place is.attached
       (subst (λ s. bucket < size_of (unpacked (shape_of g words s))) is.slot_is below)
-      (subst (λ s. bucket_place g (shape_of g words s) bucket ≡ Some place) is.slot_is there)
-
-  -- ---- all nodes that are met
+      (subst (λ s. bucket_in g words (shape_of g words s) bucket ≡ Some place) is.slot_is there)
 
   abbrev all_nodes : List ℕ
   all_nodes = flat_map (table_nodes g words) (in_force g words)
 
   -- the buckets of a table
   abbrev buckets_in : ℕ → ℕ → List ℕ
-  buckets_in shape bucket = bucket_nodes g words (bucket_place g shape bucket)
+  buckets_in shape bucket = bucket_nodes g words (bucket_in g words shape bucket)
 
   table_seats : (τ n : ℕ) → τ < G.attached → In n (table_nodes g words (G.table τ).slot) → HasSeat n
   unfolding size
@@ -423,28 +326,35 @@ module _ (env : Env) (mix : ℕ → ℕ → ℕ → ℕ) (words : List ℕ) (G :
       (whole.tables.each τ l).shape_is i in
       let from = flat_map-In (buckets_in shape) n (range_with_len 0 (size τ)) there in
       let below : from.0 < size τ = (let is = range_with_len-In 0 (size τ) from.0 from.1 in omega (arith, is)) in
-      bucket_seats (index τ from.0) n (index-within τ from.0 l below)
-      (subst (λ place. In n (bucket_nodes g words place)) (place-index τ from.0 l below) from.2)
+      go from.0 below (bucket_in g words shape from.0) refl from.2
+    where
+      go : (bucket : ℕ) → bucket < size τ → (place : Option ℕ)
+          → bucket_in g words (G.table τ).shape bucket ≡ place → In n (bucket_nodes g words place) → HasSeat n
+      go bucket below None is met = absurd met
+      go bucket below (Some place) is met =
+          let at = bucket_word τ bucket place l below is in
+          bucket_seats at.index n at.within at.plain
+          (subst (λ p. In n (bucket_nodes g words (Some p))) at.place_is met)
 
   -- a node that is met is the first of those to which its port is bound
   pub met_bound : (n : ℕ) → In n all_nodes → (behind : List ℕ) × (G.bound (key_of M n) ≡ n ∷ behind)
   met_bound n i =
       let from = flat_map-In (table_nodes g words) n (in_force g words) i in
-      let is = in_force_is from.0 from.1 in
+      let is = in_force_is env mix words G whole from.0 from.1 in
       let has = table_seats is.table n is.attached
       (subst (λ s. In n (table_nodes g words s)) is.slot_is from.2) in
       let at = seated_at env mix M G whole n has.0 has.1 in
       (at.behind, at.bound_to)
 
   -- a node that belongs to a table in force is met there
-  table_met : (τ b n : ℕ) → τ < G.attached → b < size τ
-      → In n (bucket_nodes g words (Some (place_at env mix (index τ b))))
+  table_met : (τ b j n : ℕ) → τ < G.attached → b < size τ → (G.table τ).place b ≡ Some j
+      → In n (bucket_nodes g words (Some (place_at env mix j)))
       → In n (table_nodes g words (G.table τ).slot)
   unfolding size
-  table_met τ b n l below there =
+  table_met τ b j n l below is there =
       let shape = (G.table τ).shape in
       let here : In n (buckets_in shape b) =
-      subst (λ place. In n (bucket_nodes g words place)) (sym (place-index τ b l below)) there in
+      subst (λ place. In n (bucket_nodes g words place)) (sym (place-index τ b j l below is)) there in
       subst (λ s. In n (flat_map (buckets_in s) (range_with_len 0 (size_of (unpacked s)))))
       (sym (whole.tables.each τ l).shape_is)
       (In-flat_map (buckets_in shape) n b (range_with_len 0 (size τ))
@@ -461,13 +371,10 @@ module _ (env : Env) (mix : ℕ → ℕ → ℕ → ℕ) (words : List ℕ) (G :
       let τ = table_at G to.bucket in
       let bucket = hash_in env mix G key τ in
       let below : bucket < size τ = hash-below env mix M G whole key τ in
-      let there : index τ bucket ≡ to.bucket =
-      some-same (index τ bucket) to.bucket (sym (home-index env mix M G whole key τ at.attached) ∙ at.here) in
       let seat = seat_met n to.bucket (home-below key to.bucket at) to.first in (
         In-flat_map (table_nodes g words) n (G.table τ).slot (in_force g words)
-            (table_in_force τ at.current at.attached)
-            (table_met τ bucket n at.attached below
-            (subst (λ j. In n (bucket_nodes g words (Some (place_at env mix j)))) (sym there) seat)),
+            (table_in_force env mix words G whole τ at.current at.attached)
+            (table_met τ bucket to.bucket n at.attached below at.here seat),
         to.key_is,
       )
 

@@ -13,8 +13,7 @@ use Rattle.rht_words.specs.declared.geometry.Geometry.{Geometry}
 use Rattle.rht_words.specs.Links.{node_of, slot_of}
 use Rattle.rht_words.specs.Ports.{owner_of}
 use Rattle.rht_words.specs.Places.{Slot, FutureWord, Node, ChainLink, KeyWord, OwnerWord, ListLink, place_of}
-use Rattle.rht_nest.specs.Place.{bucket_place}
-use Rattle.rht_core.specs.StandsFor.{chain_from, tables_from, bucket_nodes, table_nodes, owners_from, has_key}
+use Rattle.rht_core.specs.StandsFor.{chain_from, tables_from, bucket_in, bucket_nodes, table_nodes, owners_from, has_key}
 
 -- ---- a list whose first part has been looked through
 
@@ -121,7 +120,7 @@ module _ (g : Geometry) (words : List ℕ) where
 
     -- the nodes of a bucket of a table with this shape
     abbrev pub nodes_in : ℕ → ℕ → List ℕ
-    nodes_in shape bucket = bucket_nodes g words (bucket_place g shape bucket)
+    nodes_in shape bucket = bucket_nodes g words (bucket_in g words shape bucket)
 
     -- the first node with the key in the buckets of a table of so many that are left
     abbrev pub first_of_buckets : ℕ → ℕ → ℕ → Option ℕ
@@ -132,7 +131,7 @@ module _ (g : Geometry) (words : List ℕ) where
         (within : bucket < count) (first : first_of_buckets shape count bucket ≡ whole)
         (found : Option ℕ) (place : Option ℕ) (searched : found ≡ find (has_key g words key)
         (bucket_nodes g words place))
-        (at : place ≡ bucket_place g shape bucket) where
+        (at : place ≡ bucket_in g words shape bucket) where
       -- the nodes in the buckets behind this one
       abbrev behind : List ℕ
       behind = flat_map (nodes_in shape) (range_with_len (bucket + 1) (count - (bucket + 1)))

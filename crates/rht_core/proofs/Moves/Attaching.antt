@@ -2,24 +2,27 @@
 -- caller has made. The slot and its pages are the table's, whose buckets are empty, and it is the last one.
 --
 -- The future that is written was 0, so that table was the last: each other table's leads to the one behind it.
-use Rattle.std.proofs.Common.{◌≡◌, ◌≢◌, ◌↔◌, ℕ, ◌+◌, ◌*◌, ◌/◌, ◌%◌, ◌<◌, ◌≤◌, cond, nat_lt, Some, None, true, false, refl, sym, ◌∙◌, ap, subst, inl, inr, arith}
+use Rattle.std.proofs.Common.{◌≡◌, ◌≢◌, ◌↔◌, ℕ, ◌+◌, ◌*◌, ◌/◌, ◌%◌, ◌<◌, ◌≤◌, cond, nat_lt, None, true, false, refl, sym, ◌∙◌, ap, subst, inl, inr, arith, Some}
 use Rattle.std.specs.Prelude.{nat_le}
 use Rattle.std.specs.Int.{bit_at}
 use Rattle.std.proofs.lemmas.Bool.{cases_eq, cases_lt, lt-ltb, le-ltb, ltb-true, leb-true, and_parts}
 use Rattle.std.proofs.lemmas.Bool.Decides.{nat_tests}
 use Rattle.rht_words.specs.declared.env.Env.{Env}
 use Rattle.rht_words.specs.Links.{future_of}
-use Rattle.rht_words.specs.Shapes.{unpacked, size_of}
-use Rattle.rht_words.specs.Places.{CurrentTable, WorkLock, Slot, SlotWord, ShapeWord, SeedWord, FutureWord, StateWord, PageMap, IsSlotWord}
+use Rattle.rht_words.specs.Shapes.{unpacked}
+use Rattle.rht_words.specs.Places.{CurrentTable, WorkLock, Slot, SlotWord, ShapeWord, SeedWord, FutureWord, StateWord, PageMap, IsSlotWord, PageWord}
 use Rattle.rht_words.proofs.Memory.{Memory, IsWrite}
-use Rattle.rht_nest.specs.Tables.{table_pages}
+use Rattle.rht_nest.specs.Tables.{table_pages, is_nested}
 use Rattle.rht_nest.proofs.MakesMade.{size_of-fits}
-use Rattle.rht_core.proofs.Theory.Ghosts.{Table, blank_bucket, put, put-same, put-other, put-all, put_in, put_in-there, put_in-all, PageOwner, PageFree, PageHeld, PageOf, SlotOwner, SlotHeld, Live, Ghost, state_word, table_of_slot, has_table, index_at, flat_table, is_page_for, with_table}
-use Rattle.rht_core.proofs.Theory.Wholes.{retired_stay, IsNoBucket, IsPageOf, SlotIsOf, TableRight, TablesRight, SlotsRight, PagesRight, PlacedRight, future_in, pages_of, Whole}
+use Rattle.rht_core.proofs.Theory.Ghosts.{has_entries, Table, blank_bucket, put, put-same, put-other, put-all, put_in, put_in-there, put_in-all, PageOwner, PageFree, PageHeld, PageOf, SlotOwner, SlotHeld, Live, Ghost, state_word, table_of_slot, has_table, index_at, made_table, is_page_for, with_table, Row, Top, lock_bit, is_entry, is_entry_of, entry_word, table_at, table_of_page}
+use Rattle.rht_core.proofs.Theory.Wholes.{retired_stay, IsNoBucket, EntriesRight, SlotIsOf, TableRight, TablesRight, SlotsRight, PagesRight, PlacedRight, future_in, Whole, IsFlat, IsNested}
+use Rattle.rht_core.proofs.Theory.Ways.{IsSpareIn, StandsAs}
 use Rattle.rht_core.proofs.Theory.Readiness.{IsAttaching}
 use Rattle.rht_core.proofs.Theory.Frames.{Others, Made}
-use Rattle.rht_core.proofs.Theory.TableFrames.{TablesKept, no_table-no_bucket, Whole-retabled, Rely-retabled, TableRight-kept}
+use Rattle.rht_core.proofs.Theory.TableFrames.{TablesKept, same_kept, no_table-no_bucket, Whole-retabled, Rely-retabled, TableRight-kept, placed_kept, entry_word-kept}
 use Rattle.rht_core.proofs.Moves.Slots.{slot_word-apart, held_by_two}
+use Rattle.rht_core.proofs.Theory.Knowledge.{IsFlatMade, IsNestedMade}
+use Rattle.rht_core.proofs.Theory.Entries.{entry_in}
 
 -- a page of a table with this shape
 pub page_for-is : (shape p : ℕ) → is_page_for shape p ≡ true
@@ -51,7 +54,7 @@ module _ (env : Env) (mix : ℕ → ℕ → ℕ → ℕ) where
       (none : M (Slot (G.table τ).slot FutureWord) ≡ 0)
       (write : IsWrite env.geometry M M' (Slot (G.table τ).slot FutureWord) (future_of slot)) where
     abbrev new : Table
-    new = flat_table slot shape seed serial
+    new = made_table slot shape seed serial
 
     abbrev G' : Ghost
     G' = with_table G new
@@ -79,16 +82,19 @@ module _ (env : Env) (mix : ℕ → ℕ → ℕ → ℕ) where
     no_table s has e =
         let z : true ≡ false = sym has ∙ ap (λ i. has_table (G.slot i)) e ∙ ap has_table ready.made.has.mine in cc
 
+    -- the tables that there were stay, and get no page
+    table_same : (σ : ℕ) → σ < G.attached → tables σ ≡ G.table σ
+    table_same σ k = put-other G.table G.attached new σ (omega (arith, k))
+
+    page_before : (p σ : ℕ) → σ < G.attached → page p ≡ PageOf σ → G.page p ≡ PageOf σ
+    page_before p σ k = put_in-all (λ q o. o ≡ PageOf σ → G.page q ≡ PageOf σ) (is_page_for shape) (PageOf G.attached)
+        G.page (λ q there is. let same : G.attached ≡ σ = cc in absurd (omega (arith, same, k))) (λ q there is. is) p
+
     pub attached_kept : TablesKept env mix G tables (G.attached + 1) slots page
-    attached_kept = record {
-      tables = λ σ k. put-other G.table G.attached new σ (omega arith);
-      more = omega arith;
-      slots = λ s has. put-other G.slot slot (Live G.attached) s (no_table s has);
-      pages = λ p σ. put_in-all (λ q o. G.page q ≡ PageOf σ → o ≡ PageOf σ) (is_page_for shape)
-          (PageOf G.attached) G.page
-          (λ q there is. let z : PageHeld d ≡ PageOf σ = sym (mine q there) ∙ is in absurd (cc))
-          (λ q there is. is) p;
-    }
+    attached_kept = same_kept env mix G tables (G.attached + 1) slots page table_same (omega arith)
+        (λ s has. put-other G.slot slot (Live G.attached) s (no_table s has))
+        (λ p σ. put_in-all (λ q o. G.page q ≡ PageOf σ → o ≡ PageOf σ) (is_page_for shape) (PageOf G.attached) G.page
+        (λ q there is. let z : PageHeld d ≡ PageOf σ = sym (mine q there) ∙ is in absurd (cc)) (λ q there is. is) p)
 
     -- ---- the tables
 
@@ -119,17 +125,19 @@ module _ (env : Env) (mix : ℕ → ℕ → ℕ → ℕ) where
           let here = whole.tables.each σ k in
           other_word (G.table σ).slot FutureWord here.slot_in tt (λ e. ne (slot_differs σ k (cc)))
           ∙ here.future_is ∙ was
-          ∙ ap (λ (t : Table). future_of t.slot) (sym (attached_kept.tables (σ + 1) more)) ∙ sym now
+          ∙ ap (λ (t : Table). future_of t.slot) (sym (table_same (σ + 1) more)) ∙ sym now
     ]
 
     old_table : (σ : ℕ) → σ < G.attached → TableRight env mix M' G' σ
     old_table σ k =
         let here = whole.tables.each σ k in
         TableRight-kept env mix M M' G tables (G.attached + 1) slots page whole attached_kept
-        (Slot last FutureWord) (future_of slot) write (slot_word-apart last FutureWord) σ k
+        (Slot last FutureWord) (future_of slot) write (slot_word-apart G last FutureWord) σ k
         (other_word (G.table σ).slot ShapeWord here.slot_in tt (λ e. cc))
         (other_word (G.table σ).slot SeedWord here.slot_in tt (λ e. cc))
         (old_future σ k)
+        (placed_kept env mix M M' G tables (G.attached + 1) slots page whole attached_kept (Slot last FutureWord)
+        (future_of slot) write (slot_word-apart G last FutureWord) σ k (table_same σ k) (λ p. page_before p σ k))
 
     -- the new one
     same_new : tables G.attached ≡ new
@@ -142,25 +150,54 @@ module _ (env : Env) (mix : ℕ → ℕ → ℕ → ℕ) where
     own_word w is = other_word slot w ready.made.has.within is
         (λ e. let same : last ≡ slot = cc in no_table last (whole.tables.each τ l).has_slot same)
 
-    new_placed : PlacedRight env mix G' G.attached
-    new_placed =
-        let first = (unpacked shape).page in
+    -- its pages are those of which it is made
+    own_page : (p : ℕ) → is_page_for shape p ≡ true → page p ≡ PageOf G.attached
+    own_page p there = put_in-there (is_page_for shape) (PageOf G.attached) G.page p there
+
+    page_own : (p : ℕ) → page p ≡ PageOf G.attached → is_page_for shape p ≡ true
+    page_own = put_in-all (λ p o. o ≡ PageOf G.attached → is_page_for shape p ≡ true) (is_page_for shape)
+        (PageOf G.attached) G.page (λ p there is. there)
+        (λ p there is. let before = whole.pages.page_of p G.attached is in absurd (omega (arith, before)))
+
+    flat_placed : IsFlatMade env mix shape → IsFlat env mix new page G.attached
+    flat_placed made =
         let size = size_of-fits (unpacked shape) in
+        let flat : is_nested shape ≡ false = ap (nat_lt 0) made.flat in
         record {
-          flat = subst (λ (t : Table). (unpacked t.shape).nest ≡ 0) (sym same_new) ready.made.flat;
-          fits = subst (λ (t : Table). 64 * (unpacked t.shape).page + size_of (unpacked t.shape)
-              ≤ 64 * env.geometry.pages) (sym same_new) (omega (arith, size, ready.made.fits));
-          places = λ b k. subst (λ (t : Table). t.place b ≡ Some (64 * (unpacked t.shape).page + b)) (sym same_new)
-              refl;
+          flat = made.flat;
+          fits = omega (arith, size, made.many, ready.made.fits);
+          places = λ b k. ap (λ t. cond t None (Some (64 * (unpacked shape).page + b))) flat;
           pages = λ b k.
-              let below : b < size_of (unpacked shape) =
-              subst (λ (t : Table). b < size_of (unpacked t.shape)) same_new k in
-              let p = (64 * first + b) / 64 in
-              let there : is_page_for shape p ≡ true =
-              is_page-for shape p (omega arith) (omega (arith, below, size)) in
-              ap (λ (t : Table). page ((64 * (unpacked t.shape).page + b) / 64)) same_new
-              ∙ put_in-there (is_page_for shape) (PageOf G.attached) G.page p there;
+              let p = (64 * (unpacked shape).page + b) / 64 in
+              own_page p (is_page-for shape p (omega arith) (omega (arith, k, size, made.many)));
+          run = λ p is.
+              let both = page_for-is shape p (page_own p is) in
+              record { from = both.0; below = omega (arith, both.1, made.many) };
+          rows = λ p is. ap (λ t. cond t Top Row) flat;
         }
+
+    nested_placed : IsNestedMade env mix shape → IsNested env mix new page G.attached
+    nested_placed made =
+        let first = (unpacked shape).page in
+        let nested : is_nested shape ≡ true = lt-ltb 0 (unpacked shape).nest (omega (arith, made.shaped.nest_is)) in
+        let top : (p : ℕ) → new.part p ≡ Top = λ p. ap (λ t. cond t Top Row) nested in
+        record {
+          shaped = made.shaped;
+          top_within = omega (arith, made.one, ready.made.fits);
+          top_of = own_page first (is_page-for shape first (omega arith) (omega (arith, made.one)));
+          top_part = top first;
+          stands = λ p is.
+              let both = page_for-is shape p (page_own p is) in
+              subst (StandsAs new p) (sym (top p)) (omega (arith, both.0, both.1, made.one));
+          leads = λ j p of has entry. absurd (cc);
+          places = λ b. ap (λ t. cond t None (Some (64 * first + b))) nested;
+        }
+
+    new_placed : PlacedRight env mix new page G.attached
+    new_placed = elim ready.made.kind [
+      | inl flat ↦ inl (flat_placed flat)
+      | inr nested ↦ inr (nested_placed nested)
+    ]
 
     new_table : TableRight env mix M' G' G.attached
     new_table = record {
@@ -176,7 +213,7 @@ module _ (env : Env) (mix : ℕ → ℕ → ℕ → ℕ) where
           ∙ ready.made.future_is
           ∙ sym (ap (λ t. cond t (future_of (tables (G.attached + 1)).slot) 0)
           (le-ltb (G.attached + 1) (G.attached + 1) (omega arith)));
-      placed = new_placed;
+      placed = subst (λ t. PlacedRight env mix t page G.attached) (sym same_new) new_placed;
     }
 
     slot_is : (s : ℕ) → has_table (slots s) ≡ true → SlotIsOf env mix G' s
@@ -194,7 +231,7 @@ module _ (env : Env) (mix : ℕ → ℕ → ℕ → ℕ) where
           record {
             attached = omega (arith, is.attached, index);
             slot = ap (λ i. (tables i).slot) index
-                ∙ ap (λ (t : Table). t.slot) (attached_kept.tables (index_at G s) is.attached) ∙ is.slot;
+                ∙ ap (λ (t : Table). t.slot) (table_same (index_at G s) is.attached) ∙ is.slot;
           }
     ]
 
@@ -202,12 +239,19 @@ module _ (env : Env) (mix : ℕ → ℕ → ℕ → ℕ) where
     tables_right = record {
       current_in = omega (arith, whole.tables.current_in);
       current_is = write.others CurrentTable tt (λ e. cc) ∙ whole.tables.current_is
-          ∙ sym (ap (λ (t : Table). t.slot) (attached_kept.tables G.current whole.tables.current_in));
+          ∙ sym (ap (λ (t : Table). t.slot) (table_same G.current whole.tables.current_in));
       each = λ σ k. elim (cases_eq σ G.attached) [
         | inl e ↦ subst (TableRight env mix M' G') (sym e) new_table
         | inr ne ↦ old_table σ (omega (arith, k, ne))
       ];
       slots = slot_is;
+      flat = λ σ k. elim (cases_eq σ G.attached) [
+        | inl e ↦ subst (λ τ. (unpacked (tables τ).shape).nest ≡ 0) (sym e)
+            (subst (λ (t : Table). (unpacked t.shape).nest ≡ 0) (sym same_new) ready.made.flat)
+        | inr ne ↦
+            let before : σ < G.attached = omega (arith, k, ne) in
+            subst (λ (t : Table). (unpacked t.shape).nest ≡ 0) (sym (table_same σ before)) (whole.tables.flat σ before)
+      ];
     }
 
     -- ---- slots and pages
@@ -220,29 +264,9 @@ module _ (env : Env) (mix : ℕ → ℕ → ℕ → ℕ) where
           (λ s ne k. other_word s StateWord k tt (λ e. cc) ∙ whole.slots.states s k);
       worker_is = write.others WorkLock tt (λ e. cc) ∙ whole.slots.worker_is;
       retired = λ idle. retired_stay G G' None refl
-          (λ σ k. attached_kept.tables σ (omega (arith, k, whole.tables.current_in)))
+          (λ σ k. ap (λ (t : Table). t.slot) (table_same σ (omega (arith, k, whole.tables.current_in))))
           (λ s σ is. attached_kept.slots s (ap has_table is) ∙ is) (whole.slots.retired idle);
     }
-
-    -- a table that there was has the pages that it had
-    old_page : (p σ : ℕ) → G.page p ≡ PageOf σ → IsPageOf env mix G' p σ
-    old_page p σ is =
-        let of = whole.pages.page_of p σ is in
-        let same = attached_kept.tables σ of.attached in
-        record {
-          attached = omega (arith, of.attached);
-          from = subst (λ (t : Table). (unpacked t.shape).page ≤ p) (sym same) of.from;
-          below = subst (λ (t : Table). p < (unpacked t.shape).page + pages_of env mix t.shape) (sym same) of.below;
-        }
-
-    new_page : (p : ℕ) → is_page_for shape p ≡ true → IsPageOf env mix G' p G.attached
-    new_page p there =
-        let both = page_for-is shape p there in
-        record {
-          attached = omega arith;
-          from = subst (λ (t : Table). (unpacked t.shape).page ≤ p) (sym same_new) both.0;
-          below = subst (λ (t : Table). p < (unpacked t.shape).page + pages_of env mix t.shape) (sym same_new) both.1;
-        }
 
     -- a word that is no bucket's was none before, or was one of the caller's pages
     old_no_bucket : (owner : PageOwner) (j : ℕ) → ((σ : ℕ) → owner ≡ PageOf σ → σ < G.attached)
@@ -250,8 +274,7 @@ module _ (env : Env) (mix : ℕ → ℕ → ℕ → ℕ) where
     old_no_bucket PageFree j within is = tt
     old_no_bucket (PageHeld c) j within is = tt
     old_no_bucket (PageOf σ) j within is =
-        subst (λ (t : Table). 64 * (unpacked t.shape).page + size_of (unpacked t.shape) ≤ j)
-        (attached_kept.tables σ (within σ refl)) is
+        subst (λ (t : Table). IsSpareIn t.shape (t.part (j / 64)) j) (table_same σ (within σ refl)) is
 
     blank_right : (j : ℕ) → IsNoBucket env mix G' (page (j / 64)) j → G.bucket j ≡ blank_bucket
     blank_right j = put_in-all (λ p o. p ≡ j / 64 → IsNoBucket env mix G' o j → G.bucket j ≡ blank_bucket)
@@ -259,7 +282,7 @@ module _ (env : Env) (mix : ℕ → ℕ → ℕ → ℕ) where
         (λ p there same is. whole.pages.blank j (no_table-no_bucket env mix G (G.page (j / 64)) j
         (λ σ of. let z : PageHeld d ≡ PageOf σ = sym (mine p there) ∙ ap G.page same ∙ of in absurd (cc))))
         (λ p there same is. whole.pages.blank j (subst (λ q. IsNoBucket env mix G (G.page q) j) same
-        (old_no_bucket (G.page p) j (λ σ of. (whole.pages.page_of p σ of).attached) is))) (j / 64) refl
+        (old_no_bucket (G.page p) j (λ σ of. whole.pages.page_of p σ of) is))) (j / 64) refl
 
     pages_right : PagesRight env mix M' G'
     pages_right = record {
@@ -272,10 +295,9 @@ module _ (env : Env) (mix : ℕ → ℕ → ℕ → ℕ) where
             (λ e. absurd (cc)),
           ))
           (λ p there k. rw (write.others (PageMap (p / 64)) (omega arith) (λ e. cc)) (whole.pages.bits p k));
-      page_of = λ p σ. put_in-all (λ q o. o ≡ PageOf σ → IsPageOf env mix G' q σ) (is_page_for shape)
-          (PageOf G.attached) G.page
-          (λ q there is. let same : G.attached ≡ σ = cc in subst (IsPageOf env mix G' q) same (new_page q there))
-          (λ q there is. old_page q σ is) p;
+      page_of = λ p σ. put_in-all (λ q o. o ≡ PageOf σ → σ < G.attached + 1) (is_page_for shape) (PageOf G.attached)
+          G.page (λ q there is. let same : G.attached ≡ σ = cc in omega (arith, same))
+          (λ q there is. omega (arith, whole.pages.page_of q σ is)) p;
       blank = blank_right;
     }
       where
@@ -283,16 +305,47 @@ module _ (env : Env) (mix : ℕ → ℕ → ℕ → ℕ) where
             → bit_at (M' (PageMap (p / 64))) (p % 64) ≡ bit_at (M (PageMap (p / 64))) (p % 64)
         bit_same p k = ap (λ w. bit_at w (p % 64)) (write.others (PageMap (p / 64)) (omega arith) (λ e. cc))
 
+    -- the entries of the new table lead to no page, as their words say
+    new_entry : (j : ℕ) → j < 64 * env.geometry.pages → is_page_for shape (j / 64) ≡ true → M' (PageWord j) ≡ 0
+    new_entry j l there =
+        let own = mine (j / 64) there in
+        let plain : is_entry G j ≡ false = ap (λ o. is_entry_of G.table o (j / 64)) own in
+        let right = (whole.buckets j l plain).locked in
+        let blank = whole.pages.blank j (subst (λ o. IsNoBucket env mix G o j) (sym own) tt) in
+        write.others (PageWord j) l (λ e. cc) ∙ right.word_is ∙ ap (λ b. b.plain + lock_bit b.holder) blank
+
+    entry_right : (j σ p : ℕ) → j < 64 * env.geometry.pages → p ≡ j / 64 → page p ≡ PageOf σ
+        → has_entries ((tables σ).part p) ≡ true → M' (PageWord j) ≡ entry_word ((tables σ).entry j)
+    entry_right j σ p l = put_in-all (λ q o. q ≡ j / 64 → o ≡ PageOf σ → has_entries ((tables σ).part q) ≡ true
+        → M' (PageWord j) ≡ entry_word ((tables σ).entry j)) (is_page_for shape) (PageOf G.attached) G.page
+        (λ q there at of has.
+        let same : G.attached ≡ σ = cc in
+        new_entry j l (subst (λ k. is_page_for shape k ≡ true) at there)
+        ∙ sym (ap (λ i. entry_word ((tables i).entry j)) (sym same) ∙ ap (λ (t : Table). entry_word (t.entry j)) same_new))
+        (λ q there at of has.
+        let was : G.page (j / 64) ≡ PageOf σ = ap G.page (sym at) ∙ of in
+        let before = whole.pages.page_of q σ of in
+        let now : table_at G' j ≡ σ = ap table_of_page (attached_kept.pages (j / 64) σ was) in
+        entry_word-kept env mix M M' G tables (G.attached + 1) slots page whole attached_kept (Slot last FutureWord)
+        (future_of slot) write (slot_word-apart G last FutureWord) j σ l was (table_same σ before)
+        (ap (λ k. has_entries ((tables σ).part k)) (sym at) ∙ has) (λ e. cc)
+        ∙ ap (λ i. entry_word ((tables i).entry j)) now) p
+
+    entries_right : EntriesRight env mix M' G'
+    entries_right j l is =
+        let in_page = entry_in env mix G' j is in
+        entry_right j (table_at G' j) (j / 64) l refl in_page.of in_page.has
+
     -- ---- the move
 
     attached_whole : Whole env mix M' G'
     attached_whole = Whole-retabled env mix M M' G tables (G.attached + 1) slots page whole attached_kept
-        (Slot last FutureWord) (future_of slot) write (slot_word-apart last FutureWord) tables_right slots_right
-        pages_right
+        (Slot last FutureWord) (future_of slot) write (slot_word-apart G last FutureWord) tables_right slots_right
+        pages_right entries_right
 
     attached_others : Others env mix d M G M' G'
     attached_others c ne = Rely-retabled env mix M M' G tables (G.attached + 1) slots page whole attached_kept
-        (Slot last FutureWord) (future_of slot) write (slot_word-apart last FutureWord) c (record {
+        (Slot last FutureWord) (future_of slot) write (slot_word-apart G last FutureWord) c (record {
           slots = λ s is. put-other G.slot slot (Live G.attached) s
               (λ e. held_by_two c d ne (G.slot slot) ready.made.has.mine (ap G.slot (sym e) ∙ is)) ∙ is;
           slot_words = λ s w has is. other_word s w has.within is (λ e.

@@ -9,10 +9,10 @@ use Rattle.rht_words.specs.Members.{In}
 use Rattle.rht_words.proofs.Memory.{Memory, IsWrite}
 use Rattle.rht_core.proofs.Theory.Ghosts.{put-all, Bucket, Held, First, Behind, Ghost, lock_bit, seat_of, table_at, some-same}
 use Rattle.rht_core.proofs.Theory.Wholes.{chain_of, key_of, place_at, stop, BucketRight, OutRight, Whole}
-use Rattle.rht_core.proofs.Theory.Passed.{home-within}
+use Rattle.rht_core.proofs.Theory.Passed.{home-within, held-no_entry}
 use Rattle.rht_core.proofs.Theory.Knowns.{last_of}
 use Rattle.rht_core.proofs.Theory.Frames.{Made}
-use Rattle.rht_core.proofs.Theory.Departures.{first_one, first_not_leaving, left, cut_by, cut_off, CanCut}
+use Rattle.rht_core.proofs.Theory.Departures.{first_one, first_not_leaving, cut_by, cut_off, CanCut}
 use Rattle.rht_core.proofs.Moves.Relinking.{segment_relinked, last_in, last_none, relink_address}
 use Rattle.rht_core.proofs.Moves.Reseating.{IsEntryStore, IsOnItsWay, IsReseated, reseat}
 
@@ -99,7 +99,7 @@ module _ (env : Env) (mix : ℕ → ℕ → ℕ → ℕ) where
       cut_right = go before can.last write
         where
           old_right : BucketRight env mix M j (G.bucket j)
-          old_right = whole.buckets j cut_within
+          old_right = whole.buckets j cut_within (held-no_entry env mix M G whole j d its_holder)
 
           go : (b : Option ℕ) → b ≡ last_of (G.bucket j).nodes
               → IsWrite env.geometry M M' (relink_address j b) (cut_value (place_at env mix j) b)

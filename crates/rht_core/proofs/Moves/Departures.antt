@@ -1,6 +1,6 @@
 -- The stores by which the work brings the last entry of a bucket of the current table into one of a table behind it: the entry's link
 -- leads to the first node there, and then the other bucket's word leads to the entry.
-use Rattle.std.proofs.Common.{◌≡◌, ◌≢◌, ◌⊎◌, ℕ, ◌+◌, ◌*◌, ◌<◌, List, [], ◌∷◌, ◌++◌, Option, Some, refl, sym, ◌∙◌, ap, subst, inl, inr, arith}
+use Rattle.std.proofs.Common.{◌≡◌, ◌≢◌, ◌⊎◌, ℕ, ◌*◌, ◌<◌, List, [], ◌∷◌, ◌++◌, Option, Some, refl, sym, ◌∙◌, ap, subst, inl, inr, arith}
 use Rattle.rht_words.specs.declared.env.Env.{Env}
 use Rattle.rht_words.specs.Links.{link_of, head_of, marker_of}
 use Rattle.rht_words.specs.Chains.{IsSegment}
@@ -12,7 +12,7 @@ use Rattle.rht_words.proofs.ChainLemmas.{IsSegment-cut, IsSegment-members}
 use Rattle.rht_words.proofs.Members.{not_in_from, in_and_not, in-middle, In-append_left, In-append_cases, IsDistinct-cut, IsDistinct-left}
 use Rattle.rht_core.proofs.Theory.Ghosts.{put-same, put-other, put-all, Bucket, Held, First, Leaving, Behind, Ghost, seat_of, table_at, none-some, some-same}
 use Rattle.rht_core.proofs.Theory.Wholes.{chain_of, key_of, place_at, home, stop, BucketRight, OutRight, IsHomeOf, IsFirstAt, IsLeavingAt, Whole}
-use Rattle.rht_core.proofs.Theory.Passed.{home-within}
+use Rattle.rht_core.proofs.Theory.Passed.{home-within, held-no_entry, member-no_entry}
 use Rattle.rht_core.proofs.Theory.Frames.{Made}
 use Rattle.rht_core.proofs.Theory.Readiness.{linked_bucket}
 use Rattle.rht_core.proofs.Theory.Departures.{first_one, leaving_one, first_not_leaving, left_by, left, arrived, CanLeave, CanArrive}
@@ -41,7 +41,7 @@ module _ (env : Env) (mix : ℕ → ℕ → ℕ → ℕ) where
       within = home-within env mix M G whole (key_of M entry) (table_at G j) j at.at_home.attached at.at_home.here
 
       old : BucketRight env mix M j (G.bucket j)
-      old = whole.buckets j within
+      old = whole.buckets j within (member-no_entry env mix M G whole j entry there)
 
       distinct : IsDistinct (nodes ++ entry ∷ [])
       distinct = subst IsDistinct can.split old.chained.distinct
@@ -261,7 +261,7 @@ module _ (env : Env) (mix : ℕ → ℕ → ℕ → ℕ) where
 
     joined_right : BucketRight env mix M' i joined_bucket
     joined_right =
-        let was = whole.buckets i next_within in
+        let was = whole.buckets i next_within (held-no_entry env mix M G whole i d can.next.holder) in
         let place = place_at env mix i in
         let ends = stop env mix place (G.bucket i).out in
         let link : chain_of M' entry ≡ head_of place (G.bucket i).plain =

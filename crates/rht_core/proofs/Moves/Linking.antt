@@ -11,14 +11,14 @@ use Rattle.rht_words.proofs.Memory.{Memory, IsWrite}
 use Rattle.rht_words.specs.Members.{In, NotIn}
 use Rattle.rht_words.proofs.Members.{not_in_from, count_below-more}
 use Rattle.rht_words.proofs.ChainLemmas.{IsSegment-members}
-use Rattle.rht_core.proofs.Theory.Ghosts.{put, put-same, put-other, put-all, Free, Held, First, Leaving, Behind, Ghost, is_first, is_used, is_taken_by, IsUsed, seat_of, seat_in, seat, seat-used, held_not_used, held_by_one, none-some, some-same, table_at}
+use Rattle.rht_core.proofs.Theory.Ghosts.{put, put-same, put-other, put-all, Free, Held, First, Leaving, Behind, Ghost, is_first, is_used, is_taken_by, IsUsed, seat_of, seat_in, seat, seat-used, held_not_used, held_by_one, none-some, some-same, table_at, is_entry}
 use Rattle.rht_core.proofs.Theory.Wholes.{chain_of, list_of, key_of, place_at, home, stop, IsNoBucket, BucketRight, ArmedRight, IsHomeOf, IsFirstAt, IsBehindIn, IsBoundTo, Owned, ArenaRight, IsBuilt, Whole, none_out, out-seated, firsts, raisers}
-use Rattle.rht_core.proofs.Theory.Passed.{home-within, home-table, held-bucket, PassesStay, IsArmedFor}
+use Rattle.rht_core.proofs.Theory.Passed.{home-within, home-table, held-bucket, PassesStay, IsArmedFor, held-no_entry}
 use Rattle.rht_core.proofs.Theory.Knowledge.{ArmedFor, IsEmptied}
 use Rattle.rht_core.proofs.Theory.Reliance.{bound_used}
 use Rattle.rht_core.proofs.Theory.Readiness.{linked_bucket, linked, IsReady}
 use Rattle.rht_core.proofs.Theory.Frames.{Made, UsedStay, used_stay, chains_stay, seat_stays, first_stays, SameTables, same_tables, tables_stay, holdings_stay, entries_stay, work_stays}
-use Rattle.rht_core.proofs.Theory.WholeFrames.{TablesRight-write, SlotsRight-write, PagesRight-write, IsHomeOf-same, BucketRight-frame, MovingStays, entry_words, MovingRight-frame, Leaving-frame}
+use Rattle.rht_core.proofs.Theory.WholeFrames.{TablesRight-write, SlotsRight-write, PagesRight-write, IsHomeOf-same, BucketRight-frame, MovingStays, entry_words, MovingRight-frame, Leaving-frame, EntriesRight-write, locked-no_entry}
 
 module _ (env : Env) (mix : ℕ → ℕ → ℕ → ℕ) where
   head_of-link : (place n : ℕ) → head_of place (link_of n) ≡ link_of n
@@ -181,7 +181,7 @@ module _ (env : Env) (mix : ℕ → ℕ → ℕ → ℕ) where
 
     linked_right : BucketRight env mix M' here (linked_bucket (G.bucket here) n)
     linked_right =
-        let old = whole.buckets here within in
+        let old = whole.buckets here within (held-no_entry env mix M G whole here d ready.holder) in
         let rest : IsSegment (chain_of M') (head_of (place_at env mix here) (G.bucket here).plain) (G.bucket here).nodes (stop env mix (place_at env mix here) (G.bucket here).out)
         = IsSegment-members (chain_of M) (chain_of M')
         (head_of (place_at env mix here) (G.bucket here).plain) (G.bucket here).nodes
@@ -330,12 +330,13 @@ module _ (env : Env) (mix : ℕ → ℕ → ℕ → ℕ) where
             (λ j blank. put-other G.bucket here (linked_bucket (G.bucket here) n) j
             (λ e. held-bucket env mix M G whole here d ready.holder
             (subst (λ k. IsNoBucket env mix G (G.page (k / 64)) k) e blank))) whole.pages;
-        buckets = put-all (λ i b. i < 64 * env.geometry.pages
-            → BucketRight env mix M' i b) G.bucket here (linked_bucket (G.bucket here) n)
-            (λ l. linked_right)
-            (λ i ne l. BucketRight-frame env mix M M' i (G.bucket i)
+        buckets = put-all (λ i b. i < 64 * env.geometry.pages → is_entry G i ≡ false → BucketRight env mix M' i b)
+            G.bucket here (linked_bucket (G.bucket here) n) (λ l none. linked_right)
+            (λ i ne l none. BucketRight-frame env mix M M' i (G.bucket i)
             (write.others (PageWord i) l (λ e. ne (cc)))
-            (λ m k. first_word m i ChainLink (whole.owned.member i m k)) (whole.buckets i l));
+            (λ m k. first_word m i ChainLink (whole.owned.member i m k)) (whole.buckets i l none));
+        entries = EntriesRight-write env mix M M' G G' (PageWord here) (link_of n) write
+            (locked-no_entry env mix M G (PageWord here) d here whole ready.holder (λ j ne e. ne (cc))) same whole.entries;
         moving = MovingRight-frame env mix M M' G G' whole same linked_moving (entry_words env mix M M' G whole words_stay);
         owned = linked_owned;
         arena = linked_arena;

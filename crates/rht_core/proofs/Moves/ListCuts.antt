@@ -10,7 +10,7 @@ use Rattle.rht_words.proofs.Memory.{Memory, IsWrite}
 use Rattle.rht_words.proofs.ChainLemmas.{IsSegment-cut, IsSegment-members}
 use Rattle.rht_words.proofs.Members.{in_and_not, in-middle, In-append_left, In-append_right, In-append_cases, NotIn-cut, NotIn-append, IsDistinct-cut, IsDistinct-without, IsDistinct-left, IsDistinct-apart, count_below-same}
 use Rattle.rht_core.proofs.Theory.Ghosts.{put, put-same, put-other, put-all, First, Behind, Taken, Ghost, seat_of, is_first, is_used, taken_by_one, held_not_used, table_at}
-use Rattle.rht_core.proofs.Theory.Passed.{home-within}
+use Rattle.rht_core.proofs.Theory.Passed.{home-within, held-no_entry}
 use Rattle.rht_core.proofs.Theory.Wholes.{list_of, key_of, MovesNone, IsHomeOf, IsFirstAt, IsBehindIn, IsBoundTo, IsBuilt, Whole, firsts, raisers}
 use Rattle.rht_core.proofs.Theory.Knowns.{last_of}
 use Rattle.rht_core.proofs.Theory.Frames.{Made, same_tables}
@@ -283,7 +283,8 @@ module _ (env : Env) (mix : ℕ → ℕ → ℕ → ℕ) (d port j m q p : ℕ) 
       other_changed = cut_changed;
       right = BucketRight-frame env mix M M' j (G.bucket j) (write.others (PageWord j) within (λ e. cc))
           (λ n i. write.others (Node n ChainLink) (whole.owned.first_at n j
-          (whole.owned.member j n i)).among (λ e. cc)) (whole.buckets j within);
+          (whole.owned.member j n i)).among (λ e. cc)) (whole.buckets j within
+          (held-no_entry env mix M G whole j d found.holder));
       seat = λ n more b. let same : n ≡ m = (let z = sym b ∙ found.bound_to in cc) in rw same first;
       members = λ n i.
           let f = whole.owned.member j n i in

@@ -9,15 +9,15 @@ use Rattle.rht_words.specs.declared.env.Env.{Env}
 use Rattle.rht_words.specs.Places.{WorkLock, Slot, StateWord, PageMap}
 use Rattle.rht_words.proofs.Memory.{Memory, IsWrite}
 use Rattle.rht_core.proofs.Theory.Ghosts.{blank_bucket, put_in, put_in-all, PageOwner, PageFree, PageHeld, PageOf, Ghost, has_bit, with_pages}
-use Rattle.rht_core.proofs.Theory.Wholes.{IsNoBucket, IsPageOf, SlotsRight, PagesRight, Whole}
+use Rattle.rht_core.proofs.Theory.Wholes.{IsNoBucket, SlotsRight, PagesRight, Whole}
 use Rattle.rht_core.proofs.Theory.Readiness.{ArePagesOf}
 use Rattle.rht_core.proofs.Theory.Frames.{Others, Made}
 use Rattle.rht_core.proofs.Theory.WholeFrames.{no_bucket}
-use Rattle.rht_core.proofs.Theory.TableFrames.{TablesKept, IsNoBucketWord, no_table-no_bucket, Whole-retabled, Rely-retabled, TablesRight-kept}
+use Rattle.rht_core.proofs.Theory.TableFrames.{TablesKept, same_kept, IsNoBucketWord, no_table-no_bucket, Whole-retabled, Rely-retabled, TablesRight-kept, EntriesRight-kept}
 
 -- no word of the map of pages is a bucket's or a node's
-pub map_word-apart : (index : ℕ) → IsNoBucketWord (PageMap index)
-map_word-apart index = record { nodes = λ n u e. cc; buckets = λ j e. cc; map = λ i e. cc; count = λ e. cc }
+pub map_word-apart : (G : Ghost) (index : ℕ) → IsNoBucketWord G (PageMap index)
+map_word-apart G index = record { nodes = λ n u e. cc; buckets = λ j none e. cc; map = λ i e. cc; count = λ e. cc }
 
 -- a page that has one of the bits has it in this word
 pub has_bit-is : (index bits p : ℕ) → has_bit index bits p ≡ true → (p / 64 ≡ index) × (bit_at bits (p % 64) ≡ 1)
@@ -45,13 +45,11 @@ module _ (env : Env) (mix : ℕ → ℕ → ℕ → ℕ) where
   -- tables keep theirs
   pub pages_kept : (index bits : ℕ) (before after : PageOwner) (G : Ghost) → ArePagesOf env mix G index bits before
       → NoTable before → TablesKept env mix G G.table G.attached G.slot (put_in (has_bit index bits) after G.page)
-  pages_kept index bits before after G was none = record {
-    tables = λ τ l. refl;
-    more = omega arith;
-    slots = λ s has. refl;
-    pages = λ p τ. put_in-all (λ q o. G.page q ≡ PageOf τ → o ≡ PageOf τ) (has_bit index bits) after G.page
-        (λ q there is. absurd (none τ (sym (was.owned q there) ∙ is))) (λ q there is. is) p;
-  }
+  pages_kept index bits before after G was none =
+      same_kept env mix G G.table G.attached G.slot (put_in (has_bit index bits) after G.page) (λ τ l. refl) (omega arith)
+      (λ s has. refl)
+      (λ p τ. put_in-all (λ q o. G.page q ≡ PageOf τ → o ≡ PageOf τ) (has_bit index bits) after G.page
+      (λ q there is. absurd (none τ (sym (was.owned q there) ∙ is))) (λ q there is. is) p)
 
   module _ (index bits v : ℕ) (before after : PageOwner) (M M' : Memory) (G : Ghost) (whole : Whole env mix M G)
       (was : ArePagesOf env mix G index bits before) (none_before : NoTable before) (none_after : NoTable after)
@@ -95,13 +93,15 @@ module _ (env : Env) (mix : ℕ → ℕ → ℕ → ℕ) where
         (λ p there same is. whole.pages.blank j (subst (λ q. IsNoBucket env mix G (G.page q) j) same
         (no_bucket env mix G G' refl (G.page p) j is))) (j / 64) refl
 
+    -- no table gets a page
+    page_before : (p τ : ℕ) → page p ≡ PageOf τ → G.page p ≡ PageOf τ
+    page_before p τ = put_in-all (λ q o. o ≡ PageOf τ → G.page q ≡ PageOf τ) (has_bit index bits) after G.page
+        (λ q there is. absurd (none_after τ is)) (λ q there is. is) p
+
     pages_right : PagesRight env mix M' G'
     pages_right = record {
       bits = bits_right;
-      page_of = λ p τ. put_in-all (λ q o. o ≡ PageOf τ → IsPageOf env mix G' q τ) (has_bit index bits) after G.page
-          (λ q there is. absurd (none_after τ is))
-          (λ q there is. let of = whole.pages.page_of q τ is in
-          record { attached = of.attached; from = of.from; below = of.below }) p;
+      page_of = λ p τ is. whole.pages.page_of p τ (page_before p τ is);
       blank = blank_right;
     }
 
@@ -114,16 +114,18 @@ module _ (env : Env) (mix : ℕ → ℕ → ℕ → ℕ) where
 
     repaged : Whole env mix M' G'
     repaged = Whole-retabled env mix M M' G G.table G.attached G.slot page whole kept (PageMap index) v write
-        (map_word-apart index)
-        (TablesRight-kept env mix M M' G G.slot page whole kept (PageMap index) v write (map_word-apart index)
-        (record { current = λ e. cc; slots = λ s w has e. cc }) (λ s has. refl))
+        (map_word-apart G index)
+        (TablesRight-kept env mix M M' G G.slot page whole kept (PageMap index) v write (map_word-apart G index)
+        (record { current = λ e. cc; slots = λ s w has e. cc }) (λ s has. refl) page_before)
         slots_right pages_right
+        (EntriesRight-kept env mix M M' G G.table G.attached G.slot page whole kept (PageMap index) v write
+        (map_word-apart G index) (λ τ l. refl) (λ p τ of has. page_before p τ of) (λ j e. cc))
 
     repaged_others : (d : ℕ) → ((c : ℕ) → c ≢ d → before ≢ PageHeld c) → ((c : ℕ) → c ≢ d → after ≢ PageHeld c)
         → Others env mix d M G M' G'
     repaged_others d not_before not_after c ne =
         Rely-retabled env mix M M' G G.table G.attached G.slot page whole kept (PageMap index) v write
-        (map_word-apart index) c (record {
+        (map_word-apart G index) c (record {
           slots = λ s is. is;
           slot_words = λ s w has is. write.others (Slot s w) (has.within, is) (λ e. cc);
           no_slot = λ s is. is;

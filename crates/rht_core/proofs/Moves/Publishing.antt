@@ -1,6 +1,6 @@
 -- The moves by which a table is left behind: the next one becomes the current table, and the one before is retired.
-use Rattle.std.proofs.Common.{◌≡◌, ◌≢◌, ℕ, ◌+◌, ◌-◌, ◌*◌, ◌/◌, ◌<◌, ◌≤◌, Option, Some, true, refl, sym, ◌∙◌, ap, subst, inl, inr, arith}
-use Rattle.std.proofs.lemmas.Bool.{cases_eq, cases_lt}
+use Rattle.std.proofs.Common.{◌≡◌, ◌≢◌, ℕ, ◌+◌, ◌/◌, ◌<◌, ◌≤◌, Option, Some, true, refl, sym, ◌∙◌, ap, subst, inl, inr, arith}
+use Rattle.std.proofs.lemmas.Bool.{cases_eq}
 use Rattle.rht_words.specs.declared.env.Env.{Env}
 use Rattle.rht_words.specs.Shapes.{unpacked, size_of}
 use Rattle.rht_words.specs.Places.{CurrentTable, WorkLock, Slot, StateWord}
@@ -13,6 +13,8 @@ use Rattle.rht_core.proofs.Theory.Knowledge.{IsEmptied}
 use Rattle.rht_core.proofs.Theory.Frames.{Made}
 use Rattle.rht_core.proofs.Theory.Departures.{published, retired, CanPublish, CanRetire}
 use Rattle.rht_core.proofs.Moves.Standing.{IsStandingWord, SlotsStand, slots_stand, restate}
+use Rattle.rht_core.proofs.Theory.Entries.{bucket_of_word}
+use Rattle.rht_core.proofs.Theory.Ways.{number_in}
 
 module _ (env : Env) (mix : ℕ → ℕ → ℕ → ℕ) where
   -- the word is that of one of its table's buckets
@@ -31,19 +33,9 @@ module _ (env : Env) (mix : ℕ → ℕ → ℕ → ℕ) where
       go PageFree is bucket = absurd (bucket tt)
       go (PageHeld c) is bucket = absurd (bucket tt)
       go (PageOf τ) is bucket =
-          let of = whole.pages.page_of (j / 64) τ is in
-          let placed = (whole.tables.each τ of.attached).placed in
-          let page = (unpacked (G.table τ).shape).page in
-          let size = size_of (unpacked (G.table τ).shape) in
-          let from : 64 * page ≤ j = omega (arith, of.from) in
-          elim (cases_lt j (64 * page + size)) [
-            | inl less ↦
-                let number : ℕ = j - 64 * page in
-                let below : number < size = omega (arith, less, from) in
-                let same : 64 * page + number ≡ j = omega (arith, from) in
-                record { number = number; below = below; here = placed.places number below ∙ ap Some same }
-            | inr least ↦ absurd (bucket least)
-          ]
+          let l = whole.pages.page_of (j / 64) τ is in
+          let of = bucket_of_word env mix (G.table τ) G.page τ (whole.tables.each τ l).placed j is bucket in
+          record { number = number_in (G.table τ) j; below = of.below; here = of.here }
 
   -- ---- the next table becomes the current one
 

@@ -1,11 +1,13 @@
 -- The moves that change neither nodes nor what is bound: the lock of a bucket is taken and dropped, and the count of ports is
 -- raised and lowered.
 use Rattle.std.proofs.Common.{◌≡◌, ◌≢◌, ◌⊎◌, ℕ, ◌+◌, ◌-◌, ◌*◌, ◌/◌, ◌%◌, ◌^◌, ◌<◌, Option, Some, None, true, false, refl, sym, ◌∙◌, ap, subst, inl, inr, arith}
+use Rattle.std.proofs.lemmas.Bool.{both_ways}
 use Rattle.rht_words.specs.declared.env.Env.{Env}
 use Rattle.rht_words.specs.Places.{Address, PortCount, Slot, NodeMap, Node, NodeWord, ChainLink, KeyWord, OwnerWord, PageWord}
 use Rattle.rht_words.proofs.Memory.{Memory, IsWrite}
 use Rattle.rht_words.proofs.Members.{count_below-more, count_below-most}
-use Rattle.rht_core.proofs.Theory.Ghosts.{put, put-same, put-other, put-all, Ghost, lock_bit, is_first, seat, table_at, held_by, with_holder, armed_by, with_armed, with_raised, none-some}
+use Rattle.rht_core.proofs.Theory.Ghosts.{put, put-same, put-other, put-all, Ghost, lock_bit, is_first, seat, table_at, held_by, with_holder, armed_by, with_armed, with_raised, is_entry, none-some}
+use Rattle.rht_core.proofs.Theory.Entries.{bucket-no_entry}
 use Rattle.rht_core.proofs.Theory.Wholes.{LockedRight, BucketRight, ArmedRight, IsNoBucket, MovesNone, Whole, firsts, raisers}
 use Rattle.rht_core.proofs.Theory.Passed.{held-bucket, PassesStay, WasOut}
 use Rattle.rht_core.proofs.Theory.Readiness.{IsArming}
@@ -47,17 +49,19 @@ module _ (env : Env) (mix : ℕ → ℕ → ℕ → ℕ) where
       → v ≡ (G.bucket j).plain + lock_bit holder → IsWrite env.geometry M M' (PageWord j) v
       → Whole env mix M' (with_holder G j holder)
   relocked j v holder M M' G whole l unworked bucket is write =
-      let old = (whole.buckets j l).locked in
+      let plain = bucket-no_entry env mix G j bucket in
+      let old = (whole.buckets j l plain).locked in
       let held = held_by (G.bucket j) holder in
       Whole-frame env mix M M' G (with_holder G j holder) (PageWord j) v whole write
       (record { current = λ e. cc; work = λ e. cc; slots = λ s u e. cc; pages = λ i e. cc })
+      (λ i entry e. let same : i ≡ j = cc in both_ways (is_entry G j) plain (ap (is_entry G) (sym same) ∙ entry))
       (held_chains G j holder unworked)
       (used_stay env mix M M' G (PageWord j) v whole write (λ n w e. cc))
       (λ i blank. put-other G.bucket j held i
       (λ e. bucket (subst (λ k. IsNoBucket env mix G (G.page (k / 64)) k) e blank)))
-      (put-all (λ i b. i < 64 * env.geometry.pages → LockedRight env mix M' i b) G.bucket j held
-      (λ k. record { word_is = write.same ∙ is; even = old.even })
-      (λ i ne k. let right = (whole.buckets i k).locked in record {
+      (put-all (λ i b. i < 64 * env.geometry.pages → is_entry G i ≡ false → LockedRight env mix M' i b) G.bucket j held
+      (λ k none. record { word_is = write.same ∙ is; even = old.even })
+      (λ i ne k none. let right = (whole.buckets i k none).locked in record {
         word_is = write.others (PageWord i) k (λ e. ne (cc)) ∙ right.word_is;
         even = right.even;
       }))
@@ -116,7 +120,7 @@ module _ (env : Env) (mix : ℕ → ℕ → ℕ → ℕ) where
       → IsWrite env.geometry M M' (PageWord j) (v + 1)
       → Made env mix d M G M' (with_holder G j (Some d)) × ((G.bucket j).plain ≡ v) × ((G.bucket j).holder ≡ None)
   take_lock d j v M M' G whole l bucket found even write =
-      let right = (whole.buckets j l).locked in
+      let right = (whole.buckets j l (bucket-no_entry env mix G j bucket)).locked in
       let free = nobody_holds (G.bucket j).holder (G.bucket j).plain v (sym found
       ∙ right.word_is) even right.even in
       let unworked : IsUnworked G j = λ c k entry holds is by. none-some free.0 holds in (
@@ -217,19 +221,20 @@ module _ (env : Env) (mix : ℕ → ℕ → ℕ → ℕ) where
           };
           pages = record {
             bits = whole.pages.bits;
-            page_of = λ p τ of. let page = whole.pages.page_of p τ of in
-                record { attached = page.attached; from = page.from; below = page.below };
+            page_of = whole.pages.page_of;
             blank = λ i blank. put-other G.bucket j armed i
                 (λ e. held-bucket env mix M G whole j d is.holder
                 (subst (λ k. IsNoBucket env mix G (G.page (k / 64)) k) e (no_bucket env mix G G' refl (G.page (i / 64)) i blank)))
                 ∙ whole.pages.blank i (no_bucket env mix G G' refl (G.page (i / 64)) i blank);
           };
-          buckets = put-all (λ i b. i < 64 * env.geometry.pages → BucketRight env mix M i b) G.bucket j armed
-              (λ l. let right = whole.buckets j l in record {
+          buckets = put-all (λ i b. i < 64 * env.geometry.pages → is_entry G i ≡ false → BucketRight env mix M i b) G.bucket j
+              armed
+              (λ l none. let right = whole.buckets j l none in record {
                 locked = record { word_is = right.locked.word_is; even = right.locked.even };
                 chained = record { segment = right.chained.segment; distinct = right.chained.distinct };
               })
               (λ i ne. whole.buckets i);
+          entries = whole.entries;
           moving = MovingRight-frame env mix M M G G' whole same moving (entry_words env mix M M G whole unwritten);
           owned = Owned-frame env mix M M G G' whole (record {
             tables = same;
@@ -292,7 +297,7 @@ module _ (env : Env) (mix : ℕ → ℕ → ℕ → ℕ) where
       let stay = used_stay env mix M M' G PortCount v whole write (λ n w e. cc) in
       record {
         whole = Whole-frame env mix M M' G (with_raised G d true) PortCount v whole write
-            (record { current = λ e. cc; work = λ e. cc; slots = λ s u e. cc; pages = λ i e. cc })
+            (record { current = λ e. cc; work = λ e. cc; slots = λ s u e. cc; pages = λ i e. cc }) (λ j entry e. cc)
             (same_chains env mix G (put G.raised d true)) stay (λ j blank. refl)
             (locks_stay env mix M M' G PortCount v whole write (λ j e. cc))
             (arena_stays env mix M M' G PortCount v whole write (with_raised G d true) refl (λ i e. cc))
@@ -324,7 +329,7 @@ module _ (env : Env) (mix : ℕ → ℕ → ℕ → ℕ) where
       let stay = used_stay env mix M M' G PortCount v whole write (λ n w e. cc) in
       record {
         whole = Whole-frame env mix M M' G (with_raised G d false) PortCount v whole write
-            (record { current = λ e. cc; work = λ e. cc; slots = λ s u e. cc; pages = λ i e. cc })
+            (record { current = λ e. cc; work = λ e. cc; slots = λ s u e. cc; pages = λ i e. cc }) (λ j entry e. cc)
             (same_chains env mix G (put G.raised d false)) stay (λ j blank. refl)
             (locks_stay env mix M M' G PortCount v whole write (λ j e. cc))
             (arena_stays env mix M M' G PortCount v whole write (with_raised G d false) refl (λ i e. cc))
@@ -346,8 +351,8 @@ module _ (env : Env) (mix : ℕ → ℕ → ℕ → ℕ) where
       → Whole env mix M' G × ((c : ℕ) → Rely env mix c M G M' G)
   aside a v M M' G whole write table page node map count =
       let stay = used_stay env mix M M' G a v whole write node in (
-        Whole-frame env mix M M' G G a v whole write table (same_chains env mix G G.raised) stay
-            (λ j blank. refl) (locks_stay env mix M M' G a v whole write page)
+        Whole-frame env mix M M' G G a v whole write table (λ j entry. page j)
+            (same_chains env mix G G.raised) stay (λ j blank. refl) (locks_stay env mix M M' G a v whole write page)
             (arena_stays env mix M M' G a v whole write G refl map) (write.others PortCount tt count
             ∙ whole.counted),
         λ c. Rely-same env mix c M M' G G whole (same_tables env mix G G.bucket G.node G.bound G.raised)

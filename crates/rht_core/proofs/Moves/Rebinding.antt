@@ -9,13 +9,13 @@ use Rattle.rht_words.specs.Places.{Address, PortCount, StateWord, NodeMap, Node,
 use Rattle.rht_words.specs.Members.{In}
 use Rattle.rht_words.proofs.Memory.{Memory, IsWrite}
 use Rattle.rht_words.proofs.ChainLemmas.{IsSegment-members}
-use Rattle.rht_core.proofs.Theory.Ghosts.{put, put-same, put-other, put-all, Owner, Free, Held, First, Leaving, Behind, Ghost, is_used, is_taken_by, IsUsed, seat_of, seat_in, seat, table_at, held_not_used, held_by_one, none-some, some-same}
+use Rattle.rht_core.proofs.Theory.Ghosts.{put, put-same, put-other, put-all, Owner, Free, Held, First, Leaving, Behind, Ghost, is_used, is_taken_by, IsUsed, seat_of, seat_in, seat, table_at, is_entry, held_not_used, held_by_one, none-some, some-same}
 use Rattle.rht_core.proofs.Theory.Wholes.{list_of, key_of, IsNoBucket, BucketRight, ArmedRight, IsFirstAt, IsBehindIn, IsBoundTo, Owned, ArenaRight, IsBuilt, Whole, MovesNone, seated_at, out-seated, firsts, raisers}
 use Rattle.rht_core.proofs.Theory.Passed.{held-bucket, PassesStay, WasSeated}
 use Rattle.rht_core.proofs.Theory.Knowledge.{IsEmptied}
 use Rattle.rht_core.proofs.Theory.Reliance.{bound_used}
 use Rattle.rht_core.proofs.Theory.Frames.{Made, Others, IsNoTableWord, SameTables, same_tables, tables_stay, slots_stay, holdings_stay, work_stays}
-use Rattle.rht_core.proofs.Theory.WholeFrames.{is_apart, TablesRight-write, SlotsRight-write, PagesRight-write, IsHomeOf-same, BucketRight-frame, MovingStays, EntryWords, MovingRight-frame, Leaving-frame}
+use Rattle.rht_core.proofs.Theory.WholeFrames.{is_apart, TablesRight-write, SlotsRight-write, PagesRight-write, IsHomeOf-same, BucketRight-frame, MovingStays, EntryWords, MovingRight-frame, Leaving-frame, EntriesRight-write, locked-no_entry}
 use Rattle.rht_core.proofs.Theory.Readiness.{Change, changed}
 
 module _ (env : Env) (mix : ℕ → ℕ → ℕ → ℕ) (d : ℕ) (change : Change) (M M' : Memory) (G : Ghost)
@@ -397,13 +397,15 @@ module _ (env : Env) (mix : ℕ → ℕ → ℕ → ℕ) (d : ℕ) (change : Cha
           (λ i blank. put-other G.bucket here change.bucket i
           (λ e. held-bucket env mix M G whole here d is.holder
           (subst (λ k. IsNoBucket env mix G (G.page (k / 64)) k) e blank))) whole.pages;
-      buckets = put-all (λ i b. i < 64 * env.geometry.pages
-          → BucketRight env mix M' i b) G.bucket here change.bucket (λ l. is.right)
-          (λ i ne l. BucketRight-frame env mix M M' i (G.bucket i)
+      buckets = put-all (λ i b. i < 64 * env.geometry.pages → is_entry G i ≡ false → BucketRight env mix M' i b)
+          G.bucket here change.bucket (λ l none. is.right)
+          (λ i ne l none. BucketRight-frame env mix M M' i (G.bucket i)
           (store.write.others (PageWord i) l (store.other_word i ne))
           (λ n there. let first = whole.owned.member i n there in
           store.write.others (Node n ChainLink) (whole.owned.first_at n i first).among
-          (store.other_link n i ne first)) (whole.buckets i l));
+          (store.other_link n i ne first)) (whole.buckets i l none));
+      entries = EntriesRight-write env mix M M' G G' a v store.write
+          (locked-no_entry env mix M G a d here whole is.holder store.other_word) same whole.entries;
       moving = MovingRight-frame env mix M M' G G' whole same rebound_moving rebound_words;
       owned = rebound_owned;
       arena = rebound_arena;

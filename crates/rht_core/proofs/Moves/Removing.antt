@@ -13,7 +13,7 @@ use Rattle.rht_words.proofs.ChainLemmas.{IsSegment-cut, IsSegment-members}
 use Rattle.rht_words.proofs.Members.{not_in_from, in_and_not, in-middle, In-append_left, In-append_right, In-append_cases, NotIn-append, IsDistinct-cut, IsDistinct-without, IsDistinct-with, count_below, count_below-more, count_below-same}
 use Rattle.rht_core.proofs.Theory.Ghosts.{put, put-same, put-other, put-all, Owner, Held, First, Leaving, Behind, Taken, Ghost, is_first, is_used, is_taken_by, seat_of, taken_by_one, held_not_used, table_at}
 use Rattle.rht_core.proofs.Theory.Wholes.{chain_of, list_of, key_of, place_at, stop, MovesNone, none_out, IsHomeOf, BucketRight, IsFirstAt, IsBehindIn, IsBoundTo, IsBuilt, Whole, firsts, raisers}
-use Rattle.rht_core.proofs.Theory.Passed.{home-within}
+use Rattle.rht_core.proofs.Theory.Passed.{home-within, member-no_entry}
 use Rattle.rht_core.proofs.Theory.Knowns.{last_of}
 use Rattle.rht_core.proofs.Theory.Frames.{Made, same_tables}
 use Rattle.rht_core.proofs.Theory.WholeFrames.{IsHomeOf-same}
@@ -51,7 +51,7 @@ module _ (env : Env) (mix : ℕ → ℕ → ℕ → ℕ) (d port j m : ℕ) (fro
     within = home-within env mix M G whole (key_of M m) (table_at G j) j at.at_home.attached at.at_home.here
 
     bucket_right : BucketRight env mix M j (G.bucket j)
-    bucket_right = whole.buckets j within
+    bucket_right = whole.buckets j within (member-no_entry env mix M G whole j m there)
 
     distinct : IsDistinct (front ++ m ∷ rear)
     distinct = subst IsDistinct found.split bucket_right.chained.distinct

@@ -1,6 +1,6 @@
 -- A store by which the caller that does the work moves an entry. It changes one bucket that the caller has locked, and at most which
 -- bucket is the entry's seat; ports are bound to what they were. What it does to all else is shown here once.
-use Rattle.std.proofs.Common.{◌≡◌, ◌≢◌, ◌⊎◌, ◌↔◌, ℕ, ◌+◌, ◌*◌, ◌/◌, ◌%◌, ◌<◌, ◌≤◌, List, [], ◌∷◌, Option, Some, None, refl, sym, ◌∙◌, ap, subst, inl, inr, arith}
+use Rattle.std.proofs.Common.{◌≡◌, ◌≢◌, ◌⊎◌, ◌↔◌, ℕ, ◌+◌, ◌*◌, ◌/◌, ◌%◌, ◌<◌, ◌≤◌, List, [], ◌∷◌, Option, Some, None, refl, sym, ◌∙◌, ap, subst, inl, inr, arith, false}
 use Rattle.std.specs.Int.{bit_at}
 use Rattle.std.proofs.lemmas.Bool.{cases_eq}
 use Rattle.rht_words.specs.declared.env.Env.{Env}
@@ -9,13 +9,13 @@ use Rattle.rht_words.specs.Members.{In}
 use Rattle.rht_words.proofs.Memory.{Memory, IsWrite}
 use Rattle.rht_words.proofs.ChainLemmas.{IsSegment-members}
 use Rattle.rht_words.proofs.Members.{count_below-same}
-use Rattle.rht_core.proofs.Theory.Ghosts.{put, put-same, put-other, put-all, Bucket, Owner, Free, Held, First, Leaving, Behind, Ghost, is_first, is_taken_by, seat_of, seat_in, seat, seated, seat-first, table_at, none-some, some-same}
-use Rattle.rht_core.proofs.Theory.Wholes.{list_of, key_of, home, IsNoBucket, BucketRight, ArmedRight, OutRight, MovingRight, IsNextFor, IsHomeOf, IsFirstAt, IsLeavingAt, Owned, ArenaRight, IsBuilt, Whole, IsSeatedAt, seated_at, firsts, raisers}
+use Rattle.rht_core.proofs.Theory.Ghosts.{put, put-same, put-other, put-all, Bucket, Owner, Free, Held, First, Leaving, Behind, Ghost, is_first, is_taken_by, seat_of, seat_in, seat, seated, seat-first, table_at, is_entry, none-some, some-same}
+use Rattle.rht_core.proofs.Theory.Wholes.{list_of, key_of, IsNoBucket, BucketRight, ArmedRight, OutRight, MovingRight, IsNextFor, IsHomeOf, IsFirstAt, IsLeavingAt, Owned, ArenaRight, IsBuilt, Whole, IsSeatedAt, seated_at, firsts, raisers}
 use Rattle.rht_core.proofs.Theory.Passed.{held-bucket, PassesStay, WasOut, WasSeated}
 use Rattle.rht_core.proofs.Theory.Reliance.{bound_used}
 use Rattle.rht_core.proofs.Theory.Departures.{seat-not_out}
 use Rattle.rht_core.proofs.Theory.Frames.{Made, Others, IsNoTableWord, SameTables, same_tables, tables_stay, slots_stay, holdings_stay}
-use Rattle.rht_core.proofs.Theory.WholeFrames.{is_apart, TablesRight-write, SlotsRight-write, PagesRight-write, IsHomeOf-same, BucketRight-frame}
+use Rattle.rht_core.proofs.Theory.WholeFrames.{is_apart, TablesRight-write, SlotsRight-write, PagesRight-write, IsHomeOf-same, BucketRight-frame, EntriesRight-write, locked-no_entry}
 
 module _ (env : Env) (mix : ℕ → ℕ → ℕ → ℕ) (d here entry : ℕ) (b : Bucket) (node : ℕ → Owner) (M M' : Memory)
     (G : Ghost) (a : Address) (v : ℕ) where
@@ -300,13 +300,15 @@ module _ (env : Env) (mix : ℕ → ℕ → ℕ → ℕ) (d here entry : ℕ) (b
           (λ i blank. put-other G.bucket here b i
           (λ e. held-bucket env mix M G whole here d is.holder
           (subst (λ k. IsNoBucket env mix G (G.page (k / 64)) k) e blank))) whole.pages;
-      buckets = put-all (λ i o. i < 64 * env.geometry.pages → BucketRight env mix M' i o) G.bucket here b
-          (λ l. is.right)
-          (λ i ne l. BucketRight-frame env mix M M' i (G.bucket i)
+      buckets = put-all (λ i o. i < 64 * env.geometry.pages → is_entry G i ≡ false → BucketRight env mix M' i o)
+          G.bucket here b (λ l none. is.right)
+          (λ i ne l none. BucketRight-frame env mix M M' i (G.bucket i)
           (store.write.others (PageWord i) l (store.other_word i ne))
           (λ n there. let first = whole.owned.member i n there in
           store.write.others (Node n ChainLink) (whole.owned.first_at n i first).among
-          (store.other_link n i ne first)) (whole.buckets i l));
+          (store.other_link n i ne first)) (whole.buckets i l none));
+      entries = EntriesRight-write env mix M M' G G' a v store.write
+          (locked-no_entry env mix M G a d here whole is.holder store.other_word) same whole.entries;
       moving = reseated_moving;
       owned = reseated_owned;
       arena = reseated_arena;

@@ -10,7 +10,7 @@ use Rattle.rht_core.proofs.Theory.Wholes.{retired_stay, SlotsRight, Whole}
 use Rattle.rht_core.proofs.Theory.Knowledge.{HasSlot}
 use Rattle.rht_core.proofs.Theory.Frames.{Others, Made, same_tables}
 use Rattle.rht_core.proofs.Theory.WholeFrames.{SlotsRight-write}
-use Rattle.rht_core.proofs.Theory.TableFrames.{TablesKept, IsNoBucketWord, Whole-retabled, Rely-retabled, TablesRight-kept, PagesRight-kept}
+use Rattle.rht_core.proofs.Theory.TableFrames.{TablesKept, same_kept, IsNoBucketWord, Whole-retabled, Rely-retabled, TablesRight-kept, PagesRight-kept, EntriesRight-kept}
 use Rattle.rht_core.proofs.Moves.Quiet.{aside}
 
 -- a slot with state word 0 is free
@@ -21,8 +21,8 @@ free_state (Live τ) is = absurd (omega arith)
 free_state (Retired τ) is = absurd (omega arith)
 
 -- no word of a slot is a bucket's or a node's
-pub slot_word-apart : (s : ℕ) (w : SlotWord) → IsNoBucketWord (Slot s w)
-slot_word-apart s w = record { nodes = λ n u e. cc; buckets = λ j e. cc; map = λ i e. cc; count = λ e. cc }
+pub slot_word-apart : (G : Ghost) (s : ℕ) (w : SlotWord) → IsNoBucketWord G (Slot s w)
+slot_word-apart G s w = record { nodes = λ n u e. cc; buckets = λ j none e. cc; map = λ i e. cc; count = λ e. cc }
 
 -- who has one slot has no other
 pub held_by_two : (c d : ℕ) → c ≢ d → (owner : SlotOwner) → owner ≡ SlotHeld d → owner ≢ SlotHeld c
@@ -44,12 +44,8 @@ module _ (env : Env) (mix : ℕ → ℕ → ℕ → ℕ) where
     no_table t has e = let z : true ≡ false = sym has ∙ ap (λ i. has_table (G.slot i)) e ∙ was in cc
 
     pub slots_kept : TablesKept env mix G G.table G.attached slot G.page
-    slots_kept = record {
-      tables = λ τ l. refl;
-      more = omega arith;
-      slots = λ t has. put-other G.slot s owner t (no_table t has);
-      pages = λ p τ is. is;
-    }
+    slots_kept = same_kept env mix G G.table G.attached slot G.page (λ τ l. refl) (omega arith)
+        (λ t has. put-other G.slot s owner t (no_table t has)) (λ p τ is. is)
 
     slots_right : SlotsRight env mix M' G'
     slots_right = record {
@@ -62,20 +58,22 @@ module _ (env : Env) (mix : ℕ → ℕ → ℕ → ℕ) where
 
     reslotted : Whole env mix M' G'
     reslotted = Whole-retabled env mix M M' G G.table G.attached slot G.page whole slots_kept (Slot s StateWord)
-        (state_word owner) write (slot_word-apart s StateWord)
+        (state_word owner) write (slot_word-apart G s StateWord)
         (TablesRight-kept env mix M M' G slot G.page whole slots_kept (Slot s StateWord) (state_word owner) write
-        (slot_word-apart s StateWord)
+        (slot_word-apart G s StateWord)
         (record { current = λ e. cc; slots = λ t w has e. no_table t has (cc) })
         (put-all (λ t o. has_table o ≡ true → o ≡ G.slot t) G.slot s owner
-        (λ has. let z : true ≡ false = sym has ∙ now in absurd (cc)) (λ t ne has. refl)))
+        (λ has. let z : true ≡ false = sym has ∙ now in absurd (cc)) (λ t ne has. refl)) (λ p τ is. is))
         slots_right
         (PagesRight-kept env mix M M' G slot (Slot s StateWord) (state_word owner) write (λ i e. cc) whole.pages)
+        (EntriesRight-kept env mix M M' G G.table G.attached slot G.page whole slots_kept (Slot s StateWord)
+        (state_word owner) write (slot_word-apart G s StateWord) (λ τ l. refl) (λ p τ of has. of) (λ j e. cc))
 
     reslotted_others : (d : ℕ) → ((c : ℕ) → c ≢ d → G.slot s ≢ SlotHeld c)
         → ((c : ℕ) → c ≢ d → owner ≢ SlotHeld c) → Others env mix d M G M' G'
     reslotted_others d before after c ne =
         Rely-retabled env mix M M' G G.table G.attached slot G.page whole slots_kept (Slot s StateWord)
-        (state_word owner) write (slot_word-apart s StateWord) c
+        (state_word owner) write (slot_word-apart G s StateWord) c
         (record {
           slots = λ t is. put-other G.slot s owner t
               (λ e. before c ne (ap G.slot (sym e) ∙ is)) ∙ is;
@@ -119,22 +117,20 @@ module _ (env : Env) (mix : ℕ → ℕ → ℕ → ℕ) where
       → HasSlot env mix d G s → IsTableWord w → IsWrite env.geometry M M' (Slot s w) v
       → Made env mix d M G M' G
   fill_slot d s w v M M' G whole has of_table write =
-      let kept : TablesKept env mix G G.table G.attached G.slot G.page = record {
-        tables = λ τ l. refl;
-        more = omega arith;
-        slots = λ t is. refl;
-        pages = λ p τ is. is;
-      } in
-      let words = slot_word-apart s w in
+      let kept : TablesKept env mix G G.table G.attached G.slot G.page =
+      same_kept env mix G G.table G.attached G.slot G.page (λ τ l. refl) (omega arith) (λ t is. refl) (λ p τ is. is) in
+      let words = slot_word-apart G s w in
       let no_table : (t : ℕ) → has_table (G.slot t) ≡ true → t ≢ s = λ t is e.
       (let z : true ≡ false = sym is ∙ ap (λ i. has_table (G.slot i)) e ∙ ap has_table has.mine in cc) in
       record {
         whole = Whole-retabled env mix M M' G G.table G.attached G.slot G.page whole kept (Slot s w) v write words
             (TablesRight-kept env mix M M' G G.slot G.page whole kept (Slot s w) v write words
-            (record { current = λ e. cc; slots = λ t u is e. no_table t is (cc) }) (λ t is. refl))
+            (record { current = λ e. cc; slots = λ t u is e. no_table t is (cc) }) (λ t is. refl) (λ p τ is. is))
             (SlotsRight-write env mix M M' G G (Slot s w) v write (λ e. cc)
             (λ t e. state_differs w of_table (cc)) (same_tables env mix G G.bucket G.node G.bound G.raised) whole.slots)
-            (PagesRight-kept env mix M M' G G.slot (Slot s w) v write (λ i e. cc) whole.pages);
+            (PagesRight-kept env mix M M' G G.slot (Slot s w) v write (λ i e. cc) whole.pages)
+            (EntriesRight-kept env mix M M' G G.table G.attached G.slot G.page whole kept (Slot s w) v write words
+            (λ τ l. refl) (λ p τ of has. of) (λ j e. cc));
         others = λ c ne. Rely-retabled env mix M M' G G.table G.attached G.slot G.page whole kept (Slot s w) v
             write words c (record {
               slots = λ t is. is;

@@ -7,7 +7,7 @@ use Rattle.rht_words.proofs.Memory.{Memory, IsWrite}
 use Rattle.rht_words.proofs.ChainLemmas.{IsSegment-members}
 use Rattle.rht_core.proofs.Theory.Ghosts.{Ghost, First, Leaving, SlotOwner, SlotHeld, Live, Retired, lock_bit, state_word, has_table, index_at, table_of_slot, table_at, is_used, seat_of}
 use Rattle.rht_core.proofs.Theory.Wholes.{AreRetired, list_of, key_of, TablesRight, PagesRight, OutRight, MovingRight, IsLeavingAt, Owned, Whole}
-use Rattle.rht_core.proofs.Theory.Passed.{TablesGrow, Passed-stays}
+use Rattle.rht_core.proofs.Theory.Passed.{TablesGrow, Passed-stays, same-TableStays}
 use Rattle.rht_core.proofs.Theory.Reliance.{TablesStay}
 use Rattle.rht_core.proofs.Theory.Frames.{Others, Made, UsedStay, used_stay, seat_stays, chains_stay, passes_same}
 use Rattle.rht_core.proofs.Theory.WholeFrames.{no_bucket, BucketRight-frame, arena_stays}
@@ -91,27 +91,21 @@ module _ (env : Env) (mix : ℕ → ℕ → ℕ → ℕ) where
               shape_is = is.write.others (Slot s ShapeWord) (r.slot_in, tt) (is.word.no_shape s) ∙ r.shape_is;
               seed_is = is.write.others (Slot s SeedWord) (r.slot_in, tt) (is.word.no_seed s) ∙ r.seed_is;
               future_is = is.write.others (Slot s FutureWord) (r.slot_in, tt) (is.word.no_future s) ∙ r.future_is;
-              placed = record {
-                flat = r.placed.flat;
-                fits = r.placed.fits;
-                places = r.placed.places;
-                pages = r.placed.pages;
-              };
+              placed = r.placed;
             };
         slots = λ s has.
             let had = sym (is.slots.has s) ∙ has in
             let of = whole.tables.slots s had in
             let same = is.slots.index s had in
             record { attached = omega (arith, same, of.attached); slot = ap (λ τ. (G.table τ).slot) same ∙ of.slot };
+        flat = whole.tables.flat;
       }
 
       restated_pages : PagesRight env mix M' after
       restated_pages = record {
         bits = λ p l. rw (is.write.others (PageMap (p / 64)) (omega arith) (is.word.no_page_map (p / 64)))
             (whole.pages.bits p l);
-        page_of = λ p τ of.
-            let page = whole.pages.page_of p τ of in
-            record { attached = page.attached; from = page.from; below = page.below };
+        page_of = whole.pages.page_of;
         blank = λ j blank. whole.pages.blank j (no_bucket env mix G after refl (G.page (j / 64)) j blank);
       }
 
@@ -226,11 +220,12 @@ module _ (env : Env) (mix : ℕ → ℕ → ℕ → ℕ) where
         tables = restated_tables;
         slots = record { states = is.states; worker_is = is.worker_is; retired = is.retired };
         pages = restated_pages;
-        buckets = λ j l. BucketRight-frame env mix M M' j (G.bucket j)
+        buckets = λ j l none. BucketRight-frame env mix M M' j (G.bucket j)
             (is.write.others (PageWord j) l (is.word.no_page j))
             (λ n i. is.write.others (Node n ChainLink)
             (whole.owned.first_at n j (whole.owned.member j n i)).among (is.word.no_node n ChainLink))
-            (whole.buckets j l);
+            (whole.buckets j l none);
+        entries = λ j l entry. is.write.others (PageWord j) l (is.word.no_page j) ∙ whole.entries j l entry;
         moving = restated_moving;
         owned = restated_owned;
         arena = arena_stays env mix M M' G a v whole is.write after refl is.word.no_map;
@@ -239,7 +234,8 @@ module _ (env : Env) (mix : ℕ → ℕ → ℕ → ℕ) where
 
       restated_grow : TablesGrow env mix G after
       restated_grow = record {
-        tables = λ τ l. refl;
+        tables = λ τ l. same-TableStays G.page τ (G.table τ) (G.table τ) refl;
+        placed = λ τ b j l at. inl at;
         attached = omega arith;
         current = is.later;
         slots = λ s has. is.slots.has s ∙ has;

@@ -37,7 +37,8 @@ module _ (env : Env) (mix : ℕ → ℕ → ℕ → ℕ) where
       } in
       record {
         whole = Whole-frame env mix M M' G G (Node n w) v whole write
-            (record { current = λ e. cc; work = λ e. cc; slots = λ s u e. cc; pages = λ i e. cc }) (same_chains env mix G G.raised) words (λ j blank. refl)
+            (record { current = λ e. cc; work = λ e. cc; slots = λ s u e. cc; pages = λ i e. cc }) (λ j entry e. cc)
+            (same_chains env mix G G.raised) words (λ j blank. refl)
             (locks_stay env mix M M' G (Node n w) v whole write (λ j e. cc))
             (arena_stays env mix M M' G (Node n w) v whole write G refl (λ i e. cc))
             (write.others PortCount tt (λ e. cc) ∙ whole.counted);
@@ -83,7 +84,8 @@ module _ (env : Env) (mix : ℕ → ℕ → ℕ → ℕ) where
       } in
       record {
         whole = Whole-frame env mix M M' G G (Node n ChainLink) v whole write
-            (record { current = λ e. cc; work = λ e. cc; slots = λ s u e. cc; pages = λ i e. cc }) (same_chains env mix G G.raised) words (λ j blank. refl)
+            (record { current = λ e. cc; work = λ e. cc; slots = λ s u e. cc; pages = λ i e. cc }) (λ j entry e. cc)
+            (same_chains env mix G G.raised) words (λ j blank. refl)
             (locks_stay env mix M M' G (Node n ChainLink) v whole write (λ j e. cc))
             (arena_stays env mix M M' G (Node n ChainLink) v whole write G refl (λ i e. cc))
             (write.others PortCount tt (λ e. cc) ∙ whole.counted);
@@ -185,7 +187,8 @@ module _ (env : Env) (mix : ℕ → ℕ → ℕ → ℕ) where
   reowned i b value owner M M' G whole at is_built write was now here others =
       let n = 64 * i + b in
       Whole-frame env mix M M' G (with_owner G n owner) (NodeMap i) value whole write
-      (record { current = λ e. cc; work = λ e. cc; slots = λ s u e. cc; pages = λ i e. cc }) (reowned_chains G n owner was now)
+      (record { current = λ e. cc; work = λ e. cc; slots = λ s u e. cc; pages = λ i e. cc }) (λ j entry e. cc)
+      (reowned_chains G n owner was now)
       (used_stay env mix M M' G (NodeMap i) value whole write (λ m w e. cc)) (λ j blank. refl)
       (locks_stay env mix M M' G (NodeMap i) value whole write (λ j e. cc))
       (reowned_bits i b value owner M M' G whole at is_built write here others)
@@ -201,7 +204,8 @@ module _ (env : Env) (mix : ℕ → ℕ → ℕ → ℕ) where
       let words = used_stay env mix M M' G (NodeMap i) value whole write (λ m w e. cc) in
       record {
         whole = Whole-frame env mix M M' G G (NodeMap i) value whole write
-            (record { current = λ e. cc; work = λ e. cc; slots = λ s u e. cc; pages = λ i e. cc }) (same_chains env mix G G.raised) words (λ j blank. refl)
+            (record { current = λ e. cc; work = λ e. cc; slots = λ s u e. cc; pages = λ i e. cc }) (λ j entry e. cc)
+            (same_chains env mix G G.raised) words (λ j blank. refl)
             (locks_stay env mix M M' G (NodeMap i) value whole write (λ j e. cc))
             (record {
               built = whole.arena.built;

@@ -1,5 +1,5 @@
 -- The moves of the caller that does the work, by what it knows before each of them, and what it knows after it.
-use Rattle.std.proofs.Common.{◌≡◌, ◌⊎◌, ℕ, ◌+◌, ◌*◌, ◌/◌, ◌%◌, ◌<◌, List, [], ◌∷◌, ◌++◌, Option, Some, None, refl, sym, ◌∙◌, ap, subst, inl, inr, arith}
+use Rattle.std.proofs.Common.{◌≡◌, ◌⊎◌, ℕ, ◌+◌, ◌/◌, ◌%◌, ◌<◌, List, [], ◌∷◌, ◌++◌, Option, Some, None, refl, sym, ◌∙◌, ap, subst, inl, inr, arith}
 use Rattle.std.proofs.lemmas.Bool.{cases_eq}
 use Rattle.rht_words.specs.declared.env.Env.{Env}
 use Rattle.rht_words.specs.Links.{link_of, head_of}
@@ -8,9 +8,9 @@ use Rattle.rht_words.specs.Places.{CurrentTable, WorkLock, Slot, StateWord, Node
 use Rattle.rht_words.specs.Members.{In}
 use Rattle.rht_words.proofs.Memory.{Memory, IsWrite}
 use Rattle.rht_words.proofs.Members.{in-middle}
-use Rattle.rht_core.proofs.Theory.Ghosts.{put, put-same, put-other, put-all, Bucket, Owner, First, Leaving, PageOf, SlotOwner, Retired, Ghost, has_table, index_at, table_at, held_by, with_holder, none-some, some-same}
+use Rattle.rht_core.proofs.Theory.Ghosts.{put, put-same, put-other, put-all, Bucket, Owner, First, Leaving, SlotOwner, Retired, Ghost, has_table, index_at, table_at, held_by, with_holder, none-some, some-same}
 use Rattle.rht_core.proofs.Theory.Wholes.{key_of, place_at, word_index, place_at-index, index-place_at, index-within, home, IsNoBucket, MovesNone, Whole}
-use Rattle.rht_core.proofs.Theory.Passed.{place-table, home-table, home-bucket}
+use Rattle.rht_core.proofs.Theory.Passed.{place-table, home-table, home-bucket, place-bucket}
 use Rattle.rht_core.proofs.Theory.Knowns.{last_of, KnownAim, NoAim, KnownRehash, KnownPlace, KnownEntry, KnownWork, NoWork, Works, Empties, LeavesBehind, InBucket, Brings, TakesOut, HasBrought}
 use Rattle.rht_core.proofs.Theory.Knowledge.{DoesWork, IsEmptied, IsEmptying, IsLeftBehind, IsFacing, IsNext, IsInBucket, IsBare, IsEntry, IsAim, IsAiming, IsTarget, IsBringing, IsTakenOut, IsBrought, WorkMeans}
 use Rattle.rht_core.proofs.Theory.Frames.{Made}
@@ -294,15 +294,7 @@ module _ (env : Env) (mix : ℕ → ℕ → ℕ → ℕ) (c : ℕ) where
     faced_bucket : (root : KnownRehash) (number place : ℕ) → IsFacing env mix G root number place
         → IsNoBucket env mix G (G.page (index place / 64)) (index place) → ⊥
     faced_bucket root number place is bucketless =
-        let j = index place in
-        let placed = (whole.tables.each G.current whole.tables.current_in).placed in
-        let same : 64 * (unpacked (G.table G.current).shape).page + number ≡ j =
-        some-same (64 * (unpacked (G.table G.current).shape).page + number) j
-        (sym (placed.places number is.below) ∙ is.here) in
-        let page : G.page (j / 64) ≡ PageOf G.current = ap (λ k. G.page (k / 64)) (sym same)
-        ∙ placed.pages number is.below in
-        let far = subst (λ o. IsNoBucket env mix G o j) page bucketless in
-        omega (arith, same, far, is.below)
+        place-bucket env mix M G whole G.current number (index place) whole.tables.current_in is.below is.here bucketless
 
     -- it is locked
     pub lock_work : DoesWork c G None → (root : KnownRehash) (number place word : ℕ) (M' : Memory)

@@ -14,7 +14,7 @@ use Rattle.rht_words.proofs.Memory.{Memory, IsWrite, is_write}
 use Rattle.rht_words.proofs.Members.{range_with_len-In}
 use Rattle.rht_arena.specs.GiveRun.{give_run_new, pages_of_give_run}
 use Rattle.rht_nest.specs.Tables.{table_pages, run_first, run_pages, pages_of_table}
-use Rattle.rht_core.proofs.Theory.Ghosts.{put, put-all, put_in, put_in-all, PageHeld, PageOf, SlotHeld, Live, Ghost, has_table, index_at, flat_table, is_page_for}
+use Rattle.rht_core.proofs.Theory.Ghosts.{put, put-all, put_in, put_in-all, PageHeld, PageOf, SlotHeld, Live, Ghost, has_table, index_at, made_table, is_page_for}
 use Rattle.rht_core.proofs.Theory.Wholes.{Whole}
 use Rattle.rht_core.proofs.Theory.Knowns.{Known, MakesNothing, HasTaken, HasMade}
 use Rattle.rht_core.proofs.Theory.Knowledge.{IsMade}
@@ -90,10 +90,10 @@ module _ (env : Env) (mix : ℕ → ℕ → ℕ → ℕ) (c : ℕ) where
         (knowing env mix c h known None [] MakesNothing) (Attaches slot shape seed serial) whole ready tt
         (attach env mix c slot shape seed serial τ M M' G whole ready is.attached none write)
         (record { last = last; within = l; attaching = refl; found = found; has = refl; holds = refl })
-        (Knowing-retabled env mix M M' G (put G.table G.attached (flat_table slot shape seed serial)) (G.attached + 1)
+        (Knowing-retabled env mix M M' G (put G.table G.attached (made_table slot shape seed serial)) (G.attached + 1)
         (put G.slot slot (Live G.attached)) (put_in (is_page_for shape) (PageOf G.attached) G.page) whole
         (attached_kept env mix c slot shape seed serial τ M M' G whole ready is.attached none write)
-        (Slot (G.table τ).slot FutureWord) (future_of slot) write (slot_word-apart (G.table τ).slot FutureWord) c
+        (Slot (G.table τ).slot FutureWord) (future_of slot) write (slot_word-apart G (G.table τ).slot FutureWord) c
         (holds_made slot shape) (record known { making = HasMade slot shape }) None [] MakesNothing knows
         (put-all (λ s o. o ≡ SlotHeld c → ◌≡◌ {A = Option ℕ} None (Some s)) G.slot slot (Live G.attached)
         (λ e. absurd (cc)) (λ s ne held. let same = knows.only.slots s held in absurd (ne (cc))))

@@ -17,7 +17,7 @@ use Rattle.rht_core.proofs.Theory.Wholes.{Whole}
 use Rattle.rht_core.proofs.Theory.Readiness.{ArePagesOf}
 use Rattle.rht_core.proofs.Theory.Knowns.{Known, KnownSlot, KnownMaking, MakesNothing, HasTaken}
 use Rattle.rht_core.proofs.Theory.Knowledge.{SlotMeans, Knowing}
-use Rattle.rht_core.proofs.Theory.TableFrames.{TablesKept, Knowing-retabled}
+use Rattle.rht_core.proofs.Theory.TableFrames.{TablesKept, Knowing-retabled, same_kept}
 use Rattle.rht_core.proofs.Theory.Steps.{Quiet, TakesSlot, GivesSlot, TakesPages, GivesPages, Holding, ClearsBits, SetsBits, mem, Moved, moved, loads}
 use Rattle.rht_core.proofs.Moves.Slots.{slot_word-apart, slots_kept, take_slot, give_slot, fill_slot, take_serial}
 use Rattle.rht_core.proofs.Moves.Pages.{map_word-apart, pages_kept, take_pages, give_pages}
@@ -57,12 +57,8 @@ module _ (env : Env) (mix : ℕ → ℕ → ℕ → ℕ) (c : ℕ) (h : Holding)
     M = mem env mix words
 
     same_tables : TablesKept env mix G G.table G.attached G.slot G.page
-    same_tables = record {
-      tables = λ τ l. refl;
-      more = omega arith;
-      slots = λ t is. refl;
-      pages = λ p τ is. is;
-    }
+    same_tables = same_kept env mix G G.table G.attached G.slot G.page (λ τ l. refl) (omega arith) (λ t is. refl)
+        (λ p τ is. is)
 
     -- a known word of the slot that stays
     known_word : (slot : KnownSlot) (M' : Memory) (w : SlotWord) (word : Option ℕ)
@@ -93,7 +89,7 @@ module _ (env : Env) (mix : ℕ → ℕ → ℕ → ℕ) (c : ℕ) (h : Holding)
         (record { within = l; taking = refl; free = found; none = refl; holds = refl })
         (Knowing-retabled env mix M M' G G.table G.attached (put G.slot s (SlotHeld c)) G.page whole
         (slots_kept env mix s (SlotHeld c) M M' G whole l (ap has_table taken.1) refl write)
-        (Slot s StateWord) 1 write (slot_word-apart s StateWord) c (holding None [])
+        (Slot s StateWord) 1 write (slot_word-apart G s StateWord) c (holding None [])
         (record known { making = MakesNothing }) (Some s) [] (HasTaken (bare_slot s) []) knows
         (put-all (λ t o. o ≡ SlotHeld c → Some s ≡ Some t) G.slot s (SlotHeld c) (λ e. refl)
         (λ t ne held. let none = knows.only.slots t held in absurd (cc)))
@@ -134,7 +130,7 @@ module _ (env : Env) (mix : ℕ → ℕ → ℕ → ℕ) (c : ℕ) (h : Holding)
         (record { within = has.within; giving = refl; has = refl; empty = refl; holds = refl })
         (Knowing-retabled env mix M M' G G.table G.attached (put G.slot s SlotFree) G.page whole
         (slots_kept env mix s SlotFree M M' G whole has.within (ap has_table has.mine) refl write)
-        (Slot s StateWord) 0 write (slot_word-apart s StateWord) c (holding (Some s) [])
+        (Slot s StateWord) 0 write (slot_word-apart G s StateWord) c (holding (Some s) [])
         (record known { making = HasTaken slot [] }) None [] MakesNothing knows
         (put-all (λ t o. o ≡ SlotHeld c → ◌≡◌ {A = Option ℕ} None (Some t)) G.slot s SlotFree (λ e. absurd (cc))
         (λ t ne held. let same = knows.only.slots t held in absurd (ne (cc))))
@@ -222,7 +218,7 @@ module _ (env : Env) (mix : ℕ → ℕ → ℕ → ℕ) (c : ℕ) (h : Holding)
           })));
         })
         (Knowing-retabled env mix M M' G G.table G.attached G.slot G.page whole same_tables (Slot s w) value write
-        (slot_word-apart s w) c (holding (Some s) pages) (record known { making = HasTaken slot pages }) (Some s)
+        (slot_word-apart G s w) c (holding (Some s) pages) (record known { making = HasTaken slot pages }) (Some s)
         pages (HasTaken (with_slot_word slot w value) pages) knows knows.only.slots knows.only.pages_in
         (record {
           slot = slot_known slot w value M' of_table knows.means.making.slot write;
@@ -248,7 +244,7 @@ module _ (env : Env) (mix : ℕ → ℕ → ℕ → ℕ) (c : ℕ) (h : Holding)
         (take_serial env mix c value M M' G whole write)
         (record { holds = refl; leaves = inr (inr (inr refl)) })
         (Knowing-retabled env mix M M' G G.table G.attached G.slot G.page whole same_tables NextSerial value write
-        (record { nodes = λ n u e. cc; buckets = λ j e. cc; map = λ i e. cc; count = λ e. cc }) c
+        (record { nodes = λ n u e. cc; buckets = λ j plain e. cc; map = λ i e. cc; count = λ e. cc }) c
         (holding (Some slot.slot) pages) (record known { making = HasTaken slot pages }) (Some slot.slot) pages
         (HasTaken slot pages) knows knows.only.slots knows.only.pages_in
         (record {
@@ -305,7 +301,7 @@ module _ (env : Env) (mix : ℕ → ℕ → ℕ → ℕ) (c : ℕ) (h : Holding)
         (knowing (Some slot.slot) after (HasTaken slot after)) (TakesPages index bits) whole taken.1 tt taken.0
         (record { clears = clears; pages = more; holds = refl })
         (Knowing-retabled env mix M M' G G.table G.attached G.slot (put_in (has_bit index bits) (PageHeld c) G.page)
-        whole (pages_kept env mix index bits PageFree (PageHeld c) G taken.1 (λ τ e. cc)) (PageMap index) value write (map_word-apart index) c
+        whole (pages_kept env mix index bits PageFree (PageHeld c) G taken.1 (λ τ e. cc)) (PageMap index) value write (map_word-apart G index) c
         (holding (Some slot.slot) pages) (record known { making = HasTaken slot pages }) (Some slot.slot) after
         (HasTaken slot after) knows knows.only.slots
         (put_in-all (λ p o. o ≡ PageHeld c → In p after) (has_bit index bits) (PageHeld c) G.page
@@ -347,7 +343,7 @@ module _ (env : Env) (mix : ℕ → ℕ → ℕ → ℕ) (c : ℕ) (h : Holding)
         (give_pages env mix c index bits value M M' G whole mine write sets.set others)
         (record { sets = sets; had = had; pages = less; holds = refl })
         (Knowing-retabled env mix M M' G G.table G.attached G.slot (put_in (has_bit index bits) PageFree G.page)
-        whole (pages_kept env mix index bits (PageHeld c) PageFree G mine (λ τ e. cc)) (PageMap index) value write (map_word-apart index) c
+        whole (pages_kept env mix index bits (PageHeld c) PageFree G mine (λ τ e. cc)) (PageMap index) value write (map_word-apart G index) c
         (holding (Some slot.slot) pages) (record known { making = HasTaken slot pages }) (Some slot.slot) after
         (HasTaken slot after) knows knows.only.slots
         (put_in-all (λ p o. o ≡ PageHeld c → In p after) (has_bit index bits) PageFree G.page

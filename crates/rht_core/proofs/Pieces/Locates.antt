@@ -1,5 +1,5 @@
 -- The operations on the way to a port's bucket: the current table, a table's shape and seed, and its future.
-use Rattle.std.proofs.Common.{◌≡◌, ℕ, ◌+◌, ◌*◌, ◌<◌, List, [], Option, Some, None, true, cond, refl, sym, ◌∙◌, ap, subst, inl, inr, arith}
+use Rattle.std.proofs.Common.{◌≡◌, ℕ, ◌+◌, ◌<◌, List, [], Option, Some, None, true, false, cond, nat_lt, refl, sym, ◌∙◌, ap, subst, inl, inr, arith}
 use Rattle.std.proofs.lemmas.Bool.{lt-ltb, cases_lt, le-ltb}
 use Rattle.std.proofs.lemmas.Bool.Decides.{nat_tests}
 use Rattle.rht_words.specs.declared.env.Env.{Env}
@@ -10,32 +10,37 @@ use Rattle.rht_words.specs.Operations.{old_of}
 use Rattle.rht_words.specs.Places.{CurrentTable, Slot, SlotWord, ShapeWord, SeedWord, FutureWord}
 use Rattle.rht_words.proofs.Memory.{Memory}
 use Rattle.rht_policy.specs.Mix.{bucket_of}
-use Rattle.rht_nest.specs.Place.{bucket_index, bucket_place}
-use Rattle.rht_nest.specs.Locate.{LocateModel, locate_plan, locate_after, IsLocateIn}
+use Rattle.rht_nest.specs.Tables.{is_nested}
+use Rattle.rht_nest.specs.Place.{bucket_index, flat_place}
+use Rattle.rht_nest.specs.Locate.{LocateModel, locate_plan, locate_after, located_at, IsLocateIn}
 use Rattle.rht_nest.specs.declared.locate.LocateAt.{LocateAt}
 use Rattle.rht_nest.specs.declared.locate.LocateAt.TheVariants as locates
 use Rattle.rht_nest.specs.declared.locate.Located.{Located}
+use Rattle.rht_nest.specs.declared.locate.LocatedBucket.TheVariants as buckets
 use Rattle.rht_core.proofs.Theory.Ghosts.{Ghost, has_table, index_at, none-some}
 use Rattle.rht_core.proofs.Theory.Wholes.{TableRight, Whole, hash_in, place_at, word_index, future_in, index-place_at}
-use Rattle.rht_core.proofs.Theory.Passed.{passed_first, hash-below, home-index, unbound_at_last, go_on}
-use Rattle.rht_core.proofs.Theory.Knowns.{KnownNode, KnownTable, Passes, Shaped, AtHome, KnownBucket, knows_plain}
-use Rattle.rht_core.proofs.Theory.Knowledge.{IsPassing, IsMissed, Knowing}
+use Rattle.rht_core.proofs.Theory.Passed.{passed_first, hash-below, unbound_at_last, go_on}
+use Rattle.rht_core.proofs.Theory.Knowns.{KnownNode, KnownTable, Passes, Shaped, OnWay, AtHome, KnownBucket, knows_plain}
+use Rattle.rht_core.proofs.Theory.Knowledge.{IsPassing, IsOnWay, IsMissed, Knowing}
 use Rattle.rht_core.proofs.Theory.Steps.{Holding, mem, Moved, loads}
+use Rattle.rht_core.proofs.Theory.FlatTables.{flat_right, home-index}
 
 -- what is known on the way to the bucket of a port
 abbrev pub known_locate : ℕ → ℕ → LocateAt → KnownTable
 known_locate port slot locates.Shape = Passes port slot
 known_locate port slot (locates.Seed shape) = Shaped port slot shape
+known_locate port slot (locates.Early shape place) = OnWay port slot shape
+known_locate port slot (locates.Entry shape early place) = OnWay port slot shape
 
 module _ (env : Env) (mix : ℕ → ℕ → ℕ → ℕ) (c : ℕ) (h : Holding) (node : Option KnownNode)
     (bucket : KnownBucket) where
   abbrev pub knowing : KnownTable → Memory → Ghost → Type 0
   knowing table M G = Knowing env mix c h (knows_plain node table bucket) M G
 
-  -- once the bucket was looked for it is known; none is missing
+  -- once the bucket was looked for it is known; none is missing, as each table is flat
   pub record IsLocated (port slot : ℕ) (located : Located) (M : Memory) (G : Ghost) : Type 0 where
     pub place : ℕ
-    pub there : located.place ≡ Some place
+    pub there : located.bucket ≡ buckets.At place
     pub knows : knowing (AtHome port slot (Some located.shape) place) M G
 
   abbrev pub LocateKnows : ℕ → LocateModel × Next Located → Memory → Ghost → Type 0
@@ -67,16 +72,23 @@ module _ (env : Env) (mix : ℕ → ℕ → ℕ → ℕ) (c : ℕ) (h : Holding)
               (passed_first env mix M G whole port);
         })
 
+    -- each table is flat
+    flat_table : (τ : ℕ) → τ < G.attached → is_nested (G.table τ).shape ≡ false
+    flat_table τ l = ap (nat_lt 0) (whole.tables.flat τ l)
+
     -- the word in which the bucket of the port stands has a place in the table
     home-place : (port τ : ℕ) → τ < G.attached
-        → bucket_place env.geometry (G.table τ).shape (bucket_of mix port (G.table τ).shape (G.table τ).seed)
-        ≡ Some (place_at env mix (bucket_index (G.table τ).shape (hash_in env mix G port τ)))
+        → flat_place env.geometry (G.table τ).shape (bucket_of mix port (G.table τ).shape (G.table τ).seed)
+        ≡ place_at env mix (bucket_index (G.table τ).shape (hash_in env mix G port τ))
     home-place port τ l =
-        let index = bucket_index (G.table τ).shape (hash_in env mix G port τ) in
-        let placed = (whole.tables.each τ l).placed in
-        let below : index < 64 * env.geometry.pages = omega
-        (arith, hash-below env mix M G whole port τ, placed.fits) in
-        ap (λ t. cond t (Some (place_at env mix index)) None) (lt-ltb index (64 * env.geometry.pages) below)
+        let placed = flat_right env mix M G whole τ l in
+        omega (arith, hash-below env mix M G whole port τ, placed.fits)
+
+    -- so the way to a bucket leads over no entries
+    pub no_way : (A : Type 0) (port slot shape : ℕ) → IsOnWay env mix G port slot shape → A
+    no_way A port slot shape way =
+        let flat = flat_table (index_at G slot) way.shaped.passing.passed.attached in
+        absurd (let z : true ≡ false = sym way.nested ∙ ap is_nested (sym way.shaped.shape_is) ∙ flat in cc)
 
     locate_step_at : (port slot : ℕ) (at : LocateAt) → knowing (known_locate port slot at) M G
         → let m : LocateModel = record { geometry = env.geometry; table = slot; at = at } in
@@ -109,17 +121,20 @@ module _ (env : Env) (mix : ℕ → ℕ → ℕ → ℕ) (c : ℕ) (h : Holding)
         let seed : M (Slot slot SeedWord) ≡ (G.table τ).seed = slot-word slot SeedWord has
         ∙ (table-right slot has).seed_is in
         let index = bucket_index (G.table τ).shape (hash_in env mix G port τ) in
-        let there : bucket_place env.geometry shape (bucket_of mix port shape (M (Slot slot SeedWord))) ≡ Some (place_at env mix index)
-        = ap (λ s. bucket_place env.geometry s (bucket_of mix port s (M (Slot slot SeedWord))))
+        let bucket = bucket_of mix port shape (M (Slot slot SeedWord)) in
+        let flat : is_nested shape ≡ false = ap is_nested (sym knows.means.table.shape_is)
+        ∙ flat_table τ passing.passed.attached in
+        let there : flat_place env.geometry shape bucket ≡ place_at env mix index =
+        ap (λ s. flat_place env.geometry s (bucket_of mix port s (M (Slot slot SeedWord))))
         (sym knows.means.table.shape_is)
-        ∙ ap (λ d. bucket_place env.geometry (G.table τ).shape (bucket_of mix port (G.table τ).shape d)) seed
+        ∙ ap (λ d. flat_place env.geometry (G.table τ).shape (bucket_of mix port (G.table τ).shape d)) seed
         ∙ home-place port τ passing.passed.attached in
-        let placed = (table-right slot has).placed in
-        loads env mix c words G (locate_plan m) h h (LocateKnows port
-        (locate_after mix port m (old_of words (locate_plan m)))) whole refl refl
+        let placed = flat_right env mix M G whole τ passing.passed.attached in
+        rw flat (loads env mix c words G (locate_plan m) h h
+        (LocateKnows port (m, Done (located_at shape (flat_place env.geometry shape bucket)))) whole refl refl
         (record {
           place = place_at env mix index;
-          there = there;
+          there = ap buckets.At there;
           knows = record {
             only = knows.only;
             means = record {
@@ -136,7 +151,9 @@ module _ (env : Env) (mix : ℕ → ℕ → ℕ → ℕ) (c : ℕ) (h : Holding)
               work = tt;
             };
           };
-        })
+        }))
+    locate_step_at port slot (locates.Early shape place) knows = no_way _ port slot shape knows.means.table
+    locate_step_at port slot (locates.Entry shape early place) knows = no_way _ port slot shape knows.means.table
 
     pub locate_step : (port : ℕ) (m : LocateModel) → IsLocateIn env.geometry m
         → knowing (known_locate port m.table m.at) M G

@@ -15,6 +15,7 @@ use Rattle.rht_core.proofs.Theory.Frames.{tables_stay}
 use Rattle.rht_core.proofs.Theory.WholeFrames.{chains_passes}
 use Rattle.rht_core.proofs.Theory.Steps.{DropsLock, Holding, mem, Moved, moved}
 use Rattle.rht_core.proofs.Moves.Quiet.{IsUnworked, unworked_by, held_chains, drop_lock}
+use Rattle.rht_core.proofs.Theory.Passed.{held-no_entry}
 
 module _ (env : Env) (mix : ℕ → ℕ → ℕ → ℕ) (c : ℕ) (h : Holding) (node : Option KnownNode)
     (table : KnownTable) where
@@ -84,7 +85,7 @@ module _ (env : Env) (mix : ℕ → ℕ → ℕ → ℕ) (c : ℕ) (h : Holding)
         let within = index-within env mix place lock.bucket in
         let write : IsWrite env.geometry M M' (PageWord j) word = is_write env.geometry words
         (PageWord j) op all within (sym is) in
-        let right = (whole.buckets j within).locked in
+        let right = (whole.buckets j within (held-no_entry env mix M G whole j c lock.holder)).locked in
         let b = held_by (G.bucket j) None in
         let none : MovesNone env mix G c =
         moves_none env mix M G whole c (λ works. let yes_ = knows.only.works works in cc) in

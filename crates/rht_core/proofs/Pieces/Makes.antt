@@ -1,6 +1,6 @@
 -- The operations of the making of a table and of its giving back, for a caller that holds such a machine: what it knows in each state of
 -- the slot and the pages that it has, and that each operation leads from this to what it knows next.
-use Rattle.std.proofs.Common.{◌≡◌, ℕ, ◌+◌, ◌-◌, ◌*◌, ◌/◌, ◌^◌, ◌<◌, ◌≤◌, ◌==◌, min, max, List, [], length, Option, Some, None, nat_lt, sym, ◌∙◌, ap, subst, arith}
+use Rattle.std.proofs.Common.{◌≡◌, ℕ, ◌+◌, ◌-◌, ◌*◌, ◌/◌, ◌^◌, ◌<◌, ◌≤◌, ◌==◌, min, max, List, [], length, Option, Some, None, nat_lt, sym, ◌∙◌, ap, subst, arith, inl, refl}
 use Rattle.std.specs.Prelude.{nat_le}
 use Rattle.std.specs.List.{range_with_len}
 use Rattle.std.proofs.lemmas.Bool.{cond_both, eqb-true, eqb-false}
@@ -137,11 +137,15 @@ module _ (env : Env) (mix : ℕ → ℕ → ℕ → ℕ) (c : ℕ) (h : Holding)
           has = means.slot.has;
           shape_is = means.slot.shape;
           future_is = means.slot.future;
+          kind = inl (record {
+            flat = ap (λ s. s.nest) shape;
+            many = subst (λ s. table_pages s ≡ max 1 (size_of s / 64)) (sym shape) refl;
+          });
           flat = ap (λ s. s.nest) shape;
-          fits = subst (λ s. s.page + max 1 (size_of s / 64) ≤ env.geometry.pages) (sym shape) run.within;
+          fits = subst (λ s. s.page + table_pages s ≤ env.geometry.pages) (sym shape) run.within;
           run = λ p from below. means.mine p (In-range_with_len page n p
               (subst (λ s. s.page ≤ p) shape from)
-              (subst (λ s. p < s.page + max 1 (size_of s / 64)) shape below));
+              (subst (λ s. p < s.page + table_pages s) shape below));
         }
 
     -- ---- state by state

@@ -33,7 +33,7 @@ use Rattle.rht_chain.specs.declared.probe.ProbeAt.TheVariants as probes
 use Rattle.rht_chain.specs.declared.probe.Probed.{Probed}
 use Rattle.rht_core.proofs.Theory.Ghosts.{put-same, put-all, Ghost, held_by, index_at}
 use Rattle.rht_core.proofs.Theory.Wholes.{chain_of, key_of, place_at, word_index, place_at-index, index-within, stop, Whole}
-use Rattle.rht_core.proofs.Theory.Passed.{NoKey, home-bucket}
+use Rattle.rht_core.proofs.Theory.Passed.{NoKey, home-bucket, held-no_entry}
 use Rattle.rht_core.proofs.Theory.Knowns.{KnownNode, AtHome, KnownBucket, Unlocked, Locks, Stands, Differs, Missed, Found, knows_plain, StandsAt}
 use Rattle.rht_core.proofs.Theory.Knowledge.{HoldsLock, IsStanding, IsReaching, BucketMeans, Knowing}
 use Rattle.rht_core.proofs.Theory.Steps.{TakesLock, by_test, Holding, mem, Moved, moved, moved-map, loads}
@@ -90,7 +90,9 @@ module _ (env : Env) (mix : ℕ → ℕ → ℕ → ℕ) (c port : ℕ) (M : Mem
       let nodes = env.geometry.nodes in
       let here = (G.bucket (word_index env mix place)).nodes in
       let at = standing.stands in
-      let chained = (whole.buckets (word_index env mix place) (index-within env mix place standing.lock.bucket)).chained in
+      let lock = standing.lock in
+      let chained = (whole.buckets (word_index env mix place) (index-within env mix place lock.bucket)
+      (held-no_entry env mix M G whole (word_index env mix place) c lock.holder)).chained in
       let among = In-AllByRecursion (λ m. m < nodes) here
       (λ m i. (whole.owned.first_at m (word_index env mix place) (whole.owned.member (word_index env mix place) m i)).among) in
       let few = length-count_below (λ m. true) nodes here chained.distinct among (λ m i. refl) in
@@ -169,7 +171,8 @@ module _ (env : Env) (mix : ℕ → ℕ → ℕ → ℕ) (c : ℕ) (h : Holding)
         let segment : IsSegment (chain_of M) (head_of (place_at env mix j) b.plain) b.nodes (marker_of (place_at env mix j))
         = subst (λ out. IsSegment (chain_of M) (head_of (place_at env mix j) b.plain) b.nodes
         (stop env mix (place_at env mix j) out)) lock.still
-        (whole.buckets j (index-within env mix place lock.bucket)).chained.segment in
+        (whole.buckets j (index-within env mix place lock.bucket)
+        (held-no_entry env mix M G whole j c lock.holder)).chained.segment in
         subst (λ w. IsSegment (chain_of M) (head_of place w) (G.bucket j).nodes (marker_of place)) lock.plain
         (subst (λ p. IsSegment (chain_of M) (head_of p (G.bucket j).plain) (G.bucket j).nodes
         (marker_of p)) at segment)

@@ -16,14 +16,15 @@ use Rattle.rht_words.proofs.Members.{in-middle}
 use Rattle.rht_words.proofs.LinksRead.{links_tell_apart}
 use Rattle.rht_words.proofs.ChainLemmas.{IsSegment-cut}
 use Rattle.rht_policy.specs.Mix.{bucket_of}
-use Rattle.rht_nest.specs.Place.{bucket_index, bucket_place}
-use Rattle.rht_move.specs.Choice.{is_nested}
+use Rattle.rht_nest.specs.Place.{bucket_index, flat_place}
+use Rattle.rht_nest.specs.Tables.{is_nested}
 use Rattle.rht_core.proofs.Theory.Ghosts.{Ghost, has_table, index_at, lock_bit}
 use Rattle.rht_core.proofs.Theory.Wholes.{chain_of, key_of, place_at, word_index, place_at-index, index-place_at, index-within, hash_in, future_in, stop, TableRight, Whole}
-use Rattle.rht_core.proofs.Theory.Passed.{hash-below, home-index}
-use Rattle.rht_core.proofs.Theory.Knowns.{KnownAim, NoAim, Onward, From, Beyond, KnownRehash, KnownPlace, KnownEntry, KnownWork, Works, Rooted, Follows, Empties, Faces, InBucket, Bare, AtEntry, AtTail, Aims}
-use Rattle.rht_core.proofs.Theory.Knowledge.{HasLock, IsInBucket, WorkMeans}
+use Rattle.rht_core.proofs.Theory.Passed.{hash-below, held-no_entry}
+use Rattle.rht_core.proofs.Theory.Knowns.{KnownAim, NoAim, Onward, From, Beyond, KnownRehash, KnownPlace, KnownEntry, KnownWork, Works, Rooted, Follows, Empties, Nears, Faces, InBucket, Bare, AtEntry, AtTail, Aims}
+use Rattle.rht_core.proofs.Theory.Knowledge.{HasLock, IsEmptying, IsInBucket, WorkMeans}
 use Rattle.rht_core.proofs.Moves.Relinking.{last_of-more}
+use Rattle.rht_core.proofs.Theory.FlatTables.{flat_right, home-index}
 
 -- Behind a load of a table's future: the last table, which may be the current one, and the last one where there is one behind the
 -- current one
@@ -205,7 +206,7 @@ module _ (env : Env) (mix : ℕ → ℕ → ℕ → ℕ) (c : ℕ) (M : Memory) 
 
   -- no table is nested
   pub flat_seen : (slot : ℕ) → has_table (G.slot slot) ≡ true → is_nested (M (Slot slot ShapeWord)) ≡ false
-  flat_seen slot has = ap is_nested (shape_word slot has) ∙ ap (nat_lt 0) (table_right slot has).placed.flat
+  flat_seen slot has = ap is_nested (shape_word slot has) ∙ ap (nat_lt 0) (whole.tables.flat (index_at G slot) (whole.tables.slots slot has).attached)
 
   -- the table behind the current one, and the current one's shape
   pub future_seen : (root future : ℕ) (aim : KnownAim) → Knows (Rooted root aim)
@@ -237,25 +238,37 @@ module _ (env : Env) (mix : ℕ → ℕ → ℕ → ℕ) (c : ℕ) (M : Memory) 
         };
       }
 
+  -- the current table is flat, as each table is
+  current_flat : (root : KnownRehash) (number : ℕ) → IsEmptying env mix G root number → is_nested root.shape ≡ false
+  current_flat root number empties =
+      ap is_nested (sym empties.shape_is)
+      ∙ ap (nat_lt 0) (whole.tables.flat G.current whole.tables.current_in)
+
+  -- so the way to its buckets leads over no entries
+  pub nears_none : (A : Type 0) (root : KnownRehash) (number : ℕ) → Knows (Nears root number) → A
+  nears_none A root number knows =
+      absurd (let z : true ≡ false = sym knows.more.nested ∙ current_flat root number knows.more.empties in cc)
+
   -- the place of the next bucket
   pub record HasPlace (root : KnownRehash) (number : ℕ) : Type 0 where
+    pub flat : is_nested root.shape ≡ false
     pub place : ℕ
-    pub there : bucket_place env.geometry root.shape number ≡ Some place
+    pub there : flat_place env.geometry root.shape number ≡ place
     pub knows : Knows (Faces root number place)
 
   pub place_seen : (root : KnownRehash) (number : ℕ) → Knows (Empties root number)
       → number < size_of (unpacked root.shape) → HasPlace root number
   place_seen root number knows l =
       let is = knows.more in
-      let placed = (whole.tables.each G.current whole.tables.current_in).placed in
+      let placed = flat_right env mix M G whole G.current whole.tables.current_in in
       let below : number < size_of (unpacked (G.table G.current).shape) =
       subst (λ s. number < size_of (unpacked s)) (sym is.shape_is) l in
       let j = bucket_index (G.table G.current).shape number in
       let within : j < 64 * env.geometry.pages = omega (arith, below, placed.fits) in
       record {
+        flat = current_flat root number is;
         place = place_at env mix j;
-        there = subst (λ s. bucket_place env.geometry s number ≡ Some (place_at env mix j)) is.shape_is
-            (ap (λ t. cond t (Some (place_at env mix j)) None) (lt-ltb j (64 * env.geometry.pages) within));
+        there = subst (λ s. flat_place env.geometry s number ≡ place_at env mix j) is.shape_is (omega (arith, within));
         knows = record {
           works = knows.works;
           more = record {
@@ -347,7 +360,8 @@ module _ (env : Env) (mix : ℕ → ℕ → ℕ → ℕ) (c : ℕ) (M : Memory) 
   -- its word, without the lock
   pub word_seen : (place word : ℕ) → HasLock env mix c G place word → unlocked (M (PageWord (index place))) ≡ word
   word_seen place word lock =
-      let right = (whole.buckets (index place) (index-within env mix place lock.bucket)).locked in
+      let right = (whole.buckets (index place) (index-within env mix place lock.bucket)
+      (held-no_entry env mix M G whole (index place) c lock.holder)).locked in
       let locked : lock_bit (G.bucket (index place)).holder ≡ 1 = ap lock_bit lock.holder in
       omega (arith, right.word_is, right.even, locked, lock.plain)
 
@@ -360,7 +374,8 @@ module _ (env : Env) (mix : ℕ → ℕ → ℕ → ℕ) (c : ℕ) (M : Memory) 
       (marker_of (place_at env mix (index at.place))) =
       subst (λ out. IsSegment (chain_of M) (head_of (place_at env mix (index at.place)) b.plain) b.nodes
       (stop env mix (place_at env mix (index at.place)) out)) is.out
-      (whole.buckets (index at.place) (index-within env mix at.place lock.bucket)).chained.segment in
+      (whole.buckets (index at.place) (index-within env mix at.place lock.bucket)
+      (held-no_entry env mix M G whole (index at.place) c lock.holder)).chained.segment in
       subst (λ w. IsSegment (chain_of M) (head_of at.place w) b.nodes (marker_of at.place)) lock.plain
       (subst (λ p. IsSegment (chain_of M) (head_of p b.plain) b.nodes (marker_of p))
       (place_at-index env mix at.place lock.bucket) segment)
@@ -456,8 +471,8 @@ module _ (env : Env) (mix : ℕ → ℕ → ℕ → ℕ) (c : ℕ) (M : Memory) 
 
   pub record HasAim (root : KnownRehash) (at : KnownPlace) (entry : KnownEntry) (shape seed : ℕ) : Type 0 where
     pub place : ℕ
-    pub there : bucket_place env.geometry shape (bucket_of mix (port_of (M (Node entry.node KeyWord))) shape seed)
-        ≡ Some place
+    pub there : flat_place env.geometry shape (bucket_of mix (port_of (M (Node entry.node KeyWord))) shape seed)
+        ≡ place
     pub knows : Knows (Aims root at entry place)
 
   -- by its key, which is that of a port that is bound, and so has 32 bits
@@ -478,17 +493,17 @@ module _ (env : Env) (mix : ℕ → ℕ → ℕ → ℕ) (c : ℕ) (M : Memory) 
       let τ = index_at G slot in
       let attached = (whole.tables.slots slot aim.table).attached in
       let key = key_of M entry.node in
-      let placed = (whole.tables.each τ attached).placed in
+      let placed = flat_right env mix M G whole τ attached in
       let j = bucket_index (G.table τ).shape (hash_in env mix G key τ) in
       let within : j < 64 * env.geometry.pages = omega (arith, hash-below env mix M G whole key τ, placed.fits) in
       let same : port_of key ≡ key = mod-eq_of_lt {n = key} {m = 2 ^ 32} small in
       record {
         place = place_at env mix j;
-        there = ap (λ k. bucket_place env.geometry shape (bucket_of mix k shape seed)) same
-            ∙ ap (λ s. bucket_place env.geometry s (bucket_of mix key s seed)) (sym aim.shape_is)
-            ∙ ap (λ d. bucket_place env.geometry (G.table τ).shape (bucket_of mix key (G.table τ).shape d))
+        there = ap (λ k. flat_place env.geometry shape (bucket_of mix k shape seed)) same
+            ∙ ap (λ s. flat_place env.geometry s (bucket_of mix key s seed)) (sym aim.shape_is)
+            ∙ ap (λ d. flat_place env.geometry (G.table τ).shape (bucket_of mix key (G.table τ).shape d))
             (sym aim.seed_is)
-            ∙ ap (λ t. cond t (Some (place_at env mix j)) None) (lt-ltb j (64 * env.geometry.pages) within);
+            ∙ omega (arith, within);
         knows = record {
           works = knows.works;
           more = record {

@@ -18,6 +18,7 @@ use Rattle.rht_core.proofs.Theory.Knowns.{KnownMaking, MakesNothing, NoAim, Know
 use Rattle.rht_core.proofs.Theory.Knowledge.{HasOnly, WorkMeans, Knowing}
 use Rattle.rht_core.proofs.Theory.Steps.{TakesLock, DropsLock, by_test, Holding, mem, Moved, moved, loads}
 use Rattle.rht_core.proofs.Moves.Working.{lock_work, unlock_work}
+use Rattle.rht_core.proofs.Theory.Passed.{held-no_entry}
 
 -- what a caller knows that does the work
 abbrev pub knows_work : KnownMaking → KnownWork → Known
@@ -172,7 +173,7 @@ module _ (env : Env) (mix : ℕ → ℕ → ℕ → ℕ) (c : ℕ) (h : Holding)
         let M' = mem env mix (applied words op) in
         let write : IsWrite env.geometry M M' (PageWord j) at.word =
         is_write env.geometry words (PageWord j) op all within (sym there) in
-        let right = (whole.buckets j within).locked in
+        let right = (whole.buckets j within (held-no_entry env mix M G whole j c lock.holder)).locked in
         let old : old_of words op ≡ at.word + 1 = ap (λ p. slice_index words p) (sym there) ∙ right.word_is
         ∙ ap (λ p. p + lock_bit (G.bucket j).holder) lock.plain ∙ ap (λ x. at.word + lock_bit x) lock.holder in
         let locks : (i : ℕ) → (G.bucket i).holder ≡ Some c

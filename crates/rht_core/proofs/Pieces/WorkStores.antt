@@ -30,6 +30,7 @@ use Rattle.rht_core.proofs.Moves.CutOffs.{cut_value}
 use Rattle.rht_core.proofs.Moves.Working.{can_leave, can_arrive, can_cut, can_publish, can_retire, take_work_lock, give_work_lock, lock_second_work, stop_work, leave_work, arrive_work, cut_work, publish_work, retire_work}
 use Rattle.rht_core.proofs.Moves.WorkHoldings.{left_only, arrived_only, cut_only, published_only, retired_only, worker_only}
 use Rattle.rht_core.proofs.Pieces.WorkSteps.{knows_work}
+use Rattle.rht_core.proofs.Theory.Passed.{held-no_entry}
 
 -- the second lock that is held after an operation that takes the lock of a bucket
 abbrev pub second_by : LockModel × Next ℕ → Option ℕ
@@ -163,7 +164,7 @@ module _ (env : Env) (mix : ℕ → ℕ → ℕ → ℕ) (c : ℕ) (h : Holding)
         let j = word_index env mix at.place in
         let there : place_at env mix j ≡ at.place = place_at-index env mix at.place lock.bucket in
         let within = index-within env mix at.place lock.bucket in
-        let right = (whole.buckets j within).locked in
+        let right = (whole.buckets j within (held-no_entry env mix M G whole j c lock.holder)).locked in
         let old : old_of words op ≡ at.word + 1 = ap (λ p. slice_index words p) (sym there) ∙ right.word_is
         ∙ ap (λ p. p + lock_bit (G.bucket j).holder) lock.plain ∙ ap (λ x. at.word + lock_bit x) lock.holder in
         let worked = stop_work env mix c M G whole knows.means.work.works root at aim (after op) is knows.only.locks

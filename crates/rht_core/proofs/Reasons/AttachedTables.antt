@@ -14,6 +14,8 @@ use Rattle.rht_words.specs.declared.config.Kind.{Kind}
 use Rattle.rht_words.specs.declared.config.Kind.TheVariants.{Single, Listed}
 use Rattle.rht_words.specs.declared.geometry.Geometry.{Geometry}
 use Rattle.rht_words.specs.declared.machine.Next.{Next}
+use Rattle.rht_words.specs.declared.machine.Start.{Start}
+use Rattle.rht_words.specs.declared.machine.Start.TheVariants as starts
 use Rattle.rht_words.specs.declared.machine.Next.TheVariants.{Go, Done}
 use Rattle.rht_words.specs.Links.{table_of, slot_of, future_of}
 use Rattle.rht_words.specs.Shapes.{unpacked, size_of}
@@ -35,6 +37,12 @@ use Rattle.rht_nest.specs.Locate.{LocateModel, locate_plan_at, locate_after}
 use Rattle.rht_nest.specs.declared.locate.LocateAt.{LocateAt}
 use Rattle.rht_nest.specs.declared.locate.LocateAt.TheVariants as locates
 use Rattle.rht_nest.specs.declared.locate.Located.{Located}
+use Rattle.rht_nest.specs.declared.locate.LocatedBucket.{LocatedBucket}
+use Rattle.rht_nest.specs.declared.locate.LocatedBucket.TheVariants as buckets
+use Rattle.rht_nest.specs.Place.{PlaceModel, entered}
+use Rattle.rht_nest.specs.Grow.{GrowModel, grow_plan_at, grow_after}
+use Rattle.rht_nest.specs.declared.grow.GrowAt.{GrowAt}
+use Rattle.rht_nest.specs.declared.grow.GrowAt.TheVariants as grows
 use Rattle.rht_nest.specs.Make.{MakeModel, make_plan_at, make_after}
 use Rattle.rht_nest.specs.declared.make.MakeAt.{MakeAt}
 use Rattle.rht_nest.specs.declared.make.MakeAt.TheVariants as makes
@@ -56,7 +64,7 @@ use Rattle.rht_chain.specs.declared.relink.RelinkAt.{RelinkAt}
 use Rattle.rht_chain.specs.declared.relink.RelinkAt.TheVariants as relinks
 use Rattle.rht_chain.specs.declared.locked.Then.{Then}
 use Rattle.rht_chain.specs.declared.locked.Then.TheVariants.{Table, Answer}
-use Rattle.rht_bind.specs.Bind.{plan_at, after_at, filled, locating, bucket_or_no_table, located, bound_already, found_or_future, probed, replaced, future_or_count, checked_count, published, unlocked, unlocking, IsBindAtIn}
+use Rattle.rht_bind.specs.Bind.{plan_at, after_at, filled, locating, at_bucket, behind_page, grown, located, bound_already, found_or_future, probed, replaced, future_or_count, checked_count, published, unlocked, unlocking, IsBindAtIn}
 use Rattle.rht_bind.specs.Growing.{unlocking_full, making, size_grown, want_or_busy, made, ended_attempt, behind_attempt, refused_or_found, has_attached, checked_attach, unmade}
 use Rattle.rht_bind.specs.declared.bind.Attempt.{Attempt}
 use Rattle.rht_bind.specs.declared.bind.Claimed.{Claimed}
@@ -76,6 +84,7 @@ abbrev pub attached_at : BindAt → Option Bool
 attached_at (at.Filling new) = Some false
 attached_at (at.CurrentTable attempt) = Some attempt.attached
 attached_at (at.Locating attempt locate) = Some attempt.attached
+attached_at (at.Entering attempt table shape place grow) = Some attempt.attached
 attached_at (at.Probing attempt table shape probe) = Some attempt.attached
 attached_at (at.FoundOwner claimed found) = Some claimed.attempt.attached
 attached_at (at.ListLink list) = Some list.claimed.attempt.attached
@@ -109,16 +118,29 @@ module _ (env : Env) where
   filled-keeps new (Done None) = refl
   filled-keeps new (Done (Some node)) = refl
 
-  place-keeps : (port : ℕ) (attempt : Attempt) (table shape : ℕ) (place : Option ℕ)
-      → Keeps attempt.attached (bucket_or_no_table env port attempt table shape place)
-  place-keeps port attempt table shape None = tt
-  place-keeps port attempt table shape (Some place) = refl
+  bucket-keeps : (port : ℕ) (attempt : Attempt) (table shape : ℕ) (bucket : LocatedBucket)
+      → Keeps attempt.attached (at_bucket env port attempt table shape bucket)
+  bucket-keeps port attempt table shape (buckets.At place) = refl
+  bucket-keeps port attempt table shape (buckets.Missing place (Some next)) = refl
+  bucket-keeps port attempt table shape (buckets.Missing place None) = refl
+
+  page-keeps : (port : ℕ) (attempt : Attempt) (table shape : ℕ) (start : Start PlaceModel ℕ)
+      → Keeps attempt.attached (behind_page env port attempt table shape start)
+  page-keeps port attempt table shape (starts.Running next) = refl
+  page-keeps port attempt table shape (starts.Done place) = refl
+
+  grown-keeps : (port : ℕ) (attempt : Attempt) (table shape : ℕ) (place : PlaceModel) (grow : GrowModel)
+      (next : Next (Option ℕ)) → Keeps attempt.attached (grown env port attempt table shape place grow next)
+  grown-keeps port attempt table shape place grow Go = refl
+  grown-keeps port attempt table shape place grow (Done None) = tt
+  grown-keeps port attempt table shape place grow (Done (Some page)) =
+      page-keeps port attempt table shape (entered place page)
 
   located-keeps : (port : ℕ) (attempt : Attempt) (locate : LocateModel) (next : Next Located)
       → Keeps attempt.attached (located env port attempt locate next)
   located-keeps port attempt locate Go = refl
   located-keeps port attempt locate (Done there) =
-      place-keeps port attempt locate.table there.shape there.place
+      bucket-keeps port attempt locate.table there.shape there.bucket
 
   bound-keeps : (kind : Kind) (claimed : Claimed) (first : ℕ) (before : Option ℕ)
       → Keeps claimed.attempt.attached (bound_already kind claimed first before)
@@ -231,6 +253,8 @@ module _ (g : Geometry) where
   locate-none : (h : Geometry) (slot : ℕ) (state : LocateAt) → IsNoFutureExchange g (locate_plan_at h slot state)
   locate-none h slot locates.Shape table old new l e = cc
   locate-none h slot (locates.Seed shape) table old new l e = cc
+  locate-none h slot (locates.Early shape place) table old new l e = cc
+  locate-none h slot (locates.Entry shape early place) table old new l e = cc
 
   -- buckets stand behind the slots
   pub lock-none : (place : ℕ) (state : LockAt) → IsBucketPlace g place → IsNoFutureExchange g (lock_plan_at place state)
@@ -256,6 +280,16 @@ module _ (g : Geometry) where
   run-none h pages (runs.MapWord first index) table old new l e = cc
   run-none h pages (runs.Claim first index) table old new l e = cc
   run-none h pages (runs.GiveBack first index bits) table old new l e = cc
+
+  -- an entry of a nested table is a word of the pages
+  grow-none : (entry : ℕ) (state : GrowAt) → IsBucketPlace g entry → IsNoFutureExchange g (grow_plan_at entry state)
+  grow-none entry (grows.Taking take) there table old new l e =
+      run-none take.geometry take.pages take.at table old new l e
+  grow-none entry (grows.Entering page) there table old new l e =
+      let same : entry ≡ place_of g (Slot table FutureWord) = cc in
+      let order = parts_in_order g in
+      absurd (omega (arith, same, l, there.0, order.page_map, order.nodes, order.pages))
+  grow-none entry (grows.Giving page give) there table old new l e = cc
 
   -- the state of a slot is another word than a future
   pub make-none : (h : Geometry) (exponent seed : ℕ) (state : MakeAt)
@@ -339,6 +373,10 @@ module _ (env : Env) where
       let r = locate_after mix port locate did.old in
       goes attempt.attached (located env port attempt r.0 r.1) _ steps did is
       (locate-none g locate.geometry locate.table locate.at) (located-keeps env port attempt r.0 r.1) saw
+  attached-saw mix port once (at.Entering attempt table shape place grow) steps did within is saw =
+      let r = grow_after grow did.old in
+      goes attempt.attached (grown env port attempt table shape place r.0 r.1) _ steps did is
+      (grow-none g grow.entry grow.at within.grow_in.entry_in) (grown-keeps env port attempt table shape place r.0 r.1) saw
   attached-saw mix port once (at.Probing attempt table shape probe) steps did within is saw =
       let r = probe_after probe did.old in
       goes attempt.attached (probed env.config.kind attempt table shape r.0 r.1) _ steps did is

@@ -21,7 +21,12 @@ use Rattle.rht_model.specs.Answers.{is_refusal}
 use Rattle.rht_model.specs.declared.history.Reply.{Reply}
 use Rattle.rht_model.specs.declared.history.Reply.TheVariants.{NoNode}
 use Rattle.rht_arena.specs.NewNode.{NewNodeModel, new_node_after}
-use Rattle.rht_nest.specs.Locate.{LocateModel, locate_plan, locate_after, locate_after_at}
+use Rattle.rht_nest.specs.Tables.{is_nested}
+use Rattle.rht_nest.specs.Place.{PlaceModel, flat_place, nested_place, place_after}
+use Rattle.rht_nest.specs.declared.place.Bucket.{Bucket}
+use Rattle.rht_nest.specs.declared.place.Bucket.TheVariants.{At, Absent}
+use Rattle.rht_policy.specs.Mix.{bucket_of}
+use Rattle.rht_nest.specs.Locate.{LocateModel, locate_plan, locate_after, locate_after_at, located_at, entry_followed}
 use Rattle.rht_nest.specs.declared.locate.LocateAt.{LocateAt}
 use Rattle.rht_nest.specs.declared.locate.LocateAt.TheVariants as locates
 use Rattle.rht_nest.specs.declared.locate.Located.{Located}
@@ -68,11 +73,14 @@ module _ (env : Env) (Good Come : ℕ → Type 0) where
   abbrev CalmLocate : LocateAt → Type 0
   CalmLocate locates.Shape = Unit {0}
   CalmLocate (locates.Seed shape) = Good shape
+  CalmLocate (locates.Early shape place) = Good shape
+  CalmLocate (locates.Entry shape early place) = Good shape
 
   abbrev pub CalmBind : BindAt → Type 0
   CalmBind (at.Filling new) = Unit {0}
   CalmBind (at.CurrentTable attempt) = Unit {0}
   CalmBind (at.Locating attempt locate) = Come locate.table × CalmLocate locate.at
+  CalmBind (at.Entering attempt table shape place grow) = ⊥
   CalmBind (at.Probing attempt table shape probe) = Good shape
   CalmBind (at.FoundOwner claimed found) = Unit {0}
   CalmBind (at.ListLink list) = Unit {0}
@@ -147,10 +155,23 @@ module _ (env : Env) (Good Come : ℕ → Type 0) where
   CalmLocated (m, Go) = Come m.table × CalmLocate m.at
   CalmLocated (m, Done there) = Good there.shape
 
+  calm-followed : (m : LocateModel) (shape : ℕ) (early : Option ℕ) (place : PlaceModel) (next : Next Bucket) → Come m.table
+      → Good shape → CalmLocated (entry_followed m shape early place next)
+  calm-followed m shape early place Go come good = (come, good)
+  calm-followed m shape early place (Done (At word)) come good = good
+  calm-followed m shape early place (Done (Absent entry)) come good = good
+
   calm-locate : (mix : ℕ → ℕ → ℕ → ℕ) (port : ℕ) (m : LocateModel) (state : LocateAt) (word : ℕ) → Come m.table → CalmLocate state
       → (state ≡ locates.Shape → Good word) → CalmLocated (locate_after_at mix port m state word)
   calm-locate mix port m locates.Shape word come calm good = (come, good refl)
-  calm-locate mix port m (locates.Seed shape) word come calm good = calm
+  calm-locate mix port m (locates.Seed shape) word come calm good =
+      by_test (λ t. CalmLocated (cond {A = LocateModel × Next Located} t
+      (record m { at = locates.Early shape (nested_place m.geometry shape (bucket_of mix port shape word)) }, Go)
+      (m, Done (located_at shape (flat_place m.geometry shape (bucket_of mix port shape word))))))
+      (is_nested shape) (λ t. (come, calm)) (λ f. calm)
+  calm-locate mix port m (locates.Early shape place) word come calm good = (come, calm)
+  calm-locate mix port m (locates.Entry shape early place) word come calm good =
+      calm-followed m shape early (place_after place word).0 (place_after place word).1 come calm
 
   -- a bucket that is looked for is there
   calm-located : (mix : ℕ → ℕ → ℕ → ℕ) (port owner c : ℕ) (attempt : Attempt) (next : LocateModel × Next Located) (memory : Memory)
@@ -207,6 +228,7 @@ module _ (env : Env) (Good Come : ℕ → Type 0) where
         step.knows
         (calm-locate mix port locate locate.at (old_of does.words (locate_plan locate)) calm.0 calm.1
         (λ shape. subst Good found (is.shape attempt locate refl shape calm.0))))
+    calm-bind mix port owner once (at.Entering attempt table shape place grow) steps did does saw calm is = absurd calm
     calm-bind mix port owner once (at.Probing attempt table shape probe) steps did does saw calm is =
         calm-probed env.config.kind attempt table shape (probe_after probe did.old).0 (probe_after probe did.old).1 calm
     calm-bind mix port owner once (at.FoundOwner claimed found) steps did does saw calm is = λ refused. absurd (cc)
@@ -253,6 +275,7 @@ module _ (env : Env) (Good Come : ℕ → Type 0) where
   bind-spares (at.Unlocking attempt table unlock next) within calm = unlock-spares env.geometry unlock within.unlock_in
   bind-spares (at.Giving give reply) within calm = give_node-spares give
   bind-spares (at.UnlockingFull growing unlock) within calm = absurd calm
+  bind-spares (at.Entering attempt table shape place grow) within calm = absurd calm
   bind-spares (at.Root growing) within calm = absurd calm
   bind-spares (at.GrowthCount growing root) within calm = absurd calm
   bind-spares (at.Making growing size make) within calm = absurd calm

@@ -34,7 +34,8 @@ use Rattle.rht_move.specs.declared.last_table.Last.{Last}
 use Rattle.rht_move.specs.declared.last_table.LastTableAt.{LastTableAt}
 use Rattle.rht_move.specs.declared.last_table.LastTableAt.TheVariants as last_tables
 use Rattle.rht_move.specs.LastTable.{LastTableModel, last_table_plan_at, last_table_after_at, next_or_shape}
-use Rattle.rht_move.specs.Choice.{choice_of, is_nested, is_sparse}
+use Rattle.rht_nest.specs.Tables.{is_nested}
+use Rattle.rht_move.specs.Choice.{choice_of, is_sparse}
 use Rattle.rht_move.specs.declared.work.choice.Choice.{Choice}
 use Rattle.rht_move.specs.declared.work.choice.Choice.TheVariants as choices
 use Rattle.rht_move.specs.declared.work.Due.TheVariants as dues
@@ -261,6 +262,7 @@ module _ (env : Env) where
       calm-work (work_at.Attaching root last slot shape) does now calm = absurd calm
       calm-work (work_at.Unmaking root unmake) does now calm = absurd calm
       calm-work (work_at.RootShape root future again) does now calm = absurd calm
+      calm-work (work_at.Entry rehash number place) does now calm = absurd calm
       calm-work (work_at.Locking rehash number lock) does now calm = absurd calm
       calm-work (work_at.EntryTable emptying seek) does now calm = absurd calm
       calm-work (work_at.Seed emptying last) does now calm = absurd calm

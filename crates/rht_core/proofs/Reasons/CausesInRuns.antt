@@ -9,7 +9,7 @@
 -- loads what it answers by its one operation. How the run stood at the event of the operation that loaded or raised the count of ports
 -- follows from the law that each recorded operation stands in the run at its event; and since the count
 -- is at most the nodes there, the clamp under which a bind looks at it has changed nothing.
-use Rattle.std.proofs.Common.{◌≡◌, ◌⊎◌, ℕ, ◌≤◌, ◌+◌, Bool, true, false, cond, ◌↔◌, ◌≢◌, ◌<◌, ◌*◌, ◌-◌, nat_le, nat_eq, List, [], ◌∷◌, ◌++◌, map, min, refl, sym, ap, ◌∙◌, subst, inl, inr, arith}
+use Rattle.std.proofs.Common.{◌≡◌, ◌⊎◌, ℕ, ◌≤◌, ◌+◌, Bool, true, false, cond, ◌↔◌, ◌≢◌, ◌<◌, ◌*◌, ◌-◌, nat_le, nat_eq, List, [], ◌∷◌, ◌++◌, map, min, refl, sym, ap, ◌∙◌, subst, inl, inr, arith, append_assoc}
 use Rattle.std.specs.Prelude.{Option, Some, None, IfSome, ◌==◌, ◌||◌, ◌&&◌}
 use Rattle.std.specs.List.{AllByRecursion, Any}
 use Rattle.std.proofs.lemmas.Bool.{cases_lt, lt-ltb, le-ltb, leb-true, and_parts, eqb-true, eqb-false}
@@ -52,6 +52,7 @@ use Rattle.rht_nest.specs.declared.make.MakeAt.TheVariants as makes
 use Rattle.rht_nest.specs.Unmake.{UnmakeModel, unmake_new, unmake_plan_at, unmake_after}
 use Rattle.rht_nest.specs.declared.unmake.UnmakeAt.{UnmakeAt}
 use Rattle.rht_nest.specs.declared.unmake.UnmakeAt.TheVariants as unmakes
+use Rattle.rht_nest.specs.Grow.{pages_of_grow}
 use Rattle.rht_nest.specs.Locate.{LocateModel, locate_plan, locate_after}
 use Rattle.rht_nest.specs.declared.locate.Located.{Located}
 use Rattle.rht_chain.specs.Probe.{ProbeModel, probe_after_at}
@@ -67,7 +68,7 @@ use Rattle.rht_find.specs.Find.{after_at as find_after_at}
 use Rattle.rht_find.specs.declared.find.FindAt.{FindAt}
 use Rattle.rht_find.specs.declared.find.FindAt.TheVariants.{CurrentTable}
 use Rattle.rht_words.proofs.Memory.{Memory}
-use Rattle.rht_bind.specs.BindHeld.{holds_node}
+use Rattle.rht_bind.specs.BindHeld.{holds_node, holds_table}
 use Rattle.rht_bind.specs.Growing.{unlocking_full, making, size_grown, want_or_busy, made, ended_attempt, behind_attempt, refused_or_found, has_attached, checked_attach, unmade}
 use Rattle.rht_bind.specs.declared.bind.Attempt.{Attempt}
 use Rattle.rht_bind.specs.declared.bind.growth.Full.{Full}
@@ -109,19 +110,18 @@ use Rattle.rht_core.proofs.Theory.Ghosts.{Ghost, has_table, index_at}
 use Rattle.rht_core.proofs.Theory.Wholes.{future_in, Whole}
 use Rattle.rht_core.proofs.Theory.Knowns.{Unlocked}
 use Rattle.rht_core.proofs.Pieces.NewNodes.{filled as filled_node}
-use Rattle.rht_core.proofs.Pieces.Locates.{LocateKnows, locate_step}
+use Rattle.rht_core.proofs.Pieces.Locates.{LocateKnows, locate_step, no_way}
 use Rattle.rht_core.proofs.Tracing.TracesAtEvents.{at_events}
 use Rattle.rht_core.proofs.Tracing.TracedJobs.{Performs, LeadsOn, IsEndedSo, jobs_keep_in}
 use Rattle.rht_move.specs.Work as work
 use Rattle.rht_move.specs.declared.work.WorkAt.TheVariants as works_at
 use Rattle.rht_core.proofs.Reasons.WorkChoices.{SawIdle-nothing, SawReplaced-moved, SawForWork, SawAtWork, work-saw}
 use Rattle.rht_core.proofs.Counting.FullTables.{counted_at}
-use Rattle.rht_core.proofs.Reasons.TablesWalked.{IsNoRaise, IsAside, no_load, aside, elsewhere, node_loads, probe_loads, relink_stores, CameTo-append, came-current, came-future, walked-came, LastWalked-push, Walked, Walked-push, WalkedSeeing, WalkedSeeing-push, WalkedAt, WalkedNext, same_table, locate-walked}
+use Rattle.rht_core.proofs.Reasons.TablesWalked.{IsNoRaise, IsAside, no_load, aside, elsewhere, node_loads, probe_loads, relink_stores, CameTo-append, came-current, came-future, walked-came, LastWalked-push, Walked, Walked-push, WalkedSeeing, WalkedSeeing-push, LoadedNoKey, WalkedAt, WalkedNext, same_table, locate-walked}
 use Rattle.rht_core.proofs.Reasons.KeyLoads.{no_key}
 use Rattle.rht_core.proofs.Reasons.ChainsCounted.{none-counted, HasCounted, HasCounted-push, CountedAt, CountedNext, probe-counted, long-counted}
 use Rattle.rht_core.proofs.Reasons.AttachedTables.{IsNoFutureExchange, IsNoAttach, no_attach, AttachedSo, AttachedSo-push, SawAttached, attached-saw, relink-none, unmake-none}
 use Rattle.rht_core.proofs.Reasons.UnraisedBinds.{SawUnraised, unraised-saw}
-use Rattle.rht_core.proofs.Reasons.UntriedSlots.{IsUntried, UntriedSince, untried-walked, SawUntried, untried-saw}
 use Rattle.rht_core.proofs.Reasons.RefusedBinds.{no_slot, no_key-future, Behind, Behind-push, SawWhy, SawWhy-push, SawRoot, SawOther, SawRefusal, SawToMake, SawFullUp, refusal-why, Settled, IsFollowing, FollowedSeen, FollowedSeen-push, BusySeen, BusySeen-push, NoTableSeen, NoTableSeen-push, above-why, root-saw, begins-making, other-saw, making-saw, no_room-saw, busy-saw, no_table-saw, followed-saw}
 use Rattle.rht_core.proofs.Counting.CountedNodes.{raise_few, load_few, lower_few}
 use Rattle.rht_core.proofs.Reasons.ReleaseKicks.{SawRelease, SawForRelease, release-saw, kicks_right}
@@ -220,6 +220,8 @@ module _ (env : Env) (words_at : ℕ → List ℕ) where
   SawAt (at.Filling new) steps = SawNew new.at steps
   SawAt (at.CurrentTable attempt) steps = Unit {0}
   SawAt (at.Locating attempt locate) steps = WalkedAt env.geometry locate.table locate.at steps
+  SawAt (at.Entering attempt table shape place grow) steps =
+      WalkedSeeing env.geometry table shape (LoadedNoKey env.geometry) steps
   SawAt (at.Probing attempt table shape probe) steps =
       WalkedSeeing env.geometry table shape (CountedAt env.geometry words_at probe.at) steps
   SawAt (at.FoundOwner claimed found) steps = Unit {0}
@@ -263,7 +265,7 @@ module _ (env : Env) (words_at : ℕ → List ℕ) where
   abbrev pub JobSaw : Job → List Did → Type 0
   JobSaw (finds port state) steps = Unit {0}
   JobSaw (binds port owner once state) steps =
-      SawAt state steps × (SawAttached env state steps × (SawUnraised env state steps × SawUntried env state steps))
+      SawAt state steps × (SawAttached env state steps × SawUnraised env state steps)
   JobSaw (lists port room state) steps = Unit {0}
   JobSaw (releases port owner state) steps = SawRelease env state steps
   JobSaw (rebinds port owner new state) steps = SawAtRebind state steps
@@ -617,10 +619,10 @@ module _ (env : Env) (words_at : ℕ → List ℕ) where
         let counted = HasCounted env.geometry words_at place 0 in
         rw knows.there (subst (λ table. WalkedSeeing env.geometry table there.shape counted steps) (sym same)
         (record {
-          walked = walked.walked;
+          walked = walked.0.walked;
           saw = record {
             nodes = [];
-            counted = none-counted env.geometry words_at place 0 walked.walked.last.behind walked.saw;
+            counted = none-counted env.geometry words_at place 0 walked.0.walked.last.behind walked.0.saw;
             many = refl;
           };
         }))
@@ -635,7 +637,7 @@ module _ (env : Env) (words_at : ℕ → List ℕ) where
         let is : did.old ≡ old_of does.words (locate_plan locate) = does.found ∙ ap (old_of does.words) does.planned in
         let step = locate_step env mix does.caller (holds_node (Some attempt.node) None) (Some (filled_node attempt.node port owner)) Unlocked does.words does.ghost does.whole
         port locate does.within.at_in.locate_in does.knows.knowing in
-        let walked = locate-walked env.geometry mix port locate locate.at steps did does.within.at_in.locate_in.table_in does.planned saw in
+        let walked = locate-walked env.geometry mix port locate locate.at steps did does.within.at_in.locate_in.at_in does.within.at_in.locate_in.table_in does.planned saw in
         subst (λ old. let next = locate_after mix port locate old in SawAt (located env port attempt next.0 next.1) all) (sym is)
         (found-saw does.caller attempt locate (locate_after mix port locate (old_of does.words (locate_plan locate))) _ _ all step.knows
         (same_table env.geometry mix port locate locate.at (old_of does.words (locate_plan locate)))
@@ -659,15 +661,10 @@ module _ (env : Env) (words_at : ℕ → List ℕ) where
     -- the load of the count leads to a table of the size that it wants, or to a refusal
     want-saw : (growing : Growing) (root : ℕ) (steps : List Did) (did : Did)
         → did.op ≡ Load (place_of env.geometry PortCount) → IsNoShapeLoad env.geometry did
-        → UntriedSince env.geometry steps → Behind env words_at growing.table growing.shape (SawRoot env words_at growing root) steps
+        → Behind env words_at growing.table growing.shape (SawRoot env words_at growing root) steps
         → SawAt (want_or_busy env growing root did.old) (steps ++ did ∷ [])
-    want-saw growing root steps did is none since saw =
-        let Saw : List Did → Type 0 = λ behind. AllByRecursion (IsUntried env.geometry) behind × SawRoot env words_at growing root behind in
-        let both : Behind env words_at growing.table growing.shape Saw steps =
-        record {
-          walked = saw.walked;
-          saw = (untried-walked env.geometry growing.table growing.shape steps saw.walked since, saw.saw);
-        } in
+    want-saw growing root steps did is none saw =
+        let Saw : List Did → Type 0 = SawRoot env words_at growing root in
         let size = size_grown growing in
         let busy = at.FutureAgain growing (refusals.Busy root) in
         let same = nat_eq root growing.table in
@@ -679,7 +676,7 @@ module _ (env : Env) (words_at : ℕ → List ℕ) where
         (SawToMake env words_at growing (2 * size) (exponent_made (2 * size)) (makes.Slot 0, Go)) steps did none
         (λ behind so.
         begins-making env words_at growing root (2 * size) behind did is (sym (ap (λ b. cond b (2 * size) size) above)) (inl above) so)
-        both)
+        saw)
         (λ below.
         by_test (λ t. SawAt (cond t (making env growing size) busy) all) same
         (λ t.
@@ -688,7 +685,7 @@ module _ (env : Env) (words_at : ℕ → List ℕ) where
         (λ behind so.
         begins-making env words_at growing root size behind did is (sym (ap (λ b. cond b (2 * size) size) below))
         (inr (eqb-true root growing.table t)) so)
-        both)
+        saw)
         (λ other.
         Behind-push env words_at growing.table growing.shape (SawRoot env words_at growing root)
         (SawOther env words_at growing.table root growing.why growing.shape) steps did none
@@ -794,14 +791,18 @@ module _ (env : Env) (words_at : ℕ → List ℕ) where
 
     bind-saw : (state : BindAt) (steps : List Did) (did : Did)
         → (does : Performs mix env (binds port owner once state) did) → does.words ≡ words_at did.index
-        → SawAt state steps → SawAttached env state steps → SawUnraised env state steps → SawUntried env state steps
+        → SawAt state steps → SawAttached env state steps → SawUnraised env state steps
         → SawNext (steps ++ did ∷ []) (after_at mix env port once state did.old)
-    bind-saw (at.Filling new) steps did does now saw so unraised untried =
+    bind-saw (at.Filling new) steps did does now saw so unraised =
         bind_made-saw new (new_node_after_at new.at did.old) (steps ++ did ∷ [])
         (new-saw new new.at steps did refl does.within.at_in does.planned saw)
-    bind-saw (at.CurrentTable attempt) steps did does now saw so unraised untried = came-current env.geometry steps did does.planned
-    bind-saw (at.Locating attempt locate) steps did does now saw so unraised untried = locating-saw attempt locate steps did does saw
-    bind-saw (at.Probing attempt table shape probe) steps did does now saw so unraised untried =
+    bind-saw (at.CurrentTable attempt) steps did does now saw so unraised = came-current env.geometry steps did does.planned
+    bind-saw (at.Locating attempt locate) steps did does now saw so unraised = locating-saw attempt locate steps did does saw
+    bind-saw (at.Entering attempt table shape place grow) steps did does now saw so unraised =
+        no_way env mix does.caller (holds_table attempt.node None (pages_of_grow grow.at))
+        (Some (filled_node attempt.node port owner)) Unlocked does.words does.ghost does.whole _ port table shape
+        does.knows.knowing.means.table
+    bind-saw (at.Probing attempt table shape probe) steps did does now saw so unraised =
         let within = does.within.at_in.probe_in.at_in in
         let after = probe_after_at probe.geometry probe.key probe.at did.old in
         probed-saw env.config.kind attempt table shape probe after (steps ++ did ∷ [])
@@ -809,17 +810,17 @@ module _ (env : Env) (words_at : ℕ → List ℕ) where
         (CountedNext env.geometry words_at after) steps did (probe_loads env.geometry did probe.at within does.planned)
         (λ behind counted. probe-counted env mix words_at does.caller port does.words does.ghost does.whole probe.geometry
         probe.key probe.at behind did within does.knows.knowing.means.bucket does.planned now counted) saw)
-    bind-saw (at.FoundOwner claimed found) steps did does now saw so unraised untried = does.knows.fits
-    bind-saw (at.ListLink list) steps did does now saw so unraised untried =
+    bind-saw (at.FoundOwner claimed found) steps did does now saw so unraised = does.knows.fits
+    bind-saw (at.ListLink list) steps did does now saw so unraised =
         Walked-push env.geometry list.claimed.table list.claimed.shape steps did
         (aside env.geometry did _ does.planned (λ place load. cc) (λ place value adds. cc)) saw
-    bind-saw (at.ChainLink list) steps did does now saw so unraised untried =
+    bind-saw (at.ChainLink list) steps did does now saw so unraised =
         Walked-push env.geometry list.claimed.table list.claimed.shape steps did
         (node_loads env.geometry did env.geometry list.first ChainLink does.planned) saw
-    bind-saw (at.LinkBehind list link) steps did does now saw so unraised untried =
+    bind-saw (at.LinkBehind list link) steps did does now saw so unraised =
         Walked-push env.geometry list.claimed.table list.claimed.shape steps did
         (aside env.geometry did _ does.planned (λ place load. cc) (λ place value adds. cc)) saw
-    bind-saw (at.Replacing list relink) steps did does now saw so unraised untried =
+    bind-saw (at.Replacing list relink) steps did does now saw so unraised =
         replaced-saw list (relink_after relink).0 (relink_after relink).1 (steps ++ did ∷ [])
         does.knows.fits.listed
         (Walked-push env.geometry list.claimed.table list.claimed.shape steps did
@@ -828,7 +829,7 @@ module _ (env : Env) (words_at : ℕ → List ℕ) where
         (no_attach env.geometry did _ does.planned (relink-none env.geometry relink relink.at)) so)
         (AllByRecursion-push (IsNoRaise env.geometry) steps did unraised
         (relink_stores env.geometry did relink relink.at does.planned).no_raise)
-    bind-saw (at.Future claimed length) steps did does now saw so unraised untried =
+    bind-saw (at.Future claimed length) steps did does now saw so unraised =
         let place = claimed.bucket.place in
         let counted = HasCounted env.geometry words_at place length in
         future-saw claimed length (slot_of did.old) (steps ++ did ∷ [])
@@ -840,69 +841,69 @@ module _ (env : Env) (words_at : ℕ → List ℕ) where
         (elsewhere env.geometry did _ does.planned (λ table below same. absurd (omega arith)))
         (λ behind has. HasCounted-push env.geometry words_at place length behind did
         (no_key-future env words_at did claimed.table does.within.at_in.table_in does.planned) has) saw)
-    bind-saw (at.Count claimed) steps did does now saw so unraised untried =
+    bind-saw (at.Count claimed) steps did does now saw so unraised =
         count-saw claimed steps did does.planned saw
-    bind-saw (at.Link claimed) steps did does now saw so unraised untried =
+    bind-saw (at.Link claimed) steps did does now saw so unraised =
         Walked-push env.geometry claimed.table claimed.shape steps did
         (aside env.geometry did _ does.planned (λ place load. cc) (λ place value adds. cc)) saw
-    bind-saw (at.Raise claimed) steps did does now saw so unraised untried = raise-saw claimed steps did does.planned saw so unraised
-    bind-saw (at.Publish node table relink kick) steps did does now saw so unraised untried =
+    bind-saw (at.Raise claimed) steps did does now saw so unraised = raise-saw claimed steps did does.planned saw so unraised
+    bind-saw (at.Publish node table relink kick) steps did does now saw so unraised =
         published-saw node table kick (relink_after relink).0 (relink_after relink).1 (steps ++ did ∷ [])
         (Raised-push kick steps did
         (still did _ does.planned (relink-no_load relink relink.at) (relink-no_add relink relink.at)
         (relink-none env.geometry relink relink.at)) saw)
-    bind-saw (at.Unlocking attempt table unlock next) steps did does now saw so unraised untried =
+    bind-saw (at.Unlocking attempt table unlock next) steps did does now saw so unraised =
         unlocked-saw attempt next (steps ++ did ∷ [])
         (SawThen-push next steps did
         (still did _ does.planned (λ place load. cc) (λ place value adds. cc) (λ table old new l e. cc)) saw)
-    bind-saw (at.UnlockingFull growing unlock) steps did does now saw so unraised untried =
+    bind-saw (at.UnlockingFull growing unlock) steps did does now saw so unraised =
         Behind-push env words_at growing.table growing.shape (SawWhy env words_at growing.why growing.shape)
         (SawWhy env words_at growing.why growing.shape) steps did
         (no_load env.geometry did _ does.planned (λ place load. cc))
         (λ behind why. SawWhy-push env words_at growing.why growing.shape behind did
         (no_key env.geometry did _ does.planned (λ place load. cc)) why) saw
-    bind-saw (at.Root growing) steps did does now saw so unraised untried =
+    bind-saw (at.Root growing) steps did does now saw so unraised =
         Behind-push env words_at growing.table growing.shape (SawWhy env words_at growing.why growing.shape)
         (SawRoot env words_at growing (table_of did.old)) steps did
         (elsewhere env.geometry did _ does.planned (λ table below same. absurd (omega (arith, same)))).no_shape
         (λ behind why. root-saw env words_at growing behind did does.planned why) saw
-    bind-saw (at.GrowthCount growing root) steps did does now saw so unraised untried =
+    bind-saw (at.GrowthCount growing root) steps did does now saw so unraised =
         want-saw growing root steps did does.planned
-        (elsewhere env.geometry did _ does.planned (λ table below same. absurd (omega (arith, same)))).no_shape untried saw
-    bind-saw (at.Making growing size make) steps did does now saw so unraised untried =
+        (elsewhere env.geometry did _ does.planned (λ table below same. absurd (omega (arith, same)))).no_shape saw
+    bind-saw (at.Making growing size make) steps did does now saw so unraised =
         let after = make_after_at make.geometry make.exponent make.at did.old in
         made-saw growing size make after (steps ++ did ∷ [])
         (Behind-push env words_at growing.table growing.shape (SawToMake env words_at growing size make.exponent (make.at, Go))
         (SawToMake env words_at growing size make.exponent after) steps did
         (make_loads make.geometry make.exponent make.seed make.at did does.planned)
         (λ behind so_far. making-saw env words_at growing size make behind did does.within.at_in.make_in does.planned so_far) saw)
-    bind-saw (at.FutureAgain growing refusal) steps did does now saw so unraised untried =
+    bind-saw (at.FutureAgain growing refusal) steps did does now saw so unraised =
         again-saw growing refusal (slot_of did.old) steps did does.within.at_in.growing_in.table_in does.planned
         (again_few growing refusal did does) refl saw
-    bind-saw (at.Attaching growing slot shape) steps did does now saw so unraised untried =
+    bind-saw (at.Attaching growing slot shape) steps did does now saw so unraised =
         attach-saw growing slot shape steps did does.within.at_in.growing_in.table_in does.within.at_in.slot_in
         does.planned (attaching_few growing slot shape did does) saw
-    bind-saw (at.Unmaking attempt unmake answer) steps did does now saw so unraised untried =
+    bind-saw (at.Unmaking attempt unmake answer) steps did does now saw so unraised =
         unmade-saw attempt answer (unmake_after unmake did.old).0 (unmake_after unmake did.old).1 (steps ++ did ∷ [])
         (SawForReply-push answer steps did
         (still did _ does.planned (unmake-no_load unmake.geometry unmake.slot unmake.at)
         (unmake-no_add unmake.geometry unmake.slot unmake.at)
         (unmake-none env.geometry unmake.geometry unmake.slot unmake.at)) saw)
-    bind-saw (at.Giving give reply) steps did does now saw so unraised untried =
+    bind-saw (at.Giving give reply) steps did does now saw so unraised =
         SawFor-push reply steps did
         (still did _ does.planned (λ place load. cc) (λ place value adds. cc) (λ table old new l e. cc)) saw
 
-    -- with whether it has attached a table, that it has raised no count, and where it has done nothing to the state of a slot
+    -- with whether it has attached a table, and that it has raised no count
     abbrev SawAll : List Did → BindAt × Next Reply → Type 0
     SawAll all next =
         GoesOrEnds
-        (λ state. SawAt state all × (SawAttached env state all × (SawUnraised env state all × SawUntried env state all)))
+        (λ state. SawAt state all × (SawAttached env state all × SawUnraised env state all))
         (λ reply. SawFor reply all) next
 
     all-saw : (next : BindAt × Next Reply) (all : List Did) → SawNext all next → SawAttached env next.0 all
-        → SawUnraised env next.0 all → SawUntried env next.0 all → SawAll all next
-    all-saw (state, Go) all saw so none untried = (saw, (so, (none, untried)))
-    all-saw (state, Done reply) all saw so none untried = saw
+        → SawUnraised env next.0 all → SawAll all next
+    all-saw (state, Go) all saw so none = (saw, (so, none))
+    all-saw (state, Done reply) all saw so none = saw
 
 -- ---- the other calls
 
@@ -965,10 +966,9 @@ module _ (M : Type 0) (mix : ℕ → ℕ → ℕ → ℕ) (env : Env) (events : 
       next-leads (binds port owner once state) (binds port owner once) plain_ending (steps ++ did ∷ [])
       (after_at mix env port once state did.old)
       (all-saw env words_at mix port owner once (after_at mix env port once state did.old) (steps ++ did ∷ [])
-      (bind-saw env words_at mix port owner once state steps did performs now saw.0 saw.1.0 saw.1.1.0 saw.1.1.1)
+      (bind-saw env words_at mix port owner once state steps did performs now saw.0 saw.1.0 saw.1.1)
       (attached-saw env mix port once state steps did performs.within.at_in performs.planned saw.1.0)
-      (unraised-saw env mix port once state steps did performs.planned saw.1.1.0)
-      (untried-saw env mix port once state steps did performs.within.at_in performs.planned saw.1.1.1))
+      (unraised-saw env mix port once state steps did performs.planned saw.1.1))
   job-leads (lists port room state) steps did performs now saw =
       let after = all.room_after state room did.old in
       let next = all.after_at mix env port state did.old in
@@ -1000,7 +1000,7 @@ module _ (M : Type 0) (mix : ℕ → ℕ → ℕ → ℕ) (env : Env) (events : 
   first_job-saw (Find port) job is = subst (λ j. JobSaw env words_at j []) (let here : finds port CurrentTable ≡ job = cc in here) tt
   first_job-saw (Bind port owner once) job is =
       let here : binds port owner once (first_state env port owner) ≡ job = cc in
-      subst (λ j. JobSaw env words_at j []) here (λ node l. absurd (omega arith), (tt, (tt, tt)))
+      subst (λ j. JobSaw env words_at j []) here (λ node l. absurd (omega arith), (tt, tt))
   first_job-saw (All port) job is =
       subst (λ j. JobSaw env words_at j [])
       (let here : lists port (room_for_nodes env) (alls.Seeking (seek_new env.geometry)) ≡ job = cc in here) tt
@@ -1241,10 +1241,17 @@ module _ (M : Type 0) (mix : ℕ → ℕ → ℕ → ℕ) (env : Env) (events : 
         let wanted = saw.wanted in
         let same =
         unclamped_some wanted.count settled.before (recorded_before table (SawFullUp env words_at table size) none past.steps recorded settled)
-        wanted.counted in
+        (subst (Any (Loaded env.geometry PortCount wanted.count))
+        (append_assoc wanted.sooner (wanted.counting ∷ []) wanted.making ∙ sym wanted.parts)
+        (Any-append_left (Loaded env.geometry PortCount wanted.count) (wanted.sooner ++ wanted.counting ∷ []) wanted.making
+        (Any-push (Loaded env.geometry PortCount wanted.count) wanted.sooner wanted.counting wanted.counted))) in
         record {
           table = table;
           full = walked_full table (SawFullUp env words_at table size) none past.steps recorded settled saw.is_full;
+          sooner = wanted.sooner;
+          counting = wanted.counting;
+          making = wanted.making;
+          parts = wanted.parts;
           count = wanted.count;
           counted = wanted.counted;
           wanted = wanted.wanted ∙ ap (wanted_size env settled.shape) same;

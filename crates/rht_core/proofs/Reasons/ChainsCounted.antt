@@ -17,6 +17,7 @@ use Rattle.rht_words.specs.Links.{node_of, head_of}
 use Rattle.rht_words.specs.Places.{Node, KeyWord, place_of}
 use Rattle.rht_words.specs.Shapes.{unpacked, size_of}
 use Rattle.rht_words.proofs.Memory.{Memory}
+use Rattle.rht_words.proofs.EachElement.{AllByRecursion-push}
 use Rattle.rht_chain.specs.Lock.{LockModel, lock_after_at}
 use Rattle.rht_chain.specs.declared.lock.LockAt.{LockAt}
 use Rattle.rht_chain.specs.declared.lock.LockAt.TheVariants as locks
@@ -29,19 +30,24 @@ use Rattle.rht_chain.specs.Probe.{probe_plan_at, probe_after_at, walk_or_seen, l
 use Rattle.rht_chain.specs.declared.probe.ProbeAt.{ProbeAt}
 use Rattle.rht_chain.specs.declared.probe.ProbeAt.TheVariants as probes
 use Rattle.rht_chain.specs.declared.probe.Probed.{Probed}
-use Rattle.rht_nest.specs.Place.{bucket_place}
 use Rattle.rht_core.specs.Traces.{Did}
-use Rattle.rht_core.specs.StandsFor.{bucket_nodes, stands_for, AreBound}
-use Rattle.rht_core.specs.ResizeCauses.{IsNoKeyLoad, CountsNode, AreCounted, SawLongChain}
+use Rattle.rht_core.specs.StandsFor.{page_word, bucket_in, bucket_nodes, stands_for, AreBound}
+use Rattle.rht_core.specs.ResizeCauses.{IsNoKeyLoad, CountsNode, AreCounted, FindsBucketAt, SawLongChain}
 use Rattle.rht_core.proofs.Theory.Ghosts.{Ghost, index_at}
 use Rattle.rht_core.proofs.Theory.Wholes.{word_index, hash_in, place_at-index, index-within, Whole}
-use Rattle.rht_core.proofs.Theory.Passed.{hash-below}
+use Rattle.rht_core.proofs.Theory.Passed.{hash-below, held-no_entry}
 use Rattle.rht_core.proofs.Theory.Knowledge.{IsAtHome, IsReaching, BucketMeans}
 use Rattle.rht_core.proofs.Theory.Steps.{mem, by_test}
 use Rattle.rht_core.proofs.Pieces.Probes.{known_walk, known_probe, one_more-counted}
-use Rattle.rht_core.proofs.Meaning.BoundPorts.{still_met, home_place}
+use Rattle.rht_core.proofs.Meaning.BoundPorts.{still_met}
+use Rattle.rht_core.proofs.Meaning.FlatBuckets.{flat_home}
 use Rattle.rht_core.proofs.Counting.CountedPorts.{members-AreBound}
 use Rattle.rht_core.proofs.Reasons.KeyLoads.{no_key-link, no_key-lock}
+
+-- what is so of every operation is so of each of these
+each_of : (P : Did → Type 0) → ((did : Did) → P did) → (steps : List Did) → AllByRecursion P steps
+each_of P all [] = tt
+each_of P all (did ∷ steps) = (all did, each_of P all steps)
 
 module _ (g : Geometry) (words_at : ℕ → List ℕ) where
   -- ---- further operations
@@ -83,9 +89,10 @@ module _ (g : Geometry) (words_at : ℕ → List ℕ) where
       → SawLongChain g words_at shape steps → SawLongChain g words_at shape (steps ++ did ∷ [])
   SawLongChain-push shape steps did none saw = record {
     bucket = saw.bucket;
-    bucket_in = saw.bucket_in;
+    within = saw.within;
     place = saw.place;
-    place_is = saw.place_is;
+    place_is = AllByRecursion-push (FindsBucketAt g words_at shape saw.bucket saw.place) steps did saw.place_is
+        (λ node loads. absurd (none node loads));
     nodes = saw.nodes;
     counted = counted-still saw.place 0 steps saw.nodes did none saw.counted;
     many = saw.many;
@@ -171,11 +178,12 @@ module _ (env : Env) (mix : ℕ → ℕ → ℕ → ℕ) (words_at : ℕ → Lis
       let lock = is.standing.lock in
       let at = is.standing.stands in
       let below = index-within env mix place lock.bucket in
+      let plain = held-no_entry env mix M G whole j c lock.holder in
       let met = subst (λ p. bucket_nodes g words (Some p) ≡ (G.bucket j).nodes) (place_at-index env mix place lock.bucket)
-      (still_met env mix words G whole j below lock.still) in
+      (still_met env mix words G whole j below plain lock.still) in
       let many = ap length at.split ∙ length-append at.front (node ∷ at.rear) in
       let counted = is.counted in
-      let bound = members-AreBound env mix words G whole j (count + 1) below (omega (arith, many, counted)) in
+      let bound = members-AreBound env mix words G whole j (count + 1) below plain (omega (arith, many, counted)) in
       record {
         loads = record { node_in = within; loads = loads };
         front = at.front;
@@ -229,13 +237,15 @@ module _ (env : Env) (mix : ℕ → ℕ → ℕ → ℕ) (words_at : ℕ → Lis
       let bucket = hash_in env mix G port τ in
       let same : (G.table τ).shape ≡ shape = is.shape_is in
       let many = has.many in
+      let there : (now : List ℕ) → bucket_in g now shape bucket ≡ Some place =
+      λ now. subst (λ s. bucket_in g now s bucket ≡ Some place) same
+      (flat_home env mix M G whole (page_word g now) port τ (word_index env mix place) is.passing.passed.attached is.here
+      ∙ ap Some (place_at-index env mix place is.bucket)) in
       record {
         bucket = bucket;
-        bucket_in = subst (λ s. bucket < size_of (unpacked s)) same (hash-below env mix M G whole port τ);
+        within = subst (λ s. bucket < size_of (unpacked s)) same (hash-below env mix M G whole port τ);
         place = place;
-        place_is = subst (λ s. bucket_place g s bucket ≡ Some place) same
-            (home_place env mix words G whole port τ (word_index env mix place) is.passing.passed.attached is.here
-            ∙ ap Some (place_at-index env mix place is.bucket));
+        place_is = each_of (FindsBucketAt g words_at shape bucket place) (λ did node loads. there (words_at did.index)) steps;
         nodes = has.nodes;
         counted = has.counted;
         many = omega (arith, enough, many);

@@ -1,9 +1,9 @@
 -- Which operations load the key of no node: those that are no loads, and the loads of other places.
-use Rattle.std.proofs.Common.{◌≡◌, ◌≢◌, ℕ, ◌<◌, sym, ap, ◌∙◌, arith}
+use Rattle.std.proofs.Common.{◌≡◌, ◌≢◌, ℕ, ◌<◌, sym, ap, ◌∙◌, arith, ◌≤◌}
 use Rattle.rht_words.specs.declared.op.Op.{Op}
 use Rattle.rht_words.specs.declared.op.Op.TheVariants.{Load}
 use Rattle.rht_words.specs.declared.geometry.Geometry.{Geometry}
-use Rattle.rht_words.specs.Places.{PageMap, Node, KeyWord, ChainLink, IsBucketPlace, nodes_at, place_of}
+use Rattle.rht_words.specs.Places.{PageMap, Node, KeyWord, ChainLink, IsBucketPlace, nodes_at, place_of, pages_at}
 use Rattle.rht_words.proofs.PlacesApart.{parts_in_order}
 use Rattle.rht_arena.specs.TakeRun.{take_run_plan_at, IsTakeRunAtIn}
 use Rattle.rht_arena.specs.declared.take_run.TakeRunAt.{TakeRunAt}
@@ -32,6 +32,12 @@ module _ (g : Geometry) where
   pub no_key-before : (did : Did) (place : ℕ) → did.op ≡ Load place → place < nodes_at g → IsNoKeyLoad g did
   no_key-before did place is low = no_key-elsewhere did place is (λ node below same. absurd (omega (arith, low, same)))
 
+  -- or behind them
+  pub no_key-behind : (did : Did) (place : ℕ) → did.op ≡ Load place → pages_at g ≤ place → IsNoKeyLoad g did
+  no_key-behind did place is high =
+      let order = parts_in_order g in
+      no_key-elsewhere did place is (λ node below same. absurd (omega (arith, high, same, below, order.pages)))
+
   -- of a link of a node
   pub no_key-link : (did : Did) (node : ℕ) → did.op ≡ Load (place_of g (Node node ChainLink)) → IsNoKeyLoad g did
   no_key-link did node is =
@@ -40,10 +46,7 @@ module _ (g : Geometry) where
   -- and what takes the lock of a bucket
   pub no_key-lock : (did : Did) (place : ℕ) (state : LockAt) → IsBucketPlace g place → did.op ≡ lock_plan_at place state
       → IsNoKeyLoad g did
-  no_key-lock did place locks.Word there is =
-      let order = parts_in_order g in
-      no_key-elsewhere did place is
-      (λ node below same. absurd (omega (arith, same, below, there.0, order.pages)))
+  no_key-lock did place locks.Word there is = no_key-behind did place is there.0
   no_key-lock did place (locks.Exchange word) there is = no_key did _ is (λ other load. cc)
 
   -- the making of a table loads words of the map of pages

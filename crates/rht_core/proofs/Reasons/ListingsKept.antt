@@ -21,7 +21,7 @@ use Rattle.rht_model.specs.declared.history.Call.{Call}
 use Rattle.rht_model.specs.declared.history.Call.TheVariants.{Bind, Find, All, Release, Rebind, Walk, Work, Tidy, Count}
 use Rattle.rht_model.specs.Endings.{Ending, plain_ending}
 use Rattle.rht_model.specs.Rooms.{Kept, with_kept}
-use Rattle.rht_nest.specs.Locate.{locate_plan_at}
+use Rattle.rht_nest.specs.Locate.{locate_plan_at, IsLocateAtIn}
 use Rattle.rht_nest.specs.declared.locate.LocateAt.{LocateAt}
 use Rattle.rht_nest.specs.declared.locate.LocateAt.TheVariants as locating
 use Rattle.rht_chain.specs.Lock.{lock_plan_at}
@@ -50,6 +50,7 @@ use Rattle.rht_move.specs.Work as work
 use Rattle.rht_move.specs.declared.work.WorkAt.TheVariants as works_at
 use Rattle.rht_words.specs.declared.config.Kind.{Kind}
 use Rattle.rht_words.specs.declared.config.Kind.TheVariants.{Single, Listed}
+use Rattle.rht_nest.specs.Place.{PlaceModel, place_plan, IsPlaceIn}
 use Rattle.rht_core.specs.Locals.{room_for_nodes}
 use Rattle.rht_core.specs.Jobs.{Job, finds, binds, lists, releases, rebinds, works, counts, call_of, first_rebind, first_job, job_next, job_after, listing_ending, node_ending}
 use Rattle.rht_core.specs.Traces.{Did}
@@ -119,16 +120,23 @@ module _ (g : Geometry) where
       subst (λ (h : Geometry). loads_owner g (walk_plan_at h walk.at) ≡ false) (sym within.geometry_same)
       (walk_loads_none walk.at walk within.at_in)
 
-  locate_loads_none : (table : ℕ) (at : LocateAt) → table < 8
+  place_loads_none : (place : PlaceModel) → IsPlaceIn g place → loads_owner g (place_plan place) ≡ false
+  place_loads_none place within =
+      subst (λ (h : Geometry). loads_owner g (place_plan (record place { geometry = h })) ≡ false) (sym within.geometry_same)
+      (at_other (PageWord place.entry) within.entry_in refl)
+
+  locate_loads_none : (table : ℕ) (at : LocateAt) → table < 8 → IsLocateAtIn g at
       → loads_owner g (locate_plan_at g table at) ≡ false
-  locate_loads_none table locating.Shape low = at_other (Slot table ShapeWord) (low, tt) refl
-  locate_loads_none table (locating.Seed shape) low = at_other (Slot table SeedWord) (low, tt) refl
+  locate_loads_none table locating.Shape low here = at_other (Slot table ShapeWord) (low, tt) refl
+  locate_loads_none table (locating.Seed shape) low here = at_other (Slot table SeedWord) (low, tt) refl
+  locate_loads_none table (locating.Early shape place) low here = at_other (Slot table FutureWord) (low, tt) refl
+  locate_loads_none table (locating.Entry shape early place) low here = place_loads_none place here.nested_in.place_in
 
   seek_at_loads_none : (at : SeekAt) → IsSeekAtIn g at → loads_owner g (seek_plan_at g at) ≡ false
   seek_at_loads_none seeking.CurrentTable here = at_other CurrentTable tt refl
   seek_at_loads_none (seeking.Locating locate) here =
       subst (λ (h : Geometry). loads_owner g (locate_plan_at h locate.table locate.at) ≡ false)
-      (sym here.geometry_same) (locate_loads_none locate.table locate.at here.table_in)
+      (sym here.geometry_same) (locate_loads_none locate.table locate.at here.table_in here.at_in)
   seek_at_loads_none (seeking.Probing table shape probe) here = probe_loads_none probe.at here.probe_in.at_in
   seek_at_loads_none (seeking.Future table bucket) here =
       at_other (Slot table FutureWord) (here.table_in, tt) refl

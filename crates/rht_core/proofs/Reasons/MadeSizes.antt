@@ -13,9 +13,9 @@ use Rattle.rht_words.proofs.Rounding.{powers-fall}
 use Rattle.rht_policy.specs.Sizes.{shrunk_size}
 use Rattle.rht_policy.specs.Thresholds.{is_above_75, may_grow}
 use Rattle.rht_policy.proofs.TableSizes.{IsSizeUpTo-shrunk_size}
-use Rattle.rht_nest.specs.Tables.{exponent_made}
+use Rattle.rht_nest.specs.Tables.{exponent_made, is_nested}
 use Rattle.rht_nest.specs.Make.{made_shape}
-use Rattle.rht_move.specs.Choice.{choice_of, is_nested, is_sparse}
+use Rattle.rht_move.specs.Choice.{choice_of, is_sparse}
 use Rattle.rht_move.specs.Laws.{IsOfASize}
 use Rattle.rht_move.specs.declared.work.choice.Choice.TheVariants.{Attach, Later, Nothing}
 use Rattle.rht_move.proofs.DueSizes.{tables_due_have_sizes}

@@ -37,7 +37,6 @@ use Rattle.rht_core.specs.ResizeCauses.{Loaded, Attaches, FindsFuture, wanted_si
 use Rattle.rht_core.proofs.Reasons.TablesWalked.{nodes_behind, LastWalked-push}
 use Rattle.rht_core.proofs.Reasons.KeyLoads.{no_key-before, no_key-make}
 use Rattle.rht_core.proofs.Reasons.ChainsCounted.{SawLongChain-push}
-use Rattle.rht_core.proofs.Reasons.UntriedSlots.{IsUntried, untried-finds, untried-takes, on_load}
 use Rattle.rht_core.proofs.Reasons.MakesSeen.{SawMade, SawEachRun, saw_nothing, make-saw}
 use Rattle.rht_core.proofs.Theory.Steps.{by_test}
 
@@ -91,12 +90,16 @@ module _ (env : Env) (words_at : ℕ → List ℕ) where
   abbrev pub is_due : ℕ → ℕ → Bool
   is_due shape count = is_above_75 (min count 65536) (size_of (unpacked shape)) env.config.max
 
-  -- a count was loaded by which a table of this size is wanted behind that of this slot
+  -- a count was loaded by which a table of this size is wanted behind that of this slot, and these operations came behind that
   pub record SawWanted (shape table size : ℕ) (behind : List Did) : Type 0 where
+    pub sooner : List Did
+    pub counting : Did
+    pub making : List Did
+    pub parts : behind ≡ sooner ++ counting ∷ making
     pub count : ℕ
-    pub counted : Any (Loaded g PortCount count) behind
+    pub counted : Loaded g PortCount count counting
     pub wanted : size ≡ wanted_size env shape (min count 65536)
-    pub grows : (is_due shape count ≡ true) ⊎ Any (LoadsCurrent g table) behind
+    pub grows : (is_due shape count ≡ true) ⊎ Any (LoadsCurrent g table) sooner
 
   -- before the count is loaded
   pub record SawRoot (growing : Growing) (root : ℕ) (behind : List Did) : Type 0 where
@@ -115,7 +118,7 @@ module _ (env : Env) (words_at : ℕ → List ℕ) where
   pub record SawFullUp (table size : ℕ) (why : Full) (shape : ℕ) (behind : List Did) : Type 0 where
     pub is_full : SawWhy why shape behind
     pub wanted : SawWanted shape table size behind
-    pub room : SawNoRoom g size behind
+    pub room : SawNoRoom g size wanted.making
 
   abbrev pub SawRefusal : Growing → Refusal → List Did → Type 0
   SawRefusal growing (refusals.Busy root) behind = SawOther growing.table root growing.why growing.shape behind
@@ -133,7 +136,7 @@ module _ (env : Env) (words_at : ℕ → List ℕ) where
     pub why : SawWhy growing.why growing.shape behind
     pub wanted : SawWanted growing.shape growing.table size behind
     pub exponent_is : exponent ≡ exponent_made size
-    pub made : SawMade g exponent next (map performed_of behind)
+    pub made : SawMade g exponent next (map performed_of wanted.making)
 
   -- The operations behind the load of the last table's shape saw this first, and that the table is full; and one comes behind
   -- these of which the rest is so. This settles the reply.
@@ -173,16 +176,17 @@ module _ (env : Env) (words_at : ℕ → List ℕ) where
   SawWhy-push full.Chain shape behind did no_key saw = SawLongChain-push g words_at shape behind did no_key saw
   SawWhy-push full.Table shape behind did no_key saw = Any-append_left (LoadedAbove shape) behind (did ∷ []) saw
 
-  SawWanted-push : (shape table size : ℕ) (behind : List Did) (did : Did) → SawWanted shape table size behind
+  unfoldable SawWanted-push : (shape table size : ℕ) (behind : List Did) (did : Did) → SawWanted shape table size behind
       → SawWanted shape table size (behind ++ did ∷ [])
   SawWanted-push shape table size behind did saw = record {
+    sooner = saw.sooner;
+    counting = saw.counting;
+    making = saw.making ++ did ∷ [];
+    parts = ap (λ l. l ++ did ∷ []) saw.parts ∙ append_assoc saw.sooner (saw.counting ∷ saw.making) (did ∷ []);
     count = saw.count;
-    counted = Any-append_left (Loaded g PortCount saw.count) behind (did ∷ []) saw.counted;
+    counted = saw.counted;
     wanted = saw.wanted;
-    grows = elim saw.grows [
-      | inl due ↦ inl due
-      | inr current ↦ inr (Any-append_left (LoadsCurrent g table) behind (did ∷ []) current)
-    ];
+    grows = saw.grows;
   }
 
   -- whatever follows
@@ -257,18 +261,20 @@ module _ (env : Env) (words_at : ℕ → List ℕ) where
   }
 
   -- the load of the count
-  wanted-saw : (shape table root size : ℕ) (behind : List Did) (did : Did) → did.op ≡ Load (place_of g PortCount)
+  unfoldable wanted-saw : (shape table root size : ℕ) (behind : List Did) (did : Did) → did.op ≡ Load (place_of g PortCount)
       → size ≡ wanted_size env shape (min did.old 65536) → (is_due shape did.old ≡ true) ⊎ (root ≡ table)
       → Any (LoadsCurrent g root) behind → SawWanted shape table size (behind ++ did ∷ [])
   wanted-saw shape table root size behind did is wanted grows current = record {
+    sooner = behind;
+    counting = did;
+    making = [];
+    parts = refl;
     count = did.old;
-    counted = Any-push (Loaded g PortCount did.old) behind did
-        (record { word = record { there = tt; loads = is }; found = refl });
+    counted = record { word = record { there = tt; loads = is }; found = refl };
     wanted = wanted;
     grows = elim grows [
       | inl due ↦ inl due
-      | inr same ↦
-          inr (Any-append_left (LoadsCurrent g table) behind (did ∷ []) (subst (λ slot. Any (LoadsCurrent g slot) behind) same current))
+      | inr same ↦ inr (subst (λ slot. Any (LoadsCurrent g slot) behind) same current)
     ];
   }
 
@@ -278,19 +284,15 @@ module _ (env : Env) (words_at : ℕ → List ℕ) where
 
   pub begins-making : (growing : Growing) (root size : ℕ) (behind : List Did) (did : Did)
       → did.op ≡ Load (place_of g PortCount) → size ≡ wanted_size env growing.shape (min did.old 65536)
-      → (is_due growing.shape did.old ≡ true) ⊎ (root ≡ growing.table)
-      → AllByRecursion (IsUntried g) behind × SawRoot growing root behind
+      → (is_due growing.shape did.old ≡ true) ⊎ (root ≡ growing.table) → SawRoot growing root behind
       → SawToMake growing size (exponent_made size) (makes.Slot 0, Go) (behind ++ did ∷ [])
-  begins-making growing root size behind did is wanted grows (untried, saw) =
-      let all = behind ++ did ∷ [] in
-      let here = on_load g did _ is (λ slot l same. absurd (omega (arith, same))) in
-      let each = AllByRecursion-push (IsUntried g) behind did untried here in
-      record {
-        why = SawWhy-push growing.why growing.shape behind did (no_key-count did is) saw.why;
-        wanted = wanted-saw growing.shape growing.table root size behind did is wanted grows saw.current;
-        exponent_is = refl;
-        made = saw_nothing g (exponent_made size) (map performed_of all) (untried-finds g all each) (untried-takes g all each);
-      }
+  unfolding wanted-saw
+  begins-making growing root size behind did is wanted grows saw = record {
+    why = SawWhy-push growing.why growing.shape behind did (no_key-count did is) saw.why;
+    wanted = wanted-saw growing.shape growing.table root size behind did is wanted grows saw.current;
+    exponent_is = refl;
+    made = saw_nothing g (exponent_made size) [] tt tt;
+  }
 
   pub other-saw : (growing : Growing) (root : ℕ) (behind : List Did) (did : Did)
       → did.op ≡ Load (place_of g PortCount) → root ≢ growing.table → is_due growing.shape did.old ≡ false
@@ -310,15 +312,17 @@ module _ (env : Env) (words_at : ℕ → List ℕ) where
       → did.op ≡ make_plan_at make.geometry make.exponent make.seed make.at
       → SawToMake growing size make.exponent (make.at, Go) behind
       → SawToMake growing size make.exponent (make_after_at make.geometry make.exponent make.at did.old) (behind ++ did ∷ [])
+  unfolding SawWanted-push
   making-saw growing size make behind did within is saw =
-      let before = map performed_of behind in
+      let making = saw.wanted.making in
+      let before = map performed_of making in
       let step : Performed = record { op = make_plan_at g make.exponent make.seed make.at; old = did.old } in
       let op : did.op ≡ make_plan_at g make.exponent make.seed make.at =
       is ∙ ap (λ (h : Geometry). make_plan_at h make.exponent make.seed make.at) within.geometry_same in
       let by_op : Op → Performed = λ o. record { op = o; old = did.old } in
       let same : performed_of did ≡ step = ap by_op op in
-      let all : map performed_of (behind ++ did ∷ []) ≡ before ++ step ∷ [] =
-      map-append performed_of behind (did ∷ []) ∙ ap (λ (s : Performed). before ++ s ∷ []) same in
+      let all : map performed_of (making ++ did ∷ []) ≡ before ++ step ∷ [] =
+      map-append performed_of making (did ∷ []) ∙ ap (λ (s : Performed). before ++ s ∷ []) same in
       let after = make-saw g make.exponent make.seed make.at before did.old within.at_in saw.made in
       let no_key = no_key-make g make.geometry (made_pages make.exponent) make.exponent make.seed make.at did within.at_in is in
       record {
@@ -327,7 +331,7 @@ module _ (env : Env) (words_at : ℕ → List ℕ) where
         exponent_is = saw.exponent_is;
         made =
             subst (λ (h : Geometry). SawMade g make.exponent (make_after_at h make.exponent make.at did.old)
-            (map performed_of (behind ++ did ∷ []))) (sym within.geometry_same)
+            (map performed_of (making ++ did ∷ []))) (sym within.geometry_same)
             (subst (SawMade g make.exponent (make_after_at g make.exponent make.at did.old)) (sym all) after);
       }
 
@@ -340,7 +344,7 @@ module _ (env : Env) (words_at : ℕ → List ℕ) where
     wanted = saw.wanted;
     room = elim saw.made [
       | inl slots ↦ inl slots
-      | inr runs ↦ inr (subst (λ e. SawEachRun g e (map performed_of behind)) saw.exponent_is runs)
+      | inr runs ↦ inr (subst (λ e. SawEachRun g e (map performed_of saw.wanted.making)) saw.exponent_is runs)
     ];
   }
 

@@ -23,6 +23,8 @@ use Rattle.rht_nest.specs.Locate.{LocateModel, locate_plan_at, locate_after}
 use Rattle.rht_nest.specs.declared.locate.LocateAt.{LocateAt}
 use Rattle.rht_nest.specs.declared.locate.LocateAt.TheVariants as locates
 use Rattle.rht_nest.specs.declared.locate.Located.{Located}
+use Rattle.rht_nest.specs.declared.locate.LocatedBucket.{LocatedBucket}
+use Rattle.rht_nest.specs.declared.locate.LocatedBucket.TheVariants as buckets
 use Rattle.rht_chain.specs.LockedWalk.{walk_plan_at}
 use Rattle.rht_chain.specs.declared.locked_walk.LockedWalkAt.{LockedWalkAt}
 use Rattle.rht_chain.specs.declared.locked_walk.LockedWalkAt.TheVariants as walks
@@ -40,7 +42,7 @@ use Rattle.rht_chain.specs.declared.unlock.Unlock.{Unlock}
 use Rattle.rht_release.specs.declared.found_port.FoundPort.{FoundPort}
 use Rattle.rht_release.specs.declared.seek.SeekAt.{SeekAt}
 use Rattle.rht_release.specs.declared.seek.SeekAt.TheVariants as seeks
-use Rattle.rht_release.specs.Seek.{SeekModel, seek_plan_at, seek_after, bucket_or_none, located, found_or_future, probed, left, IsSeekAtIn}
+use Rattle.rht_release.specs.Seek.{SeekModel, seek_plan_at, seek_after, bucket_or_early, early_or_none, located, found_or_future, probed, left, IsSeekAtIn}
 use Rattle.rht_release.specs.declared.release.ReleaseAt.{ReleaseAt}
 use Rattle.rht_release.specs.declared.release.ReleaseAt.TheVariants as at
 use Rattle.rht_release.specs.Release.{plan_at, after_at, sought, owner_compared, list_followed, cut_or_chain, unlink_or_promote, promoted, unlinked, removed_reply, kicks, IsReleaseAtIn}
@@ -48,7 +50,7 @@ use Rattle.rht_move.specs.Choice.{is_sparse}
 use Rattle.rht_core.specs.Traces.{Did}
 use Rattle.rht_core.specs.Seen.{CameTo, IsNoShapeLoad, LastWalked}
 use Rattle.rht_core.specs.Causes.{IsLowering, IsSparseBy, KicksOnRelease}
-use Rattle.rht_core.proofs.Reasons.TablesWalked.{IsAside, aside, node_loads, probe_loads, relink_stores, CameTo-append, came-current, came-future, walked-came, Walked, Walked-push, WalkedAt, WalkedNext, same_table, locate-walked}
+use Rattle.rht_core.proofs.Reasons.TablesWalked.{IsAside, aside, node_loads, probe_loads, relink_stores, CameTo-append, came-current, came-future, walked-came, Walked, Walked-push, WalkedAt, CameBehind, CameBeyond, WalkedNext, same_table, locate-walked}
 
 -- ---- which operations lower a count
 
@@ -59,6 +61,8 @@ IsNoSub op = (place value : ℕ) → op ≢ Sub place value
 locate-none : (h : Geometry) (slot : ℕ) (state : LocateAt) → IsNoSub (locate_plan_at h slot state)
 locate-none h slot locates.Shape place value is = cc
 locate-none h slot (locates.Seed shape) place value is = cc
+locate-none h slot (locates.Early shape way) place value is = cc
+locate-none h slot (locates.Entry shape early way) place value is = cc
 
 lock-none : (place : ℕ) (state : LockAt) → IsNoSub (lock_plan_at place state)
 lock-none bucket locks.Word place value is = cc
@@ -158,12 +162,19 @@ module _ (env : Env) where
 
   -- ---- the way to the port
 
-  place-saw : (mix : ℕ → ℕ → ℕ → ℕ) (g : Geometry) (port : ℕ) (locate : LocateModel) (shape : ℕ) (place : Option ℕ) (h : Geometry) (all : List Did)
-      → Walked env.geometry locate.table shape all
-      → let next = bucket_or_none g port locate shape place in
+  early-saw : (g : Geometry) (port : ℕ) (locate : LocateModel) (early : Option ℕ) (h : Geometry) (all : List Did)
+      → CameBehind env.geometry early all
+      → let next = early_or_none g locate early in
       SawNextRelease all (sought (record { geometry = h; at = next.0 }) next.1)
-  place-saw mix g port locate shape None h all walked = tt
-  place-saw mix g port locate shape (Some place) h all walked = walked
+  early-saw g port locate None h all came = tt
+  early-saw g port locate (Some next) h all came = came
+
+  bucket-saw : (g : Geometry) (port : ℕ) (locate : LocateModel) (shape : ℕ) (bucket : LocatedBucket) (h : Geometry) (all : List Did)
+      → Walked env.geometry locate.table shape all → CameBeyond env.geometry bucket all
+      → let next = bucket_or_early g port locate shape bucket in
+      SawNextRelease all (sought (record { geometry = h; at = next.0 }) next.1)
+  bucket-saw g port locate shape (buckets.At place) h all walked came = walked
+  bucket-saw g port locate shape (buckets.Missing place early) h all walked came = early-saw g port locate early h all came
 
   located-saw : (mix : ℕ → ℕ → ℕ → ℕ) (g : Geometry) (port : ℕ) (table : ℕ) (locate : LocateModel) (end : Next Located) (h : Geometry) (all : List Did)
       → locate.table ≡ table → WalkedNext env.geometry table (locate, end) all
@@ -172,8 +183,8 @@ module _ (env : Env) where
   located-saw mix g port table locate Go h all same walked =
       subst (λ t. WalkedAt env.geometry t locate.at all) (sym same) walked
   located-saw mix g port table locate (Done there) h all same walked =
-      place-saw mix g port locate there.shape there.place h all
-      (subst (λ t. Walked env.geometry t there.shape all) (sym same) walked.walked)
+      bucket-saw g port locate there.shape there.bucket h all
+      (subst (λ t. Walked env.geometry t there.shape all) (sym same) walked.0.walked) walked.1
 
   seen-saw : (table shape : ℕ) (probe : ProbeModel) (end : Probed) (found : Option ℕ) (h : Geometry) (all : List Did)
       → Walked env.geometry table shape all
@@ -213,7 +224,7 @@ module _ (env : Env) where
       let next = locate_after mix port locate did.old in
       located-saw mix h port locate.table next.0 next.1 h (steps ++ did ∷ [])
       (same_table env.geometry mix port locate locate.at did.old)
-      (locate-walked env.geometry mix port locate locate.at steps did within.table_in is saw)
+      (locate-walked env.geometry mix port locate locate.at steps did within.at_in within.table_in is saw)
   seek-saw mix port h (seeks.Probing table shape probe) steps did within is saw =
       probed-saw table shape (probe_after probe did.old).0 (probe_after probe did.old).1 h (steps ++ did ∷ [])
       (Walked-push env.geometry table shape steps did

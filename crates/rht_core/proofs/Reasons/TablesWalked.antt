@@ -2,20 +2,29 @@
 -- It stays so while the call loads no other shape; and neither what it does in a bucket nor what it stores
 -- loads one. Nor does any
 -- of that raise the count of ports.
-use Rattle.std.proofs.Common.{◌≡◌, ◌≢◌, ℕ, ◌<◌, ◌≤◌, Some, List, [], ◌∷◌, ◌++◌, refl, sym, ap, ◌∙◌, subst, append_assoc, arith}
+use Rattle.std.proofs.Common.{◌≡◌, ◌≢◌, ℕ, ◌<◌, ◌≤◌, Option, Some, None, List, [], ◌∷◌, ◌++◌, refl, sym, ap, ◌∙◌, subst, append_assoc, arith}
+use Rattle.std.specs.Prelude.{IfSome}
 use Rattle.std.specs.List.{AllByRecursion}
+use Rattle.std.proofs.lemmas.Bool.{cond_both}
 use Rattle.std.proofs.lemmas.List.Quantifiers.{Any-push}
 use Rattle.rht_words.specs.declared.op.Op.{Op}
 use Rattle.rht_words.specs.declared.op.Op.TheVariants.{Load, Add}
 use Rattle.rht_words.specs.declared.geometry.Geometry.{Geometry}
 use Rattle.rht_words.specs.Links.{table_of, slot_of}
-use Rattle.rht_words.specs.Places.{CurrentTable, PortCount, Node, NodeWord, ChainLink, KeyWord, Slot, ShapeWord, SeedWord, FutureWord, IsBucketPlace, nodes_at, place_of}
+use Rattle.rht_words.specs.Places.{CurrentTable, PortCount, Node, NodeWord, ChainLink, KeyWord, Slot, ShapeWord, SeedWord, FutureWord, PageWord, IsBucketPlace, nodes_at, pages_at, place_of}
 use Rattle.rht_words.proofs.EachElement.{Any-append_left, AllByRecursion-push}
 use Rattle.rht_words.proofs.PlacesApart.{parts_in_order}
-use Rattle.rht_nest.specs.Locate.{LocateModel, locate_plan_at, locate_after_at}
+use Rattle.rht_nest.specs.Locate.{LocateModel, locate_plan_at, locate_after_at, hashed, entry_followed, IsLocateAtIn}
 use Rattle.rht_nest.specs.declared.locate.LocateAt.{LocateAt}
 use Rattle.rht_nest.specs.declared.locate.LocateAt.TheVariants as locates
 use Rattle.rht_nest.specs.declared.locate.Located.{Located}
+use Rattle.rht_nest.specs.declared.locate.LocatedBucket.{LocatedBucket}
+use Rattle.rht_nest.specs.declared.locate.LocatedBucket.TheVariants as buckets
+use Rattle.rht_nest.specs.Tables.{is_nested}
+use Rattle.rht_nest.specs.Place.{PlaceModel, entry_place, place_after, IsPlaceIn}
+use Rattle.rht_nest.specs.declared.place.Bucket.{Bucket}
+use Rattle.rht_nest.specs.declared.place.Bucket.TheVariants.{At, Absent}
+use Rattle.rht_policy.specs.Mix.{bucket_of}
 use Rattle.rht_words.specs.declared.machine.Next.{Next}
 use Rattle.rht_words.specs.declared.machine.Next.TheVariants.{Go, Done}
 use Rattle.rht_chain.specs.LockedWalk.{walk_plan_at}
@@ -34,7 +43,7 @@ use Rattle.rht_core.specs.Traces.{Did}
 use Rattle.rht_core.specs.Seen.{LoadsCurrent, CameTo, as_current, as_future, IsNoShapeLoad, LastWalked}
 use Rattle.rht_core.specs.Causes.{IsRaise}
 use Rattle.rht_core.specs.ResizeCauses.{IsNoKeyLoad}
-use Rattle.rht_core.proofs.Reasons.KeyLoads.{no_key-before}
+use Rattle.rht_core.proofs.Reasons.KeyLoads.{no_key-before, no_key-behind}
 
 module _ (g : Geometry) where
   -- ---- what loads no shape, and raises no count
@@ -207,31 +216,111 @@ module _ (g : Geometry) where
   abbrev pub LoadedNoKey : List Did → Type 0
   LoadedNoKey behind = AllByRecursion (IsNoKeyLoad g) behind
 
-  -- while it looks for the bucket: it came to the table, and once it has the shape it walks it
+  -- while it looks for the bucket: it came to the table, and once it has the shape it walks it; where entries lead to the bucket it has
+  -- come to the table behind as well, if there was one
+  abbrev pub CameBehind : Option ℕ → List Did → Type 0
+  CameBehind early steps = IfSome early (λ next. CameTo g next steps)
+
   abbrev pub WalkedAt : ℕ → LocateAt → List Did → Type 0
   WalkedAt table locates.Shape steps = CameTo g table steps
   WalkedAt table (locates.Seed shape) steps = WalkedSeeing table shape LoadedNoKey steps
+  WalkedAt table (locates.Early shape place) steps = WalkedSeeing table shape LoadedNoKey steps
+  WalkedAt table (locates.Entry shape early place) steps =
+      WalkedSeeing table shape LoadedNoKey steps × CameBehind early steps
+
+  -- where the bucket is missing, it has come to the table behind
+  abbrev pub CameBeyond : LocatedBucket → List Did → Type 0
+  CameBeyond (buckets.At place) steps = Unit {0}
+  CameBeyond (buckets.Missing place early) steps = CameBehind early steps
 
   abbrev pub WalkedNext : ℕ → LocateModel × Next Located → List Did → Type 0
   WalkedNext table (m, Go) steps = WalkedAt table m.at steps
-  WalkedNext table (m, Done there) steps = WalkedSeeing table there.shape LoadedNoKey steps
+  WalkedNext table (m, Done there) steps =
+      WalkedSeeing table there.shape LoadedNoKey steps × CameBeyond there.bucket steps
 
   -- it looks in one table
+  hashed-table : (m : LocateModel) (shape bucket : ℕ) → (hashed m shape bucket).0.table ≡ m.table
+  hashed-table m shape bucket =
+      cond_both (is_nested shape) _ _ (λ (next : LocateModel × Next Located). next.0.table ≡ m.table) (λ t. refl) (λ f. refl)
+
+  followed-table : (m : LocateModel) (shape : ℕ) (early : Option ℕ) (place : PlaceModel) (next : Next Bucket)
+      → (entry_followed m shape early place next).0.table ≡ m.table
+  followed-table m shape early place Go = refl
+  followed-table m shape early place (Done (At word)) = refl
+  followed-table m shape early place (Done (Absent entry)) = refl
+
   pub same_table : (mix : ℕ → ℕ → ℕ → ℕ) (port : ℕ) (m : LocateModel) (state : LocateAt) (word : ℕ)
       → (locate_after_at mix port m state word).0.table ≡ m.table
   same_table mix port m locates.Shape word = refl
-  same_table mix port m (locates.Seed shape) word = refl
+  same_table mix port m (locates.Seed shape) word = hashed-table m shape (bucket_of mix port shape word)
+  same_table mix port m (locates.Early shape place) word = refl
+  same_table mix port m (locates.Entry shape early place) word =
+      followed-table m shape early (place_after place word).0 (place_after place word).1
+
+  -- behind the load of the seed
+  hashed-walked : (m : LocateModel) (shape bucket : ℕ) (all : List Did) → WalkedSeeing m.table shape LoadedNoKey all
+      → WalkedNext m.table (hashed m shape bucket) all
+  hashed-walked m shape bucket all walked =
+      cond_both (is_nested shape) _ _ (λ next. WalkedNext m.table next all) (λ t. walked) (λ f. (walked, tt))
+
+  -- behind an entry
+  followed-walked : (m : LocateModel) (shape : ℕ) (early : Option ℕ) (place : PlaceModel) (next : Next Bucket) (all : List Did)
+      → WalkedSeeing m.table shape LoadedNoKey all × CameBehind early all
+      → WalkedNext m.table (entry_followed m shape early place next) all
+  followed-walked m shape early place Go all walked = walked
+  followed-walked m shape early place (Done (At word)) all walked = (walked.0, tt)
+  followed-walked m shape early place (Done (Absent entry)) all walked = walked
+
+  -- the table behind that was found is come to
+  came-behind : (table : ℕ) (early : Option ℕ) (steps : List Did) (did : Did) → table < 8
+      → did.op ≡ Load (place_of g (Slot table FutureWord)) → slot_of did.old ≡ early → CameTo g table steps
+      → CameBehind early (steps ++ did ∷ [])
+  came-behind table None steps did within is named came = tt
+  came-behind table (Some next) steps did within is named came = came-future table next steps did within is named came
+
+  came-longer : (early : Option ℕ) (steps : List Did) (did : Did) → CameBehind early steps
+      → CameBehind early (steps ++ did ∷ [])
+  came-longer None steps did came = tt
+  came-longer (Some next) steps did came = CameTo-append next steps (did ∷ []) came
+
+  -- a load of a word of the slots, or of an entry, is of no key
+  seeing-load : (table shape : ℕ) (steps : List Did) (did : Did) (place : ℕ) → did.op ≡ Load place → IsAside did
+      → IsNoKeyLoad g did → WalkedSeeing table shape LoadedNoKey steps
+      → WalkedSeeing table shape LoadedNoKey (steps ++ did ∷ [])
+  seeing-load table shape steps did place is apart no_key walked =
+      WalkedSeeing-push table shape LoadedNoKey LoadedNoKey steps did apart
+      (λ behind none. AllByRecursion-push (IsNoKeyLoad g) behind did none no_key) walked
+
+  -- an entry is a word of the pages, which stand behind the nodes
+  entry-place : (place : PlaceModel) → IsPlaceIn g place → pages_at g ≤ entry_place place
+  entry-place place within =
+      subst (λ (h : Geometry). pages_at g ≤ place_of h (PageWord place.entry)) (sym within.geometry_same) (omega arith)
 
   pub locate-walked : (mix : ℕ → ℕ → ℕ → ℕ) (port : ℕ) (m : LocateModel) (state : LocateAt)
-      (steps : List Did) (did : Did)
+      (steps : List Did) (did : Did) → IsLocateAtIn g state
       → m.table < 8 → did.op ≡ locate_plan_at m.geometry m.table state → WalkedAt m.table state steps
       → WalkedNext m.table (locate_after_at mix port m state did.old) (steps ++ did ∷ [])
   unfolding Walked-new
-  locate-walked mix port m locates.Shape steps did below is walked =
+  locate-walked mix port m locates.Shape steps did here below is walked =
       record { walked = Walked-new m.table steps did below is walked; saw = tt }
-  locate-walked mix port m (locates.Seed shape) steps did below is walked =
+  locate-walked mix port m (locates.Seed shape) steps did here below is walked =
       let place = place_of g (Slot m.table SeedWord) in
-      WalkedSeeing-push m.table shape LoadedNoKey LoadedNoKey steps did
-      (elsewhere did place is (λ table in_it same. absurd (omega arith)))
-      (λ behind none. AllByRecursion-push (IsNoKeyLoad g) behind did none
-      (no_key-before g did place is (omega (arith, below, nodes_behind g)))) walked
+      hashed-walked m shape (bucket_of mix port shape did.old) (steps ++ did ∷ [])
+      (seeing-load m.table shape steps did place is (elsewhere did place is (λ table in_it same. absurd (omega arith)))
+      (no_key-before g did place is (omega (arith, below, nodes_behind g))) walked)
+  locate-walked mix port m (locates.Early shape way) steps did here below is walked =
+      let place = place_of g (Slot m.table FutureWord) in (
+        seeing-load m.table shape steps did place is (elsewhere did place is (λ table in_it same. absurd (omega arith)))
+            (no_key-before g did place is (omega (arith, below, nodes_behind g))) walked,
+        came-behind m.table (slot_of did.old) steps did below is refl
+            (walked-came m.table shape steps walked.walked.last),
+      )
+  locate-walked mix port m (locates.Entry shape early way) steps did here below is walked =
+      let high = entry-place way here.nested_in.place_in in
+      let order = parts_in_order g in
+      followed-walked m shape early (place_after way did.old).0 (place_after way did.old).1 (steps ++ did ∷ []) (
+        seeing-load m.table shape steps did (entry_place way) is
+            (behind_slots did (entry_place way) is (omega (arith, high, order.page_map, order.nodes, order.pages)))
+            (no_key-behind g did (entry_place way) is high) walked.0,
+        came-longer early steps did walked.1,
+      )

@@ -20,6 +20,9 @@ use Rattle.rht_arena.specs.declared.new_node.NewNodeAt.TheVariants as news
 use Rattle.rht_arena.specs.TakeRun.{take_run_plan_at}
 use Rattle.rht_arena.specs.declared.take_run.TakeRunAt.{TakeRunAt}
 use Rattle.rht_arena.specs.declared.take_run.TakeRunAt.TheVariants as runs
+use Rattle.rht_nest.specs.Grow.{grow_plan_at}
+use Rattle.rht_nest.specs.declared.grow.GrowAt.{GrowAt}
+use Rattle.rht_nest.specs.declared.grow.GrowAt.TheVariants as grows
 use Rattle.rht_nest.specs.Locate.{locate_plan_at}
 use Rattle.rht_nest.specs.declared.locate.LocateAt.{LocateAt}
 use Rattle.rht_nest.specs.declared.locate.LocateAt.TheVariants as locates
@@ -69,6 +72,8 @@ module _ (g : Geometry) where
   locate-none : (h : Geometry) (slot : ℕ) (state : LocateAt) → IsNoCountAdd (locate_plan_at h slot state)
   locate-none h slot locates.Shape is = cc
   locate-none h slot (locates.Seed shape) is = cc
+  locate-none h slot (locates.Early shape place) is = cc
+  locate-none h slot (locates.Entry shape early place) is = cc
 
   lock-none : (place : ℕ) (state : LockAt) → IsNoCountAdd (lock_plan_at place state)
   lock-none place locks.Word is = cc
@@ -90,6 +95,12 @@ module _ (g : Geometry) where
   run-none h pages (runs.MapWord first index) is = cc
   run-none h pages (runs.Claim first index) is = cc
   run-none h pages (runs.GiveBack first index bits) is = cc
+
+  -- nor does what enters a page, at whatever place its entry is
+  grow-none : (entry : ℕ) (state : GrowAt) → IsNoCountAdd (grow_plan_at entry state)
+  grow-none entry (grows.Taking take) is = run-none take.geometry take.pages take.at is
+  grow-none entry (grows.Entering page) is = cc
+  grow-none entry (grows.Giving there give) is = cc
 
   -- the number of the next table is another word
   make-none : (h : Geometry) (exponent seed : ℕ) (state : MakeAt) → IsNoCountAdd (make_plan_at h exponent seed state)
@@ -142,6 +153,9 @@ module _ (env : Env) where
   unraised-saw mix port once (at.Locating attempt locate) steps did is saw =
       goes (after_at mix env port once (at.Locating attempt locate) did.old).0 _ steps did is
       (locate-none g locate.geometry locate.table locate.at) saw
+  unraised-saw mix port once (at.Entering attempt table shape place grow) steps did is saw =
+      goes (after_at mix env port once (at.Entering attempt table shape place grow) did.old).0 _ steps did is
+      (grow-none g grow.entry grow.at) saw
   unraised-saw mix port once (at.Probing attempt table shape probe) steps did is saw =
       goes (after_at mix env port once (at.Probing attempt table shape probe) did.old).0 _ steps did is
       (probe-none g probe.at) saw

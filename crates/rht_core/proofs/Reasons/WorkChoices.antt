@@ -28,10 +28,12 @@ use Rattle.rht_words.proofs.PlacesApart.{place_of-apart}
 use Rattle.rht_policy.specs.Mix.{bucket_of}
 use Rattle.rht_model.specs.declared.history.Reply.{Reply}
 use Rattle.rht_model.specs.declared.history.Reply.TheVariants.{NoTable, Elsewhere, Idle, Moved}
-use Rattle.rht_chain.specs.Lock.{LockModel, lock_after}
-use Rattle.rht_nest.specs.Place.{bucket_place}
+use Rattle.rht_chain.specs.Lock.{lock_new, LockModel, lock_after}
+use Rattle.rht_nest.specs.Place.{PlaceModel, flat_place, nested_place, place_after}
+use Rattle.rht_nest.specs.declared.place.Bucket.{Bucket}
+use Rattle.rht_nest.specs.declared.place.Bucket.TheVariants.{At, Absent}
 use Rattle.rht_nest.specs.Make.{MakeModel, make_plan, make_plan_at, make_after, make_after_at, made_shape}
-use Rattle.rht_nest.specs.Tables.{exponent_made}
+use Rattle.rht_nest.specs.Tables.{exponent_made, is_nested}
 use Rattle.rht_nest.specs.declared.make.MakeAt.{MakeAt}
 use Rattle.rht_nest.specs.Unmake.{UnmakeModel, unmake_new, unmake_after}
 use Rattle.rht_nest.specs.MakeLaws.{SeesSlotTaken}
@@ -51,11 +53,11 @@ use Rattle.rht_move.specs.declared.work.Outcome.{Outcome}
 use Rattle.rht_move.specs.declared.work.Outcome.TheVariants as outcomes
 use Rattle.rht_move.specs.declared.work.WorkAt.{WorkAt}
 use Rattle.rht_move.specs.declared.work.WorkAt.TheVariants as at
-use Rattle.rht_move.specs.Choice.{choice_of, is_nested}
+use Rattle.rht_move.specs.Choice.{choice_of}
 use Rattle.rht_move.specs.Laws.{IsOfASize}
 use Rattle.rht_move.specs.LastTable.{LastTableModel, last_table_plan_at, last_table_after, next_or_shape, IsLastTableAtIn}
 use Rattle.rht_move.specs.LastEntry.{LastEntryModel, last_entry_after}
-use Rattle.rht_move.specs.Work.{plan_at, cut_plan, after_at, lock_seen, seeking, last_seen, begun, made, not_made, attached, unmade, is_later, future_or_idle, locking_or_publish, bucket_or_publish, locked, unlocking, entry_table_seen, with_word, entry_or_empty, walked, keyed, second_or_stop, second_locked, cut_off, unlocked_bucket, retiring, reply_of, IsMakingIn}
+use Rattle.rht_move.specs.Work.{plan_at, cut_plan, after_at, lock_seen, seeking, last_seen, begun, made, not_made, attached, unmade, is_later, future_or_idle, bucket_of_root, next_bucket, entry_passed, locked, unlocking, entry_table_seen, with_word, entry_or_empty, walked, second_locked, cut_off, unlocked_bucket, retiring, reply_of, IsMakingIn}
 use Rattle.rht_core.specs.Jobs.{works}
 use Rattle.rht_core.specs.Traces.{Did, performed_of}
 use Rattle.rht_core.specs.Seen.{LoadsWord}
@@ -65,7 +67,7 @@ use Rattle.rht_core.proofs.Theory.Ghosts.{index_at}
 use Rattle.rht_core.proofs.Theory.Steps.{mem, by_test}
 use Rattle.rht_core.proofs.Theory.Knowns.{Onward, Rooted}
 use Rattle.rht_core.proofs.Theory.Knowledge.{WorkMeans}
-use Rattle.rht_core.proofs.Pieces.WorkLoads.{has_future, future_seen, flat_seen, key_seen}
+use Rattle.rht_core.proofs.Pieces.WorkLoads.{has_future, future_seen, flat_seen}
 use Rattle.rht_core.proofs.Machines.WorkMachine.{known_rehash, known_place, known_entry}
 use Rattle.rht_core.proofs.Tracing.TracedJobs.{Performs}
 use Rattle.rht_core.proofs.Tracing.LoneCalls.{Spares}
@@ -296,6 +298,7 @@ module _ (env : Env) where
   SawAtWork (at.Unmaking root unmake) steps = HasDue root dues.Later steps
   SawAtWork (at.RootFuture root due) steps = HasDue root due steps
   SawAtWork (at.RootShape root future again) steps = Moves future again steps
+  SawAtWork (at.Entry rehash number place) steps = RehashSaw rehash steps
   SawAtWork (at.Locking rehash number lock) steps = RehashSaw rehash steps
   SawAtWork (at.EntryTable emptying seek) steps = RehashSaw emptying.rehash steps
   SawAtWork (at.Seed emptying last) steps = RehashSaw emptying.rehash steps
@@ -742,10 +745,24 @@ module _ (env : Env) where
   goes rehash op steps did is none saw =
       Moves-push rehash.future rehash.again steps did (no_attach env.geometry did op is none) saw
 
-  locking-saw : (rehash : Rehash) (number : ℕ) (place : Option ℕ) (all : List Did) → RehashSaw rehash all
-      → SawAtWork (locking_or_publish rehash number place) all
-  locking-saw rehash number None all saw = saw
-  locking-saw rehash number (Some place) all saw = saw
+  root-saw : (rehash : Rehash) (number : ℕ) (all : List Did) → RehashSaw rehash all
+      → SawAtWork (bucket_of_root env.geometry rehash number) all
+  root-saw rehash number all saw =
+      by_test (λ t. SawAtWork (cond t (at.Entry rehash number (nested_place env.geometry rehash.shape number))
+      (at.Locking rehash number (lock_new (flat_place env.geometry rehash.shape number)))) all)
+      (is_nested rehash.shape) (λ t. saw) (λ f. saw)
+
+  next-saw : (rehash : Rehash) (number : ℕ) (all : List Did) → RehashSaw rehash all
+      → SawAtWork (next_bucket env.geometry rehash number) all
+  next-saw rehash number all saw =
+      by_test (λ t. SawAtWork (cond t (bucket_of_root env.geometry rehash (number + 1)) (at.Publishing rehash)) all)
+      (nat_lt (number + 1) (size_of (unpacked rehash.shape))) (λ t. root-saw rehash (number + 1) all saw) (λ f. saw)
+
+  passed-saw : (rehash : Rehash) (number : ℕ) (place : PlaceModel) (next : Next Bucket) (all : List Did)
+      → RehashSaw rehash all → SawAtWork (entry_passed env.geometry rehash number place next) all
+  passed-saw rehash number place Go all saw = saw
+  passed-saw rehash number place (Done (At word)) all saw = saw
+  passed-saw rehash number place (Done (Absent entry)) all saw = next-saw rehash number all saw
 
   locked-saw : (rehash : Rehash) (number : ℕ) (lock : LockModel) (next : Next ℕ) (all : List Did) → RehashSaw rehash all
       → SawAtWork (locked env.geometry rehash number lock next) all
@@ -781,11 +798,7 @@ module _ (env : Env) where
       → SawAtWork (unlocked_bucket env.geometry rehash number stop) (steps ++ did ∷ [])
   unlocked-saw rehash number true steps did quiet saw = absurd saw
   unlocked-saw rehash number false steps did quiet saw =
-      let all = steps ++ did ∷ [] in
-      let moves = Moves-push rehash.future rehash.again steps did quiet saw in
-      by_test (λ t. SawAtWork (cond t (bucket_or_publish env.geometry rehash (number + 1)) (at.Publishing rehash)) all)
-      (nat_lt (number + 1) (size_of (unpacked rehash.shape)))
-      (λ t. locking-saw rehash (number + 1) (bucket_place env.geometry rehash.shape (number + 1)) all moves) (λ f. moves)
+      next-saw rehash number (steps ++ did ∷ []) (Moves-push rehash.future rehash.again steps did quiet saw)
 
   -- ---- another table is the current one
 
@@ -1016,20 +1029,6 @@ module _ (env : Env) where
         subst (λ t. SawAtWork (cond t (unlocking emptying true) (at.Seed emptying last)) (steps ++ did ∷ [])) (sym flat)
         (goes emptying.rehash _ steps did does.planned (λ table old new l e. cc) saw)
 
-    -- and each bucket of one is there
-    key-saw : (emptying : Emptying) (target : Target) (entry : Entry) (steps : List Did) (did : Did)
-        → Performs mix env (works (at.Key emptying target entry)) did → RehashSaw emptying.rehash steps
-        → SawAtWork (keyed mix env.geometry emptying target entry did.old) (steps ++ did ∷ [])
-    key-saw emptying target entry steps did does saw =
-        let aim = key_seen env mix does.caller (mem env mix does.words) does.ghost does.whole (known_rehash emptying.rehash)
-        (known_place emptying) (known_entry entry) target.table target.shape target.seed does.knows.knowing.means.work in
-        let found : did.old ≡ mem env mix does.words (Node entry.node KeyWord) =
-        does.found ∙ ap (old_of does.words) does.planned in
-        let there = ap (λ key. bucket_place env.geometry target.shape (bucket_of mix (port_of key) target.shape target.seed)) found
-        ∙ aim.there in
-        subst (λ place. SawAtWork (second_or_stop emptying target.table entry place) (steps ++ did ∷ [])) (sym there)
-        (goes emptying.rehash _ steps did does.planned (λ table old new l e. cc) saw)
-
   -- ---- all states
 
   -- an operation on the work lock finds nothing of slots
@@ -1102,7 +1101,9 @@ module _ (env : Env) where
       (other_future mix root due did does) saw
   work-saw mix (at.RootShape root future again) steps did does saw =
       let rehash : Rehash = record { root = root; future = future; shape = did.old; again = again } in
-      locking-saw rehash 0 (bucket_place env.geometry did.old 0) (steps ++ did ∷ [])
+      root-saw rehash 0 (steps ++ did ∷ []) (goes rehash _ steps did does.planned (λ table old new l e. cc) saw)
+  work-saw mix (at.Entry rehash number place) steps did does saw =
+      passed-saw rehash number (place_after place did.old).0 (place_after place did.old).1 (steps ++ did ∷ [])
       (goes rehash _ steps did does.planned (λ table old new l e. cc) saw)
   work-saw mix (at.Locking rehash number lock) steps did does saw =
       locked-saw rehash number (lock_after lock did.old).0 (lock_after lock did.old).1 (steps ++ did ∷ [])
@@ -1118,7 +1119,8 @@ module _ (env : Env) where
   work-saw mix (at.Walking emptying target walk) steps did does saw =
       walked-saw emptying target (last_entry_after walk did.old).0 (last_entry_after walk did.old).1 (steps ++ did ∷ [])
       (goes emptying.rehash _ steps did does.planned (λ table old new l e. cc) saw)
-  work-saw mix (at.Key emptying target entry) steps did does saw = key-saw mix emptying target entry steps did does saw
+  work-saw mix (at.Key emptying target entry) steps did does saw =
+      goes emptying.rehash _ steps did does.planned (λ table old new l e. cc) saw
   work-saw mix (at.LockingSecond emptying entry table lock) steps did does saw =
       second_locked-saw emptying entry table (lock_after lock did.old).0 (lock_after lock did.old).1 (steps ++ did ∷ [])
       (goes emptying.rehash _ steps did does.planned (lock-none env.geometry lock.place lock.at does.within.lock_in.place_in) saw)

@@ -1,5 +1,6 @@
 -- What an operation of a call says about bindings: nothing, or the call's answer, which it is on what the words stand for then; or it
--- changes the bindings as the call is to change them, and the answer is what the call says of the bindings before.
+-- changes the bindings as the call is to change them, and the answer is what the call says of the bindings before. A call may also
+-- know its answer early, for the case that it will find a page missing, and say it once it has: that answer was so at an earlier event.
 use Rattle.std.proofs.Common.{◌≡◌, ◌≢◌, ◌⊎◌, ◌↔◌, ℕ, Bool, false, [], Option, Some, None, refl, sym, ap, ◌∙◌, subst, inl, inr}
 use Rattle.std.specs.Prelude.{IfSome}
 use Rattle.rht_words.specs.declared.config.Kind.{Kind}
@@ -161,9 +162,36 @@ module _ (kind : Kind) (c : ℕ) (call : Call) where
     pub known : now ≡ Some answer
     pub said : IsSaidOn bindings answer
 
-  -- an operation that changes no bindings keeps what is known of the answer, or tells it
-  abbrev pub SaysStill : Multimap → Option Answer → Option Answer → Type 0
-  SaysStill bindings was now = KeepsAnswer was now ⊎ LearnsAnswer bindings was now
+  -- the answer is known from now on, and is the one that was known early, since the page that this was for isn't there
+  pub record RecallsAnswer (early : Option Answer) (There : Type 0) (was now : Option Answer) : Type 0 where
+    pub unknown : was ≡ None
+    pub foreseen : Answer
+    pub known_early : early ≡ Some foreseen
+    pub missing : ¬ There
+    pub answer : Answer
+    pub known : now ≡ Some answer
+    pub same : IsSameAnswer foreseen answer
+
+  -- an operation that changes no bindings keeps what is known of the answer, or tells it, or recalls the one that was known early
+  abbrev pub SaysStill : Option Answer → Type 0 → Multimap → Option Answer → Option Answer → Type 0
+  SaysStill early There bindings was now =
+      KeepsAnswer was now ⊎ LearnsAnswer bindings was now ⊎ RecallsAnswer early There was now
+
+  -- ---- what is known early
+
+  -- an answer was known early before, and where the page was there it is there still
+  pub record StaysEarly (There There' : Type 0) (early : Option Answer) (answer : Answer) : Type 0 where
+    pub known_early : early ≡ Some answer
+    pub stays : There → There'
+
+  -- an answer that is known early after an operation was known so before, or is said on these bindings, or the page is there
+  abbrev pub KnowsEarly : Type 0 → Type 0 → Multimap → Option Answer → Option Answer → Type 0
+  KnowsEarly There There' bindings was now = (answer : Answer) → now ≡ Some answer
+      → StaysEarly There There' was answer ⊎ IsSaidOn bindings answer ⊎ There'
+
+  pub none_early : (There There' : Type 0) (bindings : Multimap) (was now : Option Answer) → now ≡ None
+      → KnowsEarly There There' bindings was now
+  none_early There There' bindings was now none answer known = absurd (let both = sym none ∙ known in cc)
 
   -- an operation that changes bindings as the call is to change them
   pub record ChangesBindings (before after : Multimap) (was now : Option Answer) : Type 0 where
@@ -175,36 +203,41 @@ module _ (kind : Kind) (c : ℕ) (call : Call) where
     pub port : ℕ
     pub differs : after port ≢ before port
 
-  pub record Stills (before after : Multimap) (was now : Option Answer) : Type 0 where
+  pub record Stills (early : Option Answer) (There : Type 0) (before after : Multimap) (was now : Option Answer)
+      : Type 0 where
     pub agree : Agree after before
-    pub said : SaysStill after was now
+    pub said : SaysStill early There after was now
 
-  abbrev pub Says : Multimap → Multimap → Option Answer → Option Answer → Type 0
-  Says before after was now = Stills before after was now ⊎ ChangesBindings before after was now
+  abbrev pub Says : Option Answer → Type 0 → Multimap → Multimap → Option Answer → Option Answer → Type 0
+  Says early There before after was now =
+      Stills early There before after was now ⊎ ChangesBindings before after was now
 
   -- whatever is so of an answer when it is told, and of the same answer, is so of the one that is known after an operation
   pub known_so : (So : Answer → Type 0) → ((was now : Answer) → IsSameAnswer was now → So was → So now)
-      → (before after : Multimap) (was now : Option Answer) → Says before after was now
-      → ((answer : Answer) → was ≡ None → now ≡ Some answer → So answer) → IfSome was So → IfSome now So
-  known_so So same before after was None says told so = tt
-  known_so So same before after None (Some now) says told so = told now refl refl
-  known_so So same before after (Some was) (Some now) (inl still) told so = elim still.said [
+      → (early : Option Answer) (There : Type 0) (before after : Multimap) (was now : Option Answer)
+      → Says early There before after was now → ((answer : Answer) → was ≡ None → now ≡ Some answer → So answer)
+      → IfSome was So → IfSome now So
+  known_so So same early There before after was None says told so = tt
+  known_so So same early There before after None (Some now) says told so = told now refl refl
+  known_so So same early There before after (Some was) (Some now) (inl still) told so = elim still.said [
     | inl keeps ↦ same was now keeps so
-    | inr learns ↦ absurd (let none = learns.unknown in cc)
+    | inr (inl learns) ↦ absurd (let none = learns.unknown in cc)
+    | inr (inr recalls) ↦ absurd (let none = recalls.unknown in cc)
   ]
-  known_so So same before after (Some was) (Some now) (inr changes) told so = absurd
+  known_so So same early There before after (Some was) (Some now) (inr changes) told so = absurd
       (let none = changes.unknown in cc)
 
   -- while none is known after it, none was before
-  pub unknown_before : (before after : Multimap) (was now : Option Answer) → Says before after was now
-      → now ≡ None → was ≡ None
-  unknown_before before after None now says none = refl
-  unknown_before before after (Some was) (Some now) says none = absurd (cc)
-  unknown_before before after (Some was) None (inl still) none = elim still.said [
+  pub unknown_before : (early : Option Answer) (There : Type 0) (before after : Multimap) (was now : Option Answer)
+      → Says early There before after was now → now ≡ None → was ≡ None
+  unknown_before early There before after None now says none = refl
+  unknown_before early There before after (Some was) (Some now) says none = absurd (cc)
+  unknown_before early There before after (Some was) None (inl still) none = elim still.said [
     | inl keeps ↦ absurd keeps
-    | inr learns ↦ absurd (let unknown = learns.unknown in cc)
+    | inr (inl learns) ↦ absurd (let unknown = learns.unknown in cc)
+    | inr (inr recalls) ↦ absurd (let unknown = recalls.unknown in cc)
   ]
-  unknown_before before after (Some was) None (inr changes) none = absurd
+  unknown_before early There before after (Some was) None (inr changes) none = absurd
       (let unknown = changes.unknown in cc)
 
   -- ---- bindings that agree
@@ -227,15 +260,25 @@ module _ (kind : Kind) (c : ℕ) (call : Call) where
   IsSaidOn-agree bindings same answer agree (inl said) = inl (IsLegalOn-agree bindings same answer agree said)
   IsSaidOn-agree bindings same answer agree (inr not_about) = inr not_about
 
-  pub SaysStill-agree : (bindings same : Multimap) (was now : Option Answer) → Agree same bindings
-      → SaysStill bindings was now → SaysStill same was now
-  SaysStill-agree bindings same was now agree (inl keeps) = inl keeps
-  SaysStill-agree bindings same was now agree (inr learns) = inr (record {
+  -- what is told, kept, recalled or known early is so on bindings that agree
+  pub SaysStill-agree : (early : Option Answer) (There : Type 0) (bindings same : Multimap) (was now : Option Answer)
+      → Agree same bindings → SaysStill early There bindings was now → SaysStill early There same was now
+  SaysStill-agree early There bindings same was now agree (inl keeps) = inl keeps
+  SaysStill-agree early There bindings same was now agree (inr (inl learns)) = inr (inl (record {
     unknown = learns.unknown;
     answer = learns.answer;
     known = learns.known;
     said = IsSaidOn-agree bindings same learns.answer agree learns.said;
-  })
+  }))
+  SaysStill-agree early There bindings same was now agree (inr (inr recalls)) = inr (inr recalls)
+
+  pub KnowsEarly-agree : (There There' : Type 0) (bindings same : Multimap) (was now : Option Answer)
+      → Agree same bindings → KnowsEarly There There' bindings was now → KnowsEarly There There' same was now
+  KnowsEarly-agree There There' bindings same was now agree knows answer known = elim (knows answer known) [
+    | inl stays ↦ inl stays
+    | inr (inl said) ↦ inr (inl (IsSaidOn-agree bindings same answer agree said))
+    | inr (inr there) ↦ inr (inr there)
+  ]
 
   -- an operation that changes no bindings, of a call that has this node, keeps what is known of the answer, or tells it rightly
   pub record LearnsRightly (has : Option ℕ) (bindings : Multimap) (was now : Option Answer) : Type 0 where
@@ -246,30 +289,46 @@ module _ (kind : Kind) (c : ℕ) (call : Call) where
   abbrev pub Tells : Option ℕ → Multimap → Option Answer → Option Answer → Type 0
   Tells has bindings was now = KeepsAnswer was now ⊎ LearnsRightly has bindings was now
 
-  pub told-says : (has : Option ℕ) (bindings : Multimap) (was now : Option Answer)
-      → Tells has bindings was now
-      → SaysStill bindings was now
-  told-says has bindings was now (inl keeps) = inl keeps
-  told-says has bindings was now (inr tells) = inr tells.learns
+  -- or it recalls the answer rightly
+  pub record RecallsRightly (has : Option ℕ) (early : Option Answer) (There : Type 0) (was now : Option Answer)
+      : Type 0 where
+    pub recalls : RecallsAnswer early There was now
+    pub right : IsRight call has recalls.answer
+    pub takes_none : takes_out recalls.answer.reply ≡ false
+
+  abbrev pub TellsOrRecalls : Option ℕ → Option Answer → Type 0 → Multimap → Option Answer → Option Answer → Type 0
+  TellsOrRecalls has early There bindings was now = Tells has bindings was now ⊎ RecallsRightly has early There was now
+
+  pub told-says : (has : Option ℕ) (early : Option Answer) (There : Type 0) (bindings : Multimap) (was now : Option Answer)
+      → TellsOrRecalls has early There bindings was now
+      → SaysStill early There bindings was now
+  told-says has early There bindings was now (inl (inl keeps)) = inl keeps
+  told-says has early There bindings was now (inl (inr tells)) = inr (inl tells.learns)
+  told-says has early There bindings was now (inr tells) = inr (inr tells.recalls)
 
   -- and it takes no node out of a list
-  pub told-outs : (has : Option ℕ) (bindings : Multimap) (was now : Option Answer)
-      → Tells has bindings was now
+  pub told-outs : (has : Option ℕ) (early : Option Answer) (There : Type 0) (bindings : Multimap)
+      (was now : Option Answer) → TellsOrRecalls has early There bindings was now
       → outs_of now ≡ outs_of was
-  told-outs has bindings None now (inl keeps) = ap outs_of keeps
-  told-outs has bindings (Some was) None (inl keeps) = absurd keeps
-  told-outs has bindings (Some was) (Some now) (inl keeps) = outs_of-same was now keeps
-  told-outs has bindings was now (inr tells) =
+  told-outs has early There bindings None now (inl (inl keeps)) = ap outs_of keeps
+  told-outs has early There bindings (Some was) None (inl (inl keeps)) = absurd keeps
+  told-outs has early There bindings (Some was) (Some now) (inl (inl keeps)) = outs_of-same was now keeps
+  told-outs has early There bindings was now (inl (inr tells)) =
       ap outs_of tells.learns.known ∙ ap one_if tells.takes_none ∙ sym (ap outs_of tells.learns.unknown)
+  told-outs has early There bindings was now (inr tells) =
+      ap outs_of tells.recalls.known ∙ ap one_if tells.takes_none ∙ sym (ap outs_of tells.recalls.unknown)
 
   -- what is told is right
-  pub told-right : (has : Option ℕ) (bindings : Multimap) (was now : Option Answer)
-      → Tells has bindings was now
+  pub told-right : (has : Option ℕ) (early : Option Answer) (There : Type 0) (bindings : Multimap)
+      (was now : Option Answer) → TellsOrRecalls has early There bindings was now
       → (answer : Answer) → was ≡ None → now ≡ Some answer → IsRight call has answer
-  told-right has bindings was now (inl keeps) answer unknown known =
+  told-right has early There bindings was now (inl (inl keeps)) answer unknown known =
       absurd (let none = subst (λ a. KeepsAnswer a now) unknown keeps in let both = sym none ∙ known in cc)
-  told-right has bindings was now (inr tells) answer unknown known =
+  told-right has early There bindings was now (inl (inr tells)) answer unknown known =
       let same : tells.learns.answer ≡ answer = let both = sym tells.learns.known ∙ known in cc in
+      subst (IsRight call has) same tells.right
+  told-right has early There bindings was now (inr tells) answer unknown known =
+      let same : tells.recalls.answer ≡ answer = let both = sym tells.recalls.known ∙ known in cc in
       subst (IsRight call has) same tells.right
 
   -- an answer is told that is legal on the bindings and leaves them
@@ -280,3 +339,31 @@ module _ (kind : Kind) (c : ℕ) (call : Call) where
     right = right;
     takes_none = none;
   })
+
+  -- it is known early, should a page be missing
+  pub foresees : (There There' : Type 0) (bindings : Multimap) (was : Option Answer) (answer : Answer)
+      → IsLegalOn bindings answer → KnowsEarly There There' bindings was (Some answer)
+  foresees There There' bindings was answer is other known =
+      let same : answer ≡ other = cc in inr (inl (inl (subst (IsLegalOn bindings) same is)))
+
+  -- and told once the page isn't there
+  pub recalls : (has : Option ℕ) (There : Type 0) (bindings : Multimap) (answer : Answer) → IsRight call has answer
+      → takes_out answer.reply ≡ false → ¬ There → TellsOrRecalls has (Some answer) There bindings None (Some answer)
+  recalls has There bindings answer right none missing = inr (record {
+    recalls = record {
+      unknown = refl;
+      foreseen = answer;
+      known_early = refl;
+      missing = missing;
+      answer = answer;
+      known = refl;
+      same = record { reply = refl; owners = refl };
+    };
+    right = right;
+    takes_none = none;
+  })
+
+  -- where nothing comes between, what is known early stays so
+  pub stays_early : (There There' : Type 0) (bindings : Multimap) (was : Option Answer) → (There → There')
+      → KnowsEarly There There' bindings was was
+  stays_early There There' bindings was stays answer known = inl (record { known_early = known; stays = stays })

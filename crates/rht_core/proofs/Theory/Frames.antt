@@ -1,11 +1,11 @@
 -- What a step leaves of words and tables, and of what others know, where it writes elsewhere.
-use Rattle.std.proofs.Common.{◌≡◌, ◌≢◌, ◌⊎◌, ◌↔◌, ℕ, ◌+◌, ◌*◌, ◌/◌, ◌%◌, ◌<◌, ◌≤◌, List, [], ◌∷◌, Some, Bool, refl, sym, ◌∙◌, ap, subst, inl, arith}
+use Rattle.std.proofs.Common.{◌≡◌, ◌≢◌, ℕ, ◌<◌, List, [], ◌∷◌, Some, Bool, refl, sym, ◌∙◌, ap, subst, inl, arith}
 use Rattle.rht_words.specs.declared.env.Env.{Env}
 use Rattle.rht_words.specs.Places.{Address, CurrentTable, WorkLock, Slot, SlotWord, IsSlotWord, PageMap, Node, NodeWord, ChainLink, KeyWord, OwnerWord, ListLink}
 use Rattle.rht_words.proofs.Memory.{Memory, IsWrite}
 use Rattle.rht_core.proofs.Theory.Ghosts.{Bucket, Owner, First, Leaving, Ghost, is_taken_by, IsUsed, SlotOwner, seat_of, seat_in, seat, seat-used, has_table, index_at}
 use Rattle.rht_core.proofs.Theory.Wholes.{chain_of, key_of, Whole, seated_at, out-seated}
-use Rattle.rht_core.proofs.Theory.Passed.{TablesGrow, PassesStay, Passed-stays}
+use Rattle.rht_core.proofs.Theory.Passed.{same-TableStays, TablesGrow, PassesStay, Passed-stays}
 use Rattle.rht_core.proofs.Theory.Knowledge.{HasNode, IsEmptied}
 use Rattle.rht_core.proofs.Theory.Reliance.{TablesStay, HoldingsStay, WorkStays, WordStays, ChainsStay, bound_used, Rely}
 
@@ -75,7 +75,8 @@ module _ (env : Env) (mix : ℕ → ℕ → ℕ → ℕ) where
 
   pub same_grow : (G G' : Ghost) → SameTables G G' → TablesGrow env mix G G'
   same_grow G G' same = record {
-    tables = λ τ l. ap (λ t. t τ) same.table;
+    tables = λ τ l. same-TableStays G.page τ (G.table τ) (G'.table τ) (ap (λ t. t τ) same.table);
+    placed = λ τ b j l is. inl (ap (λ t. (t τ).place b) (sym same.table) ∙ is);
     attached = omega (arith, same.attached);
     current = omega (arith, same.current);
     slots = λ s has. ap (λ slot. has_table (slot s)) same.slot ∙ has;

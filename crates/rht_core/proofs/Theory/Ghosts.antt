@@ -2,12 +2,13 @@
 -- page and slot, which table each slot has, which nodes each bucket has, and which nodes each port is bound to.
 -- It stands in no definition of a run. The invariant says that there is such a ghost after each event.
 use Rattle.std.proofs.Common.{◌≡◌, ◌≢◌, ◌⊎◌, ℕ, ◌/◌, List, [], ◌∷◌, refl, sym, ap, ◌∙◌, inl, inr, Bool, true, false, cond, Option, Some, None, ◌==◌}
-use Rattle.std.specs.Prelude.{◌+◌, ◌*◌, ◌%◌, ◌&&◌}
+use Rattle.std.specs.Prelude.{◌+◌, ◌*◌, ◌%◌, ◌&&◌, if◌then◌else◌}
 use Rattle.std.specs.Int.{bit_at}
 use Rattle.std.proofs.lemmas.Bool.{cases_eq, eqb-true, eq-eqb}
+use Rattle.rht_words.specs.Links.{entry_of}
 use Rattle.rht_words.specs.Shapes.{unpacked}
 use Rattle.rht_arena.specs.Runs.{is_in_run}
-use Rattle.rht_nest.specs.Tables.{table_pages}
+use Rattle.rht_nest.specs.Tables.{is_nested, table_pages}
 
 -- ---- functions changed at one place
 
@@ -62,14 +63,32 @@ put_in-all P there v f here other i = go (there i) refl
 
 -- ---- ghosts
 
+-- What a page of a table has: the words of buckets in a row, as in a flat table. Or, in a nested one, the words of the buckets whose
+-- numbers have these low bits; the entries behind the entry of the top page that these low bits pick; or the entries of the top page.
+pub data Part : Type 0 where
+  Row : Part
+  Leaf : ℕ → Part
+  Middle : ℕ → Part
+  Top : Part
+
+-- its words are entries
+abbrev pub has_entries : Part → Bool
+has_entries Row = false
+has_entries (Leaf low) = false
+has_entries (Middle low) = true
+has_entries Top = true
+
 -- A table that has been attached: its slot, what its words say, and where the words of its buckets stand among those of all
--- pages. A bucket whose page is missing has no word.
+-- pages. A bucket whose page is missing has no word. And of its own pages, what each has; and to which page each of their entries leads,
+-- by the entry's number among the words of all pages. An entry behind which the page is missing leads to none.
 pub record Table : Type 0 where
   pub slot : ℕ
   pub shape : ℕ
   pub seed : ℕ
   pub serial : ℕ
   pub place : ℕ → Option ℕ
+  pub part : ℕ → Part
+  pub entry : ℕ → Option ℕ
 
 -- A bucket: its nodes in the order of its chain, its word without the lock, and who holds the lock. An entry that is on its way
 -- out of it, and the bind that has found in it that no table is behind.
@@ -192,6 +211,21 @@ table_of_page (PageOf τ) = τ
 -- the table of which the bucket is
 abbrev pub table_at : Ghost → ℕ → ℕ
 table_at G j = table_of_page (G.page (j / 64))
+
+-- the word of a page that has this owner, of which this is the number, is a table's entry
+abbrev pub is_entry_of : (ℕ → Table) → PageOwner → ℕ → Bool
+is_entry_of table PageFree p = false
+is_entry_of table (PageHeld c) p = false
+is_entry_of table (PageOf τ) p = has_entries ((table τ).part p)
+
+-- the word with this number among those of all pages is an entry
+abbrev pub is_entry : Ghost → ℕ → Bool
+is_entry G j = is_entry_of G.table (G.page (j / 64)) (j / 64)
+
+-- the word of an entry that leads to a page, or to none
+abbrev pub entry_word : Option ℕ → ℕ
+entry_word None = 0
+entry_word (Some page) = entry_of page
 
 -- a table has the slot
 abbrev pub has_table : SlotOwner → Bool
@@ -321,17 +355,20 @@ has_bit index bits page = (page / 64 == index) && (bit_at bits (page % 64) == 1)
 abbrev pub with_pages : Ghost → ℕ → ℕ → PageOwner → Ghost
 with_pages G index bits owner = record G { page = put_in (has_bit index bits) owner G.page }
 
--- a flat table in a slot: its buckets stand in a row from its first page on
-abbrev pub flat_table : ℕ → ℕ → ℕ → ℕ → Table
-flat_table slot shape seed serial = record {
+-- A table in a slot as it is made: the buckets of a flat one stand in a row from its first page on, and a nested one has a top page none
+-- of whose entries leads to a page.
+abbrev pub made_table : ℕ → ℕ → ℕ → ℕ → Table
+made_table slot shape seed serial = record {
   slot = slot;
   shape = shape;
   seed = seed;
   serial = serial;
-  place = λ b. Some (64 * (unpacked shape).page + b);
+  place = λ b. if is_nested shape then None else Some (64 * (unpacked shape).page + b);
+  part = λ p. if is_nested shape then Top else Row;
+  entry = λ j. None;
 }
 
--- the page is one of those of a table with this shape
+-- the page is one of those of a table with this shape that is made
 abbrev pub is_page_for : ℕ → ℕ → Bool
 is_page_for shape page = is_in_run (unpacked shape).page (table_pages (unpacked shape)) page
 

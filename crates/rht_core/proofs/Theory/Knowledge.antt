@@ -10,10 +10,12 @@ use Rattle.rht_words.specs.Links.{head_of}
 use Rattle.rht_words.specs.Held as held
 use Rattle.rht_words.proofs.Memory.{Memory}
 use Rattle.rht_words.specs.Members.{In}
-use Rattle.rht_core.proofs.Theory.Ghosts.{Bucket, Held, Leaving, First, PageHeld, SlotHeld, Ghost, is_taken_by, table_at, has_table, index_at}
+use Rattle.rht_nest.specs.Tables.{is_nested, table_pages}
+use Rattle.rht_core.proofs.Theory.Ghosts.{Bucket, Held, Leaving, PageHeld, SlotHeld, Ghost, is_taken_by, has_table, index_at}
 use Rattle.rht_core.proofs.Theory.Wholes.{AreRetired, chain_of, key_of, place_at, word_index, home, pages_of, MovesNone, moves_none, IsFurther, Whole}
 use Rattle.rht_core.proofs.Theory.Passed.{NoKey, Passed}
-use Rattle.rht_core.proofs.Theory.Knowns.{Armed, KnownAim, NoAim, Onward, From, Beyond, KnownRehash, KnownPlace, Follows, Faces, InBucket, Bare, Aims, LeavesBehind, AtEntry, AtHome, AtNode, AtTail, Brings, Collected, CollectedTo, CutsOut, Differing, Differs, Empties, FirstLink, Found, HasBrought, HasMade, HasTaken, InList, InSlot, IsAmong, IsCollected, IsCollectedTo, IsCutOut, IsLeading, IsLeadingTo, IsOtherOwner, IsOwnersNode, IsPromoting, Known, KnownBucket, KnownEntry, KnownList, KnownMaking, KnownNode, KnownSlot, KnownTable, KnownWork, Leads, LeadsTo, Listing, Locks, LocksTakenOut, MakesNothing, Matching, Member, Missed, NoWork, Nowhere, Passes, Promotes, Replaces, Rooted, Shaped, Stands, StandsAt, StandsInList, Succeeds, TakenOut, TakesOut, Unlocked, Unlocks, WithShape, Works, last_of}
+use Rattle.rht_core.proofs.Theory.Knowns.{Armed, KnownAim, NoAim, Onward, From, Beyond, KnownRehash, KnownPlace, Follows, Nears, Faces, InBucket, Bare, Aims, LeavesBehind, AtEntry, AtHome, AtNode, AtTail, Brings, Collected, CollectedTo, CutsOut, Differing, Differs, Empties, FirstLink, Found, HasBrought, HasMade, HasPages, HasTaken, InList, InSlot, IsAmong, IsCollected, IsCollectedTo, IsCutOut, IsLeading, IsLeadingTo, IsOtherOwner, IsOwnersNode, IsPromoting, Known, KnownBucket, KnownEntry, KnownList, KnownMaking, KnownNode, KnownSlot, KnownTable, KnownWork, Leads, LeadsTo, Listing, Locks, LocksTakenOut, MakesNothing, Matching, Member, Missed, NoWork, Nowhere, OnWay, Passes, Promotes, Replaces, Rooted, Shaped, Stands, StandsAt, StandsInList, Succeeds, TakenOut, TakesOut, Unlocked, Unlocks, WithShape, Works, last_of}
+use Rattle.rht_core.proofs.Theory.Ways.{first_page, IsNestedShape}
 
 -- the caller does the work, and each table before the current one is retired, but for the one in this slot
 abbrev pub DoesWork : ℕ → Ghost → Option ℕ → Type 0
@@ -46,6 +48,11 @@ module _ (env : Env) (mix : ℕ → ℕ → ℕ → ℕ) where
     pub passing : IsPassing G port slot
     pub shape_is : (G.table (index_at G slot)).shape ≡ shape
 
+  -- the table is nested, so that the way to the port's bucket leads over entries
+  pub record IsOnWay (G : Ghost) (port slot shape : ℕ) : Type 0 where
+    pub shaped : IsShaped G port slot shape
+    pub nested : is_nested shape ≡ true
+
   pub record IsAtHome (G : Ghost) (port slot : ℕ) (shape : Option ℕ) (place : ℕ) : Type 0 where
     pub passing : IsPassing G port slot
     pub shape_is : IfSome shape (λ s. (G.table (index_at G slot)).shape ≡ s)
@@ -64,6 +71,7 @@ module _ (env : Env) (mix : ℕ → ℕ → ℕ → ℕ) where
   TableMeans G (WithShape slot shape) = HasShape G slot shape
   TableMeans G (Passes port slot) = IsPassing G port slot
   TableMeans G (Shaped port slot shape) = IsShaped G port slot shape
+  TableMeans G (OnWay port slot shape) = IsOnWay G port slot shape
   TableMeans G (AtHome port slot shape place) = IsAtHome G port slot shape place
 
   -- the caller has locked the bucket, in which it may be armed, and out of which an entry may be on its way; or neither is so
@@ -237,22 +245,37 @@ module _ (env : Env) (mix : ℕ → ℕ → ℕ → ℕ) where
     pub future : IfSome known.future (λ value. M (Slot known.slot FutureWord) ≡ value)
     pub serial : IfSome known.serial (λ value. M (Slot known.slot SerialWord) ≡ value)
 
+  abbrev pub ArePagesMine : ℕ → Ghost → List ℕ → Type 0
+  ArePagesMine c G pages = (p : ℕ) → In p pages → G.page p ≡ PageHeld c
+
   pub record IsTaken (c : ℕ) (M : Memory) (G : Ghost) (known : KnownSlot) (pages : List ℕ) : Type 0 where
     pub slot : SlotMeans c M G known
-    pub mine : (p : ℕ) → In p pages → G.page p ≡ PageHeld c
+    pub mine : ArePagesMine c G pages
 
-  -- the slot's words are those of a flat table that nothing follows, and the caller has all the pages of its run
+  -- a flat table is made with the pages of all its buckets, and a nested one with its top page
+  pub record IsFlatMade (shape : ℕ) : Type 0 where
+    pub flat : (unpacked shape).nest ≡ 0
+    pub many : table_pages (unpacked shape) ≡ pages_of env mix shape
+
+  pub record IsNestedMade (shape : ℕ) : Type 0 where
+    pub shaped : IsNestedShape shape
+    pub one : table_pages (unpacked shape) ≡ 1
+
+  -- the slot's words are those of such a table that nothing follows, and the caller has all these pages
   pub record IsMade (c : ℕ) (M : Memory) (G : Ghost) (slot shape : ℕ) : Type 0 where
     pub has : HasSlot c G slot
     pub shape_is : M (Slot slot ShapeWord) ≡ shape
     pub future_is : M (Slot slot FutureWord) ≡ 0
+    pub kind : IsFlatMade shape ⊎ IsNestedMade shape
+    -- so far each table is flat
     pub flat : (unpacked shape).nest ≡ 0
-    pub fits : (unpacked shape).page + pages_of env mix shape ≤ env.geometry.pages
-    pub run : (p : ℕ) → (unpacked shape).page ≤ p → p < (unpacked shape).page + pages_of env mix shape
+    pub fits : first_page shape + table_pages (unpacked shape) ≤ env.geometry.pages
+    pub run : (p : ℕ) → first_page shape ≤ p → p < first_page shape + table_pages (unpacked shape)
         → G.page p ≡ PageHeld c
 
   abbrev pub MakingMeans : ℕ → Memory → Ghost → KnownMaking → Type 0
   MakingMeans c M G MakesNothing = Unit {0}
+  MakingMeans c M G (HasPages pages) = ArePagesMine c G pages
   MakingMeans c M G (HasTaken slot pages) = IsTaken c M G slot pages
   MakingMeans c M G (HasMade slot shape) = IsMade c M G slot shape
 
@@ -305,6 +328,12 @@ module _ (env : Env) (mix : ℕ → ℕ → ℕ → ℕ) where
   pub record IsLeftBehind (G : Ghost) (slot : ℕ) : Type 0 where
     pub table : has_table (G.slot slot) ≡ true
     pub earlier : index_at G slot < G.current
+
+  -- the bucket of the current table that is to be emptied next, to which the way leads over entries, since that table is nested
+  pub record IsNearing (G : Ghost) (root : KnownRehash) (number : ℕ) : Type 0 where
+    pub empties : IsEmptying G root number
+    pub below : number < size_of (unpacked (G.table G.current).shape)
+    pub nested : is_nested root.shape ≡ true
 
   -- the place of the bucket of the current table that is to be emptied next
   pub record IsFacing (G : Ghost) (root : KnownRehash) (number place : ℕ) : Type 0 where
@@ -395,6 +424,7 @@ module _ (env : Env) (mix : ℕ → ℕ → ℕ → ℕ) where
   WorkMeans c M G (Follows root future) = IsWorking c G None (IsFollowed G root future)
   WorkMeans c M G (Empties root count) = IsWorking c G None (IsEmptying G root count)
   WorkMeans c M G (LeavesBehind slot) = IsWorking c G (Some slot) (IsLeftBehind G slot)
+  WorkMeans c M G (Nears root number) = IsWorking c G None (IsNearing G root number)
   WorkMeans c M G (Faces root number place) = IsWorking c G None (IsFacing G root number place)
   WorkMeans c M G (InBucket root at aim) = IsWorking c G None (IsInBucket c G root at aim)
   WorkMeans c M G (Bare root at) = IsWorking c G None (IsBare c G root at)

@@ -1,5 +1,5 @@
 -- What is known outlives a step of anybody else, and so does that there is nothing more.
-use Rattle.std.proofs.Common.{◌≡◌, ℕ, ◌+◌, ◌<◌, ◌≤◌, List, Option, Some, None, Bool, true, sym, ◌∙◌, ap, subst, arith}
+use Rattle.std.proofs.Common.{◌≡◌, ℕ, ◌+◌, ◌<◌, ◌≤◌, List, Option, Some, None, Bool, true, sym, ◌∙◌, ap, subst, inl, inr, arith}
 use Rattle.std.specs.Prelude.{IfSome}
 use Rattle.rht_words.specs.declared.env.Env.{Env}
 use Rattle.rht_words.specs.Places.{Slot, SlotWord, ShapeWord, SeedWord, FutureWord, SerialWord, IsSlotWord, ChainLink, KeyWord}
@@ -10,9 +10,9 @@ use Rattle.rht_words.specs.Members.{In}
 use Rattle.rht_words.proofs.Members.{in-middle}
 use Rattle.rht_core.proofs.Theory.Ghosts.{Ghost, has_table, index_at, seat-used}
 use Rattle.rht_core.proofs.Theory.Wholes.{retired_stay, key_of, word_index, home, out-seated, Whole}
-use Rattle.rht_core.proofs.Theory.Passed.{place-table, TablesGrow, table_at-grows, home-stays}
-use Rattle.rht_core.proofs.Theory.Knowns.{KnownAim, NoAim, Onward, From, Beyond, KnownRehash, KnownPlace, Follows, Faces, KnownEntry, InBucket, Bare, AtEntry, AtTail, Aims, Brings, Empties, LeavesBehind, HasBrought, HasMade, HasTaken, Known, KnownMaking, KnownWork, MakesNothing, NoWork, Rooted, TakesOut, Works, last_of}
-use Rattle.rht_core.proofs.Theory.Knowledge.{AimMeans, IsRooted, IsFollowed, IsFacing, IsLeftBehind, IsNext, IsInBucket, IsBare, IsAim, IsAiming, IsWorking, HasLock, HasOnly, HasSlot, IsBringing, IsBrought, IsEmptying, IsEntry, IsOutOf, IsRoot, IsTail, IsTakenOut, IsTarget, Knowing, MakingMeans, Means, WorkMeans, bucket_at}
+use Rattle.rht_core.proofs.Theory.Passed.{place-table, TableStays, TablesGrow, table_at-grows, home-stays}
+use Rattle.rht_core.proofs.Theory.Knowns.{KnownAim, NoAim, Onward, From, Beyond, KnownRehash, KnownPlace, Follows, Nears, Faces, KnownEntry, InBucket, Bare, AtEntry, AtTail, Aims, Brings, Empties, LeavesBehind, HasBrought, HasMade, HasPages, HasTaken, Known, KnownMaking, KnownWork, MakesNothing, NoWork, Rooted, TakesOut, Works, last_of}
+use Rattle.rht_core.proofs.Theory.Knowledge.{AimMeans, IsRooted, IsFollowed, IsNearing, IsFacing, IsLeftBehind, IsNext, IsInBucket, IsBare, IsAim, IsAiming, IsWorking, HasLock, HasOnly, HasSlot, IsBringing, IsBrought, IsEmptying, IsEntry, IsOutOf, IsRoot, IsTail, IsTakenOut, IsTarget, Knowing, MakingMeans, Means, WorkMeans, bucket_at}
 use Rattle.rht_core.proofs.Theory.Reliance.{HoldingsStay, Rely, WordStays, WorkStays, members_used}
 use Rattle.rht_core.proofs.Theory.KnowledgeStays.{BucketMeans-own, NodeMeans-stay, TableMeans-stay}
 
@@ -29,6 +29,7 @@ module _ (env : Env) (mix : ℕ → ℕ → ℕ → ℕ) where
 
     pub MakingMeans-stay : (known : KnownMaking) → MakingMeans env mix c M G known → MakingMeans env mix c M' G' known
     MakingMeans-stay MakesNothing means = tt
+    MakingMeans-stay (HasPages pages) means = λ p i. stay.pages p (means p i)
     MakingMeans-stay (HasTaken known pages) means =
         let slot = known.slot in
         let has = means.slot.has in
@@ -46,6 +47,7 @@ module _ (env : Env) (mix : ℕ → ℕ → ℕ → ℕ) where
       has = HasSlot-stay slot means.has;
       shape_is = stay.slot_words slot ShapeWord means.has tt ∙ means.shape_is;
       future_is = stay.slot_words slot FutureWord means.has tt ∙ means.future_is;
+      kind = means.kind;
       flat = means.flat;
       fits = means.fits;
       run = λ p from below. stay.pages p (means.run p from below);
@@ -64,8 +66,17 @@ module _ (env : Env) (mix : ℕ → ℕ → ℕ → ℕ) where
     stays : WorkStays env mix c M G M' G'
     stays = keeps.work works
 
-    same_table : G'.table G'.current ≡ G.table G.current
-    same_table = ap G'.table stays.current ∙ keeps.grow.tables G.current whole.tables.current_in
+    -- what is said of the current table stays
+    root-stays : TableStays G.page G.current (G.table G.current) (G'.table G'.current)
+    root-stays = rw stays.current (keeps.grow.tables G.current whole.tables.current_in)
+
+    within-stays : (number : ℕ) → number ≤ size_of (unpacked (G.table G.current).shape)
+        → number ≤ size_of (unpacked (G'.table G'.current).shape)
+    within-stays number = subst (λ w. number ≤ size_of (unpacked w)) (sym root-stays.shape)
+
+    below-stays : (number : ℕ) → number < size_of (unpacked (G.table G.current).shape)
+        → number < size_of (unpacked (G'.table G'.current).shape)
+    below-stays number = subst (λ w. number < size_of (unpacked w)) (sym root-stays.shape)
 
     lock-stays : (place word : ℕ) → HasLock env mix c G place word → HasLock env mix c G' place word
     lock-stays place word holds =
@@ -77,13 +88,13 @@ module _ (env : Env) (mix : ℕ → ℕ → ℕ → ℕ) where
         }
 
     IsRoot-stay : (root : ℕ) → IsRoot env mix G root → IsRoot env mix G' root
-    IsRoot-stay root is = ap (λ t. t.slot) same_table ∙ is
+    IsRoot-stay root is = root-stays.slot ∙ is
 
     IsFollowed-stay : (root future : ℕ) → IsFollowed env mix G root future → IsFollowed env mix G' root future
     IsFollowed-stay root future is = record {
       root_is = IsRoot-stay root is.root_is;
       future_is = ap (λ τ. (G'.table (τ + 1)).slot) stays.current
-          ∙ ap (λ t. t.slot) (keeps.grow.tables (G.current + 1) is.more) ∙ is.future_is;
+          ∙ (keeps.grow.tables (G.current + 1) is.more).slot ∙ is.future_is;
       more = omega (arith, is.more, stays.current, keeps.grow.attached);
     }
 
@@ -91,13 +102,20 @@ module _ (env : Env) (mix : ℕ → ℕ → ℕ → ℕ) where
         → IsEmptying env mix G' root count
     IsEmptying-stay root count is = record {
       followed = IsFollowed-stay root.root root.future is.followed;
-      shape_is = ap (λ t. t.shape) same_table ∙ is.shape_is;
-      within = subst (λ t. count ≤ size_of (unpacked t.shape)) (sym same_table) is.within;
-      each = λ b j l at.
-          let was : (G.table G.current).place b ≡ Some j = ap (λ t. t.place b) (sym same_table) ∙ at in
-          let there = place-table env mix M G whole G.current b j whole.tables.current_in
-          (omega (arith, l, is.within)) was in
-          stays.emptied is.followed.more j there (is.each b j l was);
+      shape_is = root-stays.shape ∙ is.shape_is;
+      within = within-stays count is.within;
+      each = λ b j l at. elim (keeps.grow.placed G.current b j whole.tables.current_in
+          (ap (λ τ. (G'.table τ).place b) (sym stays.current) ∙ at)) [
+            | inl was ↦
+                let there = place-table env mix M G whole G.current b j whole.tables.current_in
+                (omega (arith, l, is.within)) was in
+                stays.emptied is.followed.more j there (is.each b j l was)
+            | inr blank ↦ record {
+              nodes = ap (λ b. b.nodes) blank;
+              out = ap (λ b. b.out) blank;
+              armed = ap (λ b. b.armed) blank;
+            }
+          ];
     }
 
     bucket-stays : (place word : ℕ) → HasLock env mix c G place word → bucket_at env mix G' place ≡ bucket_at env mix G place
@@ -107,21 +125,21 @@ module _ (env : Env) (mix : ℕ → ℕ → ℕ → ℕ) where
     index-stays slot has = keeps.grow.indices slot has
 
     table-stays : (slot : ℕ) → has_table (G.slot slot) ≡ true
-        → G'.table (index_at G' slot) ≡ G.table (index_at G slot)
-    table-stays slot has = ap G'.table (index-stays slot has)
-        ∙ keeps.grow.tables (index_at G slot) (whole.tables.slots slot has).attached
+        → TableStays G.page (index_at G slot) (G.table (index_at G slot)) (G'.table (index_at G' slot))
+    table-stays slot has =
+        rw (index-stays slot has) (keeps.grow.tables (index_at G slot) (whole.tables.slots slot has).attached)
 
     known-shape_stays : (slot : ℕ) (shape : Option ℕ) → has_table (G.slot slot) ≡ true
         → IfSome shape (λ s. (G.table (index_at G slot)).shape ≡ s)
         → IfSome shape (λ s. (G'.table (index_at G' slot)).shape ≡ s)
     known-shape_stays slot None has is = tt
-    known-shape_stays slot (Some s) has is = ap (λ t. t.shape) (table-stays slot has) ∙ is
+    known-shape_stays slot (Some s) has is = (table-stays slot has).shape ∙ is
 
     known-seed_stays : (slot : ℕ) (seed : Option ℕ) → has_table (G.slot slot) ≡ true
         → IfSome seed (λ s. (G.table (index_at G slot)).seed ≡ s)
         → IfSome seed (λ s. (G'.table (index_at G' slot)).seed ≡ s)
     known-seed_stays slot None has is = tt
-    known-seed_stays slot (Some s) has is = ap (λ t. t.seed) (table-stays slot has) ∙ is
+    known-seed_stays slot (Some s) has is = (table-stays slot has).seed ∙ is
 
     AimMeans-stay : (aim : KnownAim) → AimMeans env mix G aim → AimMeans env mix G' aim
     AimMeans-stay NoAim is = tt
@@ -147,21 +165,29 @@ module _ (env : Env) (mix : ℕ → ℕ → ℕ → ℕ) where
       earlier = omega (arith, is.earlier, stays.current, index-stays slot is.table);
     }
 
+    IsNearing-stay : (root : KnownRehash) (number : ℕ) → IsNearing env mix G root number
+        → IsNearing env mix G' root number
+    IsNearing-stay root number is = record {
+      empties = IsEmptying-stay root number is.empties;
+      below = below-stays number is.below;
+      nested = is.nested;
+    }
+
     IsFacing-stay : (root : KnownRehash) (number place : ℕ) → IsFacing env mix G root number place
         → IsFacing env mix G' root number place
     IsFacing-stay root number place is = record {
       empties = IsEmptying-stay root number is.empties;
-      below = subst (λ t. number < size_of (unpacked t.shape)) (sym same_table) is.below;
+      below = below-stays number is.below;
       bucket = is.bucket;
-      here = ap (λ t. t.place number) same_table ∙ is.here;
+      here = root-stays.places number (word_index env mix place) is.here;
     }
 
     IsNext-stay : (root : KnownRehash) (at : KnownPlace) → IsNext env mix c G root at → IsNext env mix c G' root at
     IsNext-stay root at is = record {
       empties = IsEmptying-stay root at.number is.empties;
-      below = subst (λ t. at.number < size_of (unpacked t.shape)) (sym same_table) is.below;
+      below = below-stays at.number is.below;
       lock = lock-stays at.place at.word is.lock;
-      here = ap (λ t. t.place at.number) same_table ∙ is.here;
+      here = root-stays.places at.number (word_index env mix at.place) is.here;
     }
 
     IsInBucket-stay : (root : KnownRehash) (at : KnownPlace) (aim : KnownAim) → IsInBucket env mix c G root at aim
@@ -204,7 +230,7 @@ module _ (env : Env) (mix : ℕ → ℕ → ℕ → ℕ) where
       later = omega (arith, is.later, stays.current);
       attached = omega (arith, is.attached, keeps.grow.attached);
       here = ap (λ k. home env mix G' k is.table) key
-          ∙ home-stays env mix G G' keeps.grow (key_of M entry) is.table is.attached ∙ is.here;
+          ∙ home-stays env mix G G' keeps.grow (key_of M entry) is.table (word_index env mix place) is.attached is.here;
     }
 
     IsTarget-stay : (entry place word : ℕ) → key_of M' entry ≡ key_of M entry → IsTarget env mix c M G entry place word
@@ -294,7 +320,8 @@ module _ (env : Env) (mix : ℕ → ℕ → ℕ → ℕ) where
           works = (
             stays.worker,
             retired_stay G G' slot stays.current
-                (λ τ l. keeps.grow.tables τ (omega (arith, l, whole.tables.current_in))) keeps.grow.retired means.works.1,
+                (λ τ l. (keeps.grow.tables τ (omega (arith, l, whole.tables.current_in))).slot) keeps.grow.retired
+                means.works.1,
           );
           more = go works means.more;
         }
@@ -310,6 +337,8 @@ module _ (env : Env) (mix : ℕ → ℕ → ℕ → ℕ) where
         still-working means (λ works. IsEmptying-stay c M M' G G' whole keeps works root count)
     WorkMeans-stay (LeavesBehind slot) means =
         still-working means (λ works. IsLeftBehind-stay c M M' G G' whole keeps works slot)
+    WorkMeans-stay (Nears root number) means =
+        still-working means (λ works. IsNearing-stay c M M' G G' whole keeps works root number)
     WorkMeans-stay (Faces root number place) means =
         still-working means (λ works. IsFacing-stay c M M' G G' whole keeps works root number place)
     WorkMeans-stay (InBucket root at aim) means =

@@ -7,11 +7,10 @@ use Rattle.rht_words.specs.Ports.{owner_of}
 use Rattle.rht_words.proofs.Memory.{Memory}
 use Rattle.rht_words.specs.Members.{In}
 use Rattle.rht_words.proofs.Members.{In-append_left, In-append_cases, in-middle}
-use Rattle.rht_policy.specs.Mix.{bucket_of}
 use Rattle.rht_core.proofs.Theory.Ghosts.{Held, Ghost, is_taken_by, has_table, index_at}
 use Rattle.rht_core.proofs.Theory.Wholes.{chain_of, key_of, word_index, home}
 use Rattle.rht_core.proofs.Theory.Passed.{NoKey, NoKey-same, home-stays}
-use Rattle.rht_core.proofs.Theory.Knowns.{Armed, AtHome, AtNode, Collected, CollectedTo, CutsOut, Differing, Differs, FirstLink, Found, InList, InSlot, IsAmong, IsLeading, IsOwnersNode, KnownBucket, KnownList, KnownNode, KnownTable, Leads, LeadsTo, Listing, Locks, LocksTakenOut, Matching, Member, Missed, NoOwner, Nowhere, Passes, Promotes, Replaces, Shaped, Stands, StandsInList, Succeeds, TakenOut, Unlocked, Unlocks, WithShape, first_of_list, owners_of}
+use Rattle.rht_core.proofs.Theory.Knowns.{Armed, AtHome, AtNode, Collected, CollectedTo, CutsOut, Differing, Differs, FirstLink, Found, InList, InSlot, IsAmong, IsLeading, IsOwnersNode, KnownBucket, KnownList, KnownNode, KnownTable, Leads, LeadsTo, Listing, Locks, LocksTakenOut, Matching, Member, Missed, NoOwner, Nowhere, OnWay, Passes, Promotes, Replaces, Shaped, Stands, StandsInList, Succeeds, TakenOut, Unlocked, Unlocks, WithShape, first_of_list, owners_of}
 use Rattle.rht_core.proofs.Theory.Knowledge.{ArmedFor, BucketMeans, HasLock, HasNode, HasTakenOut, HoldsLock, IsArmed, IsDiffering, IsFound, IsInList, IsMember, IsPassing, IsPlain, IsPlainList, IsReaching, IsShaped, IsStanding, ListMeans, NodeMeans, TableMeans, bucket_at}
 use Rattle.rht_core.proofs.Theory.Reliance.{ChainsStay, MembersUsed, TablesStay, WordStays}
 
@@ -58,16 +57,13 @@ module _ (env : Env) (mix : ℕ → ℕ → ℕ → ℕ) where
       shape-stays slot None has attached is = tt
       shape-stays slot (Some s) has attached is =
           ap (λ τ. (G'.table τ).shape) (stay.grow.indices slot has)
-          ∙ ap (λ t. t.shape) (stay.grow.tables (index_at G slot) attached) ∙ is
+          ∙ (stay.grow.tables (index_at G slot) attached).shape ∙ is
 
       IsShaped-stay : (port slot shape : ℕ) → IsShaped env mix G port slot shape → IsShaped env mix G' port slot shape
-      IsShaped-stay port slot shape means =
-          let same = stay.grow.tables (index_at G slot) means.passing.passed.attached in
-          record {
-            passing = IsPassing-stay port slot means.passing;
-            shape_is = shape-stays slot (Some shape) means.passing.table means.passing.passed.attached
-                means.shape_is;
-          }
+      IsShaped-stay port slot shape means = record {
+        passing = IsPassing-stay port slot means.passing;
+        shape_is = shape-stays slot (Some shape) means.passing.table means.passing.passed.attached means.shape_is;
+      }
 
       pub TableMeans-stay : (known : KnownTable) → TableMeans env mix G known → TableMeans env mix G' known
       TableMeans-stay Nowhere means = tt
@@ -79,16 +75,20 @@ module _ (env : Env) (mix : ℕ → ℕ → ℕ → ℕ) where
       }
       TableMeans-stay (Passes port slot) means = IsPassing-stay port slot means
       TableMeans-stay (Shaped port slot shape) means = IsShaped-stay port slot shape means
+      TableMeans-stay (OnWay port slot shape) means = record {
+        shaped = IsShaped-stay port slot shape means.shaped;
+        nested = means.nested;
+      }
       TableMeans-stay (AtHome port slot shape place) means =
           let passing = means.passing in
-          let same = stay.grow.tables (index_at G slot) passing.passed.attached in
           record {
             passing = IsPassing-stay port slot passing;
             shape_is = shape-stays slot shape passing.table passing.passed.attached means.shape_is;
             bucket = means.bucket;
             here =
                 ap (home env mix G' port) (stay.grow.indices slot passing.table)
-                ∙ ap (λ t. t.place (bucket_of mix port t.shape t.seed)) same ∙ means.here;
+                ∙ home-stays env mix G G' stay.grow port (index_at G slot) (word_index env mix place)
+                passing.passed.attached means.here;
           }
 
     -- of buckets: where those that it has locked stay, and the keys of nodes in chains
@@ -132,7 +132,7 @@ module _ (env : Env) (mix : ℕ → ℕ → ℕ → ℕ) where
             table = is.table;
             armed = record {
               passed = stay.passed port is.table armed.passed;
-              here = home-stays env mix G G' stay.grow port is.table armed.passed.attached ∙ armed.here;
+              here = home-stays env mix G G' stay.grow port is.table j armed.passed.attached armed.here;
               armed = ap (λ b. b.armed) (locks j is.lock.holder) ∙ armed.armed;
               unbound = unbound port is.table j armed;
             };

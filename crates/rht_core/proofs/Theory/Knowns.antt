@@ -19,14 +19,15 @@ pub record KnownNode : Type 0 where
   pub list : Option ℕ
 
 -- Of the way to a port's bucket: nothing, or that none of the tables before the one in this slot binds the port; the table's
--- shape; and at which place the port's bucket is, whether the shape is known or not. Of a table, for whatever port: which slot it has,
--- and its shape.
+-- shape, and that the way to the bucket leads over entries; and at which place the port's bucket is, whether the shape is known or not.
+-- Of a table, for whatever port: which slot it has, and its shape.
 pub data KnownTable : Type 0 where
   Nowhere : KnownTable
   InSlot : ℕ → KnownTable
   WithShape : ℕ → ℕ → KnownTable
   Passes : ℕ → ℕ → KnownTable
   Shaped : ℕ → ℕ → ℕ → KnownTable
+  OnWay : ℕ → ℕ → ℕ → KnownTable
   AtHome : ℕ → ℕ → Option ℕ → ℕ → KnownTable
 
 -- Of the list of a port whose first node was found. It stands at a node, behind another one or none, and no owner before it is
@@ -77,10 +78,11 @@ pub record KnownSlot : Type 0 where
   pub future : Option ℕ
   pub serial : Option ℕ
 
--- Of a table that the caller makes: nothing; the slot that it has taken and its pages; or the slot, with the shape of a table that can be
+-- Of a table that the caller makes: nothing; pages that it has taken without a slot; the slot that it has taken and its pages; or the slot, with the shape of a table that can be
 -- attached.
 pub data KnownMaking : Type 0 where
   MakesNothing : KnownMaking
+  HasPages : List ℕ → KnownMaking
   HasTaken : KnownSlot → List ℕ → KnownMaking
   HasMade : ℕ → ℕ → KnownMaking
 
@@ -110,9 +112,8 @@ pub record KnownEntry : Type 0 where
   pub before : Option ℕ
 
 -- Of the work that the caller does: none; that it does the work; the slot of the current table; that of the next one too; how many of
--- the current table's buckets are emptied; and that the table in a slot was left behind. Of the next bucket: the place of its word; that
--- it is locked; that it has no entry; that an entry is
--- in it; and that this is the last one. Of that one: the place to which it goes; that this is locked, and its word was this before; that
+-- the current table's buckets are emptied; and that the table in a slot was left behind. Of the next bucket: that the way to it leads over
+-- entries; the place of its word; that it is locked; that it has no entry; that an entry is in it; and that this is the last one. Of that one: the place to which it goes; that this is locked, and its word was this before; that
 -- the entry is out of its bucket, and its link leads to the first node of that place; and that it is in a table behind the current one.
 pub data KnownWork : Type 0 where
   NoWork : KnownWork
@@ -121,6 +122,7 @@ pub data KnownWork : Type 0 where
   Follows : ℕ → ℕ → KnownWork
   Empties : KnownRehash → ℕ → KnownWork
   LeavesBehind : ℕ → KnownWork
+  Nears : KnownRehash → ℕ → KnownWork
   Faces : KnownRehash → ℕ → ℕ → KnownWork
   InBucket : KnownRehash → KnownPlace → KnownAim → KnownWork
   Bare : KnownRehash → KnownPlace → KnownWork

@@ -3,7 +3,7 @@
 --
 -- It holds at the current table. Under the lock of the port's bucket in a table, where no node of the bucket has the port's key,
 -- it holds of the next table where there is one; and where there is none, the port is bound nowhere.
-use Rattle.std.proofs.Common.{◌≡◌, ◌≢◌, ◌⊎◌, ℕ, ◌+◌, ◌*◌, ◌/◌, ◌%◌, ◌^◌, ◌<◌, ◌≤◌, List, [], ◌∷◌, Option, Some, None, true, refl, sym, ◌∙◌, ap, inl, inr, subst, arith}
+use Rattle.std.proofs.Common.{◌≡◌, ◌≢◌, ◌⊎◌, ℕ, ◌+◌, ◌*◌, ◌/◌, ◌%◌, ◌^◌, ◌<◌, ◌≤◌, List, [], ◌∷◌, Option, Some, None, true, false, refl, sym, ◌∙◌, ap, inl, inr, subst, arith}
 use Rattle.std.proofs.lemmas.Bool.{cases_eq, cases_lt}
 use Rattle.std.proofs.Math.Nat.{mod-lt}
 use Rattle.rht_words.specs.declared.env.Env.{Env}
@@ -12,8 +12,9 @@ use Rattle.rht_words.proofs.Memory.{Memory}
 use Rattle.rht_words.proofs.ShapeSizes.{IsSizeUpTo-size_of}
 use Rattle.rht_words.specs.Members.{In}
 use Rattle.rht_policy.specs.Mix.{bucket_of}
-use Rattle.rht_core.proofs.Theory.Ghosts.{Ghost, First, PageOwner, PageFree, PageHeld, PageOf, Retired, seat_in, seat, seated, table_of_page, table_at, has_table, index_at, none-some, some-same}
+use Rattle.rht_core.proofs.Theory.Ghosts.{Table, Bucket, blank_bucket, is_entry, Ghost, First, PageOwner, PageFree, PageHeld, PageOf, Retired, seat_in, seat, seated, table_of_page, table_at, has_table, index_at, none-some, some-same}
 use Rattle.rht_core.proofs.Theory.Wholes.{key_of, home, hash_in, IsNoBucket, MovesNone, seated_at, Whole}
+use Rattle.rht_core.proofs.Theory.Entries.{IsWordOf, word_of, bucket-no_entry}
 
 -- none of these nodes has the key
 abbrev pub NoKey : Memory → ℕ → List ℕ → Type 0
@@ -37,6 +38,30 @@ NoKey-in M key m [] none i same = i
 NoKey-in M key m (node ∷ nodes) none (inl e) same = none.0 (ap (key_of M) (sym e) ∙ same)
 NoKey-in M key m (node ∷ nodes) none (inr i) same = NoKey-in M key m nodes none.1 i same
 
+-- What a table keeps that has been attached: its slot, what its words say, the words of its buckets, and of its pages what each has and
+-- where its entries lead.
+pub record TableStays (page : ℕ → PageOwner) (τ : ℕ) (table table' : Table) : Type 0 where
+  pub slot : table'.slot ≡ table.slot
+  pub shape : table'.shape ≡ table.shape
+  pub seed : table'.seed ≡ table.seed
+  pub serial : table'.serial ≡ table.serial
+  pub places : (b j : ℕ) → table.place b ≡ Some j → table'.place b ≡ Some j
+  pub parts : (p : ℕ) → page p ≡ PageOf τ → table'.part p ≡ table.part p
+  pub entries : (j p : ℕ) → page (j / 64) ≡ PageOf τ → table.entry j ≡ Some p → table'.entry j ≡ Some p
+
+-- the same table is so
+pub same-TableStays : (page : ℕ → PageOwner) (τ : ℕ) (table table' : Table) → table' ≡ table
+    → TableStays page τ table table'
+same-TableStays page τ table table' same = record {
+  slot = ap (λ t. t.slot) same;
+  shape = ap (λ t. t.shape) same;
+  seed = ap (λ t. t.seed) same;
+  serial = ap (λ t. t.serial) same;
+  places = λ b j is. ap (λ t. t.place b) same ∙ is;
+  parts = λ p of. ap (λ t. t.part p) same;
+  entries = λ j p of is. ap (λ t. t.entry j) same ∙ is;
+}
+
 module _ (env : Env) (mix : ℕ → ℕ → ℕ → ℕ) where
   -- Behind this table no bind of the port is armed, no entry of it is on its way out, and it isn't bound there.
   pub record Passed (G : Ghost) (port τ : ℕ) : Type 0 where
@@ -53,44 +78,53 @@ module _ (env : Env) (mix : ℕ → ℕ → ℕ → ℕ) where
         mod-lt (mix port 0 ((G.table τ).seed % 2 ^ 32)) {m = size_of (unpacked (G.table τ).shape)}
         (let size_is = IsSizeUpTo-size_of (unpacked (G.table τ).shape) in omega (arith, size_is.least))
 
-    -- the bucket of a port in a table is one of this table's, and one of the words of the pages
-    pub home-index : (port τ : ℕ) → τ < G.attached
-        → home env mix G port τ ≡ Some (64 * (unpacked (G.table τ).shape).page + hash_in env mix G port τ)
-    home-index port τ l = (whole.tables.each τ l).placed.places (hash_in env mix G port τ) (hash-below port τ)
+    -- the word of a bucket of a table is in one of the table's pages, and is no entry
+    pub place-word : (τ b j : ℕ) → τ < G.attached → b < size_of (unpacked (G.table τ).shape)
+        → (G.table τ).place b ≡ Some j → IsWordOf env mix (G.table τ) G.page τ b j
+    place-word τ b j l below is = word_of env mix (G.table τ) G.page τ (whole.tables.each τ l).placed b j below is
 
     pub place-table : (τ b j : ℕ) → τ < G.attached → b < size_of (unpacked (G.table τ).shape)
         → (G.table τ).place b ≡ Some j → table_at G j ≡ τ
-    place-table τ b j l below is =
-        let placed = (whole.tables.each τ l).placed in
-        let index = 64 * (unpacked (G.table τ).shape).page + b in
-        let same : index ≡ j = some-same index j (sym (placed.places b below) ∙ is) in
-        ap (table_at G) (sym same) ∙ ap table_of_page (placed.pages b below)
+    place-table τ b j l below is = ap table_of_page (place-word τ b j l below is).of
+
+    pub place-bucket : (τ b j : ℕ) → τ < G.attached → b < size_of (unpacked (G.table τ).shape)
+        → (G.table τ).place b ≡ Some j → IsNoBucket env mix G (G.page (j / 64)) j → ⊥
+    place-bucket τ b j l below is bucketless =
+        let word = place-word τ b j l below is in
+        word.bucket (subst (λ o. IsNoBucket env mix G o j) word.of bucketless)
+
+    pub home-word : (port τ j : ℕ) → τ < G.attached → home env mix G port τ ≡ Some j
+        → IsWordOf env mix (G.table τ) G.page τ (hash_in env mix G port τ) j
+    home-word port τ j l is = place-word τ (hash_in env mix G port τ) j l (hash-below port τ) is
 
     pub home-table : (port τ j : ℕ) → τ < G.attached → home env mix G port τ ≡ Some j → table_at G j ≡ τ
     home-table port τ j l is = place-table τ (hash_in env mix G port τ) j l (hash-below port τ) is
 
     pub home-within : (port τ j : ℕ) → τ < G.attached → home env mix G port τ ≡ Some j
         → j < 64 * env.geometry.pages
-    home-within port τ j l is =
-        let index = 64 * (unpacked (G.table τ).shape).page + hash_in env mix G port τ in
-        let same : index ≡ j = some-same index j (sym (home-index port τ l) ∙ is) in
-        let placed = (whole.tables.each τ l).placed in
-        omega (arith, same, hash-below port τ, placed.fits)
+    home-within port τ j l is = (home-word port τ j l is).within
 
     -- the word of a port's bucket is a bucket's
     pub home-bucket : (port τ j : ℕ) → τ < G.attached → home env mix G port τ ≡ Some j
         → IsNoBucket env mix G (G.page (j / 64)) j → ⊥
-    home-bucket port τ j l is bucketless =
-        let index = 64 * (unpacked (G.table τ).shape).page + hash_in env mix G port τ in
-        let same : index ≡ j = some-same index j (sym (home-index port τ l) ∙ is) in
-        let page : G.page (j / 64) ≡ PageOf τ = ap (λ k. G.page (k / 64)) (sym same)
-        ∙ (whole.tables.each τ l).placed.pages (hash_in env mix G port τ) (hash-below port τ) in
-        let far = subst (λ o. IsNoBucket env mix G o j) page bucketless in
-        omega (arith, same, far, hash-below port τ)
+    home-bucket port τ j l is = place-bucket τ (hash_in env mix G port τ) j l (hash-below port τ) is
+
+    pub home-no_entry : (port τ j : ℕ) → τ < G.attached → home env mix G port τ ≡ Some j → is_entry G j ≡ false
+    home-no_entry port τ j l is = bucket-no_entry env mix G j (home-bucket port τ j l is)
 
     -- nor is that of a bucket that somebody has locked
     pub held-bucket : (j c : ℕ) → (G.bucket j).holder ≡ Some c → IsNoBucket env mix G (G.page (j / 64)) j → ⊥
     held-bucket j c holds bucketless = none-some (ap (λ b. b.holder) (whole.pages.blank j bucketless)) holds
+
+    pub held-no_entry : (j c : ℕ) → (G.bucket j).holder ≡ Some c → is_entry G j ≡ false
+    held-no_entry j c holds = bucket-no_entry env mix G j (held-bucket j c holds)
+
+    -- nor is that of one that has a node
+    pub member-bucket : (j n : ℕ) → In n (G.bucket j).nodes → IsNoBucket env mix G (G.page (j / 64)) j → ⊥
+    member-bucket j n there bucketless = subst (λ (b : Bucket). In n b.nodes) (whole.pages.blank j bucketless) there
+
+    pub member-no_entry : (j n : ℕ) → In n (G.bucket j).nodes → is_entry G j ≡ false
+    member-no_entry j n there = bucket-no_entry env mix G j (member-bucket j n there)
 
     -- The first node of a port is in the bucket that is the port's seat, or on its way out of it, and has its key.
     pub record SeatIs (port j : ℕ) : Type 0 where
@@ -199,10 +233,12 @@ module _ (env : Env) (mix : ℕ → ℕ → ℕ → ℕ) where
 
   -- ---- what was passed is so still
 
-  -- Tables come behind those that there are, and the current one is left behind; all else that is said of them stays, but that a table in
-  -- use may be retired.
+  -- Tables come behind those that there are, and the current one is left behind. Of those that there are all stays that is said of them,
+  -- but that a table in use may be retired, and that buckets get words whose pages were missing: each of these is blank then.
   pub record TablesGrow (G G' : Ghost) : Type 0 where
-    pub tables : (τ : ℕ) → τ < G.attached → G'.table τ ≡ G.table τ
+    pub tables : (τ : ℕ) → τ < G.attached → TableStays G.page τ (G.table τ) (G'.table τ)
+    pub placed : (τ b j : ℕ) → τ < G.attached → (G'.table τ).place b ≡ Some j
+        → ((G.table τ).place b ≡ Some j) ⊎ (G'.bucket j ≡ blank_bucket)
     pub attached : G.attached ≤ G'.attached
     pub current : G.current ≤ G'.current
     pub slots : (s : ℕ) → has_table (G.slot s) ≡ true → has_table (G'.slot s) ≡ true
@@ -249,27 +285,47 @@ module _ (env : Env) (mix : ℕ → ℕ → ℕ → ℕ) where
         → WasOut G port n j ⊎ (seat G port ≡ Some j)
     pub seats : (port j : ℕ) → seat G' port ≡ Some j → WasSeated G port j ⊎ IsArmedFor G port j
 
-  -- a port has the homes that it had
-  pub home-stays : (G G' : Ghost) → TablesGrow G G' → (port τ : ℕ) → τ < G.attached
-      → home env mix G' port τ ≡ home env mix G port τ
-  home-stays G G' grow port τ l = ap (λ t. t.place (bucket_of mix port t.shape t.seed)) (grow.tables τ l)
+  -- a port has the number that it had, and the homes, and perhaps one more in a bucket that is blank
+  hash-stays : (G G' : Ghost) → TablesGrow G G' → (port τ : ℕ) → τ < G.attached
+      → hash_in env mix G' port τ ≡ hash_in env mix G port τ
+  hash-stays G G' grow port τ l =
+      let stays = grow.tables τ l in
+      ap (λ shape. bucket_of mix port shape (G'.table τ).seed) stays.shape
+      ∙ ap (λ seed. bucket_of mix port (G.table τ).shape seed) stays.seed
+
+  pub home-stays : (G G' : Ghost) → TablesGrow G G' → (port τ j : ℕ) → τ < G.attached
+      → home env mix G port τ ≡ Some j → home env mix G' port τ ≡ Some j
+  home-stays G G' grow port τ j l is =
+      ap (G'.table τ).place (hash-stays G G' grow port τ l)
+      ∙ (grow.tables τ l).places (hash_in env mix G port τ) j is
+
+  pub home-comes : (G G' : Ghost) → TablesGrow G G' → (port τ j : ℕ) → τ < G.attached
+      → home env mix G' port τ ≡ Some j → (home env mix G port τ ≡ Some j) ⊎ (G'.bucket j ≡ blank_bucket)
+  home-comes G G' grow port τ j l is =
+      grow.placed τ (hash_in env mix G port τ) j l (sym (ap (G'.table τ).place (hash-stays G G' grow port τ l)) ∙ is)
 
   module _ (M : Memory) (G G' : Ghost) (whole : Whole env mix M G) (grow : TablesGrow G G')
       (stay : PassesStay G G') where
     pub Passed-stays : (port τ : ℕ) → Passed G port τ → Passed G' port τ
     Passed-stays port τ passed =
-        let was : (σ j : ℕ) → σ < τ → home env mix G' port σ ≡ Some j → home env mix G port σ ≡ Some j =
-        λ σ j l is. sym (home-stays G G' grow port σ (omega (arith, passed.attached))) ∙ is in
+        let before : (σ j : ℕ) → σ < τ → home env mix G' port σ ≡ Some j
+        → (home env mix G port σ ≡ Some j) ⊎ (G'.bucket j ≡ blank_bucket) =
+        λ σ j l is. home-comes G G' grow port σ j (omega (arith, l, passed.attached)) is in
         record {
           attached = omega (arith, passed.attached, grow.attached);
-          quiet = λ σ j l h is. unarmed σ j (G'.bucket j).armed refl (omega (arith, grow.current)) h (was σ j h is);
-          gone = λ σ j n behind l h is b out. elim (stay.heads port n j behind b out) [
-            | inl before ↦ passed.gone σ j n before.behind (omega (arith, grow.current)) h (was σ j h is)
-                before.bound_to before.out
-            | inr seat_was ↦
-                let at_least = passed.later j seat_was in
-                let table = home-table M G whole port σ j (omega (arith, passed.attached)) (was σ j h is) in
-                absurd (omega (arith, at_least, table))
+          quiet = λ σ j l h is. elim (before σ j h is) [
+            | inl was ↦ unarmed σ j (G'.bucket j).armed refl (omega (arith, grow.current, l)) h was
+            | inr blank ↦ ap (λ b. b.armed) blank
+          ];
+          gone = λ σ j n behind l h is b out. elim (before σ j h is) [
+            | inl was ↦ elim (stay.heads port n j behind b out) [
+              | inl still ↦ passed.gone σ j n still.behind (omega (arith, grow.current, l)) h was still.bound_to still.out
+              | inr seat_was ↦
+                  let at_least = passed.later j seat_was in
+                  let table = home-table M G whole port σ j (omega (arith, passed.attached, h)) was in
+                  absurd (omega (arith, at_least, table, h))
+            ]
+            | inr blank ↦ none-some (ap (λ b. b.out) blank) out
           ];
           later = λ j s.
               let more = table_at-grows G G' grow j in

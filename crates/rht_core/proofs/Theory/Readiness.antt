@@ -1,12 +1,13 @@
 -- What a store that changes what a port is bound to makes of the ghost, and what must be known where one binds a port first.
-use Rattle.std.proofs.Common.{◌≡◌, ℕ, ◌^◌, ◌+◌, ◌<◌, ◌≤◌, List, [], ◌∷◌, Some, None, Bool, true, false}
+use Rattle.std.proofs.Common.{◌≡◌, ℕ, ◌^◌, ◌+◌, ◌<◌, ◌≤◌, List, [], ◌∷◌, Some, None, Bool, true, false, ◌*◌, ◌/◌, ◌%◌}
 use Rattle.rht_words.specs.declared.env.Env.{Env}
 use Rattle.rht_words.specs.Links.{link_of, head_of}
 use Rattle.rht_words.specs.Places.{Slot, SeedWord, Node, ListLink}
 use Rattle.rht_words.proofs.Memory.{Memory}
-use Rattle.rht_core.proofs.Theory.Ghosts.{put, Bucket, Owner, First, PageOwner, Ghost, table_at, has_bit}
+use Rattle.rht_core.proofs.Theory.Ghosts.{put, Bucket, Owner, First, PageOwner, Ghost, table_at, has_bit, PageHeld, PageOf, is_entry}
 use Rattle.rht_core.proofs.Theory.Wholes.{chain_of, key_of, place_at, MovesNone}
 use Rattle.rht_core.proofs.Theory.Knowledge.{HasNode, ArmedFor, IsMade}
+use Rattle.rht_core.proofs.Theory.Ways.{entered_table, IsInUse}
 
 -- the bucket with a new first node, unlocked, in which nobody is armed any more
 abbrev pub linked_bucket : Bucket → ℕ → Bucket
@@ -42,6 +43,13 @@ changed G d change = record G {
   raised = put G.raised d change.raised;
 }
 
+-- the page behind this entry of a table, which has it from then on
+abbrev pub entered : Ghost → ℕ → ℕ → Ghost
+entered G j p = record G {
+  table = put G.table (table_at G j) (entered_table (G.table (table_at G j)) j p);
+  page = put G.page p (PageOf (table_at G j));
+}
+
 module _ (env : Env) (mix : ℕ → ℕ → ℕ → ℕ) where
   -- What is known when a node is linked into a bucket: the caller has the node and the lock, is armed there for the port, which has 32 bits,
   -- and has no entry on its way.
@@ -73,3 +81,11 @@ module _ (env : Env) (mix : ℕ → ℕ → ℕ → ℕ) where
   pub record IsAttaching (d slot shape seed : ℕ) (M : Memory) (G : Ghost) : Type 0 where
     pub made : IsMade env mix d M G slot shape
     pub seed_is : M (Slot slot SeedWord) ≡ seed
+
+  -- What is known when a page is entered: the caller has it, and the word is an entry in use of a table.
+  pub record IsEntering (d j p : ℕ) (G : Ghost) : Type 0 where
+    pub within : j < 64 * env.geometry.pages
+    pub entry : is_entry G j ≡ true
+    pub used : IsInUse (G.table (table_at G j)).shape ((G.table (table_at G j)).part (j / 64)) (j % 64)
+    pub among : p < env.geometry.pages
+    pub mine : G.page p ≡ PageHeld d

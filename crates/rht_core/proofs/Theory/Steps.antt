@@ -20,11 +20,11 @@ use Rattle.rht_model.specs.Multimap.{Multimap, Agree}
 use Rattle.rht_model.specs.Answers.{Answer, is_change}
 use Rattle.rht_arena.specs.Laws.{map_place, map_bit, IsTaking}
 use Rattle.rht_core.specs.Refused.{IsTableWord}
-use Rattle.rht_core.proofs.Theory.Ghosts.{put, put-all, Owner, Free, Held, First, Leaving, PageFree, PageHeld, SlotFree, SlotHeld, Ghost, is_taken_by, with_holder, with_armed, with_owner, with_raised, with_slot, has_bit, with_pages, flat_table, with_table}
+use Rattle.rht_core.proofs.Theory.Ghosts.{put, put-all, Owner, Free, Held, First, Leaving, PageFree, PageHeld, SlotFree, SlotHeld, Ghost, is_taken_by, with_holder, with_armed, with_owner, with_raised, with_slot, has_bit, with_pages, made_table, with_table}
 use Rattle.rht_core.proofs.Theory.Wholes.{place_at, outs, Whole}
 use Rattle.rht_core.proofs.Theory.Reliance.{bound_used}
 use Rattle.rht_core.proofs.Theory.Frames.{Made, still}
-use Rattle.rht_core.proofs.Theory.Answering.{outs_of, SaysStill-agree, Says, IsRight, Tells, told-says, told-outs, told-right}
+use Rattle.rht_core.proofs.Theory.Answering.{outs_of, SaysStill-agree, KnowsEarly, KnowsEarly-agree, none_early, Says, IsRight, Tells, TellsOrRecalls, told-says, told-outs, told-right}
 use Rattle.rht_core.proofs.Theory.Readiness.{linked, IsReady, IsArming, ArePagesOf, IsAttaching, Change, changed}
 use Rattle.rht_core.proofs.Theory.Departures.{with_worker, published, retired, left, arrived, cut_off, CanLeave, CanArrive, CanCut, CanPublish, CanRetire}
 
@@ -76,9 +76,13 @@ unchanged words op same = rw same (set-get_or words (op_place op) 0)
 abbrev pub Holding : Type 0
 Holding = held.Held Answer
 
--- it holds the same, whatever is known of its answer
+-- it holds the same, whatever is known of its answer, now and early
 abbrev pub HoldsSame : Holding → Holding → Type 0
-HoldsSame h h' = h' ≡ record h { answer = h'.answer }
+HoldsSame h h' = h' ≡ record h { answer = h'.answer; early = h'.early }
+
+-- the same, and nothing is known early
+abbrev pub HoldsNoneEarly : Holding → Holding → Type 0
+HoldsNoneEarly h h' = h' ≡ record h { answer = h'.answer; early = None }
 
 -- a call takes a node while its answer isn't known, and has one no more once it is
 pub record HasNodeInTime (h h' : Holding) : Type 0 where
@@ -134,43 +138,43 @@ module _ (g : Geometry) where
   pub record DoesTakeNode (node : ℕ) (op : Op) (old : ℕ) (h h' : Holding) : Type 0 where
     pub taking : IsTaking g node old op
     pub none : h.node ≡ None
-    pub holds : h' ≡ record h { node = Some node; answer = h'.answer }
+    pub holds : h' ≡ record h { node = Some node; answer = h'.answer; early = h'.early }
 
   pub record DoesGiveNode (node : ℕ) (op : Op) (h h' : Holding) : Type 0 where
     pub giving : op ≡ Or (map_place g node) (bit_of (map_bit node))
     pub has : h.node ≡ Some node
-    pub holds : h' ≡ record h { node = None; answer = h'.answer }
+    pub holds : h' ≡ record h { node = None; answer = h'.answer; early = h'.early }
 
   pub record DoesTakeLock (place : ℕ) (op : Op) (old : ℕ) (h h' : Holding) : Type 0 where
     pub on : op_place op ≡ place
     pub even : old % 2 ≡ 0
     pub locks : word_after old op ≡ old + 1
     pub none : h.lock ≡ None
-    pub holds : h' ≡ record h { lock = Some place; answer = h'.answer }
+    pub holds : h' ≡ record h { lock = Some place; answer = h'.answer; early = h'.early }
 
   pub record DoesDropLock (place : ℕ) (op : Op) (old : ℕ) (h h' : Holding) : Type 0 where
     pub on : op_place op ≡ place
     pub even : word_after old op % 2 ≡ 0
     pub unlocks : old ≡ word_after old op + 1
     pub has : h.lock ≡ Some place
-    pub holds : h' ≡ record h { lock = None; answer = h'.answer }
+    pub holds : h' ≡ record h { lock = None; answer = h'.answer; early = h'.early }
 
   pub record DoesRaise (op : Op) (h h' : Holding) : Type 0 where
     pub adds : op ≡ Add (place_of g PortCount) 1
     pub low : h.raised ≡ false
-    pub holds : h' ≡ record h { raised = true; answer = h'.answer }
+    pub holds : h' ≡ record h { raised = true; answer = h'.answer; early = h'.early }
 
   pub record DoesLink (node place : ℕ) (op : Op) (h h' : Holding) : Type 0 where
     pub on : op_place op ≡ place
     pub has : h.node ≡ Some node
     pub lock : h.lock ≡ Some place
     pub raised : h.raised ≡ true
-    pub holds : h' ≡ record h { node = None; lock = None; raised = false; answer = h'.answer }
+    pub holds : h' ≡ record h { node = None; lock = None; raised = false; answer = h'.answer; early = h'.early }
 
   pub record DoesLower (op : Op) (h h' : Holding) : Type 0 where
     pub subtracts : op ≡ Sub (place_of g PortCount) 1
     pub high : h.raised ≡ true
-    pub holds : h' ≡ record h { raised = false; answer = h'.answer }
+    pub holds : h' ≡ record h { raised = false; answer = h'.answer; early = h'.early }
 
   -- The store is on a word of a node or of a bucket; the call has the node that it had, or none, and the lock or none. Its answer is
   -- known from then on, and says that bindings were changed.
@@ -194,7 +198,7 @@ module _ (g : Geometry) where
     pub taking : op ≡ Exchange (place_of g (Slot slot StateWord)) 0 1
     pub free : old ≡ 0
     pub none : h.slot ≡ None
-    pub holds : h' ≡ record h { slot = Some slot; answer = h'.answer }
+    pub holds : h' ≡ record h { slot = Some slot; answer = h'.answer; early = h'.early }
 
   -- the pages of a slot are given back before it
   pub record DoesGiveSlot (slot : ℕ) (op : Op) (h h' : Holding) : Type 0 where
@@ -202,7 +206,7 @@ module _ (g : Geometry) where
     pub giving : op ≡ Store (place_of g (Slot slot StateWord)) 0
     pub has : h.slot ≡ Some slot
     pub empty : h.pages ≡ []
-    pub holds : h' ≡ record h { slot = None; answer = h'.answer }
+    pub holds : h' ≡ record h { slot = None; answer = h'.answer; early = h'.early }
 
   -- the operation clears these bits of a word of the map of pages, all of which it found set, and leaves the others
   pub record ClearsBits (index bits : ℕ) (op : Op) (old : ℕ) : Type 0 where
@@ -214,7 +218,7 @@ module _ (g : Geometry) where
   pub record DoesTakePages (index bits : ℕ) (op : Op) (old : ℕ) (h h' : Holding) : Type 0 where
     pub clears : ClearsBits index bits op old
     pub pages : (p : ℕ) → In p h'.pages ↔ (In p h.pages ⊎ (has_bit index bits p ≡ true))
-    pub holds : h' ≡ record h { pages = h'.pages; answer = h'.answer }
+    pub holds : h' ≡ record h { pages = h'.pages; answer = h'.answer; early = h'.early }
 
   -- or sets them, and leaves the others
   pub record SetsBits (index bits : ℕ) (op : Op) (old : ℕ) : Type 0 where
@@ -226,7 +230,7 @@ module _ (g : Geometry) where
     pub sets : SetsBits index bits op old
     pub had : (p : ℕ) → has_bit index bits p ≡ true → In p h.pages
     pub pages : (p : ℕ) → In p h'.pages ↔ (In p h.pages × (has_bit index bits p ≡ false))
-    pub holds : h' ≡ record h { pages = h'.pages; answer = h'.answer }
+    pub holds : h' ≡ record h { pages = h'.pages; answer = h'.answer; early = h'.early }
 
   -- the exchange of the future of a table, in whose slot this is, finds that nothing follows it
   pub record DoesAttach (slot : ℕ) (op : Op) (old : ℕ) (h h' : Holding) : Type 0 where
@@ -235,25 +239,25 @@ module _ (g : Geometry) where
     pub attaching : op ≡ Exchange (place_of g (Slot last FutureWord)) 0 (future_of slot)
     pub found : old ≡ 0
     pub has : h.slot ≡ Some slot
-    pub holds : h' ≡ record h { slot = None; pages = []; answer = h'.answer }
+    pub holds : h' ≡ record h { slot = None; pages = []; answer = h'.answer; early = h'.early }
 
   pub record DoesTakeWork (op : Op) (old : ℕ) (h h' : Holding) : Type 0 where
     pub taking : op ≡ Exchange (place_of g WorkLock) 0 1
     pub free : old ≡ 0
     pub idle : h.worker ≡ false
-    pub holds : h' ≡ record h { worker = true; answer = h'.answer }
+    pub holds : h' ≡ record h { worker = true; answer = h'.answer; early = h'.early }
 
   pub record DoesGiveWork (op : Op) (h h' : Holding) : Type 0 where
     pub giving : op ≡ Store (place_of g WorkLock) 0
     pub has : h.worker ≡ true
-    pub holds : h' ≡ record h { worker = false; moving = false; answer = h'.answer }
+    pub holds : h' ≡ record h { worker = false; moving = false; answer = h'.answer; early = h'.early }
 
   -- an operation that leaves its word, from which on entries are moved
   pub record DoesBeginMoving (op : Op) (old : ℕ) (h h' : Holding) : Type 0 where
     pub leaves : word_after old op ≡ old
     pub has : h.worker ≡ true
     pub still : h.moving ≡ false
-    pub holds : h' ≡ record h { moving = true; answer = h'.answer }
+    pub holds : h' ≡ record h { moving = true; answer = h'.answer; early = h'.early }
 
   -- the lock of another bucket, beside that of a first one
   pub record DoesTakeSecond (place : ℕ) (op : Op) (old : ℕ) (h h' : Holding) : Type 0 where
@@ -264,7 +268,7 @@ module _ (g : Geometry) where
     pub first : ℕ
     pub has : h.lock ≡ Some first
     pub none : h.second ≡ None
-    pub holds : h' ≡ record h { second = Some place; answer = h'.answer }
+    pub holds : h' ≡ record h { second = Some place; answer = h'.answer; early = h'.early }
 
   pub record DoesLeave (entry : ℕ) (op : Op) (h h' : Holding) : Type 0 where
     pub on : op_place op ≡ place_of g (Node entry ChainLink)
@@ -276,7 +280,7 @@ module _ (g : Geometry) where
     pub on : op_place op ≡ place
     pub moves : h.moving ≡ true
     pub has : h.second ≡ Some place
-    pub holds : h' ≡ record h { second = None; answer = h'.answer }
+    pub holds : h' ≡ record h { second = None; answer = h'.answer; early = h'.early }
 
   -- a bucket is cut off in the link of the node before its last entry, or in its word
   abbrev pub cut_place : ℕ → Option ℕ → ℕ
@@ -318,7 +322,7 @@ module _ (env : Env) (mix : ℕ → ℕ → ℕ → ℕ) where
   ghost_after c (GivesSlot s) G = with_slot G s SlotFree
   ghost_after c (TakesPages index bits) G = with_pages G index bits (PageHeld c)
   ghost_after c (GivesPages index bits) G = with_pages G index bits PageFree
-  ghost_after c (Attaches slot shape seed serial) G = with_table G (flat_table slot shape seed serial)
+  ghost_after c (Attaches slot shape seed serial) G = with_table G (made_table slot shape seed serial)
   ghost_after c TakesWork G = with_worker G (Some c)
   ghost_after c GivesWork G = with_worker G None
   ghost_after c BeginsMoving G = G
@@ -400,30 +404,39 @@ module _ (env : Env) (mix : ℕ → ℕ → ℕ → ℕ) where
   Does (Retires s) op old h h' = DoesRetire env.geometry s op h h'
 
   -- An operation of a caller in a call, which holds this before it and that after it, with what it knows afterwards.
-  pub record Step (c : ℕ) (call : Call) (words : List ℕ) (G : Ghost) (op : Op) (h h' : Holding)
-      (Knows : Memory → Ghost → Type 0) : Type 0 where
+  -- `early` is for a call that finds a page missing and answers as of its load of a future before, since which others may have bound the port:
+  -- what it knows early was so at an event of the call, or the page is there (`There` says so before the operation, and `There'` after it).
+  pub record StepWhere (There There' : Type 0) (c : ℕ) (call : Call) (words : List ℕ) (G : Ghost) (op : Op)
+      (h h' : Holding) (Knows : Memory → Ghost → Type 0) : Type 0 where
     pub move : Move
     pub ready : ReadyFor c (mem words) G move
     pub made : Made env mix c (mem words) G (mem (applied words op)) (ghost_after c move G)
     pub does : Does move op (old_of words op) h h'
-    pub says : Says env.config.kind c call (owners (mem words) G)
+    pub says : Says env.config.kind c call h.early There (owners (mem words) G)
         (owners (mem (applied words op)) (ghost_after c move G)) h.answer h'.answer
+    pub early : KnowsEarly env.config.kind c call There There' (owners (mem (applied words op)) (ghost_after c move G))
+        h.early h'.early
     pub right : (answer : Answer) → h.answer ≡ None → h'.answer ≡ Some answer → IsRight call h.node answer
     pub in_time : HasNodeInTime h h'
     pub outs : outs env mix (ghost_after c move G) c + outs_of h.answer ≡ outs env mix G c + outs_of h'.answer
     pub knows : Knows (mem (applied words op)) (ghost_after c move G)
 
+  -- an operation of a call that nowhere misses a page
+  abbrev pub Step : ℕ → Call → List ℕ → Ghost → Op → Holding → Holding → (Memory → Ghost → Type 0) → Type 0
+  Step c call words G op h h' Knows = StepWhere ⊥ ⊥ c call words G op h h' Knows
+
   -- the same step with more said of what the caller knows
-  pub step-map : (c : ℕ) (call : Call) (words : List ℕ) (G : Ghost) (op : Op) (h h' : Holding)
+  pub step-map : {There There' : Type 0} (c : ℕ) (call : Call) (words : List ℕ) (G : Ghost) (op : Op) (h h' : Holding)
       (Knows More : Memory → Ghost → Type 0)
       → ((M : Memory) (G' : Ghost) → Whole env mix M G' → Knows M G' → More M G')
-      → Step c call words G op h h' Knows → Step c call words G op h h' More
+      → StepWhere There There' c call words G op h h' Knows → StepWhere There There' c call words G op h h' More
   step-map c call words G op h h' Knows More more step = record {
     move = step.move;
     ready = step.ready;
     made = step.made;
     does = step.does;
     says = step.says;
+    early = step.early;
     right = step.right;
     in_time = step.in_time;
     outs = step.outs;
@@ -639,109 +652,112 @@ module _ (env : Env) (mix : ℕ → ℕ → ℕ → ℕ) where
 
   -- ---- with what is known of the answer
 
-  abbrev pub with_answer : Holding → Option Answer → Holding
-  with_answer h answer = record h { answer = answer }
+  abbrev pub with_known : Holding → Option Answer → Option Answer → Holding
+  with_known h answer early = record h { answer = answer; early = early }
 
-  does-answered : (move : Move) (op : Op) (old : ℕ) (h h' : Holding) (answer : Option Answer)
+  -- and nothing is known of it early
+  abbrev pub with_answer : Holding → Option Answer → Holding
+  with_answer h answer = with_known h answer None
+
+  does-answered : (move : Move) (op : Op) (old : ℕ) (h h' : Holding) (answer early : Option Answer)
       → LinksNone move
       → Does move op old h h'
-      → Does move op old h (with_answer h' answer)
-  does-answered Quiet op old h h' answer none does =
-      record { holds = ap (λ x. with_answer x answer) does.holds; leaves = does.leaves }
-  does-answered (TakesNode n) op old h h' answer none does =
-      record { taking = does.taking; none = does.none; holds = ap (λ x. with_answer x answer) does.holds }
-  does-answered (GivesNode n) op old h h' answer none does =
-      record { giving = does.giving; has = does.has; holds = ap (λ x. with_answer x answer) does.holds }
-  does-answered (TakesLock j) op old h h' answer none does = record {
+      → Does move op old h (with_known h' answer early)
+  does-answered Quiet op old h h' answer early none does =
+      record { holds = ap (λ x. with_known x answer early) does.holds; leaves = does.leaves }
+  does-answered (TakesNode n) op old h h' answer early none does =
+      record { taking = does.taking; none = does.none; holds = ap (λ x. with_known x answer early) does.holds }
+  does-answered (GivesNode n) op old h h' answer early none does =
+      record { giving = does.giving; has = does.has; holds = ap (λ x. with_known x answer early) does.holds }
+  does-answered (TakesLock j) op old h h' answer early none does = record {
     on = does.on;
     even = does.even;
     locks = does.locks;
     none = does.none;
-    holds = ap (λ x. with_answer x answer) does.holds;
+    holds = ap (λ x. with_known x answer early) does.holds;
   }
-  does-answered (DropsLock j) op old h h' answer none does = record {
+  does-answered (DropsLock j) op old h h' answer early none does = record {
     on = does.on;
     even = does.even;
     unlocks = does.unlocks;
     has = does.has;
-    holds = ap (λ x. with_answer x answer) does.holds;
+    holds = ap (λ x. with_known x answer early) does.holds;
   }
-  does-answered Raises op old h h' answer none does =
-      record { adds = does.adds; low = does.low; holds = ap (λ x. with_answer x answer) does.holds }
-  does-answered (Links n port j) op old h h' answer none does = record {
+  does-answered Raises op old h h' answer early none does =
+      record { adds = does.adds; low = does.low; holds = ap (λ x. with_known x answer early) does.holds }
+  does-answered (Links n port j) op old h h' answer early none does = record {
     on = does.on;
     has = does.has;
     lock = does.lock;
     raised = does.raised;
-    holds = ap (λ x. with_answer x answer) does.holds;
+    holds = ap (λ x. with_known x answer early) does.holds;
   }
-  does-answered Lowers op old h h' answer none does =
+  does-answered Lowers op old h h' answer early none does =
       record {
         subtracts = does.subtracts;
         high = does.high;
-        holds = ap (λ x. with_answer x answer)
-            does.holds;
+        holds = ap (λ x. with_known x answer early) does.holds;
       }
-  does-answered (Rebinds change) op old h h' answer none does = absurd none
-  does-answered (LinksBehind n) op old h h' answer none does = record {
+  does-answered (Rebinds change) op old h h' answer early none does = absurd none
+  does-answered (LinksBehind n) op old h h' answer early none does = record {
     on = does.on;
     locked = does.locked;
     none = does.none;
-    holds = ap (λ x. with_answer x answer) does.holds;
+    holds = ap (λ x. with_known x answer early) does.holds;
   }
-  does-answered (Arms j) op old h h' answer none does =
-      record { holds = ap (λ x. with_answer x answer) does.holds; leaves = does.leaves }
-  does-answered (TakesSlot s) op old h h' answer none does = record {
+  does-answered (Arms j) op old h h' answer early none does =
+      record { holds = ap (λ x. with_known x answer early) does.holds; leaves = does.leaves }
+  does-answered (TakesSlot s) op old h h' answer early none does = record {
     within = does.within;
     taking = does.taking;
     free = does.free;
     none = does.none;
-    holds = ap (λ x. with_answer x answer) does.holds;
+    holds = ap (λ x. with_known x answer early) does.holds;
   }
-  does-answered (GivesSlot s) op old h h' answer none does = record {
+  does-answered (GivesSlot s) op old h h' answer early none does = record {
     within = does.within;
     giving = does.giving;
     has = does.has;
     empty = does.empty;
-    holds = ap (λ x. with_answer x answer) does.holds;
+    holds = ap (λ x. with_known x answer early) does.holds;
   }
-  does-answered (TakesPages index bits) op old h h' answer none does = record {
+  does-answered (TakesPages index bits) op old h h' answer early none does = record {
     clears = does.clears;
     pages = does.pages;
-    holds = ap (λ x. with_answer x answer) does.holds;
+    holds = ap (λ x. with_known x answer early) does.holds;
   }
-  does-answered (GivesPages index bits) op old h h' answer none does = record {
+  does-answered (GivesPages index bits) op old h h' answer early none does = record {
     sets = does.sets;
     had = does.had;
     pages = does.pages;
-    holds = ap (λ x. with_answer x answer) does.holds;
+    holds = ap (λ x. with_known x answer early) does.holds;
   }
-  does-answered (Attaches slot shape seed serial) op old h h' answer none does = record {
+  does-answered (Attaches slot shape seed serial) op old h h' answer early none does = record {
     last = does.last;
     within = does.within;
     attaching = does.attaching;
     found = does.found;
     has = does.has;
-    holds = ap (λ x. with_answer x answer) does.holds;
+    holds = ap (λ x. with_known x answer early) does.holds;
   }
-  does-answered TakesWork op old h h' answer none does = record {
+  does-answered TakesWork op old h h' answer early none does = record {
     taking = does.taking;
     free = does.free;
     idle = does.idle;
-    holds = ap (λ x. with_answer x answer) does.holds;
+    holds = ap (λ x. with_known x answer early) does.holds;
   }
-  does-answered GivesWork op old h h' answer none does = record {
+  does-answered GivesWork op old h h' answer early none does = record {
     giving = does.giving;
     has = does.has;
-    holds = ap (λ x. with_answer x answer) does.holds;
+    holds = ap (λ x. with_known x answer early) does.holds;
   }
-  does-answered BeginsMoving op old h h' answer none does = record {
+  does-answered BeginsMoving op old h h' answer early none does = record {
     leaves = does.leaves;
     has = does.has;
     still = does.still;
-    holds = ap (λ x. with_answer x answer) does.holds;
+    holds = ap (λ x. with_known x answer early) does.holds;
   }
-  does-answered (TakesSecond i) op old h h' answer none does = record {
+  does-answered (TakesSecond i) op old h h' answer early none does = record {
     on = does.on;
     even = does.even;
     locks = does.locks;
@@ -749,80 +765,97 @@ module _ (env : Env) (mix : ℕ → ℕ → ℕ → ℕ) where
     first = does.first;
     has = does.has;
     none = does.none;
-    holds = ap (λ x. with_answer x answer) does.holds;
+    holds = ap (λ x. with_known x answer early) does.holds;
   }
-  does-answered (Leaves j i entry nodes) op old h h' answer none does = record {
+  does-answered (Leaves j i entry nodes) op old h h' answer early none does = record {
     on = does.on;
     moves = does.moves;
-    holds = ap (λ x. with_answer x answer) does.holds;
+    holds = ap (λ x. with_known x answer early) does.holds;
   }
-  does-answered (Arrives j i entry) op old h h' answer none does = record {
+  does-answered (Arrives j i entry) op old h h' answer early none does = record {
     on = does.on;
     moves = does.moves;
     has = does.has;
-    holds = ap (λ x. with_answer x answer) does.holds;
+    holds = ap (λ x. with_known x answer early) does.holds;
   }
-  does-answered (CutsOff j entry before) op old h h' answer none does = record {
+  does-answered (CutsOff j entry before) op old h h' answer early none does = record {
     on = does.on;
     moves = does.moves;
     lock = does.lock;
-    holds = ap (λ x. with_answer x answer) does.holds;
+    holds = ap (λ x. with_known x answer early) does.holds;
   }
-  does-answered Publishes op old h h' answer none does = record {
+  does-answered Publishes op old h h' answer early none does = record {
     on = does.on;
     moves = does.moves;
-    holds = ap (λ x. with_answer x answer) does.holds;
+    holds = ap (λ x. with_known x answer early) does.holds;
   }
-  does-answered (Retires s) op old h h' answer none does = record {
+  does-answered (Retires s) op old h h' answer early none does = record {
     within = does.within;
     retiring = does.retiring;
     moves = does.moves;
-    holds = ap (λ x. with_answer x answer) does.holds;
+    holds = ap (λ x. with_known x answer early) does.holds;
   }
 
-  -- an operation that leaves bindings is a step, with what it says of the answer on the bindings as they are
-  pub answered : (c : ℕ) (call : Call) (words : List ℕ) (G : Ghost) (op : Op) (h h' : Holding)
+  -- an operation that leaves bindings is a step, with what it says of the answer on the bindings as they are, now and early
+  pub answered_where : (There There' : Type 0) (c : ℕ) (call : Call) (words : List ℕ) (G : Ghost) (op : Op) (h h' : Holding)
+      (answer early : Option Answer) (Knows : Memory → Ghost → Type 0)
+      → TellsOrRecalls env.config.kind c call h.node h.early There (owners (mem words) G) h.answer answer
+      → KnowsEarly env.config.kind c call There There' (owners (mem words) G) h.early early
+      → HasNodeInTime h (with_known h' answer early)
+      → Moved c words G op h h' Knows → StepWhere There There' c call words G op h (with_known h' answer early) Knows
+  answered_where There There' c call words G op h h' answer early Knows tells knows in_time step =
+      let kind = env.config.kind in
+      let now = owners (mem words) G in
+      let after = owners (mem (applied words op)) (ghost_after c step.move G) in
+      record {
+        move = step.move;
+        ready = step.ready;
+        made = step.made;
+        does = does-answered step.move op (old_of words op) h h' answer early step.binds_none step.does;
+        says = inl (record {
+          agree = step.agree;
+          said = SaysStill-agree kind c call h.early There now after h.answer answer step.agree
+              (told-says kind c call h.node h.early There now h.answer answer tells);
+        });
+        early = KnowsEarly-agree kind c call There There' now after h.early early step.agree knows;
+        right = told-right kind c call h.node h.early There now h.answer answer tells;
+        in_time = in_time;
+        outs = ap (λ o. o + outs_of h.answer) step.outs
+            ∙ ap (λ o. outs env mix G c + o)
+            (sym (told-outs kind c call h.node h.early There now h.answer answer tells));
+        knows = step.knows;
+      }
+
+  -- the same where nothing is known early after it
+  pub answered : {There There' : Type 0} (c : ℕ) (call : Call) (words : List ℕ) (G : Ghost) (op : Op) (h h' : Holding)
       (answer : Option Answer)
       (Knows : Memory → Ghost → Type 0)
       → Tells env.config.kind c call h.node (owners (mem words) G) h.answer answer
       → HasNodeInTime h (with_answer h' answer)
-      → Moved c words G op h h' Knows → Step c call words G op h (with_answer h' answer) Knows
-  answered c call words G op h h' answer Knows tells in_time step = record {
-    move = step.move;
-    ready = step.ready;
-    made = step.made;
-    does = does-answered step.move op (old_of words op) h h' answer step.binds_none step.does;
-    says = inl (record {
-      agree = step.agree;
-      said = SaysStill-agree env.config.kind c call (owners (mem words) G)
-          (owners (mem (applied words op)) (ghost_after c step.move G))
-          h.answer answer step.agree (told-says env.config.kind c call h.node (owners (mem words) G)
-          h.answer answer tells);
-    });
-    right = told-right env.config.kind c call h.node (owners (mem words) G) h.answer answer tells;
-    in_time = in_time;
-    outs = ap (λ o. o + outs_of h.answer) step.outs
-        ∙ ap (λ o. outs env mix G c + o) (sym (told-outs env.config.kind c call h.node
-        (owners (mem words) G) h.answer answer tells));
-    knows = step.knows;
-  }
+      → Moved c words G op h h' Knows → StepWhere There There' c call words G op h (with_answer h' answer) Knows
+  answered {There} {There'} c call words G op h h' answer Knows tells in_time step =
+      answered_where There There' c call words G op h h' answer None Knows (inl tells)
+      (none_early env.config.kind c call There There' (owners (mem words) G) h.early None refl) in_time step
 
   -- a load, after which nothing more is known of the answer, or it is told
-  pub reads : (c : ℕ) (call : Call) (words : List ℕ) (G : Ghost) (op : Op) (h h' : Holding)
+  pub reads : {There There' : Type 0} (c : ℕ) (call : Call) (words : List ℕ) (G : Ghost) (op : Op) (h h' : Holding)
       (Knows : Memory → Ghost → Type 0)
-      → Whole env mix (mem words) G → word_after (old_of words op) op ≡ old_of words op → HoldsSame h h'
+      → Whole env mix (mem words) G → word_after (old_of words op) op ≡ old_of words op → HoldsNoneEarly h h'
       → Tells env.config.kind c call h.node (owners (mem words) G) h.answer h'.answer → Knows (mem words) G
-      → Step c call words G op h h' Knows
-  reads c call words G op h h' Knows whole same holds tells knows =
-      let step = answered c call words G op h h' h'.answer Knows tells
-      (still_has (ap (λ (x : Holding). x.node) holds))
-      (loads c words G op h h' Knows whole same holds knows) in
+      → StepWhere There There' c call words G op h h' Knows
+  reads {There} {There'} c call words G op h h' Knows whole same holds tells knows =
+      let none : h'.early ≡ None = ap (λ (x : Holding). x.early) holds in
+      let too : HoldsSame h h' = holds ∙ ap (with_known h h'.answer) (sym none) in
+      let step = answered_where There There' c call words G op h h' h'.answer h'.early Knows (inl tells)
+      (none_early env.config.kind c call There There' (owners (mem words) G) h.early h'.early none)
+      (still_has (ap (λ (x : Holding). x.node) holds)) (loads c words G op h h' Knows whole same too knows) in
       record {
         move = step.move;
         ready = step.ready;
         made = step.made;
         does = step.does;
         says = step.says;
+        early = step.early;
         right = step.right;
         in_time = record { taken = step.in_time.taken; gone = step.in_time.gone };
         outs = step.outs;

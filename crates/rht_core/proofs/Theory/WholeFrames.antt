@@ -1,17 +1,18 @@
 -- What a step leaves of the parts of the whole where it writes elsewhere.
-use Rattle.std.proofs.Common.{◌≡◌, ◌≢◌, ◌⊎◌, ◌↔◌, ℕ, ◌+◌, ◌*◌, ◌/◌, ◌%◌, ◌<◌, ◌≤◌, ◌∷◌, Option, Some, None, Bool, true, refl, sym, ◌∙◌, ap, subst, inl, inr, arith}
+use Rattle.std.proofs.Common.{◌≡◌, ◌≢◌, ◌⊎◌, ◌↔◌, ℕ, ◌+◌, ◌*◌, ◌/◌, ◌%◌, ◌<◌, Option, Some, None, Bool, true, false, refl, sym, ◌∙◌, ap, subst, inl, inr, arith}
 use Rattle.std.specs.Int.{bit_at}
+use Rattle.std.proofs.lemmas.Bool.{both_ways}
 use Rattle.rht_words.specs.declared.env.Env.{Env}
 use Rattle.rht_words.specs.Places.{Address, CurrentTable, WorkLock, PortCount, Slot, SlotWord, ShapeWord, SeedWord, FutureWord, StateWord, NodeMap, PageMap, ChainLink, KeyWord, ListLink, PageWord}
-use Rattle.rht_words.specs.Shapes.{unpacked, size_of}
 use Rattle.rht_words.proofs.Memory.{Memory, IsWrite}
 use Rattle.rht_words.specs.Members.{In}
 use Rattle.rht_words.proofs.ChainLemmas.{IsSegment-members}
 use Rattle.rht_words.specs.Links.{head_of}
-use Rattle.rht_core.proofs.Theory.Ghosts.{Table, Bucket, Owner, First, Leaving, Behind, Ghost, lock_bit, state_word, is_used, IsUsed, PageOwner, PageFree, PageHeld, PageOf, SlotOwner, seat_of, seat, seat-used, has_table, table_at}
-use Rattle.rht_core.proofs.Theory.Wholes.{retired_stay, chain_of, list_of, key_of, place_at, home, stop, pages_of, IsNoBucket, TableRight, TablesRight, SlotsRight, PagesRight, LockedRight, BucketRight, ChainedRight, ArmedRight, OutRight, MovingRight, IsHomeOf, IsLeavingAt, Owned, ArenaRight, Whole, out-seated, firsts, raisers}
-use Rattle.rht_core.proofs.Theory.Passed.{PassesStay}
-use Rattle.rht_core.proofs.Theory.Frames.{IsNoTableWord, SameTables, UsedStay, first_stays, passes_same, same_tables, seat_stays, still}
+use Rattle.rht_core.proofs.Theory.Ghosts.{Table, Bucket, Owner, First, Leaving, Behind, Ghost, lock_bit, state_word, is_used, IsUsed, PageOwner, PageFree, PageHeld, PageOf, SlotOwner, seat_of, seat-used, has_table, table_at, is_entry, entry_word}
+use Rattle.rht_core.proofs.Theory.Ways.{IsSpareIn}
+use Rattle.rht_core.proofs.Theory.Wholes.{retired_stay, chain_of, list_of, key_of, place_at, home, stop, IsNoBucket, EntriesRight, TableRight, TablesRight, SlotsRight, PagesRight, LockedRight, BucketRight, ChainedRight, ArmedRight, OutRight, MovingRight, IsHomeOf, IsLeavingAt, Owned, ArenaRight, Whole, out-seated, firsts, raisers}
+use Rattle.rht_core.proofs.Theory.Passed.{held-no_entry, PassesStay}
+use Rattle.rht_core.proofs.Theory.Frames.{IsNoTableWord, SameTables, UsedStay, first_stays, passes_same, same_tables, seat_stays}
 
 module _ (env : Env) (mix : ℕ → ℕ → ℕ → ℕ) where
   -- ---- the parts of the whole
@@ -61,15 +62,10 @@ module _ (env : Env) (mix : ℕ → ℕ → ℕ → ℕ) where
           shape_is = r.shape_is;
           seed_is = r.seed_is;
           future_is = r.future_is;
-          placed = record {
-            flat = r.placed.flat;
-            fits = r.placed.fits;
-            places = r.placed.places;
-            pages =
-                r.placed.pages;
-          };
+          placed = r.placed;
         };
         slots = λ s has. let is = right.slots s has in record { attached = is.attached; slot = is.slot };
+        flat = right.flat;
       } in
       subst (λ t. TablesRight env mix M (with_tables G' t G'.attached G'.current G'.slot G'.page))
       (sym same.table)
@@ -89,6 +85,7 @@ module _ (env : Env) (mix : ℕ → ℕ → ℕ → ℕ) where
     current_is = write.others CurrentTable tt apart.current ∙ right.current_is;
     each = λ τ l. TableRight-write M M' G a v τ write apart (right.each τ l);
     slots = right.slots;
+    flat = right.flat;
   })
 
   -- slots and the work lock
@@ -99,9 +96,13 @@ module _ (env : Env) (mix : ℕ → ℕ → ℕ → ℕ) where
     states = λ s l. write.others (Slot s StateWord) (l, tt) (states s) ∙ right.states s l
         ∙ sym (ap (λ slot. state_word (slot s)) same.slot);
     worker_is = write.others WorkLock tt lock ∙ right.worker_is ∙ sym (ap lock_bit same.worker);
-    retired = λ idle. retired_stay G G' None same.current (λ τ l. ap (λ t. t τ) same.table)
+    retired = λ idle. retired_stay G G' None same.current (λ τ l. ap (λ t. (t τ).slot) same.table)
         (λ s τ is. ap (λ slot. slot s) same.slot ∙ is) (right.retired (sym same.worker ∙ idle));
   }
+
+  -- a bucket's table is what it was
+  pub table_at-same : (G G' : Ghost) (j : ℕ) → SameTables env mix G G' → table_at G' j ≡ table_at G j
+  table_at-same G G' j same = ap (λ p. table_at (record G { page = p }) j) same.page
 
   -- by the tables alone
   pub no_bucket : (G G' : Ghost) → G'.table ≡ G.table → (owner : PageOwner) (j : ℕ)
@@ -109,8 +110,7 @@ module _ (env : Env) (mix : ℕ → ℕ → ℕ → ℕ) where
   no_bucket G G' same PageFree j is = tt
   no_bucket G G' same (PageHeld c) j is = tt
   no_bucket G G' same (PageOf τ) j is =
-      let shape : (G'.table τ).shape ≡ (G.table τ).shape = ap (λ t. (t τ).shape) same in
-      subst (λ w. 64 * (unpacked w).page + size_of (unpacked w) ≤ j) shape is
+      subst (λ (t : ℕ → Table). IsSpareIn (t τ).shape ((t τ).part (j / 64)) j) same is
 
   -- pages, where the bucket of no blank word changes
   pub PagesRight-write : (M M' : Memory) (G G' : Ghost) (a : Address) (v : ℕ) → IsWrite env.geometry M M' a v
@@ -120,14 +120,7 @@ module _ (env : Env) (mix : ℕ → ℕ → ℕ → ℕ) where
   PagesRight-write M M' G G' a v write apart same blanks right = record {
     bits = λ p l. subst (λ page. (bit_at (M' (PageMap (p / 64))) (p % 64) ≡ 1) ↔ (page p ≡ PageFree))
         (sym same.page) (rw (write.others (PageMap (p / 64)) (omega arith) (apart (p / 64))) (right.bits p l));
-    page_of = λ p τ is.
-        let of = right.page_of p τ (ap (λ page. page p) (sym same.page) ∙ is) in
-        record {
-          attached = omega (arith, of.attached, same.attached);
-          from = subst (λ (t : ℕ → Table). (unpacked (t τ).shape).page ≤ p) (sym same.table) of.from;
-          below = subst (λ (t : ℕ → Table). p < (unpacked (t τ).shape).page + pages_of env mix (t τ).shape)
-              (sym same.table) of.below;
-        };
+    page_of = λ p τ is. omega (arith, right.page_of p τ (ap (λ page. page p) (sym same.page) ∙ is), same.attached);
     blank = λ j is.
         let was : IsNoBucket env mix G (G.page (j / 64)) j =
         subst (λ (t : ℕ → Table). IsNoBucket env mix (record G { table = t }) (G.page (j / 64)) j) same.table
@@ -135,6 +128,32 @@ module _ (env : Env) (mix : ℕ → ℕ → ℕ → ℕ) where
         (no_bucket (record G { table = G'.table }) G' refl (G'.page (j / 64)) j is)) in
         blanks j was ∙ right.blank j was;
   }
+
+  -- ---- entries of tables
+
+  -- which words are entries, by the tables alone
+  pub is_entry-same : (G G' : Ghost) (j : ℕ) → SameTables env mix G G' → is_entry G' j ≡ is_entry G j
+  is_entry-same G G' j same =
+      ap (λ page. is_entry (record G' { page = page }) j) same.page
+      ∙ ap (λ table. is_entry (record G { table = table }) j) same.table
+
+  -- the address is no entry's
+  abbrev pub IsNoEntry : Ghost → Address → Type 0
+  IsNoEntry G a = (j : ℕ) → is_entry G j ≡ true → PageWord j ≢ a
+
+  -- so it is of a store to no page, or in a bucket that somebody has locked
+  pub locked-no_entry : (M : Memory) (G : Ghost) (a : Address) (d here : ℕ) → Whole env mix M G
+      → (G.bucket here).holder ≡ Some d → ((j : ℕ) → j ≢ here → PageWord j ≢ a) → IsNoEntry G a
+  locked-no_entry M G a d here whole holds others j is =
+      others j (λ e. both_ways (is_entry G here) (held-no_entry env mix M G whole here d holds) (ap (is_entry G) (sym e) ∙ is))
+
+  pub EntriesRight-write : (M M' : Memory) (G G' : Ghost) (a : Address) (v : ℕ) → IsWrite env.geometry M M' a v
+      → IsNoEntry G a → SameTables env mix G G' → EntriesRight env mix M G → EntriesRight env mix M' G'
+  EntriesRight-write M M' G G' a v write apart same right j l is =
+      let was = sym (is_entry-same G G' j same) ∙ is in
+      write.others (PageWord j) l (apart j was) ∙ right j l was
+      ∙ ap (λ τ. entry_word ((G.table τ).entry j)) (sym (table_at-same G G' j same))
+      ∙ ap (λ t. entry_word ((t (table_at G' j)).entry j)) (sym same.table)
 
   LockedRight-frame : (M M' : Memory) (j : ℕ) (b : Bucket) → M' (PageWord j) ≡ M (PageWord j)
       → LockedRight env mix M j b
@@ -174,10 +193,6 @@ module _ (env : Env) (mix : ℕ → ℕ → ℕ → ℕ) where
         current = omega (arith, table, same.current, home_of.current);
         attached = omega (arith, table, same.attached, home_of.attached);
       }
-
-  -- a bucket's table is what it was
-  pub table_at-same : (G G' : Ghost) (j : ℕ) → SameTables env mix G G' → table_at G' j ≡ table_at G j
-  table_at-same G G' j same = ap (λ p. table_at (record G { page = p }) j) same.page
 
   -- What is on its way stays, where other nodes and buckets change: who is armed was so, and has the bucket still, or is so rightly; the
   -- buckets stay of a caller that has an entry on its way; and so do those entries, and what their ports are bound to.
@@ -405,21 +420,24 @@ module _ (env : Env) (mix : ℕ → ℕ → ℕ → ℕ) where
   -- What is left to show of a store to no word of a table, where chains and their nodes' words stay: that no blank bucket changes, and
   -- that locks, the map of nodes and the count are right.
   pub Whole-frame : (M M' : Memory) (G G' : Ghost) (a : Address) (v : ℕ) → Whole env mix M G
-      → IsWrite env.geometry M M' a v → IsNoTableWord env mix a
+      → IsWrite env.geometry M M' a v → IsNoTableWord env mix a → IsNoEntry G a
       → SameChains G G' → UsedStay env mix M G M'
       → ((j : ℕ) → IsNoBucket env mix G (G.page (j / 64)) j → G'.bucket j ≡ G.bucket j)
-      → ((j : ℕ) → j < 64 * env.geometry.pages → LockedRight env mix M' j (G'.bucket j))
+      → ((j : ℕ) → j < 64 * env.geometry.pages → is_entry G j ≡ false → LockedRight env mix M' j (G'.bucket j))
       → ArenaRight env mix M' G' → M' PortCount ≡ firsts env mix G' + raisers env mix G' → Whole env mix M' G'
-  Whole-frame M M' G G' a v whole write apart same words blanks locked arena counted = record {
+  Whole-frame M M' G G' a v whole write apart no_entry same words blanks locked arena counted = record {
     tables = TablesRight-write M M' G G' a v write (is_apart G a apart) same.tables whole.tables;
     slots = SlotsRight-write M M' G G' a v write apart.work (λ s. apart.slots s StateWord) same.tables whole.slots;
     pages = PagesRight-write M M' G G' a v write apart.pages same.tables blanks whole.pages;
-    buckets = λ j l. record {
-      locked = locked j l;
-      chained = ChainedRight-frame M M' j (G.bucket j) (G'.bucket j) (same.nodes j) (same.plain j) (same.out j)
-          (λ n i. first_stays env mix M M' G whole words n j ChainLink (whole.owned.member j n i))
-          (whole.buckets j l).chained;
-    };
+    buckets = λ j l is.
+        let was = sym (is_entry-same G G' j same.tables) ∙ is in
+        record {
+          locked = locked j l was;
+          chained = ChainedRight-frame M M' j (G.bucket j) (G'.bucket j) (same.nodes j) (same.plain j) (same.out j)
+              (λ n i. first_stays env mix M M' G whole words n j ChainLink (whole.owned.member j n i))
+              (whole.buckets j l was).chained;
+        };
+    entries = EntriesRight-write M M' G G' a v write no_entry same.tables whole.entries;
     moving = MovingRight-frame M M' G G' whole same.tables (chains_moving M G G' whole same)
         (entry_words M M' G whole words);
     owned = Owned-frame M M' G G' whole (record {
@@ -437,11 +455,11 @@ module _ (env : Env) (mix : ℕ → ℕ → ℕ → ℕ) where
   module _ (M M' : Memory) (G : Ghost) (a : Address) (v : ℕ) (whole : Whole env mix M G)
       (write : IsWrite env.geometry M M' a v) where
     -- locks are right where no bucket's word is written
-    pub locks_stay : ((j : ℕ) → PageWord j ≢ a) → (j : ℕ) → j < 64 * env.geometry.pages
+    pub locks_stay : ((j : ℕ) → PageWord j ≢ a) → (j : ℕ) → j < 64 * env.geometry.pages → is_entry G j ≡ false
         → LockedRight env mix M' j (G.bucket j)
-    locks_stay apart j l =
+    locks_stay apart j l is =
         LockedRight-frame M M' j (G.bucket j) (write.others (PageWord j) l (apart j))
-        (whole.buckets j l).locked
+        (whole.buckets j l is).locked
 
     -- and the map of nodes where none of its words is, and nodes have whom they had
     pub arena_stays : (G' : Ghost) → G'.node ≡ G.node → ((i : ℕ) → NodeMap i ≢ a) → ArenaRight env mix M' G'

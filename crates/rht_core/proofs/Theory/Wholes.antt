@@ -1,6 +1,6 @@
 -- What is true of the words and the ghost after each event of each run. Tables stand in the order in which they were attached.
 -- The first of the nodes to which a port is bound stands in a chain, and the others in its list behind it.
-use Rattle.std.proofs.Common.{◌≡◌, ◌↔◌, ℕ, ◌^◌, ◌+◌, ◌-◌, ◌*◌, ◌⊎◌, ◌/◌, ◌%◌, ◌<◌, ◌≤◌, max, nat_lt, cond, true, List, [], ◌∷◌, Option, Some, None, arith, refl, sym, ap, ◌∙◌, ◌≢◌, inl, inr}
+use Rattle.std.proofs.Common.{◌≡◌, ◌↔◌, ℕ, ◌^◌, ◌+◌, ◌-◌, ◌*◌, ◌⊎◌, ◌/◌, ◌%◌, ◌<◌, ◌≤◌, max, nat_lt, cond, true, false, List, [], ◌∷◌, Option, Some, None, arith, refl, sym, ap, ◌∙◌, ◌≢◌, inl, inr}
 use Rattle.std.specs.Int.{bit_at}
 use Rattle.rht_words.specs.declared.env.Env.{Env}
 use Rattle.rht_words.specs.declared.config.Kind.TheVariants.{Single}
@@ -12,7 +12,8 @@ use Rattle.rht_words.proofs.Memory.{Memory}
 use Rattle.rht_words.specs.Members.{In, IsDistinct}
 use Rattle.rht_words.proofs.Members.{count_below}
 use Rattle.rht_policy.specs.Mix.{bucket_of}
-use Rattle.rht_core.proofs.Theory.Ghosts.{Table, Bucket, blank_bucket, Owner, Free, Held, First, Leaving, Behind, Taken, Ghost, Live, Retired, lock_bit, state_word, is_first, is_taken_by, seat_of, seated, table_at, has_table, index_at, PageOwner, PageFree, PageHeld, PageOf}
+use Rattle.rht_core.proofs.Theory.Ghosts.{Part, Row, Top, has_entries, Table, Bucket, blank_bucket, Owner, Free, Held, First, Leaving, Behind, Taken, Ghost, Live, Retired, lock_bit, state_word, is_first, is_taken_by, seat_of, seated, table_at, has_table, index_at, PageOwner, PageFree, PageHeld, PageOf, is_entry, entry_word}
+use Rattle.rht_core.proofs.Theory.Ways.{first_page, child, followed, IsSpareIn, StandsAs, IsNestedShape}
 
 -- the links behind nodes
 abbrev pub chain_of : Memory → ℕ → ℕ
@@ -31,13 +32,13 @@ abbrev pub AreRetired : Ghost → Option ℕ → Type 0
 AreRetired G slot =
     (τ : ℕ) → τ < G.current → (slot ≡ Some (G.table τ).slot) ⊎ (G.slot (G.table τ).slot ≡ Retired τ)
 
--- it is so still where the same table is the current one, and those before it, and those that are retired, stay what they are
+-- it is so still where the same table is the current one, those before it keep their slots, and those that are retired are so still
 pub retired_stay : (G G' : Ghost) (slot : Option ℕ) → G'.current ≡ G.current
-    → ((τ : ℕ) → τ < G.current → G'.table τ ≡ G.table τ)
+    → ((τ : ℕ) → τ < G.current → (G'.table τ).slot ≡ (G.table τ).slot)
     → ((s τ : ℕ) → G.slot s ≡ Retired τ → G'.slot s ≡ Retired τ) → AreRetired G slot → AreRetired G' slot
 retired_stay G G' slot current tables slots is τ l =
     let before : τ < G.current = omega (arith, l, current) in
-    let same : (G'.table τ).slot ≡ (G.table τ).slot = ap (λ (t : Table). t.slot) (tables τ before) in
+    let same = tables τ before in
     elim (is τ before) [
       | inl left ↦ inl (left ∙ ap Some (sym same))
       | inr done ↦ inr (ap G'.slot same ∙ slots (G.table τ).slot τ done)
@@ -73,15 +74,46 @@ module _ (env : Env) (mix : ℕ → ℕ → ℕ → ℕ) where
   abbrev pub future_in : Ghost → ℕ → ℕ
   future_in G τ = cond (nat_lt (τ + 1) G.attached) (future_of (G.table (τ + 1)).slot) 0
 
-  -- The buckets of a flat table stand in a row from its first page on, and these pages are the table's.
-  pub record PlacedRight (G : Ghost) (τ : ℕ) : Type 0 where
-    pub flat : (unpacked (G.table τ).shape).nest ≡ 0
-    pub fits : 64 * (unpacked (G.table τ).shape).page + size_of (unpacked (G.table τ).shape) ≤ 64 *
-        env.geometry.pages
-    pub places : (b : ℕ) → b < size_of (unpacked (G.table τ).shape)
-        → (G.table τ).place b ≡ Some (64 * (unpacked (G.table τ).shape).page + b)
-    pub pages : (b : ℕ) → b < size_of (unpacked (G.table τ).shape)
-        → G.page ((64 * (unpacked (G.table τ).shape).page + b) / 64) ≡ PageOf τ
+  -- how many pages a flat table takes, the first of which its shape names; and the page is one of these
+  abbrev pub pages_of : ℕ → ℕ
+  pages_of shape = max 1 (size_of (unpacked shape) / 64)
+
+  pub record IsOfRun (shape p : ℕ) : Type 0 where
+    pub from : first_page shape ≤ p
+    pub below : p < first_page shape + pages_of shape
+
+  -- The buckets of a flat table stand in a row from its first page on. Its pages are those of this run, and have nothing else.
+  pub record IsFlat (table : Table) (page : ℕ → PageOwner) (τ : ℕ) : Type 0 where
+    pub flat : (unpacked table.shape).nest ≡ 0
+    pub fits : 64 * first_page table.shape + size_of (unpacked table.shape) ≤ 64 * env.geometry.pages
+    pub places : (b : ℕ) → b < size_of (unpacked table.shape)
+        → table.place b ≡ Some (64 * first_page table.shape + b)
+    pub pages : (b : ℕ) → b < size_of (unpacked table.shape)
+        → page ((64 * first_page table.shape + b) / 64) ≡ PageOf τ
+    pub run : (p : ℕ) → page p ≡ PageOf τ → IsOfRun table.shape p
+    pub rows : (p : ℕ) → page p ≡ PageOf τ → table.part p ≡ Row
+
+  -- this is a page of the table, and has what is behind this entry of a page with this part
+  pub record IsBehind (table : Table) (page : ℕ → PageOwner) (τ : ℕ) (part : Part) (index p : ℕ) : Type 0 where
+    pub within : p < env.geometry.pages
+    pub of : page p ≡ PageOf τ
+    pub part_is : table.part p ≡ child table.shape part index
+
+  -- A nested table has its top page, and each of its pages stands where its part is to stand. Its entries lead to pages of its own, and
+  -- its buckets are where they lead.
+  pub record IsNested (table : Table) (page : ℕ → PageOwner) (τ : ℕ) : Type 0 where
+    pub shaped : IsNestedShape table.shape
+    pub top_within : first_page table.shape < env.geometry.pages
+    pub top_of : page (first_page table.shape) ≡ PageOf τ
+    pub top_part : table.part (first_page table.shape) ≡ Top
+    pub stands : (p : ℕ) → page p ≡ PageOf τ → StandsAs table p (table.part p)
+    pub leads : (j p : ℕ) → page (j / 64) ≡ PageOf τ → has_entries (table.part (j / 64)) ≡ true
+        → table.entry j ≡ Some p → IsBehind table page τ (table.part (j / 64)) (j % 64) p
+    pub places : (b : ℕ) → table.place b ≡ followed table b
+
+  -- where the buckets of a table stand, which is flat or nested, and which pages it has
+  abbrev pub PlacedRight : Table → (ℕ → PageOwner) → ℕ → Type 0
+  PlacedRight table page τ = IsFlat table page τ ⊎ IsNested table page τ
 
   -- a table that has been attached has its slot, whose words say what the ghost does
   pub record TableRight (M : Memory) (G : Ghost) (τ : ℕ) : Type 0 where
@@ -92,7 +124,7 @@ module _ (env : Env) (mix : ℕ → ℕ → ℕ → ℕ) where
     pub shape_is : M (Slot (G.table τ).slot ShapeWord) ≡ (G.table τ).shape
     pub seed_is : M (Slot (G.table τ).slot SeedWord) ≡ (G.table τ).seed
     pub future_is : M (Slot (G.table τ).slot FutureWord) ≡ future_in G τ
-    pub placed : PlacedRight G τ
+    pub placed : PlacedRight (G.table τ) G.page τ
 
   -- a slot that has a table is that table's
   pub record SlotIsOf (G : Ghost) (s : ℕ) : Type 0 where
@@ -104,6 +136,8 @@ module _ (env : Env) (mix : ℕ → ℕ → ℕ → ℕ) where
     pub current_is : M CurrentTable ≡ (G.table G.current).slot
     pub each : (τ : ℕ) → τ < G.attached → TableRight M G τ
     pub slots : (s : ℕ) → has_table (G.slot s) ≡ true → SlotIsOf G s
+    -- so far each table is flat
+    pub flat : (τ : ℕ) → τ < G.attached → (unpacked (G.table τ).shape).nest ≡ 0
 
   -- The state word of each slot says who has it, and the work lock is set exactly while a caller has it. While none has it each table
   -- before the current one is retired.
@@ -112,29 +146,18 @@ module _ (env : Env) (mix : ℕ → ℕ → ℕ → ℕ) where
     pub worker_is : M WorkLock ≡ lock_bit G.worker
     pub retired : G.worker ≡ None → AreRetired G None
 
-  -- how many pages a table takes, the first of which its shape names
-  abbrev pub pages_of : ℕ → ℕ
-  pages_of shape = max 1 (size_of (unpacked shape) / 64)
-
-  -- the page is one of those of a table that was attached
-  pub record IsPageOf (G : Ghost) (p τ : ℕ) : Type 0 where
-    pub attached : τ < G.attached
-    pub from : (unpacked (G.table τ).shape).page ≤ p
-    pub below : p < (unpacked (G.table τ).shape).page + pages_of (G.table τ).shape
-
   -- the word with this index among those of all pages is the word of no table's bucket
   abbrev pub IsNoBucket : Ghost → PageOwner → ℕ → Type 0
   IsNoBucket G PageFree j = Unit {0}
   IsNoBucket G (PageHeld c) j = Unit {0}
-  IsNoBucket G (PageOf τ) j = 64 * (unpacked (G.table τ).shape).page + size_of
-      (unpacked (G.table τ).shape) ≤ j
+  IsNoBucket G (PageOf τ) j = IsSpareIn (G.table τ).shape ((G.table τ).part (j / 64)) j
 
-  -- A page's bit is set exactly where nobody has the page. A table has the pages of its run alone, and each word of a page that is no
+  -- A page's bit is set exactly where nobody has the page. A table that has a page was attached, and each word of a page that is no
   -- bucket's is blank.
   pub record PagesRight (M : Memory) (G : Ghost) : Type 0 where
     pub bits : (p : ℕ) → p < env.geometry.pages
         → (bit_at (M (PageMap (p / 64))) (p % 64) ≡ 1) ↔ (G.page p ≡ PageFree)
-    pub page_of : (p τ : ℕ) → G.page p ≡ PageOf τ → IsPageOf G p τ
+    pub page_of : (p τ : ℕ) → G.page p ≡ PageOf τ → τ < G.attached
     pub blank : (j : ℕ) → IsNoBucket G (G.page (j / 64)) j → G.bucket j ≡ blank_bucket
 
   -- a bucket's word is odd exactly while somebody holds its lock
@@ -155,6 +178,14 @@ module _ (env : Env) (mix : ℕ → ℕ → ℕ → ℕ) where
   pub record BucketRight (M : Memory) (j : ℕ) (b : Bucket) : Type 0 where
     pub locked : LockedRight M j b
     pub chained : ChainedRight M j b
+
+  -- each word of a page is an entry of a table, or is a bucket's, or that of a blank one
+  abbrev pub BucketsRight : Memory → Ghost → Type 0
+  BucketsRight M G = (j : ℕ) → j < 64 * env.geometry.pages → is_entry G j ≡ false → BucketRight M j (G.bucket j)
+
+  abbrev pub EntriesRight : Memory → Ghost → Type 0
+  EntriesRight M G = (j : ℕ) → j < 64 * env.geometry.pages → is_entry G j ≡ true
+      → M (PageWord j) ≡ entry_word ((G.table (table_at G j)).entry j)
 
   -- the bucket is one of a table in force, and that to which the port belongs there
   pub record IsHomeOf (G : Ghost) (port j : ℕ) : Type 0 where
@@ -278,7 +309,8 @@ module _ (env : Env) (mix : ℕ → ℕ → ℕ → ℕ) where
     pub tables : TablesRight M G
     pub slots : SlotsRight M G
     pub pages : PagesRight M G
-    pub buckets : (j : ℕ) → j < 64 * env.geometry.pages → BucketRight M j (G.bucket j)
+    pub buckets : BucketsRight M G
+    pub entries : EntriesRight M G
     pub moving : MovingRight M G
     pub owned : Owned M G
     pub arena : ArenaRight M G

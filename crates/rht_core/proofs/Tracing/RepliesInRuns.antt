@@ -86,7 +86,7 @@ module _ (M : Type 0) (mix : ℕ → ℕ → ℕ → ℕ) (env : Env) where
   answer-right job did performs holds =
       let step = performs.step in
       known_so env.config.kind performs.caller (call_of job) (IsReplied (call_of job))
-      (IsReplied-same (call_of job)) _ _
+      (IsReplied-same (call_of job)) _ _ _ _
       (held_of job).answer (held_next (job_after mix env job did.old)).answer step.says
       (λ answer unknown known. (step.right answer unknown known).replied) holds
 

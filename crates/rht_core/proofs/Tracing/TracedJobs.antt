@@ -26,7 +26,7 @@ use Rattle.rht_core.specs.declared.book.Book.{Book}
 use Rattle.rht_core.specs.declared.local.Local.{Local}
 use Rattle.rht_core.specs.declared.local.Doing.{Doing}
 use Rattle.rht_core.specs.Locals.{is_idle, machine_of, local_after, ending_of}
-use Rattle.rht_core.specs.Jobs.{Job, call_of, first_job, job_plan, job_after, job_of, told, held_of, held_next}
+use Rattle.rht_core.specs.Jobs.{Job, call_of, first_job, job_plan, job_after, job_of, told}
 use Rattle.rht_core.specs.Runs.{Core, View, IsAdmitted, view_of, run_of, book_begun, book_after, finished_with}
 use Rattle.rht_core.specs.Traces.{Did, Past, Trace, Traced, trace_begun, trace_did, traced_of}
 use Rattle.rht_core.specs.Seen.{words_before}
@@ -36,8 +36,8 @@ use Rattle.rht_core.proofs.Events.JobsOfCallers.{is_no_job, has_ended, HasNoList
 use Rattle.rht_core.proofs.Events.RoomsOfCallers.{owners_beside-none, owners_after-stay}
 use Rattle.rht_core.proofs.Theory.Ghosts.{Ghost}
 use Rattle.rht_core.proofs.Theory.Wholes.{Whole}
-use Rattle.rht_core.proofs.Theory.Steps.{mem, Step}
-use Rattle.rht_core.proofs.Machines.JobSteps.{JobIn, JobKnows, JobNext}
+use Rattle.rht_core.proofs.Theory.Steps.{mem}
+use Rattle.rht_core.proofs.Machines.JobSteps.{JobIn, JobKnows, JobStepOf}
 use Rattle.rht_core.proofs.Tracing.TracedCallers.{IsMade, IsKeptTraced, traced_callers_keep}
 
 -- ---- the calls of a book
@@ -112,8 +112,7 @@ module _ (mix : ℕ → ℕ → ℕ → ℕ) (env : Env) where
     pub found : did.old ≡ old_of words did.op
     pub step :
         let r = job_after mix env job did.old in
-        Step env mix caller (call_of job) words ghost did.op (held_of job) (held_next r)
-        (JobNext env mix caller r)
+        JobStepOf env mix caller words ghost did.op job r
 
   -- the step of a caller is its job's, in these words
   pub record PerformsAs (doing : Option Job) (words : List ℕ) (did : Did) : Type 0 where
@@ -142,8 +141,7 @@ module _ (mix : ℕ → ℕ → ℕ → ℕ) (env : Env) where
           knows = of.knows;
           found = known.found;
           step = subst (λ old. let r = job_after mix env of.job old in
-              Step env mix c (call_of of.job) known.core.words known.ghost did.op (held_of of.job)
-              (held_next r) (JobNext env mix c r))
+              JobStepOf env mix c known.core.words known.ghost did.op of.job r)
               (sym known.found) of.step;
         };
         here = ap (λ (core : Core M). core.words) made.now;

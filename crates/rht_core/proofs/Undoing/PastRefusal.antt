@@ -14,9 +14,11 @@ use Rattle.rht_policy.specs.Mix.{bucket_of}
 use Rattle.rht_model.specs.declared.history.Call.{Call}
 use Rattle.rht_model.specs.declared.history.Call.TheVariants.{Bind, Rebind, Work}
 use Rattle.rht_model.specs.declared.history.Reply.{Reply}
-use Rattle.rht_nest.specs.Place.{bucket_place}
+use Rattle.rht_nest.specs.Place.{PlaceModel, flat_place, nested_place, place_after}
+use Rattle.rht_nest.specs.declared.place.Bucket.{Bucket}
+use Rattle.rht_nest.specs.declared.place.Bucket.TheVariants.{At, Absent}
 use Rattle.rht_nest.specs.Unmake.{UnmakeModel, unmake_new, unmake_after}
-use Rattle.rht_chain.specs.Lock.{LockModel, lock_after}
+use Rattle.rht_chain.specs.Lock.{lock_new, LockModel, lock_after}
 use Rattle.rht_chain.specs.Relink.{RelinkModel, relink_after}
 use Rattle.rht_bind.specs.Bind as bind_at
 use Rattle.rht_bind.specs.declared.bind.FoundList.{FoundList}
@@ -26,10 +28,10 @@ use Rattle.rht_release.specs.Rebind as rebind_at
 use Rattle.rht_release.specs.declared.found_port.FoundPort.{FoundPort}
 use Rattle.rht_release.specs.declared.rebind.RebindAt.{RebindAt}
 use Rattle.rht_release.specs.declared.rebind.RebindAt.TheVariants as rebinding
-use Rattle.rht_move.specs.Choice.{is_nested}
+use Rattle.rht_nest.specs.Tables.{is_nested}
 use Rattle.rht_move.specs.LastTable.{LastTableModel, last_table_after}
 use Rattle.rht_move.specs.LastEntry.{LastEntryModel, last_entry_after}
-use Rattle.rht_move.specs.Work.{after_at, locking_or_publish, bucket_or_publish, next_bucket, locked, unlocking, entry_table_seen, with_word, entry_or_empty, walked, second_or_stop, second_locked, cut_off, unlocked_bucket, retiring, unmade, future_or_idle}
+use Rattle.rht_move.specs.Work.{after_at, bucket_of_root, next_bucket, entry_passed, locked, unlocking, entry_table_seen, with_word, entry_or_empty, walked, second_locked, cut_off, unlocked_bucket, retiring, unmade, future_or_idle}
 use Rattle.rht_move.specs.declared.last_table.Last.{Last}
 use Rattle.rht_move.specs.declared.last_entry.Entry.{Entry}
 use Rattle.rht_move.specs.declared.rehash.Rehash.{Rehash}
@@ -50,6 +52,7 @@ bind_is_past (binding.Publish node table relink kick) = true
 bind_is_past (binding.Filling new) = false
 bind_is_past (binding.CurrentTable attempt) = false
 bind_is_past (binding.Locating attempt locate) = false
+bind_is_past (binding.Entering attempt table shape place grow) = false
 bind_is_past (binding.Probing attempt table shape probe) = false
 bind_is_past (binding.FoundOwner claimed found) = false
 bind_is_past (binding.ListLink list) = false
@@ -94,6 +97,7 @@ work_is_past (at.Attaching root last slot shape) = true
 work_is_past (at.Unmaking root unmake) = true
 work_is_past (at.RootFuture root due) = true
 work_is_past (at.RootShape root future again) = true
+work_is_past (at.Entry rehash number place) = true
 work_is_past (at.Locking rehash number lock) = true
 work_is_past (at.EntryTable emptying seek) = true
 work_is_past (at.Seed emptying last) = true
@@ -151,6 +155,7 @@ module _ (port owner : ℕ) (once : Bool) where
   bind-past mix env (binding.Filling new) old past = absurd (cc)
   bind-past mix env (binding.CurrentTable attempt) old past = absurd (cc)
   bind-past mix env (binding.Locating attempt locate) old past = absurd (cc)
+  bind-past mix env (binding.Entering attempt table shape place grow) old past = absurd (cc)
   bind-past mix env (binding.Probing attempt table shape probe) old past = absurd (cc)
   bind-past mix env (binding.FoundOwner claimed found) old past = absurd (cc)
   bind-past mix env (binding.ListLink list) old past = absurd (cc)
@@ -207,9 +212,11 @@ future-past : (root : ℕ) (due : Due) (future : Option ℕ) → work_is_past (f
 future-past root due None = refl
 future-past root due (Some future) = refl
 
-locking-past : (rehash : Rehash) (number : ℕ) (place : Option ℕ) → work_is_past (locking_or_publish rehash number place) ≡ true
-locking-past rehash number None = refl
-locking-past rehash number (Some place) = refl
+root-past : (g : Geometry) (rehash : Rehash) (number : ℕ) → work_is_past (bucket_of_root g rehash number) ≡ true
+root-past g rehash number =
+    cond_both (is_nested rehash.shape) (at.Entry rehash number (nested_place g rehash.shape number))
+    (at.Locking rehash number (lock_new (flat_place g rehash.shape number))) (λ state. work_is_past state ≡ true)
+    (λ t. refl) (λ f. refl)
 
 locked-past : (g : Geometry) (rehash : Rehash) (number : ℕ) (lock : LockModel) (next : Next ℕ)
     → work_is_past (locked g rehash number lock next) ≡ true
@@ -233,11 +240,6 @@ walked-past : (emptying : Emptying) (target : Target) (walk : LastEntryModel) (n
 walked-past emptying target walk Go = refl
 walked-past emptying target walk (Done entry) = refl
 
-second-past : (emptying : Emptying) (table : ℕ) (entry : Entry) (place : Option ℕ)
-    → work_is_past (second_or_stop emptying table entry place) ≡ true
-second-past emptying table entry None = refl
-second-past emptying table entry (Some place) = refl
-
 second_locked-past : (emptying : Emptying) (entry : Entry) (table : ℕ) (lock : LockModel) (next : Next ℕ)
     → work_is_past (second_locked emptying entry table lock next) ≡ true
 second_locked-past emptying entry table lock Go = refl
@@ -249,9 +251,15 @@ cut-past g emptying (Some before) = refl
 
 next-past : (g : Geometry) (rehash : Rehash) (number : ℕ) → work_is_past (next_bucket g rehash number) ≡ true
 next-past g rehash number =
-    cond_both (nat_lt (number + 1) (size_of (unpacked rehash.shape))) (bucket_or_publish g rehash (number + 1)) (at.Publishing rehash)
-    (λ state. work_is_past state ≡ true) (λ t. locking-past rehash (number + 1) (bucket_place g rehash.shape (number + 1)))
+    cond_both (nat_lt (number + 1) (size_of (unpacked rehash.shape))) (bucket_of_root g rehash (number + 1)) (at.Publishing rehash)
+    (λ state. work_is_past state ≡ true) (λ t. root-past g rehash (number + 1))
     (λ f. refl)
+
+passed-past : (g : Geometry) (rehash : Rehash) (number : ℕ) (place : PlaceModel) (next : Next Bucket)
+    → work_is_past (entry_passed g rehash number place next) ≡ true
+passed-past g rehash number place Go = refl
+passed-past g rehash number place (Done (At word)) = refl
+passed-past g rehash number place (Done (Absent entry)) = next-past g rehash number
 
 unlocked-past : (g : Geometry) (rehash : Rehash) (number : ℕ) (stop : Bool)
     → work_is_past (unlocked_bucket g rehash number stop) ≡ true
@@ -281,7 +289,9 @@ work-past mix env (at.Attaching root last slot shape) old past =
 work-past mix env (at.Unmaking root unmake) old past = unmade-past root (unmake_after unmake old).0 (unmake_after unmake old).1
 work-past mix env (at.RootFuture root due) old past = future-past root due (slot_of old)
 work-past mix env (at.RootShape root future again) old past =
-    locking-past (record { root = root; future = future; shape = old; again = again }) 0 (bucket_place env.geometry old 0)
+    root-past env.geometry (record { root = root; future = future; shape = old; again = again }) 0
+work-past mix env (at.Entry rehash number place) old past =
+    passed-past env.geometry rehash number (place_after place old).0 (place_after place old).1
 work-past mix env (at.Locking rehash number lock) old past =
     locked-past env.geometry rehash number (lock_after lock old).0 (lock_after lock old).1
 work-past mix env (at.EntryTable emptying seek) old past =
@@ -292,9 +302,7 @@ work-past mix env (at.BucketWord emptying target) old past =
     (node_of env.geometry.nodes (head_of emptying.bucket.place (unlocked old)))
 work-past mix env (at.Walking emptying target walk) old past =
     walked-past emptying target (last_entry_after walk old).0 (last_entry_after walk old).1
-work-past mix env (at.Key emptying target entry) old past =
-    second-past emptying target.table entry
-    (bucket_place env.geometry target.shape (bucket_of mix (port_of old) target.shape target.seed))
+work-past mix env (at.Key emptying target entry) old past = refl
 work-past mix env (at.LockingSecond emptying entry table lock) old past =
     second_locked-past emptying entry table (lock_after lock old).0 (lock_after lock old).1
 work-past mix env (at.EntryLink emptying entry second) old past = refl

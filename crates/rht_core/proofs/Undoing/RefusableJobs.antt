@@ -31,7 +31,6 @@ use Rattle.rht_core.specs.Jobs.{Job, finds, binds, lists, releases, rebinds, wor
 use Rattle.rht_core.specs.Traces.{Did}
 use Rattle.rht_core.specs.Refused.{StoresLast}
 use Rattle.rht_core.proofs.Theory.Ghosts.{Ghost, PageHeld}
-use Rattle.rht_core.proofs.Theory.Wholes.{pages_of}
 use Rattle.rht_core.proofs.Theory.Knowledge.{IsMade, MakingMeans}
 use Rattle.rht_core.proofs.Theory.Steps.{Holding}
 use Rattle.rht_core.proofs.Pieces.Makes.{known_of_make}
@@ -65,6 +64,7 @@ bind-refusable (binding.Publish node table relink kick) may = absurd (cc)
 bind-refusable (binding.Filling new) may = has_no_lock refl refl refl
 bind-refusable (binding.CurrentTable attempt) may = has_no_lock refl refl refl
 bind-refusable (binding.Locating attempt locate) may = has_no_lock refl refl refl
+bind-refusable (binding.Entering attempt table shape place grow) may = has_no_lock refl refl refl
 bind-refusable (binding.Probing attempt table shape probe) may = has_node refl refl attempt.node refl
 bind-refusable (binding.FoundOwner claimed found) may = has_node refl refl claimed.attempt.node refl
 bind-refusable (binding.ListLink list) may = has_node refl refl list.claimed.attempt.node refl
@@ -113,6 +113,7 @@ early_work (working.Attaching root last slot shape) may = absurd (cc)
 early_work (working.Unmaking root unmake) may = absurd (cc)
 early_work (working.RootFuture root due) may = absurd (cc)
 early_work (working.RootShape root future again) may = absurd (cc)
+early_work (working.Entry rehash number place) may = absurd (cc)
 early_work (working.Locking rehash number lock) may = absurd (cc)
 early_work (working.EntryTable emptying seek) may = absurd (cc)
 early_work (working.Seed emptying last) may = absurd (cc)
@@ -180,7 +181,7 @@ module _ (env : Env) (mix : ℕ → ℕ → ℕ → ℕ) (c : ℕ) (M : Memory) 
   make-mine exponent seed (makes.Serial slot page_first serial) means page i = means.mine page i
 
   -- those of a table that was made lie from its first page on, and are there
-  below_end : (shape page : ℕ) → In page (pages_of_shape shape) → page < (unpacked shape).page + pages_of env mix shape
+  below_end : (shape page : ℕ) → In page (pages_of_shape shape) → page < (unpacked shape).page + table_pages (unpacked shape)
   below_end shape page i = range_with_len-In (unpacked shape).page (table_pages (unpacked shape)) page i
 
   made-mine : (slot shape : ℕ) → IsMade env mix c M G slot shape → AreMine (pages_of_shape shape)
@@ -205,6 +206,8 @@ module _ (env : Env) (mix : ℕ → ℕ → ℕ → ℕ) (c : ℕ) (M : Memory) 
   bind-mine port owner once (binding.Filling new) may knows page i = absurd i
   bind-mine port owner once (binding.CurrentTable attempt) may knows page i = absurd i
   bind-mine port owner once (binding.Locating attempt locate) may knows page i = absurd i
+  bind-mine port owner once (binding.Entering attempt table shape place grow) may knows page i =
+      knows.knowing.means.making page i
   bind-mine port owner once (binding.Probing attempt table shape probe) may knows page i = absurd i
   bind-mine port owner once (binding.FoundOwner claimed found) may knows page i = absurd i
   bind-mine port owner once (binding.ListLink list) may knows page i = absurd i
@@ -278,6 +281,7 @@ module _ (env : Env) (mix : ℕ → ℕ → ℕ → ℕ) (c : ℕ) (M : Memory) 
     bind-attaches port owner once (binding.Filling new) may knows stored is has = absurd (cc)
     bind-attaches port owner once (binding.CurrentTable attempt) may knows stored is has = absurd (cc)
     bind-attaches port owner once (binding.Locating attempt locate) may knows stored is has = absurd (cc)
+    bind-attaches port owner once (binding.Entering attempt table shape place grow) may knows stored is has = absurd (cc)
     bind-attaches port owner once (binding.Probing attempt table shape probe) may knows stored is has = absurd (cc)
     bind-attaches port owner once (binding.FoundOwner claimed found) may knows stored is has = absurd (cc)
     bind-attaches port owner once (binding.ListLink list) may knows stored is has = absurd (cc)

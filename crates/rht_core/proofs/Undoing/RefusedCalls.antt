@@ -100,16 +100,17 @@ module _ (kind : Kind) (c : ℕ) (call : Call) (before after : Multimap) where
           absurd (changes.differs (changes.bindings port ∙ left_by-unchanged kind before entry (inl changes.answered) is port))
 
   -- one that is known stays so
-  change_stays : (was now : Option Answer) → Says kind c call before after was now → SaysChange was → SaysChange now
-  change_stays None now says so = absurd so
-  change_stays (Some was) None says so =
-      absurd (let none = unknown_before kind c call before after (Some was) None says refl in cc)
-  change_stays (Some was) (Some now) says so =
+  change_stays : (early : Option Answer) (There : Type 0) (was now : Option Answer)
+      → Says kind c call early There before after was now → SaysChange was → SaysChange now
+  change_stays early There None now says so = absurd so
+  change_stays early There (Some was) None says so =
+      absurd (let none = unknown_before kind c call early There before after (Some was) None says refl in cc)
+  change_stays early There (Some was) (Some now) says so =
       known_so kind c call (λ answer. is_change answer.reply ≡ true)
       (λ one other same is.
       same_reply (λ reply. is_change reply ≡ true)
       (record { bound = λ kick l e. refl; released = λ kick l e. refl }) one other same is)
-      before after (Some was) (Some now) says (λ answer none known. absurd (cc)) so
+      early There before after (Some was) (Some now) says (λ answer none known. absurd (cc)) so
 
 module _ (M : Type 0) (mix : ℕ → ℕ → ℕ → ℕ) (env : Env) (events : List Event) where
   abbrev g : Geometry
@@ -364,7 +365,7 @@ module _ (M : Type 0) (mix : ℕ → ℕ → ℕ → ℕ) (env : Env) (events : 
   goes job steps did performs here (inl past) = past-leads (steps ++ did ∷ []) job did.old past
   goes job steps did performs here (inr (inl says)) =
       change-leads (steps ++ did ∷ []) job (job_after mix env job did.old)
-      (change_stays env.config.kind performs.caller (call_of job) _ _ (held_of job).answer
+      (change_stays env.config.kind performs.caller (call_of job) _ _ _ _ (held_of job).answer
       (held_next (job_after mix env job did.old)).answer performs.step.says says)
   goes job steps did performs here (inr (inr kept)) = by_case (is_past job) refl
     where

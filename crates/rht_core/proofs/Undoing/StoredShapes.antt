@@ -9,6 +9,8 @@ use Rattle.rht_words.specs.declared.config.Kind.{Kind}
 use Rattle.rht_words.specs.declared.config.Kind.TheVariants.{Single, Listed}
 use Rattle.rht_words.specs.declared.geometry.Geometry.{Geometry}
 use Rattle.rht_words.specs.declared.machine.Next.{Next}
+use Rattle.rht_words.specs.declared.machine.Start.{Start}
+use Rattle.rht_words.specs.declared.machine.Start.TheVariants as starts
 use Rattle.rht_words.specs.declared.machine.Next.TheVariants.{Go, Done}
 use Rattle.rht_words.specs.declared.machine.Start.{Start}
 use Rattle.rht_words.specs.declared.machine.Start.TheVariants as starts
@@ -22,6 +24,10 @@ use Rattle.rht_arena.specs.NewNode.{NewNodeModel, new_node_after}
 use Rattle.rht_arena.specs.TakeRun.{TakeRunModel, take_run_new, take_run_after}
 use Rattle.rht_nest.specs.Locate.{LocateModel, locate_after}
 use Rattle.rht_nest.specs.declared.locate.Located.{Located}
+use Rattle.rht_nest.specs.declared.locate.LocatedBucket.{LocatedBucket}
+use Rattle.rht_nest.specs.declared.locate.LocatedBucket.TheVariants as buckets
+use Rattle.rht_nest.specs.Place.{PlaceModel, entered}
+use Rattle.rht_nest.specs.Grow.{GrowModel, grow_after}
 use Rattle.rht_nest.specs.Make.{MakeModel, make_plan_at, make_after_at, made_pages, made_shape, run_taken, run_started, slot_seen}
 use Rattle.rht_nest.specs.declared.make.MakeAt.{MakeAt}
 use Rattle.rht_nest.specs.declared.make.MakeAt.TheVariants as makes
@@ -31,7 +37,7 @@ use Rattle.rht_chain.specs.declared.probe.Probed.{Probed}
 use Rattle.rht_chain.specs.Relink.{RelinkModel, relink_after}
 use Rattle.rht_chain.specs.declared.locked.Then.{Then}
 use Rattle.rht_chain.specs.declared.locked.Then.TheVariants.{Table, Answer}
-use Rattle.rht_bind.specs.Bind.{plan_at, after_at, filled, bucket_or_no_table, located, bound_already, found_or_future, probed, replaced, future_or_count, checked_count, published, unlocked}
+use Rattle.rht_bind.specs.Bind.{plan_at, after_at, filled, at_bucket, behind_page, grown, located, bound_already, found_or_future, probed, replaced, future_or_count, checked_count, published, unlocked}
 use Rattle.rht_bind.specs.Growing.{size_grown, want_or_busy, made, ended_attempt, behind_attempt, refused_or_found, has_attached, checked_attach, unmade}
 use Rattle.rht_bind.specs.declared.bind.Attempt.{Attempt}
 use Rattle.rht_bind.specs.declared.bind.Claimed.{Claimed}
@@ -83,6 +89,7 @@ module _ (env : Env) where
   HasStored (at.Filling new) steps = Unit {0}
   HasStored (at.CurrentTable attempt) steps = Unit {0}
   HasStored (at.Locating attempt locate) steps = Unit {0}
+  HasStored (at.Entering attempt table shape place grow) steps = Unit {0}
   HasStored (at.Probing attempt table shape probe) steps = Unit {0}
   HasStored (at.FoundOwner claimed found) steps = Unit {0}
   HasStored (at.ListLink list) steps = Unit {0}
@@ -110,15 +117,28 @@ module _ (env : Env) where
     filled-stored new (Done None) = tt
     filled-stored new (Done (Some node)) = tt
 
-    place-stored : (port : ℕ) (attempt : Attempt) (table shape : ℕ) (place : Option ℕ)
-        → HasStored (bucket_or_no_table env port attempt table shape place) all
-    place-stored port attempt table shape None = tt
-    place-stored port attempt table shape (Some place) = tt
+    bucket-stored : (port : ℕ) (attempt : Attempt) (table shape : ℕ) (bucket : LocatedBucket)
+        → HasStored (at_bucket env port attempt table shape bucket) all
+    bucket-stored port attempt table shape (buckets.At place) = tt
+    bucket-stored port attempt table shape (buckets.Missing place (Some next)) = tt
+    bucket-stored port attempt table shape (buckets.Missing place None) = tt
+
+    page-stored : (port : ℕ) (attempt : Attempt) (table shape : ℕ) (start : Start PlaceModel ℕ)
+        → HasStored (behind_page env port attempt table shape start) all
+    page-stored port attempt table shape (starts.Running next) = tt
+    page-stored port attempt table shape (starts.Done place) = tt
+
+    grown-stored : (port : ℕ) (attempt : Attempt) (table shape : ℕ) (place : PlaceModel) (grow : GrowModel)
+        (next : Next (Option ℕ)) → HasStored (grown env port attempt table shape place grow next) all
+    grown-stored port attempt table shape place grow Go = tt
+    grown-stored port attempt table shape place grow (Done None) = tt
+    grown-stored port attempt table shape place grow (Done (Some page)) =
+        page-stored port attempt table shape (entered place page)
 
     located-stored : (port : ℕ) (attempt : Attempt) (locate : LocateModel) (next : Next Located)
         → HasStored (located env port attempt locate next) all
     located-stored port attempt locate Go = tt
-    located-stored port attempt locate (Done there) = place-stored port attempt locate.table there.shape there.place
+    located-stored port attempt locate (Done there) = bucket-stored port attempt locate.table there.shape there.bucket
 
     bound-stored : (kind : Kind) (claimed : Claimed) (first : ℕ) (before : Option ℕ)
         → HasStored (bound_already kind claimed first before) all
@@ -254,6 +274,8 @@ module _ (env : Env) where
   bind-stored mix port once (at.CurrentTable attempt) steps did is stored = tt
   bind-stored mix port once (at.Locating attempt locate) steps did is stored =
       let r = locate_after mix port locate did.old in located-stored (steps ++ did ∷ []) port attempt r.0 r.1
+  bind-stored mix port once (at.Entering attempt table shape place grow) steps did is stored =
+      let r = grow_after grow did.old in grown-stored (steps ++ did ∷ []) port attempt table shape place r.0 r.1
   bind-stored mix port once (at.Probing attempt table shape probe) steps did is stored =
       let r = probe_after probe did.old in
       probed-stored (steps ++ did ∷ []) env.config.kind attempt table shape r.0 r.1

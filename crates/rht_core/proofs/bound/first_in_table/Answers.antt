@@ -8,7 +8,7 @@ returns-then-is_some-clause-first c =
     let size = c.size-bucket-end.ensures.size ∙ ap size_of c.from.ensures in
     buckets-here _ c.args.words.now c.args.key _ _ c.loop-bucket.bucket _
     (subst (λ n. c.loop-bucket.bucket < n) size c.loop-bucket-test.true) c.loop-bucket.invariant
-    _ _ c.first_at-found.ensures.first c.place_of.ensures.place
+    _ _ c.first_at-found.ensures.first c.bucket_in.ensures.place
     (sym c.is_some.ensures ∙ c.if-is_some.true)
 
 pub loop-bucket-preserved : goal.loop-bucket-preserved
@@ -16,5 +16,5 @@ loop-bucket-preserved c =
     let size = c.size-bucket-end.ensures.size ∙ ap size_of c.from.ensures in
     buckets-past _ c.args.words.now c.args.key _ _ c.loop-bucket.bucket _
     (subst (λ n. c.loop-bucket.bucket < n) size c.loop-bucket-test.true) c.loop-bucket.invariant
-    _ _ c.first_at-found.ensures.first c.place_of.ensures.place
+    _ _ c.first_at-found.ensures.first c.bucket_in.ensures.place
     (sym c.is_some.ensures ∙ c.if-is_some.false)

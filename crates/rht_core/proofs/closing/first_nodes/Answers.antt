@@ -16,9 +16,9 @@ use Rattle.rht_words.specs.Members.{In, NotIn, IsDistinct}
 use Rattle.rht_words.proofs.Members.{flat_map-In, In-range_with_len, find-Some, not_in_from, in_and_not, In-AllByRecursion, count_below-most, length-count_below}
 use Rattle.rht_words.specs.Links.{node_of, head_of}
 use Rattle.rht_words.specs.Places.{Node, ChainLink, KeyWord, word_at}
-use Rattle.rht_nest.specs.Place.{bucket_place}
+use Rattle.rht_words.specs.Shapes.{unpacked, size_of}
 use Rattle.rht_model.proofs.RisingPorts.{RisesFrom, IsStrictlyIncreasing-from_rises}
-use Rattle.rht_core.specs.StandsFor.{in_force, chain_from, bucket_nodes, table_nodes, has_key, first_node}
+use Rattle.rht_core.specs.StandsFor.{in_force, chain_from, shape_of, bucket_in, bucket_nodes, table_nodes, has_key, first_node}
 use Rattle.rht_core.specs.Closing.{nodes_met, with_port, node_behind, marked, is_marked, marked_below, IsListable}
 use Rattle.rht_core.proofs.Pieces.RunPages.{filter-In, In-filter, range_with_len-from}
 use Rattle.rht_core.proofs.Meaning.MarkedNodes.{met-marked, marked-met, length-marked}
@@ -48,8 +48,9 @@ module _ (g : Geometry) (words : List ℕ) where
   met-among : (n : ℕ) → In n (nodes_met g words) → n < g.nodes
   met-among n i =
       let table = flat_map-In (table_nodes g words) n (in_force g words) i in
-      let bucket = flat_map-In (λ b. bucket_nodes g words (bucket_place g _ b)) n (range_with_len 0 _) table.2 in
-      bucket-among _ n bucket.2
+      let shape = shape_of g words table.0 in
+      let bucket = flat_map-In (λ b. bucket_nodes g words (bucket_in g words shape b)) n (range_with_len 0 (size_of (unpacked shape))) table.2 in
+      bucket-among (bucket_in g words shape bucket.0) n bucket.2
 
 -- ---- which nodes are put down
 

@@ -1,0 +1,131 @@
+-- The tables in force, as the words have them, are those from the current one on, in the order in which they were attached.
+use Rattle.std.proofs.Common.{◌≡◌, ℕ, zero, suc, ◌+◌, ◌-◌, ◌<◌, ◌≤◌, List, ◌∷◌, length, Option, Some, None, true, cond, refl, sym, ◌∙◌, ap, subst, inl, inr, arith, map}
+use Rattle.std.proofs.lemmas.Bool.{lt-ltb, le-ltb, cases_eq}
+use Rattle.std.specs.List.{AllByRecursion, range_with_len}
+use Rattle.rht_words.specs.declared.env.Env.{Env}
+use Rattle.rht_words.specs.declared.geometry.Geometry.{Geometry}
+use Rattle.rht_words.proofs.Memory.{Memory}
+use Rattle.rht_words.specs.Links.{table_of, future_of, slot_of}
+use Rattle.rht_words.specs.Places.{CurrentTable, Slot, FutureWord}
+use Rattle.rht_words.proofs.LinksRead.{entries_come_back}
+use Rattle.rht_words.specs.Members.{In, IsDistinct, NotIn}
+use Rattle.rht_words.proofs.Members.{count_below-most, length-count_below}
+use Rattle.rht_core.specs.StandsFor.{in_force, tables_from}
+use Rattle.rht_core.proofs.Theory.Ghosts.{Ghost, index_at}
+use Rattle.rht_core.proofs.Theory.Wholes.{Whole}
+use Rattle.rht_core.proofs.Theory.Steps.{mem}
+
+module _ (env : Env) (mix : ℕ → ℕ → ℕ → ℕ) (words : List ℕ) (G : Ghost)
+    (whole : Whole env mix (mem env mix words) G) where
+  abbrev g : Geometry
+  g = env.geometry
+
+  abbrev M : Memory
+  M = mem env mix words
+
+  -- the slots of the tables from this one on, where the last ones are attached
+  abbrev slots_from : ℕ → ℕ → List ℕ
+  slots_from τ count = map (λ σ. (G.table σ).slot) (range_with_len τ count)
+
+  -- the slot of the next table, where one is attached
+  abbrev next_slot : ℕ → ℕ → Option ℕ
+  next_slot τ zero = None
+  next_slot τ (suc count) = Some (G.table τ).slot
+
+  future-leads : (τ count : ℕ) → τ + 1 + count ≡ G.attached
+      → slot_of (M (Slot (G.table τ).slot FutureWord)) ≡ next_slot (τ + 1) count
+  future-leads τ zero all =
+      ap slot_of ((whole.tables.each τ (omega (arith, all))).future_is
+      ∙ ap (λ t. cond t (future_of (G.table (τ + 1)).slot) 0) (le-ltb (τ + 1) G.attached (omega (arith, all))))
+  future-leads τ (suc count) all =
+      let next = whole.tables.each (τ + 1) (omega (arith, all)) in
+      ap slot_of ((whole.tables.each τ (omega (arith, all))).future_is
+      ∙ ap (λ t. cond t (future_of (G.table (τ + 1)).slot) 0) (lt-ltb (τ + 1) G.attached (omega (arith, all))))
+      ∙ entries_come_back.future_names (G.table (τ + 1)).slot next.slot_in
+
+  tables_met : (left τ count : ℕ) → count ≤ left → τ + count ≡ G.attached
+      → tables_from g words left (next_slot τ count) ≡ slots_from τ count
+  tables_met zero τ zero fuel all = refl
+  tables_met (suc left) τ zero fuel all = refl
+  tables_met zero τ (suc count) fuel all = absurd (omega (arith, fuel))
+  tables_met (suc left) τ (suc count) fuel all =
+      ap (λ rest. (G.table τ).slot ∷ rest)
+      (ap (tables_from g words left) (future-leads τ count (omega (arith, all)))
+      ∙ tables_met left (τ + 1) count (omega (arith, fuel)) (omega (arith, all)))
+
+  -- tables have slots of their own, of which there are eight
+  own_slot : (τ σ : ℕ) → τ < G.attached → σ < G.attached → (G.table τ).slot ≡ (G.table σ).slot → τ ≡ σ
+  own_slot τ σ l m same =
+      sym (whole.tables.each τ l).index ∙ ap (index_at G) same ∙ (whole.tables.each σ m).index
+
+  slots_apart : (τ σ count : ℕ) → τ < σ → σ + count ≡ G.attached → NotIn (G.table τ).slot (slots_from σ count)
+  slots_apart τ σ zero less all = tt
+  slots_apart τ σ (suc count) less all = (
+    (λ same. let e = own_slot τ σ (omega (arith, less, all)) (omega (arith, all)) same in absurd (omega (arith, e, less))),
+    slots_apart τ (σ + 1) count (omega (arith, less)) (omega (arith, all)),
+  )
+
+  slots_distinct : (τ count : ℕ) → τ + count ≡ G.attached → IsDistinct (slots_from τ count)
+  slots_distinct τ zero all = tt
+  slots_distinct τ (suc count) all =
+      (slots_apart τ (τ + 1) count (omega arith) (omega (arith, all)), slots_distinct (τ + 1) count (omega (arith, all)))
+
+  slots_below : (τ count : ℕ) → τ + count ≡ G.attached → AllByRecursion (λ s. s < 8) (slots_from τ count)
+  slots_below τ zero all = tt
+  slots_below τ (suc count) all =
+      ((whole.tables.each τ (omega (arith, all))).slot_in, slots_below (τ + 1) count (omega (arith, all)))
+
+  slots_many : (τ count : ℕ) → length (slots_from τ count) ≡ count
+  slots_many τ zero = refl
+  slots_many τ (suc count) = ap suc (slots_many (τ + 1) count)
+
+  -- how many tables are in force
+  abbrev in_use : ℕ
+  in_use = G.attached - G.current
+
+  tables_in_force : in_force g words ≡ slots_from G.current in_use
+  tables_in_force = go in_use refl
+    where
+      go : (count : ℕ) → in_use ≡ count → in_force g words ≡ slots_from G.current count
+      go zero is = absurd (omega (arith, is, whole.tables.current_in))
+      go (suc count) is =
+          let all : G.current + suc count ≡ G.attached = omega (arith, is, whole.tables.current_in) in
+          let right = whole.tables.each G.current whole.tables.current_in in
+          let few = length-count_below (λ s. true) 8 (slots_from G.current (suc count))
+          (slots_distinct G.current (suc count) all) (slots_below G.current (suc count) all) (λ s i. refl) in
+          let most = count_below-most (λ s. true) 8 in
+          let fuel : suc count ≤ 8 = omega (arith, few, most, slots_many G.current (suc count)) in
+          let first : table_of (M CurrentTable) ≡ (G.table G.current).slot =
+          (let word = whole.tables.current_is in omega (arith, right.slot_in, word)) in
+          ap (λ s. tables_from g words 8 (Some s)) first ∙ tables_met 8 G.current (suc count) fuel all
+
+  -- a table in force is one of those from the current one on
+  pub record IsTableInForce (slot : ℕ) : Type 0 where
+    pub table : ℕ
+    pub current : G.current ≤ table
+    pub attached : table < G.attached
+    pub slot_is : slot ≡ (G.table table).slot
+
+  slot_in : (slot τ count : ℕ) → G.current ≤ τ → τ + count ≡ G.attached → In slot (slots_from τ count)
+      → IsTableInForce slot
+  slot_in slot τ zero low all i = absurd i
+  slot_in slot τ (suc count) low all i = elim i [
+    | inl e ↦ record { table = τ; current = low; attached = omega (arith, all); slot_is = e }
+    | inr k ↦ slot_in slot (τ + 1) count (omega (arith, low)) (omega (arith, all)) k
+  ]
+
+  pub in_force_is : (slot : ℕ) → In slot (in_force g words) → IsTableInForce slot
+  in_force_is slot i =
+      slot_in slot G.current in_use (omega arith) (let l = whole.tables.current_in in omega (arith, l))
+      (subst (In slot) tables_in_force i)
+
+  in_slots : (τ σ count : ℕ) → σ ≤ τ → τ < σ + count → In (G.table τ).slot (slots_from σ count)
+  in_slots τ σ zero low high = absurd (omega (arith, low, high))
+  in_slots τ σ (suc count) low high = elim (cases_eq τ σ) [
+    | inl e ↦ inl (ap (λ t. (G.table t).slot) e)
+    | inr ne ↦ inr (in_slots τ (σ + 1) count (omega (arith, low, ne)) (omega (arith, high)))
+  ]
+
+  pub table_in_force : (τ : ℕ) → G.current ≤ τ → τ < G.attached → In (G.table τ).slot (in_force g words)
+  table_in_force τ low high =
+      subst (In (G.table τ).slot) (sym tables_in_force) (in_slots τ G.current in_use low (omega (arith, low, high)))
