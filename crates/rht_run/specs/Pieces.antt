@@ -1,14 +1,19 @@
 -- Pieces that are driven part by part.
 use Rattle.std.specs.Prelude.{ℕ, Option, None, Some}
 use Rattle.rht_words.specs.declared.machine.Next.{Next}
+use Rattle.rht_words.specs.declared.machine.Next.TheVariants.{Go, Done}
 use Rattle.rht_arena.specs.NewNode.{NewNodeModel}
 use Rattle.rht_arena.specs.declared.new_node.NewNodeAt.{NewNodeAt}
 use Rattle.rht_arena.specs.declared.new_node.NewNodeAt.TheVariants as news
 use Rattle.rht_chain.specs.Probe.{ProbeModel}
 use Rattle.rht_chain.specs.declared.probe.Probed.{Probed}
 use Rattle.rht_chain.specs.declared.probe.ProbeAt.{ProbeAt}
+use Rattle.rht_nest.specs.Locate.{LocateModel, locate_after}
+use Rattle.rht_nest.specs.declared.locate.Located.{Located}
 use Rattle.rht_model.specs.declared.history.Reply.{Reply}
 use Rattle.rht_core.specs.declared.local.Doing.{Doing}
+use Rattle.rht_run.specs.declared.pieces.PortLocate.{PortLocate}
+use Rattle.rht_run.specs.declared.pieces.PortLocated.{PortLocated}
 
 -- the probe stands here, and says this
 abbrev pub probe_told : ProbeModel → ProbeAt × Next Probed → ProbeModel × Next Probed
@@ -23,3 +28,18 @@ abbrev pub node_then : {M : Type 0} → (NewNodeModel → Doing M) → (Option �
     → Option ℕ → Doing M × Option Reply
 node_then holding behind new None = behind None
 node_then holding behind new (Some node) = (holding (record new { at = news.Key node }), None)
+
+-- the finding of this port's bucket stands here
+abbrev pub port_locate : ℕ → LocateModel → PortLocate
+port_locate port locate = record { port = port; locate = locate }
+
+-- and says this, of the port and the table
+abbrev pub located_of : ℕ → ℕ → Next Located → Next PortLocated
+located_of port table Go = Go
+located_of port table (Done found) = Done (record { port = port; table = table; found = found })
+
+abbrev pub locate_told : ℕ → LocateModel × Next Located → PortLocate × Next PortLocated
+locate_told port next = (port_locate port next.0, located_of port next.0.table next.1)
+
+abbrev pub port_locate_after : (ℕ → ℕ → ℕ → ℕ) → PortLocate → ℕ → PortLocate × Next PortLocated
+port_locate_after mix p word = locate_told p.port (locate_after mix p.port p.locate word)

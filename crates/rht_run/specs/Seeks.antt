@@ -4,10 +4,15 @@ use Rattle.rht_words.specs.declared.env.Env.{Env}
 use Rattle.rht_words.specs.declared.geometry.Geometry.{Geometry}
 use Rattle.rht_words.specs.declared.machine.Next.{Next}
 use Rattle.rht_words.specs.declared.machine.Next.TheVariants.{Go, Done}
-use Rattle.rht_chain.specs.Probe.{ProbeModel}
+use Rattle.rht_words.specs.Ports.{word_of}
+use Rattle.rht_nest.specs.Locate.{LocateModel}
+use Rattle.rht_nest.specs.declared.locate.Located.{Located}
+use Rattle.rht_nest.specs.declared.locate.LocatedBucket.{LocatedBucket}
+use Rattle.rht_nest.specs.declared.locate.LocatedBucket.TheVariants as buckets
+use Rattle.rht_chain.specs.Probe.{ProbeModel, probe_new}
 use Rattle.rht_chain.specs.declared.probe.Probed.{Probed}
 use Rattle.rht_arena.specs.NewNode.{NewNodeModel}
-use Rattle.rht_release.specs.Seek.{SeekModel, seek_new, seek_after, port_at, found_or_future, probed}
+use Rattle.rht_release.specs.Seek.{SeekModel, seek_new, seek_after, locating, bucket_or_early, located, port_at, found_or_future, probed}
 use Rattle.rht_release.specs.Release.{ReleaseModel, release_after, moved as release_moved, sought as release_sought_at}
 use Rattle.rht_release.specs.declared.release.ReleaseAt.{ReleaseAt}
 use Rattle.rht_release.specs.declared.release.ReleaseAt.TheVariants as releases
@@ -22,8 +27,11 @@ use Rattle.rht_model.specs.declared.history.Reply.TheVariants.{Absent, NoNode}
 use Rattle.rht_core.specs.declared.local.Doing.{Doing}
 use Rattle.rht_core.specs.declared.local.Doing.TheVariants.{Idle, Releasing, Rebinding}
 use Rattle.rht_core.specs.Locals.{doing_next, without_node}
+use Rattle.rht_run.specs.declared.pieces.PortLocate.{PortLocate}
+use Rattle.rht_run.specs.declared.pieces.PortLocated.{PortLocated}
 use Rattle.rht_run.specs.declared.seeks.PortSeek.{PortSeek}
 use Rattle.rht_run.specs.Rides.{piece_next}
+use Rattle.rht_run.specs.Pieces.{locate_told}
 
 -- the way to this port stands here
 abbrev pub port_seek : Geometry → ℕ → SeekAt → PortSeek
@@ -40,6 +48,32 @@ seek_told g port next = (port_seek g port next.0, sought_of port next.1)
 abbrev pub port_seek_after : (ℕ → ℕ → ℕ → ℕ) → PortSeek → ℕ → PortSeek × Next (ℕ × Option FoundPort)
 port_seek_after mix p word =
     let next = seek_after mix p.port p.seek word in (record { port = p.port; seek = next.0 }, sought_of p.port next.1)
+
+module _ {M : Type 0} (holding : PortSeek → Doing M) (behind : ℕ × Option FoundPort → Doing M × Option Reply)
+    (g : Geometry)
+  where
+    -- The port's bucket in this table was found to be here. Behind a missing one the way goes on in the table that was behind, and
+    -- where none was it has ended.
+    abbrev pub seek_located : ℕ → ℕ → ℕ → LocatedBucket → Doing M × Option Reply
+    seek_located port table shape (buckets.At place) =
+        (holding (port_seek g port (seeks.Probing table shape (probe_new g place (word_of port)))), None)
+    seek_located port table shape (buckets.Missing place None) = behind (port, None)
+    seek_located port table shape (buckets.Missing place (Some next)) = (holding (port_seek g port (locating g next)), None)
+
+    pub seek_locating : (port : ℕ) (next : LocateModel × Next Located)
+        → piece_next holding behind (seek_told g port (located g port next.0 next.1))
+        ≡ piece_next (λ (p : PortLocate). holding (port_seek g p.port (seeks.Locating p.locate)))
+        (λ (there : PortLocated). seek_located there.port there.table there.found.shape there.found.bucket)
+        (locate_told port next)
+    seek_locating port (locate, Go) = refl
+    seek_locating port (locate, Done found) = found_so found.bucket
+      where
+        found_so : (bucket : LocatedBucket)
+            → piece_next holding behind (seek_told g port (bucket_or_early g port locate found.shape bucket))
+            ≡ seek_located port locate.table found.shape bucket
+        found_so (buckets.At place) = refl
+        found_so (buckets.Missing place None) = refl
+        found_so (buckets.Missing place (Some next)) = refl
 
 module _ {M : Type 0} (holding : PortSeek → Doing M) (behind : ℕ × Option FoundPort → Doing M × Option Reply)
     (g : Geometry)

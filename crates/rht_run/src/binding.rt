@@ -5,12 +5,14 @@ ghost use Rattle.std.specs.Prelude.{◌≡◌};
 ghost use Rattle.rht_model.specs.declared.history.Call.TheVariants.{Bind as BindCall};
 ghost use Rattle.rht_model.specs.declared.history.Reply.TheVariants.{Bound};
 ghost use Rattle.rht_bind.specs.Bind.{replacing};
-ghost use Rattle.rht_bind.specs.declared.bind.BindAt.TheVariants.{ListLink, UnlockingFull};
+ghost use Rattle.rht_bind.specs.declared.bind.BindAt.TheVariants.{Entering, ListLink, UnlockingFull};
+ghost use Rattle.rht_nest.specs.Grow.{grow_new};
+ghost use Rattle.rht_nest.specs.Place.{entry_place};
 ghost use Rattle.rht_core.specs.Locals.{doing_after};
 ghost use Rattle.rht_run.specs.Rides.{IsBefore, IsRiding, HasEnded, Stepped};
 ghost use Rattle.rht_run.specs.Frames.{bind_at};
 
-use crate::pieces::{BindFilling, BindProbing, Whole};
+use crate::pieces::{BindFilling, BindLocating, BindProbing, Whole};
 use crate::ride::{Ride, never};
 use crate::seats::SeatView;
 use crate::table::Table;
@@ -21,9 +23,9 @@ use rht_bind::{
 };
 use rht_chain::{Locked, Relink, Then, Unlock};
 use rht_model::Reply;
-use rht_nest::{Locate, LocateAt, place_of};
-use rht_policy::{Mix, bucket_of};
-use rht_words::{Env, Port, Shape, link_of, owner_of, slot_of, table_of, word_of};
+use rht_nest::{Grow, LocatedBucket, Place};
+use rht_policy::Mix;
+use rht_words::{Env, Port, link_of, owner_of, slot_of, table_of, word_of};
 use std::sync::Wait;
 
 impl<M: Mix> Table<M> {
@@ -62,19 +64,33 @@ impl<M: Mix> Table<M> {
         let at = BindAt::CurrentTable { attempt };
         let mut table = table_of(self.binding::<K>(seat, env, number, port, owner, once, at));
         for _ in 0..u64::MAX {
-            let locate = Locate::new(env.geometry, table);
-            let at = BindAt::Locating { attempt, locate };
-            let shape = self.binding::<K>(seat, env, number, port, owner, once, at);
-            let locate = locate.with(LocateAt::Seed { shape });
-            let at = BindAt::Locating { attempt, locate };
-            let seed = self.binding::<K>(seat, env, number, port, owner, once, at);
-            let bucket = bucket_of::<M>(port, shape, seed);
-            let Some(place) = place_of(env.geometry, shape, bucket) else {
-                let size = Shape::from(shape).size();
-                let reply = Reply::NoTable { size };
-                let at = giving(env, node, reply);
-                self.binding::<K>(seat, env, number, port, owner, once, at);
-                return reply;
+            let frame = BindLocating {
+                env,
+                caller: number,
+                owner,
+                once,
+                attempt,
+            };
+            let there = self.locate::<R, K, BindLocating>(
+                rt,
+                seat,
+                &frame,
+                env.geometry,
+                port,
+                table,
+            );
+            let shape = there.shape;
+            let place = match &there.bucket {
+                LocatedBucket::At(place) => *place,
+                LocatedBucket::Missing { place, early } => {
+                    let Some(next) = *early else {
+                        return self.enter_page::<R, K>(
+                            rt, seat, number, port, owner, once, attempt, table, shape, *place,
+                        );
+                    };
+                    table = next;
+                    continue;
+                }
             };
             let frame = BindProbing {
                 env,
@@ -221,6 +237,36 @@ impl<M: Mix> Table<M> {
         let (relink, _) = relink.after();
         let at = BindAt::Replacing { list, relink };
         self.binding::<K>(seat, env, number, port, owner, once, at);
+    }
+
+    /// Enters a page of a nested table for the port's bucket, which is missing, and binds the port there.
+    #[cold]
+    #[inline(never)]
+    fn enter_page<R: Wait, K: Ride>(
+        &self,
+        rt: &R,
+        seat: &mut Seat<(), SeatView<M>>,
+        number: u32,
+        port: Port,
+        owner: u32,
+        once: bool,
+        attempt: Attempt,
+        table: u32,
+        shape: u64,
+        place: Place,
+    ) -> Reply
+        requires { IsRiding M.mix_of self.now K.riding (bind_at self.now.env number port owner once (Entering attempt table shape place (grow_new self.now.env.geometry (entry_place place)))) seat.old }
+        ensures { HasEnded M.mix_of self.now K.riding result seat.new }
+    {
+        let grow = Grow::new(self.env.geometry, place.entry());
+        let at = BindAt::Entering {
+            attempt,
+            table,
+            shape,
+            place,
+            grow,
+        };
+        self.rest_of_bind::<R, K>(rt, seat, number, port, owner, once, at)
     }
 
     /// Unlocks a bucket into which the node doesn't go, and binds with a further table.

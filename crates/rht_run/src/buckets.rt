@@ -2,7 +2,6 @@
 
 ghost use Rattle.std.specs.Prelude.{◌≡◌, ℕ};
 ghost use Rattle.rht_words.specs.declared.machine.Next.TheVariants.{Done};
-ghost use Rattle.rht_words.specs.Places.{IsBucketPlace};
 ghost use Rattle.rht_chain.specs.Lock.{lock_new};
 ghost use Rattle.rht_chain.specs.Probe.{probe_new, probe_after, lock_taken};
 ghost use Rattle.rht_chain.specs.declared.probe.ProbeAt.TheVariants as at;
@@ -31,8 +30,7 @@ impl<M: Mix> Table<M> {
         place: usize,
         key: u64,
     ) -> Probed
-        requires place { IsBucketPlace geometry place }
-        requires riding { IsRiding M.mix_of self.now K.riding (F.holding frame.now (probe_new geometry place key)) seat.old }
+        requires { IsRiding M.mix_of self.now K.riding (F.holding frame.now (probe_new geometry place key)) seat.old }
         ensures { Stepped M.mix_of self.now K.riding (F.behind frame.now result) seat.new }
     {
         let probe = Probe::new(geometry, place, key);

@@ -6,7 +6,7 @@ ghost use Rattle.rht_core.specs.Locals.{doing_after};
 ghost use Rattle.rht_run.specs.Rides.{IsBefore, IsRiding, HasEnded, Stepped};
 ghost use Rattle.rht_run.specs.Frames.{find_at};
 
-use crate::pieces::{FindProbing, Whole};
+use crate::pieces::{FindLocating, FindProbing, Whole};
 use crate::ride::{Ride, never};
 use crate::seats::SeatView;
 use crate::table::Table;
@@ -14,8 +14,8 @@ use atomic_table::Seat;
 use rht_chain::{Then, Unlock};
 use rht_find::{Find, FindAt};
 use rht_model::Reply;
-use rht_nest::{Locate, LocateAt, place_of};
-use rht_policy::{Mix, bucket_of};
+use rht_nest::LocatedBucket;
+use rht_policy::Mix;
 use rht_words::{Env, Port, node_of, owner_of, slot_of, table_of, word_of};
 use std::sync::Wait;
 
@@ -38,15 +38,27 @@ impl<M: Mix> Table<M> {
         let find = Find::<M>::new(env, number, port);
         let mut table = table_of(self.begin::<K, Reply, Find<M>, Whole>(seat, &Whole, &find));
         for _ in 0..u64::MAX {
-            let locate = Locate::new(env.geometry, table);
-            let at = FindAt::Locating { locate };
-            let shape = self.finding::<K>(seat, env, number, port, at);
-            let locate = locate.with(LocateAt::Seed { shape });
-            let at = FindAt::Locating { locate };
-            let seed = self.finding::<K>(seat, env, number, port, at);
-            let bucket = bucket_of::<M>(port, shape, seed);
-            let Some(place) = place_of(env.geometry, shape, bucket) else {
-                return Reply::Missing;
+            let frame = FindLocating {
+                env,
+                caller: number,
+            };
+            let there = self.locate::<R, K, FindLocating>(
+                rt,
+                seat,
+                &frame,
+                env.geometry,
+                port,
+                table,
+            );
+            let place = match there.bucket {
+                LocatedBucket::At(place) => place,
+                LocatedBucket::Missing { early, .. } => {
+                    let Some(next) = early else {
+                        return Reply::Missing;
+                    };
+                    table = next;
+                    continue;
+                }
             };
             let frame = FindProbing {
                 env,

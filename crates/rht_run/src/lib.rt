@@ -13,6 +13,7 @@ mod calls;
 mod closing;
 mod finding;
 mod layout;
+mod locating;
 mod nodes;
 mod opening;
 mod pass;

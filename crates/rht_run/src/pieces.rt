@@ -11,19 +11,22 @@ ghost use Rattle.rht_chain.specs.Probe.{probe_plan, probe_after, IsProbeIn};
 ghost use Rattle.rht_find.specs.Find.{find_plan, find_after, IsFindAtIn};
 ghost use Rattle.rht_find.specs.declared.find.FindAt.TheVariants as finds;
 ghost use Rattle.rht_model.specs.Rooms.{Kept, emptied};
+ghost use Rattle.rht_nest.specs.Locate.{locate_plan, locate_after, IsLocateIn};
 ghost use Rattle.rht_model.specs.declared.history.Reply.{Reply as ReplyOf};
 ghost use Rattle.rht_core.specs.declared.local.Doing.{Doing};
 ghost use Rattle.rht_core.specs.declared.local.Doing.TheVariants.{Idle, Binding, Finding};
 ghost use Rattle.rht_core.specs.Locals.{does_nothing, doing_plan, doing_after, owners_beside, owners_after};
 ghost use Rattle.rht_core.specs.Laws.{IsDoingIn};
 ghost use Rattle.rht_run.specs.Rides.{piece_next};
-ghost use Rattle.rht_run.specs.Frames.{doing_piece, bind_at, bind_filling, bind_filled, bind_probing, bind_probed, find_at, find_probing, find_probed};
+ghost use Rattle.rht_run.specs.Pieces.{port_locate_after};
+ghost use Rattle.rht_run.specs.Frames.{doing_piece, bind_at, bind_filling, bind_filled, bind_locating, bind_located, bind_probing, bind_probed, find_at, find_locating, find_located, find_probing, find_probed};
 
 use rht_arena::NewNode;
 use rht_bind::{Attempt, Bind};
 use rht_chain::{Probe, Probed};
 use rht_find::Find;
 use rht_model::Reply;
+use rht_nest::{Locate, Located};
 use rht_policy::Mix;
 use rht_words::{Env, Next, Op, Port};
 
@@ -90,6 +93,48 @@ impl<M: Mix> Piece<M, Probed> for Probe {
     }
 }
 
+/// The finding of this port's bucket.
+#[derive(Clone, Copy)]
+pub struct PortLocate {
+    pub port: Port,
+    pub locate: Locate,
+}
+
+/// Where this port's bucket is in the table of this slot.
+#[derive(Clone, Copy)]
+pub struct PortLocated {
+    pub port: Port,
+    pub table: u32,
+    pub found: Located,
+}
+
+impl<M: Mix> Piece<M, PortLocated> for PortLocate {
+    ghost plan_of = { λ p. locate_plan p.locate };
+
+    ghost after_of = { port_locate_after M.mix_of };
+
+    ghost is_in = { λ env p. IsLocateIn env.geometry p.locate };
+
+    #[inline(always)]
+    fn planned(&self) -> Op {
+        self.locate.plan()
+    }
+
+    #[inline(always)]
+    fn told(&mut self, old: u64) -> Next<PortLocated> {
+        let port = self.port;
+        let (locate, next) = self.locate.after::<M>(port, old);
+        self.locate = locate;
+        match next {
+            Next::Go => Next::Go,
+            Next::Done(found) => {
+                let table = locate.table();
+                Next::Done(PortLocated { port, table, found })
+            }
+        }
+    }
+}
+
 // ---- the look-up
 
 impl<M: Mix> Piece<M, Reply> for Find<M> {
@@ -128,6 +173,33 @@ impl<M: Mix> Frame<M, Find<M>, Reply> for Whole {
     ghost goes = { λ f m old. doing_piece Finding (find_after M.mix_of m old) };
 
     ghost keeps = { λ f m room old. refl };
+}
+
+/// A look-up that finds the port's bucket.
+#[derive(Clone, Copy)]
+pub struct FindLocating {
+    pub env: Env,
+    pub caller: u32,
+}
+
+impl<M: Mix> Frame<M, PortLocate, PortLocated> for FindLocating {
+    ghost use Rattle.std.specs.Prelude.{refl};
+
+    ghost holding = { λ f p. find_at f.env f.caller p.port (finds.Locating p.locate) };
+
+    ghost behind = { λ f there. find_located f.env f.caller there.port there.table there.found.bucket };
+
+    ghost busy = { λ f p. refl };
+
+    ghost empties = { λ f p room. refl };
+
+    ghost plans = { λ f p. refl };
+
+    ghost within = { λ env c f p is. is.at_in };
+
+    ghost goes = { λ f p old. find_locating f.env f.caller p.port (locate_after M.mix_of p.port p.locate old) };
+
+    ghost keeps = { λ f p room old. refl };
 }
 
 /// A look-up that is in the port's bucket.
@@ -243,6 +315,36 @@ impl<M: Mix> Frame<M, NewNode, Option<u32>> for BindFilling {
     ghost within = { λ env c f p is. is.at_in };
 
     ghost goes = { λ f p old. bind_filling f.env f.caller f.port f.owner f.once (new_node_after p old) };
+
+    ghost keeps = { λ f p room old. refl };
+}
+
+/// A bind that finds the port's bucket.
+#[derive(Clone, Copy)]
+pub struct BindLocating {
+    pub env: Env,
+    pub caller: u32,
+    pub owner: u32,
+    pub once: bool,
+    pub attempt: Attempt,
+}
+
+impl<M: Mix> Frame<M, PortLocate, PortLocated> for BindLocating {
+    ghost use Rattle.std.specs.Prelude.{refl};
+
+    ghost holding = { λ f p. bind_at f.env f.caller p.port f.owner f.once (binds.Locating f.attempt p.locate) };
+
+    ghost behind = { λ f there. bind_located f.env f.caller there.port f.owner f.once f.attempt there.table there.found };
+
+    ghost busy = { λ f p. refl };
+
+    ghost empties = { λ f p room. refl };
+
+    ghost plans = { λ f p. refl };
+
+    ghost within = { λ env c f p is. is.at_in.locate_in };
+
+    ghost goes = { λ f p old. bind_locating f.env f.caller p.port f.owner f.once f.attempt (locate_after M.mix_of p.port p.locate old) };
 
     ghost keeps = { λ f p room old. refl };
 }

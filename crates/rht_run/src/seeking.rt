@@ -1,6 +1,6 @@
 //! The way to a port that is taken out or replaced, in whatever machine goes it.
 
-ghost use Rattle.std.specs.Prelude.{◌≡◌, ◌<◌};
+ghost use Rattle.std.specs.Prelude.{◌≡◌};
 ghost use Rattle.rht_release.specs.Seek.{seek_after_at, locating};
 ghost use Rattle.rht_run.specs.Rides.{IsRiding, Stepped, piece_next};
 ghost use Rattle.rht_run.specs.Seeks.{port_seek, seek_told};
@@ -8,11 +8,11 @@ ghost use Rattle.rht_run.specs.Seeks.{port_seek, seek_told};
 use crate::pieces::Frame;
 use crate::ride::{Ride, never};
 use crate::seats::SeatView;
-use crate::seeks::{PortSeek, SeekProbing};
+use crate::seeks::{PortSeek, SeekLocating, SeekProbing};
 use crate::table::Table;
 use atomic_table::Seat;
-use rht_nest::{Locate, LocateAt, place_of};
-use rht_policy::{Mix, bucket_of};
+use rht_nest::LocatedBucket;
+use rht_policy::Mix;
 use rht_release::seek::leaving;
 use rht_release::{FoundPort, Seek, SeekAt};
 use rht_words::{Geometry, Port, slot_of, word_of};
@@ -30,22 +30,29 @@ impl<M: Mix> Table<M> {
         port: Port,
         table: u32,
     ) -> Option<FoundPort>
-        requires table { table < 8 }
-        requires riding { IsRiding M.mix_of self.now K.riding (F.holding frame.now (port_seek self.now.env.geometry port (locating self.now.env.geometry table))) seat.old }
+        requires { IsRiding M.mix_of self.now K.riding (F.holding frame.now (port_seek self.now.env.geometry port (locating self.now.env.geometry table))) seat.old }
         ensures { Stepped M.mix_of self.now K.riding (F.behind frame.now (port, result)) seat.new }
     {
         let geometry = self.env.geometry;
         let mut table = table;
         for _ in 0..u64::MAX {
-            let locate = Locate::new(geometry, table);
-            let at = SeekAt::Locating { locate };
-            let shape = self.seeking::<K, F>(seat, frame, geometry, port, at);
-            let locate = locate.with(LocateAt::Seed { shape });
-            let at = SeekAt::Locating { locate };
-            let seed = self.seeking::<K, F>(seat, frame, geometry, port, at);
-            let bucket = bucket_of::<M>(port, shape, seed);
-            let Some(place) = place_of(geometry, shape, bucket) else {
-                return None;
+            let locating = SeekLocating {
+                frame: *frame,
+                geometry,
+            };
+            let there = self.locate::<R, K, SeekLocating<F>>(
+                rt, seat, &locating, geometry, port, table,
+            );
+            let shape = there.shape;
+            let place = match there.bucket {
+                LocatedBucket::At(place) => place,
+                LocatedBucket::Missing { early, .. } => {
+                    let Some(next) = early else {
+                        return None;
+                    };
+                    table = next;
+                    continue;
+                }
             };
             let probing = SeekProbing {
                 frame: *frame,

@@ -3,6 +3,7 @@
 ghost use Rattle.std.specs.Prelude.{◌≡◌, ℕ, Some};
 ghost use Rattle.rht_arena.specs.NewNode.{new_node_after};
 ghost use Rattle.rht_chain.specs.Probe.{probe_after};
+ghost use Rattle.rht_nest.specs.Locate.{locate_after};
 ghost use Rattle.rht_release.specs.Seek.{seek_plan, seek_after, IsSeekIn};
 ghost use Rattle.rht_release.specs.Release.{release_plan, IsReleaseAtIn};
 ghost use Rattle.rht_release.specs.declared.release.ReleaseAt.TheVariants as releases;
@@ -12,9 +13,9 @@ ghost use Rattle.rht_core.specs.declared.local.Doing.TheVariants.{Idle, Releasin
 ghost use Rattle.rht_core.specs.Locals.{without_node};
 ghost use Rattle.rht_run.specs.Frames.{doing_piece};
 ghost use Rattle.rht_release.specs.declared.seek.SeekAt.TheVariants as seeks;
-ghost use Rattle.rht_run.specs.Seeks.{port_seek, port_seek_after, seek_probed, seek_probing, release_at, release_told, release_sought, release_seeking, rebind_at, rebind_told, rebind_filled, rebind_filling, rebind_sought, rebind_seeking};
+ghost use Rattle.rht_run.specs.Seeks.{port_seek, port_seek_after, seek_located, seek_locating, seek_probed, seek_probing, release_at, release_told, release_sought, release_seeking, rebind_at, rebind_told, rebind_filled, rebind_filling, rebind_sought, rebind_seeking};
 
-use crate::pieces::{Frame, Piece, Whole};
+use crate::pieces::{Frame, Piece, PortLocate, PortLocated, Whole};
 use rht_arena::NewNode;
 use rht_chain::{Probe, Probed};
 use rht_model::Reply;
@@ -50,6 +51,34 @@ impl<M: Mix> Piece<M, (Port, Option<FoundPort>)> for PortSeek {
             Next::Done(found) => Next::Done((self.port, found)),
         }
     }
+}
+
+/// A way to a port that finds the port's bucket.
+#[derive(Clone, Copy)]
+pub struct SeekLocating<F> {
+    pub frame: F,
+    pub geometry: Geometry,
+}
+
+impl<M: Mix, F: Frame<M, PortSeek, (Port, Option<FoundPort>)>> Frame<M, PortLocate, PortLocated>
+    for SeekLocating<F> {
+    ghost use Rattle.std.proofs.Common.{◌∙◌};
+
+    ghost holding = { λ f p. F.holding f.frame (port_seek f.geometry p.port (seeks.Locating p.locate)) };
+
+    ghost behind = { λ f there. seek_located (λ p. F.holding f.frame p) (λ a. F.behind f.frame a) f.geometry there.port there.table there.found.shape there.found.bucket };
+
+    ghost busy = { λ f p. F.busy f.frame (port_seek f.geometry p.port (seeks.Locating p.locate)) };
+
+    ghost empties = { λ f p room. F.empties f.frame (port_seek f.geometry p.port (seeks.Locating p.locate)) room };
+
+    ghost plans = { λ f p. F.plans f.frame (port_seek f.geometry p.port (seeks.Locating p.locate)) };
+
+    ghost within = { λ env c f p is. (F.within env c f.frame (port_seek f.geometry p.port (seeks.Locating p.locate)) is).at_in };
+
+    ghost goes = { λ f p old. F.goes f.frame (port_seek f.geometry p.port (seeks.Locating p.locate)) old ∙ seek_locating (λ q. F.holding f.frame q) (λ a. F.behind f.frame a) f.geometry p.port (locate_after M.mix_of p.port p.locate old) };
+
+    ghost keeps = { λ f p room old. F.keeps f.frame (port_seek f.geometry p.port (seeks.Locating p.locate)) room old };
 }
 
 /// A way to a port that is in the port's bucket.

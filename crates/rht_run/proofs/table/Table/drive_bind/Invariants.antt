@@ -1,4 +1,3 @@
-use Rattle.std.specs.Prelude.{◌<◌}
 use Rattle.rht_nest.specs.Locate.{locate_new}
 use Rattle.rht_bind.specs.declared.bind.BindAt.TheVariants.{Locating}
 use Rattle.rht_run.specs.Rides.{IsRiding}
@@ -10,4 +9,3 @@ abbrev pub invariant-loop : goal.invariant-loop
 invariant-loop g l =
     IsRiding g.M.Mix.mix_of l.self g.K.Ride.riding
     (bind_at l.env l.number l.port l.owner l.once (Locating l.attempt (locate_new l.env.geometry l.table))) l.seat
-    × (l.table < 8)

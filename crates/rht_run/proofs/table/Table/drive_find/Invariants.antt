@@ -1,4 +1,3 @@
-use Rattle.std.specs.Prelude.{◌<◌}
 use Rattle.rht_nest.specs.Locate.{locate_new}
 use Rattle.rht_find.specs.declared.find.FindAt.TheVariants.{Locating, ListLink}
 use Rattle.rht_run.specs.Rides.{IsRiding}
@@ -10,7 +9,6 @@ abbrev pub invariant-loop : goal.invariant-loop
 invariant-loop g l =
     IsRiding g.M.Mix.mix_of l.self g.K.Ride.riding
     (find_at l.env l.number l.port (Locating (locate_new l.env.geometry l.table))) l.seat
-    × (l.table < 8)
 
 -- the link behind this node comes next
 abbrev pub invariant-loop-2 : goal.invariant-loop-2

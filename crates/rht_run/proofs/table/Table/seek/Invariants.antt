@@ -1,4 +1,3 @@
-use Rattle.std.specs.Prelude.{◌<◌}
 use Rattle.rht_release.specs.Seek.{locating}
 use Rattle.rht_run.specs.Rides.{IsRiding}
 use Rattle.rht_run.specs.Seeks.{port_seek}
@@ -9,4 +8,3 @@ abbrev pub invariant-loop : goal.invariant-loop
 invariant-loop g l =
     IsRiding g.M.Mix.mix_of l.self g.K.Ride.riding
     (g.F.Frame.holding l.frame (port_seek l.geometry l.port (locating l.geometry l.table))) l.seat
-    × (l.table < 8)
