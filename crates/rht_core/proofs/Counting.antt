@@ -15,6 +15,8 @@ pub mod FullTables
 pub mod CoveredNodes
 -- where a call found no node, as many calls as there are nodes took one
 pub mod NodesUsed
+-- the pages of a table, as the words have them
+pub mod TablePages
 -- the count of ports, and a table that nobody uses
 pub mod CountedRuns
 -- where one of the calls that serve commands found no node, more commands need one than there are nodes

@@ -28,6 +28,8 @@ pub mod Holdings
 pub mod RunPages
 -- a run of pages is taken and given back
 pub mod Runs
+-- a page is entered behind an entry, or given back where one is there
+pub mod Grows
 -- a table is made and given back
 pub mod Makes
 -- a table that was made is attached, or is to be given back

@@ -12,6 +12,8 @@ pub mod Entries
 pub mod EnteredPages
 -- and the words say of places what the ghost does
 pub mod PlacesRead
+-- and of the entries at which ways end
+pub mod MissingEntries
 -- what a caller that goes from table to table has passed
 pub mod Passed
 -- and of its bucket, while each table is flat
@@ -20,9 +22,12 @@ pub mod FlatTables
 pub mod Knowns
 -- what each caller knows
 pub mod Knowledge
+-- where the way to a bucket over entries leads, by the words
+pub mod WaysRead
 -- what a caller can count on
 pub mod Reliance
--- what is known stays where a step leaves what it speaks of
+-- what is known stays where a step leaves what it speaks of: of the way to a bucket, and of all else
+pub mod WaysStay
 pub mod KnowledgeStays
 -- and why others leave it
 pub mod KnowledgeKept

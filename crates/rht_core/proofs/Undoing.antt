@@ -1,5 +1,7 @@
 -- which bits operations turn, and which ones a call has turned by what it holds
 pub mod TurnedBits
+-- what the words say of an entry behind which a page is entered
+pub mod EnteredWords
 -- what each move makes of them
 pub mod UndoneMoves
 -- the states behind which no refusal comes

@@ -6,9 +6,8 @@ use Rattle.rht_words.specs.declared.env.Env.{Env}
 use Rattle.rht_words.specs.declared.geometry.Geometry.{Geometry}
 use Rattle.rht_words.specs.declared.config.Kind.TheVariants.{Single}
 use Rattle.rht_words.specs.Members.{In, IsDistinct}
-use Rattle.rht_words.specs.Places.{WorkLock, PortCount, Slot, ShapeWord, StateWord, NodeMap, PageMap, word_at}
+use Rattle.rht_words.specs.Places.{WorkLock, PortCount, Slot, StateWord, NodeMap, PageMap, word_at}
 use Rattle.rht_words.specs.Shapes.{unpacked, size_of}
-use Rattle.rht_nest.specs.Tables.{pages_of_table}
 use Rattle.rht_model.specs.declared.history.Reply.{Reply}
 use Rattle.rht_model.specs.declared.history.Reply.TheVariants.{Bound, Exists, Found, Missing, Listed, Released, Absent, Rebound, TooBig, Again, Busy, NoTable, NoNode, Pending, Elsewhere, Walked, Moved, Idle, Clear}
 use Rattle.rht_model.specs.declared.history.Reply.TheVariants as replies
@@ -17,6 +16,7 @@ use Rattle.rht_core.specs.declared.local.Doing.{Doing}
 use Rattle.rht_core.specs.Jobs.{Job, job_of, held_of}
 use Rattle.rht_core.specs.Runs.{Core, World, local_of, run_of, IsAdmitted}
 use Rattle.rht_core.specs.StandsFor.{in_force, shape_of, bucket_in, nodes_of, stands_for, AreAllBound}
+use Rattle.rht_core.specs.TablePages.{IsPageOfTable}
 use Rattle.rht_core.specs.Alone.{IsQuiet}
 
 -- the job has raised the count for a node that it hasn't linked yet, or has still to lower it for one
@@ -79,24 +79,24 @@ module _ (g : Geometry) (words : List ℕ) where
   abbrev pub IsPageFree : ℕ → Type 0
   IsPageFree page = bit_at (word_at g words (PageMap (page / 64))) (page % 64) ≡ 1
 
-  -- the run of the table whose shape stands in a slot
-  abbrev pub run_in_slot : ℕ → List ℕ
-  run_in_slot slot = pages_of_table g (word_at g words (Slot slot ShapeWord))
+  -- the page is one of the table whose shape stands in a slot
+  abbrev pub IsPageOfSlot : ℕ → ℕ → Type 0
+  IsPageOfSlot slot page = IsPageOfTable g words (shape_of g words slot) page
 
-  -- the slot isn't free, and the page is one of its table's run
+  -- the slot isn't free, and the page is one of its table's
   pub record IsPageInSlot (page : ℕ) : Type 0 where
     pub slot : ℕ
     pub slot_in : slot < 8
     pub taken : word_at g words (Slot slot StateWord) ≢ 0
-    pub there : In page (run_in_slot slot)
+    pub there : IsPageOfSlot slot page
 
-  -- nobody does the work; each page is free, or in the run of a slot that isn't; of a slot that isn't free no page is; and each such
-  -- slot is retired, or has a table in force
+  -- nobody does the work; each page is free, or one of the table in a slot that isn't; of a slot that isn't free no page is; and each
+  -- such slot is retired, or has a table in force
   pub record AreNoneHeld : Type 0 where
     pub no_work : word_at g words WorkLock ≡ 0
     pub pages : (page : ℕ) → page < g.pages → IsPageFree page ⊎ IsPageInSlot page
     pub slots : (slot page : ℕ) → slot < 8 → word_at g words (Slot slot StateWord) ≢ 0
-        → In page (run_in_slot slot) → ¬ IsPageFree page
+        → IsPageOfSlot slot page → ¬ IsPageFree page
     pub attached : (slot : ℕ) → slot < 8 → word_at g words (Slot slot StateWord) ≢ 0
         → (word_at g words (Slot slot StateWord) ≡ 2) ⊎ In slot (in_force g words)
 

@@ -25,6 +25,8 @@ pub mod Kicks
 pub mod ResizeCauses
 -- one call alone
 pub mod Alone
+-- the pages of a table, as the words have them
+pub mod TablePages
 -- what the count of ports counts, and a table that nobody uses
 pub mod Counts
 -- how many calls took a node

@@ -1,25 +1,30 @@
 -- What a call leaves that changes nothing: one that was refused, or found its port bound, or found no owner to replace.
 -- A bit that its operations turned an even number of times is as if the call had never been, whatever others do to it.
-use Rattle.std.specs.Prelude.{◌≡◌, ◌≢◌, ℕ, ◌+◌, ◌/◌, ◌%◌, ◌<◌, ◌⊎◌, ◌==◌, Bool, true, List, [], ◌∷◌, ◌++◌, if◌then◌else◌}
+use Rattle.std.specs.Prelude.{◌≡◌, ◌≢◌, ℕ, ◌+◌, ◌*◌, ◌/◌, ◌%◌, ◌<◌, ◌⊎◌, ◌==◌, Bool, true, Some, List, [], ◌∷◌, ◌++◌, if◌then◌else◌}
 use Rattle.std.specs.List.{AllByRecursion, Any}
 use Rattle.std.specs.Int.{bit_at}
-use Rattle.rht_words.specs.declared.op.Op.TheVariants.{Store, Or}
+use Rattle.rht_words.specs.declared.op.Op.TheVariants.{Store, Exchange, Or}
 use Rattle.rht_words.specs.declared.env.Env.{Env}
 use Rattle.rht_words.specs.declared.geometry.Geometry.{Geometry}
+use Rattle.rht_words.specs.Links.{table_of, entry_of}
 use Rattle.rht_words.specs.Maps.{bit_of}
 use Rattle.rht_words.specs.Members.{In}
 use Rattle.rht_words.specs.Operations.{op_place, word_after}
-use Rattle.rht_words.specs.Places.{NextSerial, Slot, SlotWord, ShapeWord, SeedWord, FutureWord, SerialWord, StateWord, LoadedSection, PageMap, Node, NodeWord, words_in, place_of}
+use Rattle.rht_words.specs.Places.{CurrentTable, NextSerial, Slot, SlotWord, ShapeWord, SeedWord, FutureWord, SerialWord, StateWord, LoadedSection, PageMap, PageWord, Node, NodeWord, words_in, place_of, word_at}
+use Rattle.rht_words.specs.Shapes.{unpacked, size_of}
 use Rattle.rht_model.specs.declared.history.Call.{Call}
 use Rattle.rht_model.specs.declared.history.Call.TheVariants.{Bind, Rebind}
 use Rattle.rht_model.specs.declared.history.Reply.{Reply}
 use Rattle.rht_model.specs.declared.history.Reply.TheVariants.{Exists, Absent}
 use Rattle.rht_model.specs.Answers.{is_refusal}
 use Rattle.rht_arena.specs.Laws.{map_place, map_bit}
-use Rattle.rht_nest.specs.Tables.{pages_of_shape}
+use Rattle.rht_nest.specs.Place.{nested_place, missing_at}
+use Rattle.rht_nest.specs.Tables.{is_nested, pages_of_shape}
 use Rattle.rht_core.specs.declared.event.Event.{Event}
 use Rattle.rht_core.specs.Runs.{IsAdmitted}
+use Rattle.rht_core.specs.StandsFor.{tables_from, in_force, page_word, shape_of}
 use Rattle.rht_core.specs.Traces.{Did, Past, traced_of}
+use Rattle.rht_core.specs.Seen.{words_before}
 use Rattle.rht_core.specs.ResizeCauses.{Attaches}
 use Rattle.rht_core.specs.RunHistories.{ChangesBindings}
 
@@ -123,19 +128,54 @@ pub record IsOfAttached (g : Geometry) (steps : List Did) (place bit : ℕ) : Ty
   pub attached : AttachedWith g table slot shape steps
   pub of_it : (place ≡ place_of g (Slot table FutureWord)) ⊎ IsOfSlot g slot place ⊎ IsOfPages g shape place bit
 
--- only a bind attaches tables and is refused then
+-- A page is entered behind an entry of a nested table that leads to none. By the words before that the table is in force, or was: futures
+-- lead to it from the current table, or from it to the current one. And the way to one of its buckets ends at the entry.
+module _ (g : Geometry) (words : List ℕ) where
+  abbrev pub IsOrWasInForce : ℕ → Type 0
+  IsOrWasInForce table =
+      In table (in_force g words) ⊎ In (table_of (word_at g words CurrentTable)) (tables_from g words 8 (Some table))
+
+  -- the way to a bucket of such a table, whose slot isn't free, ends at this entry, which leads to no page
+  pub record IsMissingEntry (entry : ℕ) : Type 0 where
+    pub table : ℕ
+    pub table_in : table < 8
+    pub taken : word_at g words (Slot table StateWord) ≢ 0
+    pub known : IsOrWasInForce table
+    pub nested : is_nested (shape_of g words table) ≡ true
+    pub bucket : ℕ
+    pub within : bucket < size_of (unpacked (shape_of g words table))
+    pub ends : missing_at (page_word g words) (nested_place g (shape_of g words table) bucket) ≡ Some entry
+
+  -- the operation entered this page there
+  pub record EntersPage (entry page : ℕ) (did : Did) : Type 0 where
+    pub page_in : page < g.pages
+    pub entry_in : entry < 64 * g.pages
+    pub missing : IsMissingEntry entry
+    pub exchanges : did.op ≡ Exchange (place_of g (PageWord entry)) 0 (entry_of page)
+    pub found : did.old ≡ 0
+
+-- what is left of a page that these operations entered: its entry, and its bit
+pub record IsOfEntered (g : Geometry) (words_at : ℕ → List ℕ) (steps : List Did) (place bit : ℕ) : Type 0 where
+  pub entry : ℕ
+  pub page : ℕ
+  pub entered : Any (λ did. EntersPage g (words_at did.index) entry page did) steps
+  pub of_it :
+      (place ≡ place_of g (PageWord entry)) ⊎ ((place ≡ place_of g (PageMap (page / 64))) × (bit ≡ page % 64))
+
+-- only a bind attaches tables or enters pages, and is refused then
 abbrev pub MayAttach : Call → Type 0
 MayAttach (Bind port owner once) = Unit {0}
 MayAttach _ = ⊥
 
 -- What these operations of a call may leave turned: the next serial, words of nodes and of slots that they gave back, and what is of the
--- tables that a bind attached. Each address is one of the table's, since places alone don't tell it from a word that isn't there.
-abbrev pub IsExcepted : Geometry → Call → List Did → ℕ → ℕ → Type 0
-IsExcepted g call steps place bit =
+-- tables that a bind attached or of the pages that it entered. Each address is one of the table's, since places alone don't tell it from
+-- a word that isn't there. `words_at` gives the words before the event with each number.
+abbrev pub IsExcepted : Geometry → (ℕ → List ℕ) → Call → List Did → ℕ → ℕ → Type 0
+IsExcepted g words_at call steps place bit =
     (place ≡ place_of g NextSerial)
     ⊎ IsOfNodeGiven g steps place
     ⊎ IsOfSlotGiven g steps place
-    ⊎ (MayAttach call × IsOfAttached g steps place bit)
+    ⊎ (MayAttach call × (IsOfAttached g steps place bit ⊎ IsOfEntered g words_at steps place bit))
 
 module _ (M : Type 0) (mix : ℕ → ℕ → ℕ → ℕ) where
   -- A call has undone what it did. None of its operations changed what the words stand for, and each bit of each word was turned an
@@ -143,7 +183,8 @@ module _ (M : Type 0) (mix : ℕ → ℕ → ℕ → ℕ) where
   pub record IsUndone (env : Env) (events : List Event) (past : Past) : Type 0 where
     pub bindings : AllByRecursion (λ did. ¬ ChangesBindings M mix env events did) past.steps
     pub even : (place bit : ℕ) → place < words_in env.geometry → bit < 64
-        → IsExcepted env.geometry past.done.call past.steps place bit ⊎ (turns place bit past.steps % 2 ≡ 0)
+        → IsExcepted env.geometry (words_before M mix env events) past.done.call past.steps place bit
+        ⊎ (turns place bit past.steps % 2 ≡ 0)
 
   -- in every run each call that has ended, and changes nothing by its reply, has undone what it did
   abbrev pub Refused : Type 0

@@ -189,8 +189,9 @@ pub fn counted<M: Mix>()
 /// in the list of a port, or out, and never two of these; those that are out are as many as the calls
 /// that were answered `Released` or `Rebound`; in a table of one owner for each port no list has a
 /// second node; the count is the number of ports that are bound; the work lock is free; each page is
-/// free, or in the run of a table whose slot isn't; and each slot that isn't free is retired, or has a
-/// table in force. So no node is lost: a bind that is refused, or finds its port bound, has given its
+/// free, or one of a table whose slot isn't, in the run of a flat one, or the top page or one to which an
+/// entry leads in a nested one; and each slot that isn't free is retired, or has a table in force. So no
+/// node is lost: a bind that is refused, or finds its port bound, has given its
 /// node back, and so has a rebind that is answered `Absent`. And no slot or page is lost: each that isn't
 /// free is a table's that is in force or retired, so what was taken for a table that wasn't attached has
 /// been given back, and each table that was left behind is retired. It doesn't say which nodes are out or
@@ -207,8 +208,10 @@ pub fn at_rest<M: Mix>()
 /// Left turned may be: the next serial; words of nodes that it gave back; words of slots that it gave back,
 /// but not the one that says whether the slot is free; and where it is a bind, what belongs to the tables
 /// that it attached: the futures that lead to them, the words of their slots, and the bits of their pages, by
-/// the last shape that it stored for each before attaching it. It doesn't say what stands in these words,
-/// nor that a refused bind attached none.
+/// the last shape that it stored for each before attaching it; and the entries of nested tables behind which
+/// it entered pages, with the bits of these pages. By the words before, the table of such an entry was in
+/// force or had been, and the way to one of its buckets ended there. It doesn't say what stands in these
+/// words, nor that a refused bind attached or entered none.
 pub fn refused<M: Mix>()
     ensures { Refused M M.mix_of }
 {}

@@ -6,6 +6,8 @@ pub mod Places
 pub mod OneOfSteps
 -- the finding of a bucket's place ends at the place that is read from the words, or where no page is
 pub mod PlacesRead
+-- where no place is read from the words, the way ends at the entry that leads to no page
+pub mod MissingEntries
 -- the finding of a bucket stays in its table, and works on the slot's words
 pub mod Locates
 -- the growing of a nested table stays in range

@@ -135,6 +135,25 @@ place_or_last read (starts.Done place) = Some place
 abbrev pub read_place : (ℕ → ℕ) → PlaceModel → Option ℕ
 read_place read m = behind_entry (place_or_last read) m (page_of m.geometry.pages (read m.entry))
 
+-- and else the number of the entry that leads to no page
+abbrev pub missing_behind : (Start PlaceModel ℕ → Option ℕ) → PlaceModel → Option ℕ → Option ℕ
+missing_behind go m None = Some m.entry
+missing_behind go m (Some page) = go (entered m page)
+
+-- behind the last entry there is no other
+abbrev pub missing_none : Start PlaceModel ℕ → Option ℕ
+missing_none start = None
+
+abbrev pub missing_last : (ℕ → ℕ) → PlaceModel → Option ℕ
+missing_last read m = missing_behind missing_none m (page_of m.geometry.pages (read m.entry))
+
+abbrev pub missing_or_last : (ℕ → ℕ) → Start PlaceModel ℕ → Option ℕ
+missing_or_last read (starts.Running next) = missing_last read next
+missing_or_last read (starts.Done place) = None
+
+abbrev pub missing_at : (ℕ → ℕ) → PlaceModel → Option ℕ
+missing_at read m = missing_behind (missing_or_last read) m (page_of m.geometry.pages (read m.entry))
+
 abbrev pub place_in : (ℕ → ℕ) → Geometry → ℕ → ℕ → Option ℕ
 place_in read g shape bucket =
     if is_nested shape then read_place read (nested_place g shape bucket) else Some (flat_place g shape bucket)

@@ -1,5 +1,5 @@
 -- Where the finding of a bucket's place ends.
-use Rattle.std.specs.Prelude.{◌≡◌, ◌↔◌, ℕ, None, Some, List, []}
+use Rattle.std.specs.Prelude.{◌≡◌, ◌↔◌, ◌⊎◌, ℕ, None, Some, List, []}
 use Rattle.std.specs.List.{All, Any}
 use Rattle.rht_words.specs.declared.op.Op.TheVariants.{Load}
 use Rattle.rht_words.specs.declared.machine.Next.TheVariants.{Done}
@@ -10,7 +10,7 @@ use Rattle.rht_words.specs.Links.{page_of}
 use Rattle.rht_words.specs.Places.{PageWord, word_at}
 use Rattle.rht_words.specs.Operations.{old_of}
 use Rattle.rht_words.specs.Machines.{Performed, Ran, ran}
-use Rattle.rht_nest.specs.Place.{PlaceModel, place_new, place_plan, place_after, place_in}
+use Rattle.rht_nest.specs.Place.{PlaceModel, place_new, place_plan, place_after, read_place, missing_at, place_in}
 use Rattle.rht_nest.specs.declared.place.Bucket.{Bucket}
 use Rattle.rht_nest.specs.declared.place.Bucket.TheVariants.{At, Absent}
 
@@ -54,3 +54,10 @@ AbsentWhereNoPage =
     (g : Geometry) (shape bucket : ℕ) (olds : List ℕ) (answer : Bucket)
     → (finding_ran g shape bucket olds).next ≡ Done answer
     → (entry : ℕ) → (answer ≡ Absent entry) ↔ Any (FindsNoPage g entry) (finding_ran g shape bucket olds).steps
+
+-- the way to a bucket leads to the place of its word, or a page is missing on it, and never both
+abbrev pub PlaceOrMissing : Type 0
+PlaceOrMissing =
+    (read : ℕ → ℕ) (m : PlaceModel)
+    → ((place : ℕ) × (read_place read m ≡ Some place) × (missing_at read m ≡ None))
+    ⊎ ((entry : ℕ) × (missing_at read m ≡ Some entry) × (read_place read m ≡ None))

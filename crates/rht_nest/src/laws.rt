@@ -2,7 +2,7 @@
 //! the law.
 
 ghost use Rattle.rht_nest.specs.Laws.{BucketsStandInARow, BucketsNeverMeet};
-ghost use Rattle.rht_nest.specs.PlaceLaws.{FindsPlaceOfWords, AbsentWhereNoPage};
+ghost use Rattle.rht_nest.specs.PlaceLaws.{FindsPlaceOfWords, AbsentWhereNoPage, PlaceOrMissing};
 ghost use Rattle.rht_nest.specs.GrowLaws.{GrownPageIsThere, NoneWherePagesTaken};
 ghost use Rattle.rht_nest.specs.MakeLaws.{MadeOfWhatWasFree, NoneWhereSlotsOrRunsTaken, GivesTableBack};
 
@@ -29,6 +29,12 @@ pub fn finds_place_of_words()
 /// that it leads to no page.
 pub fn absent_where_no_page()
     ensures { AbsentWhereNoPage }
+{}
+
+/// By any words of the pages the way to a bucket of a nested table leads to the place of its word, or
+/// ends at the entry that leads to no page, and never both.
+pub fn place_or_missing()
+    ensures { PlaceOrMissing }
 {}
 
 /// A page that is answered by the growing of a nested table was free until an operation of the machine's

@@ -1,4 +1,4 @@
--- What a listing holds in each of its states: the lock of a bucket, and its answer once it is known. A
+-- What a listing holds in each of its states: the lock of a bucket, and its answer once it is known, or early, should the bucket be missing. A
 -- listing is answered without owners from the load of a future on that leads nowhere, and with the
 -- owners that it has kept from the load of the list link behind the last one on: the bucket has been
 -- locked since before the first, so these are all.
@@ -9,7 +9,7 @@ use Rattle.rht_words.specs.declared.machine.Next.TheVariants.{Go, Done}
 use Rattle.rht_model.specs.Answers.{Answer}
 use Rattle.rht_model.specs.declared.history.Reply.{Reply}
 use Rattle.rht_model.specs.declared.history.Reply.TheVariants.{Listed}
-use Rattle.rht_release.specs.Seek.{lock_of_seek, answer_of_seek}
+use Rattle.rht_release.specs.Seek.{lock_of_seek, answer_of_seek, early_of_seek}
 use Rattle.rht_release.specs.All.{AllModel}
 use Rattle.rht_release.specs.declared.all.AllAt.{AllAt}
 use Rattle.rht_release.specs.declared.all.AllAt.TheVariants as at
@@ -25,7 +25,11 @@ holds_lock place = record holds_nothing { lock = Some place }
 -- what it holds in a state, with these owners kept
 abbrev pub held_of_all : List ℕ → AllAt → Held Answer
 held_of_all owners (at.Seeking seek) =
-    record holds_nothing { lock = lock_of_seek seek.at; answer = answer_of_seek (listing_of owners) seek.at }
+    record holds_nothing {
+      lock = lock_of_seek seek.at;
+      answer = answer_of_seek (listing_of owners) seek.at;
+      early = early_of_seek (listing_of owners) seek.at;
+    }
 held_of_all owners (at.Owner found node) = holds_lock found.bucket.place
 held_of_all owners (at.ListLink found node) = holds_lock found.bucket.place
 held_of_all owners (at.Unlocking table unlock) =

@@ -1,4 +1,5 @@
--- What a rebind holds in each of its states: its node, up to the store that puts it in the old one's place; the lock of a bucket; and its answer once it is known. A rebind is
+-- What a rebind holds in each of its states: its node, up to the store that puts it in the old one's place; the lock of a bucket; and its answer once it is known,
+-- or early, should the bucket be missing. A rebind is
 -- answered Absent from the load of a future on that leads nowhere, or of another owner. With the first
 -- store of the relinking the new owner has the old one's place.
 use Rattle.std.specs.Prelude.{ℕ, Bool, Option, None, Some, if◌then◌else◌}
@@ -10,7 +11,7 @@ use Rattle.rht_model.specs.Answers.{Answer, plain}
 use Rattle.rht_model.specs.declared.history.Reply.{Reply}
 use Rattle.rht_model.specs.declared.history.Reply.TheVariants.{Rebound, Absent}
 use Rattle.rht_chain.specs.Relink.{has_relinked}
-use Rattle.rht_release.specs.Seek.{lock_of_seek, answer_of_seek}
+use Rattle.rht_release.specs.Seek.{lock_of_seek, answer_of_seek, early_of_seek}
 use Rattle.rht_release.specs.Rebind.{RebindModel}
 use Rattle.rht_release.specs.declared.found_port.FoundPort.{FoundPort}
 use Rattle.rht_release.specs.declared.rebind.RebindAt.{RebindAt}
@@ -34,7 +35,8 @@ holds_replacing node found stored =
 abbrev pub held_of_rebind : RebindAt → Held Answer
 held_of_rebind (at.Filling new) = record holds_nothing { node = node_of_new new.at }
 held_of_rebind (at.Seeking node seek) =
-    holds_node node (lock_of_seek seek.at) (answer_of_seek (plain Absent) seek.at)
+    record (holds_node node (lock_of_seek seek.at) (answer_of_seek (plain Absent) seek.at))
+    { early = early_of_seek (plain Absent) seek.at }
 held_of_rebind (at.Owner node found) = holds_found node found
 held_of_rebind (at.ChainLink node found) = holds_found node found
 held_of_rebind (at.Link node found link) = holds_found node found

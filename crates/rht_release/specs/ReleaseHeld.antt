@@ -1,6 +1,6 @@
 -- What a release holds in each of its states: the lock of a bucket; the
 -- count, from the store that unlinks a port's only node to the lowering; and its answer once it is
--- known. A release is answered Absent from the load of a future on that leads nowhere, or of the list
+-- known, or early, should the bucket be missing. A release is answered Absent from the load of a future on that leads nowhere, or of the list
 -- link behind the last owner. It takes a binding out with one store: into the list link before a later
 -- node, or with the first store of a relinking.
 use Rattle.std.specs.Prelude.{ℕ, Bool, true, false, Option, Some, if◌then◌else◌}
@@ -11,7 +11,7 @@ use Rattle.rht_model.specs.Answers.{Answer, plain}
 use Rattle.rht_model.specs.declared.history.Reply.{Reply}
 use Rattle.rht_model.specs.declared.history.Reply.TheVariants.{Released, Absent}
 use Rattle.rht_chain.specs.Relink.{has_relinked}
-use Rattle.rht_release.specs.Seek.{lock_of_seek, answer_of_seek}
+use Rattle.rht_release.specs.Seek.{lock_of_seek, answer_of_seek, early_of_seek}
 use Rattle.rht_release.specs.Release.{ReleaseModel, removed_reply}
 use Rattle.rht_release.specs.declared.found_port.FoundPort.{FoundPort}
 use Rattle.rht_release.specs.declared.release.ReleaseAt.{ReleaseAt}
@@ -35,7 +35,11 @@ holds_relinking found raised stored =
 -- what it holds in a state
 abbrev pub held_of_release : ReleaseAt → Held Answer
 held_of_release (at.Seeking seek) =
-    record holds_nothing { lock = lock_of_seek seek.at; answer = answer_of_seek (plain Absent) seek.at }
+    record holds_nothing {
+      lock = lock_of_seek seek.at;
+      answer = answer_of_seek (plain Absent) seek.at;
+      early = early_of_seek (plain Absent) seek.at;
+    }
 held_of_release (at.Owner found node before) = holds_bucket found
 held_of_release (at.ListLink found node) = holds_bucket found
 held_of_release (at.LinkBehind found node before) = holds_bucket found

@@ -11,6 +11,8 @@ use Rattle.rht_words.specs.Planned.{IsWord}
 use Rattle.rht_words.specs.Ports.{word_of}
 use Rattle.rht_words.specs.Places.{CurrentTable, Slot, FutureWord, place_of}
 use Rattle.rht_nest.specs.Locate.{LocateModel, locate_new, locate_plan, locate_after, IsLocateIn}
+use Rattle.rht_nest.specs.declared.locate.LocateAt.{LocateAt}
+use Rattle.rht_nest.specs.declared.locate.LocateAt.TheVariants as locates
 use Rattle.rht_nest.specs.declared.locate.Located.{Located}
 use Rattle.rht_nest.specs.declared.locate.LocatedBucket.{LocatedBucket}
 use Rattle.rht_nest.specs.declared.locate.LocatedBucket.TheVariants as buckets
@@ -131,6 +133,21 @@ answer_of_seek absent (at.Locating locate) = None
 answer_of_seek absent (at.Probing table shape probe) = None
 answer_of_seek absent (at.Future table bucket) = None
 answer_of_seek absent (at.Leaving table unlock future) = answer_unless absent future
+
+-- What it will answer should the bucket be missing, known early: from the load of a future on that leads to no table, before the
+-- entries of a nested table are looked at.
+abbrev pub early_of_locate : {Answer : Type 0} → Answer → LocateAt → Option Answer
+early_of_locate absent locates.Shape = None
+early_of_locate absent (locates.Seed shape) = None
+early_of_locate absent (locates.Early shape place) = None
+early_of_locate absent (locates.Entry shape early place) = answer_unless absent early
+
+abbrev pub early_of_seek : {Answer : Type 0} → Answer → SeekAt → Option Answer
+early_of_seek absent at.CurrentTable = None
+early_of_seek absent (at.Locating locate) = early_of_locate absent locate.at
+early_of_seek absent (at.Probing table shape probe) = None
+early_of_seek absent (at.Future table bucket) = None
+early_of_seek absent (at.Leaving table unlock future) = None
 
 -- ---- what it names
 

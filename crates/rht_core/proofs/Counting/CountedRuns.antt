@@ -1,7 +1,7 @@
 -- The count of ports, and a table that nobody uses.
 -- As many different ports are bound as there are nodes in chains, and no more. A caller has raised the count exactly where its
 -- job has. While nobody is in a call nobody has a lock or a node.
-use Rattle.std.proofs.Common.{◌≡◌, ◌≢◌, ◌⊎◌, ℕ, ◌+◌, ◌-◌, ◌*◌, ◌/◌, ◌%◌, ◌<◌, ◌≤◌, true, length, slice_index, subst, false, List, [], ◌∷◌, Option, Some, None, refl, sym, ◌∙◌, ap, inl, inr, arith}
+use Rattle.std.proofs.Common.{◌≡◌, ◌≢◌, ◌⊎◌, ℕ, ◌+◌, ◌%◌, ◌<◌, ◌≤◌, true, length, slice_index, subst, false, List, [], ◌∷◌, Option, Some, None, refl, sym, ◌∙◌, ap, inl, inr, arith}
 use Rattle.std.specs.Prelude.{count_by, sum_by}
 use Rattle.std.specs.List.{range_with_len}
 use Rattle.std.proofs.lemmas.Bool.{cases_lt}
@@ -9,29 +9,27 @@ use Rattle.rht_words.specs.declared.env.Env.{Env}
 use Rattle.rht_words.specs.declared.config.Kind.TheVariants.{Single}
 use Rattle.rht_words.specs.Places.{PortCount, Slot, ShapeWord, StateWord, PageWord, word_at}
 use Rattle.rht_words.specs.Members.{In}
-use Rattle.rht_words.specs.Shapes.{unpacked, size_of}
-use Rattle.rht_words.proofs.ShapeSizes.{IsSizeUpTo-size_of}
-use Rattle.rht_words.proofs.Members.{In-range_with_len, range_with_len-In, count_by-range, count_below-same, count_below-none}
-use Rattle.rht_nest.specs.Tables.{table_pages, run_first, run_pages, pages_of_table}
+use Rattle.rht_words.proofs.Members.{count_by-range, count_below-same, count_below-none}
 use Rattle.rht_core.specs.Jobs.{job_of}
 use Rattle.rht_core.specs.Runs.{Core, World, local_of, view_of, run_of}
 use Rattle.rht_core.specs.StandsFor.{in_force, nodes_of}
-use Rattle.rht_core.specs.Counts.{is_raising, raising, IsListed, IsPlaced, IsPageFree, run_in_slot, IsPageInSlot, AreNoneHeld, taken_out, Counted, AtRest}
+use Rattle.rht_core.specs.Counts.{is_raising, raising, IsListed, IsPlaced, IsPageFree, IsPageOfSlot, IsPageInSlot, AreNoneHeld, taken_out, Counted, AtRest}
+use Rattle.rht_core.specs.TablePages.{IsPageOfTable}
 use Rattle.rht_core.proofs.Theory.Ghosts.{Owner, Free, Held, First, Leaving, Behind, Taken, PageOwner, PageFree, PageHeld, PageOf, SlotOwner, SlotFree, SlotHeld, Live, Retired, Ghost, has_table, index_at, state_word, is_used, IsUsed, lock_bit, seat-used}
 use Rattle.rht_core.proofs.Theory.Wholes.{AreRetired, key_of, firsts, raisers, outs, IsBuilt, Whole}
+use Rattle.rht_core.proofs.Theory.Entries.{page_within}
 use Rattle.rht_core.proofs.Theory.Steps.{mem}
 use Rattle.rht_core.proofs.Machines.JobSteps.{KnowsNothing}
 use Rattle.rht_core.proofs.Events.Invariants.{Inv, idle_knows}
 use Rattle.rht_core.proofs.Events.InvariantRuns.{has_inv}
 use Rattle.rht_core.proofs.Events.BooksInRuns.{ended_outs, idle-says, has_books}
-use Rattle.rht_core.proofs.Pieces.RunPages.{range_with_len-from}
 use Rattle.rht_core.proofs.Meaning.TablesInForce.{table_in_force}
 use Rattle.rht_core.proofs.Meaning.BoundPorts.{bucket_in_force, listed_bound}
 use Rattle.rht_core.proofs.Counting.CountedPorts.{firsts-AreAllBound}
 use Rattle.rht_core.proofs.Counting.CountedNodes.{count_few}
 use Rattle.rht_core.proofs.Counting.NodesOut.{is_out, out_nodes, out_nodes-distinct, out_nodes-among, out_nodes-many, out_nodes-in, out_nodes-out, sum_by-same, seat-is_out}
 use Rattle.rht_core.proofs.Counting.FullTables.{raises}
-use Rattle.rht_core.proofs.Theory.FlatTables.{flat_right}
+use Rattle.rht_core.proofs.Counting.TablePages.{pages_in_words}
 
 module _ (env : Env) (mix : ℕ → ℕ → ℕ → ℕ) (words : List ℕ) (G : Ghost)
     (whole : Whole env mix (mem env mix words) G) where
@@ -110,38 +108,6 @@ module _ (env : Env) (mix : ℕ → ℕ → ℕ → ℕ) (words : List ℕ) (G :
 
   -- ---- pages, and the work lock
 
-  -- the run of a table that was attached, as its shape tells it
-  record IsRunOf (τ s : ℕ) : Type 0 where
-    slot_in : s < 8
-    shape_is : word_at env.geometry words (Slot s ShapeWord) ≡ (G.table τ).shape
-    first : run_first env.geometry (G.table τ).shape ≡ (unpacked (G.table τ).shape).page
-    many : run_pages env.geometry (G.table τ).shape ≡ table_pages (unpacked (G.table τ).shape)
-
-  run_of_table : (τ : ℕ) → τ < G.attached → IsRunOf τ (G.table τ).slot
-  run_of_table τ l =
-      let right = whole.tables.each τ l in
-      let shape = unpacked (G.table τ).shape in
-      let fits = (flat_right env mix (mem env mix words) G whole τ l).fits in
-      let least = (IsSizeUpTo-size_of shape).least in
-      let first : run_first env.geometry (G.table τ).shape ≡ shape.page = omega (arith, fits, least) in
-      record {
-        slot_in = right.slot_in;
-        shape_is = right.shape_is;
-        first = first;
-        many = omega (arith, fits, least, first);
-      }
-
-  -- a page of such a run is the table's
-  page_is_of : (τ p : ℕ) → τ < G.attached → (unpacked (G.table τ).shape).page ≤ p
-      → p < (unpacked (G.table τ).shape).page + table_pages (unpacked (G.table τ).shape) → G.page p ≡ PageOf τ
-  page_is_of τ p l from below =
-      let shape = unpacked (G.table τ).shape in
-      let least = (IsSizeUpTo-size_of shape).least in
-      let b = 64 * (p - shape.page) in
-      let within : b < size_of shape = omega (arith, from, below, least) in
-      let same : (64 * shape.page + b) / 64 ≡ p = omega (arith, from) in
-      subst (λ q. G.page q ≡ PageOf τ) same ((flat_right env mix (mem env mix words) G whole τ l).pages b within)
-
   has_state : (o : SlotOwner) → has_table o ≡ true → state_word o ≢ 0
   has_state SlotFree has is = absurd (cc)
   has_state (SlotHeld c) has is = absurd (cc)
@@ -164,40 +130,28 @@ module _ (env : Env) (mix : ℕ → ℕ → ℕ → ℕ) (words : List ℕ) (G :
       go (PageOf τ) e =
           let attached = whole.pages.page_of p τ e in
           let right = whole.tables.each τ attached in
-          let run = run_of_table τ attached in
-          let of = (flat_right env mix (mem env mix words) G whole τ attached).run p e in
           let s = (G.table τ).slot in
-          let first = run.first in
-          let many = run.many in
-          let from = of.from in
-          let below = of.below in
           inr (record {
             slot = s;
-            slot_in = run.slot_in;
-            taken = λ free. has_state (G.slot s) right.has_slot (sym (whole.slots.states s run.slot_in) ∙ free);
-            there = subst (λ w. In p (pages_of_table env.geometry w)) (sym run.shape_is)
-                (In-range_with_len (run_first env.geometry (G.table τ).shape) (run_pages env.geometry (G.table τ).shape) p
-                (omega (arith, first, from)) (omega (arith, first, many, below)));
+            slot_in = right.slot_in;
+            taken = λ free. has_state (G.slot s) right.has_slot (sym (whole.slots.states s right.slot_in) ∙ free);
+            there = subst (λ w. IsPageOfTable env.geometry words w p) (sym right.shape_is)
+                ((pages_in_words env mix words G whole τ attached p).1 e);
           })
 
   no_page_free : (s p : ℕ) → s < 8 → ((c : ℕ) → G.slot s ≢ SlotHeld c) → word_at env.geometry words (Slot s StateWord) ≢ 0
-      → In p (run_in_slot env.geometry words s) → IsPageFree env.geometry words p → ⊥
+      → IsPageOfSlot env.geometry words s p → IsPageFree env.geometry words p → ⊥
   no_page_free s p l unheld taken there free =
       let has = state_has (G.slot s) unheld (λ e. taken (whole.slots.states s l ∙ e)) in
       let is = whole.tables.slots s has in
       let τ = index_at G s in
-      let run = run_of_table τ is.attached in
+      let right = whole.tables.each τ is.attached in
       let shape_is : word_at env.geometry words (Slot s ShapeWord) ≡ (G.table τ).shape =
-      subst (λ t. word_at env.geometry words (Slot t ShapeWord) ≡ (G.table τ).shape) is.slot run.shape_is in
-      let in_run = subst (λ w. In p (pages_of_table env.geometry w)) shape_is there in
-      let from = range_with_len-from (run_first env.geometry (G.table τ).shape) (run_pages env.geometry (G.table τ).shape) p in_run in
-      let until = range_with_len-In (run_first env.geometry (G.table τ).shape) (run_pages env.geometry (G.table τ).shape) p in_run in
-      let first = run.first in
-      let many = run.many in
-      let of : G.page p ≡ PageOf τ = page_is_of τ p is.attached (omega (arith, from, first)) (omega (arith, until, first, many)) in
-      let fits = (flat_right env mix (mem env mix words) G whole τ is.attached).fits in
-      let least = (IsSizeUpTo-size_of (unpacked (G.table τ).shape)).least in
-      let within : p < env.geometry.pages = omega (arith, until, first, many, fits, least) in
+      subst (λ t. word_at env.geometry words (Slot t ShapeWord) ≡ (G.table τ).shape) is.slot right.shape_is in
+      let of : G.page p ≡ PageOf τ =
+      (pages_in_words env mix words G whole τ is.attached p).0
+      (subst (λ w. IsPageOfTable env.geometry words w p) shape_is there) in
+      let within = page_within env mix (G.table τ) G.page τ right.placed p of in
       let none : PageOf τ ≡ PageFree = sym of ∙ (whole.pages.bits p within).0 free in
       cc
 

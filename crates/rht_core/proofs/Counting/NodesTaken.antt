@@ -34,7 +34,7 @@ use Rattle.rht_core.specs.Laws.{IsNoTake, IsTakeOf, TakesNone, TakesOne, IsTaken
 use Rattle.rht_core.specs.Refused.{IsTableWord}
 use Rattle.rht_core.proofs.Theory.Wholes.{place_at}
 use Rattle.rht_core.proofs.Theory.Answering.{TellsNode, TellsNode-same, known_so, unknown_before}
-use Rattle.rht_core.proofs.Theory.Steps.{Holding, Move, Quiet, TakesNode, GivesNode, TakesLock, DropsLock, Raises, Links, Lowers, Rebinds, LinksBehind, Arms, TakesSlot, GivesSlot, TakesPages, GivesPages, Attaches, TakesWork, GivesWork, BeginsMoving, TakesSecond, Leaves, Arrives, CutsOff, Publishes, Retires, Does, IsAside, DoesQuiet}
+use Rattle.rht_core.proofs.Theory.Steps.{Holding, Move, Quiet, TakesNode, GivesNode, TakesLock, DropsLock, Raises, Links, Lowers, Rebinds, LinksBehind, Arms, TakesSlot, GivesSlot, TakesPages, GivesPages, Attaches, Enters, TakesWork, GivesWork, BeginsMoving, TakesSecond, Leaves, Arrives, CutsOff, Publishes, Retires, Does, IsAside, DoesQuiet}
 use Rattle.rht_core.proofs.Events.JobsOfCallers.{same_call, first_unknown, first_without}
 use Rattle.rht_core.proofs.Tracing.TracedJobs.{Performs, LeadsOn, IsKeeping, jobs_keep}
 
@@ -210,6 +210,10 @@ took env mix (GivesPages index bits) did h h' does = inl record {
 }
 took env mix (Attaches slot shape seed serial) did h h' does = inl record {
   none = on_slot env.geometry did does.last FutureWord does.within (omega arith) (ap op_place does.attaching);
+  left = inl (ap (λ (h : Holding). h.node) does.holds);
+}
+took env mix (Enters j p) did h h' does = inl record {
+  none = on_bucket env mix did j (ap op_place does.entering);
   left = inl (ap (λ (h : Holding). h.node) does.holds);
 }
 took env mix TakesWork did h h' does = inl record {

@@ -9,7 +9,7 @@ use Rattle.rht_words.specs.declared.machine.Next.TheVariants.{Go, Done}
 use Rattle.rht_words.specs.Held as held
 use Rattle.rht_words.specs.Links.{link_of, node_of}
 use Rattle.rht_words.specs.Ports.{owner_of}
-use Rattle.rht_words.specs.Operations.{old_of, word_after}
+use Rattle.rht_words.specs.Operations.{old_of, word_after, applied}
 use Rattle.rht_words.specs.Places.{Node, OwnerWord, ListLink, words_in}
 use Rattle.rht_words.specs.Chains.{IsSegment}
 use Rattle.rht_words.specs.Members.{In}
@@ -32,7 +32,7 @@ use Rattle.rht_core.proofs.Theory.Wholes.{list_of, Whole}
 use Rattle.rht_core.proofs.Theory.Knowns.{Nowhere, Locks, Collected, CollectedTo, Known, last_of}
 use Rattle.rht_core.proofs.Theory.Knowledge.{Knowing}
 use Rattle.rht_core.proofs.Theory.Answering.{IsLegalOn, IsRight, Tells, keeps, learns}
-use Rattle.rht_core.proofs.Theory.Steps.{Holding, mem, owners, owners_in, moved-map, Step, step-map, answered, reads, HoldsNoneEarly, still_has}
+use Rattle.rht_core.proofs.Theory.Steps.{Holding, mem, owners, owners_in, moved-map, StepWhere, step-map, answered, reads, HoldsNoneEarly, still_has}
 use Rattle.rht_core.proofs.Pieces.Locks.{unlock_step}
 use Rattle.rht_core.proofs.Pieces.Lists.{list_among, list_few, list_rest, found_list}
 use Rattle.rht_core.proofs.Pieces.Seeks as seeks
@@ -56,6 +56,17 @@ module _ (port : ℕ) where
   fits_all room (at.Owner found node) = Unit {0}
   fits_all room (at.ListLink found node) = Unit {0}
   fits_all room (at.Unlocking table unlock) = Unit {0}
+
+-- the bucket that it may find missing is there
+abbrev pub all_there : AllAt → Memory → Type 0
+all_there (at.Seeking seek) M = seeks.seek_there seek.at M
+all_there (at.Owner found node) M = ⊥
+all_there (at.ListLink found node) M = ⊥
+all_there (at.Unlocking table unlock) M = ⊥
+
+abbrev pub all_there_next : AllAt × Next (Unit {0}) → Memory → Type 0
+all_there_next (at, Go) M = all_there at M
+all_there_next (at, Done done) M = ⊥
 
 -- the room with this owner behind the others
 abbrev pub room_with : Kept ℕ → ℕ → Kept ℕ
@@ -91,8 +102,8 @@ module _ (env : Env) (mix : ℕ → ℕ → ℕ → ℕ) (c : ℕ) (port : ℕ) 
     -- what an operation leads to from a state, with this room then
     abbrev AllMoved : AllAt → Kept ℕ → AllAt × Next (Unit {0}) → Type 0
     AllMoved at after r =
-        Step env mix c call words G (plan_at env at) (held_of_all room.items at) (all_holds after r)
-        (AllNext after r)
+        StepWhere env mix (all_there at M) (all_there_next r (mem env mix (applied words (plan_at env at)))) c call words G
+        (plan_at env at) (held_of_all room.items at) (all_holds after r) (AllNext after r)
 
     abbrev pub AllStep : AllAt → Type 0
     AllStep at =
@@ -292,7 +303,9 @@ module _ (env : Env) (mix : ℕ → ℕ → ℕ → ℕ) (c : ℕ) (port : ℕ) 
 
     -- where the port was found its owners are loaded
     seek_next : (seek : SeekModel) (r : SeekModel × Next (Option FoundPort)) → room.items ≡ []
-        → Step env mix c call words G (seek_plan seek) (held_of_all room.items (at.Seeking seek))
+        → StepWhere env mix (seeks.seek_there seek.at M)
+        (seeks.seek_there_next (r.0.at, r.1) (mem env mix (applied words (seek_plan seek)))) c call words G
+        (seek_plan seek) (held_of_all room.items (at.Seeking seek))
         (seeks.seek_holds None absent (r.0.at, r.1))
         (seeks.SeekNext env mix c call port None None absent (r.0.at, r.1))
         → AllMoved (at.Seeking seek) room (sought r.0 r.1)

@@ -34,7 +34,9 @@ use Rattle.rht_nest.proofs.TablePages.{page_of_table, pages_of_table-shape, page
 use Rattle.rht_nest.specs.Grow.{pages_of_grow}
 use Rattle.rht_nest.specs.Locate.{LocateModel, locate_new, locate_plan, locate_after}
 use Rattle.rht_nest.specs.declared.locate.Located.{Located}
-use Rattle.rht_chain.specs.Probe.{ProbeModel, probe_new, probe_plan, probe_after, lock_of_probe}
+use Rattle.rht_nest.specs.declared.locate.LocatedBucket.{LocatedBucket}
+use Rattle.rht_nest.specs.declared.locate.LocatedBucket.TheVariants as buckets
+use Rattle.rht_chain.specs.Probe.{ProbeModel, probe_plan, probe_after, lock_of_probe}
 use Rattle.rht_chain.specs.declared.probe.Probed.{Probed}
 use Rattle.rht_chain.specs.Relink.{RelinkModel, relink_new, relink_at, has_relinked}
 use Rattle.rht_chain.specs.declared.relink.RelinkAt.{RelinkAt}
@@ -48,7 +50,7 @@ use Rattle.rht_model.specs.declared.history.Reply.TheVariants.{Bound, Exists, To
 use Rattle.rht_model.specs.Multimap.{Multimap, Agree}
 use Rattle.rht_model.specs.Answers.{plain, bind_reply, owners_bound}
 use Rattle.rht_model.specs.Answers as answers
-use Rattle.rht_bind.specs.Bind.{plan_at, after_at, first_attempt, filled, located, bound_already, found_or_future, probed, replacing, unlocking, future_or_count, checked_count, publishing, kicks, IsBindAtIn}
+use Rattle.rht_bind.specs.Bind.{plan_at, after_at, first_attempt, filled, located, at_bucket, bound_already, found_or_future, probed, replacing, unlocking, future_or_count, checked_count, publishing, kicks, IsBindAtIn}
 use Rattle.rht_bind.specs.Growing.{giving, unlocking_full, want_or_busy, making, size_grown, made, ended_attempt, behind_attempt, refused_or_found, has_attached, unmade}
 use Rattle.rht_bind.specs.BindHeld.{held_of_bind, holds_node, holds_claimed, holds_replacing, holds_table}
 use Rattle.rht_bind.specs.declared.bind.Attempt.{Attempt}
@@ -71,19 +73,20 @@ use Rattle.rht_core.proofs.Theory.Frames.{Made, same_tables, same_grow, tables_s
 use Rattle.rht_core.specs.Counts.{takes_out}
 use Rattle.rht_core.specs.Replies.{IsBindReply, AreOwnersWith, ArePairsWith}
 use Rattle.rht_core.proofs.Theory.Answering.{KeepsAnswer, IsLegalOn, IsRight, Tells, keeps, learns}
-use Rattle.rht_core.proofs.Theory.Steps.{Attaches, Links, Rebinds, Holding, HoldsNoneEarly, by_test, mem, owners, owners_in, owners-stay, owners_in-stay, ghost_after, Moved, moved-map, with_knowledge, still_has, reowned-outs, Step, answered, reads, Arms, unchanged, moved}
+use Rattle.rht_core.proofs.Theory.Steps.{Attaches, Links, Rebinds, Holding, HoldsNoneEarly, by_test, mem, owners, owners_in, owners-stay, owners_in-stay, ghost_after, Moved, moved-map, still_has, reowned-outs, Step, answered, reads, Arms, unchanged, moved}
 use Rattle.rht_core.proofs.Theory.Readiness.{IsAttaching, linked_bucket, IsReady, IsArming}
 use Rattle.rht_core.proofs.Moves.Quiet.{armed_passes, arm}
 use Rattle.rht_core.proofs.Moves.Linking.{link_head}
 use Rattle.rht_core.proofs.Moves.Relinking.{relink_address, relink_value}
 use Rattle.rht_core.proofs.Pieces.ListFronts.{lock_left, change, fronted, front_made, front_only, front_locks, front_outs}
 use Rattle.rht_core.proofs.Pieces.NewNodes as nodes
+use Rattle.rht_core.proofs.Pieces.RunPages.{first_run-none}
 use Rattle.rht_core.proofs.Theory.TableFrames.{Knowing-retabled}
 use Rattle.rht_core.proofs.Moves.Slots.{slot_word-apart}
 use Rattle.rht_core.proofs.Moves.Attaching.{is_page-for, attach, attached_kept}
 use Rattle.rht_core.proofs.Pieces.Holdings.{bare_slot, holding, knowing}
 use Rattle.rht_core.proofs.Pieces.Makes.{known_of_make, known_made, slot_made, made_with, make_step, known_given, slot_given, pages_given, unmake_step}
-use Rattle.rht_core.proofs.Pieces.Locates.{known_locate, first_passed, locate_step, LocateKnows, FutureIs, future_is, is_last, no_way}
+use Rattle.rht_core.proofs.Pieces.Locates.{known_locate, first_passed, locate_step, LocateKnows, LocatedKnows, FutureIs, future_is, is_last, no_way}
 use Rattle.rht_core.proofs.Pieces.Locks.{unlock_step, unlock_any}
 use Rattle.rht_core.proofs.Pieces.Probes.{known_probe, known_found, place_of_probe, IsProbeFor, probed_by, ProbeKnows, probe_step}
 use Rattle.rht_core.proofs.Pieces.PortCounts.{raise_step}
@@ -141,7 +144,7 @@ module _ (port owner : ℕ) where
   known_of_bind (at.CurrentTable attempt) = knows_of (own attempt.node) Nowhere Unlocked
   known_of_bind (at.Locating attempt locate) = knows_of (own attempt.node) (known_locate port locate.table locate.at) Unlocked
   known_of_bind (at.Entering attempt table shape place grow) =
-      record (knows_of (own attempt.node) (OnWay port table shape) Unlocked) { making = HasPages (pages_of_grow grow.at) }
+      record (knows_of (own attempt.node) (OnWay port table shape place None) Unlocked) { making = HasPages (pages_of_grow grow.at) }
   known_of_bind (at.Probing attempt table shape probe) = knows_of (own attempt.node) (AtHome port table (Some shape) (place_of_probe probe.at)) (known_probe port probe.at)
   known_of_bind (at.FoundOwner claimed found) = knows_of (own claimed.attempt.node) (at_home claimed) (Member claimed.bucket.place claimed.bucket.word port found)
   known_of_bind (at.ListLink list) = knows_of (own list.claimed.attempt.node) (at_home list.claimed)
@@ -299,6 +302,33 @@ module _ (env : Env) (mix : ℕ → ℕ → ℕ → ℕ) (c : ℕ) (port owner :
         (moved-map env mix c words G (new_node_plan new) (holds_node (node_of_new new.at) None) (holds_node (Some n) None) _ (BindNext (at.CurrentTable (first_attempt n), Go))
         (λ M' G' w k. record { knowing = k; fits = tt }) step)
 
+    -- the bucket was looked for: where it is missing the way goes on in the table behind, or a page is to be entered
+    located_knows : (attempt : Attempt) (table shape : ℕ) (bucket : LocatedBucket) (M' : Memory) (G' : Ghost)
+        → LocatedKnows env mix c (holds_node (Some attempt.node) None) (Some (own port owner attempt.node)) Unlocked port table shape bucket M' G'
+        → BindKnows (at_bucket env port attempt table shape bucket) M' G'
+    located_knows attempt table shape (buckets.At place) M' G' k =
+        record { knowing = record { only = k.only; means = k.means }; fits = (refl, tt) }
+    located_knows attempt table shape (buckets.Missing place (Some next)) M' G' k =
+        record { knowing = record { only = k.only; means = k.means }; fits = tt }
+    located_knows attempt table shape (buckets.Missing place None) M' G' k =
+        record {
+          knowing = subst (λ pages. Knowing env mix c (holds_table attempt.node None pages)
+              (record (knows_of port owner (own port owner attempt.node) (OnWay port table shape place None) Unlocked) { making = HasPages pages }) M' G')
+              (sym (first_run-none env.geometry 1))
+              (record {
+                only = k.only;
+                means = record { node = k.means.node; table = k.means.table; bucket = tt; making = λ p i. absurd i; work = tt };
+              });
+          fits = tt;
+        }
+
+    located_holds : (attempt : Attempt) (table shape : ℕ) (bucket : LocatedBucket)
+        → held_of_bind (at_bucket env port attempt table shape bucket) ≡ holds_node (Some attempt.node) None
+    located_holds attempt table shape (buckets.At place) = refl
+    located_holds attempt table shape (buckets.Missing place (Some next)) = refl
+    located_holds attempt table shape (buckets.Missing place None) =
+        ap (holds_table attempt.node None) (first_run-none env.geometry 1)
+
     -- the way to the bucket
     found_place : (attempt : Attempt) (locate : LocateModel) (r : LocateModel × Next Located)
         → Moved env mix c words G (locate_plan locate) (holds_node (Some attempt.node) None) (holds_node (Some attempt.node) None) (LocateKnows env mix c (holds_node (Some attempt.node) None) (Some (own port owner attempt.node)) Unlocked port r)
@@ -308,11 +338,11 @@ module _ (env : Env) (mix : ℕ → ℕ → ℕ → ℕ) (c : ℕ) (port owner :
         (moved-map env mix c words G (locate_plan locate) (holds_node (Some attempt.node) None) (holds_node (Some attempt.node) None) _ (BindNext (at.Locating attempt next, Go))
         (λ M' G' w k. record { knowing = k; fits = tt }) step)
     found_place attempt locate (next, Done there) step =
-        let is = step.knows in
-        let probing = at.Probing attempt next.table there.shape (probe_new env.geometry is.place port) in
-        rw is.there (answered env mix c call words G (locate_plan locate) (holds_node (Some attempt.node) None) (holds_node (Some attempt.node) None) None (BindNext (probing, Go)) (inl refl) (still_has refl)
-        (with_knowledge env mix c words G (locate_plan locate) (holds_node (Some attempt.node) None) (holds_node (Some attempt.node) None) _ (BindNext (probing, Go)) step
-        (record { knowing = record { only = is.knows.only; means = is.knows.means }; fits = (refl, tt) })))
+        let state = at_bucket env port attempt next.table there.shape there.bucket in
+        rw (located_holds attempt next.table there.shape there.bucket)
+        (answered env mix c call words G (locate_plan locate) (holds_node (Some attempt.node) None) (holds_node (Some attempt.node) None) None (BindNext (state, Go)) (inl refl) (still_has refl)
+        (moved-map env mix c words G (locate_plan locate) (holds_node (Some attempt.node) None) (holds_node (Some attempt.node) None) _ (BindNext (state, Go))
+        (λ M' G' w k. located_knows attempt next.table there.shape there.bucket M' G' k) step))
 
     -- the end of a walk
     bound_knows : (kind : Kind) → env.config.kind ≡ kind → (claimed : Claimed) (first : ℕ)
@@ -1286,7 +1316,7 @@ module _ (env : Env) (mix : ℕ → ℕ → ℕ → ℕ) (c : ℕ) (port owner :
         found_place attempt locate (locate_after mix port locate (old_of words (locate_plan locate)))
         (locate_step env mix c (holds_node (Some attempt.node) None) (Some (own port owner attempt.node)) Unlocked words G whole port locate is.locate_in known.knowing)
     bind_step (at.Entering attempt table shape place grow) is known =
-        no_way env mix c (holds_table attempt.node None (pages_of_grow grow.at)) (Some (own port owner attempt.node)) Unlocked words G whole _ port table shape
+        no_way env mix c (holds_table attempt.node None (pages_of_grow grow.at)) (Some (own port owner attempt.node)) Unlocked words G whole _ port table shape place None
         known.knowing.means.table
     bind_step (at.Probing attempt table shape probe) is known =
         walked attempt table shape probe (probe_after probe (old_of words (probe_plan probe))) known.fits.0

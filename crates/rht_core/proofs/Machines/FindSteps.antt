@@ -1,18 +1,22 @@
 -- What a look-up knows in each state, and that each of its operations leads from what it knows to what it knows next.
-use Rattle.std.proofs.Common.{◌≡◌, ℕ, List, [], ◌∷◌, length, Option, Some, None, refl, sym, ◌∙◌, ap, inl, inr}
+use Rattle.std.proofs.Common.{◌≡◌, ℕ, List, [], ◌∷◌, length, Option, Some, None, refl, sym, ◌∙◌, ap, subst, inl, inr}
 use Rattle.rht_words.specs.declared.env.Env.{Env}
 use Rattle.rht_words.specs.declared.machine.Next.{Next}
 use Rattle.rht_words.specs.declared.machine.Next.TheVariants.{Go, Done}
 use Rattle.rht_words.specs.Held as held
 use Rattle.rht_words.specs.Links.{table_of, slot_of, node_of}
 use Rattle.rht_words.specs.Ports.{owner_of}
-use Rattle.rht_words.specs.Operations.{old_of, word_after}
+use Rattle.rht_words.specs.Operations.{old_of, word_after, applied}
 use Rattle.rht_words.specs.Places.{CurrentTable, Slot, FutureWord, Node, OwnerWord, ListLink, words_in}
 use Rattle.rht_words.proofs.Memory.{Memory}
 use Rattle.rht_words.proofs.LinksRead.{links_tell_apart}
 use Rattle.rht_words.proofs.Members.{in-middle}
 use Rattle.rht_nest.specs.Locate.{LocateModel, locate_new, locate_plan, locate_after}
+use Rattle.rht_nest.specs.declared.locate.LocateAt.{LocateAt}
+use Rattle.rht_nest.specs.declared.locate.LocateAt.TheVariants as locates
 use Rattle.rht_nest.specs.declared.locate.Located.{Located}
+use Rattle.rht_nest.specs.declared.locate.LocatedBucket.{LocatedBucket}
+use Rattle.rht_nest.specs.declared.locate.LocatedBucket.TheVariants as buckets
 use Rattle.rht_chain.specs.Probe.{ProbeModel, probe_new, probe_plan, probe_after, lock_of_probe}
 use Rattle.rht_chain.specs.declared.probe.Probed.{Probed}
 use Rattle.rht_chain.specs.declared.locked.Locked.{Locked}
@@ -25,17 +29,19 @@ use Rattle.rht_model.specs.declared.history.Reply.TheVariants.{Found, Missing}
 use Rattle.rht_model.specs.Multimap.{Multimap}
 use Rattle.rht_model.specs.Answers.{plain}
 use Rattle.rht_model.specs.Answers as answers
-use Rattle.rht_find.specs.Find.{plan_at, after_at, located, found_or_not, probed, unlocking, next_table, list_followed, IsFindAtIn}
+use Rattle.rht_find.specs.Find.{plan_at, after_at, located, locating, bucket_or_early, found_or_not, probed, unlocking, next_table, list_followed, IsFindAtIn}
 use Rattle.rht_find.specs.FindHeld.{held_of_find}
+use Rattle.rht_find.specs.FindHeld as finds
+use Rattle.rht_release.specs.Seek.{early_of_locate}
 use Rattle.rht_find.specs.declared.find.FindAt.{FindAt}
 use Rattle.rht_find.specs.declared.find.FindAt.TheVariants as at
 use Rattle.rht_core.proofs.Theory.Ghosts.{Ghost}
 use Rattle.rht_core.proofs.Theory.Wholes.{word_index, Whole}
 use Rattle.rht_core.proofs.Theory.Knowns.{KnownTable, Nowhere, Passes, AtHome, KnownBucket, Unlocked, Locks, Missed, Member, Listing, Known, knows_plain}
 use Rattle.rht_core.proofs.Theory.Knowledge.{Knowing}
-use Rattle.rht_core.proofs.Theory.Answering.{KeepsAnswer, keeps, learns}
-use Rattle.rht_core.proofs.Theory.Steps.{Holding, mem, owners, owners_in, Moved, moved-map, with_knowledge, Step, answered, reads, HoldsNoneEarly, still_has}
-use Rattle.rht_core.proofs.Pieces.Locates.{known_locate, first_passed, locate_step, LocateKnows, FutureIs, future_is}
+use Rattle.rht_core.proofs.Theory.Answering.{KeepsAnswer, IsLegalOn, IsRight, KnowsEarly, TellsOrRecalls, none_early, keeps, learns, recalls}
+use Rattle.rht_core.proofs.Theory.Steps.{Holding, mem, owners, owners_in, Moved, moved-map, StepWhere, answered_where, answered, reads, HoldsNoneEarly, still_has}
+use Rattle.rht_core.proofs.Pieces.Locates.{known_locate, IsThereAt, first_passed, locate_step, LocateKnows, LocatedKnows, LocateSays, Recalls, locate_says, FutureIs, future_is}
 use Rattle.rht_core.proofs.Pieces.Locks.{unlock_step}
 use Rattle.rht_core.proofs.Pieces.Lists.{IsNextOf, list_next, list_among}
 use Rattle.rht_core.proofs.Pieces.Probes.{known_probe, known_found, place_of_probe, IsProbeFor, probed_by, ProbeKnows, probe_step}
@@ -51,6 +57,29 @@ at_lock lock = record held.holds_nothing { lock = lock }
 -- what it knows of the way to a bucket, and of the bucket that it has locked
 abbrev knows_of : KnownTable → KnownBucket → Known
 knows_of table bucket = knows_plain None table bucket
+
+-- the bucket that it may find missing is there
+abbrev pub find_there : FindAt → Memory → Type 0
+find_there at.CurrentTable M = ⊥
+find_there (at.Locating locate) M = IsThereAt locate.at M
+find_there (at.Probing table probe) M = ⊥
+find_there (at.Future table bucket) M = ⊥
+find_there (at.FirstOwner table bucket node) M = ⊥
+find_there (at.ListLink table bucket node owner) M = ⊥
+find_there (at.LaterOwner table bucket node owner) M = ⊥
+find_there (at.Unlocking table unlock next) M = ⊥
+
+abbrev pub find_there_next : FindAt × Next Reply → Memory → Type 0
+find_there_next (at, Go) M = find_there at M
+find_there_next (at, Done reply) M = ⊥
+
+-- what it knows early is what any call does whose port is bound nowhere
+early_is : (at : LocateAt) → finds.early_of_locate at ≡ early_of_locate (plain Missing) at
+early_is locates.Shape = refl
+early_is (locates.Seed shape) = refl
+early_is (locates.Early shape place) = refl
+early_is (locates.Entry shape None place) = refl
+early_is (locates.Entry shape (Some next) place) = refl
 
 -- where the call goes on behind an unlocking, the port has been passed there
 abbrev pub known_behind : ℕ → Then Reply → KnownTable
@@ -117,8 +146,9 @@ module _ (env : Env) (mix : ℕ → ℕ → ℕ → ℕ) (c : ℕ) (port : ℕ) 
 
     -- what an operation leads to from a state
     abbrev FindMoved : FindAt → FindAt × Next Reply → Type 0
-    FindMoved at r = Step env mix c call words G (plan_at env at) (held_of_find at) (find_holds r)
-        (FindNext r)
+    FindMoved at r =
+        StepWhere env mix (find_there at M) (find_there_next r (mem env mix (applied words (plan_at env at)))) c call words G
+        (plan_at env at) (held_of_find at) (find_holds r) (FindNext r)
 
     abbrev pub FindStep : FindAt → Type 0
     FindStep at = FindMoved at (after_at mix env port at (old_of words (plan_at env at)))
@@ -133,48 +163,95 @@ module _ (env : Env) (mix : ℕ → ℕ → ℕ → ℕ) (c : ℕ) (port : ℕ) 
         reads env mix c call words G (plan_at env at) (held_of_find at) (held_of_find next)
         (FindNext (next, Go)) whole same holds (inl says) knows
 
+    -- ---- the port is bound nowhere
+
+    missing_right : IsRight call None (plain Missing)
+    missing_right = record { replied = record { reply = tt; owners = refl; pairs = refl }; tells = refl }
+
+    missing_legal : now port ≡ [] → IsLegalOn env.config.kind c call now (plain Missing)
+    missing_legal none =
+        record { legal = inl (ap (λ owners. Some (plain (answers.find_reply owners))) none); leaves = λ p. refl }
+
     -- ---- what the pieces lead to
 
-    -- the way to the bucket
-    found_place : (locate : LocateModel) (r : LocateModel × Next Located)
-        → Moved env mix c words G (locate_plan locate) held.holds_nothing held.holds_nothing
-        (LocateKnows env mix c held.holds_nothing None Unlocked port r)
-        → FindMoved (at.Locating locate) (located env port r.0 r.1)
-    found_place locate (next, Go) step =
-        answered env mix c call words G (locate_plan locate) held.holds_nothing held.holds_nothing None
-        (FindNext (at.Locating next, Go)) (inl refl) (still_has refl)
-        (moved-map env mix c words G (locate_plan locate) held.holds_nothing held.holds_nothing
-        (LocateKnows env mix c held.holds_nothing None Unlocked port (next, Go))
-        (FindNext (at.Locating next, Go))
-        (λ M' G' w k. record { knowing = k; fits = tt }) step)
-    found_place locate (next, Done there) step =
-        let is = step.knows in
-        let table = is.knows.means.table in
-        let probing = at.Probing next.table (probe_new env.geometry is.place port) in
-        rw is.there (answered env mix c call words G (locate_plan locate) held.holds_nothing
-        held.holds_nothing None (FindNext (probing, Go)) (inl refl) (still_has refl)
-        (with_knowledge env mix c words G (locate_plan locate) held.holds_nothing held.holds_nothing
-        (LocateKnows env mix c held.holds_nothing None Unlocked port (next, Done there))
-        (FindNext (probing, Go)) step
-        (record {
+    -- what it holds on the way to the bucket, and what an operation there makes of it
+    abbrev before : LocateModel → Holding
+    before locate = held_of_find (at.Locating locate)
+
+    abbrev LocateMoved : LocateModel → (Memory → Ghost → Type 0) → Type 0
+    LocateMoved locate Knows = Moved env mix c words G (locate_plan locate) (before locate) (before locate) Knows
+
+    -- an operation after which nothing is known early
+    goes_from : (locate : LocateModel) (next : FindAt) (Knows : Memory → Ghost → Type 0)
+        → held_of_find next ≡ held.holds_nothing
+        → ((M' : Memory) (G' : Ghost) → Knows M' G' → FindKnows next M' G') → LocateMoved locate Knows
+        → FindMoved (at.Locating locate) (next, Go)
+    goes_from locate next Knows none more step =
+        rw none (answered env mix c call words G (locate_plan locate) (before locate) (before locate) None
+        (FindNext (next, Go)) (inl refl) (still_has refl)
+        (moved-map env mix c words G (locate_plan locate) (before locate) (before locate) Knows (FindNext (next, Go))
+        (λ M' G' w k. more M' G' k) step))
+
+    -- the bucket was looked for
+    found_bucket : (locate next : LocateModel) (shape : ℕ) (bucket : LocatedBucket)
+        → Recalls env mix c (before locate) None Unlocked words G whole port call (plain Missing) missing_legal locate.at bucket
+        → LocateMoved locate (LocatedKnows env mix c (before locate) None Unlocked port next.table shape bucket)
+        → FindMoved (at.Locating locate) (bucket_or_early env port next bucket)
+    found_bucket locate next shape (buckets.At place) says step =
+        goes_from locate (at.Probing next.table (probe_new env.geometry place port)) _ refl
+        (λ M' G' k. let table = k.means.table in record {
           knowing = record {
-            only = is.knows.only;
+            only = k.only;
             means = record {
               node = tt;
-              table = record {
-                passing = table.passing;
-                shape_is = tt;
-                bucket = table.bucket;
-                here =
-                    table.here;
-              };
+              table = record { passing = table.passing; shape_is = tt; bucket = table.bucket; here = table.here };
               bucket = tt;
               making = tt;
               work = tt;
             };
           };
           fits = (refl, tt);
-        })))
+        }) step
+    found_bucket locate next shape (buckets.Missing place (Some table)) says step =
+        goes_from locate (locating env table) _ refl
+        (λ M' G' k. record { knowing = record { only = k.only; means = k.means }; fits = tt }) step
+    found_bucket locate next shape (buckets.Missing place None) says step =
+        let There = IsThereAt locate.at M in
+        let kind = env.config.kind in
+        let absent = plain Missing in
+        answered_where env mix There ⊥ c call words G (locate_plan locate) (before locate) (before locate) (Some absent) None
+        (FindNext (at.Locating next, Done Missing))
+        (subst (λ early. TellsOrRecalls kind c call None early There now None (Some absent))
+        (sym (early_is locate.at ∙ says.known_early))
+        (recalls kind c call None There now absent missing_right refl says.missing))
+        (none_early kind c call There ⊥ now (finds.early_of_locate locate.at) None refl) (still_has refl)
+        (moved-map env mix c words G (locate_plan locate) (before locate) (before locate) _
+        (FindNext (at.Locating next, Done Missing))
+        (λ M' G' w k. record {
+          only = k.only;
+          means = record { node = tt; table = tt; bucket = tt; making = tt; work = tt };
+        }) step)
+
+    -- the way to the bucket
+    found_place : (locate : LocateModel) (r : LocateModel × Next Located)
+        → LocateMoved locate (LocateKnows env mix c (before locate) None Unlocked port r)
+        → LocateSays env mix c (before locate) None Unlocked words G whole port call (plain Missing) missing_legal locate.at
+        (applied words (locate_plan locate)) r
+        → FindMoved (at.Locating locate) (located env port r.0 r.1)
+    found_place locate (next, Go) step says =
+        let There = IsThereAt locate.at M in
+        let There' = IsThereAt next.at (mem env mix (applied words (locate_plan locate))) in
+        let Knows : Memory → Ghost → Type 0 = FindNext (at.Locating next, Go) in
+        answered_where env mix There There' c call words G (locate_plan locate) (before locate) (before locate) None
+        (finds.early_of_locate next.at) Knows (inl (inl refl))
+        (subst (λ early. KnowsEarly env.config.kind c call There There' now early (finds.early_of_locate next.at))
+        (sym (early_is locate.at))
+        (subst (KnowsEarly env.config.kind c call There There' now (early_of_locate (plain Missing) locate.at))
+        (sym (early_is next.at)) says))
+        (still_has refl)
+        (moved-map env mix c words G (locate_plan locate) (before locate) (before locate) _ Knows
+        (λ M' G' w k. record { knowing = record { only = k.only; means = k.means }; fits = tt }) step)
+    found_place locate (next, Done there) step says = found_bucket locate next there.shape there.bucket says step
 
     -- the end of a walk
     seen_knows : (table : ℕ) (bucket : Locked) (before found : Option ℕ) (M' : Memory) (G' : Ghost)
@@ -241,17 +318,12 @@ module _ (env : Env) (mix : ℕ → ℕ → ℕ → ℕ) (c : ℕ) (port : ℕ) 
         → FindKnows (at.Future table bucket) M G → FindMoved (at.Future table bucket)
         (unlocking table bucket (next_table future), Go)
     future_next table bucket None unbound known =
-        let none : now port ≡ [] = ap (owners_in env mix M) unbound in
         reads env mix c call words G (plan_at env (at.Future table bucket))
         (held_of_find (at.Future table bucket)) (held_of_find
         (unlocking table bucket (Answer Missing)))
         (FindNext (unlocking table bucket (Answer Missing), Go)) whole refl refl
-        (learns env.config.kind c call None now (plain Missing)
-        (record { replied = record { reply = tt; owners = refl; pairs = refl }; tells = refl }) refl
-        (record {
-          legal = inl (ap (λ owners. Some (plain (answers.find_reply owners))) none);
-          leaves = λ p. refl;
-        }))
+        (learns env.config.kind c call None now (plain Missing) missing_right refl
+        (missing_legal (ap (owners_in env mix M) unbound)))
         (record {
           knowing = record {
             only = known.knowing.only;
@@ -355,7 +427,9 @@ module _ (env : Env) (mix : ℕ → ℕ → ℕ → ℕ) (c : ℕ) (port : ℕ) 
         })
     find_step (at.Locating locate) is known =
         found_place locate (locate_after mix port locate (old_of words (locate_plan locate)))
-        (locate_step env mix c held.holds_nothing None Unlocked words G whole port locate is known.knowing)
+        (locate_step env mix c (before locate) None Unlocked words G whole port locate is known.knowing)
+        (locate_says env mix c (before locate) None Unlocked words G whole port call (plain Missing) missing_legal locate is
+        known.knowing)
     find_step (at.Probing table probe) is known =
         let r = probe_after probe (old_of words (probe_plan probe)) in
         walked table probe r known.fits.0

@@ -45,11 +45,11 @@ use Rattle.rht_core.proofs.Theory.Reliance.{Rely}
 use Rattle.rht_core.proofs.Theory.KnowledgeKept.{Knowing-rely}
 use Rattle.rht_core.proofs.Theory.Steps.{mem, Holding, Step, StepWhere, step-map, reads}
 use Rattle.rht_core.proofs.Machines.EarlyPages.{IsThere, IsThereNext}
-use Rattle.rht_core.proofs.Machines.FindSteps.{known_nothing, known_of_find, fits_find, find_holds, FindNext, find_step}
+use Rattle.rht_core.proofs.Machines.FindSteps.{known_nothing, known_of_find, fits_find, find_there, find_there_next, find_holds, FindNext, find_step}
 use Rattle.rht_core.proofs.Machines.BindSteps.{known_of_bind, fits_bind, bind_holds, BindNext, bind_step}
-use Rattle.rht_core.proofs.Machines.AllSteps.{known_of_all, fits_all, all_holds, AllNext, all_step}
-use Rattle.rht_core.proofs.Machines.ReleaseSteps.{known_of_release, fits_release, release_holds, ReleaseNext, nothing_known, release_step}
-use Rattle.rht_core.proofs.Machines.RebindSteps.{known_of_rebind, fits_rebind, rebind_holds, RebindNext, rebind_step}
+use Rattle.rht_core.proofs.Machines.AllSteps.{known_of_all, fits_all, all_there, all_there_next, all_holds, AllNext, all_step}
+use Rattle.rht_core.proofs.Machines.ReleaseSteps.{known_of_release, fits_release, release_there, release_there_next, release_holds, ReleaseNext, nothing_known, release_step}
+use Rattle.rht_core.proofs.Machines.RebindSteps.{known_of_rebind, fits_rebind, rebind_there, rebind_there_next, rebind_holds, RebindNext, rebind_step}
 use Rattle.rht_core.proofs.Machines.WorkMachine.{known_of_work, work_holds, WorkNext, work_step}
 
 -- what a caller knows by its job
@@ -147,7 +147,9 @@ module _ (env : Env) (mix : ℕ → ℕ → ℕ → ℕ) (c : ℕ) where
     JobStep job = JobStepOf words G (job_plan env job) job (job_after mix env job (old_of words (job_plan env job)))
 
     finds_so : (port : ℕ) (state : FindAt) (r : FindAt × Next Reply)
-        → Step env mix c (call_of (finds port state)) words G (find_at.plan_at env state) (held_of (finds port state)) (find_holds env mix c port r) (FindNext env mix c port r)
+        → StepWhere env mix (find_there state (mem env mix words))
+        (find_there_next r (mem env mix (applied words (find_at.plan_at env state)))) c (call_of (finds port state)) words G
+        (find_at.plan_at env state) (held_of (finds port state)) (find_holds env mix c port r) (FindNext env mix c port r)
         → JobStepOf words G (job_plan env (finds port state)) (finds port state) (job_next (finds port) plain_ending r)
     finds_so port state (next, Go) step =
         step-map env mix c (call_of (finds port state)) words G (find_at.plan_at env state) (held_of (finds port state)) (held_of (finds port next)) _ (JobNext (finds port next, Go))
@@ -163,7 +165,9 @@ module _ (env : Env) (mix : ℕ → ℕ → ℕ → ℕ) (c : ℕ) where
     binds_so port owner once state (next, Done reply) step = step
 
     lists_so : (port : ℕ) (room : Kept ℕ) (state : AllAt) (after : Kept ℕ) (r : AllAt × Next (Unit {0}))
-        → Step env mix c (All port) words G (all_at.plan_at env state) (held_of_all room.items state)
+        → StepWhere env mix (all_there state (mem env mix words))
+        (all_there_next r (mem env mix (applied words (all_at.plan_at env state)))) c (All port) words G
+        (all_at.plan_at env state) (held_of_all room.items state)
         (all_holds env mix c port after r) (AllNext env mix c port after r)
         → JobStepOf words G (job_plan env (lists port room state)) (lists port room state) (job_next (lists port after) (listing_ending after) r)
     lists_so port room state after (next, Go) step =
@@ -173,7 +177,9 @@ module _ (env : Env) (mix : ℕ → ℕ → ℕ → ℕ) (c : ℕ) where
     lists_so port room state after (next, Done done) step = step
 
     releases_so : (port owner : ℕ) (state : ReleaseAt) (r : ReleaseAt × Next (Reply × Option ℕ))
-        → Step env mix c (Release port owner) words G (release_at.plan_at env state) (held_of (releases port owner state))
+        → StepWhere env mix (release_there state (mem env mix words))
+        (release_there_next r (mem env mix (applied words (release_at.plan_at env state)))) c (Release port owner) words G
+        (release_at.plan_at env state) (held_of (releases port owner state))
         (release_holds env mix c port owner r) (ReleaseNext env mix c port owner r)
         → JobStepOf words G (job_plan env (releases port owner state)) (releases port owner state) (job_next (releases port owner) node_ending r)
     releases_so port owner state (next, Go) step =
@@ -187,7 +193,9 @@ module _ (env : Env) (mix : ℕ → ℕ → ℕ → ℕ) (c : ℕ) where
         (λ M G' w k. nothing_known env mix c after end.1 M G' k) step
 
     rebinds_so : env.config.kind ≡ Single → (port owner new : ℕ) (state : RebindAt) (r : RebindAt × Next (Reply × Option ℕ))
-        → Step env mix c (Rebind port owner new) words G (rebind_at.plan_at env state) (held_of (rebinds port owner new state))
+        → StepWhere env mix (rebind_there state (mem env mix words))
+        (rebind_there_next r (mem env mix (applied words (rebind_at.plan_at env state)))) c (Rebind port owner new) words G
+        (rebind_at.plan_at env state) (held_of (rebinds port owner new state))
         (rebind_holds env mix c port owner new r) (RebindNext env mix c port owner new r)
         → JobStepOf words G (job_plan env (rebinds port owner new state)) (rebinds port owner new state) (job_next (rebinds port owner new) node_ending r)
     rebinds_so single port owner new state (next, Go) step =

@@ -44,7 +44,7 @@ use Rattle.rht_core.proofs.Theory.Knowledge.{HasOnly, HoldsLock, HasTakenOut, Kn
 use Rattle.rht_core.proofs.Theory.Frames.{Made}
 use Rattle.rht_core.proofs.Theory.Readiness.{Change, changed}
 use Rattle.rht_core.proofs.Theory.Answering.{KeepsAnswer, IsLegalOn, IsRight, Stills, ChangesBindings, Says, Tells, keeps, learns}
-use Rattle.rht_core.proofs.Theory.Steps.{Rebinds, Holding, HoldsNoneEarly, by_test, mem, owners, owners_in, owners-stay, Moved, moved-map, Step, step-map, with_answer, answered, reads, HasNodeInTime, still_has}
+use Rattle.rht_core.proofs.Theory.Steps.{Rebinds, Holding, HoldsNoneEarly, by_test, mem, owners, owners_in, owners-stay, Moved, moved-map, StepWhere, Step, step-map, with_answer, answered, reads, HasNodeInTime, still_has}
 use Rattle.rht_core.proofs.Moves.Relinking.{relink_address, relink_value}
 use Rattle.rht_core.proofs.Moves.Removing as removing
 use Rattle.rht_core.proofs.Moves.Removing.{IsFoundIn, CanReplace}
@@ -89,6 +89,21 @@ module _ (port owner new : ℕ) where
       known_replacing n found (has_relinked found.before relink.at)
   known_of_rebind (at.Unlocking n table unlock) = knows_of n (Locks unlock.place unlock.word)
   known_of_rebind (at.Giving give) = knows_of give.node Unlocked
+
+-- the bucket that it may find missing is there
+abbrev pub rebind_there : RebindAt → Memory → Type 0
+rebind_there (at.Filling fresh) M = ⊥
+rebind_there (at.Seeking n seek) M = seeks.seek_there seek.at M
+rebind_there (at.Owner n found) M = ⊥
+rebind_there (at.ChainLink n found) M = ⊥
+rebind_there (at.Link n found link) M = ⊥
+rebind_there (at.Replacing n found relink) M = ⊥
+rebind_there (at.Unlocking n table unlock) M = ⊥
+rebind_there (at.Giving give) M = ⊥
+
+abbrev pub rebind_there_next : RebindAt × Next (Reply × Option ℕ) → Memory → Type 0
+rebind_there_next (at, Go) M = rebind_there at M
+rebind_there_next (at, Done end) M = ⊥
 
 module _ (env : Env) (mix : ℕ → ℕ → ℕ → ℕ) (c : ℕ) (port owner new : ℕ) where
   abbrev call : Call
@@ -138,7 +153,8 @@ module _ (env : Env) (mix : ℕ → ℕ → ℕ → ℕ) (c : ℕ) (port owner n
     -- what an operation leads to from a state
     abbrev RebindMoved : RebindAt → RebindAt × Next (Reply × Option ℕ) → Type 0
     RebindMoved at r =
-        Step env mix c call words G (plan_at env at) (held_of_rebind at) (rebind_holds r) (RebindNext r)
+        StepWhere env mix (rebind_there at M) (rebind_there_next r (mem env mix (applied words (plan_at env at)))) c call
+        words G (plan_at env at) (held_of_rebind at) (rebind_holds r) (RebindNext r)
 
     abbrev pub RebindStep : RebindAt → Type 0
     RebindStep at = RebindMoved at (after_at mix env port owner at (old_of words (plan_at env at)))
@@ -154,14 +170,14 @@ module _ (env : Env) (mix : ℕ → ℕ → ℕ → ℕ) (c : ℕ) (port owner n
         (RebindNext (next, Go)) whole same holds (inl says) knows
 
     -- an operation of a piece, with what it tells of the answer
-    moves_on : (at : RebindAt) (r : RebindAt × Next (Reply × Option ℕ)) (h' : Holding)
+    moves_on : {There There' : Type 0} (at : RebindAt) (r : RebindAt × Next (Reply × Option ℕ)) (h' : Holding)
         (answer : Option Answer)
         (Knows : Memory → Ghost → Type 0)
         → Tells env.config.kind c call (held_of_rebind at).node now (held_of_rebind at).answer answer
         → HasNodeInTime (held_of_rebind at) (with_answer env mix h' answer)
         → ((M' : Memory) (G' : Ghost) → Whole env mix M' G' → Knows M' G' → RebindNext r M' G')
         → Moved env mix c words G (plan_at env at) (held_of_rebind at) h' Knows
-        → Step env mix c call words G (plan_at env at) (held_of_rebind at) (with_answer env mix h' answer)
+        → StepWhere env mix There There' c call words G (plan_at env at) (held_of_rebind at) (with_answer env mix h' answer)
         (RebindNext r)
     moves_on at r h' answer Knows tells in_time more step =
         answered env mix c call words G (plan_at env at) (held_of_rebind at) h' answer (RebindNext r)
@@ -247,7 +263,9 @@ module _ (env : Env) (mix : ℕ → ℕ → ℕ → ℕ) (c : ℕ) (port owner n
 
     -- where the port was found its owner is loaded, and where it wasn't the node is given back
     seek_next : (n : ℕ) (seek : SeekModel) (r : SeekModel × Next (Option FoundPort))
-        → Step env mix c call words G (seek_plan seek) (held_of_rebind (at.Seeking n seek))
+        → StepWhere env mix (seeks.seek_there seek.at M)
+        (seeks.seek_there_next (r.0.at, r.1) (mem env mix (applied words (seek_plan seek)))) c call words G
+        (seek_plan seek) (held_of_rebind (at.Seeking n seek))
         (seeks.seek_holds (Some n) (plain Absent) (r.0.at, r.1))
         (seeks.SeekNext env mix c call port (Some n) (Some (own port owner new n)) (plain Absent)
         (r.0.at, r.1))

@@ -42,7 +42,7 @@ use Rattle.rht_core.proofs.Theory.Wholes.{chain_of, list_of, word_index, Whole}
 use Rattle.rht_core.proofs.Theory.Knowns.{Nowhere, KnownBucket, Locks, TakenOut, LocksTakenOut, KnownList, AtNode, Differing, Matching, CutsOut, Leads, LeadsTo, Promotes, Known, NoOwner, list_link, first_of_list}
 use Rattle.rht_core.proofs.Theory.Knowledge.{Knowing, ListMeans}
 use Rattle.rht_core.proofs.Theory.Answering.{KeepsAnswer, IsLegalOn, IsRight, keeps, learns}
-use Rattle.rht_core.proofs.Theory.Steps.{Lowers, LinksBehind, Holding, HoldsNoneEarly, by_test, mem, owners, owners_in, moved, moved-map, Step, step-map, answered, reads, still_has}
+use Rattle.rht_core.proofs.Theory.Steps.{Lowers, LinksBehind, Holding, HoldsNoneEarly, by_test, mem, owners, owners_in, moved, moved-map, StepWhere, Step, step-map, answered, reads, still_has}
 use Rattle.rht_core.proofs.Moves.Quiet.{count_down}
 use Rattle.rht_core.proofs.Moves.TakenNodes.{chain_behind}
 use Rattle.rht_core.proofs.Moves.Relinking.{last_none, last_of-more}
@@ -103,6 +103,24 @@ module _ (port owner : ℕ) where
       known_relinking found (LeadsTo None relink.link owner) (has_relinked found.before relink.at)
   known_of_release (at.Lowering node shape) = here (TakenOut node)
   known_of_release (at.Unlocking table unlock removed) = here (known_unlocking unlock removed)
+
+-- the bucket that it may find missing is there
+abbrev pub release_there : ReleaseAt → Memory → Type 0
+release_there (at.Seeking seek) M = seeks.seek_there seek.at M
+release_there (at.Owner found node before) M = ⊥
+release_there (at.ListLink found node) M = ⊥
+release_there (at.LinkBehind found node before) M = ⊥
+release_there (at.CuttingOut found node before link) M = ⊥
+release_there (at.ChainLink found second) M = ⊥
+release_there (at.SecondLink found second link) M = ⊥
+release_there (at.Promoting found relink) M = ⊥
+release_there (at.Unlinking found relink) M = ⊥
+release_there (at.Lowering node shape) M = ⊥
+release_there (at.Unlocking table unlock removed) M = ⊥
+
+abbrev pub release_there_next : ReleaseAt × Next (Reply × Option ℕ) → Memory → Type 0
+release_there_next (at, Go) M = release_there at M
+release_there_next (at, Done end) M = ⊥
 
 module _ (env : Env) (mix : ℕ → ℕ → ℕ → ℕ) (c : ℕ) (port owner : ℕ) where
   abbrev call : Call
@@ -194,16 +212,19 @@ module _ (env : Env) (mix : ℕ → ℕ → ℕ → ℕ) (c : ℕ) (port owner :
 
     -- what an operation leads to from a state
     abbrev ReleaseMoved : ReleaseAt → ReleaseAt × Next (Reply × Option ℕ) → Type 0
-    ReleaseMoved at r = Steps (plan_at env at) (held_of_release at) (release_holds r) (ReleaseNext r)
+    ReleaseMoved at r =
+        StepWhere env mix (release_there at M) (release_there_next r (mem env mix (applied words (plan_at env at)))) c call
+        words G (plan_at env at) (held_of_release at) (release_holds r) (ReleaseNext r)
 
     abbrev pub ReleaseStep : ReleaseAt → Type 0
     ReleaseStep at = ReleaseMoved at (after_at mix env port owner at (old_of words (plan_at env at)))
 
     -- the same step with what is known next
-    knows_next : (op : Op) (h h' : Holding) (Knows : Memory → Ghost → Type 0)
+    knows_next : {There There' : Type 0} (op : Op) (h h' : Holding) (Knows : Memory → Ghost → Type 0)
         (r : ReleaseAt × Next (Reply × Option ℕ))
         → ((M' : Memory) (G' : Ghost) → Knows M' G' → ReleaseNext r M' G')
-        → Steps op h h' Knows → Steps op h h' (ReleaseNext r)
+        → StepWhere env mix There There' c call words G op h h' Knows
+        → StepWhere env mix There There' c call words G op h h' (ReleaseNext r)
     knows_next op h h' Knows r next step =
         step-map env mix c call words G op h h' Knows (ReleaseNext r) (λ M' G' w k. next M' G' k) step
 
@@ -261,7 +282,9 @@ module _ (env : Env) (mix : ℕ → ℕ → ℕ → ℕ) (c : ℕ) (port owner :
     SeekNext r = seeks.SeekNext env mix c call port None None (plain Absent) (r.0.at, r.1)
 
     sought_step : (seek : SeekModel) (r : SeekModel × Next (Option FoundPort))
-        → Steps (seek_plan seek) (seeks.held_of_seek None (plain Absent) seek.at)
+        → StepWhere env mix (seeks.seek_there seek.at M)
+        (seeks.seek_there_next (r.0.at, r.1) (mem env mix (applied words (seek_plan seek)))) c call words G
+        (seek_plan seek) (seeks.held_of_seek None (plain Absent) seek.at)
         (seeks.seek_holds None (plain Absent) (r.0.at, r.1)) (SeekNext r)
         → ReleaseMoved (at.Seeking seek) (sought r.0 r.1)
     sought_step seek (next, Go) step =

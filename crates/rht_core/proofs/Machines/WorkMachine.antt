@@ -7,8 +7,10 @@ use Rattle.rht_words.specs.declared.op.Op.TheVariants.{Load}
 use Rattle.rht_words.specs.declared.geometry.Geometry.{Geometry}
 use Rattle.rht_words.specs.declared.machine.Next.{Next}
 use Rattle.rht_words.specs.declared.machine.Next.TheVariants.{Go, Done}
+use Rattle.rht_words.specs.declared.machine.Start.{Start}
+use Rattle.rht_words.specs.declared.machine.Start.TheVariants as starts
 use Rattle.rht_words.specs.Held as held
-use Rattle.rht_words.specs.Links.{table_of, slot_of, future_of, node_of, head_of, unlocked}
+use Rattle.rht_words.specs.Links.{table_of, slot_of, future_of, node_of, page_of, head_of, unlocked}
 use Rattle.rht_words.specs.Ports.{port_of}
 use Rattle.rht_words.specs.Shapes.{unpacked, size_of}
 use Rattle.rht_words.specs.Operations.{old_of, word_after, applied}
@@ -17,7 +19,7 @@ use Rattle.rht_words.proofs.Memory.{Memory, is_write}
 use Rattle.rht_words.proofs.ShapeSizes.{IsSizeUpTo-size_of}
 use Rattle.rht_policy.specs.Mix.{bucket_of}
 use Rattle.rht_chain.specs.Lock.{LockModel, lock_new, lock_plan, lock_after}
-use Rattle.rht_nest.specs.Place.{flat_place}
+use Rattle.rht_nest.specs.Place.{PlaceModel, flat_place, nested_place, place_plan, entered, went_behind, entry_seen}
 use Rattle.rht_nest.proofs.TablePages.{pages_of_table-shape}
 use Rattle.rht_nest.specs.Make.{MakeModel, make_plan, make_after_at}
 use Rattle.rht_nest.specs.declared.make.MakeAt.{MakeAt}
@@ -50,7 +52,7 @@ use Rattle.rht_nest.specs.Tables.{is_nested}
 use Rattle.rht_move.specs.Choice.{chosen, choice_of}
 use Rattle.rht_move.specs.LastTable.{LastTableModel, last_table_new, next_or_shape}
 use Rattle.rht_move.specs.LastEntry.{LastEntryModel, followed}
-use Rattle.rht_move.specs.Work.{plan_at, after_at, begun, made, not_made, unmade, future_or_idle, is_later, unlocking, entry_or_empty, with_word, walked, retiring, locked, second_locked, cut_off, next_bucket, bucket_of_root, reply_of, IsWorkAtIn}
+use Rattle.rht_move.specs.Work.{plan_at, after_at, begun, made, not_made, unmade, future_or_idle, is_later, unlocking, entry_or_empty, with_word, walked, retiring, entry_passed, locked, second_locked, cut_off, next_bucket, bucket_of_root, reply_of, IsWorkAtIn}
 use Rattle.rht_move.specs.WorkHeld.{holds_work, holds_table, holds_moving, has_moved, held_of_work}
 use Rattle.rht_core.specs.Counts.{takes_out}
 use Rattle.rht_core.specs.Replies.{IsWorkReply, AreOwnersWith, ArePairsWith}
@@ -63,7 +65,7 @@ use Rattle.rht_core.proofs.Theory.Steps.{Holding, mem, owners, Moved, moved-map,
 use Rattle.rht_core.proofs.Pieces.Holdings.{bare_slot}
 use Rattle.rht_core.proofs.Pieces.Makes.{known_of_make, slot_made, made_with, known_made, make_step, slot_given, pages_given, known_given, unmake_step}
 use Rattle.rht_core.proofs.Pieces.Attaches.{attach_step, lose_attach_step}
-use Rattle.rht_core.proofs.Pieces.WorkLoads.{last_sought, aim_sought, first_known, next_known, root_seen, from_root, root_alone, other_behind, future_behind, last_seen, future_seen, shape_seen, nears_none, place_seen, from_current, aim_seen, aim_shape, aim_seed, word_seen, first_seen, next_seen, key_seen}
+use Rattle.rht_core.proofs.Pieces.WorkLoads.{last_sought, aim_sought, first_known, next_known, root_seen, from_root, root_alone, other_behind, future_behind, last_seen, future_seen, shape_seen, faces_seen, nears_seen, led_by, passed_by, nears_on, faces_behind, from_current, aim_seen, aim_shape, aim_seed, word_seen, first_seen, next_seen, key_seen}
 use Rattle.rht_core.proofs.Pieces.WorkSteps.{knows_work, locked_by, LockWorks, work_loads, lock_work_step, unlock_work_step}
 use Rattle.rht_core.proofs.Pieces.WorkStores.{second_by, SecondWorks, take_work_step, lose_work_step, give_work_step, begin_moving_step, stop_step, lock_second_step, leave_step, arrive_step, cut_step, publish_step, retire_step}
 use Rattle.rht_core.proofs.Machines.FindSteps.{known_nothing}
@@ -119,7 +121,7 @@ known_at_work (at.Attaching root last slot shape) = Rooted root (From last)
 known_at_work (at.Unmaking root unmake) = Rooted root Onward
 known_at_work (at.RootFuture root due) = Rooted root (due_aim due)
 known_at_work (at.RootShape root future again) = Follows root future
-known_at_work (at.Entry rehash number place) = Nears (known_rehash rehash) number
+known_at_work (at.Entry rehash number place) = Nears (known_rehash rehash) number place
 known_at_work (at.Locking rehash number lock) = Faces (known_rehash rehash) number lock.place
 known_at_work (at.EntryTable emptying seek) = in_bucket emptying (entry_aim seek.at)
 known_at_work (at.Seed emptying last) = in_bucket emptying (Beyond last.table (Some last.shape) None)
@@ -484,6 +486,48 @@ module _ (env : Env) (mix : ℕ → ℕ → ℕ → ℕ) (c : ℕ) where
         (at.RootShape root next (is_later due)) refl known (λ k. future_seen env mix c M G whole root next (due_aim due) k is)
         refl refl
 
+    -- the next bucket of the current table is faced, or neared at the first entry on the way to it
+    bucket_leads : (rehash : Rehash) (number : ℕ) (op : Op) (h : Holding)
+        → Tells env.config.kind c call h.node now h.answer None → None ≡ h.node
+        → number < size_of (unpacked rehash.shape)
+        → Moved env mix c words G op h (moving_at None) (knowing (moving_at None) (Empties (known_rehash rehash) number))
+        → let next = bucket_of_root env.geometry rehash number in
+        Step env mix c call words G op h (held_of_work next) (WorkNext (next, Go))
+    bucket_leads rehash number op h tells same l step =
+        let root = known_rehash rehash in
+        cond_both (is_nested rehash.shape) _ _
+        (λ next. Step env mix c call words G op h (held_of_work next) (WorkNext (next, Go)))
+        (λ t.
+        let next = at.Entry rehash number (nested_place env.geometry rehash.shape number) in
+        leads op h (moving_at None) (known_of_work next) next tells same refl refl
+        (learning op h (moving_at None) (Empties root number) (Nears root number (nested_place env.geometry rehash.shape number))
+        (λ M' G' w k. nears_seen env mix c M' G' w root number t l k) step))
+        (λ f.
+        let place = flat_place env.geometry rehash.shape number in
+        let next = at.Locking rehash number (lock_new place) in
+        leads op h (moving_at None) (known_of_work next) next tells same refl refl
+        (learning op h (moving_at None) (Empties root number) (Faces root number place)
+        (λ M' G' w k. faces_seen env mix c M' G' w root number f l k) step))
+
+    -- and behind the last one the table is empty
+    next_leads : (rehash : Rehash) (number : ℕ) (op : Op) (h : Holding)
+        → Tells env.config.kind c call h.node now h.answer None → None ≡ h.node
+        → number < size_of (unpacked rehash.shape)
+        → Moved env mix c words G op h (moving_at None) (knowing (moving_at None) (Empties (known_rehash rehash) (number + 1)))
+        → let next = next_bucket env.geometry rehash number in
+        Step env mix c call words G op h (held_of_work next) (WorkNext (next, Go))
+    next_leads rehash number op h tells same below step =
+        let size = size_of (unpacked rehash.shape) in
+        let root = known_rehash rehash in
+        cond_both (nat_lt (number + 1) size) _ _
+        (λ next. Step env mix c call words G op h (held_of_work next) (WorkNext (next, Go)))
+        (λ t. bucket_leads rehash (number + 1) op h tells same (ltb-true (number + 1) size t) step)
+        (λ f.
+        let next = at.Publishing rehash in
+        let last : number + 1 ≡ size = (let above = ltb-false (number + 1) size f in omega (arith, above, below)) in
+        leads op h (moving_at None) (known_of_work next) next tells same refl refl
+        (subst (λ n. Moved env mix c words G op h (moving_at None) (knowing (moving_at None) (Empties root n))) last step))
+
     root_shape : (root future : ℕ) (again : Bool) → WorkKnows (at.RootShape root future again) M G
         → WorkStep (at.RootShape root future again)
     root_shape root future again known =
@@ -491,14 +535,50 @@ module _ (env : Env) (mix : ℕ → ℕ → ℕ → ℕ) (c : ℕ) where
         let shape = M (Slot root ShapeWord) in
         let rehash : Rehash = record { root = root; future = future; shape = shape; again = again } in
         let least = (IsSizeUpTo-size_of (unpacked shape)).least in
-        let place = place_seen env mix c M G whole (known_rehash rehash) 0
-        (shape_seen env mix c M G whole root future known.means.work) (omega (arith, least)) in
-        let next = at.Locking rehash 0 (lock_new place.place) in
-        rw place.flat (subst (λ p. WorkMoved state (at.Locking rehash 0 (lock_new p), Go)) (sym place.there)
-        (leads (plan_at env state) holds_work (moving_at None)
-        (knows_work MakesNothing (Faces (known_rehash rehash) 0 place.place)) next (inl refl) refl refl refl
+        bucket_leads rehash 0 (plan_at env state) holds_work (inl refl) refl (omega (arith, least))
         (begin_moving_step env mix c held.holds_nothing words G all whole (plan_at env state) (Follows root future)
-        (Faces (known_rehash rehash) 0 place.place) refl known.means.work.works.0 known (λ k. place.knows))))
+        (Empties (known_rehash rehash) 0) refl known.means.work.works.0 known (shape_seen env mix c M G whole root future))
+
+    -- an entry on the way to the next bucket leads to the next one, or to the bucket; or that is missing, and so is empty
+    entry_behind : (rehash : Rehash) (number : ℕ) (place : PlaceModel) (page : ℕ) → place.geometry ≡ env.geometry
+        → WorkKnows (at.Entry rehash number place) M G → led_by env mix c M G whole place ≡ Some page
+        → (start : Start PlaceModel ℕ) → entered place page ≡ start
+        → let next = went_behind place start in
+        WorkMoved (at.Entry rehash number place) (entry_passed env.geometry rehash number next.0 next.1, Go)
+    entry_behind rehash number place page same known led (starts.Running next) e =
+        let root = known_rehash rehash in
+        load_moving (place_plan place) None (Nears root number place) (Nears root number next) (at.Entry rehash number next)
+        refl known (nears_on env mix c M G whole root number place next page led e) (inl refl) refl refl
+    entry_behind rehash number place page same known led (starts.Done there) e =
+        let root = known_rehash rehash in
+        load_moving (place_plan place) None (Nears root number place) (Faces root number there)
+        (at.Locking rehash number (lock_new there)) refl known
+        (faces_behind env mix c M G whole root number place page there same led e) (inl refl) refl refl
+
+    entry_leads : (rehash : Rehash) (number : ℕ) (place : PlaceModel) → place.geometry ≡ env.geometry
+        → number < size_of (unpacked rehash.shape) → WorkKnows (at.Entry rehash number place) M G
+        → (entry : Option ℕ) → led_by env mix c M G whole place ≡ entry
+        → let next = entry_seen place entry in
+        WorkMoved (at.Entry rehash number place) (entry_passed env.geometry rehash number next.0 next.1, Go)
+    entry_leads rehash number place same below known None led =
+        let root = known_rehash rehash in
+        next_leads rehash number (place_plan place) (moving_at None) (inl refl) refl below
+        (work_loads env mix c (moving_at None) words G all whole None MakesNothing (place_plan place)
+        (Nears root number place) (Empties root (number + 1)) refl known
+        (passed_by env mix c M G whole root number place same led))
+    entry_leads rehash number place same below known (Some page) led =
+        entry_behind rehash number place page same known led (entered place page) refl
+
+    entry_loaded : (rehash : Rehash) (number : ℕ) (place : PlaceModel) → IsWorkAtIn env (at.Entry rehash number place)
+        → WorkKnows (at.Entry rehash number place) M G → WorkStep (at.Entry rehash number place)
+    entry_loaded rehash number place is known =
+        let same = is.place_in.geometry_same in
+        let word = old_of words (place_plan place) in
+        let led : page_of place.geometry.pages word ≡ led_by env mix c M G whole place =
+        ap (λ (g : Geometry). page_of g.pages (old_of words (Load (place_of g (PageWord place.entry))))) same in
+        subst (λ entry. let next = entry_seen place entry in
+        WorkMoved (at.Entry rehash number place) (entry_passed env.geometry rehash number next.0 next.1, Go)) (sym led)
+        (entry_leads rehash number place same is.bucket_in.number_in known (led_by env mix c M G whole place) refl)
 
     -- a bucket is locked
     locked_leads : (rehash : Rehash) (number : ℕ) (lock : LockModel) (r : LockModel × Next ℕ)
@@ -729,29 +809,9 @@ module _ (env : Env) (mix : ℕ → ℕ → ℕ → ℕ) (c : ℕ) where
         (stop_step env mix c (held_of_work next) words G all whole (known_rehash rehash) at_place NoAim known)
     unlock rehash number place word false below known =
         let state = at.Unlocking rehash number (record { place = place; word = word }) false in
-        let op = plan_at env state in
-        let size = size_of (unpacked rehash.shape) in
-        let root = known_rehash rehash in
         let at_place : KnownPlace = record { number = number; place = place; word = word } in
-        let h = moving_at (Some place) in
-        let step = unlock_work_step env mix c (moving_at None) words G all whole refl root at_place known in
-        cond_both (nat_lt (number + 1) size) _ _
-        (λ next. Step env mix c call words G op h (held_of_work next) (WorkNext (next, Go)))
-        (λ t.
-        let more = place_seen env mix c _ _ step.made.whole root (number + 1) step.knows.means.work
-        (ltb-true (number + 1) size t) in
-        let next = at.Locking rehash (number + 1) (lock_new more.place) in
-        rw more.flat (subst (λ p. Step env mix c call words G op h (held_of_work (at.Locking rehash (number + 1) (lock_new p)))
-        (WorkNext (at.Locking rehash (number + 1) (lock_new p), Go))) (sym more.there)
-        (leads op h (moving_at None) (known_of_work next) next (inl refl) refl refl refl
-        (with_knowledge env mix c words G op h (moving_at None) (knowing (moving_at None) (Empties root (number + 1)))
-        (knowing (moving_at None) (Faces root (number + 1) more.place)) step
-        (knows_that (moving_at None) _ _ (Empties root (number + 1)) (Faces root (number + 1) more.place) step.knows more.knows)))))
-        (λ f.
-        let next = at.Publishing rehash in
-        let last : number + 1 ≡ size = (let above = ltb-false (number + 1) size f in omega (arith, above, below)) in
-        leads op h (moving_at None) (known_of_work next) next (inl refl) refl refl refl
-        (subst (λ n. Moved env mix c words G op h (moving_at None) (knowing (moving_at None) (Empties root n))) last step))
+        next_leads rehash number (plan_at env state) (moving_at (Some place)) (inl refl) refl below
+        (unlock_work_step env mix c (moving_at None) words G all whole refl (known_rehash rehash) at_place known)
 
     publish : (rehash : Rehash) → WorkKnows (at.Publishing rehash) M G → WorkStep (at.Publishing rehash)
     publish rehash known =
@@ -815,8 +875,7 @@ module _ (env : Env) (mix : ℕ → ℕ → ℕ → ℕ) (c : ℕ) where
     work_step (at.RootFuture root due) is known =
         root_future root due (slot_of (M (Slot root FutureWord))) refl known
     work_step (at.RootShape root future again) is known = root_shape root future again known
-    work_step (at.Entry rehash number place) is known =
-        nears_none env mix c M G whole _ (known_rehash rehash) number known.means.work
+    work_step (at.Entry rehash number place) is known = entry_loaded rehash number place is known
     work_step (at.Locking rehash number lock) is known =
         locked_leads rehash number lock (lock_after lock (old_of words (lock_plan lock)))
         (lock_work_step env mix c (moving_at None) words G all whole (known_rehash rehash) number lock is.lock_in.even known)

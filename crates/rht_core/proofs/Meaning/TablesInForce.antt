@@ -83,21 +83,30 @@ module _ (env : Env) (mix : ℕ → ℕ → ℕ → ℕ) (words : List ℕ) (G :
   abbrev in_use : ℕ
   in_use = G.attached - G.current
 
-  tables_in_force : in_force g words ≡ slots_from G.current in_use
-  tables_in_force = go in_use refl
+  -- futures lead from each table to those that were attached behind it
+  tables_behind : (τ : ℕ) → τ < G.attached
+      → tables_from g words 8 (Some (G.table τ).slot) ≡ slots_from τ (G.attached - τ)
+  tables_behind τ l = go (G.attached - τ) refl
     where
-      go : (count : ℕ) → in_use ≡ count → in_force g words ≡ slots_from G.current count
-      go zero is = absurd (omega (arith, is, whole.tables.current_in))
+      go : (count : ℕ) → G.attached - τ ≡ count
+          → tables_from g words 8 (Some (G.table τ).slot) ≡ slots_from τ count
+      go zero is = absurd (omega (arith, is, l))
       go (suc count) is =
-          let all : G.current + suc count ≡ G.attached = omega (arith, is, whole.tables.current_in) in
-          let right = whole.tables.each G.current whole.tables.current_in in
-          let few = length-count_below (λ s. true) 8 (slots_from G.current (suc count))
-          (slots_distinct G.current (suc count) all) (slots_below G.current (suc count) all) (λ s i. refl) in
+          let all : τ + suc count ≡ G.attached = omega (arith, is, l) in
+          let few = length-count_below (λ s. true) 8 (slots_from τ (suc count))
+          (slots_distinct τ (suc count) all) (slots_below τ (suc count) all) (λ s i. refl) in
           let most = count_below-most (λ s. true) 8 in
-          let fuel : suc count ≤ 8 = omega (arith, few, most, slots_many G.current (suc count)) in
-          let first : table_of (M CurrentTable) ≡ (G.table G.current).slot =
-          (let word = whole.tables.current_is in omega (arith, right.slot_in, word)) in
-          ap (λ s. tables_from g words 8 (Some s)) first ∙ tables_met 8 G.current (suc count) fuel all
+          let fuel : suc count ≤ 8 = omega (arith, few, most, slots_many τ (suc count)) in
+          tables_met 8 τ (suc count) fuel all
+
+  current_slot : table_of (M CurrentTable) ≡ (G.table G.current).slot
+  current_slot =
+      let right = whole.tables.each G.current whole.tables.current_in in
+      let word = whole.tables.current_is in omega (arith, right.slot_in, word)
+
+  tables_in_force : in_force g words ≡ slots_from G.current in_use
+  tables_in_force =
+      ap (λ s. tables_from g words 8 (Some s)) current_slot ∙ tables_behind G.current whole.tables.current_in
 
   -- a table in force is one of those from the current one on
   pub record IsTableInForce (slot : ℕ) : Type 0 where
@@ -129,3 +138,11 @@ module _ (env : Env) (mix : ℕ → ℕ → ℕ → ℕ) (words : List ℕ) (G :
   pub table_in_force : (τ : ℕ) → G.current ≤ τ → τ < G.attached → In (G.table τ).slot (in_force g words)
   table_in_force τ low high =
       subst (In (G.table τ).slot) (sym tables_in_force) (in_slots τ G.current in_use low (omega (arith, low, high)))
+
+  -- from a table that is no more in force they lead to the current one
+  pub leads_to_current : (τ : ℕ) → τ ≤ G.current → In (table_of (M CurrentTable)) (tables_from g words 8 (Some (G.table τ).slot))
+  leads_to_current τ low =
+      let here = whole.tables.current_in in
+      subst (In (table_of (M CurrentTable))) (sym (tables_behind τ (omega (arith, low, here))))
+      (subst (λ s. In s (slots_from τ (G.attached - τ))) (sym current_slot)
+      (in_slots G.current τ (G.attached - τ) low (omega (arith, low, here))))

@@ -180,7 +180,7 @@ module _ (env : Env) (mix : ℕ → ℕ → ℕ → ℕ) where
 
     -- ---- tables, slots and pages
 
-    words_apart : IsNoBucketWord G (PageWord j)
+    pub words_apart : IsNoBucketWord G (PageWord j)
     words_apart = record {
       nodes = λ n w e. cc;
       buckets = λ i plain e. let same : i ≡ j = cc in both_ways (is_entry G i) plain (ap (is_entry G) same ∙ ready.entry);
@@ -338,6 +338,12 @@ module _ (env : Env) (mix : ℕ → ℕ → ℕ → ℕ) where
           no_page = put-all (λ q o. o ≡ PageHeld c → G.page q ≡ PageHeld c) G.page p (PageOf τ) (λ is. absurd (cc))
               (λ q other is. is);
         })
+
+    -- behind it the entry leads to the page
+    pub leads_to : (G'.table (table_at G' j)).entry j ≡ Some p
+    leads_to =
+        let same : table_at G' j ≡ τ = ap table_of_page (page_stays (j / 64) τ at.of) in
+        ap (λ s. (tables s).entry j) same ∙ ap (λ (t : Table). t.entry j) same_new ∙ entry-here old j p none apart
 
     pub enter : Made env mix d M G M' G'
     enter = record { whole = entered_whole; others = entered_others }

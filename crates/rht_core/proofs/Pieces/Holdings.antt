@@ -15,8 +15,8 @@ use Rattle.rht_core.specs.Refused.{IsTableWord}
 use Rattle.rht_core.proofs.Theory.Ghosts.{put, put-same, put-all, put_in, put_in-all, PageOwner, PageFree, PageHeld, SlotFree, SlotHeld, Ghost, has_table, has_bit}
 use Rattle.rht_core.proofs.Theory.Wholes.{Whole}
 use Rattle.rht_core.proofs.Theory.Readiness.{ArePagesOf}
-use Rattle.rht_core.proofs.Theory.Knowns.{Known, KnownSlot, KnownMaking, MakesNothing, HasTaken}
-use Rattle.rht_core.proofs.Theory.Knowledge.{SlotMeans, Knowing}
+use Rattle.rht_core.proofs.Theory.Knowns.{Known, KnownSlot, KnownMaking, MakesNothing, HasPages, HasTaken}
+use Rattle.rht_core.proofs.Theory.Knowledge.{SlotMeans, ArePagesMine, MakingMeans, Knowing}
 use Rattle.rht_core.proofs.Theory.TableFrames.{TablesKept, Knowing-retabled, same_kept}
 use Rattle.rht_core.proofs.Theory.Steps.{Quiet, TakesSlot, GivesSlot, TakesPages, GivesPages, Holding, ClearsBits, SetsBits, mem, Moved, moved, loads}
 use Rattle.rht_core.proofs.Moves.Slots.{slot_word-apart, slots_kept, take_slot, give_slot, fill_slot, take_serial}
@@ -25,6 +25,15 @@ use Rattle.rht_core.proofs.Moves.Pages.{map_word-apart, pages_kept, take_pages, 
 -- a slot of which no word is known
 abbrev pub bare_slot : ℕ → KnownSlot
 bare_slot slot = record { slot = slot; shape = None; seed = None; future = None; serial = None }
+
+-- what is known of pages that were taken for a slot, or for none
+abbrev pub taken_for : Option KnownSlot → List ℕ → KnownMaking
+taken_for None pages = HasPages pages
+taken_for (Some slot) pages = HasTaken slot pages
+
+abbrev pub slot_for : Option KnownSlot → Option ℕ
+slot_for None = None
+slot_for (Some slot) = Some slot.slot
 
 -- a known slot with one word more, or another one
 abbrev pub with_slot_word : KnownSlot → SlotWord → ℕ → KnownSlot
@@ -275,15 +284,30 @@ module _ (env : Env) (mix : ℕ → ℕ → ℕ → ℕ) (c : ℕ) (h : Holding)
         stays : (w : SlotWord) → IsSlotWord w → M' (Slot slot.slot w) ≡ M (Slot slot.slot w)
         stays w is = write.others (Slot slot.slot w) (means.has.within, is) (λ e. cc)
 
+    -- the pages that it has are its own
+    pages_mine : (slot : Option KnownSlot) (pages : List ℕ) → MakingMeans env mix c M G (taken_for slot pages)
+        → ArePagesMine env mix c G pages
+    pages_mine None pages means = means
+    pages_mine (Some slot) pages means = means.mine
+
+    -- and so are others, where its slot keeps its words
+    pages_known : (slot : Option KnownSlot) (pages after : List ℕ) (M' : Memory) (index value : ℕ)
+        → IsWrite env.geometry M M' (PageMap index) value → MakingMeans env mix c M G (taken_for slot pages)
+        → (page : ℕ → PageOwner) → ArePagesMine env mix c (record G { page = page }) after
+        → MakingMeans env mix c M' (record G { page = page }) (taken_for slot after)
+    pages_known None pages after M' index value write means page mine = mine
+    pages_known (Some slot) pages after M' index value write means page mine =
+        record { slot = slot_stays slot M' index value write means.slot page; mine = mine }
+
     -- the operation that clears these bits of a word of the map, which it found set
-    pub take_pages_step : (slot : KnownSlot) (index bits : ℕ) (op : Op) (pages after : List ℕ)
+    pub take_pages_step : (slot : Option KnownSlot) (index bits : ℕ) (op : Op) (pages after : List ℕ)
         → index < map_words env.geometry.pages
         → ((p : ℕ) → has_bit index bits p ≡ true → p < env.geometry.pages)
         → ClearsBits env.geometry index bits op (old_of words op)
         → ((p : ℕ) → In p after ↔ (In p pages ⊎ (has_bit index bits p ≡ true)))
-        → knowing (Some slot.slot) pages (HasTaken slot pages) M G
-        → Moved env mix c words G op (holding (Some slot.slot) pages) (holding (Some slot.slot) after)
-        (knowing (Some slot.slot) after (HasTaken slot after))
+        → knowing (slot_for slot) pages (taken_for slot pages) M G
+        → Moved env mix c words G op (holding (slot_for slot) pages) (holding (slot_for slot) after)
+        (knowing (slot_for slot) after (taken_for slot after))
     take_pages_step slot index bits op pages after l among clears more knows =
         let M' = mem env mix (applied words op) in
         let value = word_after (old_of words op) op in
@@ -291,41 +315,39 @@ module _ (env : Env) (mix : ℕ → ℕ → ℕ → ℕ) (c : ℕ) (h : Holding)
         let write : IsWrite env.geometry M M' (PageMap index) value =
         subst (λ w. IsWrite env.geometry M M' (PageMap index) (word_after w op)) (sym same)
         (is_write env.geometry words (PageMap index) op all l clears.on) in
-        let means = knows.means.making in
+        let mine = pages_mine slot pages knows.means.making in
         let found : (bit : ℕ) → bit < 64 → bit_at bits bit ≡ 1 → bit_at (M (PageMap index)) bit ≡ 1 =
         λ bit k is. ap (λ w. bit_at w bit) (sym same) ∙ clears.found bit k is in
         let others : (bit : ℕ) → bit < 64 → bit_at bits bit ≢ 1 → bit_at value bit ≡ bit_at (M (PageMap index)) bit =
         λ bit k is. clears.others bit k is ∙ ap (λ w. bit_at w bit) same in
         let taken = take_pages env mix c index bits value M M' G whole among found write clears.cleared others in
-        moved env mix c words G op (holding (Some slot.slot) pages) (holding (Some slot.slot) after)
-        (knowing (Some slot.slot) after (HasTaken slot after)) (TakesPages index bits) whole taken.1 tt taken.0
+        moved env mix c words G op (holding (slot_for slot) pages) (holding (slot_for slot) after)
+        (knowing (slot_for slot) after (taken_for slot after)) (TakesPages index bits) whole taken.1 tt taken.0
         (record { clears = clears; pages = more; holds = refl })
         (Knowing-retabled env mix M M' G G.table G.attached G.slot (put_in (has_bit index bits) (PageHeld c) G.page)
         whole (pages_kept env mix index bits PageFree (PageHeld c) G taken.1 (λ τ e. cc)) (PageMap index) value write (map_word-apart G index) c
-        (holding (Some slot.slot) pages) (record known { making = HasTaken slot pages }) (Some slot.slot) after
-        (HasTaken slot after) knows knows.only.slots
+        (holding (slot_for slot) pages) (record known { making = taken_for slot pages }) (slot_for slot) after
+        (taken_for slot after) knows knows.only.slots
         (put_in-all (λ p o. o ≡ PageHeld c → In p after) (has_bit index bits) (PageHeld c) G.page
         (λ p there is. (more p).1 (inr there)) (λ p there is. (more p).1 (inl (knows.only.pages_in p is))))
-        (record {
-          slot = slot_stays slot M' index value write means.slot (put_in (has_bit index bits) (PageHeld c) G.page);
-          mine = put_in-all (λ p o. In p after → o ≡ PageHeld c) (has_bit index bits) (PageHeld c) G.page
-              (λ p there i. refl)
-              (λ p there i. elim ((more p).0 i) [
-                | inl had ↦ means.mine p had
-                | inr now ↦ absurd (both_ways (has_bit index bits p) there now)
-              ]);
-        }))
+        (pages_known slot pages after M' index value write knows.means.making (put_in (has_bit index bits) (PageHeld c) G.page)
+        (put_in-all (λ p o. In p after → o ≡ PageHeld c) (has_bit index bits) (PageHeld c) G.page
+        (λ p there i. refl)
+        (λ p there i. elim ((more p).0 i) [
+          | inl had ↦ mine p had
+          | inr now ↦ absurd (both_ways (has_bit index bits p) there now)
+        ]))))
 
     -- and the one that sets them, which gives these pages back
-    pub give_pages_step : (slot : KnownSlot) (index bits : ℕ) (op : Op) (pages after : List ℕ)
+    pub give_pages_step : (slot : Option KnownSlot) (index bits : ℕ) (op : Op) (pages after : List ℕ)
         → index < map_words env.geometry.pages
         → ((p : ℕ) → has_bit index bits p ≡ true → p < env.geometry.pages)
         → SetsBits env.geometry index bits op (old_of words op)
         → ((p : ℕ) → has_bit index bits p ≡ true → In p pages)
         → ((p : ℕ) → In p after ↔ (In p pages × (has_bit index bits p ≡ false)))
-        → knowing (Some slot.slot) pages (HasTaken slot pages) M G
-        → Moved env mix c words G op (holding (Some slot.slot) pages) (holding (Some slot.slot) after)
-        (knowing (Some slot.slot) after (HasTaken slot after))
+        → knowing (slot_for slot) pages (taken_for slot pages) M G
+        → Moved env mix c words G op (holding (slot_for slot) pages) (holding (slot_for slot) after)
+        (knowing (slot_for slot) after (taken_for slot after))
     give_pages_step slot index bits op pages after l among sets had less knows =
         let M' = mem env mix (applied words op) in
         let value = word_after (old_of words op) op in
@@ -333,24 +355,22 @@ module _ (env : Env) (mix : ℕ → ℕ → ℕ → ℕ) (c : ℕ) (h : Holding)
         let write : IsWrite env.geometry M M' (PageMap index) value =
         subst (λ w. IsWrite env.geometry M M' (PageMap index) (word_after w op)) (sym same)
         (is_write env.geometry words (PageMap index) op all l sets.on) in
-        let means = knows.means.making in
+        let has_pages = pages_mine slot pages knows.means.making in
         let mine : ArePagesOf env mix G index bits (PageHeld c) =
-        record { among = among; owned = λ p there. means.mine p (had p there) } in
+        record { among = among; owned = λ p there. has_pages p (had p there) } in
         let others : (bit : ℕ) → bit < 64 → bit_at bits bit ≢ 1 → bit_at value bit ≡ bit_at (M (PageMap index)) bit =
         λ bit k is. sets.others bit k is ∙ ap (λ w. bit_at w bit) same in
-        moved env mix c words G op (holding (Some slot.slot) pages) (holding (Some slot.slot) after)
-        (knowing (Some slot.slot) after (HasTaken slot after)) (GivesPages index bits) whole mine tt
+        moved env mix c words G op (holding (slot_for slot) pages) (holding (slot_for slot) after)
+        (knowing (slot_for slot) after (taken_for slot after)) (GivesPages index bits) whole mine tt
         (give_pages env mix c index bits value M M' G whole mine write sets.set others)
         (record { sets = sets; had = had; pages = less; holds = refl })
         (Knowing-retabled env mix M M' G G.table G.attached G.slot (put_in (has_bit index bits) PageFree G.page)
         whole (pages_kept env mix index bits (PageHeld c) PageFree G mine (λ τ e. cc)) (PageMap index) value write (map_word-apart G index) c
-        (holding (Some slot.slot) pages) (record known { making = HasTaken slot pages }) (Some slot.slot) after
-        (HasTaken slot after) knows knows.only.slots
+        (holding (slot_for slot) pages) (record known { making = taken_for slot pages }) (slot_for slot) after
+        (taken_for slot after) knows knows.only.slots
         (put_in-all (λ p o. o ≡ PageHeld c → In p after) (has_bit index bits) PageFree G.page
         (λ p there is. absurd (cc)) (λ p there is. (less p).1 (knows.only.pages_in p is, there)))
-        (record {
-          slot = slot_stays slot M' index value write means.slot (put_in (has_bit index bits) PageFree G.page);
-          mine = put_in-all (λ p o. In p after → o ≡ PageHeld c) (has_bit index bits) PageFree G.page
-              (λ p there i. absurd (both_ways (has_bit index bits p) ((less p).0 i).1 there))
-              (λ p there i. means.mine p ((less p).0 i).0);
-        }))
+        (pages_known slot pages after M' index value write knows.means.making (put_in (has_bit index bits) PageFree G.page)
+        (put_in-all (λ p o. In p after → o ≡ PageHeld c) (has_bit index bits) PageFree G.page
+        (λ p there i. absurd (both_ways (has_bit index bits p) ((less p).0 i).1 there))
+        (λ p there i. has_pages p ((less p).0 i).0))))

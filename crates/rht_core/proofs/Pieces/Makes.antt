@@ -1,6 +1,6 @@
 -- The operations of the making of a table and of its giving back, for a caller that holds such a machine: what it knows in each state of
 -- the slot and the pages that it has, and that each operation leads from this to what it knows next.
-use Rattle.std.proofs.Common.{◌≡◌, ℕ, ◌+◌, ◌-◌, ◌*◌, ◌/◌, ◌^◌, ◌<◌, ◌≤◌, ◌==◌, min, max, List, [], length, Option, Some, None, nat_lt, sym, ◌∙◌, ap, subst, arith, inl, refl}
+use Rattle.std.proofs.Common.{◌≡◌, ℕ, ◌+◌, ◌-◌, ◌/◌, ◌^◌, ◌<◌, ◌≤◌, ◌==◌, min, max, List, [], length, Option, Some, None, nat_lt, sym, ◌∙◌, ap, subst, arith, inl, refl}
 use Rattle.std.specs.Prelude.{nat_le}
 use Rattle.std.specs.List.{range_with_len}
 use Rattle.std.proofs.lemmas.Bool.{cond_both, eqb-true, eqb-false}
@@ -30,7 +30,7 @@ use Rattle.rht_core.proofs.Theory.Wholes.{Whole}
 use Rattle.rht_core.proofs.Theory.Knowns.{Known, KnownSlot, KnownMaking, MakesNothing, HasTaken, HasMade}
 use Rattle.rht_core.proofs.Theory.Knowledge.{MakingMeans}
 use Rattle.rht_core.proofs.Theory.Steps.{Holding, mem, Moved, moved-map}
-use Rattle.rht_core.proofs.Pieces.RunPages.{filter-none, false_from, is_between, between-is}
+use Rattle.rht_core.proofs.Pieces.RunPages.{first_run-none}
 use Rattle.rht_core.proofs.Pieces.Holdings.{bare_slot, with_slot_word, holding, knowing, take_slot_step, lose_slot_step, give_slot_step, fill_slot_step, serial_step}
 use Rattle.rht_core.proofs.Pieces.Runs.{RunMoved, run_step, GiveMoved, give_run_step}
 
@@ -158,13 +158,8 @@ module _ (env : Env) (mix : ℕ → ℕ → ℕ → ℕ) (c : ℕ) (h : Holding)
         cond_both (nat_le (run_length n) env.geometry.pages) (starts.Running (first_run env.geometry (run_length n)))
         (starts.Done None) (λ start. MakeMoved None [] op (run_started slot start, Go))
         (λ t. subst (λ ps. Moved env mix c words G op (holds None []) (holds (Some slot) ps)
-        (knows_that (Some slot) ps (HasTaken (bare_slot slot) ps))) (sym no_pages) step)
+        (knows_that (Some slot) ps (HasTaken (bare_slot slot) ps))) (sym (first_run-none env.geometry (run_length n))) step)
         (λ f. step)
-      where
-        no_pages : pages_of_take_run (first_run env.geometry (run_length n)) ≡ []
-        no_pages = filter-none (is_between 0 (64 * 0)) (range_with_len 0 env.geometry.pages)
-            (λ x. false_from (is_between 0 (64 * 0) x)
-            (λ is. let range = between-is 0 (64 * 0) x is in omega (arith, range.1)))
 
     slot_step : (slot : ℕ) → slot < 8 → knows_that None [] MakesNothing M G → MakeStep (at.Slot slot)
     slot_step slot l knows =
@@ -178,7 +173,7 @@ module _ (env : Env) (mix : ℕ → ℕ → ℕ → ℕ) (c : ℕ) (h : Holding)
 
     -- the run was taken, or is taken still, or there was none
     taken : (slot : ℕ) (pages : List ℕ) (op : Op) (r : TakeRunModel × Next (Option ℕ)) → r.0.pages ≡ n
-        → RunMoved env mix c h known words G all whole (bare_slot slot) pages op r
+        → RunMoved env mix c h known words G all whole (Some (bare_slot slot)) pages op r
         → MakeMoved (Some slot) pages op (run_taken slot r.0 r.1, Go)
     taken slot pages op (take, Go) many step = step
     taken slot pages op (take, Done None) many step = step
@@ -195,7 +190,7 @@ module _ (env : Env) (mix : ℕ → ℕ → ℕ → ℕ) (c : ℕ) (h : Holding)
         let word = old_of words op in
         taken slot (pages_of_take_run take) op (take_run_after take word)
         ((take_run_stays env.geometry take word is.take_in).pages_same ∙ is.pages_same)
-        (run_step env mix c h known words G all whole (bare_slot slot) take is.take_in knows)
+        (run_step env mix c h known words G all whole (Some (bare_slot slot)) take is.take_in knows)
     make_step_at (at.SlotBack slot) is knows = give_slot_step env mix c h known words G all whole (bare_slot slot) knows
     make_step_at (at.NextSerial slot page) is knows =
         serial_step env mix c h known words G all whole (bare_slot slot) (range_with_len page n) knows
@@ -269,7 +264,7 @@ module _ (env : Env) (mix : ℕ → ℕ → ℕ → ℕ) (c : ℕ) (h : Holding)
       (knows_that (slot_given slot r) (pages_given r) (known_given slot r))
 
   run_gives : (slot : ℕ) (pages : List ℕ) (op : Op) (r : GiveRunModel × Next (Unit {0}))
-      → GiveMoved env mix c h known words G all whole (bare_slot slot) pages op r
+      → GiveMoved env mix c h known words G all whole (Some (bare_slot slot)) pages op r
       → UnmakeMoved slot pages op (run_given r.0 r.1, Go)
   run_gives slot pages op (give, Go) step = step
   run_gives slot pages op (give, Done done) step = step
@@ -281,7 +276,7 @@ module _ (env : Env) (mix : ℕ → ℕ → ℕ → ℕ) (c : ℕ) (h : Holding)
   unmake_step_at slot (gives.Giving give) is knows =
       let op = give_run_plan give in
       run_gives slot (pages_of_give_run give) op (give_run_after give (old_of words op))
-      (give_run_step env mix c h known words G all whole (bare_slot slot) give is knows)
+      (give_run_step env mix c h known words G all whole (Some (bare_slot slot)) give is knows)
   unmake_step_at slot gives.SlotBack is knows =
       give_slot_step env mix c h known words G all whole (bare_slot slot) knows
 

@@ -13,7 +13,7 @@ use Rattle.rht_words.proofs.Members.{In-range_with_len, range_with_len-In}
 use Rattle.rht_arena.specs.Runs.{run_bits}
 use Rattle.rht_arena.specs.GiveRun.{give_run_new, has_yet, pages_of_give_run}
 use Rattle.rht_words.specs.declared.geometry.Geometry.{Geometry}
-use Rattle.rht_arena.specs.TakeRun.{TakeRunModel, next_run, given_below, given_from, claimed, cleared, has_run, has_page, pages_of_take_run, IsRunAt}
+use Rattle.rht_arena.specs.TakeRun.{TakeRunModel, first_run, next_run, given_below, given_from, claimed, cleared, has_run, has_page, pages_of_take_run, IsRunAt}
 use Rattle.rht_arena.specs.declared.take_run.TakeRunAt.TheVariants.{GiveBack}
 use Rattle.rht_arena.proofs.RunBits.{bit_at-run, bit_at-run_from, bit_at-run_until}
 use Rattle.rht_core.proofs.Theory.Ghosts.{has_bit}
@@ -89,6 +89,13 @@ is-between : (low high x : ℕ) → low ≤ x → x < high → is_between low hi
 is-between low high x from below = grind (arith, nat_tests, from, below)
 
 -- ---- the taking of a run
+
+-- it begins with none
+pub first_run-none : (g : Geometry) (pages : ℕ) → pages_of_take_run (first_run g pages) ≡ []
+first_run-none g pages =
+    filter-none (is_between 0 (64 * 0)) (range_with_len 0 g.pages)
+    (λ x. false_from (is_between 0 (64 * 0) x)
+    (λ is. let range = between-is 0 (64 * 0) x is in omega (arith, range.1)))
 
 -- what it has behind an operation: once it has ended, the run or nothing
 abbrev pub pages_behind : TakeRunModel × Next (Option ℕ) → List ℕ

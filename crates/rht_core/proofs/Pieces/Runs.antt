@@ -1,6 +1,6 @@
--- The taking and the giving back of a run of pages, for a caller that holds such a machine and has a slot: the pages that it has are
+-- The taking and the giving back of a run of pages, for a caller that holds such a machine, with a slot or without one: the pages that it has are
 -- those whose bits the machine has cleared and not set again.
-use Rattle.std.proofs.Common.{◌≡◌, ◌≢◌, ◌↔◌, ℕ, ◌+◌, ◌*◌, ◌/◌, ◌%◌, ◌^◌, ◌<◌, ◌≤◌, List, [], length, Option, Some, true, false, bit_and, nat_lt, refl, sym, subst, inl, inr, arith}
+use Rattle.std.proofs.Common.{◌≡◌, ◌≢◌, ◌↔◌, ℕ, ◌+◌, ◌*◌, ◌/◌, ◌%◌, ◌^◌, ◌<◌, ◌≤◌, List, [], length, Option, true, false, bit_and, nat_lt, refl, sym, subst, inl, inr, arith}
 use Rattle.std.specs.Prelude.{◌&&◌, nat_le}
 use Rattle.std.specs.Int.{bit_at, bit_not, w64}
 use Rattle.std.specs.List.{range_with_len}
@@ -23,11 +23,11 @@ use Rattle.rht_arena.specs.GiveRun.{GiveRunModel, give_run_plan, give_run_after,
 use Rattle.rht_arena.proofs.RunBits.{run_bits-fits, bit_at-run, bit_at-run_from, bit_at-run_until}
 use Rattle.rht_core.proofs.Theory.Ghosts.{Ghost, has_bit}
 use Rattle.rht_core.proofs.Theory.Wholes.{Whole}
-use Rattle.rht_core.proofs.Theory.Knowns.{Known, KnownSlot, HasTaken}
+use Rattle.rht_core.proofs.Theory.Knowns.{Known, KnownSlot}
 use Rattle.rht_core.proofs.Theory.Steps.{Holding, mem, Moved, loads}
 use Rattle.rht_core.proofs.Moves.Pages.{has_bit-is, is_has_bit}
 use Rattle.rht_core.proofs.Pieces.RunPages.{false_from, filter-In, In-filter, below-In, In-below, pages_behind, given_below-pages, cleared-more, given-had, given-less, found_within, given_within}
-use Rattle.rht_core.proofs.Pieces.Holdings.{holding, knowing, take_pages_step, give_pages_step}
+use Rattle.rht_core.proofs.Pieces.Holdings.{taken_for, slot_for, holding, knowing, take_pages_step, give_pages_step}
 
 -- ---- what an operation does to bits
 
@@ -68,19 +68,19 @@ module _ (env : Env) (mix : ℕ → ℕ → ℕ → ℕ) (c : ℕ) (h : Holding)
   -- ---- the taking of a run of pages
 
   -- what the call holds with this slot and these pages, and what the caller knows of them
-  abbrev pub holds_pages : KnownSlot → List ℕ → Holding
-  holds_pages slot pages = holding env mix c h known (Some slot.slot) pages
+  abbrev pub holds_pages : Option KnownSlot → List ℕ → Holding
+  holds_pages slot pages = holding env mix c h known (slot_for slot) pages
 
-  abbrev pub knows_pages : KnownSlot → List ℕ → Memory → Ghost → Type 0
-  knows_pages slot pages = knowing env mix c h known (Some slot.slot) pages (HasTaken slot pages)
+  abbrev pub knows_pages : Option KnownSlot → List ℕ → Memory → Ghost → Type 0
+  knows_pages slot pages = knowing env mix c h known (slot_for slot) pages (taken_for slot pages)
 
   -- what an operation of the taking leads to
-  abbrev pub RunMoved : KnownSlot → List ℕ → Op → TakeRunModel × Next (Option ℕ) → Type 0
+  abbrev pub RunMoved : Option KnownSlot → List ℕ → Op → TakeRunModel × Next (Option ℕ) → Type 0
   RunMoved slot pages op r = Moved env mix c words G op (holds_pages slot pages)
       (holds_pages slot (pages_behind r)) (knows_pages slot (pages_behind r))
 
   -- a load of a word of the map, behind which the call has as many pages
-  loads_run : (slot : KnownSlot) (pages after : List ℕ) (place : ℕ) → after ≡ pages → knows_pages slot pages M G
+  loads_run : (slot : Option KnownSlot) (pages after : List ℕ) (place : ℕ) → after ≡ pages → knows_pages slot pages M G
       → Moved env mix c words G (Load place) (holds_pages slot pages) (holds_pages slot after) (knows_pages slot after)
   loads_run slot pages after place same knows =
       subst (λ ps. Moved env mix c words G (Load place) (holds_pages slot pages) (holds_pages slot ps)
@@ -89,7 +89,7 @@ module _ (env : Env) (mix : ℕ → ℕ → ℕ → ℕ) (c : ℕ) (h : Holding)
       whole refl refl knows)
 
   -- of a taking in this table, state by state
-  module _ (slot : KnownSlot) (pages : ℕ) where
+  module _ (slot : Option KnownSlot) (pages : ℕ) where
     abbrev taking : TakeRunAt → TakeRunModel
     taking at = record { geometry = env.geometry; pages = pages; at = at }
 
@@ -147,7 +147,7 @@ module _ (env : Env) (mix : ℕ → ℕ → ℕ → ℕ) (c : ℕ) (h : Holding)
         (given-had m first index at bits range.of_run) (given-less m first index at bits range.of_run) knows
 
   -- the taking of a run, whose pages the call has so far
-  pub run_step : (slot : KnownSlot) (take : TakeRunModel) → IsTakeRunIn env.geometry take
+  pub run_step : (slot : Option KnownSlot) (take : TakeRunModel) → IsTakeRunIn env.geometry take
       → knows_pages slot (pages_of_take_run take) M G
       → RunMoved slot (pages_of_take_run take) (take_run_plan take)
       (take_run_after take (old_of words (take_run_plan take)))
@@ -164,7 +164,7 @@ module _ (env : Env) (mix : ℕ → ℕ → ℕ → ℕ) (c : ℕ) (h : Holding)
   given_behind (m, Go) = pages_of_give_run m
   given_behind (m, Done done) = []
 
-  abbrev pub GiveMoved : KnownSlot → List ℕ → Op → GiveRunModel × Next (Unit {0}) → Type 0
+  abbrev pub GiveMoved : Option KnownSlot → List ℕ → Op → GiveRunModel × Next (Unit {0}) → Type 0
   GiveMoved slot pages op r = Moved env mix c words G op (holds_pages slot pages)
       (holds_pages slot (given_behind r)) (knows_pages slot (given_behind r))
 
@@ -192,7 +192,7 @@ module _ (env : Env) (mix : ℕ → ℕ → ℕ → ℕ) (c : ℕ) (h : Holding)
       (lt-ltb p (m.first + m.pages) until)))
 
   -- of a giving back in this table
-  give_run_at : (slot : KnownSlot) (first pages index : ℕ) → IsRunIn env.geometry first pages
+  give_run_at : (slot : Option KnownSlot) (first pages index : ℕ) → IsRunIn env.geometry first pages
       → IsRunWord first pages index
       → let give : GiveRunModel = record { geometry = env.geometry; first = first; pages = pages; index = index } in
       knows_pages slot (pages_of_give_run give) M G
@@ -252,7 +252,7 @@ module _ (env : Env) (mix : ℕ → ℕ → ℕ → ℕ) (c : ℕ) (h : Holding)
       knows
 
   -- the giving back of a run, of whose pages the call has these still
-  pub give_run_step : (slot : KnownSlot) (give : GiveRunModel) → IsGiveRunIn env.geometry give
+  pub give_run_step : (slot : Option KnownSlot) (give : GiveRunModel) → IsGiveRunIn env.geometry give
       → knows_pages slot (pages_of_give_run give) M G
       → GiveMoved slot (pages_of_give_run give) (give_run_plan give)
       (give_run_after give (old_of words (give_run_plan give)))

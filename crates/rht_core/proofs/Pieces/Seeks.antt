@@ -1,5 +1,6 @@
 -- The way to a port, operation by operation, for any call: from the current table on to the bucket in which
--- the port is found, or to a future that leads nowhere, where the port is bound to nothing.
+-- the port is found, or to a future that leads nowhere, where the port is bound to nothing. Where the bucket of a nested table turns out to be
+-- missing, and no table was behind, the answer is that of the load of the future before.
 use Rattle.std.proofs.Common.{◌≡◌, ℕ, List, [], length, Option, Some, None, false, refl, sym, ap, subst, inl}
 use Rattle.rht_words.specs.declared.env.Env.{Env}
 use Rattle.rht_words.specs.declared.machine.Next.{Next}
@@ -7,18 +8,20 @@ use Rattle.rht_words.specs.declared.machine.Next.TheVariants.{Go, Done}
 use Rattle.rht_words.specs.declared.op.Op.{Op}
 use Rattle.rht_words.specs.Held as held
 use Rattle.rht_words.specs.Links.{table_of, slot_of}
-use Rattle.rht_words.specs.Operations.{old_of}
+use Rattle.rht_words.specs.Operations.{old_of, applied}
 use Rattle.rht_words.specs.Places.{CurrentTable, Slot, FutureWord, words_in}
 use Rattle.rht_words.proofs.Memory.{Memory}
 use Rattle.rht_nest.specs.Locate.{LocateModel, locate_plan, locate_after}
 use Rattle.rht_nest.specs.declared.locate.Located.{Located}
+use Rattle.rht_nest.specs.declared.locate.LocatedBucket.{LocatedBucket}
+use Rattle.rht_nest.specs.declared.locate.LocatedBucket.TheVariants as buckets
 use Rattle.rht_chain.specs.Probe.{ProbeModel, probe_new, probe_plan, probe_after, lock_of_probe}
 use Rattle.rht_chain.specs.declared.probe.Probed.{Probed}
 use Rattle.rht_chain.specs.declared.locked.Locked.{Locked}
 use Rattle.rht_model.specs.declared.history.Call.{Call}
 use Rattle.rht_model.specs.Multimap.{Multimap}
 use Rattle.rht_model.specs.Answers.{Answer}
-use Rattle.rht_release.specs.Seek.{SeekModel, seek_plan_at, seek_after_at, seek_plan, seek_after, located, locating, found_or_future, probed, leaving, lock_of_seek, answer_of_seek, IsSeekAtIn, IsSeekIn}
+use Rattle.rht_release.specs.Seek.{SeekModel, seek_plan_at, seek_after_at, seek_plan, seek_after, located, bucket_or_early, locating, found_or_future, probed, leaving, lock_of_seek, answer_of_seek, early_of_seek, early_of_locate, IsSeekAtIn, IsSeekIn}
 use Rattle.rht_release.specs.declared.found_port.FoundPort.{FoundPort}
 use Rattle.rht_release.specs.declared.seek.SeekAt.{SeekAt}
 use Rattle.rht_release.specs.declared.seek.SeekAt.TheVariants as at
@@ -27,9 +30,9 @@ use Rattle.rht_core.proofs.Theory.Ghosts.{Ghost}
 use Rattle.rht_core.proofs.Theory.Wholes.{Whole}
 use Rattle.rht_core.proofs.Theory.Knowns.{KnownNode, KnownTable, Nowhere, Passes, AtHome, KnownBucket, Unlocked, Locks, Missed, Found, InList, KnownList, Known, knows_plain}
 use Rattle.rht_core.proofs.Theory.Knowledge.{Knowing}
-use Rattle.rht_core.proofs.Theory.Answering.{IsLegalOn, IsRight, keeps, learns}
-use Rattle.rht_core.proofs.Theory.Steps.{Holding, mem, owners, owners_in, Moved, moved-map, with_knowledge, Step, answered, reads, still_has}
-use Rattle.rht_core.proofs.Pieces.Locates.{known_locate, first_passed, locate_step, LocateKnows, FutureIs, future_is}
+use Rattle.rht_core.proofs.Theory.Answering.{IsLegalOn, IsRight, TellsOrRecalls, none_early, keeps, learns, recalls}
+use Rattle.rht_core.proofs.Theory.Steps.{Holding, mem, owners, owners_in, Moved, moved-map, StepWhere, answered_where, answered, reads, still_has}
+use Rattle.rht_core.proofs.Pieces.Locates.{known_locate, IsThereAt, first_passed, locate_step, LocateKnows, LocatedKnows, LocateSays, Recalls, locate_says, FutureIs, future_is}
 use Rattle.rht_core.proofs.Pieces.Locks.{unlock_step}
 use Rattle.rht_core.proofs.Pieces.Probes.{known_probe, known_found, place_of_probe, IsProbeFor, probed_by, ProbeKnows, probe_step}
 
@@ -74,6 +77,18 @@ module _ (port : ℕ) (own : Option KnownNode) where
   known_of_seek (at.Leaving table unlock future) =
       knows_of (known_future port future) (Locks unlock.place unlock.word)
 
+-- the bucket that it may find missing is there
+abbrev pub seek_there : SeekAt → Memory → Type 0
+seek_there at.CurrentTable M = ⊥
+seek_there (at.Locating locate) M = IsThereAt locate.at M
+seek_there (at.Probing table shape probe) M = ⊥
+seek_there (at.Future table bucket) M = ⊥
+seek_there (at.Leaving table unlock future) M = ⊥
+
+abbrev pub seek_there_next : SeekAt × Next (Option FoundPort) → Memory → Type 0
+seek_there_next (at, Go) M = seek_there at M
+seek_there_next (at, Done sought) M = ⊥
+
 module _ (hn : Option ℕ) (absent : Answer) where
   -- what a call holds on the way beside its node: at most a lock, and the answer once it is known that the
   -- port is bound nowhere
@@ -81,7 +96,7 @@ module _ (hn : Option ℕ) (absent : Answer) where
   holds_seeking lock answer = record held.holds_nothing { node = hn; lock = lock; answer = answer }
 
   abbrev pub held_of_seek : SeekAt → Holding
-  held_of_seek at = holds_seeking (lock_of_seek at) (answer_of_seek absent at)
+  held_of_seek at = record (holds_seeking (lock_of_seek at) (answer_of_seek absent at)) { early = early_of_seek absent at }
 
   -- what it holds after an operation
   abbrev pub seek_holds : SeekAt × Next (Option FoundPort) → Holding
@@ -125,38 +140,85 @@ module _ (env : Env) (mix : ℕ → ℕ → ℕ → ℕ) (c : ℕ) (call : Call)
     -- what an operation leads to from a state
     abbrev pub SeekMoved : SeekAt → SeekAt × Next (Option FoundPort) → Type 0
     SeekMoved at r =
-        Step env mix c call words G (seek_plan_at env.geometry at) (held_of_seek hn absent at)
-        (seek_holds hn absent r) (SeekNext r)
+        let op = seek_plan_at env.geometry at in
+        StepWhere env mix (seek_there at M) (seek_there_next r (mem env mix (applied words op))) c call words G op
+        (held_of_seek hn absent at) (seek_holds hn absent r) (SeekNext r)
 
     -- an operation of a piece after which the answer isn't known
-    moves_on : (op : Op) (lock after : Option ℕ) (Knows : Memory → Ghost → Type 0)
+    moves_on : {There There' : Type 0} (op : Op) (lock after : Option ℕ) (Knows : Memory → Ghost → Type 0)
         (r : SeekAt × Next (Option FoundPort))
         → ((M' : Memory) (G' : Ghost) → Whole env mix M' G' → Knows M' G' → SeekNext r M' G')
         → Moved env mix c words G op (at_lock lock) (at_lock after) Knows
-        → Step env mix c call words G op (at_lock lock) (at_lock after) (SeekNext r)
+        → StepWhere env mix There There' c call words G op (at_lock lock) (at_lock after) (SeekNext r)
     moves_on op lock after Knows r more step =
         answered env mix c call words G op (at_lock lock) (at_lock after) None (SeekNext r) (inl refl)
         (still_has refl)
         (moved-map env mix c words G op (at_lock lock) (at_lock after) Knows (SeekNext r) more step)
 
     -- the way to the bucket
+    abbrev LocateMoved : LocateModel → (Memory → Ghost → Type 0) → Type 0
+    LocateMoved locate Knows =
+        let h = held_of_seek hn absent (at.Locating locate) in Moved env mix c words G (locate_plan locate) h h Knows
+
+    -- what is known on it and what it says early, behind an operation
+    abbrev KnowsThen : LocateModel → LocateModel × Next Located → Memory → Ghost → Type 0
+    KnowsThen locate r = LocateKnows env mix c (held_of_seek hn absent (at.Locating locate)) own Unlocked port r
+
+    abbrev SaysThen : LocateModel → LocateModel × Next Located → Type 0
+    SaysThen locate r =
+        LocateSays env mix c (held_of_seek hn absent (at.Locating locate)) own Unlocked words G whole port call absent legal
+        locate.at (applied words (locate_plan locate)) r
+
+    -- an operation after which nothing is known early
+    goes_from : (locate : LocateModel) (r : SeekAt × Next (Option FoundPort)) (Knows : Memory → Ghost → Type 0)
+        → seek_holds hn absent r ≡ at_lock None
+        → ((M' : Memory) (G' : Ghost) → Knows M' G' → SeekNext r M' G') → LocateMoved locate Knows
+        → SeekMoved (at.Locating locate) r
+    goes_from locate r Knows none more step =
+        let h = held_of_seek hn absent (at.Locating locate) in
+        rw none (answered env mix c call words G (locate_plan locate) h h None (SeekNext r) (inl refl) (still_has refl)
+        (moved-map env mix c words G (locate_plan locate) h h Knows (SeekNext r) (λ M' G' w k. more M' G' k) step))
+
+    -- the bucket was looked for
+    found_bucket : (locate next : LocateModel) (shape : ℕ) (bucket : LocatedBucket)
+        → Recalls env mix c (held_of_seek hn absent (at.Locating locate)) own Unlocked words G whole port call absent legal
+        locate.at bucket
+        → LocateMoved locate (LocatedKnows env mix c (held_of_seek hn absent (at.Locating locate)) own Unlocked port next.table
+        shape bucket)
+        → SeekMoved (at.Locating locate) (bucket_or_early env.geometry port next shape bucket)
+    found_bucket locate next shape (buckets.At place) says step =
+        goes_from locate (at.Probing next.table shape (probe_new env.geometry place port), Go) _ refl
+        (λ M' G' k. record { knowing = record { only = k.only; means = k.means }; fits = (refl, tt) }) step
+    found_bucket locate next shape (buckets.Missing place (Some table)) says step =
+        goes_from locate (locating env.geometry table, Go) _ refl
+        (λ M' G' k. record { knowing = record { only = k.only; means = k.means }; fits = tt }) step
+    found_bucket locate next shape (buckets.Missing place None) says step =
+        let h = held_of_seek hn absent (at.Locating locate) in
+        let There = IsThereAt locate.at M in
+        let kind = env.config.kind in
+        answered_where env mix There ⊥ c call words G (locate_plan locate) h h (Some absent) None
+        (SeekNext (at.Locating next, Done None))
+        (subst (λ early. TellsOrRecalls kind c call hn early There now None (Some absent)) (sym says.known_early)
+        (recalls kind c call hn There now absent right takes_none says.missing))
+        (none_early kind c call There ⊥ now h.early None refl) (still_has refl)
+        (moved-map env mix c words G (locate_plan locate) h h _ (SeekNext (at.Locating next, Done None))
+        (λ M' G' w k. record {
+          only = k.only;
+          means = record { node = k.means.node; table = tt; bucket = tt; making = tt; work = tt };
+        }) step)
+
     found_place : (locate : LocateModel) (r : LocateModel × Next Located)
-        → Moved env mix c words G (locate_plan locate) (at_lock None) (at_lock None)
-        (LocateKnows env mix c (at_lock None) own Unlocked port r)
+        → LocateMoved locate (KnowsThen locate r) → SaysThen locate r
         → SeekMoved (at.Locating locate) (located env.geometry port r.0 r.1)
-    found_place locate (next, Go) step =
-        moves_on (locate_plan locate) None None
-        (LocateKnows env mix c (at_lock None) own Unlocked port (next, Go)) (at.Locating next, Go)
-        (λ M' G' w k. record { knowing = k; fits = tt }) step
-    found_place locate (next, Done there) step =
-        let is = step.knows in
-        let probing = at.Probing next.table there.shape (probe_new env.geometry is.place port) in
-        rw is.there (answered env mix c call words G (locate_plan locate) (at_lock None) (at_lock None) None
-        (SeekNext (probing, Go)) (inl refl) (still_has refl)
-        (with_knowledge env mix c words G (locate_plan locate) (at_lock None) (at_lock None)
-        (LocateKnows env mix c (at_lock None) own Unlocked port (next, Done there))
-        (SeekNext (probing, Go)) step
-        (record { knowing = record { only = is.knows.only; means = is.knows.means }; fits = (refl, tt) })))
+    found_place locate (next, Go) step says =
+        let h = held_of_seek hn absent (at.Locating locate) in
+        let Knows : Memory → Ghost → Type 0 = SeekNext (at.Locating next, Go) in
+        answered_where env mix (IsThereAt locate.at M)
+        (IsThereAt next.at (mem env mix (applied words (locate_plan locate)))) c call words G (locate_plan locate) h h None
+        (early_of_locate absent next.at) Knows (inl (inl refl)) says (still_has refl)
+        (moved-map env mix c words G (locate_plan locate) h h _ Knows
+        (λ M' G' w k. record { knowing = record { only = k.only; means = k.means }; fits = tt }) step)
+    found_place locate (next, Done there) step says = found_bucket locate next there.shape there.bucket says step
 
     -- the end of a walk
     seen_knows : (table shape : ℕ) (probe : ProbeModel) (end : Probed) (found : Option ℕ) (M' : Memory)
@@ -273,8 +335,10 @@ module _ (env : Env) (mix : ℕ → ℕ → ℕ → ℕ) (c : ℕ) (call : Call)
           fits = tt;
         })
     seek_step_at (at.Locating locate) is known =
+        let h = held_of_seek hn absent (at.Locating locate) in
         found_place locate (locate_after mix port locate (old_of words (locate_plan locate)))
-        (locate_step env mix c (at_lock None) own Unlocked words G whole port locate is known.knowing)
+        (locate_step env mix c h own Unlocked words G whole port locate is known.knowing)
+        (locate_says env mix c h own Unlocked words G whole port call absent legal locate is known.knowing)
     seek_step_at (at.Probing table shape probe) is known =
         walked table shape probe (probe_after probe (old_of words (probe_plan probe))) known.fits.0
         (probe_step env mix c (at_lock None) own port table (Some shape) words G all whole probe
@@ -301,8 +365,9 @@ module _ (env : Env) (mix : ℕ → ℕ → ℕ → ℕ) (c : ℕ) (call : Call)
     abbrev pub SeekStep : SeekModel → Type 0
     SeekStep m =
         let r = seek_after mix port m (old_of words (seek_plan m)) in
-        Step env mix c call words G (seek_plan m) (held_of_seek hn absent m.at)
-        (seek_holds hn absent (r.0.at, r.1)) (SeekNext (r.0.at, r.1))
+        StepWhere env mix (seek_there m.at M)
+        (seek_there_next (r.0.at, r.1) (mem env mix (applied words (seek_plan m)))) c call words G (seek_plan m)
+        (held_of_seek hn absent m.at) (seek_holds hn absent (r.0.at, r.1)) (SeekNext (r.0.at, r.1))
 
     pub seek_step : (m : SeekModel) → IsSeekIn env.geometry m → SeekKnows m.at M G → SeekStep m
     seek_step m is known =

@@ -4,8 +4,10 @@ use Rattle.std.proofs.Math.Nat.{mod-eq_of_lt}
 use Rattle.std.proofs.Math.Seq.{append_snoc}
 use Rattle.std.proofs.lemmas.Bool.{lt-ltb, cases_lt, le-ltb}
 use Rattle.std.proofs.lemmas.Bool.Decides.{nat_tests}
+use Rattle.std.specs.Option.{option_map}
 use Rattle.rht_words.specs.declared.env.Env.{Env}
-use Rattle.rht_words.specs.Links.{link_of, head_of, marker_of, table_of, slot_of, future_of, node_of, unlocked}
+use Rattle.rht_words.specs.declared.machine.Start.TheVariants as starts
+use Rattle.rht_words.specs.Links.{link_of, head_of, marker_of, table_of, slot_of, future_of, node_of, page_of, unlocked}
 use Rattle.rht_words.specs.Ports.{port_of}
 use Rattle.rht_words.specs.Chains.{IsSegment}
 use Rattle.rht_words.specs.Shapes.{unpacked, size_of}
@@ -16,13 +18,14 @@ use Rattle.rht_words.proofs.Members.{in-middle}
 use Rattle.rht_words.proofs.LinksRead.{links_tell_apart}
 use Rattle.rht_words.proofs.ChainLemmas.{IsSegment-cut}
 use Rattle.rht_policy.specs.Mix.{bucket_of}
-use Rattle.rht_nest.specs.Place.{bucket_index, flat_place}
+use Rattle.rht_nest.specs.Place.{PlaceModel, bucket_index, flat_place, nested_place, entered, behind_entry, place_or_last}
 use Rattle.rht_nest.specs.Tables.{is_nested}
-use Rattle.rht_core.proofs.Theory.Ghosts.{Ghost, has_table, index_at, lock_bit}
+use Rattle.rht_core.proofs.Theory.Ghosts.{Ghost, has_table, index_at, lock_bit, none-some}
 use Rattle.rht_core.proofs.Theory.Wholes.{chain_of, key_of, place_at, word_index, place_at-index, index-place_at, index-within, hash_in, future_in, stop, TableRight, Whole}
 use Rattle.rht_core.proofs.Theory.Passed.{hash-below, held-no_entry}
 use Rattle.rht_core.proofs.Theory.Knowns.{KnownAim, NoAim, Onward, From, Beyond, KnownRehash, KnownPlace, KnownEntry, KnownWork, Works, Rooted, Follows, Empties, Nears, Faces, InBucket, Bare, AtEntry, AtTail, Aims}
-use Rattle.rht_core.proofs.Theory.Knowledge.{HasLock, IsEmptying, IsInBucket, WorkMeans}
+use Rattle.rht_core.proofs.Theory.Knowledge.{DoesWork, HasLock, IsEmptying, IsNearing, IsInBucket, WorkMeans}
+use Rattle.rht_core.proofs.Theory.WaysRead.{words_of_pages, read_by_entry, flat_read, near_read, near_next, place_of_bucket, missing_home}
 use Rattle.rht_core.proofs.Moves.Relinking.{last_of-more}
 use Rattle.rht_core.proofs.Theory.FlatTables.{flat_right, home-index}
 
@@ -204,7 +207,7 @@ module _ (env : Env) (mix : ℕ → ℕ → ℕ → ℕ) (c : ℕ) (M : Memory) 
       let more = knows.more.aim_is in
       absurd (omega (arith, last, has.1, more))
 
-  -- no table is nested
+  -- so far no table is nested, so the last one isn't
   pub flat_seen : (slot : ℕ) → has_table (G.slot slot) ≡ true → is_nested (M (Slot slot ShapeWord)) ≡ false
   flat_seen slot has = ap is_nested (shape_word slot has) ∙ ap (nat_lt 0) (whole.tables.flat (index_at G slot) (whole.tables.slots slot has).attached)
 
@@ -238,47 +241,102 @@ module _ (env : Env) (mix : ℕ → ℕ → ℕ → ℕ) (c : ℕ) (M : Memory) 
         };
       }
 
-  -- the current table is flat, as each table is
-  current_flat : (root : KnownRehash) (number : ℕ) → IsEmptying env mix G root number → is_nested root.shape ≡ false
-  current_flat root number empties =
-      ap is_nested (sym empties.shape_is)
-      ∙ ap (nat_lt 0) (whole.tables.flat G.current whole.tables.current_in)
+  -- ---- the way to the next bucket
 
-  -- so the way to its buckets leads over no entries
-  pub nears_none : (A : Type 0) (root : KnownRehash) (number : ℕ) → Knows (Nears root number) → A
-  nears_none A root number knows =
-      absurd (let z : true ≡ false = sym knows.more.nested ∙ current_flat root number knows.more.empties in cc)
+  next_below : (root : KnownRehash) (number : ℕ) → IsEmptying env mix G root number
+      → number < size_of (unpacked root.shape) → number < size_of (unpacked (G.table G.current).shape)
+  next_below root number is = subst (λ s. number < size_of (unpacked s)) (sym is.shape_is)
 
-  -- the place of the next bucket
-  pub record HasPlace (root : KnownRehash) (number : ℕ) : Type 0 where
-    pub flat : is_nested root.shape ≡ false
-    pub place : ℕ
-    pub there : flat_place env.geometry root.shape number ≡ place
-    pub knows : Knows (Faces root number place)
-
-  pub place_seen : (root : KnownRehash) (number : ℕ) → Knows (Empties root number)
-      → number < size_of (unpacked root.shape) → HasPlace root number
-  place_seen root number knows l =
-      let is = knows.more in
-      let placed = flat_right env mix M G whole G.current whole.tables.current_in in
-      let below : number < size_of (unpacked (G.table G.current).shape) =
-      subst (λ s. number < size_of (unpacked s)) (sym is.shape_is) l in
-      let j = bucket_index (G.table G.current).shape number in
-      let within : j < 64 * env.geometry.pages = omega (arith, below, placed.fits) in
+  -- the place of the next bucket, where the words lead to its word
+  faced : (root : KnownRehash) (number place : ℕ) (works : DoesWork c G None) (is : IsEmptying env mix G root number)
+      (below : number < size_of (unpacked (G.table G.current).shape))
+      → option_map (place_at env mix) ((G.table G.current).place number) ≡ Some place → Knows (Faces root number place)
+  faced root number place works is below leads =
+      let at = place_of_bucket env mix M G whole G.current number whole.tables.current_in below place leads in
       record {
-        flat = current_flat root number is;
-        place = place_at env mix j;
-        there = subst (λ s. flat_place env.geometry s number ≡ place_at env mix j) is.shape_is (omega (arith, within));
-        knows = record {
-          works = knows.works;
-          more = record {
-            empties = is;
-            below = below;
-            bucket = (omega arith, omega (arith, within));
-            here = placed.places number below ∙ ap Some (sym (index-place_at env mix j));
-          };
+        works = works;
+        more = record { empties = is; below = below; bucket = at.bucket; here = at.here };
+      }
+
+  -- in a flat table it is faced at once
+  pub faces_seen : (root : KnownRehash) (number : ℕ) → is_nested root.shape ≡ false
+      → number < size_of (unpacked root.shape) → Knows (Empties root number)
+      → Knows (Faces root number (flat_place env.geometry root.shape number))
+  faces_seen root number flat l knows =
+      let is = knows.more in
+      let below = next_below root number is l in
+      faced root number (flat_place env.geometry root.shape number) knows.works is below
+      (flat_read env mix M G whole G.current number whole.tables.current_in below (ap is_nested is.shape_is ∙ flat)
+      ∙ ap (λ s. Some (flat_place env.geometry s number)) is.shape_is)
+
+  -- and in a nested one neared at the first entry on the way to it
+  pub nears_seen : (root : KnownRehash) (number : ℕ) → is_nested root.shape ≡ true
+      → number < size_of (unpacked root.shape) → Knows (Empties root number)
+      → Knows (Nears root number (nested_place env.geometry root.shape number))
+  nears_seen root number nested l knows = record {
+    works = knows.works;
+    more = record {
+      empties = knows.more;
+      below = next_below root number knows.more l;
+      nested = nested;
+      way = inl refl;
+    };
+  }
+
+  -- ---- the entries on the way to it
+
+  -- where the entry at which the way stands leads, by its word
+  abbrev pub led_by : PlaceModel → Option ℕ
+  led_by place = page_of env.geometry.pages (M (PageWord place.entry))
+
+  -- the place of its word is behind that entry
+  behind_way : (root : KnownRehash) (number : ℕ) (place : PlaceModel) (entry : Option ℕ) → place.geometry ≡ env.geometry
+      → led_by place ≡ entry → IsNearing env mix G root number place
+      → option_map (place_at env mix) ((G.table G.current).place number)
+      ≡ behind_entry (place_or_last (words_of_pages M)) place entry
+  behind_way root number place entry same led near =
+      sym (near_read env mix M G whole root number place near)
+      ∙ read_by_entry (words_of_pages M) place env.geometry entry same led
+
+  -- an entry that leads to no page: the bucket is missing, so it has no entry to be moved
+  pub passed_by : (root : KnownRehash) (number : ℕ) (place : PlaceModel) → place.geometry ≡ env.geometry
+      → led_by place ≡ None → Knows (Nears root number place) → Knows (Empties root (number + 1))
+  passed_by root number place same led knows =
+      let near = knows.more in
+      let empties = near.empties in
+      let none : (G.table G.current).place number ≡ None =
+      missing_home env mix ((G.table G.current).place number) (behind_way root number place None same led near) in
+      record {
+        works = knows.works;
+        more = record {
+          followed = empties.followed;
+          shape_is = empties.shape_is;
+          within = omega (arith, near.below);
+          each = λ b j l at. elim (cases_lt b number) [
+            | inl before ↦ empties.each b j before at
+            | inr from ↦
+                let same : b ≡ number = omega (arith, l, from) in
+                absurd (none-some none (ap (G.table G.current).place (sym same) ∙ at))
+          ];
         };
       }
+
+  -- one that leads to a page of entries
+  pub nears_on : (root : KnownRehash) (number : ℕ) (place next : PlaceModel) (page : ℕ) → led_by place ≡ Some page
+      → entered place page ≡ starts.Running next → Knows (Nears root number place) → Knows (Nears root number next)
+  nears_on root number place next page led e knows = record {
+    works = knows.works;
+    more = near_next env mix M G whole root number place knows.more next page led e;
+  }
+
+  -- and one that leads to the page of the bucket's word
+  pub faces_behind : (root : KnownRehash) (number : ℕ) (place : PlaceModel) (page there : ℕ)
+      → place.geometry ≡ env.geometry → led_by place ≡ Some page → entered place page ≡ starts.Done there
+      → Knows (Nears root number place) → Knows (Faces root number there)
+  faces_behind root number place page there same led e knows =
+      let near = knows.more in
+      faced root number there knows.works near.empties near.below
+      (behind_way root number place (Some page) same led near ∙ ap (place_or_last (words_of_pages M)) e)
 
   -- ---- the table to which an entry goes
 

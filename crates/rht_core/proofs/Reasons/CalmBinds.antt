@@ -3,7 +3,7 @@
 -- By induction over its operations it stays so where the tables to which it comes are good enough for the ports that are bound: where no count
 -- that it loads is above the size of the table in which it is, or as many as the table may hold. In its chains no 16 nodes are counted,
 -- since as many ports would be bound. What makes a table good, and to which ones it comes, is another matter.
-use Rattle.std.proofs.Common.{◌≡◌, ℕ, ◌+◌, ◌≤◌, Bool, true, false, cond, min, nat_le, List, [], ◌∷◌, length, refl, sym, ap, ◌∙◌, subst, inl, inr, arith}
+use Rattle.std.proofs.Common.{◌≡◌, ℕ, ◌+◌, ◌≤◌, Bool, true, false, cond, min, nat_le, List, [], ◌∷◌, length, refl, subst, inl, inr, arith}
 use Rattle.std.specs.Prelude.{Option, Some, None}
 use Rattle.std.proofs.lemmas.Bool.{cases_eq, leb-true}
 use Rattle.rht_words.specs.declared.env.Env.{Env}
@@ -13,7 +13,6 @@ use Rattle.rht_words.specs.declared.machine.Next.{Next}
 use Rattle.rht_words.specs.declared.machine.Next.TheVariants.{Go, Done}
 use Rattle.rht_words.specs.Links.{slot_of, table_of}
 use Rattle.rht_words.specs.Machines.{GoesOrEnds}
-use Rattle.rht_words.specs.Operations.{old_of}
 use Rattle.rht_words.specs.Shapes.{unpacked, size_of}
 use Rattle.rht_words.proofs.Memory.{Memory}
 use Rattle.rht_policy.specs.Thresholds.{is_above_100, is_above_max}
@@ -22,11 +21,9 @@ use Rattle.rht_model.specs.declared.history.Reply.{Reply}
 use Rattle.rht_model.specs.declared.history.Reply.TheVariants.{NoNode}
 use Rattle.rht_arena.specs.NewNode.{NewNodeModel, new_node_after}
 use Rattle.rht_nest.specs.Tables.{is_nested}
-use Rattle.rht_nest.specs.Place.{PlaceModel, flat_place, nested_place, place_after}
-use Rattle.rht_nest.specs.declared.place.Bucket.{Bucket}
-use Rattle.rht_nest.specs.declared.place.Bucket.TheVariants.{At, Absent}
+use Rattle.rht_nest.specs.Place.{flat_place, nested_place}
 use Rattle.rht_policy.specs.Mix.{bucket_of}
-use Rattle.rht_nest.specs.Locate.{LocateModel, locate_plan, locate_after, locate_after_at, located_at, entry_followed}
+use Rattle.rht_nest.specs.Locate.{LocateModel, locate_after_at, located_at}
 use Rattle.rht_nest.specs.declared.locate.LocateAt.{LocateAt}
 use Rattle.rht_nest.specs.declared.locate.LocateAt.TheVariants as locates
 use Rattle.rht_nest.specs.declared.locate.Located.{Located}
@@ -50,8 +47,9 @@ use Rattle.rht_core.specs.StandsFor.{stands_for, AreBound}
 use Rattle.rht_core.specs.Traces.{Did}
 use Rattle.rht_core.proofs.Theory.Ghosts.{Ghost}
 use Rattle.rht_core.proofs.Theory.Knowns.{Unlocked}
-use Rattle.rht_core.proofs.Theory.Steps.{by_test}
-use Rattle.rht_core.proofs.Pieces.Locates.{LocateKnows, locate_step}
+use Rattle.rht_core.proofs.Theory.Wholes.{Whole}
+use Rattle.rht_core.proofs.Theory.Steps.{by_test, mem}
+use Rattle.rht_core.proofs.Pieces.Locates.{known_locate, knowing, no_way}
 use Rattle.rht_core.proofs.Pieces.NewNodes.{filled as filled_node}
 use Rattle.rht_core.proofs.Tracing.TracedJobs.{Performs}
 use Rattle.rht_core.proofs.Reasons.CausesInRuns.{SawAt}
@@ -151,36 +149,31 @@ module _ (env : Env) (Good Come : ℕ → Type 0) where
   calm-unlocked attempt (Table table) calm = (calm, tt)
   calm-unlocked attempt (Answer reply) calm = calm
 
-  abbrev CalmLocated : LocateModel × Next Located → Type 0
-  CalmLocated (m, Go) = Come m.table × CalmLocate m.at
-  CalmLocated (m, Done there) = Good there.shape
+  -- what a bind knows that looks for its bucket
+  abbrev LocateKnown : (ℕ → ℕ → ℕ → ℕ) → ℕ → ℕ → ℕ → Attempt → Memory → Ghost → ℕ → LocateAt → Type 0
+  LocateKnown mix port owner c attempt M ghost table state =
+      knowing env mix c (holds_node (Some attempt.node) None) (Some (filled_node attempt.node port owner)) Unlocked
+      (known_locate port table state) M ghost
 
-  calm-followed : (m : LocateModel) (shape : ℕ) (early : Option ℕ) (place : PlaceModel) (next : Next Bucket) → Come m.table
-      → Good shape → CalmLocated (entry_followed m shape early place next)
-  calm-followed m shape early place Go come good = (come, good)
-  calm-followed m shape early place (Done (At word)) come good = good
-  calm-followed m shape early place (Done (Absent entry)) come good = good
-
-  calm-locate : (mix : ℕ → ℕ → ℕ → ℕ) (port : ℕ) (m : LocateModel) (state : LocateAt) (word : ℕ) → Come m.table → CalmLocate state
-      → (state ≡ locates.Shape → Good word) → CalmLocated (locate_after_at mix port m state word)
-  calm-locate mix port m locates.Shape word come calm good = (come, good refl)
-  calm-locate mix port m (locates.Seed shape) word come calm good =
-      by_test (λ t. CalmLocated (cond {A = LocateModel × Next Located} t
+  -- so far each table is flat, so a bucket that is looked for is there
+  calm-located : (mix : ℕ → ℕ → ℕ → ℕ) (port owner c : ℕ) (attempt : Attempt) (words : List ℕ) (ghost : Ghost)
+      (whole : Whole env mix (mem env mix words) ghost) (m : LocateModel) (state : LocateAt) (word : ℕ)
+      → LocateKnown mix port owner c attempt (mem env mix words) ghost m.table state → Come m.table → CalmLocate state
+      → (state ≡ locates.Shape → Good word)
+      → let next = locate_after_at mix port m state word in CalmBind (located env port attempt next.0 next.1)
+  calm-located mix port owner c attempt words ghost whole m locates.Shape word knows come calm good = (come, good refl)
+  calm-located mix port owner c attempt words ghost whole m (locates.Seed shape) word knows come calm good =
+      by_test (λ t. let next = cond {A = LocateModel × Next Located} t
       (record m { at = locates.Early shape (nested_place m.geometry shape (bucket_of mix port shape word)) }, Go)
-      (m, Done (located_at shape (flat_place m.geometry shape (bucket_of mix port shape word))))))
+      (m, Done (located_at shape (flat_place m.geometry shape (bucket_of mix port shape word)))) in
+      CalmBind (located env port attempt next.0 next.1))
       (is_nested shape) (λ t. (come, calm)) (λ f. calm)
-  calm-locate mix port m (locates.Early shape place) word come calm good = (come, calm)
-  calm-locate mix port m (locates.Entry shape early place) word come calm good =
-      calm-followed m shape early (place_after place word).0 (place_after place word).1 come calm
-
-  -- a bucket that is looked for is there
-  calm-located : (mix : ℕ → ℕ → ℕ → ℕ) (port owner c : ℕ) (attempt : Attempt) (next : LocateModel × Next Located) (memory : Memory)
-      (ghost : Ghost)
-      → LocateKnows env mix c (holds_node (Some attempt.node) None) (Some (filled_node attempt.node port owner)) Unlocked port next memory
-      ghost
-      → CalmLocated next → CalmBind (located env port attempt next.0 next.1)
-  calm-located mix port owner c attempt (after, Go) memory ghost knows calm = calm
-  calm-located mix port owner c attempt (after, Done there) memory ghost knows calm = rw knows.there calm
+  calm-located mix port owner c attempt words ghost whole m (locates.Early shape place) word knows come calm good =
+      no_way env mix c (holds_node (Some attempt.node) None) (Some (filled_node attempt.node port owner)) Unlocked words ghost
+      whole _ port m.table shape place None knows.means.table
+  calm-located mix port owner c attempt words ghost whole m (locates.Entry shape early place) word knows come calm good =
+      no_way env mix c (holds_node (Some attempt.node) None) (Some (filled_node attempt.node port owner)) Unlocked words ghost
+      whole _ port m.table shape place early knows.means.table
 
   -- a chain of 16 nodes would bind as many ports
   module _ (words_at : ℕ → List ℕ) (few : (i : ℕ) → AreBound (stands_for env.geometry (words_at i)) 16 → ⊥) where
@@ -220,14 +213,8 @@ module _ (env : Env) (Good Come : ℕ → Type 0) where
         calm-filled (new_node_after new did.old).0 (new_node_after new did.old).1
     calm-bind mix port owner once (at.CurrentTable attempt) steps did does saw calm is = (is.current attempt refl, tt)
     calm-bind mix port owner once (at.Locating attempt locate) steps did does saw calm is =
-        let found : did.old ≡ old_of does.words (locate_plan locate) = does.found ∙ ap (old_of does.words) does.planned in
-        let step = locate_step env mix does.caller (holds_node (Some attempt.node) None) (Some (filled_node attempt.node port owner))
-        Unlocked does.words does.ghost does.whole port locate does.within.at_in.locate_in does.knows.knowing in
-        subst (λ old. let next = locate_after mix port locate old in CalmBind (located env port attempt next.0 next.1)) (sym found)
-        (calm-located mix port owner does.caller attempt (locate_after mix port locate (old_of does.words (locate_plan locate))) _ _
-        step.knows
-        (calm-locate mix port locate locate.at (old_of does.words (locate_plan locate)) calm.0 calm.1
-        (λ shape. subst Good found (is.shape attempt locate refl shape calm.0))))
+        calm-located mix port owner does.caller attempt does.words does.ghost does.whole locate locate.at did.old
+        does.knows.knowing calm.0 calm.1 (λ shape. is.shape attempt locate refl shape calm.0)
     calm-bind mix port owner once (at.Entering attempt table shape place grow) steps did does saw calm is = absurd calm
     calm-bind mix port owner once (at.Probing attempt table shape probe) steps did does saw calm is =
         calm-probed env.config.kind attempt table shape (probe_after probe did.old).0 (probe_after probe did.old).1 calm

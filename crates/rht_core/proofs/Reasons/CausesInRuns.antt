@@ -53,8 +53,10 @@ use Rattle.rht_nest.specs.Unmake.{UnmakeModel, unmake_new, unmake_plan_at, unmak
 use Rattle.rht_nest.specs.declared.unmake.UnmakeAt.{UnmakeAt}
 use Rattle.rht_nest.specs.declared.unmake.UnmakeAt.TheVariants as unmakes
 use Rattle.rht_nest.specs.Grow.{pages_of_grow}
-use Rattle.rht_nest.specs.Locate.{LocateModel, locate_plan, locate_after}
+use Rattle.rht_nest.specs.Locate.{LocateModel, locate_after}
 use Rattle.rht_nest.specs.declared.locate.Located.{Located}
+use Rattle.rht_nest.specs.declared.locate.LocatedBucket.{LocatedBucket}
+use Rattle.rht_nest.specs.declared.locate.LocatedBucket.TheVariants as buckets
 use Rattle.rht_chain.specs.Probe.{ProbeModel, probe_after_at}
 use Rattle.rht_chain.specs.declared.probe.ProbeAt.{ProbeAt}
 use Rattle.rht_chain.specs.declared.probe.Probed.{Probed}
@@ -67,8 +69,7 @@ use Rattle.rht_arena.proofs.NodesSeen.{first_unseen, SawAllBelow, SawAllBelow-pu
 use Rattle.rht_find.specs.Find.{after_at as find_after_at}
 use Rattle.rht_find.specs.declared.find.FindAt.{FindAt}
 use Rattle.rht_find.specs.declared.find.FindAt.TheVariants.{CurrentTable}
-use Rattle.rht_words.proofs.Memory.{Memory}
-use Rattle.rht_bind.specs.BindHeld.{holds_node, holds_table}
+use Rattle.rht_bind.specs.BindHeld.{holds_table}
 use Rattle.rht_bind.specs.Growing.{unlocking_full, making, size_grown, want_or_busy, made, ended_attempt, behind_attempt, refused_or_found, has_attached, checked_attach, unmade}
 use Rattle.rht_bind.specs.declared.bind.Attempt.{Attempt}
 use Rattle.rht_bind.specs.declared.bind.growth.Full.{Full}
@@ -76,7 +77,7 @@ use Rattle.rht_bind.specs.declared.bind.growth.Full.TheVariants as full
 use Rattle.rht_bind.specs.declared.bind.growth.Growing.{Growing}
 use Rattle.rht_bind.specs.declared.bind.growth.Refusal.{Refusal}
 use Rattle.rht_bind.specs.declared.bind.growth.Refusal.TheVariants as refusals
-use Rattle.rht_bind.specs.Bind.{first_state, plan_at, after_at, filled, located, bound_already, found_or_future, probed, replaced, unlocking, future_or_count, checked_count, kicks, published, unlocked}
+use Rattle.rht_bind.specs.Bind.{first_state, plan_at, after_at, filled, located, at_bucket, bound_already, found_or_future, probed, replaced, unlocking, future_or_count, checked_count, kicks, published, unlocked}
 use Rattle.rht_bind.specs.declared.bind.Claimed.{Claimed}
 use Rattle.rht_bind.specs.declared.bind.FoundList.{FoundList}
 use Rattle.rht_bind.specs.declared.bind.BindAt.{BindAt}
@@ -110,14 +111,14 @@ use Rattle.rht_core.proofs.Theory.Ghosts.{Ghost, has_table, index_at}
 use Rattle.rht_core.proofs.Theory.Wholes.{future_in, Whole}
 use Rattle.rht_core.proofs.Theory.Knowns.{Unlocked}
 use Rattle.rht_core.proofs.Pieces.NewNodes.{filled as filled_node}
-use Rattle.rht_core.proofs.Pieces.Locates.{LocateKnows, locate_step, no_way}
+use Rattle.rht_core.proofs.Pieces.Locates.{no_way}
 use Rattle.rht_core.proofs.Tracing.TracesAtEvents.{at_events}
 use Rattle.rht_core.proofs.Tracing.TracedJobs.{Performs, LeadsOn, IsEndedSo, jobs_keep_in}
 use Rattle.rht_move.specs.Work as work
 use Rattle.rht_move.specs.declared.work.WorkAt.TheVariants as works_at
 use Rattle.rht_core.proofs.Reasons.WorkChoices.{SawIdle-nothing, SawReplaced-moved, SawForWork, SawAtWork, work-saw}
 use Rattle.rht_core.proofs.Counting.FullTables.{counted_at}
-use Rattle.rht_core.proofs.Reasons.TablesWalked.{IsNoRaise, IsAside, no_load, aside, elsewhere, node_loads, probe_loads, relink_stores, CameTo-append, came-current, came-future, walked-came, LastWalked-push, Walked, Walked-push, WalkedSeeing, WalkedSeeing-push, LoadedNoKey, WalkedAt, WalkedNext, same_table, locate-walked}
+use Rattle.rht_core.proofs.Reasons.TablesWalked.{IsNoRaise, IsAside, no_load, aside, elsewhere, node_loads, probe_loads, relink_stores, CameTo-append, came-current, came-future, walked-came, LastWalked-push, Walked, Walked-push, WalkedSeeing, WalkedSeeing-push, LoadedNoKey, WalkedAt, CameBeyond, WalkedNext, same_table, locate-walked}
 use Rattle.rht_core.proofs.Reasons.KeyLoads.{no_key}
 use Rattle.rht_core.proofs.Reasons.ChainsCounted.{none-counted, HasCounted, HasCounted-push, CountedAt, CountedNext, probe-counted, long-counted}
 use Rattle.rht_core.proofs.Reasons.AttachedTables.{IsNoFutureExchange, IsNoAttach, no_attach, AttachedSo, AttachedSo-push, SawAttached, attached-saw, relink-none, unmake-none}
@@ -607,25 +608,29 @@ module _ (env : Env) (words_at : ℕ → List ℕ) where
       elim (cases_lt 0 word) [ inl low ↦ omega (arith, few, low) | inr none ↦ absurd (some (omega (arith, none))) ]
 
   module _ (mix : ℕ → ℕ → ℕ → ℕ) (port owner : ℕ) (once : Bool) where
-    -- once a bucket was looked for it is there
-    found-saw : (c : ℕ) (attempt : Attempt) (locate : LocateModel) (next : LocateModel × Next Located) (memory : Memory) (ghost : Ghost) (steps : List Did)
-        → LocateKnows env mix c (holds_node (Some attempt.node) None) (Some (filled_node attempt.node port owner)) Unlocked port next memory ghost
-        → next.0.table ≡ locate.table → WalkedNext env.geometry locate.table next steps
+    -- once a bucket was looked for none of its nodes was counted; where it is missing the bind has come to the table behind, if there was one
+    bucket-saw : (attempt : Attempt) (table shape : ℕ) (bucket : LocatedBucket) (steps : List Did)
+        → WalkedSeeing env.geometry table shape (LoadedNoKey env.geometry) steps → CameBeyond env.geometry bucket steps
+        → SawAt (at_bucket env port attempt table shape bucket) steps
+    bucket-saw attempt table shape (buckets.At place) steps walked came = record {
+      walked = walked.walked;
+      saw = record {
+        nodes = [];
+        counted = none-counted env.geometry words_at place 0 walked.walked.last.behind walked.saw;
+        many = refl;
+      };
+    }
+    bucket-saw attempt table shape (buckets.Missing place (Some next)) steps walked came = came
+    bucket-saw attempt table shape (buckets.Missing place None) steps walked came = walked
+
+    found-saw : (attempt : Attempt) (table : ℕ) (next : LocateModel × Next Located) (steps : List Did)
+        → next.0.table ≡ table → WalkedNext env.geometry table next steps
         → SawAt (located env port attempt next.0 next.1) steps
-    found-saw c attempt locate (after, Go) memory ghost steps knows same walked =
-        subst (λ table. WalkedAt env.geometry table after.at steps) (sym same) walked
-    found-saw c attempt locate (after, Done there) memory ghost steps knows same walked =
-        let place = knows.place in
-        let counted = HasCounted env.geometry words_at place 0 in
-        rw knows.there (subst (λ table. WalkedSeeing env.geometry table there.shape counted steps) (sym same)
-        (record {
-          walked = walked.0.walked;
-          saw = record {
-            nodes = [];
-            counted = none-counted env.geometry words_at place 0 walked.0.walked.last.behind walked.0.saw;
-            many = refl;
-          };
-        }))
+    found-saw attempt table (after, Go) steps same walked =
+        subst (λ t. WalkedAt env.geometry t after.at steps) (sym same) walked
+    found-saw attempt table (after, Done there) steps same walked =
+        subst (λ t. SawAt (at_bucket env port attempt t there.shape there.bucket) steps) (sym same)
+        (bucket-saw attempt table there.shape there.bucket steps walked.0 walked.1)
 
     locating-saw : (attempt : Attempt) (locate : LocateModel) (steps : List Did) (did : Did)
         → Performs mix env (binds port owner once (at.Locating attempt locate)) did
@@ -634,14 +639,10 @@ module _ (env : Env) (words_at : ℕ → List ℕ) where
         SawAt (located env port attempt next.0 next.1) (steps ++ did ∷ [])
     locating-saw attempt locate steps did does saw =
         let all = steps ++ did ∷ [] in
-        let is : did.old ≡ old_of does.words (locate_plan locate) = does.found ∙ ap (old_of does.words) does.planned in
-        let step = locate_step env mix does.caller (holds_node (Some attempt.node) None) (Some (filled_node attempt.node port owner)) Unlocked does.words does.ghost does.whole
-        port locate does.within.at_in.locate_in does.knows.knowing in
-        let walked = locate-walked env.geometry mix port locate locate.at steps did does.within.at_in.locate_in.at_in does.within.at_in.locate_in.table_in does.planned saw in
-        subst (λ old. let next = locate_after mix port locate old in SawAt (located env port attempt next.0 next.1) all) (sym is)
-        (found-saw does.caller attempt locate (locate_after mix port locate (old_of does.words (locate_plan locate))) _ _ all step.knows
-        (same_table env.geometry mix port locate locate.at (old_of does.words (locate_plan locate)))
-        (subst (λ old. WalkedNext env.geometry locate.table (locate_after mix port locate old) all) is walked))
+        let within = does.within.at_in.locate_in in
+        found-saw attempt locate.table (locate_after mix port locate did.old) all
+        (same_table env.geometry mix port locate locate.at did.old)
+        (locate-walked env.geometry mix port locate locate.at steps did within.at_in within.table_in does.planned saw)
 
     -- an attempt has ended for a table that was seen behind the last one
     ended-saw : (table : ℕ) (all : List Did) → FollowedSeen env words_at table all → SawForReply (ended_attempt once table) all
@@ -800,7 +801,7 @@ module _ (env : Env) (words_at : ℕ → List ℕ) where
     bind-saw (at.Locating attempt locate) steps did does now saw so unraised = locating-saw attempt locate steps did does saw
     bind-saw (at.Entering attempt table shape place grow) steps did does now saw so unraised =
         no_way env mix does.caller (holds_table attempt.node None (pages_of_grow grow.at))
-        (Some (filled_node attempt.node port owner)) Unlocked does.words does.ghost does.whole _ port table shape
+        (Some (filled_node attempt.node port owner)) Unlocked does.words does.ghost does.whole _ port table shape place None
         does.knows.knowing.means.table
     bind-saw (at.Probing attempt table shape probe) steps did does now saw so unraised =
         let within = does.within.at_in.probe_in.at_in in

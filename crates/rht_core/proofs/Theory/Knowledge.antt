@@ -1,6 +1,6 @@
 -- What a caller knows in each state: what that means of the words and the ghost, and that it has nothing more.
 -- It speaks of words and ghosts on which the caller holds the right, or which nobody changes.
-use Rattle.std.proofs.Common.{◌≡◌, ◌≢◌, ◌⊎◌, ℕ, ◌+◌, ◌<◌, ◌≤◌, List, [], ◌∷◌, length, Option, Some, None, Bool, true, false}
+use Rattle.std.proofs.Common.{◌≡◌, ◌≢◌, ◌⊎◌, ℕ, ◌+◌, ◌%◌, ◌<◌, ◌≤◌, List, [], ◌∷◌, length, Option, Some, None, Bool, true, false}
 use Rattle.std.specs.Prelude.{IfSome}
 use Rattle.rht_words.specs.declared.env.Env.{Env}
 use Rattle.rht_words.specs.Places.{Slot, ShapeWord, SeedWord, FutureWord, SerialWord, Node, ChainLink, KeyWord, OwnerWord, ListLink, IsBucketPlace}
@@ -10,12 +10,14 @@ use Rattle.rht_words.specs.Links.{head_of}
 use Rattle.rht_words.specs.Held as held
 use Rattle.rht_words.proofs.Memory.{Memory}
 use Rattle.rht_words.specs.Members.{In}
+use Rattle.rht_words.specs.declared.machine.Start.TheVariants as starts
 use Rattle.rht_nest.specs.Tables.{is_nested, table_pages}
-use Rattle.rht_core.proofs.Theory.Ghosts.{Bucket, Held, Leaving, PageHeld, SlotHeld, Ghost, is_taken_by, has_table, index_at}
-use Rattle.rht_core.proofs.Theory.Wholes.{AreRetired, chain_of, key_of, place_at, word_index, home, pages_of, MovesNone, moves_none, IsFurther, Whole}
+use Rattle.rht_nest.specs.Place.{PlaceModel, nested_place, entered}
+use Rattle.rht_core.proofs.Theory.Ghosts.{Bucket, Held, Leaving, Middle, PageHeld, PageOf, SlotHeld, Ghost, is_taken_by, has_table, index_at}
+use Rattle.rht_core.proofs.Theory.Wholes.{AreRetired, chain_of, key_of, place_at, word_index, hash_in, home, pages_of, MovesNone, moves_none, IsFurther, Whole}
 use Rattle.rht_core.proofs.Theory.Passed.{NoKey, Passed}
 use Rattle.rht_core.proofs.Theory.Knowns.{Armed, KnownAim, NoAim, Onward, From, Beyond, KnownRehash, KnownPlace, Follows, Nears, Faces, InBucket, Bare, Aims, LeavesBehind, AtEntry, AtHome, AtNode, AtTail, Brings, Collected, CollectedTo, CutsOut, Differing, Differs, Empties, FirstLink, Found, HasBrought, HasMade, HasPages, HasTaken, InList, InSlot, IsAmong, IsCollected, IsCollectedTo, IsCutOut, IsLeading, IsLeadingTo, IsOtherOwner, IsOwnersNode, IsPromoting, Known, KnownBucket, KnownEntry, KnownList, KnownMaking, KnownNode, KnownSlot, KnownTable, KnownWork, Leads, LeadsTo, Listing, Locks, LocksTakenOut, MakesNothing, Matching, Member, Missed, NoWork, Nowhere, OnWay, Passes, Promotes, Replaces, Rooted, Shaped, Stands, StandsAt, StandsInList, Succeeds, TakenOut, TakesOut, Unlocked, Unlocks, WithShape, Works, last_of}
-use Rattle.rht_core.proofs.Theory.Ways.{first_page, IsNestedShape}
+use Rattle.rht_core.proofs.Theory.Ways.{first_page, entries_in, IsNestedShape}
 
 -- the caller does the work, and each table before the current one is retired, but for the one in this slot
 abbrev pub DoesWork : ℕ → Ghost → Option ℕ → Type 0
@@ -48,10 +50,29 @@ module _ (env : Env) (mix : ℕ → ℕ → ℕ → ℕ) where
     pub passing : IsPassing G port slot
     pub shape_is : (G.table (index_at G slot)).shape ≡ shape
 
-  -- the table is nested, so that the way to the port's bucket leads over entries
-  pub record IsOnWay (G : Ghost) (port slot shape : ℕ) : Type 0 where
+  -- behind the entry with which the way to the bucket with this number begins is a page of entries, and the way stands at one of these
+  pub record IsSecondEntry (G : Ghost) (number τ shape : ℕ) (place : PlaceModel) : Type 0 where
+    pub page : ℕ
+    pub of : G.page page ≡ PageOf τ
+    pub part_is : (G.table τ).part page ≡ Middle (number % entries_in shape)
+    pub place_is : entered (nested_place env.geometry shape number) page ≡ starts.Running place
+
+  -- the entries on the way to the bucket with this number in a table of this shape: the first, or the second one
+  abbrev pub IsWay : Ghost → ℕ → ℕ → ℕ → PlaceModel → Type 0
+  IsWay G number τ shape place =
+      (place ≡ nested_place env.geometry shape number) ⊎ IsSecondEntry G number τ shape place
+
+  -- the table in one slot is right behind that in another
+  pub record IsRightBehind (G : Ghost) (slot next : ℕ) : Type 0 where
+    pub table : has_table (G.slot next) ≡ true
+    pub index : index_at G next ≡ index_at G slot + 1
+
+  -- the table is nested, so that the way to the port's bucket leads over entries, at one of which it stands
+  pub record IsOnWay (G : Ghost) (port slot shape : ℕ) (place : PlaceModel) (early : Option ℕ) : Type 0 where
     pub shaped : IsShaped G port slot shape
     pub nested : is_nested shape ≡ true
+    pub way : IsWay G (hash_in env mix G port (index_at G slot)) (index_at G slot) shape place
+    pub behind : IfSome early (IsRightBehind G slot)
 
   pub record IsAtHome (G : Ghost) (port slot : ℕ) (shape : Option ℕ) (place : ℕ) : Type 0 where
     pub passing : IsPassing G port slot
@@ -71,7 +92,7 @@ module _ (env : Env) (mix : ℕ → ℕ → ℕ → ℕ) where
   TableMeans G (WithShape slot shape) = HasShape G slot shape
   TableMeans G (Passes port slot) = IsPassing G port slot
   TableMeans G (Shaped port slot shape) = IsShaped G port slot shape
-  TableMeans G (OnWay port slot shape) = IsOnWay G port slot shape
+  TableMeans G (OnWay port slot shape place early) = IsOnWay G port slot shape place early
   TableMeans G (AtHome port slot shape place) = IsAtHome G port slot shape place
 
   -- the caller has locked the bucket, in which it may be armed, and out of which an entry may be on its way; or neither is so
@@ -329,11 +350,13 @@ module _ (env : Env) (mix : ℕ → ℕ → ℕ → ℕ) where
     pub table : has_table (G.slot slot) ≡ true
     pub earlier : index_at G slot < G.current
 
-  -- the bucket of the current table that is to be emptied next, to which the way leads over entries, since that table is nested
-  pub record IsNearing (G : Ghost) (root : KnownRehash) (number : ℕ) : Type 0 where
+  -- the bucket of the current table that is to be emptied next, to which the way leads over entries, since that table is nested; and the
+  -- entry at which it stands
+  pub record IsNearing (G : Ghost) (root : KnownRehash) (number : ℕ) (place : PlaceModel) : Type 0 where
     pub empties : IsEmptying G root number
     pub below : number < size_of (unpacked (G.table G.current).shape)
     pub nested : is_nested root.shape ≡ true
+    pub way : IsWay G number G.current root.shape place
 
   -- the place of the bucket of the current table that is to be emptied next
   pub record IsFacing (G : Ghost) (root : KnownRehash) (number place : ℕ) : Type 0 where
@@ -424,7 +447,7 @@ module _ (env : Env) (mix : ℕ → ℕ → ℕ → ℕ) where
   WorkMeans c M G (Follows root future) = IsWorking c G None (IsFollowed G root future)
   WorkMeans c M G (Empties root count) = IsWorking c G None (IsEmptying G root count)
   WorkMeans c M G (LeavesBehind slot) = IsWorking c G (Some slot) (IsLeftBehind G slot)
-  WorkMeans c M G (Nears root number) = IsWorking c G None (IsNearing G root number)
+  WorkMeans c M G (Nears root number place) = IsWorking c G None (IsNearing G root number place)
   WorkMeans c M G (Faces root number place) = IsWorking c G None (IsFacing G root number place)
   WorkMeans c M G (InBucket root at aim) = IsWorking c G None (IsInBucket c G root at aim)
   WorkMeans c M G (Bare root at) = IsWorking c G None (IsBare c G root at)

@@ -8,12 +8,14 @@ use Rattle.rht_words.specs.Held as held
 use Rattle.rht_words.proofs.Memory.{Memory}
 use Rattle.rht_words.specs.Members.{In}
 use Rattle.rht_words.proofs.Members.{in-middle}
+use Rattle.rht_nest.specs.Place.{PlaceModel}
 use Rattle.rht_core.proofs.Theory.Ghosts.{Ghost, has_table, index_at, seat-used}
 use Rattle.rht_core.proofs.Theory.Wholes.{retired_stay, key_of, word_index, home, out-seated, Whole}
 use Rattle.rht_core.proofs.Theory.Passed.{place-table, TableStays, TablesGrow, table_at-grows, home-stays}
 use Rattle.rht_core.proofs.Theory.Knowns.{KnownAim, NoAim, Onward, From, Beyond, KnownRehash, KnownPlace, Follows, Nears, Faces, KnownEntry, InBucket, Bare, AtEntry, AtTail, Aims, Brings, Empties, LeavesBehind, HasBrought, HasMade, HasPages, HasTaken, Known, KnownMaking, KnownWork, MakesNothing, NoWork, Rooted, TakesOut, Works, last_of}
-use Rattle.rht_core.proofs.Theory.Knowledge.{AimMeans, IsRooted, IsFollowed, IsNearing, IsFacing, IsLeftBehind, IsNext, IsInBucket, IsBare, IsAim, IsAiming, IsWorking, HasLock, HasOnly, HasSlot, IsBringing, IsBrought, IsEmptying, IsEntry, IsOutOf, IsRoot, IsTail, IsTakenOut, IsTarget, Knowing, MakingMeans, Means, WorkMeans, bucket_at}
+use Rattle.rht_core.proofs.Theory.Knowledge.{AimMeans, IsWay, IsRooted, IsFollowed, IsNearing, IsFacing, IsLeftBehind, IsNext, IsInBucket, IsBare, IsAim, IsAiming, IsWorking, HasLock, HasOnly, HasSlot, IsBringing, IsBrought, IsEmptying, IsEntry, IsOutOf, IsRoot, IsTail, IsTakenOut, IsTarget, Knowing, MakingMeans, Means, WorkMeans, bucket_at}
 use Rattle.rht_core.proofs.Theory.Reliance.{HoldingsStay, Rely, WordStays, WorkStays, members_used}
+use Rattle.rht_core.proofs.Theory.WaysStay.{IsWay-stay}
 use Rattle.rht_core.proofs.Theory.KnowledgeStays.{BucketMeans-own, NodeMeans-stay, TableMeans-stay}
 
 module _ (env : Env) (mix : ℕ → ℕ → ℕ → ℕ) where
@@ -165,12 +167,14 @@ module _ (env : Env) (mix : ℕ → ℕ → ℕ → ℕ) where
       earlier = omega (arith, is.earlier, stays.current, index-stays slot is.table);
     }
 
-    IsNearing-stay : (root : KnownRehash) (number : ℕ) → IsNearing env mix G root number
-        → IsNearing env mix G' root number
-    IsNearing-stay root number is = record {
+    IsNearing-stay : (root : KnownRehash) (number : ℕ) (place : PlaceModel) → IsNearing env mix G root number place
+        → IsNearing env mix G' root number place
+    IsNearing-stay root number place is = record {
       empties = IsEmptying-stay root number is.empties;
       below = below-stays number is.below;
       nested = is.nested;
+      way = subst (λ τ. IsWay env mix G' number τ root.shape place) (sym stays.current)
+          (IsWay-stay env mix G G' keeps.grow number G.current root.shape place whole.tables.current_in is.way);
     }
 
     IsFacing-stay : (root : KnownRehash) (number place : ℕ) → IsFacing env mix G root number place
@@ -337,8 +341,8 @@ module _ (env : Env) (mix : ℕ → ℕ → ℕ → ℕ) where
         still-working means (λ works. IsEmptying-stay c M M' G G' whole keeps works root count)
     WorkMeans-stay (LeavesBehind slot) means =
         still-working means (λ works. IsLeftBehind-stay c M M' G G' whole keeps works slot)
-    WorkMeans-stay (Nears root number) means =
-        still-working means (λ works. IsNearing-stay c M M' G G' whole keeps works root number)
+    WorkMeans-stay (Nears root number place) means =
+        still-working means (λ works. IsNearing-stay c M M' G G' whole keeps works root number place)
     WorkMeans-stay (Faces root number place) means =
         still-working means (λ works. IsFacing-stay c M M' G G' whole keeps works root number place)
     WorkMeans-stay (InBucket root at aim) means =

@@ -8,10 +8,11 @@ use Rattle.rht_words.proofs.Memory.{Memory}
 use Rattle.rht_words.specs.Members.{In}
 use Rattle.rht_words.proofs.Members.{In-append_left, In-append_cases, in-middle}
 use Rattle.rht_core.proofs.Theory.Ghosts.{Held, Ghost, is_taken_by, has_table, index_at}
-use Rattle.rht_core.proofs.Theory.Wholes.{chain_of, key_of, word_index, home}
-use Rattle.rht_core.proofs.Theory.Passed.{NoKey, NoKey-same, home-stays}
+use Rattle.rht_core.proofs.Theory.Wholes.{chain_of, key_of, word_index, hash_in, home}
+use Rattle.rht_core.proofs.Theory.Passed.{NoKey, NoKey-same, hash-stays, home-stays}
 use Rattle.rht_core.proofs.Theory.Knowns.{Armed, AtHome, AtNode, Collected, CollectedTo, CutsOut, Differing, Differs, FirstLink, Found, InList, InSlot, IsAmong, IsLeading, IsOwnersNode, KnownBucket, KnownList, KnownNode, KnownTable, Leads, LeadsTo, Listing, Locks, LocksTakenOut, Matching, Member, Missed, NoOwner, Nowhere, OnWay, Passes, Promotes, Replaces, Shaped, Stands, StandsInList, Succeeds, TakenOut, Unlocked, Unlocks, WithShape, first_of_list, owners_of}
 use Rattle.rht_core.proofs.Theory.Knowledge.{ArmedFor, BucketMeans, HasLock, HasNode, HasTakenOut, HoldsLock, IsArmed, IsDiffering, IsFound, IsInList, IsMember, IsPassing, IsPlain, IsPlainList, IsReaching, IsShaped, IsStanding, ListMeans, NodeMeans, TableMeans, bucket_at}
+use Rattle.rht_core.proofs.Theory.WaysStay.{IsWay-stay, IsRightBehind-stay}
 use Rattle.rht_core.proofs.Theory.Reliance.{ChainsStay, MembersUsed, TablesStay, WordStays}
 
 module _ (env : Env) (mix : ℕ → ℕ → ℕ → ℕ) where
@@ -75,10 +76,17 @@ module _ (env : Env) (mix : ℕ → ℕ → ℕ → ℕ) where
       }
       TableMeans-stay (Passes port slot) means = IsPassing-stay port slot means
       TableMeans-stay (Shaped port slot shape) means = IsShaped-stay port slot shape means
-      TableMeans-stay (OnWay port slot shape) means = record {
-        shaped = IsShaped-stay port slot shape means.shaped;
-        nested = means.nested;
-      }
+      TableMeans-stay (OnWay port slot shape place early) means =
+          let passing = means.shaped.passing in
+          record {
+            shaped = IsShaped-stay port slot shape means.shaped;
+            nested = means.nested;
+            way = rw (stay.grow.indices slot passing.table)
+                (rw (hash-stays env mix G G' stay.grow port (index_at G slot) passing.passed.attached)
+                (IsWay-stay env mix G G' stay.grow (hash_in env mix G port (index_at G slot)) (index_at G slot) shape place
+                passing.passed.attached means.way));
+            behind = IsRightBehind-stay env mix G G' stay.grow slot early passing.table means.behind;
+          }
       TableMeans-stay (AtHome port slot shape place) means =
           let passing = means.passing in
           record {

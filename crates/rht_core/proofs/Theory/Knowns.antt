@@ -5,6 +5,7 @@ use Rattle.rht_words.specs.Places.{Node, OwnerWord}
 use Rattle.rht_words.specs.Ports.{owner_of}
 use Rattle.rht_words.specs.Links.{link_of}
 use Rattle.rht_words.proofs.Memory.{Memory}
+use Rattle.rht_nest.specs.Place.{PlaceModel}
 use Rattle.rht_core.proofs.Theory.Wholes.{chain_of}
 use Rattle.rht_core.proofs.Theory.Passed.{NoKey}
 
@@ -19,7 +20,8 @@ pub record KnownNode : Type 0 where
   pub list : Option ℕ
 
 -- Of the way to a port's bucket: nothing, or that none of the tables before the one in this slot binds the port; the table's
--- shape, and that the way to the bucket leads over entries; and at which place the port's bucket is, whether the shape is known or not.
+-- shape; that the way to the bucket leads over entries, at which of them it stands, and which table is behind, where one is known to be; and at
+-- which place the port's bucket is, whether the shape is known or not.
 -- Of a table, for whatever port: which slot it has, and its shape.
 pub data KnownTable : Type 0 where
   Nowhere : KnownTable
@@ -27,7 +29,7 @@ pub data KnownTable : Type 0 where
   WithShape : ℕ → ℕ → KnownTable
   Passes : ℕ → ℕ → KnownTable
   Shaped : ℕ → ℕ → ℕ → KnownTable
-  OnWay : ℕ → ℕ → ℕ → KnownTable
+  OnWay : ℕ → ℕ → ℕ → PlaceModel → Option ℕ → KnownTable
   AtHome : ℕ → ℕ → Option ℕ → ℕ → KnownTable
 
 -- Of the list of a port whose first node was found. It stands at a node, behind another one or none, and no owner before it is
@@ -111,10 +113,11 @@ pub record KnownEntry : Type 0 where
   pub node : ℕ
   pub before : Option ℕ
 
--- Of the work that the caller does: none; that it does the work; the slot of the current table; that of the next one too; how many of
--- the current table's buckets are emptied; and that the table in a slot was left behind. Of the next bucket: that the way to it leads over
--- entries; the place of its word; that it is locked; that it has no entry; that an entry is in it; and that this is the last one. Of that one: the place to which it goes; that this is locked, and its word was this before; that
--- the entry is out of its bucket, and its link leads to the first node of that place; and that it is in a table behind the current one.
+-- Of the work that the caller does: none; that it does the work; the slot of the current table; that of the next one too; how many of the
+-- current table's buckets are emptied; and that the table in a slot was left behind. Of the next bucket: that the way to it leads over
+-- entries, and at which of them it stands; the place of its word; that it is locked; that it has no entry; that an entry is in it; and that
+-- this is the last one. Of that one: the place to which it goes; that this is locked, and its word was this before; that the entry is out
+-- of its bucket, and its link leads to the first node of that place; and that it is in a table behind the current one.
 pub data KnownWork : Type 0 where
   NoWork : KnownWork
   Works : KnownWork
@@ -122,7 +125,7 @@ pub data KnownWork : Type 0 where
   Follows : ℕ → ℕ → KnownWork
   Empties : KnownRehash → ℕ → KnownWork
   LeavesBehind : ℕ → KnownWork
-  Nears : KnownRehash → ℕ → KnownWork
+  Nears : KnownRehash → ℕ → PlaceModel → KnownWork
   Faces : KnownRehash → ℕ → ℕ → KnownWork
   InBucket : KnownRehash → KnownPlace → KnownAim → KnownWork
   Bare : KnownRehash → KnownPlace → KnownWork

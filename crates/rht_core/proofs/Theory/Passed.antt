@@ -164,6 +164,50 @@ module _ (env : Env) (mix : ℕ → ℕ → ℕ → ℕ) where
       later = λ j s. (seat_is port j s).current;
     }
 
+    -- where the port isn't bound in a table to which a caller has come, and no table is behind it, the port is bound nowhere
+    unbound_behind : (port τ : ℕ) → Passed G port τ → ((i : ℕ) → seat G port ≡ Some i → table_at G i ≢ τ)
+        → τ + 1 ≡ G.attached → G.bound port ≡ []
+    unbound_behind port τ passed not_here last = go (G.bound port) refl
+      where
+        go : (nodes : List ℕ) → G.bound port ≡ nodes → G.bound port ≡ []
+        go [] b = b
+        go (n ∷ behind) b =
+            let to = whole.owned.bound_to port n behind b in
+            let seated_in : seat G port ≡ Some to.bucket = ap (seat_in G.node) b ∙ to.first in
+            let is = seat_is port to.bucket seated_in in
+            let behind_it = passed.later to.bucket seated_in in
+            absurd (not_here to.bucket seated_in (omega (arith, behind_it, is.attached, last)))
+
+    -- A caller has come to a table in which the port's bucket is missing.
+    module _ (port τ : ℕ) (passed : Passed G port τ) (missing : home env mix G port τ ≡ None) where
+      -- so the port isn't bound there
+      not_missed : (i : ℕ) → seat G port ≡ Some i → table_at G i ≢ τ
+      not_missed i s same = none-some missing (ap (home env mix G port) (sym same) ∙ (seat_is port i s).here)
+
+      -- where no table is behind this one, the port is bound nowhere
+      pub unbound_missing : τ + 1 ≡ G.attached → G.bound port ≡ []
+      unbound_missing = unbound_behind port τ passed not_missed
+
+      -- and where one is, the caller goes on to it
+      pub go_beyond : τ + 1 < G.attached → Passed G port (τ + 1)
+      go_beyond more =
+          record {
+            attached = more;
+            quiet = λ σ i l h is. elim (cases_eq σ τ) [
+              | inl e ↦ absurd (nowhere σ i e is)
+              | inr ne ↦ passed.quiet σ i l (omega arith) is
+            ];
+            gone = λ σ i n behind l h is b out. elim (cases_eq σ τ) [
+              | inl e ↦ nowhere σ i e is
+              | inr ne ↦ passed.gone σ i n behind l (omega arith) is b out
+            ];
+            later = λ i s. let at_least = passed.later i s in let other = not_missed i s in omega
+                (arith, at_least, other);
+          }
+        where
+          nowhere : (σ i : ℕ) → σ ≡ τ → home env mix G port σ ≡ Some i → ⊥
+          nowhere σ i e is = none-some missing (ap (home env mix G port) (sym e) ∙ is)
+
     -- A caller has locked the port's bucket in a table to which it has come, none of whose nodes has the port's key. No entry is on its
     -- way out of the bucket.
     module _ (port τ j : ℕ) (passed : Passed G port τ) (at : home env mix G port τ ≡ Some j)
@@ -181,16 +225,7 @@ module _ (env : Env) (mix : ℕ → ℕ → ℕ → ℕ) where
 
       -- where no table is behind this one, the port is bound nowhere
       pub unbound_at_last : τ + 1 ≡ G.attached → G.bound port ≡ []
-      unbound_at_last last = go (G.bound port) refl
-        where
-          go : (nodes : List ℕ) → G.bound port ≡ nodes → G.bound port ≡ []
-          go [] b = b
-          go (n ∷ behind) b =
-              let to = whole.owned.bound_to port n behind b in
-              let seated_in : seat G port ≡ Some to.bucket = ap (seat_in G.node) b ∙ to.first in
-              let is = seat_is port to.bucket seated_in in
-              let behind_it = passed.later to.bucket seated_in in
-              absurd (not_here to.bucket seated_in (omega (arith, behind_it, is.attached, last)))
+      unbound_at_last = unbound_behind port τ passed not_here
 
       -- and where one is, the caller goes on to it, if it isn't armed
       pub go_on : (G.bucket j).armed ≡ None → τ + 1 < G.attached → Passed G port (τ + 1)
@@ -286,7 +321,7 @@ module _ (env : Env) (mix : ℕ → ℕ → ℕ → ℕ) where
     pub seats : (port j : ℕ) → seat G' port ≡ Some j → WasSeated G port j ⊎ IsArmedFor G port j
 
   -- a port has the number that it had, and the homes, and perhaps one more in a bucket that is blank
-  hash-stays : (G G' : Ghost) → TablesGrow G G' → (port τ : ℕ) → τ < G.attached
+  pub hash-stays : (G G' : Ghost) → TablesGrow G G' → (port τ : ℕ) → τ < G.attached
       → hash_in env mix G' port τ ≡ hash_in env mix G port τ
   hash-stays G G' grow port τ l =
       let stays = grow.tables τ l in

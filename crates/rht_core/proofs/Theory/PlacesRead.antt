@@ -1,5 +1,5 @@
 -- Where the words of entries lead where the ghost says, the place of a bucket's word that the words of the pages say is its place.
-use Rattle.std.proofs.Common.{◌≡◌, ℕ, ◌+◌, ◌*◌, ◌/◌, ◌%◌, ◌^◌, ◌<◌, cond, true, false, Option, Some, None, refl, sym, ◌∙◌, ap, inl, inr, arith}
+use Rattle.std.proofs.Common.{◌≡◌, ℕ, ◌+◌, ◌*◌, ◌/◌, ◌%◌, ◌^◌, ◌<◌, cond, true, false, Option, Some, None, refl, sym, ◌∙◌, ap, subst, inl, inr, arith}
 use Rattle.std.specs.Option.{option_map}
 use Rattle.std.proofs.lemmas.Bool.{lt-ltb, le-ltb}
 use Rattle.std.proofs.lemmas.Nat.{mod_below}
@@ -14,7 +14,7 @@ use Rattle.rht_words.proofs.Memory.{Memory}
 use Rattle.rht_nest.specs.Place.{PlaceModel, is_deep, top_page, top_entries, flat_place, nested_place, behind_entry, place_at_once, place_or_last, read_place, place_in}
 use Rattle.rht_core.proofs.Theory.Ghosts.{Part, Leaf, Middle, Top, has_entries, Table, PageOwner, PageOf, Ghost, is_entry, is_entry_of, entry_word, table_of_page}
 use Rattle.rht_core.proofs.Theory.LowBits.{low_alone, low_bits, middle_bits, high_bits}
-use Rattle.rht_core.proofs.Theory.Ways.{first_page, entries_in, leaves_in, behind_top, word_in}
+use Rattle.rht_core.proofs.Theory.Ways.{first_page, entries_in, leaves_in, behind_top, word_in, IsMiddleAt, StandsAs}
 use Rattle.rht_core.proofs.Theory.Wholes.{place_at, IsFlat, IsNested, PlacedRight, Whole}
 use Rattle.rht_core.proofs.Theory.Entries.{IsShallow, IsDeep, depth_of, few_entries, some_entries, word_leads, top_leads, page_within}
 
@@ -26,7 +26,7 @@ module _ (env : Env) (mix : ℕ → ℕ → ℕ → ℕ) where
     g = env.geometry
 
     -- an entry of a page leads where its word does
-    entry_read : (nested : IsNested env mix table page τ) (part : Part) (q index : ℕ) → index < 64 → page q ≡ PageOf τ
+    pub entry_read : (nested : IsNested env mix table page τ) (part : Part) (q index : ℕ) → index < 64 → page q ≡ PageOf τ
         → table.part q ≡ part → has_entries part ≡ true
         → page_of g.pages (read (64 * q + index)) ≡ table.entry (64 * q + index)
     entry_read nested part q index l of is has =
@@ -52,13 +52,13 @@ module _ (env : Env) (mix : ℕ → ℕ → ℕ → ℕ) where
       high = b / entries_in table.shape
 
       -- the machine at the entry of the top page with which the way begins, and behind one that leads to a page of entries
-      abbrev at_top : PlaceModel
+      abbrev pub at_top : PlaceModel
       at_top = record { geometry = g; entry = 64 * top + low; rest = high; deep = is_deep table.shape }
 
-      abbrev at_middle : ℕ → PlaceModel
+      abbrev pub at_middle : ℕ → PlaceModel
       at_middle q = record { geometry = g; entry = 64 * q + high % 64; rest = high / 64; deep = false }
 
-      begins_at_top : nested_place g table.shape b ≡ at_top
+      pub begins_at_top : nested_place g table.shape b ≡ at_top
       begins_at_top =
           let page_is : top_page g table.shape ≡ top = omega (arith, nested.top_within) in
           let entries_are : top_entries table.shape ≡ entries_in table.shape =
@@ -128,13 +128,39 @@ module _ (env : Env) (mix : ℕ → ℕ → ℕ → ℕ) where
                 ∙ low_bits (entries_in table.shape) some b
           ]
 
+      -- the entry of the top page leads where its word does
+      low_in : low < 64
+      low_in = omega (
+        arith,
+        mod_below b (entries_in table.shape) (some_entries table.shape),
+        few_entries table.shape nested.shaped,
+      )
+
+      top_read : page_of g.pages (read (64 * top + low)) ≡ table.entry (64 * top + low)
+      top_read = entry_read nested Top top low low_in nested.top_of nested.top_part refl
+
+      abbrev pub FirstLeadsTo : ℕ → Type 0
+      FirstLeadsTo q = page_of g.pages (read (nested_place g table.shape b).entry) ≡ Some q
+
+      pub first_led : (q : ℕ) → FirstLeadsTo q → table.entry (64 * top + low) ≡ Some q
+      first_led q is = sym top_read ∙ ap (λ (m : PlaceModel). page_of g.pages (read m.entry)) (sym begins_at_top) ∙ is
+
+      -- in a table with two levels of entries it leads to a page of entries
+      pub leads_to_middle : (q : ℕ) → FirstLeadsTo q → is_deep table.shape ≡ true
+          → (page q ≡ PageOf τ) × (table.part q ≡ Middle low)
+      leads_to_middle q is deep =
+          let first = top_leads env mix table page τ nested low q
+          (mod_below b (entries_in table.shape) (some_entries table.shape)) (first_led q is) in
+          (first.of, first.part_is ∙ ap (λ t. cond t (Middle low) (Leaf low)) deep)
+
+      -- and so does that behind which such a page stands
+      pub middle_behind : (q : ℕ) → page q ≡ PageOf τ → table.part q ≡ Middle low → FirstLeadsTo q
+      middle_behind q of part =
+          let at : IsMiddleAt table low q = subst (StandsAs table q) part (nested.stands q of) in
+          ap (λ (m : PlaceModel). page_of g.pages (read m.entry)) begins_at_top ∙ top_read ∙ at.entered
+
       nested_in_words : place_in read g table.shape b ≡ option_map (place_at env mix) (table.place b)
       nested_in_words =
-          let top_in : low < 64 = omega (
-            arith,
-            mod_below b (entries_in table.shape) (some_entries table.shape),
-            few_entries table.shape nested.shaped,
-          ) in
           let entry = table.entry (64 * top + low) in
           let led : behind_entry (place_or_last read) at_top entry ≡ behind entry =
           elim (depth_of table.shape nested.shaped) [
@@ -145,7 +171,7 @@ module _ (env : Env) (mix : ℕ → ℕ → ℕ → ℕ) where
           (lt-ltb 0 (unpacked table.shape).nest (omega (arith, nested.shaped.nest_is)))
           ∙ ap (read_place read) begins_at_top
           ∙ ap (behind_entry (place_or_last read) at_top)
-          (entry_read nested Top top low top_in nested.top_of nested.top_part refl)
+          top_read
           ∙ led
           ∙ ap (λ k. option_map (place_at env mix) (word_in (behind_top table (table.entry (64 * top + k))
           (b % leaves_in table.shape / entries_in table.shape)) (b / leaves_in table.shape))) (sym top_bits)
@@ -168,15 +194,21 @@ module _ (env : Env) (mix : ℕ → ℕ → ℕ → ℕ) where
       | inr nested ↦ nested_in_words nested b
     ]
 
-  -- so it is where the words of entries are right
+  -- the words of a table's entries are right
+  pub entries_in_words : (M : Memory) (G : Ghost) → Whole env mix M G → (τ : ℕ) → τ < G.attached → (j : ℕ)
+      → G.page (j / 64) ≡ PageOf τ → has_entries ((G.table τ).part (j / 64)) ≡ true
+      → M (PageWord j) ≡ entry_word ((G.table τ).entry j)
+  entries_in_words M G whole τ l j of has =
+      let within = page_within env mix (G.table τ) G.page τ (whole.tables.each τ l).placed (j / 64) of in
+      let is : is_entry G j ≡ true = ap (λ o. is_entry_of G.table o (j / 64)) of ∙ has in
+      whole.entries j (omega (arith, within)) is
+      ∙ ap (λ o. entry_word ((G.table (table_of_page o)).entry j)) of
+
+  -- so it is of places
   pub placed_in_words : (M : Memory) (G : Ghost) → Whole env mix M G → (τ b : ℕ) → τ < G.attached
       → b < size_of (unpacked (G.table τ).shape)
       → place_in (λ j. M (PageWord j)) env.geometry (G.table τ).shape b
       ≡ option_map (place_at env mix) ((G.table τ).place b)
   placed_in_words M G whole τ b l below =
-      let placed = (whole.tables.each τ l).placed in
-      placed_in_read (G.table τ) G.page τ placed (λ j. M (PageWord j)) (λ j of has.
-      let within = page_within env mix (G.table τ) G.page τ placed (j / 64) of in
-      let is : is_entry G j ≡ true = ap (λ o. is_entry_of G.table o (j / 64)) of ∙ has in
-      whole.entries j (omega (arith, within)) is
-      ∙ ap (λ o. entry_word ((G.table (table_of_page o)).entry j)) of) b below
+      placed_in_read (G.table τ) G.page τ (whole.tables.each τ l).placed (λ j. M (PageWord j))
+      (entries_in_words M G whole τ l) b below

@@ -7,11 +7,11 @@ use Rattle.rht_words.specs.declared.geometry.Geometry.{Geometry}
 use Rattle.rht_words.specs.declared.op.Op.{Op}
 use Rattle.rht_words.specs.declared.op.Op.TheVariants.{Store, Exchange, Add, Sub, Or}
 use Rattle.rht_words.specs.Held as held
-use Rattle.rht_words.specs.Links.{future_of}
+use Rattle.rht_words.specs.Links.{future_of, entry_of}
 use Rattle.rht_words.specs.Maps.{bit_of}
 use Rattle.rht_words.specs.Ports.{owner_of}
 use Rattle.rht_words.specs.Operations.{op_place, old_of, word_after, applied}
-use Rattle.rht_words.specs.Places.{CurrentTable, WorkLock, PortCount, NextSerial, Slot, SlotWord, FutureWord, StateWord, PageMap, Node, NodeWord, ChainLink, OwnerWord, nodes_at, place_of, word_at}
+use Rattle.rht_words.specs.Places.{CurrentTable, WorkLock, PortCount, NextSerial, Slot, SlotWord, FutureWord, StateWord, PageMap, PageWord, Node, NodeWord, ChainLink, OwnerWord, nodes_at, place_of, word_at}
 use Rattle.rht_words.specs.Members.{In}
 use Rattle.rht_words.proofs.Members.{count_below-same, in-middle}
 use Rattle.rht_words.proofs.Memory.{Memory}
@@ -25,14 +25,14 @@ use Rattle.rht_core.proofs.Theory.Wholes.{place_at, outs, Whole}
 use Rattle.rht_core.proofs.Theory.Reliance.{bound_used}
 use Rattle.rht_core.proofs.Theory.Frames.{Made, still}
 use Rattle.rht_core.proofs.Theory.Answering.{outs_of, SaysStill-agree, KnowsEarly, KnowsEarly-agree, none_early, Says, IsRight, Tells, TellsOrRecalls, told-says, told-outs, told-right}
-use Rattle.rht_core.proofs.Theory.Readiness.{linked, IsReady, IsArming, ArePagesOf, IsAttaching, Change, changed}
+use Rattle.rht_core.proofs.Theory.Readiness.{linked, IsReady, IsArming, ArePagesOf, IsAttaching, IsEntering, Change, changed, entered}
 use Rattle.rht_core.proofs.Theory.Departures.{with_worker, published, retired, left, arrived, cut_off, CanLeave, CanArrive, CanCut, CanPublish, CanRetire}
 
 -- What an operation does beside what it finds: nothing that others see, a node taken or given back, a lock taken or dropped,
 -- the count raised or lowered, a node linked for a port into a bucket, what a port is bound to changed, a node behind a port's
 -- first one given its link in the chain, or found that no table is behind that of a locked bucket; a slot taken or given back, the pages
--- of these bits of a word of the map taken or given back, or the table in a slot attached that has this shape, seed and serial. And
--- what the work does: its lock taken or given back, that it begins to move entries, and the lock of a second bucket taken; an entry
+-- of these bits of a word of the map taken or given back, the table in a slot attached that has this shape, seed and serial, or behind an
+-- entry a page entered. And what the work does: its lock taken or given back, that it begins to move entries, and the lock of a second bucket taken; an entry
 -- taken out of its bucket, brought into another one, and cut off from the first; the next table made the current one, and the table in
 -- a slot retired
 pub data Move : Type 0 where
@@ -52,6 +52,7 @@ pub data Move : Type 0 where
   TakesPages : ℕ → ℕ → Move
   GivesPages : ℕ → ℕ → Move
   Attaches : ℕ → ℕ → ℕ → ℕ → Move
+  Enters : ℕ → ℕ → Move
   TakesWork : Move
   GivesWork : Move
   BeginsMoving : Move
@@ -241,6 +242,14 @@ module _ (g : Geometry) where
     pub has : h.slot ≡ Some slot
     pub holds : h' ≡ record h { slot = None; pages = []; answer = h'.answer; early = h'.early }
 
+  -- the exchange of an entry finds that it leads to no page
+  pub record DoesEnter (entry page : ℕ) (op : Op) (old : ℕ) (h h' : Holding) : Type 0 where
+    pub entering : op ≡ Exchange (place_of g (PageWord entry)) 0 (entry_of page)
+    pub found : old ≡ 0
+    pub had : In page h.pages
+    pub pages : (p : ℕ) → In p h'.pages ↔ (In p h.pages × (p ≢ page))
+    pub holds : h' ≡ record h { pages = h'.pages; answer = h'.answer; early = h'.early }
+
   pub record DoesTakeWork (op : Op) (old : ℕ) (h h' : Holding) : Type 0 where
     pub taking : op ≡ Exchange (place_of g WorkLock) 0 1
     pub free : old ≡ 0
@@ -323,6 +332,7 @@ module _ (env : Env) (mix : ℕ → ℕ → ℕ → ℕ) where
   ghost_after c (TakesPages index bits) G = with_pages G index bits (PageHeld c)
   ghost_after c (GivesPages index bits) G = with_pages G index bits PageFree
   ghost_after c (Attaches slot shape seed serial) G = with_table G (made_table slot shape seed serial)
+  ghost_after c (Enters j p) G = entered G j p
   ghost_after c TakesWork G = with_worker G (Some c)
   ghost_after c GivesWork G = with_worker G None
   ghost_after c BeginsMoving G = G
@@ -345,8 +355,8 @@ module _ (env : Env) (mix : ℕ → ℕ → ℕ → ℕ) where
   owners M G port = owners_in M (G.bound port)
 
   -- What a move needs: to link a node, all that makes it ready, and to be armed, the lock of a bucket in the last table. To take a slot or
-  -- pages, that they are free, to give them back, that the caller has them, and to attach a table, that the caller has made it. To take the
-  -- work, that nobody has it, and to do it, that the caller has it, with what the moves of entries and tables need.
+  -- pages, that they are free, to give them back, that the caller has them, to attach a table, that the caller has made it, and to enter a
+  -- page, that the caller has it. To take the work, that nobody has it, and to do it, that the caller has it, with what the moves of entries and tables need.
   abbrev pub ReadyFor : ℕ → Memory → Ghost → Move → Type 0
   ReadyFor c M G Quiet = Unit {0}
   ReadyFor c M G (TakesNode n) = G.node n ≡ Free
@@ -364,6 +374,7 @@ module _ (env : Env) (mix : ℕ → ℕ → ℕ → ℕ) where
   ReadyFor c M G (TakesPages index bits) = ArePagesOf env mix G index bits PageFree
   ReadyFor c M G (GivesPages index bits) = ArePagesOf env mix G index bits (PageHeld c)
   ReadyFor c M G (Attaches slot shape seed serial) = IsAttaching env mix c slot shape seed M G
+  ReadyFor c M G (Enters j p) = IsEntering env mix c j p G
   ReadyFor c M G TakesWork = G.worker ≡ None
   ReadyFor c M G GivesWork = G.worker ≡ Some c
   ReadyFor c M G BeginsMoving = G.worker ≡ Some c
@@ -393,6 +404,7 @@ module _ (env : Env) (mix : ℕ → ℕ → ℕ → ℕ) where
   Does (TakesPages index bits) op old h h' = DoesTakePages env.geometry index bits op old h h'
   Does (GivesPages index bits) op old h h' = DoesGivePages env.geometry index bits op old h h'
   Does (Attaches slot shape seed serial) op old h h' = DoesAttach env.geometry slot op old h h'
+  Does (Enters j p) op old h h' = DoesEnter env.geometry j p op old h h'
   Does TakesWork op old h h' = DoesTakeWork env.geometry op old h h'
   Does GivesWork op old h h' = DoesGiveWork env.geometry op h h'
   Does BeginsMoving op old h h' = DoesBeginMoving env.geometry op old h h'
@@ -489,6 +501,7 @@ module _ (env : Env) (mix : ℕ → ℕ → ℕ → ℕ) where
   LinksNone (TakesPages index bits) = Unit {0}
   LinksNone (GivesPages index bits) = Unit {0}
   LinksNone (Attaches slot shape seed serial) = Unit {0}
+  LinksNone (Enters j p) = Unit {0}
   LinksNone TakesWork = Unit {0}
   LinksNone GivesWork = Unit {0}
   LinksNone BeginsMoving = Unit {0}
@@ -541,6 +554,7 @@ module _ (env : Env) (mix : ℕ → ℕ → ℕ → ℕ) where
   same_bound c (TakesPages index bits) G port none = refl
   same_bound c (GivesPages index bits) G port none = refl
   same_bound c (Attaches slot shape seed serial) G port none = refl
+  same_bound c (Enters j p) G port none = refl
   same_bound c TakesWork G port none = refl
   same_bound c GivesWork G port none = refl
   same_bound c BeginsMoving G port none = refl
@@ -570,6 +584,7 @@ module _ (env : Env) (mix : ℕ → ℕ → ℕ → ℕ) where
   same_outs c (TakesPages index bits) M G whole none ready = refl
   same_outs c (GivesPages index bits) M G whole none ready = refl
   same_outs c (Attaches slot shape seed serial) M G whole none ready = refl
+  same_outs c (Enters j p) M G whole none ready = refl
   same_outs c TakesWork M G whole none ready = refl
   same_outs c GivesWork M G whole none ready = refl
   same_outs c BeginsMoving M G whole none ready = refl
@@ -738,6 +753,13 @@ module _ (env : Env) (mix : ℕ → ℕ → ℕ → ℕ) where
     attaching = does.attaching;
     found = does.found;
     has = does.has;
+    holds = ap (λ x. with_known x answer early) does.holds;
+  }
+  does-answered (Enters j p) op old h h' answer early none does = record {
+    entering = does.entering;
+    found = does.found;
+    had = does.had;
+    pages = does.pages;
     holds = ap (λ x. with_known x answer early) does.holds;
   }
   does-answered TakesWork op old h h' answer early none does = record {

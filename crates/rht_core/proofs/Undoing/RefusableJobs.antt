@@ -4,14 +4,17 @@ use Rattle.std.proofs.Common.{◌≡◌, ◌≢◌, ℕ, ◌+◌, ◌<◌, Bool,
 use Rattle.rht_words.specs.declared.env.Env.{Env}
 use Rattle.rht_words.specs.declared.geometry.Geometry.{Geometry}
 use Rattle.rht_words.specs.declared.op.Op.TheVariants.{Exchange}
-use Rattle.rht_words.specs.Links.{future_of}
+use Rattle.rht_words.specs.Links.{future_of, entry_of}
 use Rattle.rht_words.specs.Members.{In}
-use Rattle.rht_words.specs.Places.{Slot, FutureWord, place_of}
+use Rattle.rht_words.specs.Places.{Slot, FutureWord, PageWord, place_of}
 use Rattle.rht_words.specs.Shapes.{unpacked}
 use Rattle.rht_words.proofs.Members.{range_with_len-In}
 use Rattle.rht_words.proofs.Memory.{Memory}
 use Rattle.rht_nest.specs.Tables.{table_pages, pages_of_shape}
-use Rattle.rht_nest.specs.Make.{MakeModel, pages_of_make}
+use Rattle.rht_arena.specs.TakeRun.{take_run_plan_at}
+use Rattle.rht_arena.specs.declared.take_run.TakeRunAt.{TakeRunAt}
+use Rattle.rht_arena.specs.declared.take_run.TakeRunAt.TheVariants as takes
+use Rattle.rht_nest.specs.Make.{MakeModel, make_plan_at, pages_of_make}
 use Rattle.rht_nest.specs.declared.make.MakeAt.{MakeAt}
 use Rattle.rht_nest.specs.declared.make.MakeAt.TheVariants as makes
 use Rattle.rht_bind.specs.BindHeld.{held_of_bind}
@@ -29,7 +32,7 @@ use Rattle.rht_move.specs.declared.work.WorkAt.{WorkAt}
 use Rattle.rht_move.specs.declared.work.WorkAt.TheVariants as working
 use Rattle.rht_core.specs.Jobs.{Job, finds, binds, lists, releases, rebinds, works, counts, call_of, job_plan, held_of}
 use Rattle.rht_core.specs.Traces.{Did}
-use Rattle.rht_core.specs.Refused.{StoresLast}
+use Rattle.rht_core.specs.Refused.{StoresLast, MayAttach}
 use Rattle.rht_core.proofs.Theory.Ghosts.{Ghost, PageHeld}
 use Rattle.rht_core.proofs.Theory.Knowledge.{IsMade, MakingMeans}
 use Rattle.rht_core.proofs.Theory.Steps.{Holding}
@@ -329,3 +332,53 @@ module _ (env : Env) (mix : ℕ → ℕ → ℕ → ℕ) (c : ℕ) (M : Memory) 
     attaches (rebinds port owner new state) may knows stored is has = absurd (rebind-slot state may has)
     attaches (works state) may knows stored is has = absurd (work-attaches state (early_work state may) is has)
     attaches counts may knows stored is has = absurd (cc)
+
+  -- ---- which page it enters
+
+  module _ (did : Did) (entry page : ℕ) (exchanges : did.op ≡ Exchange (place_of g (PageWord entry)) 0 (entry_of page)) where
+    -- a making that exchanges has no page
+    make-enters : (exponent seed : ℕ) (h : Geometry) (state : MakeAt) → did.op ≡ make_plan_at h exponent seed state
+        → In page (pages_of_make exponent state) → ⊥
+    make-enters exponent seed h (makes.Slot slot) is i = i
+    make-enters exponent seed h (makes.Taking slot take) is i = take-none take.at (sym is ∙ exchanges)
+      where
+        take-none : (at : TakeRunAt)
+            → take_run_plan_at take.geometry take.pages at ≡ Exchange (place_of g (PageWord entry)) 0 (entry_of page) → ⊥
+        take-none (takes.MapWord first index) same = cc
+        take-none (takes.Claim first index) same = cc
+        take-none (takes.GiveBack first index bits) same = cc
+    make-enters exponent seed h (makes.SlotBack slot) is i = i
+    make-enters exponent seed h (makes.NextSerial slot first) is i = let same = sym is ∙ exchanges in cc
+    make-enters exponent seed h (makes.Shape slot first serial) is i = let same = sym is ∙ exchanges in cc
+    make-enters exponent seed h (makes.Seed slot first serial) is i = let same = sym is ∙ exchanges in cc
+    make-enters exponent seed h (makes.Future slot first serial) is i = let same = sym is ∙ exchanges in cc
+    make-enters exponent seed h (makes.Serial slot first serial) is i = let same = sym is ∙ exchanges in cc
+
+    rebind-enters : (state : RebindAt) → rebind_is_past state ≡ false → In page (held_of_rebind state).pages → ⊥
+    rebind-enters (rebinding.Replacing node found relink) may i = absurd (cc)
+    rebind-enters (rebinding.Filling new) may i = i
+    rebind-enters (rebinding.Seeking node seek) may i = i
+    rebind-enters (rebinding.Owner node found) may i = i
+    rebind-enters (rebinding.ChainLink node found) may i = i
+    rebind-enters (rebinding.Link node found link) may i = i
+    rebind-enters (rebinding.Unlocking node table unlock) may i = i
+    rebind-enters (rebinding.Giving give) may i = i
+
+    work-enters : (state : WorkAt) → IsEarlyWork state → did.op ≡ job_plan env (works state)
+        → In page (held_of_work state).pages → ⊥
+    work-enters state at_lock is i = i
+    work-enters state at_current is i = i
+    work-enters state (at_last root seek) is i = i
+    work-enters state (at_count root last_table) is i = i
+    work-enters state (at_making wanted make) is i = make-enters make.exponent make.seed make.geometry make.at is i
+    work-enters state (at_end size) is i = i
+
+    pub enters : (job : Job) → is_past job ≡ false → did.op ≡ job_plan env job → In page (held_of job).pages
+        → MayAttach (call_of job)
+    enters (finds port state) may is i = absurd (cc)
+    enters (binds port owner once state) may is i = tt
+    enters (lists port room state) may is i = absurd (cc)
+    enters (releases port owner state) may is i = absurd (cc)
+    enters (rebinds port owner new state) may is i = absurd (rebind-enters state may i)
+    enters (works state) may is i = absurd (work-enters state (early_work state may) is i)
+    enters counts may is i = absurd (cc)

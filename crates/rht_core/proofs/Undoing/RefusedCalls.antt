@@ -59,7 +59,7 @@ use Rattle.rht_core.proofs.Undoing.TurnedBits.{held_bits}
 use Rattle.rht_core.proofs.Undoing.UndoneMoves.{Undoes, Undoes-push, MayGoBack, kept_by}
 use Rattle.rht_core.proofs.Undoing.PastRefusal.{bind_is_past, rebind_is_past, work_is_past, is_past, StaysPast, bind-past, rebind-past, work-past}
 use Rattle.rht_core.proofs.Undoing.StoredShapes.{bind-stored}
-use Rattle.rht_core.proofs.Undoing.RefusableJobs.{refusable, mine, JobStored, attaches}
+use Rattle.rht_core.proofs.Undoing.RefusableJobs.{refusable, mine, JobStored, attaches, enters}
 
 -- ---- answers that say that bindings were changed
 
@@ -126,7 +126,7 @@ module _ (M : Type 0) (mix : ℕ → ℕ → ℕ → ℕ) (env : Env) (events : 
 
   -- of one that may still be refused
   pub record MayBeRefused (job : Job) (steps : List Did) : Type 0 where
-    pub undoes : Undoes g (call_of job) (held_of job) steps
+    pub undoes : Undoes g (words_before M mix env events) (call_of job) (held_of job) steps
     pub still : AllByRecursion LeavesBindings steps
     pub stored : JobStored env job steps
 
@@ -136,7 +136,7 @@ module _ (M : Type 0) (mix : ℕ → ℕ → ℕ → ℕ) (env : Env) (events : 
 
   -- of one that has ended
   pub record HasUndone (call : Call) (steps : List Did) : Type 0 where
-    pub even : (place bit : ℕ) → bit < 64 → IsExcepted g call steps place bit ⊎ (turns place bit steps % 2 ≡ 0)
+    pub even : (place bit : ℕ) → bit < 64 → IsExcepted g (words_before M mix env events) call steps place bit ⊎ (turns place bit steps % 2 ≡ 0)
     pub still : AllByRecursion LeavesBindings steps
 
   abbrev pub Undone : Call → Ending → List Did → Type 0
@@ -270,7 +270,7 @@ module _ (M : Type 0) (mix : ℕ → ℕ → ℕ → ℕ) (env : Env) (events : 
 
     abbrev UndoesOr : Holding → Type 0
     UndoesOr after =
-        after.raised ≡ false → after.moving ≡ false → SaysChange after.answer ⊎ Undoes g (call_of job) after all
+        after.raised ≡ false → after.moving ≡ false → SaysChange after.answer ⊎ Undoes g (words_before M mix env events) (call_of job) after all
 
     go_on : (after : Job) → call_of after ≡ call_of job → LeavesOr (held_of after) → UndoesOr (held_of after)
         → JobStored env after all → (t : Bool) → is_past after ≡ t → Going after all
@@ -282,7 +282,7 @@ module _ (M : Type 0) (mix : ℕ → ℕ → ℕ → ℕ) (env : Env) (events : 
           | inr left ↦ elim (undoes may_then.low may_then.still) [
             | inl says ↦ inr (inl says)
             | inr now ↦ inr (inr (record {
-              undoes = subst (λ call. Undoes g call (held_of after) all) (sym same) now;
+              undoes = subst (λ call. Undoes g (words_before M mix env events) call (held_of after) all) (sym same) now;
               still = AllByRecursion-push LeavesBindings steps did kept.still left;
               stored = stored;
             }))
@@ -334,7 +334,7 @@ module _ (M : Type 0) (mix : ℕ → ℕ → ℕ → ℕ) (env : Env) (events : 
       undoes low_then still_then =
           let holds = refusable job may in
           let step = performs.step in
-          let go_back : MayGoBack env mix (call_of job) steps did (held_of job) after performs.caller performs.ghost = record {
+          let go_back : MayGoBack env mix (words_before M mix env events) (call_of job) steps did (held_of job) after performs.caller performs.ghost = record {
             low = holds.low;
             low_then = low_then;
             still = holds.still;
@@ -344,12 +344,15 @@ module _ (M : Type 0) (mix : ℕ → ℕ → ℕ → ℕ) (env : Env) (events : 
             attaches = λ last slot low exchanges has.
                 attaches env mix performs.caller (mem env mix performs.words) performs.ghost steps did last slot low exchanges
                 job may performs.knows kept.stored performs.planned has;
+            enters = λ entry page exchanges has.
+                enters env mix performs.caller (mem env mix performs.words) performs.ghost did entry page exchanges job may
+                performs.planned has;
           } in
-          elim (kept_by env mix (call_of job) steps did (held_of job) after performs.caller performs.words performs.ghost
-          performs.whole performs.found kept.undoes go_back step.move step.ready
+          elim (kept_by env mix (words_before M mix env events) (call_of job) steps did (held_of job) after performs.caller performs.words performs.ghost
+          performs.whole (sym here) performs.found kept.undoes go_back step.move step.ready
           (subst (λ old. Does env mix step.move did.op old (held_of job) after) (sym performs.found) step.does)) [
             | inl says ↦ inl says
-            | inr keeps ↦ inr (Undoes-push g (call_of job) steps did (held_of job) after kept.undoes keeps)
+            | inr keeps ↦ inr (Undoes-push g (words_before M mix env events) (call_of job) steps did (held_of job) after kept.undoes keeps)
           ]
 
       leads_on : Leads job all (job_after mix env job did.old)

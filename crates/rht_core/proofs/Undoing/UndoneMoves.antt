@@ -12,11 +12,11 @@ use Rattle.std.proofs.lemmas.Nat.Bits.{bit_at-lt}
 use Rattle.rht_words.specs.declared.env.Env.{Env}
 use Rattle.rht_words.specs.declared.geometry.Geometry.{Geometry}
 use Rattle.rht_words.specs.declared.op.Op.TheVariants.{Store, Exchange, Or}
-use Rattle.rht_words.specs.Links.{future_of}
+use Rattle.rht_words.specs.Links.{future_of, entry_of}
 use Rattle.rht_words.specs.Maps.{bit_of}
 use Rattle.rht_words.specs.Members.{In}
 use Rattle.rht_words.specs.Operations.{op_place, old_of, word_after}
-use Rattle.rht_words.specs.Places.{WorkLock, Slot, SlotWord, FutureWord, StateWord, NodeMap, PageMap, Node, NodeWord, place_of}
+use Rattle.rht_words.specs.Places.{WorkLock, Slot, SlotWord, FutureWord, StateWord, NodeMap, PageMap, PageWord, Node, NodeWord, place_of}
 use Rattle.rht_words.proofs.BitChanges.{bit_at-set, bit_at-set_other}
 use Rattle.rht_words.proofs.EachElement.{Any-append_left}
 use Rattle.rht_words.proofs.Members.{one_if}
@@ -24,12 +24,13 @@ use Rattle.rht_model.specs.declared.history.Call.{Call}
 use Rattle.rht_arena.specs.Laws.{map_place, map_bit}
 use Rattle.rht_nest.specs.Tables.{pages_of_shape}
 use Rattle.rht_core.specs.Traces.{Did}
-use Rattle.rht_core.specs.Refused.{turned, turns, IsTableWord, GivesBackNode, GivesBackSlot, IsOfNodeGiven, IsOfSlotGiven, StoresLast, AttachedWith, IsOfSlot, IsOfPages, IsOfAttached, MayAttach, IsExcepted}
+use Rattle.rht_core.specs.Refused.{turned, turns, IsTableWord, GivesBackNode, GivesBackSlot, IsOfNodeGiven, IsOfSlotGiven, StoresLast, AttachedWith, IsOfSlot, IsOfPages, IsOfAttached, IsMissingEntry, EntersPage, IsOfEntered, MayAttach, IsExcepted}
 use Rattle.rht_core.proofs.Theory.Ghosts.{Ghost, Held, SlotHeld, PageFree, PageHeld, lock_bit, state_word, has_bit}
 use Rattle.rht_core.proofs.Theory.Wholes.{place_at, Whole}
-use Rattle.rht_core.proofs.Theory.Steps.{Holding, Move, Quiet, TakesNode, GivesNode, TakesLock, DropsLock, Raises, Links, Lowers, Rebinds, LinksBehind, Arms, TakesSlot, GivesSlot, TakesPages, GivesPages, TakesWork, GivesWork, BeginsMoving, TakesSecond, Leaves, Arrives, CutsOff, Publishes, Retires, mem, Does, ReadyFor, SaysChange, IsAside, DoesQuiet, DoesTakeNode, DoesGiveNode, DoesTakeLock, DoesDropLock, DoesTakeSlot, DoesGiveSlot, DoesTakePages, DoesGivePages, DoesAttach, DoesTakeWork, DoesGiveWork}
+use Rattle.rht_core.proofs.Theory.Steps.{Holding, Move, Quiet, TakesNode, GivesNode, TakesLock, DropsLock, Raises, Links, Lowers, Rebinds, LinksBehind, Arms, TakesSlot, GivesSlot, TakesPages, GivesPages, TakesWork, GivesWork, BeginsMoving, TakesSecond, Leaves, Arrives, CutsOff, Publishes, Retires, mem, Does, ReadyFor, SaysChange, IsAside, DoesQuiet, DoesTakeNode, DoesGiveNode, DoesTakeLock, DoesDropLock, DoesTakeSlot, DoesGiveSlot, DoesTakePages, DoesGivePages, DoesAttach, DoesEnter, DoesTakeWork, DoesGiveWork}
 use Rattle.rht_core.proofs.Theory.Steps as moves
-use Rattle.rht_core.proofs.Theory.Readiness.{ArePagesOf}
+use Rattle.rht_core.proofs.Theory.Readiness.{ArePagesOf, IsEntering}
+use Rattle.rht_core.proofs.Undoing.EnteredWords.{entering_missing}
 use Rattle.rht_core.proofs.Undoing.TurnedBits.{one_bit, one_bit-there, turned-far, turned-here, turned-same, turned-none, TurnsOne, turned-one, sets_lowest, clears_lowest, turns-push, node_bit, locked_bit, work_bit, slot_bit, pages_bit, held_bits, IsPageAt, page_or_none, page_at}
 
 -- ---- sums of bits
@@ -78,7 +79,7 @@ clear_where word bit unset = elim (cases_lt (bit_at word bit) 1) [
   | inr high ↦ absurd (unset (let below = bit_at-lt word bit in omega (arith, high, below)))
 ]
 
-module _ (g : Geometry) (call : Call) where
+module _ (g : Geometry) (words_at : ℕ → List ℕ) (call : Call) where
   -- ---- what a call may have turned
 
   -- a word of the node that the call has
@@ -100,7 +101,7 @@ module _ (g : Geometry) (call : Call) where
   IsOwn h place = IsOfOwnNode h place ⊎ IsOfOwnSlot h place
 
   abbrev pub IsLeft : Holding → List Did → ℕ → ℕ → Type 0
-  IsLeft h steps place bit = IsExcepted g call steps place bit ⊎ IsOwn h place
+  IsLeft h steps place bit = IsExcepted g words_at call steps place bit ⊎ IsOwn h place
 
   -- Of what a call holds after these operations: each bit is turned an odd number of times just where it is one of what the call holds,
   -- but for words of its own and for those that may be left; and its node and its slot are there.
@@ -155,12 +156,22 @@ module _ (g : Geometry) (call : Call) where
           of_it = is.of_it;
         }
 
-    excepted-more : (place bit : ℕ) → IsExcepted g call steps place bit → IsExcepted g call all place bit
+    entered-more : (place bit : ℕ) → IsOfEntered g words_at steps place bit → IsOfEntered g words_at all place bit
+    entered-more place bit is = record {
+      entry = is.entry;
+      page = is.page;
+      entered = Any-append_left (λ step. EntersPage g (words_at step.index) is.entry is.page step) steps (did ∷ []) is.entered;
+      of_it = is.of_it;
+    }
+
+    excepted-more : (place bit : ℕ) → IsExcepted g words_at call steps place bit → IsExcepted g words_at call all place bit
     excepted-more place bit (inl serial) = inl serial
     excepted-more place bit (inr (inl node)) = inr (inl (node_given-more place node))
     excepted-more place bit (inr (inr (inl slot))) = inr (inr (inl (slot_given-more place slot)))
-    excepted-more place bit (inr (inr (inr attached))) =
-        inr (inr (inr (attached.0, attached-more place bit attached.1)))
+    excepted-more place bit (inr (inr (inr (may, inl attached)))) =
+        inr (inr (inr (may, inl (attached-more place bit attached))))
+    excepted-more place bit (inr (inr (inr (may, inr entered)))) =
+        inr (inr (inr (may, inr (entered-more place bit entered))))
 
     -- what an operation has to do for that
     pub record Keeps (h h' : Holding) : Type 0 where
@@ -199,7 +210,7 @@ pub record MayAttachWith (g : Geometry) (call : Call) (slot : ℕ) (pages : List
   pub among : (page : ℕ) → In page pages → page < g.pages
   pub of_shape : (page : ℕ) → In page pages → In page (pages_of_shape shape)
 
-module _ (env : Env) (mix : ℕ → ℕ → ℕ → ℕ) (call : Call) (steps : List Did) (did : Did) (h h' : Holding) where
+module _ (env : Env) (mix : ℕ → ℕ → ℕ → ℕ) (words_at : ℕ → List ℕ) (call : Call) (steps : List Did) (did : Did) (h h' : Holding) where
   abbrev g : Geometry
   g = env.geometry
 
@@ -207,7 +218,7 @@ module _ (env : Env) (mix : ℕ → ℕ → ℕ → ℕ) (call : Call) (steps : 
   every = steps ++ did ∷ []
 
   -- The call may be refused before this operation and behind it, what it holds being this: it has raised no count, moves nothing, and has
-  -- a node where it has a lock. Its pages are its own, and it attaches only what it may.
+  -- a node where it has a lock. Its pages are its own, and it attaches and enters only what it may.
   pub record MayGoBack (c : ℕ) (G : Ghost) : Type 0 where
     pub low : h.raised ≡ false
     pub low_then : h'.raised ≡ false
@@ -218,9 +229,11 @@ module _ (env : Env) (mix : ℕ → ℕ → ℕ → ℕ) (call : Call) (steps : 
     pub attaches : (last slot : ℕ) → last < 8
         → did.op ≡ Exchange (place_of g (Slot last FutureWord)) 0 (future_of slot) → h.slot ≡ Some slot
         → MayAttachWith g call slot h.pages steps
+    pub enters : (entry page : ℕ) → did.op ≡ Exchange (place_of g (PageWord entry)) 0 (entry_of page) → In page h.pages
+        → MayAttach call
 
   abbrev Kept : Type 0
-  Kept = Keeps g call steps did h h'
+  Kept = Keeps g words_at call steps did h h'
 
   abbrev bits : ℕ → ℕ → ℕ
   bits place bit = held_bits g h place bit
@@ -232,7 +245,7 @@ module _ (env : Env) (mix : ℕ → ℕ → ℕ → ℕ) (call : Call) (steps : 
   Even place bit = (turned place bit did + bits place bit + bits' place bit) % 2 ≡ 0
 
   abbrev Turns : Type 0
-  Turns = (place bit : ℕ) → bit < 64 → IsLeft g call h' every place bit ⊎ Even place bit
+  Turns = (place bit : ℕ) → bit < 64 → IsLeft g words_at call h' every place bit ⊎ Even place bit
 
   -- a sum that is known of what is held then
   then_is : (place bit sum : ℕ) → bits' place bit ≡ sum → (turned place bit did + bits place bit + sum) % 2 ≡ 0
@@ -241,13 +254,13 @@ module _ (env : Env) (mix : ℕ → ℕ → ℕ → ℕ) (call : Call) (steps : 
       subst (λ n. (turned place bit did + bits place bit + n) % 2 ≡ 0) (sym is) even
 
   module _ (c : ℕ) (words : List ℕ) (G : Ghost) (whole : Whole env mix (mem env mix words) G)
-      (found : did.old ≡ old_of words did.op) (so_far : Undoes g call h steps) (may : MayGoBack c G) where
+      (here : words_at did.index ≡ words) (found : did.old ≡ old_of words did.op) (so_far : Undoes g words_at call h steps) (may : MayGoBack c G) where
     -- its node stays
-    own_node : h'.node ≡ h.node → (place bit : ℕ) → IsOfOwnNode g call h place → IsLeft g call h' every place bit
+    own_node : h'.node ≡ h.node → (place bit : ℕ) → IsOfOwnNode g words_at call h place → IsLeft g words_at call h' every place bit
     own_node same place bit own =
         inr (inl (record { node = own.node; has = same ∙ own.has; word = own.word; there = own.there }))
 
-    own_slot : h'.slot ≡ h.slot → (place bit : ℕ) → IsOfOwnSlot g call h place → IsLeft g call h' every place bit
+    own_slot : h'.slot ≡ h.slot → (place bit : ℕ) → IsOfOwnSlot g words_at call h place → IsLeft g words_at call h' every place bit
     own_slot same place bit own = inr (inr (record {
       slot = own.slot;
       has = same ∙ own.has;
@@ -271,7 +284,7 @@ module _ (env : Env) (mix : ℕ → ℕ → ℕ → ℕ) (call : Call) (steps : 
     -- ---- nothing that others see
 
     aside_left : (h'.node ≡ h.node) × (h'.slot ≡ h.slot) → IsAside g did.op h → (place bit : ℕ) → op_place did.op ≡ place
-        → IsLeft g call h' every place bit
+        → IsLeft g words_at call h' every place bit
     aside_left same (inl own) place bit at =
         own_node same.0 place bit
         (record { node = own.node; has = own.has; word = own.word; there = sym at ∙ own.place })
@@ -659,16 +672,16 @@ module _ (env : Env) (mix : ℕ → ℕ → ℕ → ℕ) (call : Call) (steps : 
         } in
         let left : (place bit : ℕ)
         → ((place ≡ place_of g (Slot does.last FutureWord)) ⊎ IsOfSlot g slot place ⊎ IsOfPages g with_pages.shape place bit)
-        → IsLeft g call h' every place bit =
+        → IsLeft g words_at call h' every place bit =
         λ place bit of_it. inl (inr (inr (inr (
           with_pages.may,
-          record {
+          inl (record {
             table = does.last;
             slot = slot;
             shape = with_pages.shape;
             attached = attached;
             of_it = of_it;
-          },
+          }),
         )))) in
         record {
           own = λ place bit own. elim own [
@@ -707,11 +720,73 @@ module _ (env : Env) (mix : ℕ → ℕ → ℕ → ℕ) (call : Call) (steps : 
         none_held : (t n l w s p : ℕ) → t ≡ 0 → s ≡ 0 → p ≡ 0 → (t + (n + l + w + s + p) + (n + l + w + 0 + 0)) % 2 ≡ 0
         none_held t n l w s p turns slot_none pages_none = omega (arith, turns, slot_none, pages_none)
 
+    -- ---- a page that is entered
+
+    -- the bit is that of this page
+    abbrev IsBitOf : ℕ → ℕ → ℕ → Type 0
+    IsBitOf p place bit = (place ≡ place_of g (PageMap (p / 64))) × (bit ≡ p % 64)
+
+    enter : (j p : ℕ) → IsEntering env mix c j p G → DoesEnter g j p did.op did.old h h' → Kept
+    enter j p ready does =
+        with_same (ap (λ (x : Holding). x.node) does.holds) (ap (λ (x : Holding). x.slot) does.holds) (λ place bit low.
+        elim (cases_eq place (place_of g (PageWord j))) [
+          | inl at ↦ inl (left place bit (inl at))
+          | inr far ↦ elim (page_bit place bit) [
+            | inl mine ↦ inl (left place bit (inr mine))
+            | inr other ↦ inr (then_is place bit _ (ap (λ (x : Holding). held_bits g x place bit) does.holds)
+                (by_fifth (turned place bit did) (pages_bit g h.pages place bit) (pages_bit g h'.pages place bit)
+                (node_bit g h.node place bit) (locked_bit g h.lock place bit) (work_bit g h.worker place bit)
+                (slot_bit g h.slot place bit)
+                (unturned _ _ _ (turned-far place bit did (λ at. far (sym at ∙ ap op_place does.entering)))
+                (stays place bit other))))
+          ]
+        ])
+      where
+        unset : mem env mix words (PageWord j) ≡ 0
+        unset = sym (ap (old_of words) does.entering) ∙ sym found ∙ does.found
+
+        enters_it : EntersPage g (words_at did.index) j p did
+        enters_it = record {
+          page_in = ready.among;
+          entry_in = ready.within;
+          missing = subst (λ ws. IsMissingEntry g ws j) (sym here) (entering_missing env mix c j p words G whole ready unset);
+          exchanges = does.entering;
+          found = does.found;
+        }
+
+        left : (place bit : ℕ) → ((place ≡ place_of g (PageWord j)) ⊎ IsBitOf p place bit)
+            → IsLeft g words_at call h' every place bit
+        left place bit of_it = inl (inr (inr (inr (
+          may.enters j p does.entering does.had,
+          inr (record {
+            entry = j;
+            page = p;
+            entered = Any-push (λ step. EntersPage g (words_at step.index) j p step) steps did enters_it;
+            of_it = of_it;
+          }),
+        ))))
+
+        page_bit : (place bit : ℕ) → IsBitOf p place bit ⊎ (IsBitOf p place bit → ⊥)
+        page_bit place bit = elim (cases_eq place (place_of g (PageMap (p / 64)))) [
+          | inr far ↦ inr (λ is. far is.0)
+          | inl at ↦ elim (cases_eq bit (p % 64)) [
+            | inr other ↦ inr (λ is. other is.1)
+            | inl same ↦ inl (at, same)
+          ]
+        ]
+
+        stays : (place bit : ℕ) → (IsBitOf p place bit → ⊥)
+            → pages_bit g h'.pages place bit ≡ pages_bit g h.pages place bit
+        stays place bit other = same_pages place bit (λ page there is. (
+          λ i. (does.pages page).1 (i, λ e. other (subst (λ q. IsBitOf q place bit) e (there, is))),
+          λ i. ((does.pages page).0 i).0,
+        ))
+
     -- ---- by the move
 
     -- the operation changed bindings, by the answer, or it keeps what the call undoes
     pub kept_by : (move : Move) → ReadyFor env mix c (mem env mix words) G move → Does env mix move did.op did.old h h'
-        → SaysChange h'.answer ⊎ Keeps g call steps did h h'
+        → SaysChange h'.answer ⊎ Keeps g words_at call steps did h h'
     kept_by Quiet ready does = inr (quiet does)
     kept_by (Arms j) ready does = inr (quiet does)
     kept_by (TakesNode n) ready does = inr (take_node n does)
@@ -729,6 +804,7 @@ module _ (env : Env) (mix : ℕ → ℕ → ℕ → ℕ) (call : Call) (steps : 
     kept_by (TakesPages index pages_bits) ready does = inr (take_pages index pages_bits ready does)
     kept_by (GivesPages index pages_bits) ready does = inr (give_pages index pages_bits ready does)
     kept_by (moves.Attaches slot shape seed serial) ready does = inr (attach slot does)
+    kept_by (moves.Enters j p) ready does = inr (enter j p ready does)
     kept_by TakesWork ready does = inr (take_work does)
     kept_by GivesWork ready does = inr (give_work ready does)
     kept_by BeginsMoving ready does =

@@ -1,0 +1,92 @@
+-- What the words say of an entry behind which a page is entered: its table is in force or was, and the way to some bucket ends there. No
+-- word of a bucket is such an entry.
+use Rattle.std.proofs.Common.{◌≡◌, ◌≢◌, ℕ, ◌/◌, ◌<◌, List, Some, true, false, sym, ◌∙◌, ap, subst, inl, inr, arith}
+use Rattle.std.proofs.lemmas.Bool.{lt-ltb, le-ltb, cases_lt, both_ways}
+use Rattle.rht_words.specs.declared.env.Env.{Env}
+use Rattle.rht_words.specs.Places.{Slot, ShapeWord, StateWord, PageWord}
+use Rattle.rht_words.specs.Shapes.{unpacked, size_of}
+use Rattle.rht_words.proofs.Memory.{Memory}
+use Rattle.rht_nest.specs.Place.{nested_place, missing_at}
+use Rattle.rht_nest.specs.Tables.{is_nested}
+use Rattle.rht_core.specs.Refused.{IsMissingEntry}
+use Rattle.rht_core.proofs.Theory.Ghosts.{PageOf, has_entries, SlotOwner, SlotFree, SlotHeld, Live, Retired, Ghost, has_table, index_at, state_word, is_entry, is_entry_of, entry_word, table_of_page, table_at}
+use Rattle.rht_core.proofs.Theory.Wholes.{IsNested, Whole}
+use Rattle.rht_core.proofs.Theory.Entries.{page_within, entry_in, entry_nested}
+use Rattle.rht_core.proofs.Theory.MissingEntries.{missed_at, ends_at_entry}
+use Rattle.rht_core.proofs.Theory.Readiness.{IsEntering}
+use Rattle.rht_core.proofs.Theory.Steps.{mem}
+use Rattle.rht_core.proofs.Meaning.TablesInForce.{table_in_force, leads_to_current}
+
+module _ (env : Env) (mix : ℕ → ℕ → ℕ → ℕ) where
+  -- entries of a table lead where their words do
+  pub entries_read : (M : Memory) (G : Ghost) → Whole env mix M G → (τ : ℕ) → τ < G.attached
+      → (j : ℕ) → G.page (j / 64) ≡ PageOf τ → has_entries ((G.table τ).part (j / 64)) ≡ true
+      → M (PageWord j) ≡ entry_word ((G.table τ).entry j)
+  entries_read M G whole τ l j of has =
+      let within = page_within env mix (G.table τ) G.page τ (whole.tables.each τ l).placed (j / 64) of in
+      let is : is_entry G j ≡ true = ap (λ o. is_entry_of G.table o (j / 64)) of ∙ has in
+      whole.entries j (omega (arith, within)) is
+      ∙ ap (λ o. entry_word ((G.table (table_of_page o)).entry j)) of
+
+  -- the state word of a slot that has a table says that it isn't free
+  not_free : (owner : SlotOwner) → has_table owner ≡ true → state_word owner ≢ 0
+  not_free SlotFree has is = cc
+  not_free (SlotHeld c) has is = cc
+  not_free (Live τ) has is = cc
+  not_free (Retired τ) has is = cc
+
+  table_taken : (M : Memory) (G : Ghost) → Whole env mix M G → (slot : ℕ) → slot < 8 → has_table (G.slot slot) ≡ true
+      → M (Slot slot StateWord) ≢ 0
+  table_taken M G whole slot l has is = not_free (G.slot slot) has (sym (whole.slots.states slot l) ∙ is)
+
+  pub entering_missing : (d j p : ℕ) (words : List ℕ) (G : Ghost) → Whole env mix (mem env mix words) G
+      → IsEntering env mix d j p G → mem env mix words (PageWord j) ≡ 0 → IsMissingEntry env.geometry words j
+  entering_missing d j p words G whole ready unset =
+      let M = mem env mix words in
+      let at = entry_in env mix G j ready.entry in
+      let τ = table_at G j in
+      let table = G.table τ in
+      let attached : τ < G.attached = whole.pages.page_of (j / 64) τ at.of in
+      let right = whole.tables.each τ attached in
+      let nested : IsNested env mix table G.page τ = entry_nested env mix M G whole j at in
+      let missed = missed_at env mix table G.page τ nested (λ i. M (PageWord i))
+      (entries_read M G whole τ attached) j unset at.of ready.used in
+      let shape = right.shape_is in
+      record {
+        table = table.slot;
+        table_in = right.slot_in;
+        taken = table_taken M G whole table.slot right.slot_in right.has_slot;
+        known = elim (cases_lt τ G.current) [
+          | inl before ↦ inr (leads_to_current env mix words G whole τ (omega (arith, before)))
+          | inr from ↦ inl (table_in_force env mix words G whole τ (omega (arith, from)) attached)
+        ];
+        nested = subst (λ s. is_nested s ≡ true) (sym shape)
+            (lt-ltb 0 (unpacked table.shape).nest (let is = nested.shaped.nest_is in omega (arith, is)));
+        bucket = missed.bucket;
+        within = subst (λ s. missed.bucket < size_of (unpacked s)) (sym shape) missed.within;
+        ends = subst (λ s. missing_at (λ i. M (PageWord i)) (nested_place env.geometry s missed.bucket) ≡ Some j) (sym shape)
+            missed.ends;
+      }
+
+  -- an entry of a table that was attached at which a way ends is none of a bucket's words
+  pub missing_is_entry : (words : List ℕ) (G : Ghost) → Whole env mix (mem env mix words) G → (j : ℕ)
+      → (missing : IsMissingEntry env.geometry words j) → has_table (G.slot missing.table) ≡ true → is_entry G j ≡ true
+  missing_is_entry words G whole j missing has =
+      let M = mem env mix words in
+      let of = whole.tables.slots missing.table has in
+      let τ = index_at G missing.table in
+      let table = G.table τ in
+      let right = whole.tables.each τ of.attached in
+      let shape : M (Slot missing.table ShapeWord) ≡ table.shape =
+      ap (λ s. M (Slot s ShapeWord)) (sym of.slot) ∙ right.shape_is in
+      elim right.placed [
+        | inl flat ↦
+            let is : is_nested table.shape ≡ true = sym (ap is_nested shape) ∙ missing.nested in
+            let none : is_nested table.shape ≡ false = le-ltb 0 (unpacked table.shape).nest (let f = flat.flat in omega (arith, f)) in
+            absurd (both_ways (is_nested table.shape) none is)
+        | inr nested ↦
+            let at = ends_at_entry env mix table G.page τ nested (λ i. M (PageWord i)) (entries_read M G whole τ of.attached)
+            missing.bucket j
+            (subst (λ s. missing_at (λ i. M (PageWord i)) (nested_place env.geometry s missing.bucket) ≡ Some j) shape missing.ends) in
+            ap (λ o. is_entry_of G.table o (j / 64)) at.of ∙ at.has
+      ]
