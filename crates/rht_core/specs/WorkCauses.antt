@@ -131,7 +131,7 @@ IsUnattached g last choices.Nothing steps = ⊥
 
 -- A resizing made the table the current one that it had loaded as the future of the one which was current, and then looked for a
 -- further one behind that. It says that there is more to do exactly where it found one, or where a table that was due wasn't attached.
-pub record SawMoved (env : Env) (again : Bool) (steps : List Did) : Type 0 where
+pub record SawPublished (env : Env) (again : Bool) (steps : List Did) : Type 0 where
   pub choice : Choice
   pub chose : HasChosen env choice steps
   pub table : ℕ
@@ -143,3 +143,29 @@ pub record SawMoved (env : Env) (again : Bool) (steps : List Did) : Type 0 where
       (again ≡ true)
       ↔ (Any (λ did. (next : ℕ) × ReadsFuture env.geometry table (Some next) did) behind
       ⊎ IsUnattached env.geometry chose.last choice chose.behind)
+
+-- the operation stored a word
+abbrev pub IsStore : Did → Type 0
+IsStore did = (place : ℕ) × (value : ℕ) × (did.op ≡ Store place value)
+
+-- Behind its choice a resizing looked anew for the last table behind the current one, which was another one, and loaded that it was
+-- nested; nothing is moved to such a table. Behind that it stored words alone, and it says that there is more to do.
+pub record SawStopped (env : Env) (again : Bool) (steps : List Did) : Type 0 where
+  pub more : again ≡ true
+  pub choice : Choice
+  pub chose : HasChosen env choice steps
+  pub last : ℕ
+  pub before : List Did
+  pub futures : List Did
+  pub shape : Did
+  pub behind : List Did
+  pub split : chose.behind ≡ (before ++ futures) ++ shape ∷ behind
+  pub futures_read : AreFuturesRead env.geometry chose.root last futures
+  pub apart : chose.root ≢ last
+  pub shape_read : Loaded env.geometry (Slot last ShapeWord) shape.old shape
+  pub nested : is_nested shape.old ≡ true
+  pub stores : AllByRecursion IsStore behind
+
+-- A resizing that moved made another table the current one, or stopped before a nested one.
+abbrev pub SawMoved : Env → Bool → List Did → Type 0
+SawMoved env again steps = SawPublished env again steps ⊎ SawStopped env again steps

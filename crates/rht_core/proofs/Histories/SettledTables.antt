@@ -327,6 +327,8 @@ worked M mix env events c past admitted ended work alone =
     record {
       idle = λ is. settled M mix env events c past admitted ended alone
           (subst (λ reply. SawForWork env reply past.steps) is saw);
-      moved = λ again is. replaced M mix env events c past admitted ended alone again
-          (subst (λ reply. SawForWork env reply past.steps) is saw);
+      moved = λ again is. elim (subst (λ reply. SawForWork env reply past.steps) is saw) [
+        | inl left ↦ replaced M mix env events c past admitted ended alone again left
+        | inr stops ↦ let both = sym stops.stopped.nested ∙ stops.flat in absurd (cc)
+      ];
     }

@@ -116,7 +116,7 @@ use Rattle.rht_core.proofs.Tracing.TracesAtEvents.{at_events}
 use Rattle.rht_core.proofs.Tracing.TracedJobs.{Performs, LeadsOn, IsEndedSo, jobs_keep_in}
 use Rattle.rht_move.specs.Work as work
 use Rattle.rht_move.specs.declared.work.WorkAt.TheVariants as works_at
-use Rattle.rht_core.proofs.Reasons.WorkChoices.{SawIdle-nothing, SawReplaced-moved, SawForWork, SawAtWork, work-saw}
+use Rattle.rht_core.proofs.Reasons.WorkChoices.{SawIdle-nothing, SawReplaced-published, SawForWork, SawAtWork, work-saw}
 use Rattle.rht_core.proofs.Counting.FullTables.{counted_at}
 use Rattle.rht_core.proofs.Reasons.TablesWalked.{IsNoRaise, IsAside, no_load, aside, elsewhere, node_loads, probe_loads, relink_stores, CameTo-append, came-current, came-future, walked-came, LastWalked-push, Walked, Walked-push, WalkedSeeing, WalkedSeeing-push, LoadedNoKey, WalkedAt, CameBeyond, WalkedNext, same_table, locate-walked}
 use Rattle.rht_core.proofs.Reasons.KeyLoads.{no_key}
@@ -910,7 +910,10 @@ module _ (env : Env) (words_at : ℕ → List ℕ) where
 
 module _ (env : Env) where
   work-cause : (past : Past) (reply : Reply) → SawForWork env reply past.steps → IsWorkReply reply → WorkCause env past reply
-  work-cause past (Moved again) saw is = SawReplaced-moved env again past.steps saw
+  work-cause past (Moved again) saw is = elim saw [
+    | inl has ↦ inl (SawReplaced-published env again past.steps has)
+    | inr stops ↦ inr stops.stopped
+  ]
   work-cause past Idle saw is = SawIdle-nothing env past.steps saw
   work-cause past (NoTable size) saw is = saw
   work-cause past Elsewhere saw is = saw

@@ -2,12 +2,13 @@
 -- found no future had chosen nothing; and which table it made the current one, and whether it said rightly that there is more to do.
 --
 -- What was chosen is kept behind the choice, with whether a table of its size was attached since. Where one was due there is a future
--- to be found, by what the caller knows then; and a move never stops, since no table is nested.
+-- to be found, by what the caller knows then. For each entry the last table is looked for anew, and where that is nested the move
+-- stops.
 use Rattle.std.proofs.Common.{◌≡◌, ◌≢◌, ◌⊎◌, ◌↔◌, ℕ, ◌<◌, ◌+◌, ◌^◌, Bool, true, false, cond, nat_lt, List, [], ◌∷◌, ◌++◌, map, append_assoc, refl, sym, ap, ◌∙◌, subst, inl, inr, arith}
 use Rattle.std.specs.Prelude.{Option, Some, None, ◌==◌, ◌||◌}
 use Rattle.std.specs.List.{AllByRecursion, Any}
 use Rattle.std.proofs.lemmas.Bool.{eqb-true, eqb-false}
-use Rattle.std.proofs.lemmas.List.{map-append}
+use Rattle.std.proofs.lemmas.List.{map-append, append-nil}
 use Rattle.std.proofs.lemmas.List.Elements.{All-from_recursion}
 use Rattle.std.proofs.lemmas.List.Quantifiers.{Any-push}
 use Rattle.rht_words.specs.declared.op.Op.{Op}
@@ -62,7 +63,7 @@ use Rattle.rht_core.specs.Jobs.{works}
 use Rattle.rht_core.specs.Traces.{Did, performed_of}
 use Rattle.rht_core.specs.Seen.{LoadsWord}
 use Rattle.rht_core.specs.ResizeCauses.{Loaded, Attaches, FindsSlotsTaken, AreSlotsTaken, SawNoRoom}
-use Rattle.rht_core.specs.WorkCauses.{TakesWorkLock, SawElsewhere, ReadsFuture, AreFuturesRead, HasChosen, HasPublished, IsSized, HasAttached, IsUnattached, SawNoTableDue, SawNothingDue, SawMoved}
+use Rattle.rht_core.specs.WorkCauses.{TakesWorkLock, SawElsewhere, ReadsFuture, AreFuturesRead, HasChosen, HasPublished, IsSized, HasAttached, IsUnattached, SawNoTableDue, SawNothingDue, IsStore, SawPublished, SawStopped}
 use Rattle.rht_core.proofs.Theory.Ghosts.{index_at}
 use Rattle.rht_core.proofs.Theory.Steps.{mem, by_test}
 use Rattle.rht_core.proofs.Theory.Knowns.{Onward, Rooted}
@@ -210,9 +211,10 @@ module _ (env : Env) where
   SaysMissing false last choice behind = IsSupplied last choice behind
 
   -- it has loaded this table as the future of the current one, which it moves
-  pub record Moves (future : ℕ) (again : Bool) (steps : List Did) : Type 0 where
+  pub record Moves (root future : ℕ) (again : Bool) (steps : List Did) : Type 0 where
     pub choice : Choice
     pub chose : HasChosen env choice steps
+    pub root_same : chose.root ≡ root
     pub followed :
         Any (ReadsFuture env.geometry chose.root (Some future)) chose.behind
     pub apart : chose.root ≢ future
@@ -273,11 +275,34 @@ module _ (env : Env) where
   }
 
   abbrev pub RehashSaw : Rehash → List Did → Type 0
-  RehashSaw rehash steps = Moves rehash.future rehash.again steps
+  RehashSaw rehash steps = Moves rehash.root rehash.future rehash.again steps
 
-  -- no move stops
+  -- for an entry it looks anew for the last table, or has found it
+  pub record SeeksAnew (rehash : Rehash) (slot : ℕ) (steps : List Did) : Type 0 where
+    pub moves : RehashSaw rehash steps
+    pub before : List Did
+    pub futures : List Did
+    pub behind_is : moves.chose.behind ≡ before ++ futures
+    pub to : AreFuturesTo env.geometry moves.chose.root slot futures
+
+  pub record FindsAnew (rehash : Rehash) (last : ℕ) (steps : List Did) : Type 0 where
+    pub moves : RehashSaw rehash steps
+    pub before : List Did
+    pub futures : List Did
+    pub behind_is : moves.chose.behind ≡ before ++ futures
+    pub read : AreFuturesRead env.geometry moves.chose.root last futures
+
+  abbrev pub AnewSaw : Rehash → LastTableAt → List Did → Type 0
+  AnewSaw rehash (seeks.Future slot) steps = SeeksAnew rehash slot steps
+  AnewSaw rehash (seeks.Shape slot) steps = FindsAnew rehash slot steps
+
+  -- it has stopped before a nested table; so far each one is flat
+  pub record Stops (again : Bool) (steps : List Did) : Type 0 where
+    pub stopped : SawStopped env again steps
+    pub flat : is_nested stopped.shape.old ≡ false
+
   abbrev pub UnlockingSaw : Rehash → Bool → List Did → Type 0
-  UnlockingSaw rehash true steps = ⊥
+  UnlockingSaw rehash true steps = Stops true steps
   UnlockingSaw rehash false steps = RehashSaw rehash steps
 
   -- for an answer
@@ -285,7 +310,7 @@ module _ (env : Env) where
   SawForWork Elsewhere steps = SawElsewhere env.geometry steps
   SawForWork (NoTable size) steps = SawNoTableDue env size steps
   SawForWork Idle steps = SawIdle steps
-  SawForWork (Moved again) steps = SawReplaced again steps
+  SawForWork (Moved again) steps = SawReplaced again steps ⊎ Stops again steps
   SawForWork _ steps = Unit {0}
 
   abbrev pub SawAtWork : WorkAt → List Did → Type 0
@@ -297,10 +322,10 @@ module _ (env : Env) where
   SawAtWork (at.Attaching root last slot shape) steps = IsToAttach root last slot steps
   SawAtWork (at.Unmaking root unmake) steps = HasDue root dues.Later steps
   SawAtWork (at.RootFuture root due) steps = HasDue root due steps
-  SawAtWork (at.RootShape root future again) steps = Moves future again steps
+  SawAtWork (at.RootShape root future again) steps = Moves root future again steps
   SawAtWork (at.Entry rehash number place) steps = RehashSaw rehash steps
   SawAtWork (at.Locking rehash number lock) steps = RehashSaw rehash steps
-  SawAtWork (at.EntryTable emptying seek) steps = RehashSaw emptying.rehash steps
+  SawAtWork (at.EntryTable emptying seek) steps = AnewSaw emptying.rehash seek.at steps
   SawAtWork (at.Seed emptying last) steps = RehashSaw emptying.rehash steps
   SawAtWork (at.BucketWord emptying target) steps = RehashSaw emptying.rehash steps
   SawAtWork (at.Walking emptying target walk) steps = RehashSaw emptying.rehash steps
@@ -533,12 +558,13 @@ module _ (env : Env) where
     at_once = λ e. absurd (cc);
   }
 
-  Moves-push : (future : ℕ) (again : Bool) (steps : List Did) (did : Did) → IsNoAttach env.geometry did
-      → Moves future again steps → Moves future again (steps ++ did ∷ [])
+  Moves-push : (root future : ℕ) (again : Bool) (steps : List Did) (did : Did) → IsNoAttach env.geometry did
+      → Moves root future again steps → Moves root future again (steps ++ did ∷ [])
   unfolding HasChosen-push
-  Moves-push future again steps did quiet moves = record {
+  Moves-push root future again steps did quiet moves = record {
     choice = moves.choice;
     chose = HasChosen-push moves.choice steps did moves.chose;
+    root_same = moves.root_same;
     followed = Any-append_left _ moves.chose.behind (did ∷ []) moves.followed;
     apart = moves.apart;
     says = SaysMissing-push again moves.chose.last moves.choice moves.chose.behind did quiet moves.says;
@@ -731,6 +757,7 @@ module _ (env : Env) where
           record {
             choice = has.choice;
             chose = HasChosen-push has.choice steps did has.chose;
+            root_same = has.root_same;
             followed =
                 Any-push (ReadsFuture env.geometry has.chose.root (Some next)) behind did (loaded has.chose.root has.root_same, finds);
             apart = λ same. apart next finds (sym has.root_same ∙ same);
@@ -743,7 +770,7 @@ module _ (env : Env) where
   goes : (rehash : Rehash) (op : Op) (steps : List Did) (did : Did) → did.op ≡ op → IsNoFutureExchange env.geometry op
       → RehashSaw rehash steps → RehashSaw rehash (steps ++ did ∷ [])
   goes rehash op steps did is none saw =
-      Moves-push rehash.future rehash.again steps did (no_attach env.geometry did op is none) saw
+      Moves-push rehash.root rehash.future rehash.again steps did (no_attach env.geometry did op is none) saw
 
   root-saw : (rehash : Rehash) (number : ℕ) (all : List Did) → RehashSaw rehash all
       → SawAtWork (bucket_of_root env.geometry rehash number) all
@@ -764,10 +791,20 @@ module _ (env : Env) where
   passed-saw rehash number place (Done (At word)) all saw = saw
   passed-saw rehash number place (Done (Absent entry)) all saw = next-saw rehash number all saw
 
+  -- for an entry no future is loaded yet
+  anew-saw : (rehash : Rehash) (all : List Did) → RehashSaw rehash all → SeeksAnew rehash rehash.root all
+  anew-saw rehash all saw = record {
+    moves = saw;
+    before = saw.chose.behind;
+    futures = [];
+    behind_is = sym (append-nil saw.chose.behind);
+    to = saw.root_same;
+  }
+
   locked-saw : (rehash : Rehash) (number : ℕ) (lock : LockModel) (next : Next ℕ) (all : List Did) → RehashSaw rehash all
       → SawAtWork (locked env.geometry rehash number lock next) all
   locked-saw rehash number lock Go all saw = saw
-  locked-saw rehash number lock (Done word) all saw = saw
+  locked-saw rehash number lock (Done word) all saw = anew-saw rehash all saw
 
   entry-saw : (emptying : Emptying) (target : Target) (first : Option ℕ) (all : List Did) → RehashSaw emptying.rehash all
       → SawAtWork (entry_or_empty env.geometry emptying target first) all
@@ -790,15 +827,90 @@ module _ (env : Env) where
 
   cut-saw : (emptying : Emptying) (before : Option ℕ) (all : List Did) → RehashSaw emptying.rehash all
       → SawAtWork (cut_off env.geometry emptying before) all
-  cut-saw emptying None all saw = saw
-  cut-saw emptying (Some before) all saw = saw
+  cut-saw emptying None all saw = anew-saw emptying.rehash all saw
+  cut-saw emptying (Some before) all saw = anew-saw emptying.rehash all saw
+
+  -- and then one after another
+  sought-saw : (rehash : Rehash) (slot : ℕ) (next : Option ℕ) (steps : List Did) (did : Did) → ReadsFuture env.geometry slot next did
+      → SeeksAnew rehash slot steps → AnewSaw rehash (next_or_shape slot next) (steps ++ did ∷ [])
+  unfolding HasChosen-push Moves-push goes
+  sought-saw rehash slot None steps did reads saw = record {
+    moves = goes rehash _ steps did reads.0.word.loads (λ table old new l e. cc) saw.moves;
+    before = saw.before;
+    futures = saw.futures ++ did ∷ [];
+    behind_is = ap (λ s. s ++ did ∷ []) saw.behind_is ∙ append_assoc saw.before saw.futures (did ∷ []);
+    read = futures_end env.geometry saw.moves.chose.root slot saw.futures did saw.to reads;
+  }
+  sought-saw rehash slot (Some next) steps did reads saw = record {
+    moves = goes rehash _ steps did reads.0.word.loads (λ table old new l e. cc) saw.moves;
+    before = saw.before;
+    futures = saw.futures ++ did ∷ [];
+    behind_is = ap (λ s. s ++ did ∷ []) saw.behind_is ∙ append_assoc saw.before saw.futures (did ∷ []);
+    to = futures_more env.geometry saw.moves.chose.root slot next saw.futures did saw.to reads;
+  }
+
+  -- where the last one is nested the move stops
+  found-saw : (emptying : Emptying) (slot : ℕ) (steps : List Did) (did : Did) → Loaded env.geometry (Slot slot ShapeWord) did.old did
+      → emptying.rehash.root ≢ slot → is_nested did.old ≡ false → FindsAnew emptying.rehash slot steps
+      → let last : Last = record { table = slot; shape = did.old } in
+      SawAtWork (cond (is_nested did.old) (unlocking emptying true) (at.Seed emptying last)) (steps ++ did ∷ [])
+  unfolding HasChosen-push
+  found-saw emptying slot steps did loaded apart flat saw =
+      let last : Last = record { table = slot; shape = did.old } in
+      by_test (λ t. SawAtWork (cond t (unlocking emptying true) (at.Seed emptying last)) (steps ++ did ∷ [])) (is_nested did.old)
+      (λ t. record {
+        stopped = record {
+          more = refl;
+          choice = saw.moves.choice;
+          chose = HasChosen-push saw.moves.choice steps did saw.moves.chose;
+          last = slot;
+          before = saw.before;
+          futures = saw.futures;
+          shape = did;
+          behind = [];
+          split = ap (λ s. s ++ did ∷ []) saw.behind_is;
+          futures_read = saw.read;
+          apart = λ same. apart (sym saw.moves.root_same ∙ same);
+          shape_read = loaded;
+          nested = t;
+          stores = tt;
+        };
+        flat = flat;
+      })
+      (λ f. goes emptying.rehash _ steps did loaded.word.loads (λ table old new l e. cc) saw.moves)
+
+  -- and then words are stored alone
+  Stops-push : (again : Bool) (steps : List Did) (did : Did) → IsStore did → Stops again steps → Stops again (steps ++ did ∷ [])
+  unfolding HasChosen-push
+  Stops-push again steps did stores stops =
+      let saw = stops.stopped in
+      record {
+        stopped = record {
+          more = saw.more;
+          choice = saw.choice;
+          chose = HasChosen-push saw.choice steps did saw.chose;
+          last = saw.last;
+          before = saw.before;
+          futures = saw.futures;
+          shape = saw.shape;
+          behind = saw.behind ++ did ∷ [];
+          split = ap (λ s. s ++ did ∷ []) saw.split
+              ∙ append_assoc (saw.before ++ saw.futures) (saw.shape ∷ saw.behind) (did ∷ []);
+          futures_read = saw.futures_read;
+          apart = saw.apart;
+          shape_read = saw.shape_read;
+          nested = saw.nested;
+          stores = AllByRecursion-push IsStore saw.behind did saw.stores stores;
+        };
+        flat = stops.flat;
+      }
 
   unlocked-saw : (rehash : Rehash) (number : ℕ) (stop : Bool) (steps : List Did) (did : Did)
-      → IsNoAttach env.geometry did → UnlockingSaw rehash stop steps
+      → IsStore did → IsNoAttach env.geometry did → UnlockingSaw rehash stop steps
       → SawAtWork (unlocked_bucket env.geometry rehash number stop) (steps ++ did ∷ [])
-  unlocked-saw rehash number true steps did quiet saw = absurd saw
-  unlocked-saw rehash number false steps did quiet saw =
-      next-saw rehash number (steps ++ did ∷ []) (Moves-push rehash.future rehash.again steps did quiet saw)
+  unlocked-saw rehash number true steps did stores quiet saw = inr (Stops-push true steps did stores saw)
+  unlocked-saw rehash number false steps did stores quiet saw =
+      next-saw rehash number (steps ++ did ∷ []) (Moves-push rehash.root rehash.future rehash.again steps did quiet saw)
 
   -- ---- another table is the current one
 
@@ -930,8 +1042,8 @@ module _ (env : Env) where
   says-right false last Later behind none = absurd none
   says-right false last Nothing behind is = (λ is. absurd (cc), λ so. absurd so)
 
-  pub SawReplaced-moved : (again : Bool) (steps : List Did) → SawReplaced again steps → SawMoved env again steps
-  SawReplaced-moved again steps saw =
+  pub SawReplaced-published : (again : Bool) (steps : List Did) → SawReplaced again steps → SawPublished env again steps
+  SawReplaced-published again steps saw =
       let published = saw.published in
       let last = published.chose.last in
       record {
@@ -1015,19 +1127,32 @@ module _ (env : Env) where
     nothing-found root dues.Attached did does none = absurd (found_none root dues.Attached did does none does.knows.knowing.means.work)
     nothing-found root dues.Later did does none = absurd (found_none root dues.Later did does none does.knows.knowing.means.work)
 
-    -- no table is nested
+    -- nor is the last one, which is looked for anew for each entry
+    other_last : (emptying : Emptying) (h : Geometry) (slot : ℕ) (did : Did)
+        → Performs mix env (works (at.EntryTable emptying (record { geometry = h; at = seeks.Shape slot }))) did
+        → emptying.rehash.root ≢ slot
+    other_last emptying h slot did does same =
+        let G = does.ghost in
+        let is = does.knows.knowing.means.work.more in
+        let tables = does.whole.tables in
+        let one = (tables.each G.current tables.current_in).index in
+        let both : index_at G slot ≡ G.current = ap (index_at G) (sym same ∙ sym is.next.empties.followed.root_is) ∙ one in
+        let later = is.aim_is.later in
+        absurd (omega (arith, both, later))
+
     table-saw : (emptying : Emptying) (h : Geometry) (state : LastTableAt) (steps : List Did) (did : Did)
         → let seek : LastTableModel = record { geometry = h; at = state } in
-        Performs mix env (works (at.EntryTable emptying seek)) did → RehashSaw emptying.rehash steps
+        Performs mix env (works (at.EntryTable emptying seek)) did → AnewSaw emptying.rehash state steps
         → let next = last_table_after seek did.old in
         SawAtWork (entry_table_seen emptying next.0 next.1) (steps ++ did ∷ [])
     table-saw emptying h (seeks.Future slot) steps did does saw =
-        goes emptying.rehash _ steps did does.planned (λ table old new l e. cc) saw
+        let is = does.planned ∙ ap (λ (g : Geometry). last_table_plan_at g (seeks.Future slot)) does.within.seek_in.geometry_same in
+        sought-saw emptying.rehash slot (slot_of did.old) steps did
+        (reads (Slot slot FutureWord) did (does.within.seek_in.at_in, tt) is, refl) saw
     table-saw emptying h (seeks.Shape slot) steps did does saw =
-        let last : Last = record { table = slot; shape = did.old } in
-        let flat = flat_shape emptying h slot did does in
-        subst (λ t. SawAtWork (cond t (unlocking emptying true) (at.Seed emptying last)) (steps ++ did ∷ [])) (sym flat)
-        (goes emptying.rehash _ steps did does.planned (λ table old new l e. cc) saw)
+        let is = does.planned ∙ ap (λ (g : Geometry). last_table_plan_at g (seeks.Shape slot)) does.within.seek_in.geometry_same in
+        found-saw emptying slot steps did (reads (Slot slot ShapeWord) did (does.within.seek_in.at_in, tt) is)
+        (other_last emptying h slot did does) (flat_shape emptying h slot did does) saw
 
   -- ---- all states
 
@@ -1076,7 +1201,10 @@ module _ (env : Env) where
       → SawForWork (reply_of outcome) steps → SawForWork (reply_of outcome) (steps ++ did ∷ [])
   ended-saw outcomes.Idle steps did is saw = idle-push steps did is saw
   ended-saw (outcomes.NoTable size) steps did is saw = no_table-push size steps did is saw
-  ended-saw (outcomes.Moved again) steps did is saw = stored-saw again WorkLock 0 steps did tt (λ e. cc) is saw
+  ended-saw (outcomes.Moved again) steps did is saw = elim saw [
+    | inl replaced ↦ inl (stored-saw again WorkLock 0 steps did tt (λ e. cc) is replaced)
+    | inr stops ↦ inr (Stops-push again steps did (_, _, is) stops)
+  ]
 
   pub work-saw : (mix : ℕ → ℕ → ℕ → ℕ) (state : WorkAt) (steps : List Did) (did : Did)
       → Performs mix env (works state) did → SawAtWork state steps
@@ -1132,11 +1260,11 @@ module _ (env : Env) where
       cut-saw emptying entry.before (steps ++ did ∷ [])
       (goes emptying.rehash _ steps did does.planned (cut-none emptying.bucket.place entry.before) saw)
   work-saw mix (at.Unlocking rehash number unlock stop) steps did does saw =
-      unlocked-saw rehash number stop steps did (no_attach env.geometry did _ does.planned (λ table old new l e. cc)) saw
+      unlocked-saw rehash number stop steps did (_, _, does.planned) (no_attach env.geometry did _ does.planned (λ table old new l e. cc)) saw
   work-saw mix (at.Publishing rehash) steps did does saw =
       publish-saw rehash steps did does.within.tables_in.future_in does.planned saw
   work-saw mix (at.NewFuture rehash) steps did does saw =
       retiring-saw rehash (slot_of did.old) steps did does.within.tables_in.future_in does.planned refl saw
   work-saw mix (at.Retiring root again) steps did does saw =
-      stored-saw again (Slot root StateWord) 2 steps did (does.within, tt) (λ e. cc) does.planned saw
+      inl (stored-saw again (Slot root StateWord) 2 steps did (does.within, tt) (λ e. cc) does.planned saw)
   work-saw mix (at.LettingGo outcome) steps did does saw = ended-saw outcome steps did does.planned saw
