@@ -30,6 +30,8 @@ pub mod RunPages
 pub mod Runs
 -- a page is entered behind an entry, or given back where one is there
 pub mod Grows
+-- an entry on the way to a port's bucket is one in use, and once it leads to a page the way goes on behind that
+pub mod OpenEntries
 -- a table is made and given back
 pub mod Makes
 -- a table that was made is attached, or is to be given back

@@ -14,6 +14,8 @@ pub mod PagesTaken
 pub mod MakesSeen
 -- what a bind that finds the last table full has seen for a refusal
 pub mod RefusedBinds
+-- what a bind sees that misses a page on the way to its bucket
+pub mod PagesMissed
 -- in every run each call that has ended has a reply with its cause
 pub mod CausesInRuns
 -- and says rightly whether there is something to do for `work`

@@ -20,8 +20,8 @@ use Rattle.rht_move.specs.Choice.{is_sparse}
 use Rattle.rht_core.specs.declared.event.Event.{Event}
 use Rattle.rht_core.specs.Runs.{IsAdmitted}
 use Rattle.rht_core.specs.Traces.{Did, Past, performed_of, traced_of}
-use Rattle.rht_core.specs.Seen.{LastWalked, CountedAt, SawCount}
-use Rattle.rht_core.specs.ResizeCauses.{AttachesSome, HasFollowed, SawBusy, SawNoTable}
+use Rattle.rht_core.specs.Seen.{LastWalked, CountedAt, SawCount, words_before}
+use Rattle.rht_core.specs.ResizeCauses.{AttachesSome, HasFollowed, SawBusy, SawNoTable, SawNoPage}
 use Rattle.rht_core.specs.WorkCauses.{SawElsewhere, SawNoTableDue, SawNothingDue, SawMoved}
 
 -- why a look-up ended with this reply: it has nothing to show for its answers
@@ -222,7 +222,8 @@ module _ (M : Type 0) (mix : ℕ → ℕ → ℕ → ℕ) where
   BindCause env events c past (TooBig count) = Any (SawFull env events c count) past.steps
   BindCause env events c past (Again table) = HasFollowed M mix env events c table past.steps
   BindCause env events c past (Busy root last) = SawBusy M mix env events c root last past.steps
-  BindCause env events c past (NoTable size) = SawNoTable M mix env events c size past.steps
+  BindCause env events c past (NoTable size) =
+      SawNoTable M mix env events c size past.steps ⊎ SawNoPage env.geometry (words_before M mix env events) size past.steps
   BindCause env events c past (Found owner) = ⊥
   BindCause env events c past Missing = ⊥
   BindCause env events c past (Listed len) = ⊥

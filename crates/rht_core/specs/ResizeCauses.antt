@@ -9,13 +9,15 @@ use Rattle.rht_words.specs.declared.geometry.Geometry.{Geometry}
 use Rattle.rht_words.specs.Links.{table_of, future_of}
 use Rattle.rht_words.specs.Machines.{Performed}
 use Rattle.rht_words.specs.Operations.{op_place}
-use Rattle.rht_words.specs.Places.{Address, CurrentTable, PortCount, Slot, FutureWord, StateWord, Node, KeyWord, IsAddress, place_of}
+use Rattle.rht_words.specs.Places.{Address, CurrentTable, PortCount, Slot, FutureWord, StateWord, PageWord, Node, KeyWord, IsAddress, place_of}
 use Rattle.rht_words.specs.Shapes.{unpacked, size_of}
 use Rattle.rht_policy.specs.Thresholds.{is_above_75, is_above_100}
 use Rattle.rht_arena.specs.RunLaws.{TakesPage, SeesRunTaken}
+use Rattle.rht_nest.specs.Place.{nested_place, missing_at}
+use Rattle.rht_nest.specs.Tables.{is_nested}
 use Rattle.rht_nest.specs.MakeLaws.{pages_for, SeesSlotTaken, AreSlotsSeenTaken}
 use Rattle.rht_core.specs.declared.event.Event.{Event}
-use Rattle.rht_core.specs.StandsFor.{bucket_in, bucket_nodes, stands_for, AreBound}
+use Rattle.rht_core.specs.StandsFor.{page_word, bucket_in, bucket_nodes, stands_for, AreBound}
 use Rattle.rht_core.specs.Traces.{Did, performed_of}
 use Rattle.rht_core.specs.Seen.{LoadsWord, LoadsCurrent, LastWalked, SawCount, words_before}
 
@@ -98,6 +100,15 @@ module _ (g : Geometry) (words_at : ℕ → List ℕ) where
     pub counted : AreCounted place 0 behind nodes
     pub many : 16 ≤ length nodes
 
+  -- The operation loaded this entry of a nested table of this shape, and it leads to no page: by the words before the event the way to one
+  -- of the table's buckets ends there.
+  pub record MissesPage (shape entry : ℕ) (did : Did) : Type 0 where
+    pub entry_in : entry < 64 * g.pages
+    pub loads : did.op ≡ Load (place_of g (PageWord entry))
+    pub bucket : ℕ
+    pub within : bucket < size_of (unpacked shape)
+    pub ends : missing_at (page_word g (words_at did.index)) (nested_place g shape bucket) ≡ Some entry
+
 -- a table of this shape with so many ports is to have one of this size behind it: of twice its size where they are more
 -- than three quarters of its buckets, and of its own size where they aren't
 abbrev pub wanted_size : Env → ℕ → ℕ → ℕ
@@ -128,6 +139,24 @@ AreRunsTaken g pages next before (step ∷ steps) =
     let past = before ++ step ∷ [] in
     AreRunsTaken g pages next past steps
     ⊎ (SeesRunLost g pages next before step × AreRunsTaken g pages (next + pages) past steps)
+
+-- where these are the words before the event with each number
+module _ (g : Geometry) (words_at : ℕ → List ℕ) where
+  -- A bind is refused for want of a page on the way to its bucket: the last table that it walked is nested and of this size, an entry
+  -- of it that the bind loaded leads to no page, and behind that load each page was seen taken in its turn, and not by the bind.
+  pub record SawNoPage (size : ℕ) (steps : List Did) : Type 0 where
+    pub table : ℕ
+    pub shape : ℕ
+    pub walked : LastWalked g table shape steps
+    pub nested : is_nested shape ≡ true
+    pub size_is : size ≡ size_of (unpacked shape)
+    pub before : List Did
+    pub at : Did
+    pub taking : List Did
+    pub split : walked.behind ≡ before ++ at ∷ taking
+    pub entry : ℕ
+    pub missing : MissesPage g words_at shape entry at
+    pub taken : AreRunsTaken g 1 0 [] (map performed_of taking)
 
 -- no slot was to be had for a table of this size, or no run of pages: each was found taken, and not by these operations
 abbrev pub SawNoRoom : Geometry → ℕ → List Did → Type 0

@@ -31,7 +31,12 @@ use Rattle.rht_nest.specs.declared.make.MakeAt.{MakeAt}
 use Rattle.rht_nest.specs.Unmake.{UnmakeModel, unmake_new, unmake_plan, unmake_after_at, pages_of_unmake}
 use Rattle.rht_nest.specs.declared.unmake.UnmakeAt.{UnmakeAt}
 use Rattle.rht_nest.proofs.TablePages.{page_of_table, pages_of_table-shape, pages_of_unmake-table}
-use Rattle.rht_nest.specs.Grow.{pages_of_grow}
+use Rattle.rht_words.specs.declared.machine.Start.{Start}
+use Rattle.rht_words.specs.declared.machine.Start.TheVariants as starts
+use Rattle.rht_nest.specs.Grow.{GrowModel, grow_plan, grow_after_at, pages_of_grow}
+use Rattle.rht_nest.specs.declared.grow.GrowAt.{GrowAt}
+use Rattle.rht_nest.specs.declared.grow.GrowAt.TheVariants as grows
+use Rattle.rht_nest.specs.Place.{PlaceModel, entry_place, entered}
 use Rattle.rht_nest.specs.Locate.{LocateModel, locate_new, locate_plan, locate_after}
 use Rattle.rht_nest.specs.declared.locate.Located.{Located}
 use Rattle.rht_nest.specs.declared.locate.LocatedBucket.{LocatedBucket}
@@ -50,7 +55,7 @@ use Rattle.rht_model.specs.declared.history.Reply.TheVariants.{Bound, Exists, To
 use Rattle.rht_model.specs.Multimap.{Multimap, Agree}
 use Rattle.rht_model.specs.Answers.{plain, bind_reply, owners_bound}
 use Rattle.rht_model.specs.Answers as answers
-use Rattle.rht_bind.specs.Bind.{plan_at, after_at, first_attempt, filled, located, at_bucket, bound_already, found_or_future, probed, replacing, unlocking, future_or_count, checked_count, publishing, kicks, IsBindAtIn}
+use Rattle.rht_bind.specs.Bind.{plan_at, after_at, first_attempt, filled, located, at_bucket, behind_page, grown, bound_already, found_or_future, probed, replacing, unlocking, future_or_count, checked_count, publishing, kicks, IsBindAtIn}
 use Rattle.rht_bind.specs.Growing.{giving, unlocking_full, want_or_busy, making, size_grown, made, ended_attempt, behind_attempt, refused_or_found, has_attached, unmade}
 use Rattle.rht_bind.specs.BindHeld.{held_of_bind, holds_node, holds_claimed, holds_replacing, holds_table}
 use Rattle.rht_bind.specs.declared.bind.Attempt.{Attempt}
@@ -67,7 +72,7 @@ use Rattle.rht_core.proofs.Theory.Ghosts.{put_in, put_in-all, PageOf, PageHeld, 
 use Rattle.rht_core.proofs.Theory.Wholes.{chain_of, key_of, place_at, word_index, place_at-index, index-within, Whole}
 use Rattle.rht_core.proofs.Theory.Passed.{home-table, Passed-stays}
 use Rattle.rht_core.proofs.Theory.Knowns.{KnownNode, KnownTable, KnownBucket, KnownList, Known, knows_plain, Nowhere, InSlot, Passes, AtHome, Unlocked, Locks, Missed, Found, Member, InList, FirstLink, Replaces, MakesNothing, HasPages, HasTaken, HasMade, Unlocks, Armed, OnWay}
-use Rattle.rht_core.proofs.Theory.Knowledge.{HasOnly, HasLock, HoldsLock, IsMember, Knowing, has_lock, idle_moves_none}
+use Rattle.rht_core.proofs.Theory.Knowledge.{HasOnly, HasLock, HoldsLock, IsMember, Knowing, TableMeans, has_lock, idle_moves_none}
 use Rattle.rht_core.proofs.Theory.KnowledgeStays.{TableMeans-stay}
 use Rattle.rht_core.proofs.Theory.Frames.{Made, same_tables, same_grow, tables_stay}
 use Rattle.rht_core.specs.Counts.{takes_out}
@@ -86,7 +91,9 @@ use Rattle.rht_core.proofs.Moves.Slots.{slot_word-apart}
 use Rattle.rht_core.proofs.Moves.Attaching.{is_page-for, attach, attached_kept}
 use Rattle.rht_core.proofs.Pieces.Holdings.{bare_slot, holding, knowing}
 use Rattle.rht_core.proofs.Pieces.Makes.{known_of_make, known_made, slot_made, made_with, make_step, known_given, slot_given, pages_given, unmake_step}
-use Rattle.rht_core.proofs.Pieces.Locates.{known_locate, first_passed, locate_step, LocateKnows, LocatedKnows, FutureIs, future_is, is_last, no_way}
+use Rattle.rht_core.proofs.Pieces.Locates.{known_locate, first_passed, locate_step, LocateKnows, LocatedKnows, FutureIs, future_is, is_last}
+use Rattle.rht_core.proofs.Pieces.OpenEntries.{known_entered, known_growing, open_on_way, entered_on_way}
+use Rattle.rht_core.proofs.Pieces.Grows.{pages_grown, known_grown, table_of_grow, table_grown, grow_step}
 use Rattle.rht_core.proofs.Pieces.Locks.{unlock_step, unlock_any}
 use Rattle.rht_core.proofs.Pieces.Probes.{known_probe, known_found, place_of_probe, IsProbeFor, probed_by, ProbeKnows, probe_step}
 use Rattle.rht_core.proofs.Pieces.PortCounts.{raise_step}
@@ -144,7 +151,9 @@ module _ (port owner : ℕ) where
   known_of_bind (at.CurrentTable attempt) = knows_of (own attempt.node) Nowhere Unlocked
   known_of_bind (at.Locating attempt locate) = knows_of (own attempt.node) (known_locate port locate.table locate.at) Unlocked
   known_of_bind (at.Entering attempt table shape place grow) =
-      record (knows_of (own attempt.node) (OnWay port table shape place None) Unlocked) { making = HasPages (pages_of_grow grow.at) }
+      record (knows_of (own attempt.node) (known_growing port table shape place grow.at) Unlocked) {
+        making = HasPages (pages_of_grow grow.at);
+      }
   known_of_bind (at.Probing attempt table shape probe) = knows_of (own attempt.node) (AtHome port table (Some shape) (place_of_probe probe.at)) (known_probe port probe.at)
   known_of_bind (at.FoundOwner claimed found) = knows_of (own claimed.attempt.node) (at_home claimed) (Member claimed.bucket.place claimed.bucket.word port found)
   known_of_bind (at.ListLink list) = knows_of (own list.claimed.attempt.node) (at_home list.claimed)
@@ -203,7 +212,7 @@ module _ (env : Env) (mix : ℕ → ℕ → ℕ → ℕ) (c : ℕ) (port owner :
   fits_bind (at.Filling new) = (new.key ≡ port) × (new.owner ≡ owner)
   fits_bind (at.CurrentTable attempt) = Unit {0}
   fits_bind (at.Locating attempt locate) = Unit {0}
-  fits_bind (at.Entering attempt table shape place grow) = Unit {0}
+  fits_bind (at.Entering attempt table shape place grow) = grow.entry ≡ entry_place place
   fits_bind (at.Probing attempt table shape probe) = (probe.key ≡ port) × IsProbeFor port probe.at
   fits_bind (at.FoundOwner claimed found) = env.config.kind ≡ Single
   fits_bind (at.ListLink list) = env.config.kind ≡ Listed
@@ -319,7 +328,7 @@ module _ (env : Env) (mix : ℕ → ℕ → ℕ → ℕ) (c : ℕ) (port owner :
                 only = k.only;
                 means = record { node = k.means.node; table = k.means.table; bucket = tt; making = λ p i. absurd i; work = tt };
               });
-          fits = tt;
+          fits = refl;
         }
 
     located_holds : (attempt : Attempt) (table shape : ℕ) (bucket : LocatedBucket)
@@ -343,6 +352,101 @@ module _ (env : Env) (mix : ℕ → ℕ → ℕ → ℕ) (c : ℕ) (port owner :
         (answered env mix c call words G (locate_plan locate) (holds_node (Some attempt.node) None) (holds_node (Some attempt.node) None) None (BindNext (state, Go)) (inl refl) (still_has refl)
         (moved-map env mix c words G (locate_plan locate) (holds_node (Some attempt.node) None) (holds_node (Some attempt.node) None) _ (BindNext (state, Go))
         (λ M' G' w k. located_knows attempt next.table there.shape there.bucket M' G' k) step))
+
+    -- ---- a page is entered on the way
+
+    -- what it knows on the way to the bucket, and once the entry leads to a page
+    abbrev on_way : Attempt → ℕ → ℕ → PlaceModel → Known
+    on_way attempt table shape place = knows_of port owner (own port owner attempt.node) (OnWay port table shape place None) Unlocked
+
+    abbrev behind_entry_of : ℕ → ℕ → PlaceModel → ℕ → KnownTable
+    behind_entry_of table shape place page = known_entered port table shape (entered place page)
+
+    abbrev table_growing : Attempt → ℕ → ℕ → PlaceModel → GrowAt → KnownTable
+    table_growing attempt table shape place state =
+        table_of_grow env mix c (holds_node (Some attempt.node) None) (on_way attempt table shape place)
+        (OnWay port table shape place None) (behind_entry_of table shape place) state
+
+    same_growing : (attempt : Attempt) (table shape : ℕ) (place : PlaceModel) (state : GrowAt)
+        → table_growing attempt table shape place state ≡ known_growing port table shape place state
+    same_growing attempt table shape place (grows.Taking take) = refl
+    same_growing attempt table shape place (grows.Entering page) = refl
+    same_growing attempt table shape place (grows.Giving there give) = refl
+
+    -- what an operation that enters the page leads to, as the pieces have it
+    abbrev EntryGrown : Attempt → ℕ → ℕ → PlaceModel → GrowModel → GrowAt × Next (Option ℕ) → Type 0
+    EntryGrown attempt table shape place grow r =
+        let h = holds_node (Some attempt.node) None in
+        let k = on_way attempt table shape place in
+        let t = table_grown env mix c h k (OnWay port table shape place None) (behind_entry_of table shape place) r in
+        Moved env mix c words G (grow_plan grow) (holding env mix c h k None (pages_of_grow grow.at))
+        (holding env mix c h k None (pages_grown r))
+        (knowing env mix c h (record k { table = t }) None (pages_grown r) (known_grown r))
+
+    -- behind the page the next entry is looked at, or the bucket is locked
+    entered_knows : (attempt : Attempt) (table shape : ℕ) (start : Start PlaceModel ℕ) (M' : Memory) (G' : Ghost)
+        → Knowing env mix c (holds_node (Some attempt.node) None)
+        (knows_of port owner (own port owner attempt.node) (known_entered port table shape start) Unlocked) M' G'
+        → BindKnows (behind_page env port attempt table shape start) M' G'
+    entered_knows attempt table shape (starts.Running next) M' G' k =
+        record { knowing = record { only = k.only; means = k.means }; fits = tt }
+    entered_knows attempt table shape (starts.Done place) M' G' k =
+        record { knowing = record { only = k.only; means = k.means }; fits = (refl, tt) }
+
+    entered_holds : (attempt : Attempt) (table shape : ℕ) (start : Start PlaceModel ℕ)
+        → held_of_bind (behind_page env port attempt table shape start) ≡ holds_node (Some attempt.node) None
+    entered_holds attempt table shape (starts.Running next) = refl
+    entered_holds attempt table shape (starts.Done place) = refl
+
+    grown_next : (attempt : Attempt) (table shape : ℕ) (place : PlaceModel) (grow : GrowModel) (r : GrowAt × Next (Option ℕ))
+        → grow.entry ≡ entry_place place → EntryGrown attempt table shape place grow r
+        → BindMoved (at.Entering attempt table shape place grow)
+        (grown env port attempt table shape place (record grow { at = r.0 }) r.1, Go)
+    grown_next attempt table shape place grow (state, Go) there step =
+        let next = at.Entering attempt table shape place (record grow { at = state }) in
+        answered env mix c call words G (grow_plan grow) (held_of_bind (at.Entering attempt table shape place grow))
+        (held_of_bind next) None (BindNext (next, Go)) (inl refl) (still_has refl)
+        (moved-map env mix c words G (grow_plan grow) (held_of_bind (at.Entering attempt table shape place grow))
+        (held_of_bind next) _ (BindNext (next, Go))
+        (λ M' G' w k. record {
+          knowing = record {
+            only = k.only;
+            means = record {
+              node = k.means.node;
+              table = subst (TableMeans env mix G') (same_growing attempt table shape place state) k.means.table;
+              bucket = tt;
+              making = k.means.making;
+              work = tt;
+            };
+          };
+          fits = there;
+        }) step)
+    grown_next attempt table shape place grow (state, Done None) there step =
+        let n = attempt.node in
+        let reply = NoTable (size_of (unpacked shape)) in
+        let next = giving env n reply in
+        answered env mix c call words G (grow_plan grow) (held_of_bind (at.Entering attempt table shape place grow))
+        (holds_node (Some n) None) (Some (plain reply)) (BindNext (next, Go))
+        (learns env.config.kind c call (Some n) now (plain reply) (with_node n reply tt refl refl (λ e. cc)) refl
+        (refusal reply tt refl)) (still_has refl)
+        (moved-map env mix c words G (grow_plan grow) (held_of_bind (at.Entering attempt table shape place grow))
+        (holds_node (Some n) None) _ (BindNext (next, Go))
+        (λ M' G' w k. record {
+          knowing = record {
+            only = k.only;
+            means = record { node = k.means.node; table = tt; bucket = tt; making = tt; work = tt };
+          };
+          fits = tt;
+        }) step)
+    grown_next attempt table shape place grow (state, Done (Some page)) there step =
+        let next = behind_page env port attempt table shape (entered place page) in
+        rw (entered_holds attempt table shape (entered place page))
+        (answered env mix c call words G (grow_plan grow) (held_of_bind (at.Entering attempt table shape place grow))
+        (holds_node (Some attempt.node) None) None (BindNext (next, Go)) (inl refl) (still_has refl)
+        (moved-map env mix c words G (grow_plan grow) (held_of_bind (at.Entering attempt table shape place grow))
+        (holds_node (Some attempt.node) None) _ (BindNext (next, Go))
+        (λ M' G' w k. entered_knows attempt table shape (entered place page) M' G'
+        (record { only = k.only; means = k.means })) step))
 
     -- the end of a walk
     bound_knows : (kind : Kind) → env.config.kind ≡ kind → (claimed : Claimed) (first : ℕ)
@@ -1316,8 +1420,26 @@ module _ (env : Env) (mix : ℕ → ℕ → ℕ → ℕ) (c : ℕ) (port owner :
         found_place attempt locate (locate_after mix port locate (old_of words (locate_plan locate)))
         (locate_step env mix c (holds_node (Some attempt.node) None) (Some (own port owner attempt.node)) Unlocked words G whole port locate is.locate_in known.knowing)
     bind_step (at.Entering attempt table shape place grow) is known =
-        no_way env mix c (holds_table attempt.node None (pages_of_grow grow.at)) (Some (own port owner attempt.node)) Unlocked words G whole _ port table shape place None
-        known.knowing.means.table
+        grown_next attempt table shape place grow (grow_after_at grow.geometry grow.at (old_of words (grow_plan grow)))
+        known.fits
+        (grow_step env mix c (holds_node (Some attempt.node) None) (on_way attempt table shape place)
+        (OnWay port table shape place None) (behind_entry_of table shape place) words G all whole place.entry
+        (open_on_way env mix M G whole port table shape place)
+        (λ M' G' page whole' on leads. entered_on_way env mix M' G' whole' port table shape place on
+        is.place_in.geometry_same page leads)
+        grow is.grow_in
+        (known.fits ∙ ap (λ (g : Geometry). place_of g (PageWord place.entry)) is.place_in.geometry_same)
+        (record {
+          only = known.knowing.only;
+          means = record {
+            node = known.knowing.means.node;
+            table = subst (TableMeans env mix G) (sym (same_growing attempt table shape place grow.at))
+                known.knowing.means.table;
+            bucket = tt;
+            making = known.knowing.means.making;
+            work = tt;
+          };
+        }))
     bind_step (at.Probing attempt table shape probe) is known =
         walked attempt table shape probe (probe_after probe (old_of words (probe_plan probe))) known.fits.0
         (probe_step env mix c (holds_node (Some attempt.node) None) (Some (own port owner attempt.node)) port table (Some shape) words G all whole probe is.probe_in known.fits.0 known.fits.1 known.knowing)

@@ -12,7 +12,7 @@
 use Rattle.std.proofs.Common.{◌≡◌, ◌⊎◌, ℕ, ◌≤◌, ◌+◌, Bool, true, false, cond, ◌↔◌, ◌≢◌, ◌<◌, ◌*◌, ◌-◌, nat_le, nat_eq, List, [], ◌∷◌, ◌++◌, map, min, refl, sym, ap, ◌∙◌, subst, inl, inr, arith, append_assoc}
 use Rattle.std.specs.Prelude.{Option, Some, None, IfSome, ◌==◌, ◌||◌, ◌&&◌}
 use Rattle.std.specs.List.{AllByRecursion, Any}
-use Rattle.std.proofs.lemmas.Bool.{cases_lt, lt-ltb, le-ltb, leb-true, and_parts, eqb-true, eqb-false}
+use Rattle.std.proofs.lemmas.Bool.{cond_both, cases_lt, lt-ltb, le-ltb, leb-true, and_parts, eqb-true, eqb-false}
 use Rattle.std.proofs.lemmas.List.{map-append}
 use Rattle.std.proofs.lemmas.List.Elements.{All-from_recursion}
 use Rattle.std.proofs.lemmas.List.Quantifiers.{Any-push}
@@ -26,13 +26,13 @@ use Rattle.rht_words.specs.declared.geometry.Geometry.{Geometry}
 use Rattle.rht_words.specs.declared.machine.Next.{Next}
 use Rattle.rht_words.specs.declared.machine.Next.TheVariants.{Go, Done}
 use Rattle.rht_words.specs.Operations.{old_of}
-use Rattle.rht_words.specs.Places.{PortCount, ChainLink, Slot, FutureWord, place_of}
+use Rattle.rht_words.specs.Places.{PortCount, ChainLink, Slot, FutureWord, PageWord, place_of}
 use Rattle.rht_words.proofs.PlacesApart.{parts_in_order}
 use Rattle.rht_words.proofs.EachElement.{Any-append_left, AllByRecursion-cut, AllByRecursion-push}
 use Rattle.rht_policy.specs.Sizes.{most_ports}
 use Rattle.rht_policy.specs.Thresholds.{is_above_75, is_above_100, is_above_max}
 use Rattle.rht_words.specs.Shapes.{unpacked, size_of}
-use Rattle.rht_words.specs.Links.{slot_of, table_of, future_of}
+use Rattle.rht_words.specs.Links.{slot_of, table_of, future_of, page_of}
 use Rattle.rht_model.specs.declared.history.Call.{Call}
 use Rattle.rht_model.specs.declared.history.Call.TheVariants.{Bind, Find, All, Release, Rebind, Walk, Work, Tidy, Count}
 use Rattle.rht_model.specs.declared.history.Reply.{Reply}
@@ -42,18 +42,25 @@ use Rattle.rht_arena.specs.TakeNode.{TakeNodeModel, take_node_after, IsTakeAtIn,
 use Rattle.rht_arena.specs.NewNode.{NewNodeModel, new_node_plan, new_node_plan_at, new_node_after_at, node_taken, IsNewNodeAtIn, IsNewNodeIn}
 use Rattle.rht_arena.specs.declared.new_node.NewNodeAt.{NewNodeAt}
 use Rattle.rht_arena.specs.declared.new_node.NewNodeAt.TheVariants as news
-use Rattle.rht_arena.specs.TakeRun.{take_run_plan_at}
+use Rattle.rht_arena.specs.TakeRun.{first_run, take_run_plan_at}
 use Rattle.rht_arena.specs.declared.take_run.TakeRunAt.{TakeRunAt}
 use Rattle.rht_arena.specs.declared.take_run.TakeRunAt.TheVariants as runs
 use Rattle.rht_nest.specs.Make.{MakeModel, make_plan_at, make_after_at}
-use Rattle.rht_nest.specs.Tables.{exponent_made}
+use Rattle.rht_nest.specs.Tables.{is_nested, exponent_made}
 use Rattle.rht_nest.specs.declared.make.MakeAt.{MakeAt}
 use Rattle.rht_nest.specs.declared.make.MakeAt.TheVariants as makes
 use Rattle.rht_nest.specs.Unmake.{UnmakeModel, unmake_new, unmake_plan_at, unmake_after}
 use Rattle.rht_nest.specs.declared.unmake.UnmakeAt.{UnmakeAt}
 use Rattle.rht_nest.specs.declared.unmake.UnmakeAt.TheVariants as unmakes
-use Rattle.rht_nest.specs.Grow.{pages_of_grow}
-use Rattle.rht_nest.specs.Locate.{LocateModel, locate_after}
+use Rattle.rht_words.specs.declared.machine.Start.{Start}
+use Rattle.rht_words.specs.declared.machine.Start.TheVariants as starts
+use Rattle.rht_nest.specs.Grow.{GrowModel, grow_plan_at, grow_after_at, IsGrowAtIn}
+use Rattle.rht_nest.specs.declared.grow.GrowAt.{GrowAt}
+use Rattle.rht_nest.specs.declared.grow.GrowAt.TheVariants as grows
+use Rattle.rht_nest.specs.Place.{PlaceModel, place_plan, entered, went_behind, entry_seen}
+use Rattle.rht_nest.specs.Locate.{LocateModel, locate_plan_at, locate_after, locate_after_at, entry_followed, IsLocateAtIn}
+use Rattle.rht_nest.specs.declared.locate.LocateAt.{LocateAt}
+use Rattle.rht_nest.specs.declared.locate.LocateAt.TheVariants as locates
 use Rattle.rht_nest.specs.declared.locate.Located.{Located}
 use Rattle.rht_nest.specs.declared.locate.LocatedBucket.{LocatedBucket}
 use Rattle.rht_nest.specs.declared.locate.LocatedBucket.TheVariants as buckets
@@ -69,7 +76,6 @@ use Rattle.rht_arena.proofs.NodesSeen.{first_unseen, SawAllBelow, SawAllBelow-pu
 use Rattle.rht_find.specs.Find.{after_at as find_after_at}
 use Rattle.rht_find.specs.declared.find.FindAt.{FindAt}
 use Rattle.rht_find.specs.declared.find.FindAt.TheVariants.{CurrentTable}
-use Rattle.rht_bind.specs.BindHeld.{holds_table}
 use Rattle.rht_bind.specs.Growing.{unlocking_full, making, size_grown, want_or_busy, made, ended_attempt, behind_attempt, refused_or_found, has_attached, checked_attach, unmade}
 use Rattle.rht_bind.specs.declared.bind.Attempt.{Attempt}
 use Rattle.rht_bind.specs.declared.bind.growth.Full.{Full}
@@ -77,7 +83,7 @@ use Rattle.rht_bind.specs.declared.bind.growth.Full.TheVariants as full
 use Rattle.rht_bind.specs.declared.bind.growth.Growing.{Growing}
 use Rattle.rht_bind.specs.declared.bind.growth.Refusal.{Refusal}
 use Rattle.rht_bind.specs.declared.bind.growth.Refusal.TheVariants as refusals
-use Rattle.rht_bind.specs.Bind.{first_state, plan_at, after_at, filled, located, at_bucket, bound_already, found_or_future, probed, replaced, unlocking, future_or_count, checked_count, kicks, published, unlocked}
+use Rattle.rht_bind.specs.Bind.{first_state, plan_at, after_at, filled, located, at_bucket, behind_page, grown, bound_already, found_or_future, probed, replaced, unlocking, future_or_count, checked_count, kicks, published, unlocked}
 use Rattle.rht_bind.specs.declared.bind.Claimed.{Claimed}
 use Rattle.rht_bind.specs.declared.bind.FoundList.{FoundList}
 use Rattle.rht_bind.specs.declared.bind.BindAt.{BindAt}
@@ -95,7 +101,7 @@ use Rattle.rht_core.specs.Traces.{Did, Past, performed_of, traced_of}
 use Rattle.rht_core.specs.Runs.{IsAdmitted}
 use Rattle.rht_core.specs.Laws.{IsRecorded, IsPastCall}
 use Rattle.rht_core.specs.Seen.{CameTo, IsNoShapeLoad, LastWalked, SawCount, words_before}
-use Rattle.rht_core.specs.ResizeCauses.{Loaded, AttachesSome, wanted_size, SawLongChain, SawCrowded, WalkedFull}
+use Rattle.rht_core.specs.ResizeCauses.{Loaded, AttachesSome, IsNoKeyLoad, wanted_size, SawLongChain, SawCrowded, WalkedFull, SawNoPage}
 use Rattle.rht_core.specs.Causes.{FindCause, AllCause, IsRaise, IsDueBy, KicksRightly, SawFull, ReleaseCause, RebindCause, WorkCause, BindCause, CountCause, CauseOf, HasCause, Causes}
 use Rattle.rht_release.specs.declared.found_port.FoundPort.{FoundPort}
 use Rattle.rht_release.specs.Release as release
@@ -109,9 +115,10 @@ use Rattle.rht_words.specs.Machines.{GoesOrEnds}
 use Rattle.rht_core.proofs.Tracing.RepliesInRuns.{Holds, Answered, runs-right}
 use Rattle.rht_core.proofs.Theory.Ghosts.{Ghost, has_table, index_at}
 use Rattle.rht_core.proofs.Theory.Wholes.{future_in, Whole}
-use Rattle.rht_core.proofs.Theory.Knowns.{Unlocked}
-use Rattle.rht_core.proofs.Pieces.NewNodes.{filled as filled_node}
-use Rattle.rht_core.proofs.Pieces.Locates.{no_way}
+use Rattle.rht_core.proofs.Theory.Knowledge.{TableMeans}
+use Rattle.rht_core.proofs.Theory.Knowns.{OnWay}
+use Rattle.rht_core.proofs.Pieces.Locates.{known_locate}
+use Rattle.rht_core.proofs.Reasons.PagesMissed.{SawGrowing, SawGrown, grow-saw, SeesMissing, begins-missing, SeesMissing-push, SawNoPage-push, misses-page}
 use Rattle.rht_core.proofs.Tracing.TracesAtEvents.{at_events}
 use Rattle.rht_core.proofs.Tracing.TracedJobs.{Performs, LeadsOn, IsEndedSo, jobs_keep_in}
 use Rattle.rht_move.specs.Work as work
@@ -119,10 +126,10 @@ use Rattle.rht_move.specs.declared.work.WorkAt.TheVariants as works_at
 use Rattle.rht_core.proofs.Reasons.WorkChoices.{SawIdle-nothing, SawReplaced-published, SawForWork, SawAtWork, work-saw}
 use Rattle.rht_core.proofs.Counting.FullTables.{counted_at}
 use Rattle.rht_core.proofs.Reasons.TablesWalked.{IsNoRaise, IsAside, no_load, aside, elsewhere, node_loads, probe_loads, relink_stores, CameTo-append, came-current, came-future, walked-came, LastWalked-push, Walked, Walked-push, WalkedSeeing, WalkedSeeing-push, LoadedNoKey, WalkedAt, CameBeyond, WalkedNext, same_table, locate-walked}
-use Rattle.rht_core.proofs.Reasons.KeyLoads.{no_key}
+use Rattle.rht_core.proofs.Reasons.KeyLoads.{no_key, no_key-behind, no_key-run}
 use Rattle.rht_core.proofs.Reasons.ChainsCounted.{none-counted, HasCounted, HasCounted-push, CountedAt, CountedNext, probe-counted, long-counted}
 use Rattle.rht_core.proofs.Reasons.AttachedTables.{IsNoFutureExchange, IsNoAttach, no_attach, AttachedSo, AttachedSo-push, SawAttached, attached-saw, relink-none, unmake-none}
-use Rattle.rht_core.proofs.Reasons.UnraisedBinds.{SawUnraised, unraised-saw}
+use Rattle.rht_core.proofs.Reasons.UnraisedBinds.{grow-none, SawUnraised, unraised-saw}
 use Rattle.rht_core.proofs.Reasons.RefusedBinds.{no_slot, no_key-future, Behind, Behind-push, SawWhy, SawWhy-push, SawRoot, SawOther, SawRefusal, SawToMake, SawFullUp, refusal-why, Settled, IsFollowing, FollowedSeen, FollowedSeen-push, BusySeen, BusySeen-push, NoTableSeen, NoTableSeen-push, above-why, root-saw, begins-making, other-saw, making-saw, no_room-saw, busy-saw, no_table-saw, followed-saw}
 use Rattle.rht_core.proofs.Counting.CountedNodes.{raise_few, load_few, lower_few}
 use Rattle.rht_core.proofs.Reasons.ReleaseKicks.{SawRelease, SawForRelease, release-saw, kicks_right}
@@ -172,7 +179,7 @@ module _ (env : Env) (words_at : ℕ → List ℕ) where
   SawFor (Exists owner) steps = env.config.kind ≡ Single
   SawFor (Again table) steps = FollowedSeen env words_at table steps
   SawFor (Busy root last) steps = BusySeen env words_at root last steps
-  SawFor (NoTable size) steps = NoTableSeen env words_at size steps
+  SawFor (NoTable size) steps = NoTableSeen env words_at size steps ⊎ SawNoPage env.geometry words_at size steps
   SawFor _ steps = ⊥
 
   -- the operation loaded this count of ports
@@ -222,7 +229,7 @@ module _ (env : Env) (words_at : ℕ → List ℕ) where
   SawAt (at.CurrentTable attempt) steps = Unit {0}
   SawAt (at.Locating attempt locate) steps = WalkedAt env.geometry locate.table locate.at steps
   SawAt (at.Entering attempt table shape place grow) steps =
-      WalkedSeeing env.geometry table shape (LoadedNoKey env.geometry) steps
+      WalkedSeeing env.geometry table shape (SeesMissing env words_at shape (SawGrowing env.geometry grow.at)) steps
   SawAt (at.Probing attempt table shape probe) steps =
       WalkedSeeing env.geometry table shape (CountedAt env.geometry words_at probe.at) steps
   SawAt (at.FoundOwner claimed found) steps = Unit {0}
@@ -334,7 +341,10 @@ module _ (env : Env) (words_at : ℕ → List ℕ) where
   SawFor-push (Exists owner) steps did none saw = saw
   SawFor-push (Again table) steps did none saw = FollowedSeen-push env words_at table steps did none.aside.no_shape saw
   SawFor-push (Busy root last) steps did none saw = BusySeen-push env words_at root last steps did none.aside.no_shape saw
-  SawFor-push (NoTable size) steps did none saw = NoTableSeen-push env words_at size steps did none.aside.no_shape saw
+  SawFor-push (NoTable size) steps did none saw = elim saw [
+    | inl full ↦ inl (NoTableSeen-push env words_at size steps did none.aside.no_shape full)
+    | inr missed ↦ inr (SawNoPage-push env words_at size steps did none.aside.no_shape missed)
+  ]
   SawFor-push _ steps did none saw = absurd saw
 
   -- ---- an operation of a bind
@@ -559,6 +569,12 @@ module _ (env : Env) (words_at : ℕ → List ℕ) where
   run_loads h pages (runs.Claim first index) did is = no_load env.geometry did _ is (λ place load. cc)
   run_loads h pages (runs.GiveBack first index bits) did is = no_load env.geometry did _ is (λ place load. cc)
 
+  -- nor does the entering of a page
+  grow_loads : (entry : ℕ) (state : GrowAt) (did : Did) → did.op ≡ grow_plan_at entry state → IsNoShapeLoad env.geometry did
+  grow_loads entry (grows.Taking take) did is = run_loads take.geometry take.pages take.at did is
+  grow_loads entry (grows.Entering page) did is = no_load env.geometry did _ is (λ place load. cc)
+  grow_loads entry (grows.Giving there give) did is = no_load env.geometry did _ is (λ place load. cc)
+
   -- nor does the making of a table load a shape
   make_loads : (h : Geometry) (exponent seed : ℕ) (state : MakeAt) (did : Did)
       → did.op ≡ make_plan_at h exponent seed state → IsNoShapeLoad env.geometry did
@@ -608,11 +624,74 @@ module _ (env : Env) (words_at : ℕ → List ℕ) where
       elim (cases_lt 0 word) [ inl low ↦ omega (arith, few, low) | inr none ↦ absurd (some (omega (arith, none))) ]
 
   module _ (mix : ℕ → ℕ → ℕ → ℕ) (port owner : ℕ) (once : Bool) where
+    -- where the bucket is missing and no table was behind, the entry that was loaded leads to no page
+    abbrev MissedAt : ℕ → ℕ → LocatedBucket → List Did → Type 0
+    MissedAt table shape (buckets.At place) steps = Unit {0}
+    MissedAt table shape (buckets.Missing place (Some next)) steps = Unit {0}
+    MissedAt table shape (buckets.Missing place None) steps =
+        WalkedSeeing env.geometry table shape
+        (SeesMissing env words_at shape (SawGrowing env.geometry (grows.Taking (first_run env.geometry 1)))) steps
+
+    abbrev MissedNext : ℕ → LocateModel × Next Located → List Did → Type 0
+    MissedNext table (m, Go) steps = Unit {0}
+    MissedNext table (m, Done there) steps = MissedAt table there.shape there.bucket steps
+
+    module _ (words : List ℕ) (G : Ghost) (whole : Whole env mix (mem env mix words) G) (m : LocateModel)
+        (steps : List Did) (did : Did) (now : words ≡ words_at did.index) (found : did.old ≡ old_of words did.op) where
+      -- the load of an entry that leads to none
+      load_missed : (shape : ℕ) (place : PlaceModel) → place.geometry ≡ env.geometry → did.op ≡ place_plan place
+          → page_of place.geometry.pages did.old ≡ None
+          → TableMeans env mix G (OnWay port m.table shape place None)
+          → WalkedSeeing env.geometry m.table shape (LoadedNoKey env.geometry) steps
+          → MissedAt m.table shape (buckets.Missing place None) (steps ++ did ∷ [])
+      load_missed shape place same plan none on walked =
+          let there = place_of env.geometry (PageWord place.entry) in
+          let loads : did.op ≡ Load there =
+          plan ∙ ap (λ (h : Geometry). Load (place_of h (PageWord place.entry))) same in
+          let word : did.old ≡ mem env mix words (PageWord place.entry) = found ∙ ap (old_of words) loads in
+          let leads : page_of env.geometry.pages (mem env mix words (PageWord place.entry)) ≡ None =
+          sym (ap (page_of env.geometry.pages) word) ∙ ap (λ (h : Geometry). page_of h.pages did.old) (sym same) ∙ none in
+          let order = parts_in_order env.geometry in
+          let missing = misses-page env words_at mix words G whole port m.table shape place did on now loads leads in
+          WalkedSeeing-push env.geometry m.table shape (LoadedNoKey env.geometry)
+          (SeesMissing env words_at shape (SawGrowing env.geometry (grows.Taking (first_run env.geometry 1)))) steps did
+          (elsewhere env.geometry did there loads
+          (λ table below same. absurd (omega (arith, below, same, order.page_map, order.nodes, order.pages))))
+          (λ behind no_keys. begins-missing env words_at shape place.entry behind did on.nested missing
+          (no_key-behind env.geometry did there loads (omega arith)) no_keys) walked
+
+      entry-missed : (shape : ℕ) (early : Option ℕ) (place : PlaceModel) → place.geometry ≡ env.geometry
+          → did.op ≡ place_plan place → TableMeans env mix G (OnWay port m.table shape place early)
+          → WalkedSeeing env.geometry m.table shape (LoadedNoKey env.geometry) steps
+          → (page : Option ℕ) → page_of place.geometry.pages did.old ≡ page
+          → let next = entry_seen place page in
+          MissedNext m.table (entry_followed m shape early next.0 next.1) (steps ++ did ∷ [])
+      entry-missed shape None place same plan on walked None is = load_missed shape place same plan is on walked
+      entry-missed shape (Some next) place same plan on walked None is = tt
+      entry-missed shape early place same plan on walked (Some page) is = go (entered place page)
+        where
+          go : (start : Start PlaceModel ℕ) → let next = went_behind place start in
+              MissedNext m.table (entry_followed m shape early next.0 next.1) (steps ++ did ∷ [])
+          go (starts.Running next) = tt
+          go (starts.Done there) = tt
+
+      located-missed : (state : LocateAt) → IsLocateAtIn env.geometry state
+          → did.op ≡ locate_plan_at m.geometry m.table state → TableMeans env mix G (known_locate port m.table state)
+          → WalkedAt env.geometry m.table state steps
+          → MissedNext m.table (locate_after_at mix port m state did.old) (steps ++ did ∷ [])
+      located-missed locates.Shape within plan means walked = tt
+      located-missed (locates.Seed shape) within plan means walked =
+          cond_both (is_nested shape) _ _ (λ next. MissedNext m.table next (steps ++ did ∷ [])) (λ t. tt) (λ f. tt)
+      located-missed (locates.Early shape place) within plan means walked = tt
+      located-missed (locates.Entry shape early place) within plan means walked =
+          entry-missed shape early place within.nested_in.place_in.geometry_same plan means walked.0
+          (page_of place.geometry.pages did.old) refl
+
     -- once a bucket was looked for none of its nodes was counted; where it is missing the bind has come to the table behind, if there was one
     bucket-saw : (attempt : Attempt) (table shape : ℕ) (bucket : LocatedBucket) (steps : List Did)
         → WalkedSeeing env.geometry table shape (LoadedNoKey env.geometry) steps → CameBeyond env.geometry bucket steps
-        → SawAt (at_bucket env port attempt table shape bucket) steps
-    bucket-saw attempt table shape (buckets.At place) steps walked came = record {
+        → MissedAt table shape bucket steps → SawAt (at_bucket env port attempt table shape bucket) steps
+    bucket-saw attempt table shape (buckets.At place) steps walked came missed = record {
       walked = walked.walked;
       saw = record {
         nodes = [];
@@ -620,29 +699,82 @@ module _ (env : Env) (words_at : ℕ → List ℕ) where
         many = refl;
       };
     }
-    bucket-saw attempt table shape (buckets.Missing place (Some next)) steps walked came = came
-    bucket-saw attempt table shape (buckets.Missing place None) steps walked came = walked
+    bucket-saw attempt table shape (buckets.Missing place (Some next)) steps walked came missed = came
+    bucket-saw attempt table shape (buckets.Missing place None) steps walked came missed = missed
 
     found-saw : (attempt : Attempt) (table : ℕ) (next : LocateModel × Next Located) (steps : List Did)
-        → next.0.table ≡ table → WalkedNext env.geometry table next steps
+        → next.0.table ≡ table → WalkedNext env.geometry table next steps → MissedNext table next steps
         → SawAt (located env port attempt next.0 next.1) steps
-    found-saw attempt table (after, Go) steps same walked =
+    found-saw attempt table (after, Go) steps same walked missed =
         subst (λ t. WalkedAt env.geometry t after.at steps) (sym same) walked
-    found-saw attempt table (after, Done there) steps same walked =
+    found-saw attempt table (after, Done there) steps same walked missed =
         subst (λ t. SawAt (at_bucket env port attempt t there.shape there.bucket) steps) (sym same)
-        (bucket-saw attempt table there.shape there.bucket steps walked.0 walked.1)
+        (bucket-saw attempt table there.shape there.bucket steps walked.0 walked.1 missed)
 
     locating-saw : (attempt : Attempt) (locate : LocateModel) (steps : List Did) (did : Did)
-        → Performs mix env (binds port owner once (at.Locating attempt locate)) did
-        → SawAt (at.Locating attempt locate) steps
+        → (does : Performs mix env (binds port owner once (at.Locating attempt locate)) did)
+        → does.words ≡ words_at did.index → SawAt (at.Locating attempt locate) steps
         → let next = locate_after mix port locate did.old in
         SawAt (located env port attempt next.0 next.1) (steps ++ did ∷ [])
-    locating-saw attempt locate steps did does saw =
+    locating-saw attempt locate steps did does now saw =
         let all = steps ++ did ∷ [] in
         let within = does.within.at_in.locate_in in
         found-saw attempt locate.table (locate_after mix port locate did.old) all
         (same_table env.geometry mix port locate locate.at did.old)
         (locate-walked env.geometry mix port locate locate.at steps did within.at_in within.table_in does.planned saw)
+        (located-missed does.words does.ghost does.whole locate steps did now does.found locate.at within.at_in does.planned
+        does.knows.knowing.means.table saw)
+
+    -- ---- a page is entered
+
+    -- while it is no shape is loaded, no count raised, and no key loaded
+    grow_aside : (entry : ℕ) (state : GrowAt) (did : Did) → did.op ≡ grow_plan_at entry state → IsAside env.geometry did
+    grow_aside entry state did is = record {
+      no_shape = grow_loads entry state did is;
+      no_raise = λ adds. grow-none env.geometry entry state (sym is ∙ adds);
+    }
+
+    grow_no_key : (entry : ℕ) (state : GrowAt) (did : Did) → IsGrowAtIn env.geometry state
+        → did.op ≡ grow_plan_at entry state → IsNoKeyLoad env.geometry did
+    grow_no_key entry (grows.Taking take) did within is =
+        no_key-run env.geometry take.pages take.at did within.take_in.at_in
+        (subst (λ (h : Geometry). did.op ≡ take_run_plan_at h take.pages take.at) within.take_in.geometry_same is)
+    grow_no_key entry (grows.Entering page) did within is = no_key env.geometry did _ is (λ place load. cc)
+    grow_no_key entry (grows.Giving there give) did within is = no_key env.geometry did _ is (λ place load. cc)
+
+    -- behind the page it looks at the next entry, or in the bucket
+    entered-saw : (attempt : Attempt) (table shape : ℕ) (start : Start PlaceModel ℕ) (all : List Did)
+        → WalkedSeeing env.geometry table shape (LoadedNoKey env.geometry) all
+        → SawAt (behind_page env port attempt table shape start) all
+    entered-saw attempt table shape (starts.Running next) all seeing = (seeing, tt)
+    entered-saw attempt table shape (starts.Done place) all seeing =
+        bucket-saw attempt table shape (buckets.At place) all seeing tt tt
+
+    -- where no page was free each was seen taken
+    grown-saw : (attempt : Attempt) (table shape : ℕ) (place : PlaceModel) (grow : GrowModel)
+        (r : GrowAt × Next (Option ℕ)) (all : List Did)
+        → WalkedSeeing env.geometry table shape (SeesMissing env words_at shape (SawGrown env.geometry r)) all
+        → SawAt (grown env port attempt table shape place (record grow { at = r.0 }) r.1) all
+    grown-saw attempt table shape place grow (state, Go) all seeing = seeing
+    grown-saw attempt table shape place grow (state, Done None) all seeing =
+        let saw = seeing.saw in
+        inr (record {
+          table = table;
+          shape = shape;
+          walked = seeing.walked.last;
+          nested = saw.nested;
+          size_is = refl;
+          before = saw.before;
+          at = saw.at;
+          taking = saw.taking;
+          split = saw.split;
+          entry = saw.entry;
+          missing = saw.missing;
+          taken = saw.taken;
+        })
+    grown-saw attempt table shape place grow (state, Done (Some page)) all seeing =
+        entered-saw attempt table shape (entered place page) all
+        (record { walked = seeing.walked; saw = seeing.saw.no_key })
 
     -- an attempt has ended for a table that was seen behind the last one
     ended-saw : (table : ℕ) (all : List Did) → FollowedSeen env words_at table all → SawForReply (ended_attempt once table) all
@@ -713,9 +845,9 @@ module _ (env : Env) (words_at : ℕ → List ℕ) where
         (elsewhere env.geometry did _ is (λ other below same. absurd (omega (arith, same)))).no_shape within is
         (no_slot did.old few reads) saw
     again-saw growing (refusals.NoTable size) None steps did within is few reads saw =
-        no_table-saw env words_at growing size steps did
+        inl (no_table-saw env words_at growing size steps did
         (elsewhere env.geometry did _ is (λ other below same. absurd (omega (arith, same)))).no_shape within is
-        (no_slot did.old few reads) saw
+        (no_slot did.old few reads) saw)
     again-saw growing refusal (Some table) steps did within is few reads saw =
         let named = slot_named did.old table reads in
         behind-saw growing.attempt (ended_attempt once table) (steps ++ did ∷ [])
@@ -798,11 +930,22 @@ module _ (env : Env) (words_at : ℕ → List ℕ) where
         bind_made-saw new (new_node_after_at new.at did.old) (steps ++ did ∷ [])
         (new-saw new new.at steps did refl does.within.at_in does.planned saw)
     bind-saw (at.CurrentTable attempt) steps did does now saw so unraised = came-current env.geometry steps did does.planned
-    bind-saw (at.Locating attempt locate) steps did does now saw so unraised = locating-saw attempt locate steps did does saw
+    bind-saw (at.Locating attempt locate) steps did does now saw so unraised = locating-saw attempt locate steps did does now saw
     bind-saw (at.Entering attempt table shape place grow) steps did does now saw so unraised =
-        no_way env mix does.caller (holds_table attempt.node None (pages_of_grow grow.at))
-        (Some (filled_node attempt.node port owner)) Unlocked does.words does.ghost does.whole _ port table shape place None
-        does.knows.knowing.means.table
+        let within = does.within.at_in.grow_in in
+        let after = grow_after_at env.geometry grow.at did.old in
+        let Before = SawGrowing env.geometry grow.at in
+        let After = SawGrown env.geometry after in
+        let seeing : WalkedSeeing env.geometry table shape (SeesMissing env words_at shape After) (steps ++ did ∷ []) =
+        WalkedSeeing-push env.geometry table shape (SeesMissing env words_at shape Before)
+        (SeesMissing env words_at shape After) steps did (grow_aside grow.entry grow.at did does.planned)
+        (λ behind so_far. SeesMissing-push env words_at shape Before After behind did
+        (grow_no_key grow.entry grow.at did within.at_in does.planned)
+        (λ before here. grow-saw env.geometry grow.entry grow.at before (performed_of did) within.at_in does.planned here)
+        so_far) saw in
+        subst (λ (h : Geometry). let r = grow_after_at h grow.at did.old in
+        SawAt (grown env port attempt table shape place (record grow { at = r.0 }) r.1) (steps ++ did ∷ []))
+        (sym within.geometry_same) (grown-saw attempt table shape place grow after (steps ++ did ∷ []) seeing)
     bind-saw (at.Probing attempt table shape probe) steps did does now saw so unraised =
         let within = does.within.at_in.probe_in.at_in in
         let after = probe_after_at probe.geometry probe.key probe.at did.old in
@@ -1237,7 +1380,8 @@ module _ (M : Type 0) (mix : ℕ → ℕ → ℕ → ℕ) (env : Env) (events : 
           not_due = subst (λ n. is_above_75 n (size_of (unpacked settled.shape)) env.config.max ≡ false) same saw.not_due;
           none = settled.last;
         }
-    bind-cause past (NoTable size) seen recorded =
+    bind-cause past (NoTable size) (inr missed) recorded = inr missed
+    bind-cause past (NoTable size) (inl seen) recorded =
         let table = seen.table in
         let none = Loaded env.geometry (Slot table FutureWord) 0 in
         let settled = seen.settled in
@@ -1249,7 +1393,7 @@ module _ (M : Type 0) (mix : ℕ → ℕ → ℕ → ℕ) (env : Env) (events : 
         (append_assoc wanted.sooner (wanted.counting ∷ []) wanted.making ∙ sym wanted.parts)
         (Any-append_left (Loaded env.geometry PortCount wanted.count) (wanted.sooner ++ wanted.counting ∷ []) wanted.making
         (Any-push (Loaded env.geometry PortCount wanted.count) wanted.sooner wanted.counting wanted.counted))) in
-        record {
+        inl (record {
           table = table;
           full = walked_full table (SawFullUp env words_at table size) none past.steps recorded settled saw.is_full;
           sooner = wanted.sooner;
@@ -1265,7 +1409,7 @@ module _ (M : Type 0) (mix : ℕ → ℕ → ℕ → ℕ) (env : Env) (events : 
           ];
           room = saw.room;
           none = settled.last;
-        }
+        })
     bind-cause past _ saw recorded = absurd saw
 
     -- no more ports are bound than there are nodes, so that no clamp has changed a release's kick

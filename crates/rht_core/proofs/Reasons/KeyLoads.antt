@@ -50,7 +50,7 @@ module _ (g : Geometry) where
   no_key-lock did place (locks.Exchange word) there is = no_key did _ is (λ other load. cc)
 
   -- the making of a table loads words of the map of pages
-  no_key-run : (pages : ℕ) (state : TakeRunAt) (did : Did) → IsTakeRunAtIn g pages state
+  pub no_key-run : (pages : ℕ) (state : TakeRunAt) (did : Did) → IsTakeRunAtIn g pages state
       → did.op ≡ take_run_plan_at g pages state → IsNoKeyLoad g did
   no_key-run pages (runs.MapWord first index) did within is =
       let order = parts_in_order g in

@@ -97,7 +97,7 @@ module _ (g : Geometry) where
   run-none h pages (runs.GiveBack first index bits) is = cc
 
   -- nor does what enters a page, at whatever place its entry is
-  grow-none : (entry : ℕ) (state : GrowAt) → IsNoCountAdd (grow_plan_at entry state)
+  pub grow-none : (entry : ℕ) (state : GrowAt) → IsNoCountAdd (grow_plan_at entry state)
   grow-none entry (grows.Taking take) is = run-none take.geometry take.pages take.at is
   grow-none entry (grows.Entering page) is = cc
   grow-none entry (grows.Giving there give) is = cc
