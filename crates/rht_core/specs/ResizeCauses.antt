@@ -1,4 +1,5 @@
--- Why a bind that found the last table full was refused or has to be made again: what its operations show of that.
+-- Why a bind that found the last table full, or no page for its bucket, was refused or has to be made again: what its operations show of
+-- that.
 -- Every address that a row names is one of the table's words, since places alone don't tell it from a word that isn't there.
 use Rattle.std.specs.Prelude.{◌≡◌, ◌≢◌, ℕ, true, false, Some, ◌*◌, ◌+◌, ◌<◌, ◌≤◌, ◌⊎◌, List, [], ◌∷◌, ◌++◌, length, map, if◌then◌else◌}
 use Rattle.std.specs.List.{AllByRecursion, Any}

@@ -1,9 +1,10 @@
 -- In a run of one caller in which fewer than 16 ports are bound no bind is refused but for want of a node.
 --
--- By induction over the events, with the ghost: each table that was attached has 16 buckets or more, and each call is one of a bind that
--- hasn't found a table full, or of another kind. A bind that loads the count knows the table in which it is, which has 16 buckets or more; and the
--- count is at most the 15 ports and the one caller. So it finds no table full and attaches none; and a resizing attaches none that is smaller.
-use Rattle.std.proofs.Common.{◌≡◌, ℕ, ◌<◌, ◌≤◌, Bool, false, List, [], ◌∷◌, ◌++◌, length, take, refl, sym, ap, ◌∙◌, subst, inl, inr, arith}
+-- By induction over the events, with the ghost: each table that was attached is flat and has 16 buckets or more, and each call is one of a
+-- bind that hasn't found a table full, or of another kind. A bind knows the table in which it is. So no bucket is missing there; and where it
+-- loads the count, that is at most the 15 ports and the one caller, and the table has 16 buckets or more. So it finds no table full and attaches
+-- none; and a resizing attaches none that is smaller, or nested.
+use Rattle.std.proofs.Common.{◌≡◌, ℕ, ◌<◌, ◌≤◌, Bool, false, nat_lt, List, [], ◌∷◌, ◌++◌, length, take, refl, sym, ap, ◌∙◌, subst, inl, inr, arith}
 use Rattle.std.specs.Prelude.{Option, Some, None, IfSome, option_map}
 use Rattle.std.specs.List.{AllByRecursion}
 use Rattle.std.proofs.lemmas.Bool.{cases_lt, cases_eq}
@@ -31,6 +32,10 @@ use Rattle.rht_model.specs.declared.history.Call.TheVariants.{Bind, Find, All, R
 use Rattle.rht_model.specs.declared.history.Reply.{Reply}
 use Rattle.rht_find.specs.Find.{after_at as find_after_at}
 use Rattle.rht_bind.specs.Bind.{after_at as bind_after_at}
+use Rattle.rht_nest.specs.Tables.{is_nested}
+use Rattle.rht_nest.specs.Locate.{LocateModel}
+use Rattle.rht_nest.specs.declared.locate.LocateAt.TheVariants as locates
+use Rattle.rht_bind.specs.declared.bind.Attempt.{Attempt}
 use Rattle.rht_bind.specs.declared.bind.Claimed.{Claimed}
 use Rattle.rht_bind.specs.declared.bind.BindAt.{BindAt}
 use Rattle.rht_bind.specs.declared.bind.BindAt.TheVariants as at
@@ -57,9 +62,11 @@ use Rattle.rht_core.specs.Seen.{words_before}
 use Rattle.rht_core.specs.StandsFor.{stands_for, AreBound}
 use Rattle.rht_core.specs.Traces.{Did, Traced, traced_of}
 use Rattle.rht_core.proofs.Theory.Ghosts.{Ghost}
-use Rattle.rht_core.proofs.Theory.Knowledge.{AimMeans}
+use Rattle.rht_core.proofs.Theory.Knowns.{Shaped}
+use Rattle.rht_core.proofs.Theory.Knowledge.{TableMeans, AimMeans}
 use Rattle.rht_core.proofs.Theory.Wholes.{outs}
 use Rattle.rht_core.proofs.Theory.Steps.{ReadyFor, Does, ghost_after, mem}
+use Rattle.rht_core.proofs.Pieces.Locates.{known_locate}
 use Rattle.rht_core.proofs.Machines.JobSteps.{JobIn, JobKnows}
 use Rattle.rht_core.proofs.Machines.WorkMachine.{last_aim}
 use Rattle.rht_core.proofs.Events.BooksInRuns.{BookSays, has_books}
@@ -221,14 +228,25 @@ module _ (env : Env) where
             let slot = here.does.whole.tables.slots claimed.table table.passing.table in
             subst IsSized table.shape_is (here.sized _ slot.attached)
 
+        bind-flat : (state : BindAt) → AtSized state → (attempt : Attempt) (locate : LocateModel) (shape : ℕ)
+            → state ≡ at.Locating attempt locate → locate.at ≡ locates.Seed shape → is_nested shape ≡ false
+        bind-flat state of attempt locate shape is seed =
+            let here = subst AtSized is of in
+            let G = here.does.ghost in
+            let shaped : TableMeans env mix G (Shaped port locate.table shape) =
+            subst (λ s. TableMeans env mix G (known_locate port locate.table s)) seed here.does.knows.knowing.means.table in
+            let slot = here.does.whole.tables.slots locate.table shaped.passing.table in
+            (subst IsSized shaped.shape_is (here.sized _ slot.attached)).flat
+
         bind-sees : (state : BindAt) → AtSized state → IsCalmAt env Any Any state did.old
         bind-sees state of = record {
           current = λ attempt is. tt;
           shape = λ attempt locate is shape come. tt;
+          flat = λ attempt locate shape is seed good. bind-flat state of attempt locate shape is seed;
           further = λ claimed length next is further. tt;
           few = λ claimed is. below-max env did.old first (omega (arith, bind-low state of claimed is));
           below = λ claimed is good. below-size env did.old claimed.shape
-              (omega (arith, bind-low state of claimed is, bind-sized state of claimed is));
+              (omega (arith, bind-low state of claimed is, (bind-sized state of claimed is).many));
         }
 
       -- and a resizing
@@ -488,7 +506,10 @@ module _ (L : Type 0) (mix : ℕ → ℕ → ℕ → ℕ) (env : Env) (keeps : e
         ghost = opening_ghost env;
         inv = opening_inv env mix L;
         all = opens-all L mix env;
-        sized = λ τ l. omega (arith, ap size_of flat.shape ∙ flat.size, first);
+        sized = λ τ l. record {
+          many = omega (arith, ap size_of flat.shape ∙ flat.size, first);
+          flat = ap (λ s. nat_lt 0 s.nest) flat.shape;
+        };
         ones = λ c. rw (idle_at_opening env mix L c) (tt, tt);
       }
 

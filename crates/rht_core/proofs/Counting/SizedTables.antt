@@ -1,7 +1,7 @@
--- While shrinking is off and binds attach nothing, no table is smaller than a bound that the first one keeps.
+-- While shrinking is off and binds attach nothing, no table is smaller than a bound that the first one keeps, and none is nested.
 --
--- A resizing chooses a table of twice the size of the last one, or of its size, and makes one of the size that it has chosen. So what it
--- attaches is no smaller than the last table was, and no other move attaches any.
+-- A resizing chooses a table of twice the size of the last one, or of its size, and makes a flat one of the size that it has chosen. So what
+-- it attaches is no smaller than the last table was, and no other move attaches any.
 use Rattle.std.proofs.Common.{◌≡◌, ℕ, ◌+◌, ◌*◌, ◌^◌, ◌<◌, ◌≤◌, Bool, true, false, cond, min, max, nat_lt, List, refl, sym, ap, ◌∙◌, subst, arith}
 use Rattle.std.specs.Prelude.{Option, Some, None, ◌==◌, ◌&&◌, ◌||◌}
 use Rattle.rht_words.specs.declared.env.Env.{Env}
@@ -53,11 +53,12 @@ use Rattle.rht_core.proofs.Theory.Ways.{entered_table}
 use Rattle.rht_core.proofs.Theory.Wholes.{Whole}
 use Rattle.rht_core.proofs.Theory.Steps.{Move, Quiet, TakesNode, GivesNode, TakesLock, DropsLock, Raises, Links, Lowers, Rebinds, LinksBehind, Arms, TakesSlot, GivesSlot, TakesPages, GivesPages, Attaches, Enters, TakesWork, GivesWork, BeginsMoving, TakesSecond, Leaves, Arrives, CutsOff, Publishes, Retires, ghost_after, mem, by_test}
 
--- a table of this shape has 16 buckets or more
-abbrev pub IsSized : ℕ → Type 0
-IsSized shape = 16 ≤ size_of (unpacked shape)
+-- a table of this shape is flat, and has 16 buckets or more
+pub record IsSized (shape : ℕ) : Type 0 where
+  pub many : 16 ≤ size_of (unpacked shape)
+  pub flat : is_nested shape ≡ false
 
--- so has each table that was attached
+-- so is each table that was attached
 abbrev pub AreSized : Ghost → Type 0
 AreSized G = (τ : ℕ) → τ < G.attached → IsSized (G.table τ).shape
 
@@ -96,10 +97,10 @@ sized-choice env count shape size alone keeps sized is =
     go true nested is =
         let same : 2 * buckets ≡ size = cc in
         let twice : 2 ^ (exponent + 1) ≡ size = omega (arith, same, pow-add 2 exponent 1) in
-        subst (λ n. 4 ≤ exponent_made n) twice (sized-exponent (exponent + 1) (omega (arith, sized)) (omega arith))
+        subst (λ n. 4 ≤ exponent_made n) twice (sized-exponent (exponent + 1) (omega (arith, sized.many)) (omega arith))
     go false true is =
         let same : buckets ≡ size = cc in
-        subst (λ n. 4 ≤ exponent_made n) same (sized-exponent exponent sized (omega arith))
+        subst (λ n. 4 ≤ exponent_made n) same (sized-exponent exponent sized.many (omega arith))
     go false false is = absurd (cc)
 
 -- a table that is made has the size of its exponent
@@ -138,7 +139,10 @@ module _ (g : Geometry) (exponent : ℕ) where
       let back : unpacked (made_shape exponent page) ≡ flat_shape exponent page = read_back page few in
       let size : size_of (unpacked shape) ≡ 2 ^ exponent =
       ap (λ s. size_of (unpacked s)) is ∙ ap size_of back ∙ ap (λ e. 2 ^ e) inside in
-      omega (arith, size, powers-rise 4 exponent low)
+      record {
+        many = omega (arith, size, powers-rise 4 exponent low);
+        flat = ap is_nested is ∙ ap (λ s. nat_lt 0 s.nest) back;
+      }
     where
       inside : max 2 (min exponent 18) ≡ exponent
       inside = omega (arith, low, high)

@@ -1,7 +1,7 @@
 -- The operations on the way to a port's bucket: the current table, a table's shape and seed, and its future; and in a nested table the
 -- future once more, before the entries. Where that leads to no table, what follows if the bucket is missing is known early: the port is bound
 -- nowhere then, unless the bucket is there.
-use Rattle.std.proofs.Common.{◌≡◌, ℕ, ◌+◌, ◌<◌, List, [], Option, Some, None, true, false, cond, nat_lt, refl, sym, ◌∙◌, ap, subst, inl, inr, arith}
+use Rattle.std.proofs.Common.{◌≡◌, ℕ, ◌+◌, ◌<◌, List, [], Option, Some, None, true, cond, refl, sym, ◌∙◌, ap, subst, inl, inr, arith}
 use Rattle.std.specs.Option.{option_map}
 use Rattle.std.proofs.lemmas.Bool.{lt-ltb, cases_lt, le-ltb}
 use Rattle.std.proofs.lemmas.Bool.Decides.{nat_tests}
@@ -99,13 +99,6 @@ module _ (env : Env) (mix : ℕ → ℕ → ℕ → ℕ) (c : ℕ) (h : Holding)
           passed = rw right.index
               (passed_first env mix M G whole port);
         })
-
-    -- so far each table is flat, so the way to a bucket leads over no entries
-    pub no_way : (A : Type 0) (port slot shape : ℕ) (place : PlaceModel) (early : Option ℕ)
-        → IsOnWay env mix G port slot shape place early → A
-    no_way A port slot shape place early way =
-        let flat = whole.tables.flat (index_at G slot) way.shaped.passing.passed.attached in
-        absurd (let z : true ≡ false = sym way.nested ∙ ap is_nested (sym way.shaped.shape_is) ∙ ap (nat_lt 0) flat in cc)
 
     -- ---- the future of a table
 

@@ -2,10 +2,11 @@
 --
 -- By induction over its operations it stays so where the tables to which it comes are good enough for the ports that are bound: where no count
 -- that it loads is above the size of the table in which it is, or as many as the table may hold. In its chains no 16 nodes are counted,
--- since as many ports would be bound. What makes a table good, and to which ones it comes, is another matter.
+-- since as many ports would be bound. And it comes to no table that is nested, so its buckets are there. What makes a table good, and to
+-- which ones it comes, is another matter.
 use Rattle.std.proofs.Common.{◌≡◌, ℕ, ◌+◌, ◌≤◌, Bool, true, false, cond, min, nat_le, List, [], ◌∷◌, length, refl, subst, inl, inr, arith}
 use Rattle.std.specs.Prelude.{Option, Some, None}
-use Rattle.std.proofs.lemmas.Bool.{cases_eq, leb-true}
+use Rattle.std.proofs.lemmas.Bool.{cases_eq, leb-true, both_ways}
 use Rattle.rht_words.specs.declared.env.Env.{Env}
 use Rattle.rht_words.specs.declared.config.Kind.{Kind}
 use Rattle.rht_words.specs.declared.config.Kind.TheVariants.{Single, Listed}
@@ -14,7 +15,6 @@ use Rattle.rht_words.specs.declared.machine.Next.TheVariants.{Go, Done}
 use Rattle.rht_words.specs.Links.{slot_of, table_of}
 use Rattle.rht_words.specs.Machines.{GoesOrEnds}
 use Rattle.rht_words.specs.Shapes.{unpacked, size_of}
-use Rattle.rht_words.proofs.Memory.{Memory}
 use Rattle.rht_policy.specs.Thresholds.{is_above_100, is_above_max}
 use Rattle.rht_model.specs.Answers.{is_refusal}
 use Rattle.rht_model.specs.declared.history.Reply.{Reply}
@@ -32,7 +32,6 @@ use Rattle.rht_chain.specs.Relink.{RelinkModel, relink_after}
 use Rattle.rht_chain.specs.declared.probe.Probed.{Probed}
 use Rattle.rht_chain.specs.declared.locked.Then.{Then}
 use Rattle.rht_chain.specs.declared.locked.Then.TheVariants.{Table, Answer}
-use Rattle.rht_bind.specs.BindHeld.{holds_node}
 use Rattle.rht_bind.specs.Bind.{after_at, filled, located, bound_already, found_or_future, probed, replaced, future_or_count, published, unlocked}
 use Rattle.rht_bind.specs.Growing.{unlocking_full}
 use Rattle.rht_bind.specs.declared.bind.Attempt.{Attempt}
@@ -45,12 +44,7 @@ use Rattle.rht_core.specs.Jobs.{binds}
 use Rattle.rht_core.specs.ResizeCauses.{AreCounted}
 use Rattle.rht_core.specs.StandsFor.{stands_for, AreBound}
 use Rattle.rht_core.specs.Traces.{Did}
-use Rattle.rht_core.proofs.Theory.Ghosts.{Ghost}
-use Rattle.rht_core.proofs.Theory.Knowns.{Unlocked}
-use Rattle.rht_core.proofs.Theory.Wholes.{Whole}
-use Rattle.rht_core.proofs.Theory.Steps.{by_test, mem}
-use Rattle.rht_core.proofs.Pieces.Locates.{known_locate, knowing, no_way}
-use Rattle.rht_core.proofs.Pieces.NewNodes.{filled as filled_node}
+use Rattle.rht_core.proofs.Theory.Steps.{by_test}
 use Rattle.rht_core.proofs.Tracing.TracedJobs.{Performs}
 use Rattle.rht_core.proofs.Reasons.CausesInRuns.{SawAt}
 use Rattle.rht_core.proofs.Counting.SparedSlots.{SparesSlots, by_load, at_node, new_node-spares, give_node-spares, locate-spares, probe-spares, relink-spares, unlock-spares}
@@ -67,12 +61,12 @@ module _ (env : Env) (Good Come : ℕ → Type 0) where
   CalmThen (Table table) = Come table
   CalmThen (Answer reply) = CalmReply reply
 
-  -- it looks for a bucket, in a table whose shape is good once it is known
+  -- it looks for a bucket, in a table whose shape is good once it is known; no way leads over entries
   abbrev CalmLocate : LocateAt → Type 0
   CalmLocate locates.Shape = Unit {0}
   CalmLocate (locates.Seed shape) = Good shape
-  CalmLocate (locates.Early shape place) = Good shape
-  CalmLocate (locates.Entry shape early place) = Good shape
+  CalmLocate (locates.Early shape place) = ⊥
+  CalmLocate (locates.Entry shape early place) = ⊥
 
   abbrev pub CalmBind : BindAt → Type 0
   CalmBind (at.Filling new) = Unit {0}
@@ -108,6 +102,8 @@ module _ (env : Env) (Good Come : ℕ → Type 0) where
     pub current : (attempt : Attempt) → state ≡ at.CurrentTable attempt → Come (table_of old)
     pub shape : (attempt : Attempt) (locate : LocateModel) → state ≡ at.Locating attempt locate → locate.at ≡ locates.Shape
         → Come locate.table → Good old
+    pub flat : (attempt : Attempt) (locate : LocateModel) (shape : ℕ) → state ≡ at.Locating attempt locate
+        → locate.at ≡ locates.Seed shape → Good shape → is_nested shape ≡ false
     pub further : (claimed : Claimed) (length next : ℕ) → state ≡ at.Future claimed length → slot_of old ≡ Some next → Come next
     pub few : (claimed : Claimed) → state ≡ at.Count claimed → is_above_max (min old 65536) env.config.max ≡ false
     pub below : (claimed : Claimed) → state ≡ at.Count claimed → Good claimed.shape
@@ -149,31 +145,20 @@ module _ (env : Env) (Good Come : ℕ → Type 0) where
   calm-unlocked attempt (Table table) calm = (calm, tt)
   calm-unlocked attempt (Answer reply) calm = calm
 
-  -- what a bind knows that looks for its bucket
-  abbrev LocateKnown : (ℕ → ℕ → ℕ → ℕ) → ℕ → ℕ → ℕ → Attempt → Memory → Ghost → ℕ → LocateAt → Type 0
-  LocateKnown mix port owner c attempt M ghost table state =
-      knowing env mix c (holds_node (Some attempt.node) None) (Some (filled_node attempt.node port owner)) Unlocked
-      (known_locate port table state) M ghost
-
-  -- so far each table is flat, so a bucket that is looked for is there
-  calm-located : (mix : ℕ → ℕ → ℕ → ℕ) (port owner c : ℕ) (attempt : Attempt) (words : List ℕ) (ghost : Ghost)
-      (whole : Whole env mix (mem env mix words) ghost) (m : LocateModel) (state : LocateAt) (word : ℕ)
-      → LocateKnown mix port owner c attempt (mem env mix words) ghost m.table state → Come m.table → CalmLocate state
-      → (state ≡ locates.Shape → Good word)
+  -- a good table is flat, so a bucket that is looked for is there
+  calm-located : (mix : ℕ → ℕ → ℕ → ℕ) (port : ℕ) (attempt : Attempt) (m : LocateModel) (state : LocateAt) (word : ℕ) → Come m.table
+      → CalmLocate state → (state ≡ locates.Shape → Good word)
+      → ((shape : ℕ) → state ≡ locates.Seed shape → is_nested shape ≡ false)
       → let next = locate_after_at mix port m state word in CalmBind (located env port attempt next.0 next.1)
-  calm-located mix port owner c attempt words ghost whole m locates.Shape word knows come calm good = (come, good refl)
-  calm-located mix port owner c attempt words ghost whole m (locates.Seed shape) word knows come calm good =
+  calm-located mix port attempt m locates.Shape word come calm good flat = (come, good refl)
+  calm-located mix port attempt m (locates.Seed shape) word come calm good flat =
       by_test (λ t. let next = cond {A = LocateModel × Next Located} t
       (record m { at = locates.Early shape (nested_place m.geometry shape (bucket_of mix port shape word)) }, Go)
       (m, Done (located_at shape (flat_place m.geometry shape (bucket_of mix port shape word)))) in
       CalmBind (located env port attempt next.0 next.1))
-      (is_nested shape) (λ t. (come, calm)) (λ f. calm)
-  calm-located mix port owner c attempt words ghost whole m (locates.Early shape place) word knows come calm good =
-      no_way env mix c (holds_node (Some attempt.node) None) (Some (filled_node attempt.node port owner)) Unlocked words ghost
-      whole _ port m.table shape place None knows.means.table
-  calm-located mix port owner c attempt words ghost whole m (locates.Entry shape early place) word knows come calm good =
-      no_way env mix c (holds_node (Some attempt.node) None) (Some (filled_node attempt.node port owner)) Unlocked words ghost
-      whole _ port m.table shape place early knows.means.table
+      (is_nested shape) (λ t. absurd (both_ways (is_nested shape) (flat shape refl) t)) (λ f. calm)
+  calm-located mix port attempt m (locates.Early shape place) word come calm good flat = absurd calm
+  calm-located mix port attempt m (locates.Entry shape early place) word come calm good flat = absurd calm
 
   -- a chain of 16 nodes would bind as many ports
   module _ (words_at : ℕ → List ℕ) (few : (i : ℕ) → AreBound (stands_for env.geometry (words_at i)) 16 → ⊥) where
@@ -213,8 +198,8 @@ module _ (env : Env) (Good Come : ℕ → Type 0) where
         calm-filled (new_node_after new did.old).0 (new_node_after new did.old).1
     calm-bind mix port owner once (at.CurrentTable attempt) steps did does saw calm is = (is.current attempt refl, tt)
     calm-bind mix port owner once (at.Locating attempt locate) steps did does saw calm is =
-        calm-located mix port owner does.caller attempt does.words does.ghost does.whole locate locate.at did.old
-        does.knows.knowing calm.0 calm.1 (λ shape. is.shape attempt locate refl shape calm.0)
+        calm-located mix port attempt locate locate.at did.old calm.0 calm.1 (λ shape. is.shape attempt locate refl shape calm.0)
+        (λ shape seed. is.flat attempt locate shape refl seed (subst CalmLocate seed calm.1))
     calm-bind mix port owner once (at.Entering attempt table shape place grow) steps did does saw calm is = absurd calm
     calm-bind mix port owner once (at.Probing attempt table shape probe) steps did does saw calm is =
         calm-probed env.config.kind attempt table shape (probe_after probe did.old).0 (probe_after probe did.old).1 calm

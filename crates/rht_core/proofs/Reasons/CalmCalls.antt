@@ -193,6 +193,7 @@ module _ (env : Env) where
         current = λ attempt is. ap table_of (found ∙ ap (λ s. old_of words (plan_at env s)) is) ∙ current-first;
         shape = λ attempt locate is shape zero.
             found ∙ ap (λ s. old_of words (plan_at env s)) is ∙ loads locate shape ∙ shape-first locate.table zero;
+        flat = λ attempt locate shape is seed first. first-flat shape first;
         further = λ claimed length next is further.
             let within = subst (IsBindAtIn env) is does.within.at_in in
             let none = ap slot_of (found ∙ ap (λ s. old_of words (plan_at env s)) is) ∙ future-none claimed.table within.table_in in

@@ -2,8 +2,9 @@
 --
 -- A bind keeps of itself what its operations so far saw: while it takes a node, that each node below
 -- the one at which it stands was taken; before the load of a table's shape, that it has come to that table,
--- and from there on that this is the last table that it walked, while it wants a further table too; behind
--- the raise of the count, that too; while its state holds a refusal, what the refusal says; and all the way,
+-- and from there on that this is the last table that it walked, while it wants a further table too; while
+-- it enters a page, that the entry which it loaded leads to none, and which pages were seen taken; behind the
+-- raise of the count, that too; while its state holds a refusal, what the refusal says; and all the way,
 -- whether it has attached a table, and that it has raised no count. So when it answers all of that was
 -- seen. A rebind keeps the first of these alone, a release and a look-up nothing; and a reading of the count
 -- loads what it answers by its one operation. How the run stood at the event of the operation that loaded or raised the count of ports
